@@ -1,0 +1,19 @@
+//! What every other crate stands on: bytes that contracts see as lists, moments as numbers, and the
+//! source and the sink of a program.
+#![tactic(auto)]
+
+mod bytes;
+mod listed;
+mod memory;
+mod sink;
+mod source;
+mod std_ends;
+mod time;
+
+pub use bytes::Bytes;
+pub use listed::Listed;
+pub use memory::{MemSink, MemSource};
+pub use sink::{Sink, write_all};
+pub use source::{Failed, ReadError, Source, read_all};
+pub use std_ends::{ReaderSource, WriterSink};
+pub use time::{Duration, Instant};

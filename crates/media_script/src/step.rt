@@ -1,0 +1,24 @@
+use crate::entry::{Side, Write};
+use media_base::Instant;
+
+/// What a script has one side do.
+#[derive(Debug, PartialEq, Eq, Drop)]
+pub enum Step {
+    /// Its application writes a packet.
+    Write {
+        side: Side,
+        time: Instant,
+        write: Write,
+    },
+    /// Its time goes on.
+    Tick {
+        side: Side,
+        time: Instant,
+    },
+    /// It gets the datagram that the other side sealed as its `datagram`-th, counted from 1.
+    Deliver {
+        side: Side,
+        time: Instant,
+        datagram: u64,
+    },
+}
