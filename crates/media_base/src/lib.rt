@@ -16,4 +16,4 @@ pub use memory::{MemSink, MemSource};
 pub use sink::{Sink, write_all};
 pub use source::{Failed, ReadError, Source, read_all};
 pub use std_ends::{ReaderSource, WriterSink};
-pub use time::{Duration, Instant};
+pub use time::{Duration, Instant, already_happened, not_happening};
