@@ -9,6 +9,7 @@ mod sink;
 mod source;
 mod std_ends;
 mod time;
+mod wallclock;
 
 pub use bytes::Bytes;
 pub use listed::Listed;
@@ -16,4 +17,7 @@ pub use memory::{MemSink, MemSource};
 pub use sink::{Sink, write_all};
 pub use source::{Failed, ReadError, Source, read_all};
 pub use std_ends::{ReaderSource, WriterSink};
-pub use time::{Duration, Instant};
+pub use time::{Duration, Instant, already_happened, not_happening};
+pub use wallclock::{
+    Beginning, InstantExt, SECONDS_1900, SystemTime, SystemTimeExt, epoch_to_beginning,
+};
