@@ -6,15 +6,15 @@ use Rattle.std.proofs.lemmas.Bool.Decides.{nat_tests}
 use Rattle.std.proofs.lemmas.List.{get_or-set_other, get_or-set_same, get_or-replicate, length-set}
 use Rattle.std.proofs.lemmas.Bool.{cases_eq, cases_lt}
 use Rattle.repair_core.specs.declared.slots.Slot.{Slot}
-use Rattle.repair_core.specs.declared.register_nack.NackRegister.{NackRegister}
+use Rattle.repair_core.specs.RegisterState.{RegisterState}
 use Rattle.repair_core.specs.Fresh.{greatest, greatest_of, is_fresh, with_number, started_from}
 use Rattle.repair_core.specs.NackRegister.{Keeps, StandsFor, accepts_number, put_number, started, kept_greatest}
 use Rattle.repair_core.specs.Slots.{no_slot, taken_slot, holds}
 
-kept_is : (r : NackRegister) (x n : ℕ) (l : List ℕ) → Keeps r x l → accepts_number r n ≡ (nat_lt (greatest l) n || (not (list_any (nat_eq n) l) && (nat_le x n && nat_le (greatest l) (n + 100))))
+kept_is : (r : RegisterState) (x n : ℕ) (l : List ℕ) → Keeps r x l → accepts_number r n ≡ (nat_lt (greatest l) n || (not (list_any (nat_eq n) l) && (nat_le x n && nat_le (greatest l) (n + 100))))
 kept_is r x n l k = rw (k.begun, k.low, k.high) (grind (arith, nat_tests, k.window n, k.below n))
 
-pub accepts_number_is : (r : NackRegister) (l : List ℕ) (n : ℕ) → StandsFor r l → accepts_number r n ≡ is_fresh l n
+pub accepts_number_is : (r : RegisterState) (l : List ℕ) (n : ℕ) → StandsFor r l → accepts_number r n ≡ is_fresh l n
 unfolding StandsFor
 accepts_number_is r [] n h = rw h.1.0 refl
 accepts_number_is r (x ∷ xs) n h = kept_is r x n (x ∷ xs) h.1
@@ -64,11 +64,11 @@ none_above k [] h = refl
 none_above k (x ∷ xs) h = grind (arith, nat_tests, none_above k xs (omega arith))
 
 -- a number at most 100 below the greatest, or above it, is in its slot exactly where it was taken
-kept_at : (r : NackRegister) (x : ℕ) (l : List ℕ) → Keeps r x l → (k : ℕ) → greatest l ≤ k + 100 → holds r.slots k ≡ list_any (nat_eq k) l
+kept_at : (r : RegisterState) (x : ℕ) (l : List ℕ) → Keeps r x l → (k : ℕ) → greatest l ≤ k + 100 → holds r.slots k ≡ list_any (nat_eq k) l
 kept_at r x l h k b =
     ⊎_elim (λ (lt : greatest l < k). h.below k lt ∙ sym (none_above k l lt)) (λ (le : k ≤ greatest l). h.window k le b) (cases_lt (greatest l) k)
 
-put_first : (r : NackRegister) (n : ℕ) → StandsFor r [] → StandsFor (put_number r n) (n ∷ [])
+put_first : (r : RegisterState) (n : ℕ) → StandsFor r [] → StandsFor (put_number r n) (n ∷ [])
 unfolding StandsFor put_in
 put_first r n h = (
   length-set r.slots (n % 101) (taken_slot n) ∙ h.0,
@@ -81,7 +81,7 @@ put_first r n h = (
   },
 )
 
-put_more : (r : NackRegister) (x n : ℕ) (l : List ℕ) → length r.slots ≡ 101 → greatest l ≤ n + 100 → Keeps r x l → Keeps (put_number r n) x (l ++ n ∷ [])
+put_more : (r : RegisterState) (x n : ℕ) (l : List ℕ) → length r.slots ≡ 101 → greatest l ≤ n + 100 → Keeps r x l → Keeps (put_number r n) x (l ++ n ∷ [])
 unfolding put_in
 put_more r x n l long near h = record {
   begun = refl;
@@ -96,7 +96,7 @@ put_more r x n l long near h = record {
 fresh_near : (x n : ℕ) (l : List ℕ) → is_fresh (x ∷ l) n ≡ true → greatest (x ∷ l) ≤ n + 100
 fresh_near x n l f = grind (arith, nat_tests)
 
-pub put_number_is : (r : NackRegister) (l : List ℕ) (n : ℕ) → StandsFor r l → is_fresh l n ≡ true → StandsFor (put_number r n) (with_number l n)
+pub put_number_is : (r : RegisterState) (l : List ℕ) (n : ℕ) → StandsFor r l → is_fresh l n ≡ true → StandsFor (put_number r n) (with_number l n)
 unfolding StandsFor
 put_number_is r [] n h f = put_first r n h
 put_number_is r (x ∷ xs) n h f =
@@ -105,16 +105,16 @@ put_number_is r (x ∷ xs) n h f =
 blank : (m k : ℕ) → k % 101 < m → holds (replicate m no_slot) k ≡ false
 blank m k h = rw (get_or-replicate m (k % 101) no_slot no_slot h) refl
 
-blank_stands : (r : NackRegister) → r.started ≡ false → r.slots ≡ replicate 101 no_slot → StandsFor r []
+blank_stands : (r : RegisterState) → r.started ≡ false → r.slots ≡ replicate 101 no_slot → StandsFor r []
 unfolding StandsFor
 blank_stands r e s = (rw s refl, (e, λ k. rw s (blank 101 k (omega arith))))
 
 -- a blank register that starts from nothing, or from one number
-pub started_stands : (r : NackRegister) (o : Option ℕ) → r.started ≡ false → r.slots ≡ replicate 101 no_slot → StandsFor (started r o) (started_from o)
+pub started_stands : (r : RegisterState) (o : Option ℕ) → r.started ≡ false → r.slots ≡ replicate 101 no_slot → StandsFor (started r o) (started_from o)
 started_stands r None e s = blank_stands r e s
 started_stands r (Some n) e s = put_first r n (blank_stands r e s)
 
-pub greatest_is : (r : NackRegister) (l : List ℕ) → StandsFor r l → kept_greatest r ≡ greatest_of l
+pub greatest_is : (r : RegisterState) (l : List ℕ) → StandsFor r l → kept_greatest r ≡ greatest_of l
 unfolding StandsFor
 greatest_is r [] h = rw h.1.0 refl
 greatest_is r (x ∷ xs) h = rw (h.1.begun, h.1.high) refl

@@ -1,3 +1,4 @@
 pub mod Fresh
 pub mod NackRegister
 pub mod Slots
+pub mod RegisterState

@@ -1,4 +1,4 @@
-ghost use Rattle.std.specs.Prelude.{◌≡◌, ℕ, ◌+◌, ◌<◌, ◌≤◌, ◌^◌, List, [], ◌∷◌, ◌++◌, IfOk, Bool, Option};
+ghost use Rattle.std.specs.Prelude.{◌≡◌, ℕ, ◌+◌, ◌<◌, ◌≤◌, ◌^◌, List, [], ◌∷◌, ◌++◌, IfOk, IfSome, Bool, Option};
 ghost use Rattle.std.specs.Option.{ForSome};
 ghost use Rattle.std.specs.Bool.{OnFalse};
 ghost use Rattle.repair_core.specs.Fresh.{is_fresh, with_number, greatest_of, started_from};
@@ -8,6 +8,7 @@ use crate::slots::{Slot, Slots};
 use media_base::Instant;
 use rtp_wire::SeqNo;
 use std::alloc::{AllocError, Global};
+use std::marker::Model;
 
 /// The numbers that were taken, as far as the answers need them: the first, the greatest, and which
 /// of the last 101 are among them. Its room is taken when it is made.
@@ -17,6 +18,17 @@ pub struct NackRegister {
     first: u64,
     greatest: u64,
     slots: Slots,
+}
+
+impl Model for NackRegister {
+    ghost use Rattle.std.specs.Prelude.{◌<◌, ◌^◌};
+    ghost use Rattle.repair_core.specs.RegisterState.{RegisterState};
+
+    ghost Value = { RegisterState };
+
+    ghost view = { λ r. record { started = r.started; first = r.first; greatest = r.greatest; slots = r.slots } };
+
+    ghost invariant = { λ r. r.greatest < 2 ^ 48 };
 }
 
 impl NackRegister {
@@ -130,7 +142,8 @@ impl NackRegister {
     /// The greatest number that was taken.
     #[tactic(auto, using(crate::proofs::RegisterLaws::greatest_is))]
     pub fn max_seq(&self) -> Option<SeqNo>
-        ensures { (l : List ℕ) → StandsFor self.now l → result ≡ greatest_of l }
+        ensures greatest { (l : List ℕ) → StandsFor self.now l → result ≡ greatest_of l }
+        ensures small { IfSome result (λ n. n < 2 ^ 48) }
     {
         if self.started {
             Some(SeqNo::from(self.greatest))
