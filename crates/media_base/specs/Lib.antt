@@ -1,4 +1,5 @@
 pub mod Causes
+pub mod Ends
 pub mod Memory
 pub mod Text
 pub mod Wallclock

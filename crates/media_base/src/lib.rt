@@ -8,6 +8,8 @@ mod memory;
 mod sink;
 mod source;
 mod std_ends;
+#[cfg(test)]
+mod tests;
 mod time;
 mod wallclock;
 
