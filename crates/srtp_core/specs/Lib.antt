@@ -1,0 +1,4 @@
+pub mod Streams
+pub mod StreamLaws
+pub mod Toy
+pub mod ToyLaws
