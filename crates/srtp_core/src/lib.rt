@@ -2,10 +2,18 @@
 #![tactic(auto)]
 
 mod cipher;
+mod cipher_key;
+mod context;
+mod error;
+mod gcm;
+mod keying;
 mod profile;
 mod stream;
 mod toy;
 
 pub use cipher::SrtpCipher;
+pub use context::SrtpContext;
+pub use error::SrtpError;
+pub use keying::{KeyingMaterial, SrtpKey};
 pub use profile::SrtpProfile;
 pub use toy::{ToyCipher, ToyKey128, ToyKey256};
