@@ -12,3 +12,4 @@ pub mod SealLaws
 pub mod Contexts
 pub mod Views
 pub mod Unchanged
+pub mod Laws

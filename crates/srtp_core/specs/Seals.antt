@@ -16,10 +16,22 @@ gcm_rtp_iv salt ssrc roc seq = xored (0 ∷ 0 ∷ to_be_bytes w32 ssrc ++ to_be_
 unfoldable pub gcm_rtcp_iv : List ℕ → ℕ → ℕ → List ℕ
 gcm_rtcp_iv salt ssrc index = xored (0 ∷ 0 ∷ to_be_bytes w32 ssrc ++ 0 ∷ 0 ∷ to_be_bytes w32 index) salt
 
--- RFC 3711, 4.1.1: the salt from byte 0 on, XOR the SSRC from byte 4 on, XOR the index from byte 6 on
+-- RFC 3711, 4.1.1: the SSRC from byte 4 on, XOR the index from byte 6 on, XOR the salt from byte 0 on
 unfoldable pub cm_iv : List ℕ → ℕ → ℕ → List ℕ
 cm_iv salt ssrc index =
-    xored (xored (salt ++ replicate 2 0) (replicate 4 0 ++ to_be_bytes w32 ssrc ++ replicate 8 0)) (replicate 6 0 ++ to_be_bytes w64 index ++ replicate 2 0)
+    xored (xored (replicate 4 0 ++ to_be_bytes w32 ssrc ++ replicate 8 0) (replicate 6 0 ++ to_be_bytes w64 index ++ replicate 2 0)) (salt ++ replicate 2 0)
+
+-- the initial value of an RTP datagram under its index, which is 65,536 times the rollover count plus the sequence number
+abbrev pub rtp_iv : SrtpProfile → List ℕ → ℕ → ℕ → List ℕ
+rtp_iv Aes128CmSha1_80 salt ssrc index = cm_iv salt ssrc index
+rtp_iv AeadAes128Gcm salt ssrc index = gcm_rtp_iv salt ssrc (index / 65536) (index % 65536)
+rtp_iv AeadAes256Gcm salt ssrc index = gcm_rtp_iv salt ssrc (index / 65536) (index % 65536)
+
+-- the initial value of an SRTCP datagram under its index
+abbrev pub rtcp_iv : SrtpProfile → List ℕ → ℕ → ℕ → List ℕ
+rtcp_iv Aes128CmSha1_80 salt ssrc index = cm_iv salt ssrc index
+rtcp_iv AeadAes128Gcm salt ssrc index = gcm_rtcp_iv salt ssrc index
+rtcp_iv AeadAes256Gcm salt ssrc index = gcm_rtcp_iv salt ssrc index
 
 -- RFC 3711, 4.2: the first 10 bytes of the code over a text and the rollover count
 abbrev pub cm_rtp_tag : List ℕ → ℕ → List ℕ → List ℕ

@@ -222,3 +222,54 @@ fn open_front<C: SrtpCipher>(
         Keys::Gcm256 { opening, .. } => gcm::open_rtp(cipher, &opening.rtp, buf, header_len, ssrc, index, output),
     }
 }
+
+#[cfg(test)]
+mod tests {
+    use super::*;
+    use crate::toy::ToyCipher;
+    use std::test::Fail;
+
+    const PLAIN: [u8; 14] = [0x80, 0x60, 0, 1, 0, 0, 0, 0, 0, 0, 0, 0x2a, 1, 2];
+
+    fn sides(
+        alloc: Global,
+        profile: SrtpProfile,
+        material: &[u8],
+    ) -> Result<(SrtpContext<ToyCipher>, SrtpContext<ToyCipher>), SrtpError>
+        requires { profile ≢ SrtpProfile.Aes128CmSha1_80 }
+    {
+        let mat = KeyingMaterial::new(alloc, material)?;
+        let left = SrtpContext::new(alloc, ToyCipher, profile, &mat, true)?;
+        let right = SrtpContext::new(alloc, ToyCipher, profile, &mat, false)?;
+        Ok((left, right))
+    }
+
+    #[test]
+    fn gcm_128_seals_and_opens(rt: HostRuntime) -> Result<(), Fail> {
+        let (mut left, mut right) = sides(rt.alloc(), SrtpProfile::AeadAes128Gcm, &[0; 56])?;
+        let sealed = left.seal_rtp(&PLAIN, 12, 42, 1)?;
+        let wanted = [
+            0x80, 0x60, 0, 1, 0, 0, 0, 0, 0, 0, 0, 0x2a, 1, 2, 0x80, 0x60, 0, 1, 0, 0x2a, 0, 2, 0,
+            0, 0, 0x2b, 1, 2, 0, 1,
+        ];
+        assert_eq!(rt; sealed.as_slice(), wanted.as_slice());
+        let opened = right.open_rtp(&sealed, 12, 42, 1).ok_or("not opened")?;
+        assert_eq!(rt; opened, [1, 2].as_slice());
+        assert!(rt; right.open_rtp(&sealed, 12, 42, 2).is_none());
+        Ok(())
+    }
+
+    #[test]
+    fn gcm_256_seals_and_opens(rt: HostRuntime) -> Result<(), Fail> {
+        let (mut left, mut right) = sides(rt.alloc(), SrtpProfile::AeadAes256Gcm, &[0; 88])?;
+        let sealed = left.seal_rtp(&PLAIN, 12, 42, 1)?;
+        let wanted = [
+            0x80, 0x60, 0, 1, 0, 0, 0, 0, 0, 0, 0, 0x2a, 1, 2, 0x80, 0x60, 0, 1, 0, 0x2a, 0, 2, 0,
+            0, 0, 0x2b, 1, 2, 0, 0,
+        ];
+        assert_eq!(rt; sealed.as_slice(), wanted.as_slice());
+        let opened = right.open_rtp(&sealed, 12, 42, 1).ok_or("not opened")?;
+        assert_eq!(rt; opened, [1, 2].as_slice());
+        Ok(())
+    }
+}

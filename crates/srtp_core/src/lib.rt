@@ -7,6 +7,7 @@ mod context;
 mod error;
 mod gcm;
 mod keying;
+pub mod laws;
 mod profile;
 mod stream;
 mod toy;
