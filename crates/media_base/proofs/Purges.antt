@@ -1,5 +1,5 @@
 -- What is purged from the front, where the moments do not fall, is all that is too old.
-use Rattle.std.proofs.Common.{◌≡◌, ℕ, ◌+◌, ◌-◌, ◌<◌, ◌≤◌, List, [], ◌∷◌, Bool, true, false, length, get_or, refl, ap, sym, suc, arith, inl, inr, nat_lt, nat_le}
+use Rattle.std.proofs.Common.{◌≡◌, ℕ, ◌+◌, ◌-◌, ◌<◌, ◌≤◌, List, [], ◌∷◌, Bool, true, false, length, get_or, refl, ap, ◌∙◌, sym, suc, arith, inl, inr, nat_lt, nat_le}
 use Rattle.std.proofs.lemmas.Bool.{cases_lt}
 use Rattle.std.proofs.lemmas.Bool.Decides.{nat_tests}
 use Rattle.std.specs.List.{filter}
@@ -28,11 +28,16 @@ pub purged-unfalling : (limit now : ℕ) (held : List (ℕ × ℕ)) → IsUnfall
 purged-unfalling limit now [] unfalling = refl
 purged-unfalling limit now (p ∷ held) unfalling =
     elim (cases_lt limit (now - p.0)) [
-      inl old ↦
-        rw (lt_true limit (now - p.0) old, le_false (now - p.0) limit old)
-        (purged-unfalling limit now held (λ i j d le lt. unfalling (suc i) (suc j) d (omega arith) (omega arith)))
-    | inr young ↦
-        rw (lt_false limit (now - p.0) young, le_true (now - p.0) limit young)
-        (ap (λ l. p ∷ l) (sym (filter_passed (λ q. nat_le (now - q.0) limit) held
+      | inl old ↦
+          rw (lt_true limit (now - p.0) old, le_false (now - p.0) limit old)
+          (purged-unfalling limit now held (λ i j d le lt. unfalling (suc i) (suc j) d (omega arith) (omega arith)))
+      | inr young ↦
+          rw (lt_false limit (now - p.0) young, le_true (now - p.0) limit young)
+          (ap (λ l. p ∷ l) (sym (filter_passed (λ q. nat_le (now - q.0) limit) held
           (λ k d lt. le_true _ _ (omega (arith, young, unfalling 0 (suc k) d (omega arith) (omega arith)))))))
     ]
+
+-- a loop that goes on until nothing is too old has purged
+pub purged_all : (limit limit' now : ℕ) (new mid old : List (ℕ × ℕ)) → limit' ≡ limit → new ≡ purged limit' now new → purged limit' now new ≡ purged limit' now mid → purged limit now mid ≡ purged limit now old → IsUnfalling old → new ≡ recent limit now old
+purged_all limit limit' now new mid old same done kept rest unfalling =
+    done ∙ kept ∙ ap (λ n. purged n now mid) same ∙ rest ∙ purged-unfalling limit now old unfalling
