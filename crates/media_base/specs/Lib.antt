@@ -1,5 +1,7 @@
+pub mod BitPattern
 pub mod Causes
 pub mod Ends
+pub mod History
 pub mod Memory
 pub mod Soonest
 pub mod Text

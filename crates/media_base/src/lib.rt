@@ -2,7 +2,9 @@
 //! numbers, and the source and the sink of a program.
 #![tactic(auto)]
 
+mod bit_pattern;
 mod bytes;
+mod history;
 mod listed;
 mod memory;
 mod rate;
@@ -16,7 +18,9 @@ mod time;
 mod trip;
 mod wallclock;
 
+pub use bit_pattern::BitPattern;
 pub use bytes::Bytes;
+pub use history::{Amount, ValueHistory};
 pub use listed::Listed;
 pub use memory::{MemSink, MemSource};
 pub use rate::{Bitrate, DataSize, Debt};

@@ -19,13 +19,7 @@ impl<T: Default + Drop> Soonest for (Option<Instant>, T) {
 
     fn soonest(self, other: Self) -> Self {
         match (self.0, other.0) {
-            (Some(one), Some(another)) => {
-                if one < another {
-                    self
-                } else {
-                    other
-                }
-            }
+            (Some(one), Some(another)) => { if one < another { self } else { other } }
             (Some(_), None) => self,
             (None, Some(_)) => other,
             (None, None) => (None, T::default()),
