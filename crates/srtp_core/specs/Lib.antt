@@ -1,0 +1,15 @@
+pub mod Streams
+pub mod StreamLaws
+pub mod Toy
+pub mod ToyLaws
+pub mod Keys
+pub mod KeyLaws
+pub mod Names
+pub mod CipherKeys
+pub mod Hmac
+pub mod Seals
+pub mod SealLaws
+pub mod Contexts
+pub mod Views
+pub mod Unchanged
+pub mod Laws

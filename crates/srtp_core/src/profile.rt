@@ -1,7 +1,45 @@
+ghost use Rattle.std.specs.Prelude.{◌≡◌, Some};
+ghost use Rattle.srtp_core.specs.Keys.{material_len};
+ghost use Rattle.srtp_core.specs.Names.{profile_name};
+
+use std::fmt;
+
 /// A protection profile (RFC 5764 section 4.1.2, RFC 7714 section 14.2).
 #[derive(Clone, Copy, Debug, PartialEq, Eq)]
 pub enum SrtpProfile {
     Aes128CmSha1_80,
     AeadAes128Gcm,
     AeadAes256Gcm,
+}
+
+impl SrtpProfile {
+    /// All profiles, the preferred one first.
+    pub const ALL: [SrtpProfile; 3] = [
+        SrtpProfile::AeadAes256Gcm,
+        SrtpProfile::AeadAes128Gcm,
+        SrtpProfile::Aes128CmSha1_80,
+    ];
+
+    /// The length of the keying material, in bytes: two keys and two salts.
+    pub fn keying_material_len(&self) -> usize
+        ensures { result ≡ material_len self.now }
+    {
+        match self {
+            SrtpProfile::Aes128CmSha1_80 => 60,
+            SrtpProfile::AeadAes128Gcm => 56,
+            SrtpProfile::AeadAes256Gcm => 88,
+        }
+    }
+}
+
+impl fmt::Display for SrtpProfile {
+    ghost output = { λ p. Some (profile_name p) };
+
+    fn fmt<W: fmt::Write>(&self, f: &mut fmt::Formatter<W>) -> fmt::Result {
+        f.write_str(match self {
+            SrtpProfile::Aes128CmSha1_80 => "SRTP_AES128_CM_SHA1_80",
+            SrtpProfile::AeadAes128Gcm => "SRTP_AEAD_AES_128_GCM",
+            SrtpProfile::AeadAes256Gcm => "SRTP_AEAD_AES_256_GCM",
+        })
+    }
 }

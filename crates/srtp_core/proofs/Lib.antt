@@ -1,0 +1,3 @@
+pub mod Ivs
+pub mod Codes
+pub mod Sealing

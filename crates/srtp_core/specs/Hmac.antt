@@ -1,0 +1,11 @@
+use Rattle.std.specs.Prelude.{ℕ, List, ◌++◌, slice_index, bit_xor}
+use Rattle.media_base.specs.Text.{bytes_by}
+use Rattle.sha1.specs.Sha1.{sha1}
+
+-- a key with zeros at its end, each of its 64 bytes XORed with one
+unfoldable pub pad_of : List ℕ → ℕ → List ℕ
+pad_of key with = bytes_by (λ i. bit_xor with (slice_index key i)) 64
+
+-- HMAC-SHA1 of a message under a key of at most a block of 64 bytes (RFC 2104)
+unfoldable pub hmac_of : List ℕ → List ℕ → List ℕ
+hmac_of key m = sha1 (pad_of key 0x5c ++ sha1 (pad_of key 0x36 ++ m))

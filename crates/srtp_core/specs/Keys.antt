@@ -1,0 +1,75 @@
+-- Keying material, and the session keys derived from it (RFC 3711, 4.3; RFC 7714, 11).
+use Rattle.std.specs.Prelude.{ℕ, ◌+◌, ◌*◌, ◌-◌, Bool, if◌then◌else◌, List, ◌++◌, length, take, drop, replicate, slice_index, slice_set, bit_xor}
+use Rattle.std.specs.Int.{w16, to_be_bytes}
+use Rattle.media_base.specs.Text.{bytes_by}
+use Rattle.srtp_core.specs.Streams.{blocks_at}
+use Rattle.srtp_core.specs.declared.profile.SrtpProfile.{SrtpProfile}
+use Rattle.srtp_core.specs.declared.profile.SrtpProfile.TheVariants.{Aes128CmSha1_80, AeadAes128Gcm, AeadAes256Gcm}
+
+-- the length of a key, of a salt, of an authentication key and of a tag
+abbrev pub key_len : SrtpProfile → ℕ
+key_len Aes128CmSha1_80 = 16
+key_len AeadAes128Gcm = 16
+key_len AeadAes256Gcm = 32
+
+abbrev pub salt_len : SrtpProfile → ℕ
+salt_len Aes128CmSha1_80 = 14
+salt_len AeadAes128Gcm = 12
+salt_len AeadAes256Gcm = 12
+
+abbrev pub authentication_len : SrtpProfile → ℕ
+authentication_len Aes128CmSha1_80 = 20
+authentication_len AeadAes128Gcm = 0
+authentication_len AeadAes256Gcm = 0
+
+abbrev pub tag_len : SrtpProfile → ℕ
+tag_len Aes128CmSha1_80 = 10
+tag_len AeadAes128Gcm = 16
+tag_len AeadAes256Gcm = 16
+
+-- keying material is the left key, the right key, the left salt, the right salt (RFC 5764, 4.2)
+abbrev pub material_len : SrtpProfile → ℕ
+material_len profile = 2 * key_len profile + 2 * salt_len profile
+
+abbrev pub master_key : ℕ → List ℕ → Bool → List ℕ
+master_key k material left = take k (drop (if left then 0 else k) material)
+
+abbrev pub master_salt : ℕ → ℕ → List ℕ → Bool → List ℕ
+master_salt k s material left = take s (drop (2 * k + (if left then 0 else s)) material)
+
+-- the salt with zeros at its end, 14 bytes long
+abbrev pub padded : List ℕ → List ℕ
+padded salt = salt ++ replicate (14 - length salt) 0
+
+-- what is enciphered in a round: the padded salt, its byte 7 XORed with the label, and the number of the round
+unfoldable pub derivation_input : List ℕ → ℕ → ℕ → List ℕ
+derivation_input salt label round = slice_set (padded salt) 7 (bit_xor (slice_index (padded salt) 7) label) ++ to_be_bytes w16 round
+
+-- n bytes of the blocks of the rounds, one after another
+unfoldable pub derived : (List ℕ → List ℕ) → List ℕ → ℕ → ℕ → List ℕ
+derived block salt label n = bytes_by (λ i. blocks_at (λ round. block (derivation_input salt label round)) i) n
+
+-- the six strings derived for a direction
+pub record SessionKeys : Type 0 where
+  pub rtp_key : List ℕ
+  pub rtp_authentication : List ℕ
+  pub rtp_salt : List ℕ
+  pub rtcp_key : List ℕ
+  pub rtcp_authentication : List ℕ
+  pub rtcp_salt : List ℕ
+
+-- from a master key and its salt, with the labels 0 to 5
+abbrev pub keys_of : (List ℕ → List ℕ → List ℕ) → SrtpProfile → List ℕ → List ℕ → SessionKeys
+keys_of block profile key salt = record {
+  rtp_key = derived (block key) salt 0 (key_len profile);
+  rtp_authentication = derived (block key) salt 1 (authentication_len profile);
+  rtp_salt = derived (block key) salt 2 (salt_len profile);
+  rtcp_key = derived (block key) salt 3 (key_len profile);
+  rtcp_authentication = derived (block key) salt 4 (authentication_len profile);
+  rtcp_salt = derived (block key) salt 5 (salt_len profile)
+}
+
+-- the keys under which the left side, or the right side, seals
+abbrev pub session_keys : (List ℕ → List ℕ → List ℕ) → SrtpProfile → List ℕ → Bool → SessionKeys
+session_keys block profile material left =
+    keys_of block profile (master_key (key_len profile) material left) (master_salt (key_len profile) (salt_len profile) material left)

@@ -1,0 +1,133 @@
+ghost use Rattle.std.specs.Prelude.{◌≡◌, ℕ, ◌+◌, List, ◌++◌, length, IsTrue};
+ghost use Rattle.srtp_core.specs.Streams.{streamed, counter_mode};
+
+/// What SRTP needs of a cipher: its blocks and its counter mode (RFC 3711 section 4.1.1), and its
+/// authenticated encryption with a tag of 16 bytes and a nonce of 12 (RFC 7714 section 2), for
+/// keys of 16 and of 32 bytes. Whoever brings a real AES writes an impl of this trait.
+///
+/// No call takes memory. The lengths of the outputs are conditions.
+pub trait SrtpCipher: Copy {
+    type Key128: Drop;
+
+    type Key256: Drop;
+
+    /// The bytes of a key of 16 bytes.
+    ghost bytes_128: { Self.Key128 → List ℕ };
+
+    /// The bytes of a key of 32 bytes.
+    ghost bytes_256: { Self.Key256 → List ℕ };
+
+    /// The bytes of a key, and a block: the block enciphered.
+    ghost block: { List ℕ → List ℕ → List ℕ };
+
+    /// The bytes of a key, and an initial value: byte i of the key stream.
+    ghost keystream: { List ℕ → List ℕ → ℕ → ℕ };
+
+    /// The bytes of a key, the nonce, the associated data and the plain text: the sealed text.
+    ghost aead: { List ℕ → List ℕ → List ℕ → List ℕ → List ℕ };
+
+    /// The key of these bytes.
+    fn key_128(&self, key: &[u8; 16]) -> Self::Key128
+        ensures { bytes_128 result ≡ key.now };
+
+    /// The key of these bytes.
+    fn key_256(&self, key: &[u8; 32]) -> Self::Key256
+        ensures { bytes_256 result ≡ key.now };
+
+    /// One block enciphered.
+    fn block_128(&self, key: &Self::Key128, input: &[u8; 16]) -> [u8; 16]
+        ensures { result ≡ block (bytes_128 key.now) input.now };
+
+    /// One block enciphered.
+    fn block_256(&self, key: &Self::Key256, input: &[u8; 16]) -> [u8; 16]
+        ensures { result ≡ block (bytes_256 key.now) input.now };
+
+    /// The input XOR the key stream, which enciphers and deciphers.
+    fn ctr(&self, key: &Self::Key128, iv: &[u8; 16], input: &[u8], output: &mut [u8])
+        requires { length output.old ≡ length input.now }
+        ensures { output.new ≡ streamed (keystream (bytes_128 key.now) iv.now) input.now };
+
+    /// Seals the input; `aad1` and `aad2`, one after the other, are the associated data.
+    fn seal_128(
+        &self,
+        key: &Self::Key128,
+        iv: &[u8; 12],
+        aad1: &[u8],
+        aad2: &[u8],
+        input: &[u8],
+        output: &mut [u8],
+    )
+        requires { length output.old ≡ length input.now + 16 }
+        ensures { output.new ≡ aead (bytes_128 key.now) iv.now (aad1.now ++ aad2.now) input.now };
+
+    /// Opens the input, and tells whether it is a sealed text. After `false` what stands in
+    /// `output` is not said.
+    fn open_128(
+        &self,
+        key: &Self::Key128,
+        iv: &[u8; 12],
+        aad1: &[u8],
+        aad2: &[u8],
+        input: &[u8],
+        output: &mut [u8],
+    ) -> bool
+        requires { length input.now ≡ length output.old + 16 }
+        ensures opens { IsTrue result → aead (bytes_128 key.now) iv.now (aad1.now ++ aad2.now) output.new ≡ input.now }
+        ensures only { (plain : List ℕ) → aead (bytes_128 key.now) iv.now (aad1.now ++ aad2.now) plain ≡ input.now → IsTrue result };
+
+    /// Seals the input; `aad1` and `aad2`, one after the other, are the associated data.
+    fn seal_256(
+        &self,
+        key: &Self::Key256,
+        iv: &[u8; 12],
+        aad1: &[u8],
+        aad2: &[u8],
+        input: &[u8],
+        output: &mut [u8],
+    )
+        requires { length output.old ≡ length input.now + 16 }
+        ensures { output.new ≡ aead (bytes_256 key.now) iv.now (aad1.now ++ aad2.now) input.now };
+
+    /// Opens the input, and tells whether it is a sealed text. After `false` what stands in
+    /// `output` is not said.
+    fn open_256(
+        &self,
+        key: &Self::Key256,
+        iv: &[u8; 12],
+        aad1: &[u8],
+        aad2: &[u8],
+        input: &[u8],
+        output: &mut [u8],
+    ) -> bool
+        requires { length input.now ≡ length output.old + 16 }
+        ensures opens { IsTrue result → aead (bytes_256 key.now) iv.now (aad1.now ++ aad2.now) output.new ≡ input.now }
+        ensures only { (plain : List ℕ) → aead (bytes_256 key.now) iv.now (aad1.now ++ aad2.now) plain ≡ input.now → IsTrue result };
+
+    /// A sealed text is 16 bytes longer.
+    ghost longer: { (key iv aad plain : List ℕ) → length (aead key iv aad plain) ≡ length plain + 16 };
+
+    /// No two plain texts are sealed alike.
+    ghost apart: { (key iv aad p q : List ℕ) → aead key iv aad p ≡ aead key iv aad q → p ≡ q };
+
+    /// The key stream is the counter mode of the blocks.
+    ghost counts: { (key iv : List ℕ) (i : ℕ) → keystream key iv i ≡ counter_mode (block key) iv i };
+}
+
+/// What is opened after it was sealed is what was sealed.
+pub fn there_and_back<C: SrtpCipher>(
+    cipher: C,
+    key: &[u8; 16],
+    iv: &[u8; 12],
+    input: &[u8],
+    sealed: &mut [u8],
+    output: &mut [u8],
+) -> bool
+    requires room { length sealed.old ≡ length input.now + 16 }
+    requires same { length output.old ≡ length input.now }
+    ensures opened { IsTrue result }
+    ensures plain { output.new ≡ input.now }
+{
+    let key = cipher.key_128(key);
+    cipher.seal_128(&key, iv, &[], &[], input, sealed);
+    cipher.open_128(&key, iv, &[], &[], sealed, output)
+}

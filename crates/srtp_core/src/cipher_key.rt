@@ -1,0 +1,93 @@
+ghost use Rattle.std.specs.Prelude.{◌≡◌, ℕ, ◌+◌, ◌⊎◌, List, ◌++◌, length, IsTrue};
+
+use crate::cipher::SrtpCipher;
+use std::marker::Model;
+
+#[derive(Drop)]
+enum ByLength<C: SrtpCipher> {
+    Short(C::Key128),
+    Long(C::Key256),
+}
+
+/// A key of 16 or 32 bytes. Contracts see its bytes.
+#[derive(Drop)]
+pub(crate) struct CipherKey<C: SrtpCipher> {
+    key: ByLength<C>,
+}
+
+impl<C: SrtpCipher> Model for CipherKey<C> {
+    ghost use Rattle.std.specs.Prelude.{ℕ, List};
+
+    ghost Value = { List ℕ };
+
+    ghost use Rattle.srtp_core.specs.CipherKeys.{key_bytes};
+
+    ghost view = { λ k. key_bytes C.bytes_128 C.bytes_256 k.key };
+}
+
+impl<C: SrtpCipher> CipherKey<C> {
+    pub(crate) fn new(cipher: C, bytes: &[u8]) -> Self
+        requires { (length bytes.now ≡ 16) ⊎ (length bytes.now ≡ 32) }
+        ensures { result ≡ bytes.now }
+    {
+        if bytes.len() == 16 {
+            let mut short = [0; 16];
+            short.copy_from_slice(bytes);
+            CipherKey {
+                key: ByLength::Short(cipher.key_128(&short)),
+            }
+        } else {
+            let mut long = [0; 32];
+            long.copy_from_slice(bytes);
+            CipherKey {
+                key: ByLength::Long(cipher.key_256(&long)),
+            }
+        }
+    }
+
+    pub(crate) fn block(&self, cipher: C, input: &[u8; 16]) -> [u8; 16]
+        ensures { result ≡ C.block self.now input.now }
+    {
+        match &self.key {
+            ByLength::Short(key) => cipher.block_128(key, input),
+            ByLength::Long(key) => cipher.block_256(key, input),
+        }
+    }
+
+    pub(crate) fn seal(
+        &self,
+        cipher: C,
+        iv: &[u8; 12],
+        aad1: &[u8],
+        aad2: &[u8],
+        input: &[u8],
+        output: &mut [u8],
+    )
+        requires { length output.old ≡ length input.now + 16 }
+        ensures { output.new ≡ C.aead self.now iv.now (aad1.now ++ aad2.now) input.now }
+    {
+        match &self.key {
+            ByLength::Short(key) => cipher.seal_128(key, iv, aad1, aad2, input, output),
+            ByLength::Long(key) => cipher.seal_256(key, iv, aad1, aad2, input, output),
+        }
+    }
+
+    pub(crate) fn open(
+        &self,
+        cipher: C,
+        iv: &[u8; 12],
+        aad1: &[u8],
+        aad2: &[u8],
+        input: &[u8],
+        output: &mut [u8],
+    ) -> bool
+        requires { length input.now ≡ length output.old + 16 }
+        ensures opens { IsTrue result → C.aead self.now iv.now (aad1.now ++ aad2.now) output.new ≡ input.now }
+        ensures only { (plain : List ℕ) → C.aead self.now iv.now (aad1.now ++ aad2.now) plain ≡ input.now → IsTrue result }
+    {
+        match &self.key {
+            ByLength::Short(key) => cipher.open_128(key, iv, aad1, aad2, input, output),
+            ByLength::Long(key) => cipher.open_256(key, iv, aad1, aad2, input, output),
+        }
+    }
+}

@@ -1,0 +1,159 @@
+ghost use Rattle.std.specs.Prelude.{◌≡◌, ℕ, ◌+◌, ◌-◌, ◌/◌, ◌%◌, ◌^◌, ◌<◌, ◌≤◌, ◌⊎◌, List, [], ◌++◌, length, take, drop, IsTrue, IfOk, IfSome, IfNone};
+ghost use Rattle.media_base.specs.Text.{xored};
+ghost use Rattle.srtp_core.specs.Keys.{derived};
+ghost use Rattle.srtp_core.specs.Seals.{gcm_rtp_iv, gcm_rtcp_iv, gcm_sealed_rtp};
+
+use crate::cipher::SrtpCipher;
+use crate::cipher_key::CipherKey;
+use crate::keying::SrtpKey;
+use std::alloc::{AllocError, Global};
+
+fn xor_into(bytes: &mut [u8], with: &[u8])
+    requires { length with.now ≡ length bytes.old }
+    ensures { bytes.new ≡ xored bytes.old with.now }
+{
+    for i in 0..bytes.len() {
+        bytes[i] ^= with[i];
+    }
+}
+
+/// The initial value of an RTP datagram, of its rollover count and sequence number (RFC 7714
+/// section 8.1).
+#[tactic(auto, unfolding(crate::specs::Seals::gcm_rtp_iv))]
+pub fn rtp_iv(salt: [u8; 12], ssrc: u32, roc: u32, seq: u16) -> [u8; 12]
+    ensures { result ≡ gcm_rtp_iv salt ssrc roc seq }
+{
+    let mut iv = [0; 12];
+    let (zeros_and_ssrc, place) = iv.split_at_mut(6);
+    let (_, source) = zeros_and_ssrc.split_at_mut(2);
+    source.copy_from_slice(&ssrc.to_be_bytes());
+    let (count, number) = place.split_at_mut(4);
+    count.copy_from_slice(&roc.to_be_bytes());
+    number.copy_from_slice(&seq.to_be_bytes());
+    xor_into(&mut iv, &salt);
+    iv
+}
+
+/// The initial value of an RTCP datagram, of its index (RFC 7714 section 9.1).
+#[tactic(auto, unfolding(crate::specs::Seals::gcm_rtcp_iv))]
+pub fn rtcp_iv(salt: [u8; 12], ssrc: u32, index: u32) -> [u8; 12]
+    ensures { result ≡ gcm_rtcp_iv salt ssrc index }
+{
+    let mut iv = [0; 12];
+    let (zeros_and_ssrc, place) = iv.split_at_mut(6);
+    let (_, source) = zeros_and_ssrc.split_at_mut(2);
+    source.copy_from_slice(&ssrc.to_be_bytes());
+    let (_, number) = place.split_at_mut(2);
+    number.copy_from_slice(&index.to_be_bytes());
+    xor_into(&mut iv, &salt);
+    iv
+}
+
+/// A key for authenticated encryption, with its salt.
+#[derive(Drop)]
+pub(crate) struct GcmKeys<C: SrtpCipher> {
+    pub(crate) key: CipherKey<C>,
+    pub(crate) salt: [u8; 12],
+}
+
+/// The keys of a direction.
+#[derive(Drop)]
+pub(crate) struct GcmDirection<C: SrtpCipher> {
+    pub(crate) rtp: GcmKeys<C>,
+    pub(crate) rtcp: GcmKeys<C>,
+}
+
+fn gcm_keys<C: SrtpCipher, const ML: usize>(
+    cipher: C,
+    master: &SrtpKey<ML, 12>,
+    key_label: u8,
+    salt_label: u8,
+) -> GcmKeys<C>
+    requires { (ML ≡ 16) ⊎ (ML ≡ 32) }
+    ensures key { result.key ≡ derived (C.block master.now.master) master.now.salt key_label ML }
+    ensures salt { result.salt ≡ derived (C.block master.now.master) master.now.salt salt_label 12 }
+{
+    let mut key = [0; ML];
+    master.derive(cipher, key_label, &mut key);
+    let mut salt = [0; 12];
+    master.derive(cipher, salt_label, &mut salt);
+    GcmKeys {
+        key: CipherKey::new(cipher, &key),
+        salt,
+    }
+}
+
+/// The keys of a direction, of its master key.
+pub(crate) fn gcm_direction<C: SrtpCipher, const ML: usize>(
+    cipher: C,
+    master: &SrtpKey<ML, 12>,
+) -> GcmDirection<C>
+    requires { (ML ≡ 16) ⊎ (ML ≡ 32) }
+    ensures rtp_key { result.rtp.key ≡ derived (C.block master.now.master) master.now.salt 0 ML }
+    ensures rtp_salt { result.rtp.salt ≡ derived (C.block master.now.master) master.now.salt 2 12 }
+    ensures rtcp_key { result.rtcp.key ≡ derived (C.block master.now.master) master.now.salt 3 ML }
+    ensures rtcp_salt { result.rtcp.salt ≡ derived (C.block master.now.master) master.now.salt 5 12 }
+{
+    GcmDirection {
+        rtp: gcm_keys(cipher, master, 0, 2),
+        rtcp: gcm_keys(cipher, master, 3, 5),
+    }
+}
+
+/// Seals an RTP datagram whose header is its first bytes.
+pub(crate) fn seal_rtp<C: SrtpCipher>(
+    alloc: Global,
+    cipher: C,
+    keys: &GcmKeys<C>,
+    buf: &[u8],
+    header_len: usize,
+    ssrc: u32,
+    index: u64,
+) -> Result<Vec<u8>, AllocError>
+    requires header { header_len ≤ length buf.now }
+    requires index { index < 2 ^ 48 }
+    ensures { IfOk result (λ v. v.items ≡ gcm_sealed_rtp C.aead keys.now.key keys.now.salt ssrc index (take header_len buf.now) (drop header_len buf.now)) }
+{
+    let mut sealed = vec![in alloc; 0; buf.len() + 16]?;
+    let (header, payload) = buf.split_at(header_len);
+    let (front, end) = sealed.split_at_mut(header_len);
+    front.copy_from_slice(header);
+    let iv = rtp_iv(keys.salt, ssrc, (index / 65536) as u32, (index % 65536) as u16);
+    keys.key.seal(cipher, &iv, header, &[], payload, end);
+    Ok(sealed)
+}
+
+/// Opens an RTP datagram whose header is its first bytes, into the front of a buffer, and tells the
+/// length of the payload.
+pub(crate) fn open_rtp<C: SrtpCipher>(
+    cipher: C,
+    keys: &GcmKeys<C>,
+    buf: &[u8],
+    header_len: usize,
+    ssrc: u32,
+    index: u64,
+    output: &mut [u8],
+) -> Option<usize>
+    requires header { header_len ≤ length buf.now }
+    requires room { length buf.now ≤ length output.old }
+    requires index { index < 2 ^ 48 }
+    ensures same { length output.new ≡ length output.old }
+    ensures len { IfSome result (λ n. n ≤ length output.new) }
+    ensures opens { IfSome result (λ n.
+        gcm_sealed_rtp C.aead keys.now.key keys.now.salt ssrc index (take header_len buf.now) (take n output.new) ≡ buf.now) }
+    ensures none { IfNone result ((payload : List ℕ)
+        → gcm_sealed_rtp C.aead keys.now.key keys.now.salt ssrc index (take header_len buf.now) payload ≡ buf.now → ⊥) }
+{
+    let (header, sealed) = buf.split_at(header_len);
+    if sealed.len() < 16 {
+        return None;
+    }
+    let len = sealed.len() - 16;
+    let (front, _) = output.split_at_mut(len);
+    let iv = rtp_iv(keys.salt, ssrc, (index / 65536) as u32, (index % 65536) as u16);
+    if keys.key.open(cipher, &iv, header, &[], sealed, front) {
+        Some(len)
+    } else {
+        None
+    }
+}

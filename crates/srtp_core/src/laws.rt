@@ -1,0 +1,36 @@
+//! Laws as functions without a body: what they ensure is proved, and can be cited by a call.
+
+ghost use Rattle.srtp_core.specs.Laws.{RtpIvsApart, RtcpIvsApart, RtpSealsApart, RtpOpensOnce, RtpOpensSealed, PeersAgree};
+
+use crate::cipher::SrtpCipher;
+
+/// No two RTP datagrams under one salt have one initial value (RFC 3711 section 9.1, RFC 7714
+/// section 8.1), SSRCs being below 2^32 and indices below 2^48.
+pub fn rtp_ivs_apart()
+    ensures { RtpIvsApart }
+{}
+
+/// No two SRTCP datagrams under one salt have one initial value, indices being below 2^31.
+pub fn rtcp_ivs_apart()
+    ensures { RtcpIvsApart }
+{}
+
+/// Under one key, SSRC and index no two datagrams are sealed alike.
+pub fn rtp_seals_apart<C: SrtpCipher>()
+    ensures { RtpSealsApart C.keystream C.aead }
+{}
+
+/// A datagram opens to one payload at most.
+pub fn rtp_opens_once<C: SrtpCipher>()
+    ensures { RtpOpensOnce C.keystream C.aead }
+{}
+
+/// A datagram that was sealed opens to its payload.
+pub fn rtp_opens_sealed<C: SrtpCipher>()
+    ensures { RtpOpensSealed C.keystream C.aead }
+{}
+
+/// What one side seals, the other side of the same material opens with the same keys.
+pub fn peers_agree<C: SrtpCipher>()
+    ensures { PeersAgree C.block }
+{}
