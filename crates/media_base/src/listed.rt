@@ -2,6 +2,7 @@ ghost use Rattle.std.specs.Prelude.{◌≡◌, ◌∷◌, ◌++◌, [], OnOk, On
 
 use std::alloc::{AllocError, Global};
 use std::marker::Model;
+use std::mem;
 
 /// Values in a row on the heap. Contracts see the list of them.
 #[derive(Debug, Drop)]
@@ -65,6 +66,16 @@ impl<T> Listed<T> {
         ensures { result.items ≡ self }
     {
         self.all
+    }
+}
+
+impl<T> Listed<T> {
+    /// Takes all values out, and leaves none.
+    pub fn take_all(&mut self, alloc: Global) -> Vec<T>
+        ensures values { result.items ≡ self.old }
+        ensures none { self.new ≡ [] }
+    {
+        mem::replace(&mut self.all, Vec::new(alloc))
     }
 }
 

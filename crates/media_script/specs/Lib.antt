@@ -1,1 +1,10 @@
+pub mod Genuine
+pub mod Gives
+pub mod Grammar
+pub mod Names
+pub mod Setup
+pub mod SetupLines
 pub mod Sides
+pub mod Spelling
+pub mod Text
+pub mod Words

@@ -1,10 +1,22 @@
 //! Scripts of two media sessions and the transcripts of their runs, with their grammar and text.
 #![tactic(auto)]
 
+mod draft;
 mod entry;
+mod error;
+mod fields;
+mod lines;
+mod reader;
+mod setup;
 mod step;
+mod steps;
+mod text;
 mod transcript;
 
 pub use entry::{Entry, Kind, Packet, Side, Write};
+pub use error::ScriptError;
+pub use reader::read_script;
+pub use setup::{CipherName, Codec, Key, Media, MediaKind, PayloadType, Setup, Stream};
 pub use step::Step;
+pub use text::entries_text;
 pub use transcript::Transcript;

@@ -1,4 +1,4 @@
-ghost use Rattle.std.specs.Prelude.{◌≡◌, ◌∷◌, ◌++◌, [], OnOk, OnErr};
+ghost use Rattle.std.specs.Prelude.{◌≡◌, ◌∷◌, ◌++◌, [], OnOk, OnErr, take};
 
 use crate::entry::Entry;
 use std::alloc::{AllocError, Global};
@@ -35,6 +35,13 @@ impl Transcript {
     {
         self.all.push(entry)?;
         Ok(())
+    }
+
+    /// Cuts the transcript after so many entries.
+    pub fn truncate(&mut self, len: usize)
+        ensures { self.new ≡ take len self.old }
+    {
+        self.all.truncate(len);
     }
 
     /// The entries, in order.

@@ -1,0 +1,115 @@
+-- What is read of a script is spelled so, and what is spelled so is read.
+use Rattle.std.proofs.Common.{◌≡◌, ◌≢◌, ℕ, ◌+◌, Bool, true, false, cond, not, eqb, List, [], ◌∷◌, ◌++◌, length, Option, Some, None, Result, Ok, Err, refl, sym, ap, ◌∙◌, subst}
+use Rattle.std.specs.Prelude.{filter, Vec, IfOk}
+use Rattle.std.specs.declared.alloc.Global.{Global}
+use Rattle.std.specs.List.{AllByRecursion}
+use Rattle.std.proofs.Math.Dec.{eqb-suc-zero}
+use Rattle.media_script.specs.declared.error.ScriptError.{ScriptError}
+use Rattle.media_script.specs.declared.reader.Reader.{Reader}
+use Rattle.media_script.specs.declared.reader.Reader.TheVariants.{Head, InSetup, InSteps, Ended}
+use Rattle.media_script.specs.declared.setup.Setup.{Setup}
+use Rattle.media_script.specs.declared.step.Step.{Step}
+use Rattle.media_script.specs.Gives.{GivesScript}
+use Rattle.media_script.specs.Grammar.{pieces_of, read_from, read_then, script_of, line_taken, read_on, whole_of}
+use Rattle.media_script.specs.Spelling.{is_passed_over, AreParts, IsScript}
+use Rattle.media_script.specs.Words.{◌>>=◌}
+use Rattle.media_script.proofs.WordLaws.{bind_some}
+use Rattle.media_script.proofs.Pieces.{some_more, pieces_lines, bytes_of_pieces, pieces_plain, lines_plain}
+use Rattle.media_script.proofs.Kept.{kept_on}
+use Rattle.media_script.proofs.SetupLaws.{setup_spelled, setup_again}
+
+abbrev keep : List ℕ → Bool
+keep line = not (is_passed_over line)
+
+-- the lines of a script one by one
+abbrev lines_on : Reader → List (List ℕ) → Option Reader
+lines_on reader [] = Some reader
+lines_on reader (line ∷ lines) = line_taken reader line >>= λ more. lines_on more lines
+
+-- lines that are passed over change nothing
+kept_lines : (reader : Reader) (lines : List (List ℕ)) → lines_on reader lines ≡ kept_on reader (filter keep lines)
+unfolding line_taken
+kept_lines reader [] = refl
+kept_lines reader (line ∷ lines) = go (λ r. kept_lines r lines) (is_passed_over line) where
+  go : ((r : Reader) → lines_on r lines ≡ kept_on r (filter keep lines)) → (b : Bool)
+      → (cond b (Some reader) (read_on reader line) >>= λ more. lines_on more lines) ≡ kept_on reader (cond (not b) (line ∷ filter keep lines) (filter keep lines))
+  go next true = next reader
+  go next false = both (read_on reader line) where
+    both : (o : Option Reader) → (o >>= λ more. lines_on more lines) ≡ (o >>= λ more. kept_on more (filter keep lines))
+    both None = refl
+    both (Some more) = next more
+
+-- ---- what is spelled so is read
+
+lines_again : (lines : List (List ℕ)) (reader : Reader) (n : ℕ) (setup : Setup) (steps : List Step) → lines_on reader lines ≡ Some (Ended setup steps)
+    → (let script : Setup × List Step = (setup, steps) in read_from n reader (lines ++ [] ∷ []) ≡ Ok script)
+unfolding read_from whole_of
+lines_again [] reader n setup steps e = let is : reader ≡ Ended setup steps = cc in ap (whole_of n) is
+lines_again (line ∷ lines) reader n setup steps e =
+    let a = bind_some (line_taken reader line) (λ more. lines_on more lines) (Ended setup steps) e in
+    rw (some_more lines, a.1) (lines_again lines a.0 (n + 1) setup steps a.2)
+
+parts_again : (lines : List (List ℕ)) (setup : Setup) (steps : List Step) → AreParts lines setup steps → kept_on Head lines ≡ Some (Ended setup steps)
+parts_again lines setup steps p = ap (kept_on Head) p.parts ∙ setup_again p.setup_lines p.step_lines setup steps p.setup_is p.steps_are
+
+pub script_again : (bytes : List ℕ) (setup : Setup) (steps : List Step) → IsScript bytes setup steps
+    → (let script : Setup × List Step = (setup, steps) in script_of bytes ≡ Ok script)
+script_again bytes setup steps s =
+    ap (λ b. read_from 1 Head (pieces_of b)) s.split ∙ ap (read_from 1 Head) (pieces_lines s.lines s.plain)
+    ∙ lines_again s.lines Head 1 setup steps (kept_lines Head s.lines ∙ parts_again (filter keep s.lines) setup steps s.parts)
+
+-- ---- what is read is spelled so
+
+record Reads (reader : Reader) (pieces : List (List ℕ)) (setup : Setup) (steps : List Step) : Type 0 where
+  lines : List (List ℕ)
+  split : pieces ≡ lines ++ [] ∷ []
+  taken : lines_on reader lines ≡ Some (Ended setup steps)
+
+nothing : (line : List ℕ) → eqb (length line) 0 ≡ true → line ≡ []
+nothing [] e = refl
+nothing (b ∷ line) e = absurd (cc (e, eqb-suc-zero (length line)))
+
+none : (pieces : List (List ℕ)) → eqb (length pieces) 0 ≡ true → pieces ≡ []
+none [] e = refl
+none (piece ∷ pieces) e = absurd (cc (e, eqb-suc-zero (length pieces)))
+
+is_whole : (n : ℕ) (reader : Reader) (script : Setup × List Step) → whole_of n reader ≡ Ok script → reader ≡ Ended script.0 script.1
+unfolding whole_of
+is_whole n (Ended setup steps) script e =
+    let one : Setup × List Step = (setup, steps) in
+    let same : one ≡ script = cc in
+    ap (λ (s : Setup × List Step). Ended s.0 s.1) same
+is_whole n Head script e = absurd cc
+is_whole n (InSetup draft) script e = absurd cc
+is_whole n (InSteps setup steps) script e = absurd cc
+
+lines_spelled : (pieces : List (List ℕ)) (reader : Reader) (n : ℕ) (script : Setup × List Step) → read_from n reader pieces ≡ Ok script → Reads reader pieces script.0 script.1
+unfolding read_from
+lines_spelled [] reader n script e = absurd cc
+lines_spelled (line ∷ pieces) reader n script e =
+    go (λ r. lines_spelled pieces r (n + 1) script) (eqb (length pieces) 0) refl (eqb (length line) 0) refl (line_taken reader line) refl e where
+      go : ((r : Reader) → read_from (n + 1) r pieces ≡ Ok script → Reads r pieces script.0 script.1)
+          → (a : Bool) → eqb (length pieces) 0 ≡ a → (b : Bool) → eqb (length line) 0 ≡ b → (o : Option Reader) → line_taken reader line ≡ o
+          → cond a (cond b (whole_of n reader) (Err n)) (read_then n o (λ more. read_from (n + 1) more pieces)) ≡ Ok script → Reads reader (line ∷ pieces) script.0 script.1
+      go next true p true q o t e' =
+          record { lines = []; split = λ i. nothing line q i ∷ none pieces p i; taken = ap (λ (r : Reader). Some r) (is_whole n reader script e') }
+      go next true p false q o t e' = absurd cc
+      go next false p b q None t e' = absurd cc
+      go next false p b q (Some more) t e' =
+          let rest = next more e' in
+          record { lines = line ∷ rest.lines; split = ap (λ ps. line ∷ ps) rest.split; taken = ap (λ (o : Option Reader). o >>= λ m. lines_on m rest.lines) t ∙ rest.taken }
+
+pub script_spelled : (bytes : List ℕ) (script : Setup × List Step) → script_of bytes ≡ Ok script → IsScript bytes script.0 script.1
+script_spelled bytes script e =
+    let r = lines_spelled (pieces_of bytes) Head 1 script e in
+    record {
+      lines = r.lines;
+      split = bytes_of_pieces bytes r.lines r.split;
+      plain = lines_plain r.lines (subst (AllByRecursion (λ line. AllByRecursion (λ b. b ≢ 10) line)) r.split (pieces_plain bytes));
+      parts = setup_spelled script.0 script.1 (filter keep r.lines) (sym (kept_lines Head r.lines) ∙ r.taken);
+    }
+
+pub found_of : (bytes : List ℕ) (result : Result (Setup × Vec Step Global) ScriptError) → GivesScript (λ x. (x.0, x.1.items)) result (script_of bytes)
+    → IfOk result (λ x. IsScript bytes x.0 x.1.items)
+found_of bytes (Ok x) gives = script_spelled bytes (x.0, x.1.items) gives
+found_of bytes (Err e) gives = tt

@@ -1,0 +1,178 @@
+-- What a word says is how it is spelled, and the other way round.
+use Rattle.std.proofs.Common.{◌≡◌, ◌⊎◌, lit<, inl, inr, ℕ, zero, suc, ◌+◌, ◌-◌, ◌*◌, ◌^◌, ◌<◌, ◌≤◌, Bool, true, false, cond, not, ◌&&◌, eqb, ltb, List, [], ◌∷◌, ◌++◌, length, take, get_or, Option, Some, None, Result, Ok, Err, refl, sym, ap, ◌∙◌, subst, arith}
+use Rattle.std.specs.Prelude.{codes}
+use Rattle.std.specs.Fmt.{decimal}
+use Rattle.std.specs.Str.{all_ascii_digits, bytes_eq}
+use Rattle.std.specs.Str.Parse.{digits_value}
+use Rattle.std.specs.Result.{result_ok}
+use Rattle.std.proofs.lemmas.Bool.{ltb-true, lt-ltb, eq-eqb}
+use Rattle.std.proofs.lemmas.Bool.Decides.{nat_tests, Decides-eqb}
+use Rattle.std.proofs.lemmas.List.{get_or_at, length-append, take_at}
+use Rattle.std.proofs.lemmas.Slice.Eq.{bytes_eq-Decides, ends_is}
+use Rattle.std.proofs.lemmas.Fmt.{decimal-digits_value, digits_decimal, digits_value-decimal, decimal_nonempty, first_decimal, decimal_digit}
+use Rattle.std.proofs.lemmas.Str.Parse.{IsNumeralModel, digit_at, numerals_by_value, tells_all_ascii_digits}
+use Rattle.hex.specs.Hex.{decode_of}
+use Rattle.hex.specs.declared.error.FromHexError.{FromHexError}
+use Rattle.media_script.specs.declared.entry.Side.{Side}
+use Rattle.media_script.specs.declared.entry.Side.TheVariants.{A, B}
+use Rattle.media_script.specs.Words.{◌>>=◌, below, plain_front, is_number, number_of, narrow_of, has_ms, time_of, side_of, flag_of, hex_of}
+use Rattle.media_script.specs.Names.{side_text, flag_text}
+use Rattle.media_script.specs.Spelling.{IsTime, IsHex}
+
+own : IsNumeralModel (λ ds. all_ascii_digits ds ≡ true) (digits_value 10)
+own = numerals_by_value _ tells_all_ascii_digits
+
+both : (a b : Bool) → (a && b) ≡ true → (a ≡ true) × (b ≡ true)
+both true b e = (refl, e)
+both false b e = absurd cc
+
+if_some : {X : Type 0} (b : Bool) (x y : X) → cond b (Some x) None ≡ Some y → (b ≡ true) × (x ≡ y)
+if_some true x y e = (refl, cc)
+if_some false x y e = absurd cc
+
+if_then : {X : Type 0} (b : Bool) (o : Option X) (y : X) → cond b o None ≡ Some y → (b ≡ true) × (o ≡ Some y)
+if_then true o y e = (refl, e)
+if_then false o y e = absurd cc
+
+pub bind_some : {X Y : Type 0} (r : Option X) (f : X → Option Y) (y : Y) → (r >>= f) ≡ Some y → (x : X) × (r ≡ Some x) × (f x ≡ Some y)
+bind_some (Some x) f y e = (x, refl, e)
+bind_some None f y e = absurd cc
+
+front_nonempty : (word : List ℕ) → plain_front word ≡ true → 0 < length word
+front_nonempty [] e = absurd cc
+front_nonempty (b ∷ word) e = omega arith
+
+front_first : (word : List ℕ) → plain_front word ≡ true → get_or word 0 0 ≡ 48 → length word ≡ 1
+front_first [] e z = absurd cc
+front_first (b ∷ []) e z = refl
+front_first (b ∷ c ∷ word) e z = let same : eqb b 48 ≡ true = eq-eqb b 48 z in absurd (cc (e, ap not same))
+
+-- a number
+pub number_spelled : (word : List ℕ) (n : ℕ) → number_of word ≡ Some n → (word ≡ decimal n) × (n < 2 ^ 64)
+unfolding number_of
+number_spelled word n e =
+    let a = if_then (is_number word) (below (2 ^ 64) (digits_value 10 word)) n e in
+    let b = if_some (ltb (digits_value 10 word) (2 ^ 64)) (digits_value 10 word) n a.1 in
+    let c = both (plain_front word) (all_ascii_digits word) a.0 in
+    let small : digits_value 10 word < 2 ^ 64 = ltb-true _ _ b.0 in
+    (sym (decimal-digits_value own word c.1 (front_nonempty word c.0) (front_first word c.0) small) ∙ ap decimal b.1, subst (λ k. k < 2 ^ 64) b.1 small)
+
+plain_from : (word : List ℕ) → 0 < length word → (get_or word 0 0 ≡ 48 → length word ≡ 1) → plain_front word ≡ true
+plain_from [] lt h = absurd (omega arith)
+plain_from (b ∷ []) lt h = refl
+plain_from (b ∷ c ∷ word) lt h = grind (arith, nat_tests, h)
+
+zero_or_more : (n : ℕ) → get_or (decimal n) 0 0 ≡ 48 → n < 2 ^ 64 → length (decimal n) ≡ 1
+zero_or_more zero z small = ap length (decimal_digit 0 (lit< tt))
+zero_or_more (suc n) z small = absurd (omega (arith, first_decimal (suc n) (omega arith) small))
+
+pub number_again : (n : ℕ) → n < 2 ^ 64 → number_of (decimal n) ≡ Some n
+unfolding number_of
+number_again n small =
+    let front : plain_front (decimal n) ≡ true = plain_from (decimal n) (decimal_nonempty n small) (λ z. zero_or_more n z small) in
+    let digits : all_ascii_digits (decimal n) ≡ true = digits_decimal own n small in
+    rw (front, digits, digits_value-decimal own n small) (ap (λ b. cond b (Some n) None) (lt-ltb _ _ small))
+
+pub narrow_spelled : (limit : ℕ) (word : List ℕ) (n : ℕ) → narrow_of limit word ≡ Some n → (word ≡ decimal n) × (n < limit)
+unfolding narrow_of
+narrow_spelled limit word n e =
+    let a = bind_some (number_of word) (λ m. below limit m) n e in
+    let b = if_some (ltb a.0 limit) a.0 n a.2 in
+    ((number_spelled word a.0 a.1).0 ∙ ap decimal b.1, subst (λ k. k < limit) b.1 (ltb-true _ _ b.0))
+
+pub narrow_again : (limit n : ℕ) → limit ≤ 2 ^ 64 → n < limit → narrow_of limit (decimal n) ≡ Some n
+unfolding narrow_of
+narrow_again limit n le lt = rw (number_again n (omega arith)) (ap (λ b. cond b (Some n) None) (lt-ltb _ _ lt))
+
+-- a time
+ms_is : (word : List ℕ) → (has_ms word ≡ true → word ≡ take (length word - 2) word ++ codes "ms") × ((front : List ℕ) → word ≡ front ++ codes "ms" → has_ms word ≡ true)
+ms_is word = ends_is Decides-eqb word (codes "ms") (has_ms word) refl
+
+no_ms : (n : ℕ) → n < 2 ^ 64 → has_ms (decimal n) ≡ false
+no_ms n small = cases (has_ms (decimal n)) refl where
+  cases : (b : Bool) → has_ms (decimal n) ≡ b → b ≡ false
+  cases false e = refl
+  cases true e =
+      let split = (ms_is (decimal n)).0 e in
+      let front = take (length (decimal n) - 2) (decimal n) in
+      let lt : length front < length (decimal n) = omega (arith, ap length split, length-append front (codes "ms")) in
+      let digit = digit_at (decimal n) (length front) (own.to (decimal n) (digits_decimal own n small)) lt in
+      let m : get_or (decimal n) (length front) 0 ≡ 109 = ap (λ (l : List ℕ). get_or l (length front) 0) split ∙ get_or_at front 109 (115 ∷ []) 0 (length front) refl in
+      absurd (omega (arith, digit, m))
+
+pub time_spelled : (word : List ℕ) (time : ℕ) → time_of word ≡ Some time → IsTime word time
+unfolding time_of
+time_spelled word time e = cases (has_ms word) refl e where
+  cases : (b : Bool) → has_ms word ≡ b → cond b (number_of (take (length word - 2) word) >>= λ n. below (2 ^ 64) (n * 1000000)) (number_of word) ≡ Some time → IsTime word time
+  cases true is e =
+      let a = bind_some (number_of (take (length word - 2) word)) (λ n. below (2 ^ 64) (n * 1000000)) time e in
+      let b = if_some (ltb (a.0 * 1000000) (2 ^ 64)) (a.0 * 1000000) time a.2 in
+      let digits = number_spelled (take (length word - 2) word) a.0 a.1 in
+      record {
+        fits = subst (λ k. k < 2 ^ 64) b.1 (ltb-true _ _ b.0);
+        spelled = inr (a.0, (ms_is word).0 is ∙ ap (λ (l : List ℕ). l ++ codes "ms") digits.0, sym b.1);
+      }
+  cases false is e = let n = number_spelled word time e in record { fits = n.1; spelled = inl n.0 }
+
+pub time_again : (word : List ℕ) (time : ℕ) → IsTime word time → time_of word ≡ Some time
+unfolding time_of
+time_again word time is = go is.spelled where
+  go : (word ≡ decimal time) ⊎ ((ms : ℕ) × (word ≡ decimal ms ++ codes "ms") × (time ≡ ms * 1000000)) → time_of word ≡ Some time
+  go (inl plain) = ap time_of plain ∙ rw (no_ms time is.fits) (number_again time is.fits)
+  go (inr ms) =
+      let small : ms.0 < 2 ^ 64 = omega (arith, is.fits, ms.2) in
+      let len : length word ≡ length (decimal ms.0) + 2 = ap length ms.1 ∙ length-append (decimal ms.0) (codes "ms") in
+      let digits : take (length word - 2) word ≡ decimal ms.0 = ap (take (length word - 2)) ms.1 ∙ take_at (decimal ms.0) (codes "ms") (length word - 2) (omega arith) in
+      rw ((ms_is word).1 (decimal ms.0) ms.1, digits, number_again ms.0 small) (ap (λ b. cond b (Some (ms.0 * 1000000)) None) (lt-ltb _ _ (omega (arith, is.fits, ms.2))) ∙ ap (λ (t : ℕ). Some t) (sym ms.2))
+
+-- the other words
+pub equal : (a b : List ℕ) → bytes_eq a b ≡ true → a ≡ b
+equal a b e = (bytes_eq-Decides a b).0 e
+
+pub side_spelled : (word : List ℕ) (side : Side) → side_of word ≡ Some side → word ≡ side_text side
+unfolding side_of
+side_spelled word side e = first (bytes_eq word (codes "A")) (bytes_eq word (codes "B")) refl refl e where
+  first : (a b : Bool) → bytes_eq word (codes "A") ≡ a → bytes_eq word (codes "B") ≡ b → cond a (Some A) (cond b (Some B) None) ≡ Some side → word ≡ side_text side
+  first true b p q e = let is : A ≡ side = cc in equal word (codes "A") p ∙ ap side_text is
+  first false true p q e = let is : B ≡ side = cc in equal word (codes "B") q ∙ ap side_text is
+  first false false p q e = absurd cc
+
+pub side_again : (side : Side) → side_of (side_text side) ≡ Some side
+unfolding side_of
+side_again A = refl
+side_again B = refl
+
+pub flag_spelled : (word : List ℕ) (flag : Bool) → flag_of word ≡ Some flag → word ≡ flag_text flag
+unfolding flag_of
+flag_spelled word flag e = first (bytes_eq word (codes "0")) (bytes_eq word (codes "1")) refl refl e where
+  first : (a b : Bool) → bytes_eq word (codes "0") ≡ a → bytes_eq word (codes "1") ≡ b → cond a (Some false) (cond b (Some true) None) ≡ Some flag → word ≡ flag_text flag
+  first true b p q e = let is : false ≡ flag = cc in equal word (codes "0") p ∙ ap flag_text is
+  first false true p q e = let is : true ≡ flag = cc in equal word (codes "1") q ∙ ap flag_text is
+  first false false p q e = absurd cc
+
+pub flag_again : (flag : Bool) → flag_of (flag_text flag) ≡ Some flag
+unfolding flag_of
+flag_again false = refl
+flag_again true = refl
+
+ok_is : (r : Result (List ℕ) FromHexError) (bytes : List ℕ) → result_ok r ≡ Some bytes → r ≡ Ok bytes
+ok_is (Ok x) bytes e = cc
+ok_is (Err d) bytes e = absurd cc
+
+pub hex_spelled : (word bytes : List ℕ) → hex_of word ≡ Some bytes → IsHex word bytes
+unfolding hex_of
+hex_spelled word bytes e = first (bytes_eq word (codes "-")) (eqb (length word) 0) refl refl e where
+  first : (a b : Bool) → bytes_eq word (codes "-") ≡ a → eqb (length word) 0 ≡ b → cond a (Some []) (cond b None (result_ok (decode_of word))) ≡ Some bytes → IsHex word bytes
+  first true b p q e = inl (equal word (codes "-") p, cc)
+  first false true p q e = absurd cc
+  first false false p q e = inr (grind (arith, nat_tests), ok_is (decode_of word) bytes e)
+
+pub hex_again : (word bytes : List ℕ) → IsHex word bytes → hex_of word ≡ Some bytes
+unfolding hex_of
+hex_again word bytes (inl none) = ap hex_of none.0 ∙ ap (λ b. Some b) (sym none.1)
+hex_again word bytes (inr digits) = go (bytes_eq word (codes "-")) refl where
+  go : (b : Bool) → bytes_eq word (codes "-") ≡ b → hex_of word ≡ Some bytes
+  go true p = let odd = ap decode_of (equal word (codes "-") p) in absurd (cc (odd, digits.1))
+  go false p =
+      let some : eqb (length word) 0 ≡ false = grind (arith, nat_tests, digits.0) in
+      rw (p, some, digits.1) refl

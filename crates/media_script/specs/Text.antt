@@ -1,0 +1,49 @@
+-- The lines of a transcript.
+use Rattle.std.specs.Prelude.{ℕ, List, [], ◌∷◌, ◌++◌, length, codes, Bool, true, false, ◌==◌, ◌/◌, ◌%◌, if◌then◌else◌}
+use Rattle.std.specs.List.{flat_map, join_with_byte}
+use Rattle.std.specs.Fmt.{decimal, digit_glyph}
+use Rattle.media_script.specs.declared.entry.Entry.{Entry}
+use Rattle.media_script.specs.declared.entry.Entry.TheVariants.{Wrote, Ticked, Sealed, Got, Opened, Yielded}
+use Rattle.media_script.specs.declared.setup.Setup.{Setup}
+use Rattle.media_script.specs.Genuine.{is_genuine, repairs_widen}
+use Rattle.media_script.specs.Names.{side_text, kind_text, flag_text}
+
+-- two digits of a byte
+abbrev pub byte_text : ℕ → List ℕ
+byte_text b = digit_glyph false (b / 16) ∷ digit_glyph false (b % 16) ∷ []
+
+-- bytes in lower-case hex, and - for none
+abbrev pub hex_text : List ℕ → List ℕ
+hex_text bytes = if length bytes == 0 then codes "-" else flat_map byte_text bytes
+
+-- words with one space between two
+abbrev pub words : List (List ℕ) → List ℕ
+words ws = join_with_byte 32 ws
+
+abbrev pub line_text : Entry → List ℕ
+line_text (Wrote side time write) = words (codes "wrote" ∷ side_text side ∷ decimal write.ssrc ∷ decimal write.number ∷ [])
+line_text (Ticked side time) = words (codes "ticked" ∷ side_text side ∷ decimal time ∷ [])
+line_text (Got side time kind bytes) = words (codes "got" ∷ side_text side ∷ kind_text kind ∷ decimal (length bytes) ∷ [])
+line_text (Sealed side kind ssrc index plain bytes) =
+    words (codes "sealed" ∷ side_text side ∷ kind_text kind ∷ decimal ssrc ∷ decimal index ∷ hex_text bytes ∷ [])
+line_text (Opened side kind ssrc index plain) =
+    words (codes "opened" ∷ side_text side ∷ kind_text kind ∷ decimal ssrc ∷ decimal index ∷ [])
+line_text (Yielded side packet) =
+    words (codes "yielded" ∷ side_text side ∷ decimal packet.ssrc ∷ decimal packet.number ∷ decimal packet.pt
+    ∷ flag_text packet.marker ∷ decimal packet.rtp_time ∷ hex_text packet.payload ∷ [])
+
+-- a line for each entry
+abbrev pub entries_text : List Entry → List ℕ
+entries_text entries = flat_map (λ e. line_text e ++ codes "\n") entries
+
+abbrev pub answer_text : Bool → List ℕ
+answer_text false = codes "no"
+answer_text true = codes "yes"
+
+-- the last line
+abbrev pub end_text : Bool → Bool → List ℕ
+end_text genuine repairs = codes "end genuine=" ++ (answer_text genuine ++ (codes " repairs=" ++ (answer_text repairs ++ codes "\n")))
+
+-- the text of a run that was played to its end
+abbrev pub text_of : Setup → List Entry → List ℕ
+text_of setup entries = entries_text entries ++ end_text (is_genuine entries) (repairs_widen setup entries)

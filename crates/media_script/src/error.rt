@@ -1,0 +1,40 @@
+use std::alloc::{AllocError, AllocFailed};
+
+/// Why a script was not read.
+#[derive(Clone, Copy, Debug, PartialEq, Eq)]
+pub enum ScriptError {
+    /// Memory ran out.
+    Memory,
+    /// The first line outside the grammar, counted from 1. A line that is missing is the one after
+    /// the last.
+    Syntax(u64),
+}
+
+/// Why a line or a word was not read.
+#[derive(Clone, Copy, Debug, PartialEq, Eq)]
+pub enum LineError {
+    Memory,
+    Outside,
+}
+
+impl From<AllocError> for LineError {
+    ghost use Rattle.std.specs.Prelude.{◌≡◌};
+    ghost use Rattle.media_script.specs.declared.error.LineError.TheVariants.{Memory};
+
+    ghost from_gives = { λ _ e. e ≡ Memory };
+
+    fn from(_: AllocError) -> Self {
+        LineError::Memory
+    }
+}
+
+impl<T: Drop> From<AllocFailed<T>> for LineError {
+    ghost use Rattle.std.specs.Prelude.{◌≡◌};
+    ghost use Rattle.media_script.specs.declared.error.LineError.TheVariants.{Memory};
+
+    ghost from_gives = { λ _ e. e ≡ Memory };
+
+    fn from(_: AllocFailed<T>) -> Self {
+        LineError::Memory
+    }
+}

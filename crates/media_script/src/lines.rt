@@ -1,0 +1,28 @@
+// The lines of a script, and the words of a line.
+ghost use Rattle.std.specs.Prelude.{◌≡◌, ◌≢◌, ◌∷◌, ◌++◌, ◌==◌, map, All, IfOk, MatchOption};
+ghost use Rattle.media_script.specs.Spelling.{words_of, is_passed_over};
+
+use std::alloc::{AllocError, Global};
+
+// The first line, and what stands behind its end.
+pub fn first_line(bytes: &[u8]) -> Option<(&[u8], &[u8])>
+    ensures { MatchOption result (All (λ b. b ≢ 10) bytes.now)
+        (λ x. (bytes.now ≡ x.0.now ++ 10 ∷ x.1.now) × All (λ b. b ≢ 10) x.0.now) }
+{
+    let at = bytes.iter().position(|b| *b == b'\n')?;
+    Some((&bytes[..at], &bytes[at + 1..]))
+}
+
+// The words between single spaces.
+pub fn words(alloc: Global, line: &[u8]) -> Result<Vec<&[u8]>, AllocError>
+    ensures { IfOk result (λ v. map (λ w. w.now) v.items ≡ words_of line.now) }
+{
+    line.split(|b| *b == b' ').collect(alloc)
+}
+
+// An empty line, and one that begins with #.
+pub fn is_passed_over(line: &[u8]) -> bool
+    ensures { result ≡ is_passed_over line.now }
+{
+    matches!(line, [] | [b'#', ..])
+}

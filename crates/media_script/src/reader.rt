@@ -1,0 +1,118 @@
+// Reading a script, line by line.
+ghost use Rattle.std.specs.Prelude.{◌≡◌, List, IfOk, Ok};
+ghost use Rattle.media_script.specs.Gives.{Gives, GivesScript, error_at};
+ghost use Rattle.media_script.specs.Grammar.{read_on, line_taken, whole_of, script_of};
+ghost use Rattle.media_script.specs.Spelling.{IsScript};
+ghost use Rattle.media_script.specs.declared.setup.Setup.{Setup};
+ghost use Rattle.media_script.specs.declared.step.Step.{Step};
+
+use crate::draft::Draft;
+use crate::error::{LineError, ScriptError};
+use crate::lines::{first_line, is_passed_over};
+use crate::setup::Setup;
+use crate::step::Step;
+use crate::steps::step;
+use media_base::Listed;
+use std::alloc::Global;
+
+/// What was read so far.
+#[derive(Debug, Drop)]
+pub enum Reader {
+    Head,
+    InSetup(Draft),
+    InSteps(Setup, Listed<Step>),
+    Ended(Setup, Listed<Step>),
+}
+
+impl Reader {
+    #[tactic(auto, unfolding(crate::specs::Grammar::line_taken))]
+    fn take_line(self, alloc: Global, line: &[u8]) -> Result<Reader, LineError>
+        ensures { Gives (λ r. r) result (line_taken self line.now) }
+    {
+        if is_passed_over(line) {
+            return Ok(self);
+        }
+        self.read_on(alloc, line)
+    }
+
+    #[tactic(auto, unfolding(crate::specs::Grammar::read_on))]
+    fn read_on(self, alloc: Global, line: &[u8]) -> Result<Reader, LineError>
+        ensures { Gives (λ r. r) result (read_on self line.now) }
+    {
+        match self {
+            Reader::Head => {
+                if line != b"str0m-media 1".as_slice() {
+                    return Err(LineError::Outside);
+                }
+                Ok(Reader::InSetup(Draft::ForKey))
+            }
+            Reader::InSetup(draft) => {
+                if line == b"begin".as_slice() {
+                    return Ok(Reader::InSteps(draft.finish(alloc)?, Listed::new(alloc)));
+                }
+                Ok(Reader::InSetup(draft.take_line(line)?))
+            }
+            Reader::InSteps(setup, mut steps) => {
+                if line == b"end".as_slice() {
+                    return Ok(Reader::Ended(setup, steps));
+                }
+                steps.push(step(alloc, line)?)?;
+                Ok(Reader::InSteps(setup, steps))
+            }
+            Reader::Ended(_, _) => Err(LineError::Outside),
+        }
+    }
+
+    // What was read of all lines, of which there are fewer than `line`.
+    #[tactic(auto, unfolding(crate::specs::Grammar::whole_of))]
+    fn finish(self, line: u64) -> Result<(Setup, Vec<Step>), ScriptError>
+        ensures { GivesScript (λ x. (x.0, x.1.items)) result (whole_of line self) }
+    {
+        match self {
+            Reader::Ended(setup, steps) => Ok((setup, steps.into_vec())),
+            _ => Err(ScriptError::Syntax(line)),
+        }
+    }
+}
+
+fn at_line(error: LineError, line: u64) -> ScriptError
+    ensures { result ≡ error_at error line }
+{
+    match error {
+        LineError::Memory => ScriptError::Memory,
+        LineError::Outside => ScriptError::Syntax(line),
+    }
+}
+
+/// The setup and the steps of a script.
+pub fn read_script(alloc: Global, bytes: &[u8]) -> Result<(Setup, Vec<Step>), ScriptError>
+    // What is read is spelled so.
+    ensures found { IfOk result (λ x. IsScript bytes.now x.0 x.1.items) }
+    // What is spelled so is read, unless memory runs out.
+    ensures only { (setup : Setup) (steps : List Step) → IsScript bytes.now setup steps
+        → (let script : Setup × List Step = (setup, steps) in GivesScript (λ x. (x.0, x.1.items)) result (Ok script)) }
+    // Which line is the first outside the grammar.
+    ensures exact { GivesScript (λ x. (x.0, x.1.items)) result (script_of bytes.now) }
+{
+    read_lines(alloc, bytes)
+}
+
+fn read_lines(alloc: Global, bytes: &[u8]) -> Result<(Setup, Vec<Step>), ScriptError>
+    ensures { GivesScript (λ x. (x.0, x.1.items)) result (script_of bytes.now) }
+{
+    let mut reader = Reader::Head;
+    let mut line = 1u64;
+    let mut rest = bytes;
+    while let Some((text, after)) = first_line(rest) {
+        reader = match reader.take_line(alloc, text) {
+            Ok(reader) => reader,
+            Err(error) => return Err(at_line(error, line)),
+        };
+        rest = after;
+        line += 1;
+    }
+    if !rest.is_empty() {
+        return Err(ScriptError::Syntax(line));
+    }
+    reader.finish(line)
+}

@@ -1,0 +1,4 @@
+pub mod Fresh
+pub mod NackRegister
+pub mod Slots
+pub mod RegisterState
