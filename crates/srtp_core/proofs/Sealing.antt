@@ -1,5 +1,5 @@
 -- What is true of sealed datagrams, of the laws of a cipher.
-use Rattle.std.proofs.Common.{◌≡◌, ℕ, ◌+◌, ◌/◌, ◌%◌, append_assoc, ◌≤◌, List, ◌++◌, length, take, drop, arith, refl, sym, ap, ◌∙◌, Bool, true, false, not}
+use Rattle.std.proofs.Common.{◌≡◌, ℕ, ◌+◌, ◌/◌, ◌%◌, append_assoc, ◌≤◌, List, ◌++◌, length, take, drop, arith, refl, sym, ap, ◌∙◌}
 use Rattle.std.proofs.lemmas.List.{take_at, drop_at, length-take, length-append, take-append-drop}
 use Rattle.std.specs.Int.{w32, to_be_bytes}
 use Rattle.srtp_core.specs.Keys.{SessionKeys}
@@ -7,8 +7,7 @@ use Rattle.srtp_core.specs.Streams.{streamed}
 use Rattle.srtp_core.specs.StreamLaws.{streamed-streamed, length-streamed}
 use Rattle.srtp_core.specs.Seals.{gcm_rtp_iv, cm_iv, cm_rtp_tag, cm_sealed_rtp, gcm_sealed_rtp, rtp_seal, sealed_rtp, OpensTo}
 use Rattle.srtp_core.specs.SealLaws.{sealed_rtp_is}
-use Rattle.srtp_core.specs.Contexts.{new_state}
-use Rattle.srtp_core.specs.Laws.{RtpSealsApart, RtpOpensOnce, RtpOpensSealed, PeersAgree}
+use Rattle.srtp_core.specs.Laws.{RtpSealsApart, RtpOpensOnce, RtpOpensSealed}
 use Rattle.srtp_core.proofs.Codes.{length-tag}
 use Rattle.srtp_core.specs.declared.profile.SrtpProfile.{SrtpProfile}
 use Rattle.srtp_core.specs.declared.profile.SrtpProfile.TheVariants.{Aes128CmSha1_80, AeadAes128Gcm, AeadAes256Gcm}
@@ -92,7 +91,3 @@ opens_sealed keystream aead profile keys ssrc index n plain h w =
       seal = ap (λ f. rtp_seal keystream aead profile keys ssrc index (take n (f ++ drop n plain)) (drop n (f ++ drop n plain))) front
         ∙ ap (λ f. rtp_seal keystream aead profile keys ssrc index (take n f) (drop n f)) (take-append-drop n plain)
     }
-
-pub agree : (block : List ℕ → List ℕ → List ℕ) → PeersAgree block
-agree block profile material true i j = refl
-agree block profile material false i j = refl

@@ -1,8 +1,7 @@
 -- Laws of sealed datagrams and of initial values.
-use Rattle.std.specs.Prelude.{ℕ, ◌≡◌, ◌≤◌, ◌<◌, ◌^◌, Bool, not, List, length, drop}
+use Rattle.std.specs.Prelude.{ℕ, ◌≡◌, ◌≤◌, ◌<◌, ◌^◌, List, length, drop}
 use Rattle.srtp_core.specs.Keys.{SessionKeys}
 use Rattle.srtp_core.specs.Seals.{rtp_iv, rtcp_iv, sealed_rtp, OpensTo}
-use Rattle.srtp_core.specs.Contexts.{new_state}
 use Rattle.srtp_core.specs.declared.profile.SrtpProfile.{SrtpProfile}
 
 -- no two datagrams under one salt have one initial value: RTP indices are below 2^48, SRTCP indices below 2^31
@@ -34,9 +33,3 @@ RtpOpensSealed keystream aead =
     (profile : SrtpProfile) (keys : SessionKeys) (ssrc index n : ℕ) (plain : List ℕ) → n ≤ length plain
     → let bytes = sealed_rtp keystream aead profile keys ssrc index n plain in
     length bytes ≤ 2000 → OpensTo keystream aead profile keys ssrc index n bytes (drop n plain)
-
--- the side that seals and the other side, of the same material, have the same keys for this direction
-abbrev pub PeersAgree : (List ℕ → List ℕ → List ℕ) → Type 0
-PeersAgree block =
-    (profile : SrtpProfile) (material : List ℕ) (left : Bool) (i j : ℕ)
-    → (new_state block profile material left i).sealing ≡ (new_state block profile material (not left) j).opening

@@ -9,6 +9,8 @@ pub mod CipherKeys
 pub mod Hmac
 pub mod Seals
 pub mod SealLaws
+pub mod RtcpSeals
+pub mod RtcpLaws
 pub mod Contexts
 pub mod Views
 pub mod Unchanged

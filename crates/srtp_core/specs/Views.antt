@@ -14,13 +14,9 @@ gcm_session d = record {
 
 -- what is seen of the keys of a context
 abbrev pub profile_of : {C A B : Type 0} → Keys C A B → SrtpProfile
-profile_of (Gcm128 sealing opening) = AeadAes128Gcm
-profile_of (Gcm256 sealing opening) = AeadAes256Gcm
+profile_of (Gcm128 keys) = AeadAes128Gcm
+profile_of (Gcm256 keys) = AeadAes256Gcm
 
-abbrev pub sealing_of : {C A B : Type 0} → Keys C A B → SessionKeys
-sealing_of (Gcm128 sealing opening) = gcm_session sealing
-sealing_of (Gcm256 sealing opening) = gcm_session sealing
-
-abbrev pub opening_of : {C A B : Type 0} → Keys C A B → SessionKeys
-opening_of (Gcm128 sealing opening) = gcm_session opening
-opening_of (Gcm256 sealing opening) = gcm_session opening
+abbrev pub session_of : {C A B : Type 0} → Keys C A B → SessionKeys
+session_of (Gcm128 keys) = gcm_session keys
+session_of (Gcm256 keys) = gcm_session keys

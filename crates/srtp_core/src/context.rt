@@ -1,9 +1,9 @@
-ghost use Rattle.std.specs.Prelude.{◌≡◌, ◌≢◌, ℕ, ◌+◌, ◌^◌, ◌<◌, ◌≤◌, not, List, ◌++◌, length, take, IfOk, IfErr, IfSome, IfNone, IsErrOf};
+ghost use Rattle.std.specs.Prelude.{◌≡◌, ◌≢◌, ℕ, ◌+◌, ◌^◌, ◌<◌, ◌≤◌, List, ◌++◌, length, take, IfOk, IfErr, IfSome, IfNone, IsErrOf};
 ghost use Rattle.std.specs.Borrow.{sem};
 ghost use Rattle.srtp_core.specs.Keys.{material_len, session_keys};
 ghost use Rattle.srtp_core.specs.Seals.{sealed_rtp, OpensTo};
 ghost use Rattle.srtp_core.specs.Contexts.{new_state};
-ghost use Rattle.srtp_core.specs.Views.{profile_of, sealing_of, opening_of};
+ghost use Rattle.srtp_core.specs.Views.{profile_of, session_of};
 
 use crate::cipher::SrtpCipher;
 use crate::error::SrtpError;
@@ -19,19 +19,12 @@ const MAX_DATAGRAM_LEN: usize = 2000;
 
 #[derive(Drop)]
 enum Keys<C: SrtpCipher> {
-    Gcm128 {
-        sealing: GcmDirection<C>,
-        opening: GcmDirection<C>,
-    },
-    Gcm256 {
-        sealing: GcmDirection<C>,
-        opening: GcmDirection<C>,
-    },
+    Gcm128(GcmDirection<C>),
+    Gcm256(GcmDirection<C>),
 }
 
-/// What seals and opens the datagrams of one side. Contracts see the profile, the session keys of
-/// both directions and the index of the next SRTCP datagram; what stands in the scratch is
-/// nobody's.
+/// What seals, or opens, the datagrams of one direction. Contracts see the profile, the session
+/// keys and the index of the next SRTCP datagram; what stands in the scratch is nobody's.
 #[derive(Drop)]
 pub struct SrtpContext<C: SrtpCipher> {
     alloc: Global,
@@ -47,9 +40,9 @@ impl<C: SrtpCipher> Model for SrtpContext<C> {
 
     ghost Value = { SrtpState };
 
-    ghost use Rattle.srtp_core.specs.Views.{profile_of, sealing_of, opening_of};
+    ghost use Rattle.srtp_core.specs.Views.{profile_of, session_of};
 
-    ghost view = { λ c. record { profile = profile_of c.keys; sealing = sealing_of c.keys; opening = opening_of c.keys; srtcp_index = c.srtcp_index } };
+    ghost view = { λ c. record { profile = profile_of c.keys; keys = session_of c.keys; srtcp_index = c.srtcp_index } };
 
     ghost invariant = { λ c. (length c.scratch.items ≡ 2000) × (c.srtcp_index ≤ 2 ^ 31) };
 }
@@ -58,8 +51,8 @@ impl<C: SrtpCipher> SrtpContext<C> {
     ghost use Rattle.srtp_core.specs.Unchanged.{IsUnchangedAfter};
     ghost use Rattle.srtp_core.specs.contracts.context.SrtpContext.{the_row};
 
-    /// A context of one side, whose next SRTCP datagram has index 0. The left side seals with the
-    /// left keys of the material and opens with the right ones.
+    /// A context of the direction in which the left side of the material seals and the other side
+    /// opens, or of the other direction. Its next SRTCP datagram has index 0.
     ///
     /// # Errors
     /// `KeyLength` where the material has another length than the profile's; `Memory`.
@@ -121,23 +114,23 @@ impl<C: SrtpCipher> SrtpContext<C> {
     ) -> Result<Vec<u8>, AllocError>
         requires header { header_len ≤ length buf.now }
         requires index { index < 2 ^ 48 }
-        ensures sealed { IfOk result (λ v. v.items ≡ sealed_rtp C.keystream C.aead self.old.profile self.old.sealing ssrc index header_len buf.now) }
+        ensures sealed { IfOk result (λ v. v.items ≡ sealed_rtp C.keystream C.aead self.old.profile self.old.keys ssrc index header_len buf.now) }
         ensures same { self.new ≡ self.old }
     {
         match &self.keys {
-            Keys::Gcm128 { sealing, .. } => gcm::seal_rtp(
+            Keys::Gcm128(keys) => gcm::seal_rtp(
                 self.alloc,
                 self.cipher,
-                &sealing.rtp,
+                &keys.rtp,
                 buf,
                 header_len,
                 ssrc,
                 index,
             ),
-            Keys::Gcm256 { sealing, .. } => gcm::seal_rtp(
+            Keys::Gcm256(keys) => gcm::seal_rtp(
                 self.alloc,
                 self.cipher,
-                &sealing.rtp,
+                &keys.rtp,
                 buf,
                 header_len,
                 ssrc,
@@ -154,8 +147,8 @@ impl<C: SrtpCipher> SrtpContext<C> {
         index: u64,
     ) -> Option<&[u8]>
         requires { index < 2 ^ 48 }
-        ensures some { IfSome result (λ p. OpensTo C.keystream C.aead self.old.profile self.old.opening ssrc index header_len buf.now p.now) }
-        ensures none { IfNone result ((p : List ℕ) → OpensTo C.keystream C.aead self.old.profile self.old.opening ssrc index header_len buf.now p → ⊥) }
+        ensures some { IfSome result (λ p. OpensTo C.keystream C.aead self.old.profile self.old.keys ssrc index header_len buf.now p.now) }
+        ensures none { IfNone result ((p : List ℕ) → OpensTo C.keystream C.aead self.old.profile self.old.keys ssrc index header_len buf.now p → ⊥) }
         ensures* after { sem 𝓛 (IsUnchangedAfter (the_row C.row C.Key128.row C.Key256.row C.SrtpCipher) self.entry) }
     {
         if buf.len() > MAX_DATAGRAM_LEN || header_len > buf.len() {
@@ -176,25 +169,22 @@ impl<C: SrtpCipher> SrtpContext<C> {
     }
 }
 
-/// The keys of both directions.
+/// The keys of a direction.
 #[tactic(auto, using(crate::specs::KeyLaws::derived_nothing))]
 fn keys_of<C: SrtpCipher>(cipher: C, profile: SrtpProfile, mat: &KeyingMaterial, left: bool) -> Keys<C>
     requires profile { profile ≢ SrtpProfile.Aes128CmSha1_80 }
     requires length { length mat.now ≡ material_len profile }
     ensures profile { profile_of result ≡ profile }
-    ensures sealing { sealing_of result ≡ session_keys C.block profile mat.now left }
-    ensures opening { opening_of result ≡ session_keys C.block profile mat.now (not left) }
+    ensures keys { session_of result ≡ session_keys C.block profile mat.now left }
 {
     match profile {
         SrtpProfile::Aes128CmSha1_80 => unreachable!(),
-        SrtpProfile::AeadAes128Gcm => Keys::Gcm128 {
-            sealing: gcm::gcm_direction(cipher, &SrtpKey::<16, 12>::new(mat, left)),
-            opening: gcm::gcm_direction(cipher, &SrtpKey::<16, 12>::new(mat, !left)),
-        },
-        SrtpProfile::AeadAes256Gcm => Keys::Gcm256 {
-            sealing: gcm::gcm_direction(cipher, &SrtpKey::<32, 12>::new(mat, left)),
-            opening: gcm::gcm_direction(cipher, &SrtpKey::<32, 12>::new(mat, !left)),
-        },
+        SrtpProfile::AeadAes128Gcm => {
+            Keys::Gcm128(gcm::gcm_direction(cipher, &SrtpKey::<16, 12>::new(mat, left)))
+        }
+        SrtpProfile::AeadAes256Gcm => {
+            Keys::Gcm256(gcm::gcm_direction(cipher, &SrtpKey::<32, 12>::new(mat, left)))
+        }
     }
 }
 
@@ -214,12 +204,12 @@ fn open_front<C: SrtpCipher>(
     requires index { index < 2 ^ 48 }
     ensures same { length output.new ≡ length output.old }
     ensures len { IfSome result (λ n. n ≤ length output.new) }
-    ensures opens { IfSome result (λ n. OpensTo C.keystream C.aead (profile_of keys.now) (opening_of keys.now) ssrc index header_len buf.now (take n output.new)) }
-    ensures none { IfNone result ((p : List ℕ) → OpensTo C.keystream C.aead (profile_of keys.now) (opening_of keys.now) ssrc index header_len buf.now p → ⊥) }
+    ensures opens { IfSome result (λ n. OpensTo C.keystream C.aead (profile_of keys.now) (session_of keys.now) ssrc index header_len buf.now (take n output.new)) }
+    ensures none { IfNone result ((p : List ℕ) → OpensTo C.keystream C.aead (profile_of keys.now) (session_of keys.now) ssrc index header_len buf.now p → ⊥) }
 {
     match keys {
-        Keys::Gcm128 { opening, .. } => gcm::open_rtp(cipher, &opening.rtp, buf, header_len, ssrc, index, output),
-        Keys::Gcm256 { opening, .. } => gcm::open_rtp(cipher, &opening.rtp, buf, header_len, ssrc, index, output),
+        Keys::Gcm128(direction) => gcm::open_rtp(cipher, &direction.rtp, buf, header_len, ssrc, index, output),
+        Keys::Gcm256(direction) => gcm::open_rtp(cipher, &direction.rtp, buf, header_len, ssrc, index, output),
     }
 }
 
@@ -239,36 +229,36 @@ mod tests {
         requires { profile ≢ SrtpProfile.Aes128CmSha1_80 }
     {
         let mat = KeyingMaterial::new(alloc, material)?;
-        let left = SrtpContext::new(alloc, ToyCipher, profile, &mat, true)?;
-        let right = SrtpContext::new(alloc, ToyCipher, profile, &mat, false)?;
-        Ok((left, right))
+        let sender = SrtpContext::new(alloc, ToyCipher, profile, &mat, true)?;
+        let receiver = SrtpContext::new(alloc, ToyCipher, profile, &mat, true)?;
+        Ok((sender, receiver))
     }
 
     #[test]
     fn gcm_128_seals_and_opens(rt: HostRuntime) -> Result<(), Fail> {
-        let (mut left, mut right) = sides(rt.alloc(), SrtpProfile::AeadAes128Gcm, &[0; 56])?;
-        let sealed = left.seal_rtp(&PLAIN, 12, 42, 1)?;
+        let (mut sender, mut receiver) = sides(rt.alloc(), SrtpProfile::AeadAes128Gcm, &[0; 56])?;
+        let sealed = sender.seal_rtp(&PLAIN, 12, 42, 1)?;
         let wanted = [
             0x80, 0x60, 0, 1, 0, 0, 0, 0, 0, 0, 0, 0x2a, 1, 2, 0x80, 0x60, 0, 1, 0, 0x2a, 0, 2, 0,
             0, 0, 0x2b, 1, 2, 0, 1,
         ];
         assert_eq!(rt; sealed.as_slice(), wanted.as_slice());
-        let opened = right.open_rtp(&sealed, 12, 42, 1).ok_or("not opened")?;
+        let opened = receiver.open_rtp(&sealed, 12, 42, 1).ok_or("not opened")?;
         assert_eq!(rt; opened, [1, 2].as_slice());
-        assert!(rt; right.open_rtp(&sealed, 12, 42, 2).is_none());
+        assert!(rt; receiver.open_rtp(&sealed, 12, 42, 2).is_none());
         Ok(())
     }
 
     #[test]
     fn gcm_256_seals_and_opens(rt: HostRuntime) -> Result<(), Fail> {
-        let (mut left, mut right) = sides(rt.alloc(), SrtpProfile::AeadAes256Gcm, &[0; 88])?;
-        let sealed = left.seal_rtp(&PLAIN, 12, 42, 1)?;
+        let (mut sender, mut receiver) = sides(rt.alloc(), SrtpProfile::AeadAes256Gcm, &[0; 88])?;
+        let sealed = sender.seal_rtp(&PLAIN, 12, 42, 1)?;
         let wanted = [
             0x80, 0x60, 0, 1, 0, 0, 0, 0, 0, 0, 0, 0x2a, 1, 2, 0x80, 0x60, 0, 1, 0, 0x2a, 0, 2, 0,
             0, 0, 0x2b, 1, 2, 0, 0,
         ];
         assert_eq!(rt; sealed.as_slice(), wanted.as_slice());
-        let opened = right.open_rtp(&sealed, 12, 42, 1).ok_or("not opened")?;
+        let opened = receiver.open_rtp(&sealed, 12, 42, 1).ok_or("not opened")?;
         assert_eq!(rt; opened, [1, 2].as_slice());
         Ok(())
     }

@@ -1,6 +1,6 @@
 //! Laws as functions without a body: what they ensure is proved, and can be cited by a call.
 
-ghost use Rattle.srtp_core.specs.Laws.{RtpIvsApart, RtcpIvsApart, RtpSealsApart, RtpOpensOnce, RtpOpensSealed, PeersAgree};
+ghost use Rattle.srtp_core.specs.Laws.{RtpIvsApart, RtcpIvsApart, RtpSealsApart, RtpOpensOnce, RtpOpensSealed};
 
 use crate::cipher::SrtpCipher;
 
@@ -28,9 +28,4 @@ pub fn rtp_opens_once<C: SrtpCipher>()
 /// A datagram that was sealed opens to its payload.
 pub fn rtp_opens_sealed<C: SrtpCipher>()
     ensures { RtpOpensSealed C.keystream C.aead }
-{}
-
-/// What one side seals, the other side of the same material opens with the same keys.
-pub fn peers_agree<C: SrtpCipher>()
-    ensures { PeersAgree C.block }
 {}

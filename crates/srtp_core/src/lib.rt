@@ -6,6 +6,7 @@ mod cipher_key;
 mod context;
 mod error;
 mod gcm;
+mod gcm_rtcp;
 mod keying;
 pub mod laws;
 mod profile;
