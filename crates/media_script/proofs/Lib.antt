@@ -1,8 +1,11 @@
+pub mod FilterMap
+pub mod GenuineLaws
 pub mod Kept
 pub mod Numbers
 pub mod Pieces
 pub mod Reading
 pub mod ScriptLaws
+pub mod Seals
 pub mod SetupLaws
 pub mod StepLaws
 pub mod WordLaws

@@ -1,15 +1,14 @@
 -- Which runs are genuine: what a side opens, its peer sealed.
 use Rattle.std.specs.Prelude.{◌≡◌, ℕ, Bool, true, false, not, ◌&&◌, ◌==◌, List, [], ◌∷◌, ◌++◌, Option, Some, None}
-use Rattle.std.specs.List.{fold, filter_map, flat_map, list_any}
-use Rattle.std.specs.Cmp.Lexicographic.{pointwise}
+use Rattle.std.specs.List.{fold, list_any}
+use Rattle.std.specs.Str.{bytes_eq}
 use Rattle.media_script.specs.declared.entry.Side.{Side}
 use Rattle.media_script.specs.declared.entry.Kind.{Kind}
 use Rattle.media_script.specs.declared.entry.Kind.TheVariants.{Rtp}
 use Rattle.media_script.specs.declared.entry.Entry.{Entry}
 use Rattle.media_script.specs.declared.entry.Entry.TheVariants.{Got, Sealed, Opened}
-use Rattle.media_script.specs.declared.setup.Stream.{Stream}
-use Rattle.media_script.specs.declared.setup.Media.{Media}
 use Rattle.media_script.specs.declared.setup.Setup.{Setup}
+use Rattle.media_script.specs.Setup.{rtx_of}
 use Rattle.media_script.specs.Sides.{peer_of, same_side, same_kind}
 
 -- the datagram that came last
@@ -38,7 +37,7 @@ IsGenuine entries =
 -- the entry seals these bytes under this kind, SSRC and index
 abbrev pub seals : Side → Kind → ℕ → ℕ → List ℕ → Entry → Bool
 seals side kind ssrc index bytes (Sealed s k r i plain b) =
-    same_side s side && (same_kind k kind && (r == ssrc && (i == index && pointwise ◌==◌ b bytes)))
+    same_side s side && (same_kind k kind && (r == ssrc && (i == index && bytes_eq b bytes)))
 seals side kind ssrc index bytes _ = false
 
 abbrev pub some_seals : List Entry → Side → Kind → ℕ → ℕ → Option (List ℕ) → Bool
@@ -57,23 +56,15 @@ genuine_from before (entry ∷ entries) = is_genuine_after before entry && genui
 abbrev pub is_genuine : List Entry → Bool
 is_genuine entries = genuine_from [] entries
 
-abbrev pub rtx_in : Stream → Option ℕ
-rtx_in stream = stream.rtx
+-- an RTP datagram that was opened under an SSRC of repairs
+abbrev pub is_repair : List ℕ → Entry → Bool
+is_repair rtx (Opened side Rtp ssrc index plain) = list_any (λ r. r == ssrc) rtx
+is_repair rtx _ = false
 
--- the SSRCs of repairs (RFC 4588 section 4)
-abbrev pub rtx_of : Setup → List ℕ
-rtx_of setup = flat_map (λ (m : Media). filter_map rtx_in m.streams) setup.media
-
--- an RTP datagram that was opened, under an SSRC of repairs
-abbrev pub is_repair : Setup → Entry → Bool
-is_repair setup (Opened side Rtp ssrc index plain) = list_any (λ r. r == ssrc) (rtx_of setup)
-is_repair setup _ = false
-
--- No repair was opened. (What an opened repair has to restore is to be stated here where repairs are sent.)
+-- No repair was opened. (What an opened repair has to restore is to be stated here once repairs are sent.)
 abbrev pub RepairsWiden : Setup → List Entry → Type 0
 RepairsWiden setup entries =
-    (before after : List Entry) (side : Side) (ssrc index : ℕ) (plain : List ℕ)
-    → entries ≡ before ++ Opened side Rtp ssrc index plain ∷ after → list_any (λ r. r == ssrc) (rtx_of setup) ≡ false
+    (before after : List Entry) (entry : Entry) → entries ≡ before ++ entry ∷ after → is_repair (rtx_of setup) entry ≡ false
 
 abbrev pub repairs_widen : Setup → List Entry → Bool
-repairs_widen setup entries = not (list_any (is_repair setup) entries)
+repairs_widen setup entries = not (list_any (is_repair (rtx_of setup)) entries)

@@ -2,6 +2,7 @@ pub mod Genuine
 pub mod Gives
 pub mod Grammar
 pub mod Names
+pub mod Projections
 pub mod Setup
 pub mod SetupLines
 pub mod Sides

@@ -43,3 +43,13 @@ pt_in t = t.pt
 -- the payload types that are claimed
 abbrev pub types_of : Setup → List ℕ
 types_of setup = map pt_in setup.types
+
+abbrev pub rtx_in : Stream → Option ℕ
+rtx_in stream = stream.rtx
+
+abbrev pub repairs_in : Media → List ℕ
+repairs_in media = filter_map rtx_in media.streams
+
+-- the SSRCs of repairs (RFC 4588 section 4)
+abbrev pub rtx_of : Setup → List ℕ
+rtx_of setup = flat_map repairs_in setup.media

@@ -1,6 +1,6 @@
 ghost use Rattle.std.specs.Prelude.{◌≡◌, ◌++◌, IfOk, OnOk};
 ghost use Rattle.std.specs.List.{filter_map};
-ghost use Rattle.media_script.specs.Setup.{material_len, material_of, streams_of, types_of, main_in};
+ghost use Rattle.media_script.specs.Setup.{material_len, material_of, streams_of, types_of, main_in, rtx_in, rtx_of};
 
 use crate::entry::Side;
 use media_base::{Bytes, Listed};
@@ -123,6 +123,17 @@ impl Setup {
         Ok(ssrcs)
     }
 
+    /// The SSRCs of repairs, in order.
+    pub fn repairs(&self, alloc: Global) -> Result<Vec<Ssrc>, AllocError>
+        ensures { IfOk result (λ v. v.items ≡ rtx_of self.now) }
+    {
+        let mut ssrcs = Vec::new(alloc);
+        for media in self.media.as_slice() {
+            add_repairs(&mut ssrcs, media.streams.as_slice())?;
+        }
+        Ok(ssrcs)
+    }
+
     /// The payload types that are claimed, in order.
     pub fn types(&self, alloc: Global) -> Result<Vec<Pt>, AllocError>
         ensures { IfOk result (λ v. v.items ≡ types_of self.now) }
@@ -131,6 +142,20 @@ impl Setup {
     }
 }
 
+// Adds the SSRCs of the streams' repairs.
+fn add_repairs(ssrcs: &mut Vec<Ssrc>, streams: &[Stream]) -> Result<(), AllocError>
+    ensures { OnOk result (ssrcs.new.items ≡ ssrcs.old.items ++ filter_map rtx_in streams.now) }
+{
+    for stream in streams {
+        match stream.rtx {
+            Some(ssrc) => ssrcs.push(ssrc)?,
+            None => {}
+        }
+    }
+    Ok(())
+}
+
+// Adds the main SSRCs of the streams that a side sends.
 fn add_streams(ssrcs: &mut Vec<Ssrc>, of: Side, streams: &[Stream]) -> Result<(), AllocError>
     ensures { OnOk result (ssrcs.new.items ≡ ssrcs.old.items ++ filter_map (main_in of) streams.now) }
 {

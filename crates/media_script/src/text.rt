@@ -166,3 +166,18 @@ fn put_end(text: &mut String, genuine: bool, repairs: bool) -> Result<(), AllocE
     let repairs = Answer(repairs);
     writeln!(text, "end genuine={genuine} repairs={repairs}")
 }
+
+/// The text of a run that was played to its end.
+pub fn write_transcript(
+    alloc: Global,
+    setup: &Setup,
+    transcript: &Transcript,
+) -> Result<String, AllocError>
+    ensures { IfOk result (λ text. string_bytes text ≡ text_of setup.now transcript.now) }
+{
+    let genuine = transcript.genuine(alloc)?;
+    let repairs = transcript.repairs_widen(alloc, setup)?;
+    let mut text = entries_text(alloc, transcript.entries())?;
+    put_end(&mut text, genuine, repairs)?;
+    Ok(text)
+}
