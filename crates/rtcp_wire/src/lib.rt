@@ -2,8 +2,20 @@
 //! RFC 5104 section 4.3.1, RFC 3611 section 4), read from a datagram and written into one.
 #![tactic(auto)]
 
+mod feedback;
+mod frame;
 mod list;
 mod nack;
+mod packet;
+mod report;
+mod row;
+mod wire;
 
+pub use feedback::AppSpecificFeedback;
 pub use list::ReportList;
 pub use nack::NackEntry;
+pub use packet::Rtcp;
+pub use report::{ReceiverReport, ReceptionReport};
+
+#[cfg(test)]
+mod tests;
