@@ -1,25 +1,45 @@
 -- The items that a datagram holds (RFC 3550 section 6.1, RFC 5506).
 use Rattle.std.specs.Prelude.{ℕ, zero, suc, ◌+◌, ◌/◌, ◌==◌, ◌&&◌, List, [], ◌∷◌, ◌++◌, length, Option, Some, None, if◌then◌else◌}
-use Rattle.std.specs.Option.{option_map_or}
+use Rattle.std.specs.Option.{option_map, option_map_or}
 use Rattle.rtcp_wire.specs.declared.packet.Rtcp.{Rtcp}
-use Rattle.rtcp_wire.specs.declared.packet.Rtcp.TheVariants.{ReceiverReport, AppSpecificFeedback}
+use Rattle.rtcp_wire.specs.declared.packet.Rtcp.TheVariants.{SenderReport, ReceiverReport, Goodbye, Nack, Pli, Fir, AppSpecificFeedback}
 use Rattle.rtcp_wire.specs.declared.packet.Reading.{Reading}
 use Rattle.rtcp_wire.specs.declared.packet.Reading.TheVariants.{Item, PassedOver, TooShort}
 use Rattle.rtcp_wire.specs.Frame.{Frame, frame_at}
-use Rattle.rtcp_wire.specs.Reports.{receiver_report_of}
-use Rattle.rtcp_wire.specs.Feedback.{app_feedback_of}
+use Rattle.rtcp_wire.specs.Reports.{sender_report_of, receiver_report_of, goodbye_of}
+use Rattle.rtcp_wire.specs.Feedback.{nack_of, pli_of, fir_of, app_feedback_of}
 
 -- an item, unless its bytes are too short for its fields
-abbrev pub item_or_short : {A : Type 0} → (A → Rtcp) → Option A → Reading
-item_or_short kind None = TooShort
-item_or_short kind (Some x) = Item (kind x)
+abbrev pub reading_or_short : Option Rtcp → Reading
+reading_or_short None = TooShort
+reading_or_short (Some x) = Item x
 
--- what an item says: unknown types and formats are passed over
+abbrev pub item_or_short : {A : Type 0} → (A → Rtcp) → Option A → Reading
+item_or_short kind o = reading_or_short (option_map kind o)
+
+-- transport layer feedback, by its format (RFC 4585 section 6.2)
+unfoldable pub transport_feedback_of : ℕ → List ℕ → Reading
+transport_feedback_of format body =
+    if format == 1 then item_or_short Nack (nack_of body)
+    else PassedOver
+
+-- payload specific feedback, by its format (RFC 4585 section 6.3)
+unfoldable pub payload_feedback_of : ℕ → List ℕ → Reading
+payload_feedback_of format body =
+    if format == 1 then item_or_short Pli (pli_of body)
+    else (if format == 4 then item_or_short Fir (fir_of body)
+    else (if format == 15 then item_or_short AppSpecificFeedback (app_feedback_of body)
+    else PassedOver))
+
+-- what an item says, by its type (RFC 3550 section 12.1): unknown types and formats are passed over
 unfoldable pub reading_of : ℕ → ℕ → List ℕ → Reading
 reading_of kind count body =
-    if kind == 201 then item_or_short ReceiverReport (receiver_report_of count body)
-    else (if kind == 206 && count == 15 then item_or_short AppSpecificFeedback (app_feedback_of body)
-    else PassedOver)
+    if kind == 200 then item_or_short SenderReport (sender_report_of count body)
+    else (if kind == 201 then item_or_short ReceiverReport (receiver_report_of count body)
+    else (if kind == 203 then item_or_short Goodbye (goodbye_of count body)
+    else (if kind == 205 then transport_feedback_of count body
+    else (if kind == 206 then payload_feedback_of count body
+    else PassedOver))))
 
 -- what an item adds, and what follows it; reading stops at an item that is too short for its fields
 abbrev pub with_rest : List ℕ → Reading → Option (List Rtcp × List ℕ)

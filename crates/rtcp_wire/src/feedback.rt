@@ -3,6 +3,7 @@ ghost use Rattle.std.specs.Prelude.{◌≡◌, IfOk};
 ghost use Rattle.rtcp_wire.specs.Wire.{Puts};
 ghost use Rattle.rtcp_wire.specs.Feedback.{app_feedback_of, app_feedback_body};
 
+use crate::row::write_rows;
 use crate::wire::{put, word};
 use media_base::Bytes;
 use rtp_wire::Ssrc;
@@ -39,7 +40,7 @@ pub(crate) fn read_app_feedback(
 pub(crate) fn write_app_feedback(feedback: &AppSpecificFeedback, out: &mut [u8]) -> Option<usize>
     ensures { Puts out.old 0 (app_feedback_body feedback.now) out.new result }
 {
-    let at = put(out, 0, &u32::from(feedback.sender_ssrc).to_be_bytes())?;
-    let at = put(out, at, &u32::from(feedback.media_ssrc).to_be_bytes())?;
+    let words: [u32; 2] = [feedback.sender_ssrc.into(), feedback.media_ssrc.into()];
+    let at = write_rows(&words, out, 0)?;
     put(out, at, feedback.payload.as_slice())
 }

@@ -8,14 +8,18 @@ mod list;
 mod nack;
 mod packet;
 mod report;
+mod request;
 mod row;
+mod source;
 mod wire;
 
 pub use feedback::AppSpecificFeedback;
 pub use list::ReportList;
-pub use nack::NackEntry;
+pub use nack::{Nack, NackEntry};
 pub use packet::Rtcp;
-pub use report::{ReceiverReport, ReceptionReport};
+pub use report::{ReceiverReport, ReceptionReport, SenderInfo, SenderReport};
+pub use request::{Fir, FirEntry, Pli};
+pub use source::Goodbye;
 
 #[cfg(test)]
 mod tests;

@@ -2,17 +2,29 @@
 ghost use Rattle.std.specs.Prelude.{◌≡◌, ◌≤◌, ◌++◌, ℕ, List, length, take, drop, IfOk, OnOk, OnErr};
 ghost use Rattle.std.specs.Option.{option_map};
 ghost use Rattle.std.specs.List.{flat_map, AllByRecursion};
+ghost use Rattle.rtcp_wire.specs.Items.{reading_or_short};
 
 use crate::feedback::{AppSpecificFeedback, read_app_feedback, write_app_feedback};
 use crate::frame::{Frame, first_frame};
-use crate::report::{ReceiverReport, read_receiver_report, write_receiver_report};
+use crate::nack::{Nack, read_nack, write_nack};
+use crate::report::{
+    ReceiverReport, SenderReport, read_receiver_report, read_sender_report, write_receiver_report,
+    write_sender_report,
+};
+use crate::request::{Fir, Pli, read_fir, read_pli, write_fir, write_pli};
+use crate::source::{Goodbye, read_goodbye, write_goodbye};
 use std::alloc::{AllocError, Global};
 use std::collections::VecDeque;
 
 /// An item of an RTCP datagram.
 #[derive(Debug, PartialEq, Eq, Drop)]
 pub enum Rtcp {
+    SenderReport(SenderReport),
     ReceiverReport(ReceiverReport),
+    Goodbye(Goodbye),
+    Nack(Nack),
+    Pli(Pli),
+    Fir(Fir),
     AppSpecificFeedback(AppSpecificFeedback),
 }
 
@@ -24,8 +36,18 @@ enum Reading {
     TooShort,
 }
 
+// An item, unless its bytes were too short for its fields.
+fn item_or_short(item: Option<Rtcp>) -> Reading
+    ensures { result ≡ reading_or_short item }
+{
+    match item {
+        Some(item) => Reading::Item(item),
+        None => Reading::TooShort,
+    }
+}
+
 impl Rtcp {
-    ghost use Rattle.rtcp_wire.specs.Items.{reading_of, item_at, added_of, rest_of, items_of, items_within};
+    ghost use Rattle.rtcp_wire.specs.Items.{reading_of, transport_feedback_of, payload_feedback_of, item_at, added_of, rest_of, items_of, items_within};
     ghost use Rattle.rtcp_wire.specs.Texts.{IsWritable, text_of, body_of, count_of, kind_of, fitting};
     ghost use Rattle.rtcp_wire.specs.Wire.{Puts};
 
@@ -80,14 +102,36 @@ impl Rtcp {
         requires { frame.now.count ≤ 31 }
         ensures { IfOk result (λ r. r ≡ reading_of frame.now.kind frame.now.count frame.now.body.now) }
     {
-        let item = match (frame.kind, frame.count) {
-            (201, count) => read_receiver_report(count, frame.body).map(Rtcp::ReceiverReport),
-            (206, 15) => read_app_feedback(alloc, frame.body)?.map(Rtcp::AppSpecificFeedback),
-            _ => return Ok(Reading::PassedOver),
-        };
-        match item {
-            Some(item) => Ok(Reading::Item(item)),
-            None => Ok(Reading::TooShort),
+        let (count, body) = (frame.count, frame.body);
+        match frame.kind {
+            200 => Ok(item_or_short(read_sender_report(count, body).map(Rtcp::SenderReport))),
+            201 => Ok(item_or_short(read_receiver_report(count, body).map(Rtcp::ReceiverReport))),
+            203 => Ok(item_or_short(read_goodbye(count, body).map(Rtcp::Goodbye))),
+            205 => Ok(Rtcp::read_transport_feedback(count, body)),
+            206 => Rtcp::read_payload_feedback(alloc, count, body),
+            _ => Ok(Reading::PassedOver),
+        }
+    }
+
+    #[tactic(auto, unfolding(crate::specs::Items::transport_feedback_of))]
+    fn read_transport_feedback(format: u8, body: &[u8]) -> Reading
+        ensures { result ≡ transport_feedback_of format body.now }
+    {
+        match format {
+            1 => item_or_short(read_nack(body).map(Rtcp::Nack)),
+            _ => Reading::PassedOver,
+        }
+    }
+
+    #[tactic(auto, unfolding(crate::specs::Items::payload_feedback_of))]
+    fn read_payload_feedback(alloc: Global, format: u8, body: &[u8]) -> Result<Reading, AllocError>
+        ensures { IfOk result (λ r. r ≡ payload_feedback_of format body.now) }
+    {
+        match format {
+            1 => Ok(item_or_short(read_pli(body).map(Rtcp::Pli))),
+            4 => Ok(item_or_short(read_fir(body).map(Rtcp::Fir))),
+            15 => Ok(item_or_short(read_app_feedback(alloc, body)?.map(Rtcp::AppSpecificFeedback))),
+            _ => Ok(Reading::PassedOver),
         }
     }
 
@@ -135,7 +179,12 @@ impl Rtcp {
         ensures { Puts out.old 0 (body_of self.now) out.new result }
     {
         match self {
+            Rtcp::SenderReport(report) => write_sender_report(report, out),
             Rtcp::ReceiverReport(report) => write_receiver_report(report, out),
+            Rtcp::Goodbye(goodbye) => write_goodbye(goodbye, out),
+            Rtcp::Nack(nack) => write_nack(nack, out),
+            Rtcp::Pli(pli) => write_pli(pli, out),
+            Rtcp::Fir(fir) => write_fir(fir, out),
             Rtcp::AppSpecificFeedback(feedback) => write_app_feedback(feedback, out),
         }
     }
@@ -144,8 +193,11 @@ impl Rtcp {
         ensures { result ≡ kind_of self.now }
     {
         match self {
+            Rtcp::SenderReport(_) => 200,
             Rtcp::ReceiverReport(_) => 201,
-            Rtcp::AppSpecificFeedback(_) => 206,
+            Rtcp::Goodbye(_) => 203,
+            Rtcp::Nack(_) => 205,
+            Rtcp::Pli(_) | Rtcp::Fir(_) | Rtcp::AppSpecificFeedback(_) => 206,
         }
     }
 
@@ -154,7 +206,11 @@ impl Rtcp {
         ensures { result ≡ count_of self.now }
     {
         match self {
+            Rtcp::SenderReport(report) => report.reports.len() as u8,
             Rtcp::ReceiverReport(report) => report.reports.len() as u8,
+            Rtcp::Goodbye(goodbye) => goodbye.reports.len() as u8,
+            Rtcp::Nack(_) | Rtcp::Pli(_) => 1,
+            Rtcp::Fir(_) => 4,
             Rtcp::AppSpecificFeedback(_) => 15,
         }
     }
