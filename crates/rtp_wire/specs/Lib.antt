@@ -1,0 +1,9 @@
+pub mod Bytes
+pub mod BytesLaws
+pub mod Extensions
+pub mod Header
+pub mod HeaderLaws
+pub mod Name
+pub mod NameLaws
+pub mod Padding
+pub mod Widen

@@ -1,0 +1,237 @@
+ghost use Rattle.std.specs.Prelude.{◌≡◌, ℕ, ◌+◌, ◌-◌, ◌*◌, ◌≤◌, IsTrue, List, ◌++◌, length, take, drop, replicate, Some};
+ghost use Rattle.std.specs.List.{flat_map};
+ghost use Rattle.std.specs.Int.{w32, to_be_bytes};
+ghost use Rattle.rtp_wire.specs.Bytes.{u16_at, u32_at};
+ghost use Rattle.rtp_wire.specs.BytesLaws.{AreWords};
+
+use crate::extension::ExtensionMap;
+use crate::number::{Pt, Ssrc};
+use crate::values::ExtensionValues;
+
+/// The header of an RTP packet (RFC 3550 section 5.1).
+#[derive(Clone, Copy, Debug, PartialEq, Eq)]
+pub struct RtpHeader {
+    /// Whether the payload ends in padding.
+    pub has_padding: bool,
+    pub marker: bool,
+    pub payload_type: Pt,
+    pub sequence_number: u16,
+    /// The RTP time, in ticks of the payload's clock.
+    pub timestamp: u32,
+    pub ssrc: Ssrc,
+    /// How many of the contributing sources there are, at most 15.
+    pub csrc_count: usize,
+    /// The contributing sources, and zeros behind them.
+    pub csrc: [u32; 15],
+    /// The values of the header extension.
+    pub ext_vals: ExtensionValues,
+    /// The bytes of the header, with sources and extension.
+    pub header_len: usize,
+}
+
+fn u16_at(bytes: &[u8], at: usize) -> u16
+    requires { at + 2 ≤ length bytes.now }
+    ensures { result ≡ u16_at bytes.now at }
+{
+    let (_, rest) = bytes.split_at(at);
+    u16::from_be_bytes([rest[0], rest[1]])
+}
+
+fn u32_at(bytes: &[u8], at: usize) -> u32
+    requires { at + 4 ≤ length bytes.now }
+    ensures { result ≡ u32_at bytes.now at }
+{
+    let (_, rest) = bytes.split_at(at);
+    u32::from_be_bytes([rest[0], rest[1], rest[2], rest[3]])
+}
+
+impl RtpHeader {
+    ghost use Rattle.rtp_wire.specs.Header.{sources_end, header_end, has_header, has_extension_bit, fields_of, header_of, sources, header_bytes, fixed_bytes, source_count};
+    ghost use Rattle.rtp_wire.specs.HeaderLaws.{IsHeader, IsReadAgain};
+    ghost use Rattle.rtp_wire.specs.Padding.{unpadded};
+    ghost use Rattle.std.specs.Option.{option_copied};
+
+    fn sources_end(bytes: &[u8]) -> usize
+        requires { 12 ≤ length bytes.now }
+        ensures { result ≡ sources_end bytes.now }
+    {
+        12 + 4 * usize::from(bytes[0] & 15)
+    }
+
+    fn is_extended(bytes: &[u8]) -> bool
+        requires { 12 ≤ length bytes.now }
+        ensures { result ≡ has_extension_bit bytes.now }
+    {
+        (bytes[0] >> 4) & 1 == 1
+    }
+
+    fn header_end(bytes: &[u8]) -> usize
+        requires fixed { 12 ≤ length bytes.now }
+        requires whole { IsTrue (has_extension_bit bytes.now) → sources_end bytes.now + 4 ≤ length bytes.now }
+        ensures { result ≡ header_end bytes.now }
+    {
+        let end = Self::sources_end(bytes);
+        if Self::is_extended(bytes) {
+            end + 4 + 4 * usize::from(u16_at(bytes, end + 2))
+        } else {
+            end
+        }
+    }
+
+    fn stands(bytes: &[u8]) -> bool
+        ensures { result ≡ has_header bytes.now }
+    {
+        if bytes.len() < 12 || bytes[0] >> 6 != 2 {
+            return false;
+        }
+        let end = Self::sources_end(bytes);
+        if !Self::is_extended(bytes) {
+            return end <= bytes.len();
+        }
+        end + 4 <= bytes.len() && Self::header_end(bytes) <= bytes.len()
+    }
+
+    fn sources(bytes: &[u8]) -> [u32; 15]
+        requires fixed { 12 ≤ length bytes.now }
+        requires whole { sources_end bytes.now ≤ length bytes.now }
+        ensures { result ≡ sources bytes.now ++ replicate (15 - source_count bytes.now) 0 }
+    {
+        let count = usize::from(bytes[0] & 15);
+        let mut sources = [0; 15];
+        for i in 0..count {
+            sources[i] = u32_at(bytes, 12 + 4 * i);
+        }
+        sources
+    }
+
+    /// The header at the front of the bytes. None exactly where fewer than 12 bytes stand, the version is not 2, or the
+    /// contributing sources, the extension's own header or its data run past the end.
+    #[tactic(auto, unfolding(crate::specs::Header::header_of))]
+    pub fn parse(bytes: &[u8], exts: &ExtensionMap) -> Option<RtpHeader>
+        ensures { result ≡ header_of exts.now bytes.now }
+    {
+        if !Self::stands(bytes) {
+            return None;
+        }
+        Some(Self::fields(bytes, exts))
+    }
+
+    fn fields(bytes: &[u8], exts: &ExtensionMap) -> RtpHeader
+        requires { IsTrue (has_header bytes.now) }
+        ensures { result ≡ fields_of exts.now bytes.now }
+    {
+        let ext_vals = if Self::is_extended(bytes) {
+            let end = Self::sources_end(bytes);
+            let (_, rest) = bytes.split_at(end + 4);
+            let (data, _) = rest.split_at(4 * usize::from(u16_at(bytes, end + 2)));
+            ExtensionValues::read(exts, u16_at(bytes, end), data)
+        } else {
+            ExtensionValues::none()
+        };
+        RtpHeader {
+            has_padding: (bytes[0] >> 5) & 1 == 1,
+            marker: bytes[1] >> 7 == 1,
+            payload_type: Pt::from(bytes[1] & 0x7f),
+            sequence_number: u16_at(bytes, 2),
+            timestamp: u32_at(bytes, 4),
+            ssrc: Ssrc::from(u32_at(bytes, 8)),
+            csrc_count: usize::from(bytes[0] & 15),
+            csrc: Self::sources(bytes),
+            ext_vals,
+            header_len: Self::header_end(bytes),
+        }
+    }
+
+    fn fixed_bytes(&self, extended: bool) -> [u8; 12]
+        requires { self.now.csrc_count ≤ 15 }
+        ensures { result ≡ fixed_bytes self.now extended }
+    {
+        let padding = if self.has_padding { 32 } else { 0 };
+        let extension = if extended { 16 } else { 0 };
+        let marker = if self.marker { 128 } else { 0 };
+        let [n0, n1] = self.sequence_number.to_be_bytes();
+        let [t0, t1, t2, t3] = self.timestamp.to_be_bytes();
+        let [s0, s1, s2, s3] = u32::from(self.ssrc).to_be_bytes();
+        [
+            128 + padding + extension + self.csrc_count as u8,
+            marker + u8::from(self.payload_type) % 128,
+            n0,
+            n1,
+            t0,
+            t1,
+            t2,
+            t3,
+            s0,
+            s1,
+            s2,
+            s3,
+        ]
+    }
+
+    // The fields are in their ranges.
+    fn is_header(&self)
+        requires { self.now.csrc_count ≤ 15 }
+        ensures { IsHeader self.now }
+    {
+        let _number = self.sequence_number;
+        let _time = self.timestamp;
+        let _source = u32::from(self.ssrc);
+        are_words(&self.csrc);
+    }
+
+    /// Writes the header to the front of the bytes, and gives its length: the low 7 bits of the type, the first
+    /// `csrc_count` sources, and those values that have an id under the map.
+    #[tactic(auto, unfolding(crate::specs::Header::header_bytes))]
+    pub fn write_to(&self, buf: &mut [u8], exts: &ExtensionMap) -> usize
+        requires room { 160 ≤ length buf.old }
+        requires few_sources { self.now.csrc_count ≤ 15 }
+        ensures bytes { buf.new ≡ header_bytes exts.now self.now ++ drop result buf.old }
+        ensures len { result ≡ length (header_bytes exts.now self.now) }
+        ensures reads { IsReadAgain exts.now self.now }
+    {
+        self.is_header();
+        let (fixed, rest) = buf.split_at_mut(12);
+        let (sources, rest) = rest.split_at_mut(4 * self.csrc_count);
+        let extension = self.ext_vals.write(rest, exts);
+        fixed.copy_from_slice(&self.fixed_bytes(extension > 0));
+        put_words(sources, &self.csrc[..self.csrc_count]);
+        12 + 4 * self.csrc_count + extension
+    }
+
+    /// The payload without its padding. None exactly where it is empty, or its last byte, the length of the padding, is 0
+    /// or above the length of the payload.
+    pub fn unpad_payload(payload: &[u8]) -> Option<&[u8]>
+        ensures { option_copied result ≡ unpadded payload.now }
+    {
+        let padding = usize::from(*payload.last()?);
+        if padding == 0 || padding > payload.len() {
+            return None;
+        }
+        Some(&payload[..payload.len() - padding])
+    }
+}
+
+fn are_words(words: &[u32])
+    ensures { AreWords words.now }
+{
+    let _count = words.len();
+}
+
+fn put_u32(bytes: &mut [u8], at: usize, number: u32)
+    requires { at + 4 ≤ length bytes.old }
+    ensures { bytes.new ≡ take at bytes.old ++ to_be_bytes w32 number ++ drop (at + 4) bytes.old }
+{
+    let (_, rest) = bytes.split_at_mut(at);
+    let (word, _) = rest.split_at_mut(4);
+    word.copy_from_slice(&number.to_be_bytes());
+}
+
+// Writes numbers one after another, and leaves what is behind them.
+fn put_words(bytes: &mut [u8], words: &[u32])
+    requires { length bytes.old ≡ 4 * length words.now }
+    ensures { bytes.new ≡ flat_map (to_be_bytes w32) words.now }
+{
+    for i in 0..words.len() {
+        put_u32(bytes, 4 * i, words[i]);
+    }
+}
