@@ -2,8 +2,24 @@
 //! RFC 5104 section 4.3.1, RFC 3611 section 4), read from a datagram and written into one.
 #![tactic(auto)]
 
+mod feedback;
+mod frame;
 mod list;
 mod nack;
+mod packet;
+mod report;
+mod request;
+mod row;
+mod source;
+mod wire;
 
+pub use feedback::AppSpecificFeedback;
 pub use list::ReportList;
-pub use nack::NackEntry;
+pub use nack::{Nack, NackEntry};
+pub use packet::Rtcp;
+pub use report::{ReceiverReport, ReceptionReport, SenderInfo, SenderReport};
+pub use request::{Fir, FirEntry, Pli};
+pub use source::Goodbye;
+
+#[cfg(test)]
+mod tests;

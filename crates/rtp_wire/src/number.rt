@@ -5,7 +5,7 @@ use std::fmt;
 use std::marker::Model;
 
 /// A synchronization source (RFC 3550 section 3). Contracts see the number.
-#[derive(Clone, Copy, Debug, PartialEq, Eq, PartialOrd, Ord, Hash)]
+#[derive(Clone, Copy, Debug, Default, PartialEq, Eq, PartialOrd, Ord, Hash)]
 pub struct Ssrc(u32);
 
 impl Model for Ssrc {

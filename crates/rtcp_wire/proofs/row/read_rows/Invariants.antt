@@ -1,0 +1,10 @@
+use Rattle.std.proofs.Common.{◌≡◌, ◌-◌, ◌*◌, ◌≤◌, ◌++◌, length}
+use Rattle.rtcp_wire.specs.Wire.{rows_of}
+use Rattle.rtcp_wire.proofs.row.read_rows.Given as goal
+
+abbrev pub invariant-loop : goal.invariant-loop
+invariant-loop g l = record {
+  long : (l.count - l.counter) * g.T.Row.size ≤ length l.rest;
+  few : length l.rows ≡ l.counter;
+  so_far : l.rows ++ rows_of g.T.Row.row_of g.T.Row.size (l.count - l.counter) l.rest ≡ rows_of g.T.Row.row_of g.T.Row.size l.count l.bytes;
+}

@@ -1,0 +1,73 @@
+-- The items that a datagram holds (RFC 3550 section 6.1, RFC 5506).
+use Rattle.std.specs.Prelude.{ℕ, zero, suc, ◌+◌, ◌/◌, ◌==◌, ◌&&◌, List, [], ◌∷◌, ◌++◌, length, Option, Some, None, if◌then◌else◌}
+use Rattle.std.specs.Option.{option_map, option_map_or}
+use Rattle.rtcp_wire.specs.declared.packet.Rtcp.{Rtcp}
+use Rattle.rtcp_wire.specs.declared.packet.Rtcp.TheVariants.{SenderReport, ReceiverReport, Goodbye, Nack, Pli, Fir, AppSpecificFeedback}
+use Rattle.rtcp_wire.specs.declared.packet.Reading.{Reading}
+use Rattle.rtcp_wire.specs.declared.packet.Reading.TheVariants.{Item, PassedOver, TooShort}
+use Rattle.rtcp_wire.specs.Frame.{Frame, frame_at}
+use Rattle.rtcp_wire.specs.Reports.{sender_report_of, receiver_report_of, goodbye_of}
+use Rattle.rtcp_wire.specs.Feedback.{nack_of, pli_of, fir_of, app_feedback_of}
+
+-- an item, unless its bytes are too short for its fields
+abbrev pub reading_or_short : Option Rtcp → Reading
+reading_or_short None = TooShort
+reading_or_short (Some x) = Item x
+
+abbrev pub item_or_short : {A : Type 0} → (A → Rtcp) → Option A → Reading
+item_or_short kind o = reading_or_short (option_map kind o)
+
+-- transport layer feedback, by its format (RFC 4585 section 6.2)
+unfoldable pub transport_feedback_of : ℕ → List ℕ → Reading
+transport_feedback_of format body =
+    if format == 1 then item_or_short Nack (nack_of body)
+    else PassedOver
+
+-- payload specific feedback, by its format (RFC 4585 section 6.3)
+unfoldable pub payload_feedback_of : ℕ → List ℕ → Reading
+payload_feedback_of format body =
+    if format == 1 then item_or_short Pli (pli_of body)
+    else (if format == 4 then item_or_short Fir (fir_of body)
+    else (if format == 15 then item_or_short AppSpecificFeedback (app_feedback_of body)
+    else PassedOver))
+
+-- what an item says, by its type (RFC 3550 section 12.1): unknown types and formats are passed over
+unfoldable pub reading_of : ℕ → ℕ → List ℕ → Reading
+reading_of kind count body =
+    if kind == 200 then item_or_short SenderReport (sender_report_of count body)
+    else (if kind == 201 then item_or_short ReceiverReport (receiver_report_of count body)
+    else (if kind == 203 then item_or_short Goodbye (goodbye_of count body)
+    else (if kind == 205 then transport_feedback_of count body
+    else (if kind == 206 then payload_feedback_of count body
+    else PassedOver))))
+
+-- what an item adds, and what follows it; reading stops at an item that is too short for its fields
+abbrev pub with_rest : List ℕ → Reading → Option (List Rtcp × List ℕ)
+with_rest rest (Item x) = Some (x ∷ [], rest)
+with_rest rest PassedOver = Some ([], rest)
+with_rest rest TooShort = None
+
+abbrev pub first_of : Option Frame → Option (List Rtcp × List ℕ)
+first_of None = None
+first_of (Some f) = with_rest f.rest (reading_of f.kind f.count f.body)
+
+-- what the item at the front adds, and what follows it, or nothing where reading stops
+unfoldable pub item_at : List ℕ → Option (List Rtcp × List ℕ)
+item_at bytes = first_of (frame_at bytes)
+
+abbrev pub added_of : Option (List Rtcp × List ℕ) → List Rtcp
+added_of None = []
+added_of (Some x) = x.0
+
+abbrev pub rest_of : Option (List Rtcp × List ℕ) → Option (List ℕ)
+rest_of None = None
+rest_of (Some x) = Some x.1
+
+-- the items at the front, at most n
+abbrev pub items_within : ℕ → List ℕ → List Rtcp
+items_within zero bytes = []
+items_within (suc n) bytes = option_map_or (λ x. x.0 ++ items_within n x.1) (item_at bytes) []
+
+-- the items of a datagram; each takes a word at least
+unfoldable pub items_of : List ℕ → List Rtcp
+items_of bytes = items_within (length bytes / 4) bytes

@@ -1,0 +1,56 @@
+-- Items in bytes.
+use Rattle.std.specs.Prelude.{◌≡◌, ℕ, ℤ, pos, zero, suc, ◌+◌, ◌-◌, ◌*◌, ◌/◌, ◌%◌, ◌^◌, ◌≤◌, ◌<◌, ◌≤ℤ◌, List, [], ◌∷◌, ◌++◌, length, nat_le, if◌then◌else◌}
+use Rattle.std.specs.List.{AllByRecursion}
+use Rattle.std.specs.Int.{w16, to_be_bytes}
+use Rattle.rtcp_wire.specs.declared.packet.Rtcp.{Rtcp}
+use Rattle.rtcp_wire.specs.declared.packet.Rtcp.TheVariants.{SenderReport, ReceiverReport, Goodbye, Nack, Pli, Fir, AppSpecificFeedback}
+use Rattle.rtcp_wire.specs.Reports.{sender_report_body, receiver_report_body, goodbye_body}
+use Rattle.rtcp_wire.specs.Feedback.{nack_body, pli_body, fir_body, app_feedback_body}
+
+-- the packet type (RFC 3550 section 12.1, RFC 4585 section 6.1)
+abbrev pub kind_of : Rtcp → ℕ
+kind_of (SenderReport r) = 200
+kind_of (ReceiverReport r) = 201
+kind_of (Goodbye g) = 203
+kind_of (Nack n) = 205
+kind_of (Pli p) = 206
+kind_of (Fir f) = 206
+kind_of (AppSpecificFeedback f) = 206
+
+-- the count, or the format of feedback
+abbrev pub count_of : Rtcp → ℕ
+count_of (SenderReport r) = length r.reports
+count_of (ReceiverReport r) = length r.reports
+count_of (Goodbye g) = length g.reports
+count_of (Nack n) = 1
+count_of (Pli p) = 1
+count_of (Fir f) = 4
+count_of (AppSpecificFeedback f) = 15
+
+-- the bytes after the header
+abbrev pub body_of : Rtcp → List ℕ
+body_of (SenderReport r) = sender_report_body r
+body_of (ReceiverReport r) = receiver_report_body r
+body_of (Goodbye g) = goodbye_body g
+body_of (Nack n) = nack_body n
+body_of (Pli p) = pli_body p
+body_of (Fir f) = fir_body f
+body_of (AppSpecificFeedback f) = app_feedback_body f
+
+-- an item in bytes: version 2 and the count, the type, the length in words less one, the body
+abbrev pub framed : ℕ → ℕ → List ℕ → List ℕ
+framed count kind body = (128 + count) ∷ kind ∷ to_be_bytes w16 (length body / 4) ++ body
+
+unfoldable pub text_of : Rtcp → List ℕ
+text_of x = framed (count_of x) (kind_of x) (body_of x)
+
+-- counts and lengths fit their fields, and the body has whole words
+pub record IsWritable (x : Rtcp) : Type 0 where
+  pub count : count_of x ≤ 31
+  pub size : length (body_of x) < 2 ^ 18
+  pub whole : length (body_of x) % 4 ≡ 0
+
+-- how many items at the front fit
+abbrev pub fitting : ℕ → List Rtcp → ℕ
+fitting room [] = 0
+fitting room (x ∷ xs) = if nat_le (length (text_of x)) room then suc (fitting (room - length (text_of x)) xs) else 0

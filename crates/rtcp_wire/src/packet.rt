@@ -1,0 +1,217 @@
+//! Datagrams of RTCP items (RFC 3550 section 6.1), also of reduced size (RFC 5506).
+ghost use Rattle.std.specs.Prelude.{◌≡◌, ◌≤◌, ◌++◌, ℕ, List, length, take, drop, IfOk, OnOk, OnErr};
+ghost use Rattle.std.specs.Option.{option_map};
+ghost use Rattle.std.specs.List.{flat_map, AllByRecursion};
+ghost use Rattle.rtcp_wire.specs.Items.{reading_or_short};
+
+use crate::feedback::{AppSpecificFeedback, read_app_feedback, write_app_feedback};
+use crate::frame::{Frame, first_frame};
+use crate::nack::{Nack, read_nack, write_nack};
+use crate::report::{
+    ReceiverReport, SenderReport, read_receiver_report, read_sender_report, write_receiver_report,
+    write_sender_report,
+};
+use crate::request::{Fir, Pli, read_fir, read_pli, write_fir, write_pli};
+use crate::source::{Goodbye, read_goodbye, write_goodbye};
+use std::alloc::{AllocError, Global};
+use std::collections::VecDeque;
+
+/// An item of an RTCP datagram.
+#[derive(Debug, PartialEq, Eq, Drop)]
+pub enum Rtcp {
+    SenderReport(SenderReport),
+    ReceiverReport(ReceiverReport),
+    Goodbye(Goodbye),
+    Nack(Nack),
+    Pli(Pli),
+    Fir(Fir),
+    AppSpecificFeedback(AppSpecificFeedback),
+}
+
+// What an item in bytes says.
+#[derive(Drop)]
+enum Reading {
+    Item(Rtcp),
+    PassedOver,
+    TooShort,
+}
+
+// An item, unless its bytes were too short for its fields.
+fn item_or_short(item: Option<Rtcp>) -> Reading
+    ensures { result ≡ reading_or_short item }
+{
+    match item {
+        Some(item) => Reading::Item(item),
+        None => Reading::TooShort,
+    }
+}
+
+impl Rtcp {
+    ghost use Rattle.rtcp_wire.specs.Items.{reading_of, transport_feedback_of, payload_feedback_of, item_at, added_of, rest_of, items_of, items_within};
+    ghost use Rattle.rtcp_wire.specs.Texts.{IsWritable, text_of, body_of, count_of, kind_of, fitting};
+    ghost use Rattle.rtcp_wire.specs.Wire.{Puts};
+
+    /// Reads the items of a datagram, in order, and adds them to a list. Reading stops at an item whose
+    /// version is not 2, whose length runs past the end or that is too short for its fields; unknown
+    /// types and formats are passed over. Without memory some items at the front were added.
+    pub fn read_packet(
+        alloc: Global,
+        bytes: &[u8],
+        items: &mut VecDeque<Rtcp>,
+    ) -> Result<(), AllocError>
+        ensures ok { OnOk result (items.new.items ≡ items.old.items ++ items_of bytes.now) }
+        ensures err { OnErr result ((n : ℕ) × (items.new.items ≡ items.old.items ++ take n (items_of bytes.now))) }
+    {
+        let mut rest = bytes;
+        for _ in 0..bytes.len() / 4 {
+            match Rtcp::read_first(alloc, rest, items) {
+                Ok(Some(after)) => rest = after,
+                Ok(None) => return Ok(()),
+                Err(error) => return Err(error),
+            }
+        }
+        Ok(())
+    }
+
+    // Reads the item at the front, and gives what follows it, or None where reading stops.
+    #[tactic(auto, unfolding(crate::specs::Items::item_at))]
+    fn read_first<'a>(
+        alloc: Global,
+        bytes: &'a [u8],
+        items: &mut VecDeque<Rtcp>,
+    ) -> Result<Option<&'a [u8]>, AllocError>
+        ensures rest { IfOk result (λ next. option_map (λ r. r.now) next ≡ rest_of (item_at bytes.now)) }
+        ensures items { OnOk result (items.new.items ≡ items.old.items ++ added_of (item_at bytes.now)) }
+        ensures err { OnErr result (items.new.items ≡ items.old.items) }
+    {
+        let Some(frame) = first_frame(bytes) else {
+            return Ok(None);
+        };
+        match Rtcp::read_item(alloc, &frame)? {
+            Reading::Item(item) => {
+                items.push_back(item)?;
+                Ok(Some(frame.rest))
+            }
+            Reading::PassedOver => Ok(Some(frame.rest)),
+            Reading::TooShort => Ok(None),
+        }
+    }
+
+    #[tactic(auto, unfolding(crate::specs::Items::reading_of))]
+    fn read_item(alloc: Global, frame: &Frame<'_>) -> Result<Reading, AllocError>
+        requires { frame.now.count ≤ 31 }
+        ensures { IfOk result (λ r. r ≡ reading_of frame.now.kind frame.now.count frame.now.body.now) }
+    {
+        let (count, body) = (frame.count, frame.body);
+        match frame.kind {
+            200 => Ok(item_or_short(read_sender_report(count, body).map(Rtcp::SenderReport))),
+            201 => Ok(item_or_short(read_receiver_report(count, body).map(Rtcp::ReceiverReport))),
+            203 => Ok(item_or_short(read_goodbye(count, body).map(Rtcp::Goodbye))),
+            205 => Ok(Rtcp::read_transport_feedback(count, body)),
+            206 => Rtcp::read_payload_feedback(alloc, count, body),
+            _ => Ok(Reading::PassedOver),
+        }
+    }
+
+    #[tactic(auto, unfolding(crate::specs::Items::transport_feedback_of))]
+    fn read_transport_feedback(format: u8, body: &[u8]) -> Reading
+        ensures { result ≡ transport_feedback_of format body.now }
+    {
+        match format {
+            1 => item_or_short(read_nack(body).map(Rtcp::Nack)),
+            _ => Reading::PassedOver,
+        }
+    }
+
+    #[tactic(auto, unfolding(crate::specs::Items::payload_feedback_of))]
+    fn read_payload_feedback(alloc: Global, format: u8, body: &[u8]) -> Result<Reading, AllocError>
+        ensures { IfOk result (λ r. r ≡ payload_feedback_of format body.now) }
+    {
+        match format {
+            1 => Ok(item_or_short(read_pli(body).map(Rtcp::Pli))),
+            4 => Ok(item_or_short(read_fir(body).map(Rtcp::Fir))),
+            15 => Ok(item_or_short(read_app_feedback(alloc, body)?.map(Rtcp::AppSpecificFeedback))),
+            _ => Ok(Reading::PassedOver),
+        }
+    }
+
+    /// Writes items, whole and in order, while they fit, and takes them off the list. The answer is how
+    /// many bytes were written. Counts and lengths fit their fields, and bodies have whole words.
+    pub fn write_packet(items: &mut VecDeque<Rtcp>, out: &mut [u8]) -> usize
+        requires { AllByRecursion IsWritable items.old.items }
+        ensures count { result ≡ length (flat_map text_of (take (fitting (length out.old) items.old.items) items.old.items)) }
+        ensures bytes { take result out.new ≡ flat_map text_of (take (fitting (length out.old) items.old.items) items.old.items) }
+        ensures left { items.new.items ≡ drop (fitting (length out.old) items.old.items) items.old.items }
+    {
+        let mut at = 0;
+        for _ in 0..items.len() {
+            let Some(item) = items.front() else {
+                return at;
+            };
+            match item.write(out, at) {
+                Some(end) => at = end,
+                None => return at,
+            }
+            items.pop_front();
+        }
+        at
+    }
+
+    // Writes the item at a place, and says where it ends, or None where there is no room for it.
+    #[tactic(auto, unfolding(crate::specs::Texts::text_of))]
+    fn write(&self, out: &mut [u8], at: usize) -> Option<usize>
+        requires { IsWritable self.now }
+        ensures text { Puts out.old at (text_of self.now) out.new result }
+        ensures before { take at out.new ≡ take at out.old }
+    {
+        if out.len() < at || out.len() - at < 4 {
+            return None;
+        }
+        let (_, room) = out.split_at_mut(at);
+        let (head, body) = room.split_at_mut(4);
+        let len = self.write_body(body)?;
+        let words = ((len / 4) as u16).to_be_bytes();
+        head.copy_from_slice(&[128 + self.count(), self.kind(), words[0], words[1]]);
+        Some(at + 4 + len)
+    }
+
+    fn write_body(&self, out: &mut [u8]) -> Option<usize>
+        ensures { Puts out.old 0 (body_of self.now) out.new result }
+    {
+        match self {
+            Rtcp::SenderReport(report) => write_sender_report(report, out),
+            Rtcp::ReceiverReport(report) => write_receiver_report(report, out),
+            Rtcp::Goodbye(goodbye) => write_goodbye(goodbye, out),
+            Rtcp::Nack(nack) => write_nack(nack, out),
+            Rtcp::Pli(pli) => write_pli(pli, out),
+            Rtcp::Fir(fir) => write_fir(fir, out),
+            Rtcp::AppSpecificFeedback(feedback) => write_app_feedback(feedback, out),
+        }
+    }
+
+    fn kind(&self) -> u8
+        ensures { result ≡ kind_of self.now }
+    {
+        match self {
+            Rtcp::SenderReport(_) => 200,
+            Rtcp::ReceiverReport(_) => 201,
+            Rtcp::Goodbye(_) => 203,
+            Rtcp::Nack(_) => 205,
+            Rtcp::Pli(_) | Rtcp::Fir(_) | Rtcp::AppSpecificFeedback(_) => 206,
+        }
+    }
+
+    fn count(&self) -> u8
+        requires { count_of self.now ≤ 31 }
+        ensures { result ≡ count_of self.now }
+    {
+        match self {
+            Rtcp::SenderReport(report) => report.reports.len() as u8,
+            Rtcp::ReceiverReport(report) => report.reports.len() as u8,
+            Rtcp::Goodbye(goodbye) => goodbye.reports.len() as u8,
+            Rtcp::Nack(_) | Rtcp::Pli(_) => 1,
+            Rtcp::Fir(_) => 4,
+            Rtcp::AppSpecificFeedback(_) => 15,
+        }
+    }
+}

@@ -1,0 +1,189 @@
+//! Reports on what was sent and received (RFC 3550 section 6.4).
+ghost use Rattle.std.specs.Prelude.{◌≡◌, ◌<◌, ◌≤◌, length};
+ghost use Rattle.rtcp_wire.specs.Rows.{signed24};
+ghost use Rattle.rtcp_wire.specs.Wire.{Puts};
+ghost use Rattle.rtcp_wire.specs.Reports.{receiver_report_of, receiver_report_body, sender_info_at, sender_info_text, sender_report_of, sender_report_body};
+
+use crate::ReportList;
+use crate::row::{Row, read_rows, write_rows};
+use crate::wire::{double, put, word};
+use media_base::{SystemTime, SystemTimeExt};
+use rtp_wire::Ssrc;
+
+/// A reception block (RFC 3550 section 6.4.1): how a source is received.
+#[derive(Clone, Copy, Debug, Default, PartialEq, Eq)]
+pub struct ReceptionReport {
+    /// The source that it speaks of.
+    pub ssrc: Ssrc,
+    /// The share lost since the report before, in 256ths.
+    pub fraction_lost: u8,
+    /// The packets lost since the beginning, 24 bits signed on the wire.
+    pub packets_lost: i32,
+    /// The greatest extended sequence number received.
+    pub max_seq: u32,
+    /// The jitter, in units of the RTP time.
+    pub jitter: u32,
+    /// The middle 32 bits of the NTP time of the last sender report, or 0.
+    pub last_sr_time: u32,
+    /// The time since that report, in 65,536ths of a second, or 0.
+    pub last_sr_delay: u32,
+}
+
+impl Row for ReceptionReport {
+    ghost use Rattle.rtcp_wire.specs.Rows.{report_at, report_text};
+
+    ghost size = { 24 };
+
+    ghost row_of = { report_at };
+
+    ghost text_of = { report_text };
+
+    fn size() -> usize {
+        24
+    }
+
+    #[tactic(auto, unfolding(crate::specs::Rows::report_at))]
+    fn read(bytes: &[u8]) -> Self {
+        let lost = word(bytes, 4);
+        ReceptionReport {
+            ssrc: word(bytes, 0).into(),
+            fraction_lost: (lost / 0x100_0000) as u8,
+            packets_lost: signed(lost % 0x100_0000),
+            max_seq: word(bytes, 8),
+            jitter: word(bytes, 12),
+            last_sr_time: word(bytes, 16),
+            last_sr_delay: word(bytes, 20),
+        }
+    }
+
+    #[tactic(auto, unfolding(crate::specs::Rows::report_text))]
+    fn write(&self, out: &mut [u8], at: usize) -> Option<usize> {
+        let lost = u32::from(self.fraction_lost) * 0x100_0000
+            + self.packets_lost.cast_unsigned() % 0x100_0000;
+        let words = [
+            self.ssrc.into(),
+            lost,
+            self.max_seq,
+            self.jitter,
+            self.last_sr_time,
+            self.last_sr_delay,
+        ];
+        write_rows(&words, out, at)
+    }
+}
+
+// 24 bits as a signed number.
+fn signed(bits: u32) -> i32
+    requires { bits < 16777216 }
+    ensures { result ≡ signed24 bits }
+{
+    if bits < 0x80_0000 {
+        bits as i32
+    } else {
+        bits as i32 - 0x100_0000
+    }
+}
+
+/// How the sender receives others, where it sends nothing itself (RFC 3550 section 6.4.2).
+#[derive(Debug, PartialEq, Eq, Drop)]
+pub struct ReceiverReport {
+    pub sender_ssrc: Ssrc,
+    pub reports: ReportList<ReceptionReport>,
+}
+
+#[tactic(auto, unfolding(crate::specs::Reports::receiver_report_of))]
+pub(crate) fn read_receiver_report(count: u8, body: &[u8]) -> Option<ReceiverReport>
+    requires { count ≤ 31 }
+    ensures { result ≡ receiver_report_of count body.now }
+{
+    let count = usize::from(count);
+    if body.len() < 4 + count * 24 {
+        return None;
+    }
+    let (_, rows) = body.split_at(4);
+    Some(ReceiverReport {
+        sender_ssrc: word(body, 0).into(),
+        reports: read_rows(rows, count),
+    })
+}
+
+#[tactic(auto, unfolding(crate::specs::Reports::receiver_report_body))]
+pub(crate) fn write_receiver_report(report: &ReceiverReport, out: &mut [u8]) -> Option<usize>
+    ensures { Puts out.old 0 (receiver_report_body report.now) out.new result }
+{
+    let at = put(out, 0, &u32::from(report.sender_ssrc).to_be_bytes())?;
+    write_rows(report.reports.as_slice(), out, at)
+}
+
+/// What a sender says of itself (RFC 3550 section 6.4.1).
+#[derive(Clone, Copy, Debug, PartialEq, Eq)]
+pub struct SenderInfo {
+    pub ssrc: Ssrc,
+    /// When the report was sent, held in nanoseconds; on the wire 64 bits of NTP.
+    pub ntp_time: SystemTime,
+    /// The same moment in the units of the media.
+    pub rtp_time: u32,
+    /// The packets sent so far, modulo 2^32.
+    pub sender_packet_count: u32,
+    /// The bytes of payload sent so far, modulo 2^32.
+    pub sender_octet_count: u32,
+}
+
+/// What a sender sent, and how it receives others (RFC 3550 section 6.4.1).
+#[derive(Debug, PartialEq, Eq, Drop)]
+pub struct SenderReport {
+    pub sender_info: SenderInfo,
+    pub reports: ReportList<ReceptionReport>,
+}
+
+#[tactic(auto, unfolding(crate::specs::Reports::sender_info_at))]
+fn read_sender_info(body: &[u8]) -> SenderInfo
+    requires { 24 ≤ length body.now }
+    ensures { result ≡ sender_info_at body.now }
+{
+    SenderInfo {
+        ssrc: word(body, 0).into(),
+        ntp_time: SystemTime::from_ntp_64(double(body, 4)),
+        rtp_time: word(body, 12),
+        sender_packet_count: word(body, 16),
+        sender_octet_count: word(body, 20),
+    }
+}
+
+#[tactic(auto, unfolding(crate::specs::Reports::sender_info_text))]
+fn write_sender_info(info: &SenderInfo, out: &mut [u8]) -> Option<usize>
+    ensures { Puts out.old 0 (sender_info_text info.now) out.new result }
+{
+    let at = put(out, 0, &u32::from(info.ssrc).to_be_bytes())?;
+    let at = put(out, at, &info.ntp_time.as_ntp_64().to_be_bytes())?;
+    let words = [
+        info.rtp_time,
+        info.sender_packet_count,
+        info.sender_octet_count,
+    ];
+    write_rows(&words, out, at)
+}
+
+#[tactic(auto, unfolding(crate::specs::Reports::sender_report_of))]
+pub(crate) fn read_sender_report(count: u8, body: &[u8]) -> Option<SenderReport>
+    requires { count ≤ 31 }
+    ensures { result ≡ sender_report_of count body.now }
+{
+    let count = usize::from(count);
+    if body.len() < 24 + count * 24 {
+        return None;
+    }
+    let (_, rows) = body.split_at(24);
+    Some(SenderReport {
+        sender_info: read_sender_info(body),
+        reports: read_rows(rows, count),
+    })
+}
+
+#[tactic(auto, unfolding(crate::specs::Reports::sender_report_body))]
+pub(crate) fn write_sender_report(report: &SenderReport, out: &mut [u8]) -> Option<usize>
+    ensures { Puts out.old 0 (sender_report_body report.now) out.new result }
+{
+    let at = write_sender_info(&report.sender_info, out)?;
+    write_rows(report.reports.as_slice(), out, at)
+}

@@ -1,0 +1,101 @@
+// Rows of fields of a fixed length.
+ghost use Rattle.std.specs.Prelude.{◌≡◌, ◌+◌, ◌*◌, ◌≤◌, List, ℕ, length, IfOk};
+ghost use Rattle.std.specs.List.{flat_map};
+ghost use Rattle.rtcp_wire.specs.Wire.{rows_of, Puts};
+
+use crate::{ReportList, wire};
+use media_base::Listed;
+use std::alloc::{AllocError, Global};
+
+// Fields of a fixed length, of which an item has as many rows as it says.
+pub trait Row: Copy {
+    // How many bytes a row has.
+    ghost size: { ℕ };
+
+    // The row at the front of these bytes.
+    ghost row_of: { List ℕ → Self };
+
+    // The bytes of a row.
+    ghost text_of: { Self → List ℕ };
+
+    fn size() -> usize
+        ensures { result ≡ size };
+
+    fn read(bytes: &[u8]) -> Self
+        requires { size ≤ length bytes.now }
+        ensures { result ≡ row_of bytes.now };
+
+    fn write(&self, out: &mut [u8], at: usize) -> Option<usize>
+        ensures { Puts out.old at (text_of self.now) out.new result };
+}
+
+impl Row for u32 {
+    ghost use Rattle.std.specs.Int.{w32, to_be_bytes};
+    ghost use Rattle.rtcp_wire.specs.Wire.{word_at};
+
+    ghost size = { 4 };
+
+    ghost row_of = { λ bytes. word_at bytes 0 };
+
+    ghost text_of = { to_be_bytes w32 };
+
+    fn size() -> usize {
+        4
+    }
+
+    fn read(bytes: &[u8]) -> Self {
+        wire::word(bytes, 0)
+    }
+
+    fn write(&self, out: &mut [u8], at: usize) -> Option<usize> {
+        wire::put(out, at, &self.to_be_bytes())
+    }
+}
+
+// The first rows of some bytes, at most 31.
+pub fn read_rows<T: Row + Default>(bytes: &[u8], count: usize) -> ReportList<T>
+    requires few { count ≤ 31 }
+    requires long { count * T.size ≤ length bytes.now }
+    ensures { result ≡ rows_of T.row_of T.size count bytes.now }
+{
+    let mut rows = ReportList::new();
+    let mut rest = bytes;
+    for _ in 0..count {
+        rows.push(T::read(rest));
+        let (_, after) = rest.split_at(T::size());
+        rest = after;
+    }
+    rows
+}
+
+// The first rows of some bytes, on the heap.
+pub fn read_many<T: Row>(alloc: Global, bytes: &[u8], count: usize) -> Result<Listed<T>, AllocError>
+    requires { count * T.size ≤ length bytes.now }
+    ensures { IfOk result (λ rows. rows ≡ rows_of T.row_of T.size count bytes.now) }
+{
+    let mut rows = Listed::new(alloc);
+    let mut rest = bytes;
+    for _ in 0..count {
+        rows.push(T::read(rest))?;
+        let (_, after) = rest.split_at(T::size());
+        rest = after;
+    }
+    Ok(rows)
+}
+
+// Puts rows one after another, or says that there is no room for them.
+pub fn write_rows<T: Row>(rows: &[T], out: &mut [u8], at: usize) -> Option<usize>
+    ensures { Puts out.old at (flat_map T.text_of rows.now) out.new result }
+{
+    if out.len() < at {
+        return None;
+    }
+    let mut end = at;
+    for row in rows {
+        match row.write(out, end) {
+            Some(next) => end = next,
+            None => return None,
+        }
+    }
+    Some(end)
+}
