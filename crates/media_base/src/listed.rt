@@ -39,6 +39,7 @@ impl<T: Eq> Eq for Listed<T> {
 }
 
 impl<T> Listed<T> {
+    /// No values.
     pub fn new(alloc: Global) -> Self
         ensures { result ≡ [] }
     {
@@ -54,6 +55,7 @@ impl<T> Listed<T> {
         Listed { all }
     }
 
+    /// The values, borrowed.
     pub fn as_slice(&self) -> &[T]
         ensures { result.now ≡ self.now }
     {
