@@ -80,7 +80,8 @@ impl<T: Amount> Model for ValueHistory<T> {
 
     ghost Value = { History };
 
-    ghost view = { λ h. let held = map (λ p. (p.0, T.number p.1)) h.entries.items in record { start = T.number h.total - amount_of held; held = held; limit = h.longest } };
+    ghost view = { λ h. let held = map (λ p. (p.0, T.number p.1)) h.entries.items in
+        record { start = T.number h.total - amount_of held; held = held; limit = h.longest } };
 
     ghost invariant = { λ h. amount_of (map (λ p. (p.0, T.number p.1)) h.entries.items) ≤ T.number h.total };
 }
@@ -109,7 +110,8 @@ impl<T: Amount> ValueHistory<T> {
     /// Adds an amount. Without memory nothing is added.
     pub fn push(&mut self, moment: Instant, amount: T) -> Result<(), AllocError>
         requires { total_of self.old + T.number amount < T.bound }
-        ensures ok { OnOk result (self.new ≡ record self.old { held = self.old.held ++ (moment, T.number amount) ∷ [] }) }
+        ensures ok { OnOk result
+            (self.new ≡ record self.old { held = self.old.held ++ (moment, T.number amount) ∷ [] }) }
         ensures err { OnErr result (self.new ≡ self.old) }
         ensures stands { (pushes : List (ℕ × ℕ)) (purged_at : ℕ) → StandsFor self.old pushes purged_at
             → purged_at ≤ moment → IsUnfalling (pushes ++ (moment, T.number amount) ∷ [])
@@ -127,11 +129,12 @@ impl<T: Amount> ValueHistory<T> {
         self.total
     }
 
-    /// Lets go of what was added longer ago than the limit. Where the moments do not fall, what is held
-    /// then is all that is not older.
+    /// Lets go of what was added longer ago than 1 s, up to the first that was not. Where the moments
+    /// do not fall, what is held then is all that is not older.
     pub fn purge_old(&mut self, now: Instant)
         ensures purged { self.new ≡ record self.old { held = purged self.old.limit now self.old.held } }
-        ensures unfalling { IsUnfalling self.old.held → self.new.held ≡ recent self.old.limit now self.old.held }
+        ensures unfalling { IsUnfalling self.old.held
+            → self.new.held ≡ recent self.old.limit now self.old.held }
         ensures stands { (pushes : List (ℕ × ℕ)) (purged_at : ℕ) → StandsFor self.old pushes purged_at
             → purged_at ≤ now → StandsFor self.new pushes now }
     {
