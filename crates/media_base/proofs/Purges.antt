@@ -1,7 +1,8 @@
 -- What is purged from the front, where the moments do not fall, is all that is too old.
-use Rattle.std.proofs.Common.{◌≡◌, ℕ, ◌+◌, ◌-◌, ◌<◌, ◌≤◌, List, [], ◌∷◌, Bool, true, false, length, get_or, refl, ap, ◌∙◌, sym, suc, arith, inl, inr, nat_lt, nat_le}
+use Rattle.std.proofs.Common.{◌≡◌, ℕ, ◌-◌, ◌<◌, ◌≤◌, List, [], ◌∷◌, Bool, true, false, length, get_or, cond, subst, refl, ap, ◌∙◌, sym, suc, arith, inl, inr, nat_lt, nat_le}
 use Rattle.std.proofs.lemmas.Bool.{cases_lt}
 use Rattle.std.proofs.lemmas.Bool.Decides.{nat_tests}
+use Rattle.std.proofs.lemmas.List.Kept.{IsNonDecreasingBy-filter}
 use Rattle.std.specs.List.{filter}
 use Rattle.media_base.specs.History.{purged, recent, IsUnfalling}
 
@@ -41,3 +42,21 @@ purged-unfalling limit now (p ∷ held) unfalling =
 pub purged_all : (limit limit' now : ℕ) (new mid old : List (ℕ × ℕ)) → limit' ≡ limit → new ≡ purged limit' now new → purged limit' now new ≡ purged limit' now mid → purged limit now mid ≡ purged limit now old → IsUnfalling old → new ≡ recent limit now old
 purged_all limit limit' now new mid old same done kept rest unfalling =
     done ∙ kept ∙ ap (λ n. purged n now mid) same ∙ rest ∙ purged-unfalling limit now old unfalling
+
+-- what was recent before is all of what is recent now
+pub recent-recent : (limit before now : ℕ) (pushes : List (ℕ × ℕ)) → before ≤ now → recent limit now (recent limit before pushes) ≡ recent limit now pushes
+recent-recent limit before now [] le = refl
+recent-recent limit before now (p ∷ pushes) le =
+    let rest = recent-recent limit before now pushes le in
+    elim (cases_lt limit (before - p.0)) [
+      | inl old ↦ rw (le_false (before - p.0) limit old, le_false (now - p.0) limit (omega arith)) rest
+      | inr young ↦
+          rw (le_true (before - p.0) limit young)
+          (ap (λ (l : List (ℕ × ℕ)). cond (nat_le (now - p.0) limit) (p ∷ l) l) rest)
+    ]
+
+-- what is recent among what was held is what is recent among all pushes
+pub recent_held : (limit before now : ℕ) (old new pushes : List (ℕ × ℕ)) → IsUnfalling pushes → old ≡ recent limit before pushes → before ≤ now → (IsUnfalling old → new ≡ recent limit now old) → new ≡ recent limit now pushes
+recent_held limit before now old new pushes unfalling held le purge =
+    let kept = IsNonDecreasingBy-filter (λ (p : ℕ × ℕ). p.0) (λ (p : ℕ × ℕ). nat_le (before - p.0) limit) pushes unfalling in
+    purge (subst IsUnfalling (sym held) kept) ∙ ap (recent limit now) held ∙ recent-recent limit before now pushes le

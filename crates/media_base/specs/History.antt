@@ -1,5 +1,5 @@
 -- Amounts that were added at moments, and count for some time.
-use Rattle.std.specs.Prelude.{ℕ, ◌+◌, ◌-◌, List, [], ◌∷◌, sum_by, filter, nat_lt, nat_le, if◌then◌else◌}
+use Rattle.std.specs.Prelude.{◌≡◌, ℕ, ◌+◌, ◌-◌, List, [], ◌∷◌, sum_by, filter, nat_lt, nat_le, if◌then◌else◌}
 use Rattle.std.specs.List.Sorted.{IsNonDecreasingBy}
 
 -- what counts always; the moments and amounts that are held, in order of adding; and how long they count
@@ -28,3 +28,8 @@ purged limit now (p ∷ held) = if nat_lt limit (now - p.0) then purged limit no
 -- those that are not older than the limit
 abbrev pub recent : ℕ → ℕ → List (ℕ × ℕ) → List (ℕ × ℕ)
 recent limit now held = filter (λ p. nat_le (now - p.0) limit) held
+
+-- what is held of these pushes by a history that was last purged at that moment
+pub record StandsFor (h : History) (pushes : List (ℕ × ℕ)) (purged_at : ℕ) : Type 0 where
+  pub unfalling : IsUnfalling pushes
+  pub held : h.held ≡ recent h.limit purged_at pushes

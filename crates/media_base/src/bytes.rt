@@ -55,6 +55,7 @@ impl Bytes {
         Ok(Bytes { all })
     }
 
+    /// The bytes, borrowed.
     pub fn as_slice(&self) -> &[u8]
         ensures { result.now ≡ self.now }
     {
@@ -68,12 +69,14 @@ impl Bytes {
         self.all
     }
 
+    /// How many bytes they are.
     pub fn len(&self) -> usize
         ensures { result ≡ length self.now }
     {
         self.all.len()
     }
 
+    /// Whether there are none.
     pub fn is_empty(&self) -> bool
         ensures { result ≡ (length self.now == 0) }
     {

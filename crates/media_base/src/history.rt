@@ -1,6 +1,6 @@
 // Amounts that count for some time after they were added.
-ghost use Rattle.std.specs.Prelude.{◌≡◌, ◌+◌, ◌-◌, ◌^◌, ◌<◌, ◌≤◌, ℕ, [], ◌∷◌, ◌++◌, IsTrue, OnOk, OnErr, length, true, false};
-ghost use Rattle.media_base.specs.History.{total_of, purged, recent, IsUnfalling};
+ghost use Rattle.std.specs.Prelude.{◌≡◌, ◌+◌, ◌-◌, ◌^◌, ◌<◌, ◌≤◌, ℕ, [], ◌∷◌, ◌++◌, List, OnOk, OnErr, length, true, false};
+ghost use Rattle.media_base.specs.History.{StandsFor, total_of, purged, recent, IsUnfalling};
 
 use crate::{Duration, Instant};
 use std::alloc::{AllocError, Global};
@@ -15,13 +15,16 @@ pub trait Amount: Copy {
     /// The least number that is too large.
     ghost bound: { ℕ };
 
+    /// Nothing.
     fn zero() -> Self
         ensures { number result ≡ 0 };
 
+    /// The sum.
     fn plus(self, more: Self) -> Self
         requires { number self + number more < bound }
         ensures { number result ≡ number self + number more };
 
+    /// The difference.
     fn minus(self, less: Self) -> Self
         requires { number less ≤ number self }
         ensures { number result ≡ number self - number less };
@@ -77,7 +80,8 @@ impl<T: Amount> Model for ValueHistory<T> {
 
     ghost Value = { History };
 
-    ghost view = { λ h. let held = map (λ p. (p.0, T.number p.1)) h.entries.items in record { start = T.number h.total - amount_of held; held = held; limit = h.longest } };
+    ghost view = { λ h. let held = map (λ p. (p.0, T.number p.1)) h.entries.items in
+        record { start = T.number h.total - amount_of held; held = held; limit = h.longest } };
 
     ghost invariant = { λ h. amount_of (map (λ p. (p.0, T.number p.1)) h.entries.items) ≤ T.number h.total };
 }
@@ -85,14 +89,16 @@ impl<T: Amount> Model for ValueHistory<T> {
 impl<T: Amount> ValueHistory<T> {
     /// A history of nothing.
     pub fn new(alloc: Global) -> Self
-        ensures { result ≡ record { start = 0; held = []; limit = 1000000000 } }
+        ensures empty { result ≡ record { start = 0; held = []; limit = 1000000000 } }
+        ensures stands { StandsFor result [] 0 }
     {
         Self::starting_at(alloc, T::zero())
     }
 
     /// A history that begins with an amount, which counts always.
     pub fn starting_at(alloc: Global, start: T) -> Self
-        ensures { result ≡ record { start = T.number start; held = []; limit = 1000000000 } }
+        ensures empty { result ≡ record { start = T.number start; held = []; limit = 1000000000 } }
+        ensures stands { StandsFor result [] 0 }
     {
         ValueHistory {
             total: start,
@@ -104,8 +110,12 @@ impl<T: Amount> ValueHistory<T> {
     /// Adds an amount. Without memory nothing is added.
     pub fn push(&mut self, moment: Instant, amount: T) -> Result<(), AllocError>
         requires { total_of self.old + T.number amount < T.bound }
-        ensures ok { OnOk result (self.new ≡ record self.old { held = self.old.held ++ (moment, T.number amount) ∷ [] }) }
+        ensures ok { OnOk result
+            (self.new ≡ record self.old { held = self.old.held ++ (moment, T.number amount) ∷ [] }) }
         ensures err { OnErr result (self.new ≡ self.old) }
+        ensures stands { (pushes : List (ℕ × ℕ)) (purged_at : ℕ) → StandsFor self.old pushes purged_at
+            → purged_at ≤ moment → IsUnfalling (pushes ++ (moment, T.number amount) ∷ [])
+            → OnOk result (StandsFor self.new (pushes ++ (moment, T.number amount) ∷ []) purged_at) }
     {
         self.entries.push_back((moment, amount))?;
         self.total = self.total.plus(amount);
@@ -119,11 +129,14 @@ impl<T: Amount> ValueHistory<T> {
         self.total
     }
 
-    /// Lets go of what was added longer ago than the limit. Where the moments do not fall, what is held
-    /// then is all that is not older.
+    /// Lets go of what was added longer ago than 1 s, up to the first that was not. Where the moments
+    /// do not fall, what is held then is all that is not older.
     pub fn purge_old(&mut self, now: Instant)
         ensures purged { self.new ≡ record self.old { held = purged self.old.limit now self.old.held } }
-        ensures unfalling { IsUnfalling self.old.held → self.new.held ≡ recent self.old.limit now self.old.held }
+        ensures unfalling { IsUnfalling self.old.held
+            → self.new.held ≡ recent self.old.limit now self.old.held }
+        ensures stands { (pushes : List (ℕ × ℕ)) (purged_at : ℕ) → StandsFor self.old pushes purged_at
+            → purged_at ≤ now → StandsFor self.new pushes now }
     {
         while self.drop_old(now) {}
     }

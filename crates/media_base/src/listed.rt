@@ -40,6 +40,7 @@ impl<T: Eq> Eq for Listed<T> {
 }
 
 impl<T> Listed<T> {
+    /// No values.
     pub fn new(alloc: Global) -> Self
         ensures { result ≡ [] }
     {
@@ -55,6 +56,7 @@ impl<T> Listed<T> {
         Listed { all }
     }
 
+    /// The values, borrowed.
     pub fn as_slice(&self) -> &[T]
         ensures { result.now ≡ self.now }
     {

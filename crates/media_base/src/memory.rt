@@ -26,7 +26,13 @@ impl Model for MemSource {
 
     ghost Value = { MemorySource };
 
-    ghost view = { λ s. record { left = drop s.at s.bytes.items; piece = s.most; failing = s.failing.items; calls = s.call_count; faults = s.fault_count } };
+    ghost view = { λ s. record {
+      left = drop s.at s.bytes.items;
+      piece = s.most;
+      failing = s.failing.items;
+      calls = s.call_count;
+      faults = s.fault_count;
+    } };
 
     ghost invariant = { λ s. (s.at ≤ length s.bytes.items) × (0 < s.most) };
 }
@@ -103,7 +109,14 @@ impl Model for MemSink {
 
     ghost Value = { MemorySink };
 
-    ghost view = { λ s. record { written = s.bytes.items; room = s.limit; piece = s.most; failing = s.failing.items; calls = s.call_count; faults = s.fault_count } };
+    ghost view = { λ s. record {
+      written = s.bytes.items;
+      room = s.limit;
+      piece = s.most;
+      failing = s.failing.items;
+      calls = s.call_count;
+      faults = s.fault_count;
+    } };
 
     ghost invariant = { λ s. (length s.bytes.items ≤ s.limit) × (s.limit ≤ vec_capacity s.bytes) × (0 < s.most) };
 }

@@ -58,6 +58,7 @@ impl Bitrate {
         self.bits
     }
 
+    /// Whether nothing is sent at this rate.
     pub fn is_zero(self) -> bool
         ensures { result ≡ (self == 0) }
     {
@@ -109,6 +110,7 @@ impl DataSize {
         self.count
     }
 
+    /// Whether it is no bytes.
     pub fn is_zero(self) -> bool
         ensures { result ≡ (self == 0) }
     {
@@ -175,6 +177,7 @@ impl Debt {
         self.billionths
     }
 
+    /// Whether nothing is owed.
     pub fn is_zero(self) -> bool
         ensures { result ≡ (self == 0) }
     {

@@ -6,6 +6,7 @@ ghost use Rattle.media_base.specs.Causes.{HasCause, Rose, WritesFront};
 
 use crate::Failed;
 
+/// Where a program's bytes go.
 pub trait Sink {
     /// The bytes that it has taken, where they are told.
     ghost written: { Self → Option (List ℕ) };
@@ -20,6 +21,7 @@ pub trait Sink {
         ensures bytes { WriteAppends (written self.old) (written self.new) result buf.now }
         ensures cause { HasCause (fault_count self.old) (fault_count self.new) result };
 
+    /// How often a write has failed, at most 2^64 - 1.
     fn faults(&self) -> u64
         ensures { result ≡ fault_count self.now };
 }

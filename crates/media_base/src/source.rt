@@ -14,8 +14,11 @@ pub struct Failed;
 /// Why input was not read to its end.
 #[derive(Clone, Copy, Debug, PartialEq, Eq)]
 pub enum ReadError {
+    /// There is no memory for the input.
     Memory,
+    /// The source failed.
     Failed,
+    /// There is more input than the limit.
     TooLong,
 }
 
@@ -35,6 +38,7 @@ impl From<Failed> for ReadError {
     }
 }
 
+/// Where a program's bytes come from.
 pub trait Source {
     /// The bytes that reads will give from here on, where they are told.
     ghost left: { Self → Option (List ℕ) };
@@ -48,6 +52,7 @@ pub trait Source {
         ensures bytes { ReadConsumes (left self.old) (left self.new) result buf.new }
         ensures cause { HasCause (fault_count self.old) (fault_count self.new) result };
 
+    /// How often a read has failed, at most 2^64 - 1.
     fn faults(&self) -> u64
         ensures { result ≡ fault_count self.now };
 }

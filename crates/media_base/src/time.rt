@@ -198,6 +198,7 @@ impl Duration {
         (self.nanos % 1_000_000_000) as u32
     }
 
+    /// Whether it is no time.
     pub fn is_zero(self) -> bool
         ensures { result ≡ (self == 0) }
     {
