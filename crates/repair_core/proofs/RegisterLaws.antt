@@ -20,7 +20,7 @@ accepts_number_is r [] n h = rw h.1.0 refl
 accepts_number_is r (x ∷ xs) n h = kept_is r x n (x ∷ xs) h.1
 
 -- two numbers at most 100 apart have different slots
-apart : (k n : ℕ) → k ≢ n → k ≤ n + 100 → n ≤ k + 100 → k % 101 ≢ n % 101
+pub apart : (k n : ℕ) → k ≢ n → k ≤ n + 100 → n ≤ k + 100 → k % 101 ≢ n % 101
 apart k n ne a b e = absurd (omega arith)
 
 put_in : List Slot → ℕ → List Slot
@@ -51,11 +51,11 @@ holds_put slots k n old long a b h =
     (λ (ne : k ≢ n). holds_far slots k n (apart k n ne a b) ∙ h ∙ grind (arith, nat_tests))
     (cases_eq k n)
 
-any_push : (k n : ℕ) (l : List ℕ) → list_any (nat_eq k) (l ++ n ∷ []) ≡ (list_any (nat_eq k) l || nat_eq k n)
+pub any_push : (k n : ℕ) (l : List ℕ) → list_any (nat_eq k) (l ++ n ∷ []) ≡ (list_any (nat_eq k) l || nat_eq k n)
 any_push k n [] = grind arith
 any_push k n (x ∷ xs) = grind (arith, any_push k n xs)
 
-greatest-push : (l : List ℕ) (n : ℕ) → greatest (l ++ n ∷ []) ≡ max (greatest l) n
+pub greatest-push : (l : List ℕ) (n : ℕ) → greatest (l ++ n ∷ []) ≡ max (greatest l) n
 greatest-push [] n = omega arith
 greatest-push (x ∷ xs) n = omega (arith, greatest-push xs n)
 
@@ -64,7 +64,7 @@ none_above k [] h = refl
 none_above k (x ∷ xs) h = grind (arith, nat_tests, none_above k xs (omega arith))
 
 -- a number at most 100 below the greatest, or above it, is in its slot exactly where it was taken
-kept_at : (r : RegisterState) (x : ℕ) (l : List ℕ) → Keeps r x l → (k : ℕ) → greatest l ≤ k + 100 → holds r.slots k ≡ list_any (nat_eq k) l
+pub kept_at : (r : RegisterState) (x : ℕ) (l : List ℕ) → Keeps r x l → (k : ℕ) → greatest l ≤ k + 100 → holds r.slots k ≡ list_any (nat_eq k) l
 kept_at r x l h k b =
     ⊎_elim (λ (lt : greatest l < k). h.below k lt ∙ sym (none_above k l lt)) (λ (le : k ≤ greatest l). h.window k le b) (cases_lt (greatest l) k)
 
@@ -93,7 +93,7 @@ put_more r x n l long near h = record {
   below = λ k a. holds_none r.slots k n long (omega (arith, greatest-push l n)) (h.below k (omega (arith, greatest-push l n)));
 }
 
-fresh_near : (x n : ℕ) (l : List ℕ) → is_fresh (x ∷ l) n ≡ true → greatest (x ∷ l) ≤ n + 100
+pub fresh_near : (x n : ℕ) (l : List ℕ) → is_fresh (x ∷ l) n ≡ true → greatest (x ∷ l) ≤ n + 100
 fresh_near x n l f = grind (arith, nat_tests)
 
 pub put_number_is : (r : RegisterState) (l : List ℕ) (n : ℕ) → StandsFor r l → is_fresh l n ≡ true → StandsFor (put_number r n) (with_number l n)
@@ -105,7 +105,7 @@ put_number_is r (x ∷ xs) n h f =
 blank : (m k : ℕ) → k % 101 < m → holds (replicate m no_slot) k ≡ false
 blank m k h = rw (get_or-replicate m (k % 101) no_slot no_slot h) refl
 
-blank_stands : (r : RegisterState) → r.started ≡ false → r.slots ≡ replicate 101 no_slot → StandsFor r []
+pub blank_stands : (r : RegisterState) → r.started ≡ false → r.slots ≡ replicate 101 no_slot → StandsFor r []
 unfolding StandsFor
 blank_stands r e s = (rw s refl, (e, λ k. rw s (blank 101 k (omega arith))))
 

@@ -1,4 +1,9 @@
+pub mod Entries
+pub mod EvictingBuffer
 pub mod Fresh
 pub mod NackRegister
+pub mod ResendStore
+pub mod Ring
+pub mod Rounds
 pub mod Slots
 pub mod RegisterState

@@ -1,8 +1,9 @@
 -- What a register stands for.
-use Rattle.std.specs.Prelude.{◌≡◌, ℕ, ◌+◌, ◌%◌, ◌<◌, ◌≤◌, Bool, true, false, not, ◌&&◌, ◌||◌, nat_eq, nat_lt, nat_le, max, if◌then◌else◌, slice_set, length, List, [], ◌∷◌, Option, Some, None}
+use Rattle.std.specs.Prelude.{◌≡◌, ℕ, ◌+◌, ◌-◌, ◌%◌, ◌<◌, ◌≤◌, Bool, true, false, not, ◌&&◌, ◌||◌, nat_eq, nat_lt, nat_le, max, if◌then◌else◌, slice_set, length, List, [], ◌∷◌, Option, Some, None}
 use Rattle.std.specs.List.{list_any}
 use Rattle.repair_core.specs.Fresh.{greatest}
-use Rattle.repair_core.specs.Slots.{holds, taken_slot}
+use Rattle.repair_core.specs.Slots.{holds, taken_slot, known, asks_at, ask_all, due_in, slot_needs}
+use Rattle.repair_core.specs.Rounds.{Heard, taken, asked, numbers_up}
 use Rattle.repair_core.specs.RegisterState.{RegisterState}
 
 -- of a list that is not empty the register keeps its first and its greatest, and which of the last 101 numbers are in it;
@@ -40,3 +41,21 @@ started r (Some n) = put_number r n
 
 abbrev pub kept_greatest : RegisterState → Option ℕ
 kept_greatest r = if r.started then Some r.greatest else None
+
+-- the register was told this
+pub record Remembers (r : RegisterState) (past : Heard) : Type 0 where
+  pub stands : StandsFor r (taken past)
+  pub asks : (k : ℕ) → list_any (nat_eq k) (taken past) ≡ false → greatest (taken past) ≤ k + 100 → asks_at r.slots k ≡ asked past k
+
+-- the numbers that are looked at in a round
+abbrev pub window_of : RegisterState → List ℕ
+window_of r = let low = max r.first (r.greatest - 100) in numbers_up (r.greatest - low) low
+
+abbrev pub with_round : RegisterState → ℕ → ℕ → RegisterState
+with_round r now wait = if r.started then record r { slots = ask_all now wait r.slots (window_of r) } else r
+
+abbrev pub round_due : RegisterState → ℕ → ℕ → List ℕ
+round_due r now wait = if r.started then due_in now wait r.slots (window_of r) else []
+
+abbrev pub needs_any : RegisterState → Bool
+needs_any r = r.started && list_any (λ k. slot_needs (known r.slots k)) (window_of r)

@@ -1,5 +1,6 @@
 -- What a register knows of the numbers in its window.
-use Rattle.std.specs.Prelude.{ℕ, ◌%◌, Bool, true, false, ◌&&◌, ◌==◌, List, slice_index_or}
+use Rattle.std.specs.Prelude.{ℕ, ◌+◌, ◌%◌, Bool, true, false, not, ◌&&◌, ◌==◌, nat_lt, if◌then◌else◌, List, [], ◌∷◌, slice_index_or, slice_set}
+use Rattle.repair_core.specs.Rounds.{may_ask}
 use Rattle.repair_core.specs.declared.slots.Slot.{Slot}
 
 abbrev pub no_slot : Slot
@@ -12,3 +13,42 @@ taken_slot n = record { number = n; taken = true; asks = 0; last = 0 }
 -- the number was taken, as far as its slot tells
 abbrev pub holds : List Slot → ℕ → Bool
 holds slots k = let slot = slice_index_or slots (k % 101) no_slot in slot.taken && (slot.number == k)
+
+-- a number of which nothing is known
+abbrev pub untouched : ℕ → Slot
+untouched k = record { number = k; taken = false; asks = 0; last = 0 }
+
+-- what is known of a number
+abbrev pub known_in : Slot → ℕ → Slot
+known_in s k = if s.number == k then s else untouched k
+
+abbrev pub known : List Slot → ℕ → Slot
+known slots k = known_in (slice_index_or slots (k % 101) no_slot) k
+
+-- how often a number was asked for, and when last
+abbrev pub asks_at : List Slot → ℕ → ℕ × ℕ
+asks_at slots k = ((known slots k).asks, (known slots k).last)
+
+-- it is to be asked for
+abbrev pub slot_due : Slot → ℕ → ℕ → Bool
+slot_due s now wait = not s.taken && may_ask (s.asks, s.last) now wait
+
+abbrev pub asked_slot : Slot → ℕ → ℕ → Slot
+asked_slot s k now = record { number = k; taken = false; asks = s.asks + 1; last = now }
+
+-- the slots after a number was asked for, if it was to be
+abbrev pub ask : ℕ → ℕ → List Slot → ℕ → List Slot
+ask now wait slots k = if slot_due (known slots k) now wait then slice_set slots (k % 101) (asked_slot (known slots k) k now) else slots
+
+-- the slots after these numbers, one after another
+abbrev pub ask_all : ℕ → ℕ → List Slot → List ℕ → List Slot
+ask_all now wait slots [] = slots
+ask_all now wait slots (k ∷ ks) = ask_all now wait (ask now wait slots k) ks
+
+-- those of the numbers that are asked for then
+abbrev pub due_in : ℕ → ℕ → List Slot → List ℕ → List ℕ
+due_in now wait slots [] = []
+due_in now wait slots (k ∷ ks) = if slot_due (known slots k) now wait then k ∷ due_in now wait (ask now wait slots k) ks else due_in now wait (ask now wait slots k) ks
+
+abbrev pub slot_needs : Slot → Bool
+slot_needs s = not s.taken && nat_lt s.asks 5

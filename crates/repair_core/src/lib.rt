@@ -1,8 +1,14 @@
-//! What repair stands on: the register of received numbers, which tells what is missing and when
-//! to ask for it (RFC 4585 section 6.2.1).
+//! What repair stands on: the register of received numbers, which tells what is missing (RFC 4585
+//! section 6.2.1), and the buffer of sent packets, from which they are resent (RFC 4588).
 #![tactic(auto)]
 
+mod gap_window;
+mod missing;
 mod register_nack;
+mod ring;
+mod rtx_cache_buf;
 mod slots;
 
+pub use gap_window::GapWindow;
 pub use register_nack::NackRegister;
+pub use rtx_cache_buf::EvictingBuffer;

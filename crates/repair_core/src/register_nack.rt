@@ -1,11 +1,15 @@
-ghost use Rattle.std.specs.Prelude.{◌≡◌, ℕ, ◌+◌, ◌<◌, ◌≤◌, ◌^◌, List, [], ◌∷◌, ◌++◌, IfOk, IfSome, Bool, Option};
+ghost use Rattle.std.specs.Prelude.{◌≡◌, ℕ, ◌+◌, ◌<◌, ◌≤◌, ◌^◌, List, [], ◌∷◌, ◌++◌, IfOk, IfSome, Bool, Option, None, length};
 ghost use Rattle.std.specs.Option.{ForSome};
-ghost use Rattle.std.specs.Bool.{OnFalse};
+ghost use Rattle.std.specs.Bool.{OnFalse, OnTrue};
 ghost use Rattle.repair_core.specs.Fresh.{is_fresh, with_number, greatest_of, started_from};
-ghost use Rattle.repair_core.specs.Slots.{holds};
+ghost use Rattle.repair_core.specs.Slots.{holds, known, slot_due, slot_needs, ask};
+ghost use Rattle.repair_core.specs.Rounds.{Heard, started_at, came, round, due, is_pending, wait_of};
+ghost use Rattle.repair_core.specs.Entries.{packed};
 
+use crate::missing::{Missing, pack};
 use crate::slots::{Slot, Slots};
-use media_base::Instant;
+use media_base::{Duration, Instant};
+use rtcp_wire::{NackEntry, ReportList};
 use rtp_wire::SeqNo;
 use std::alloc::{AllocError, Global};
 use std::marker::Model;
@@ -32,14 +36,15 @@ impl Model for NackRegister {
 }
 
 impl NackRegister {
-    ghost use Rattle.repair_core.specs.NackRegister.{StandsFor, accepts_number, put_number, started};
+    ghost use Rattle.repair_core.specs.NackRegister.{StandsFor, accepts_number, put_number, started, Remembers, with_round, round_due, needs_any};
 
     /// A register that took nothing, or that took this number alone: it then accepts nothing up to
     /// it. Numbers are below 2^48.
-    #[tactic(auto, using(crate::proofs::RegisterLaws::started_stands))]
+    #[tactic(auto, using(crate::proofs::RegisterLaws::started_stands, crate::proofs::RoundLaws::began))]
     pub fn new(alloc: Global, max_seq_no: Option<SeqNo>) -> Result<Self, AllocError>
         requires { ForSome max_seq_no (λ n. n < 2 ^ 48) }
-        ensures { IfOk result (λ r. StandsFor r (started_from max_seq_no)) }
+        ensures stands { IfOk result (λ r. StandsFor r (started_from max_seq_no)) }
+        ensures remembers { IfOk result (λ r. Remembers r (started_at max_seq_no)) }
     {
         let slots = Slots::new(alloc)?;
         let mut register = NackRegister {
@@ -53,10 +58,11 @@ impl NackRegister {
     }
 
     /// Makes it as a new one, in the room that it has.
-    #[tactic(auto, using(crate::proofs::RegisterLaws::started_stands))]
+    #[tactic(auto, using(crate::proofs::RegisterLaws::started_stands, crate::proofs::RoundLaws::began))]
     pub fn clear(&mut self, max_seq_no: Option<SeqNo>)
         requires { ForSome max_seq_no (λ n. n < 2 ^ 48) }
-        ensures { StandsFor self.new (started_from max_seq_no) }
+        ensures stands { StandsFor self.new (started_from max_seq_no) }
+        ensures remembers { Remembers self.new (started_at max_seq_no) }
     {
         self.started = false;
         self.first = 0;
@@ -130,6 +136,7 @@ impl NackRegister {
         requires { seq < 2 ^ 48 }
         ensures fresh { (l : List ℕ) → StandsFor self.old l → result ≡ is_fresh l seq }
         ensures taken { (l : List ℕ) → StandsFor self.old l → StandsFor self.new (with_number l seq) }
+        ensures remembers { (past : Heard) → Remembers self.old past → Remembers self.new (came past seq) }
         ensures refused { OnFalse result (self.new ≡ self.old) }
     {
         let fresh = self.accepts(seq);
@@ -150,6 +157,137 @@ impl NackRegister {
         } else {
             None
         }
+    }
+
+    /// Asks for the missing numbers that are due: those asked for fewer than five times, and last
+    /// at least the round trip and 5 ms ago, where 100 ms stand for an unknown trip. Their entries,
+    /// at most six, are put behind those of the list (RFC 4585 section 6.2.1).
+    pub fn nack_reports(
+        &mut self,
+        now: Instant,
+        trip: Option<Duration>,
+        reports: &mut ReportList<NackEntry>,
+    )
+        requires { length reports.old ≤ 25 }
+        ensures asked { (past : Heard) → Remembers self.old past → Remembers self.new (round past now (wait_of trip)) }
+        ensures entries { (past : Heard) → Remembers self.old past → reports.new ≡ reports.old ++ packed None (due past now (wait_of trip)) }
+    {
+        self.round(now, wait(trip), reports);
+    }
+
+    /// Whether some missing number was asked for fewer than five times.
+    #[tactic(auto, using(crate::proofs::RoundLaws::pending_is))]
+    pub fn has_pending_nacks(&self) -> bool
+        ensures { (past : Heard) → Remembers self.now past → result ≡ is_pending past }
+    {
+        self.needs_any()
+    }
+
+    #[tactic(auto, using(crate::proofs::RoundLaws::any_found))]
+    fn needs_any(&self) -> bool
+        ensures { result ≡ needs_any self.now }
+    {
+        if !self.started {
+            return false;
+        }
+        let low = self.first.max(self.greatest.saturating_sub(100));
+        let greatest = self.greatest;
+        for number in low..greatest {
+            if self.needs(number) {
+                return true;
+            }
+        }
+        false
+    }
+
+    fn needs(&self, number: u64) -> bool
+        ensures { result ≡ slot_needs (known self.now.slots number) }
+    {
+        let slot = self.known(number);
+        !slot.taken && slot.asks < 5
+    }
+
+    fn known(&self, number: u64) -> Slot
+        ensures { result ≡ known self.now.slots number }
+    {
+        let slot = self.slots.at(number);
+        if slot.number == number {
+            slot
+        } else {
+            Slot {
+                number,
+                taken: false,
+                asks: 0,
+                last: Instant::from_nanos(0),
+            }
+        }
+    }
+
+    /// Marks a number as asked for, if it is to be, and tells whether it is.
+    fn ask(&mut self, number: u64, now: Instant, wait: Duration) -> bool
+        ensures slots { self.new ≡ record self.old { slots = ask now wait self.old.slots number } }
+        ensures due { result ≡ slot_due (known self.old.slots number) now wait }
+    {
+        let slot = self.known(number);
+        let asks = slot.asks;
+        let due = is_due(slot, now, wait);
+        if due {
+            let slot = Slot {
+                number,
+                taken: false,
+                asks: asks + 1,
+                last: now,
+            };
+            self.slots.put(number, slot);
+        }
+        due
+    }
+
+    fn round(&mut self, now: Instant, wait: Duration, reports: &mut ReportList<NackEntry>)
+        requires { length reports.old ≤ 25 }
+        ensures asked { self.new ≡ with_round self.old now wait }
+        ensures entries { reports.new ≡ reports.old ++ packed None (round_due self.old now wait) }
+    {
+        if !self.started {
+            return;
+        }
+        let low = self.first.max(self.greatest.saturating_sub(100));
+        let mut begun: Option<Missing> = None;
+        for number in low..self.greatest {
+            if self.ask(number, now, wait) {
+                begun = Some(pack(begun, number, reports));
+            }
+        }
+        if let Some(missing) = begun {
+            reports.push(missing.entry());
+        }
+    }
+}
+
+/// How long a number is not asked for again.
+fn wait(trip: Option<Duration>) -> Duration
+    ensures { result ≡ wait_of trip }
+{
+    let trip = match trip {
+        Some(trip) => trip,
+        None => Duration::from_nanos(100_000_000),
+    };
+    trip.saturating_add(Duration::from_nanos(5_000_000))
+}
+
+fn is_due(slot: Slot, now: Instant, wait: Duration) -> bool
+    ensures value { result ≡ slot_due slot now wait }
+    ensures few { OnTrue result (slot.asks < 5) }
+{
+    if slot.taken || slot.asks >= 5 {
+        return false;
+    }
+    if slot.asks == 0 {
+        return true;
+    }
+    match now.as_nanos().checked_sub(slot.last.as_nanos()) {
+        Some(passed) => wait.as_nanos() <= passed,
+        None => false,
     }
 }
 
@@ -176,6 +314,44 @@ mod tests {
         assert!(rt; !register.accepts(SeqNo::from(7)));
         assert!(rt; !register.accepts(SeqNo::from(6)));
         assert!(rt; register.accepts(SeqNo::from(8)));
+        Ok(())
+    }
+
+    // Five rounds ask for 11, and later ones for nothing.
+    #[test]
+    fn five_asks(rt: HostRuntime) -> Result<(), Fail> {
+        let mut register = NackRegister::new(rt.alloc(), None)?;
+        assert!(rt; register.update(SeqNo::from(10)));
+        assert!(rt; register.update(SeqNo::from(12)));
+        for round in 0..7u64 {
+            let mut reports = ReportList::new();
+            register.nack_reports(Instant::from_nanos(round * 105_000_000), None, &mut reports);
+            if round < 5 {
+                assert_eq!(rt;
+                    reports.as_slice(),
+                    [NackEntry { pid: 11, blp: 0 }].as_slice()
+                );
+            } else {
+                assert!(rt; reports.is_empty());
+            }
+        }
+        Ok(())
+    }
+
+    // An entry names a number and which of the next 16 are missing too, modulo 65,536.
+    #[test]
+    fn entries_pack(rt: HostRuntime) -> Result<(), Fail> {
+        let mut register = NackRegister::new(rt.alloc(), Some(SeqNo::from(65_535)))?;
+        assert!(rt; register.update(SeqNo::from(65_538)));
+        assert!(rt; register.update(SeqNo::from(65_560)));
+        let mut reports = ReportList::new();
+        register.nack_reports(Instant::from_nanos(1_000_000), None, &mut reports);
+        let entries = reports.as_slice();
+        assert_eq!(rt; entries.len(), 2);
+        assert_eq!(rt; entries[0].pid, 0);
+        assert_eq!(rt; entries[0].blp, 0xfffd);
+        assert_eq!(rt; entries[1].pid, 17);
+        assert_eq!(rt; entries[1].blp, 0x3f);
         Ok(())
     }
 }

@@ -1,3 +1,6 @@
 pub mod Rows
 pub mod Reading
 pub mod Writing
+pub mod Rates
+pub mod Blocks
+pub mod ReadBack

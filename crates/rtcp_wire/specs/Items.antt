@@ -1,12 +1,14 @@
 -- The items that a datagram holds (RFC 3550 section 6.1, RFC 5506).
-use Rattle.std.specs.Prelude.{ℕ, zero, suc, ◌+◌, ◌/◌, ◌==◌, ◌&&◌, List, [], ◌∷◌, ◌++◌, length, Option, Some, None, if◌then◌else◌}
+use Rattle.std.specs.Prelude.{ℕ, Bool, true, false, zero, suc, ◌+◌, ◌/◌, ◌==◌, ◌&&◌, List, [], ◌∷◌, ◌++◌, length, Option, Some, None, if◌then◌else◌}
 use Rattle.std.specs.Option.{option_map, option_map_or}
 use Rattle.rtcp_wire.specs.declared.packet.Rtcp.{Rtcp}
-use Rattle.rtcp_wire.specs.declared.packet.Rtcp.TheVariants.{SenderReport, ReceiverReport, Goodbye, Nack, Pli, Fir, AppSpecificFeedback}
+use Rattle.rtcp_wire.specs.declared.packet.Rtcp.TheVariants.{SenderReport, ReceiverReport, Goodbye, ExtendedReport, Nack, Pli, Fir, Remb, AppSpecificFeedback}
 use Rattle.rtcp_wire.specs.declared.packet.Reading.{Reading}
 use Rattle.rtcp_wire.specs.declared.packet.Reading.TheVariants.{Item, PassedOver, TooShort}
 use Rattle.rtcp_wire.specs.Frame.{Frame, frame_at}
 use Rattle.rtcp_wire.specs.Reports.{sender_report_of, receiver_report_of, goodbye_of}
+use Rattle.rtcp_wire.specs.Remb.{is_remb, remb_of}
+use Rattle.rtcp_wire.specs.Extended.{extended_report_of}
 use Rattle.rtcp_wire.specs.Feedback.{nack_of, pli_of, fir_of, app_feedback_of}
 
 -- an item, unless its bytes are too short for its fields
@@ -23,12 +25,17 @@ transport_feedback_of format body =
     if format == 1 then item_or_short Nack (nack_of body)
     else PassedOver
 
+-- application feedback, which is a REMB where its words begin with that name
+abbrev pub application_of : Bool → List ℕ → Reading
+application_of true body = item_or_short Remb (remb_of body)
+application_of false body = item_or_short AppSpecificFeedback (app_feedback_of body)
+
 -- payload specific feedback, by its format (RFC 4585 section 6.3)
 unfoldable pub payload_feedback_of : ℕ → List ℕ → Reading
 payload_feedback_of format body =
     if format == 1 then item_or_short Pli (pli_of body)
     else (if format == 4 then item_or_short Fir (fir_of body)
-    else (if format == 15 then item_or_short AppSpecificFeedback (app_feedback_of body)
+    else (if format == 15 then application_of (is_remb body) body
     else PassedOver))
 
 -- what an item says, by its type (RFC 3550 section 12.1): unknown types and formats are passed over
@@ -39,7 +46,8 @@ reading_of kind count body =
     else (if kind == 203 then item_or_short Goodbye (goodbye_of count body)
     else (if kind == 205 then transport_feedback_of count body
     else (if kind == 206 then payload_feedback_of count body
-    else PassedOver))))
+    else (if kind == 207 then item_or_short ExtendedReport (extended_report_of body)
+    else PassedOver)))))
 
 -- what an item adds, and what follows it; reading stops at an item that is too short for its fields
 abbrev pub with_rest : List ℕ → Reading → Option (List Rtcp × List ℕ)

@@ -3,5 +3,9 @@ pub mod Rows
 pub mod Frame
 pub mod Reports
 pub mod Feedback
+pub mod Remb
+pub mod Named
+pub mod Extended
 pub mod Items
 pub mod Texts
+pub mod Laws

@@ -3,8 +3,10 @@ use Rattle.std.specs.Prelude.{◌≡◌, ℕ, ℤ, pos, zero, suc, ◌+◌, ◌-
 use Rattle.std.specs.List.{AllByRecursion}
 use Rattle.std.specs.Int.{w16, to_be_bytes}
 use Rattle.rtcp_wire.specs.declared.packet.Rtcp.{Rtcp}
-use Rattle.rtcp_wire.specs.declared.packet.Rtcp.TheVariants.{SenderReport, ReceiverReport, Goodbye, Nack, Pli, Fir, AppSpecificFeedback}
+use Rattle.rtcp_wire.specs.declared.packet.Rtcp.TheVariants.{SenderReport, ReceiverReport, Goodbye, ExtendedReport, Nack, Pli, Fir, Remb, AppSpecificFeedback}
 use Rattle.rtcp_wire.specs.Reports.{sender_report_body, receiver_report_body, goodbye_body}
+use Rattle.rtcp_wire.specs.Remb.{remb_body}
+use Rattle.rtcp_wire.specs.Extended.{extended_report_body}
 use Rattle.rtcp_wire.specs.Feedback.{nack_body, pli_body, fir_body, app_feedback_body}
 
 -- the packet type (RFC 3550 section 12.1, RFC 4585 section 6.1)
@@ -12,9 +14,11 @@ abbrev pub kind_of : Rtcp → ℕ
 kind_of (SenderReport r) = 200
 kind_of (ReceiverReport r) = 201
 kind_of (Goodbye g) = 203
+kind_of (ExtendedReport r) = 207
 kind_of (Nack n) = 205
 kind_of (Pli p) = 206
 kind_of (Fir f) = 206
+kind_of (Remb r) = 206
 kind_of (AppSpecificFeedback f) = 206
 
 -- the count, or the format of feedback
@@ -22,9 +26,11 @@ abbrev pub count_of : Rtcp → ℕ
 count_of (SenderReport r) = length r.reports
 count_of (ReceiverReport r) = length r.reports
 count_of (Goodbye g) = length g.reports
+count_of (ExtendedReport r) = 0
 count_of (Nack n) = 1
 count_of (Pli p) = 1
 count_of (Fir f) = 4
+count_of (Remb r) = 15
 count_of (AppSpecificFeedback f) = 15
 
 -- the bytes after the header
@@ -32,9 +38,11 @@ abbrev pub body_of : Rtcp → List ℕ
 body_of (SenderReport r) = sender_report_body r
 body_of (ReceiverReport r) = receiver_report_body r
 body_of (Goodbye g) = goodbye_body g
+body_of (ExtendedReport r) = extended_report_body r
 body_of (Nack n) = nack_body n
 body_of (Pli p) = pli_body p
 body_of (Fir f) = fir_body f
+body_of (Remb r) = remb_body r
 body_of (AppSpecificFeedback f) = app_feedback_body f
 
 -- an item in bytes: version 2 and the count, the type, the length in words less one, the body
@@ -44,8 +52,14 @@ framed count kind body = (128 + count) ∷ kind ∷ to_be_bytes w16 (length body
 unfoldable pub text_of : Rtcp → List ℕ
 text_of x = framed (count_of x) (kind_of x) (body_of x)
 
+-- the count of SSRCs of a REMB has 8 bits
+abbrev pub CountFits : Rtcp → Type 0
+CountFits (Remb r) = length r.ssrcs ≤ 255
+CountFits _ = Unit {0}
+
 -- counts and lengths fit their fields, and the body has whole words
 pub record IsWritable (x : Rtcp) : Type 0 where
+  pub inner : CountFits x
   pub count : count_of x ≤ 31
   pub size : length (body_of x) < 2 ^ 18
   pub whole : length (body_of x) % 4 ≡ 0

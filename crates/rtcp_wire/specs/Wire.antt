@@ -1,5 +1,5 @@
 -- Fields in bytes, the high byte first (RFC 3550 section 4).
-use Rattle.std.specs.Prelude.{◌≡◌, ℕ, zero, suc, ◌+◌, ◌<◌, ◌≤◌, List, [], ◌∷◌, ◌++◌, length, take, drop, slice_index, Option, Some, None}
+use Rattle.std.specs.Prelude.{◌≡◌, ℕ, zero, suc, ◌+◌, ◌<◌, ◌≤◌, List, [], ◌∷◌, ◌++◌, length, take, drop, slice_index, Option, Some, None, Bool, true, false}
 use Rattle.std.specs.Int.{w16, w32, w64, from_be_bytes, to_be_bytes}
 use Rattle.std.specs.List.{flat_map}
 
@@ -26,3 +26,8 @@ rows_of row size (suc n) bytes = row bytes ∷ rows_of row size n (drop size byt
 abbrev pub Puts : List ℕ → ℕ → List ℕ → List ℕ → Option ℕ → Type 0
 Puts old at text new None = length old < at + length text
 Puts old at text new (Some end) = (end ≡ at + length text) × (take end new ≡ take at old ++ text) × (end ≤ length new)
+
+-- the value, where there is one
+abbrev pub some_if : {T : Type 0} → Bool → T → Option T
+some_if true x = Some x
+some_if false x = None

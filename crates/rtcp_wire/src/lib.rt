@@ -2,21 +2,27 @@
 //! RFC 5104 section 4.3.1, RFC 3611 section 4), read from a datagram and written into one.
 #![tactic(auto)]
 
+mod extended;
 mod feedback;
 mod frame;
+mod laws;
 mod list;
 mod nack;
 mod packet;
+mod remb;
 mod report;
 mod request;
 mod row;
 mod source;
 mod wire;
 
+pub use extended::{Dlrr, DlrrItem, ExtendedReport, ReportBlock, Rrtr};
 pub use feedback::AppSpecificFeedback;
+pub use laws::frames_read_back;
 pub use list::ReportList;
 pub use nack::{Nack, NackEntry};
 pub use packet::Rtcp;
+pub use remb::Remb;
 pub use report::{ReceiverReport, ReceptionReport, SenderInfo, SenderReport};
 pub use request::{Fir, FirEntry, Pli};
 pub use source::Goodbye;

@@ -4,9 +4,11 @@ ghost use Rattle.std.specs.Option.{option_map};
 ghost use Rattle.std.specs.List.{flat_map, AllByRecursion};
 ghost use Rattle.rtcp_wire.specs.Items.{reading_or_short};
 
+use crate::extended::{ExtendedReport, read_extended_report, write_extended_report};
 use crate::feedback::{AppSpecificFeedback, read_app_feedback, write_app_feedback};
 use crate::frame::{Frame, first_frame};
 use crate::nack::{Nack, read_nack, write_nack};
+use crate::remb::{Remb, is_named_remb, read_remb, write_remb};
 use crate::report::{
     ReceiverReport, SenderReport, read_receiver_report, read_sender_report, write_receiver_report,
     write_sender_report,
@@ -22,9 +24,11 @@ pub enum Rtcp {
     SenderReport(SenderReport),
     ReceiverReport(ReceiverReport),
     Goodbye(Goodbye),
+    ExtendedReport(ExtendedReport),
     Nack(Nack),
     Pli(Pli),
     Fir(Fir),
+    Remb(Remb),
     AppSpecificFeedback(AppSpecificFeedback),
 }
 
@@ -47,9 +51,10 @@ fn item_or_short(item: Option<Rtcp>) -> Reading
 }
 
 impl Rtcp {
-    ghost use Rattle.rtcp_wire.specs.Items.{reading_of, transport_feedback_of, payload_feedback_of, item_at, added_of, rest_of, items_of, items_within};
-    ghost use Rattle.rtcp_wire.specs.Texts.{IsWritable, text_of, body_of, count_of, kind_of, fitting};
+    ghost use Rattle.rtcp_wire.specs.Items.{reading_of, transport_feedback_of, payload_feedback_of, application_of, item_at, added_of, rest_of, items_of, items_within};
+    ghost use Rattle.rtcp_wire.specs.Texts.{IsWritable, CountFits, text_of, body_of, count_of, kind_of, fitting};
     ghost use Rattle.rtcp_wire.specs.Wire.{Puts};
+    ghost use Rattle.rtcp_wire.specs.Remb.{is_remb};
 
     /// Reads the items of a datagram, in order, and adds them to a list. Reading stops at an item whose
     /// version is not 2, whose length runs past the end or that is too short for its fields; unknown
@@ -109,6 +114,7 @@ impl Rtcp {
             203 => Ok(item_or_short(read_goodbye(count, body).map(Rtcp::Goodbye))),
             205 => Ok(Rtcp::read_transport_feedback(count, body)),
             206 => Rtcp::read_payload_feedback(alloc, count, body),
+            207 => Ok(item_or_short(read_extended_report(alloc, body)?.map(Rtcp::ExtendedReport))),
             _ => Ok(Reading::PassedOver),
         }
     }
@@ -130,8 +136,18 @@ impl Rtcp {
         match format {
             1 => Ok(item_or_short(read_pli(body).map(Rtcp::Pli))),
             4 => Ok(item_or_short(read_fir(body).map(Rtcp::Fir))),
-            15 => Ok(item_or_short(read_app_feedback(alloc, body)?.map(Rtcp::AppSpecificFeedback))),
+            15 => Rtcp::read_application(alloc, body),
             _ => Ok(Reading::PassedOver),
+        }
+    }
+
+    fn read_application(alloc: Global, body: &[u8]) -> Result<Reading, AllocError>
+        ensures { IfOk result (λ r. r ≡ application_of (is_remb body.now) body.now) }
+    {
+        if is_named_remb(body) {
+            Ok(item_or_short(read_remb(alloc, body)?.map(Rtcp::Remb)))
+        } else {
+            Ok(item_or_short(read_app_feedback(alloc, body)?.map(Rtcp::AppSpecificFeedback)))
         }
     }
 
@@ -141,6 +157,7 @@ impl Rtcp {
         requires { AllByRecursion IsWritable items.old.items }
         ensures count { result ≡ length (flat_map text_of (take (fitting (length out.old) items.old.items) items.old.items)) }
         ensures bytes { take result out.new ≡ flat_map text_of (take (fitting (length out.old) items.old.items) items.old.items) }
+        ensures within { result ≤ length out.old }
         ensures left { items.new.items ≡ drop (fitting (length out.old) items.old.items) items.old.items }
     {
         let mut at = 0;
@@ -176,15 +193,18 @@ impl Rtcp {
     }
 
     fn write_body(&self, out: &mut [u8]) -> Option<usize>
+        requires { CountFits self.now }
         ensures { Puts out.old 0 (body_of self.now) out.new result }
     {
         match self {
             Rtcp::SenderReport(report) => write_sender_report(report, out),
             Rtcp::ReceiverReport(report) => write_receiver_report(report, out),
             Rtcp::Goodbye(goodbye) => write_goodbye(goodbye, out),
+            Rtcp::ExtendedReport(report) => write_extended_report(report, out),
             Rtcp::Nack(nack) => write_nack(nack, out),
             Rtcp::Pli(pli) => write_pli(pli, out),
             Rtcp::Fir(fir) => write_fir(fir, out),
+            Rtcp::Remb(remb) => write_remb(remb, out),
             Rtcp::AppSpecificFeedback(feedback) => write_app_feedback(feedback, out),
         }
     }
@@ -196,8 +216,10 @@ impl Rtcp {
             Rtcp::SenderReport(_) => 200,
             Rtcp::ReceiverReport(_) => 201,
             Rtcp::Goodbye(_) => 203,
+            Rtcp::ExtendedReport(_) => 207,
             Rtcp::Nack(_) => 205,
-            Rtcp::Pli(_) | Rtcp::Fir(_) | Rtcp::AppSpecificFeedback(_) => 206,
+            Rtcp::Pli(_) | Rtcp::Fir(_) | Rtcp::Remb(_) => 206,
+            Rtcp::AppSpecificFeedback(_) => 206,
         }
     }
 
@@ -209,9 +231,10 @@ impl Rtcp {
             Rtcp::SenderReport(report) => report.reports.len() as u8,
             Rtcp::ReceiverReport(report) => report.reports.len() as u8,
             Rtcp::Goodbye(goodbye) => goodbye.reports.len() as u8,
+            Rtcp::ExtendedReport(_) => 0,
             Rtcp::Nack(_) | Rtcp::Pli(_) => 1,
             Rtcp::Fir(_) => 4,
-            Rtcp::AppSpecificFeedback(_) => 15,
+            Rtcp::Remb(_) | Rtcp::AppSpecificFeedback(_) => 15,
         }
     }
 }

@@ -5,7 +5,7 @@ ghost use Rattle.rtcp_wire.specs.Wire.{Puts};
 ghost use Rattle.rtcp_wire.specs.Reports.{receiver_report_of, receiver_report_body, sender_info_at, sender_info_text, sender_report_of, sender_report_body};
 
 use crate::ReportList;
-use crate::row::{Row, read_rows, write_rows};
+use crate::row::{Put, Row, read_rows, write_rows};
 use crate::wire::{double, put, word};
 use media_base::{SystemTime, SystemTimeExt};
 use rtp_wire::Ssrc;
@@ -36,8 +36,6 @@ impl Row for ReceptionReport {
 
     ghost row_of = { report_at };
 
-    ghost text_of = { report_text };
-
     fn size() -> usize {
         24
     }
@@ -55,6 +53,12 @@ impl Row for ReceptionReport {
             last_sr_delay: word(bytes, 20),
         }
     }
+}
+
+impl Put for ReceptionReport {
+    ghost use Rattle.rtcp_wire.specs.Rows.{report_at, report_text};
+
+    ghost text_of = { report_text };
 
     #[tactic(auto, unfolding(crate::specs::Rows::report_text))]
     fn write(&self, out: &mut [u8], at: usize) -> Option<usize> {

@@ -4,7 +4,7 @@ ghost use Rattle.rtcp_wire.specs.Wire.{Puts};
 ghost use Rattle.rtcp_wire.specs.Feedback.{pli_of, pli_body, fir_of, fir_body};
 
 use crate::ReportList;
-use crate::row::{Row, read_rows, write_rows};
+use crate::row::{Put, Row, read_rows, write_rows};
 use crate::wire::{put, word};
 use rtp_wire::Ssrc;
 
@@ -59,8 +59,6 @@ impl Row for FirEntry {
 
     ghost row_of = { fir_entry_at };
 
-    ghost text_of = { fir_entry_text };
-
     fn size() -> usize {
         8
     }
@@ -72,6 +70,12 @@ impl Row for FirEntry {
             seq_no: bytes[4],
         }
     }
+}
+
+impl Put for FirEntry {
+    ghost use Rattle.rtcp_wire.specs.Rows.{fir_entry_at, fir_entry_text};
+
+    ghost text_of = { fir_entry_text };
 
     #[tactic(auto, unfolding(crate::specs::Rows::fir_entry_text))]
     fn write(&self, out: &mut [u8], at: usize) -> Option<usize> {

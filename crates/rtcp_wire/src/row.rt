@@ -7,6 +7,15 @@ use crate::{ReportList, wire};
 use media_base::Listed;
 use std::alloc::{AllocError, Global};
 
+// What is put in bytes.
+pub trait Put {
+    // The bytes of it.
+    ghost text_of: { Self → List ℕ };
+
+    fn write(&self, out: &mut [u8], at: usize) -> Option<usize>
+        ensures { Puts out.old at (text_of self.now) out.new result };
+}
+
 // Fields of a fixed length, of which an item has as many rows as it says.
 pub trait Row: Copy {
     // How many bytes a row has.
@@ -15,37 +24,18 @@ pub trait Row: Copy {
     // The row at the front of these bytes.
     ghost row_of: { List ℕ → Self };
 
-    // The bytes of a row.
-    ghost text_of: { Self → List ℕ };
-
     fn size() -> usize
         ensures { result ≡ size };
 
     fn read(bytes: &[u8]) -> Self
         requires { size ≤ length bytes.now }
         ensures { result ≡ row_of bytes.now };
-
-    fn write(&self, out: &mut [u8], at: usize) -> Option<usize>
-        ensures { Puts out.old at (text_of self.now) out.new result };
 }
 
-impl Row for u32 {
+impl Put for u32 {
     ghost use Rattle.std.specs.Int.{w32, to_be_bytes};
-    ghost use Rattle.rtcp_wire.specs.Wire.{word_at};
-
-    ghost size = { 4 };
-
-    ghost row_of = { λ bytes. word_at bytes 0 };
 
     ghost text_of = { to_be_bytes w32 };
-
-    fn size() -> usize {
-        4
-    }
-
-    fn read(bytes: &[u8]) -> Self {
-        wire::word(bytes, 0)
-    }
 
     fn write(&self, out: &mut [u8], at: usize) -> Option<usize> {
         wire::put(out, at, &self.to_be_bytes())
@@ -83,8 +73,8 @@ pub fn read_many<T: Row>(alloc: Global, bytes: &[u8], count: usize) -> Result<Li
     Ok(rows)
 }
 
-// Puts rows one after another, or says that there is no room for them.
-pub fn write_rows<T: Row>(rows: &[T], out: &mut [u8], at: usize) -> Option<usize>
+// Puts values one after another, or says that there is no room for them.
+pub fn write_rows<T: Put>(rows: &[T], out: &mut [u8], at: usize) -> Option<usize>
     ensures { Puts out.old at (flat_map T.text_of rows.now) out.new result }
 {
     if out.len() < at {

@@ -4,7 +4,7 @@ ghost use Rattle.rtcp_wire.specs.Wire.{Puts};
 ghost use Rattle.rtcp_wire.specs.Reports.{goodbye_of, goodbye_body};
 
 use crate::ReportList;
-use crate::row::{Row, read_rows, write_rows};
+use crate::row::{Put, Row, read_rows, write_rows};
 use crate::wire::{put, word};
 use rtp_wire::Ssrc;
 
@@ -16,8 +16,6 @@ impl Row for Ssrc {
 
     ghost row_of = { λ bytes. word_at bytes 0 };
 
-    ghost text_of = { to_be_bytes w32 };
-
     fn size() -> usize {
         4
     }
@@ -25,6 +23,13 @@ impl Row for Ssrc {
     fn read(bytes: &[u8]) -> Self {
         word(bytes, 0).into()
     }
+}
+
+impl Put for Ssrc {
+    ghost use Rattle.std.specs.Int.{w32, to_be_bytes};
+    ghost use Rattle.rtcp_wire.specs.Wire.{word_at};
+
+    ghost text_of = { to_be_bytes w32 };
 
     fn write(&self, out: &mut [u8], at: usize) -> Option<usize> {
         put(out, at, &u32::from(*self).to_be_bytes())

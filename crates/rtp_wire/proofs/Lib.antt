@@ -1,2 +1,4 @@
 pub mod Names
 pub mod Written
+pub mod Turns
+pub mod WindowLaws

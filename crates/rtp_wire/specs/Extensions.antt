@@ -1,8 +1,11 @@
 -- Header extensions (RFC 8285): which id names which value, and the values of a header.
-use Rattle.std.specs.Prelude.{ℕ, ◌==◌, Bool, false, Option, Some, None, List, [], ◌∷◌, map, replicate, slice_set, slice_index_or, position, if◌then◌else◌}
+use Rattle.std.specs.Prelude.{ℕ, zero, suc, ◌+◌, ◌*◌, ◌/◌, ◌%◌, ◌==◌, ℤ, pos, ◌-ℤ◌, nat_lt, Bool, false, ◌||◌, Option, Some, None, List, [], ◌∷◌, length, take, drop, map, replicate, slice_set, slice_index, slice_index_or, position, if◌then◌else◌}
+use Rattle.std.specs.Option.{option_or}
 use Rattle.rtp_wire.specs.declared.extension.Extension.{Extension}
 use Rattle.rtp_wire.specs.declared.extension.Extension.TheVariants.{AudioLevel, AbsoluteSendTime, TransportSequenceNumber, RtpMid, RtpStreamId, RepairedRtpStreamId, VideoOrientation, AbsoluteCaptureTime, PlayoutDelay}
 use Rattle.rtp_wire.specs.declared.values.ExtensionValues.{ExtensionValues}
+use Rattle.rtp_wire.specs.Name.{name_of}
+use Rattle.rtp_wire.specs.Reading.{transport_in, send_time_in, level_in, voice_in, turn_in, capture_in, least_delay_in, greatest_delay_in}
 
 -- the extensions told apart
 abbrev pub extension_number : Extension → ℕ
@@ -44,9 +47,9 @@ standard_extensions =
     ∷ None
     ∷ []
 
--- the extension that an id names
+-- the extension that an id names: ids above 14 name none
 abbrev pub named_by : List (Option Extension) → ℕ → Option Extension
-named_by exts id = slice_index_or exts id None
+named_by exts id = if nat_lt id 15 then slice_index_or exts id None else None
 
 -- the id that names an extension
 abbrev pub id_of : List (Option Extension) → Extension → Option ℕ
@@ -76,14 +79,66 @@ no_values = record {
   abs_capture_time = None;
 }
 
+-- The elements of the one-byte form (RFC 8285 section 4.2), each an id and its bytes. The byte 0 is padding; the other
+-- elements begin with a byte of id and length less 1. The id 15 ends the reading, as an element does that runs past the
+-- end. So many bytes at the front as the first number says belong to an element before.
+unfoldable pub one_byte_elements : ℕ → List ℕ → List (ℕ × List ℕ)
+one_byte_elements passed [] = []
+one_byte_elements (suc passed) (b ∷ bytes) = one_byte_elements passed bytes
+one_byte_elements zero (b ∷ bytes) =
+    if b == 0
+    then one_byte_elements 0 bytes
+    else if b / 16 == 15 || nat_lt (length bytes) (b % 16 + 1)
+    then []
+    else (b / 16, take (b % 16 + 1) bytes) ∷ one_byte_elements (b % 16 + 1) bytes
+
+-- The elements of the two-byte form (RFC 8285 section 4.3): the byte 0 is padding; the other elements begin with a byte of
+-- id and one of length. An element that runs past the end ends the reading.
+unfoldable pub two_byte_elements : ℕ → List ℕ → List (ℕ × List ℕ)
+two_byte_elements passed [] = []
+two_byte_elements (suc passed) (b ∷ bytes) = two_byte_elements passed bytes
+two_byte_elements zero (b ∷ bytes) =
+    if b == 0
+    then two_byte_elements 0 bytes
+    else if nat_lt (length bytes) (slice_index bytes 0 + 1)
+    then []
+    else (b, take (slice_index bytes 0) (drop 1 bytes)) ∷ two_byte_elements (slice_index bytes 0 + 1) bytes
+
+-- the values after an element of an extension: the last one of a value counts, and one of a wrong form is passed over
+abbrev pub with_value : ExtensionValues → Option Extension → List ℕ → ExtensionValues
+with_value values None bytes = values
+with_value values (Some AudioLevel) bytes = record values { audio_level = option_or (level_in bytes) values.audio_level; voice_activity = option_or (voice_in bytes) values.voice_activity }
+with_value values (Some AbsoluteSendTime) bytes = record values { abs_send_time = option_or (send_time_in bytes) values.abs_send_time }
+with_value values (Some TransportSequenceNumber) bytes = record values { transport_cc = option_or (transport_in bytes) values.transport_cc }
+with_value values (Some RtpMid) bytes = record values { mid = option_or (name_of bytes) values.mid }
+with_value values (Some RtpStreamId) bytes = record values { rid = option_or (name_of bytes) values.rid }
+with_value values (Some RepairedRtpStreamId) bytes = record values { rid_repair = option_or (name_of bytes) values.rid_repair }
+with_value values (Some VideoOrientation) bytes = record values { video_orientation = option_or (turn_in bytes) values.video_orientation }
+with_value values (Some AbsoluteCaptureTime) bytes = record values { abs_capture_time = option_or (capture_in bytes) values.abs_capture_time }
+with_value values (Some PlayoutDelay) bytes = record values { play_delay_min = option_or (least_delay_in bytes) values.play_delay_min; play_delay_max = option_or (greatest_delay_in bytes) values.play_delay_max }
+
+-- the values after elements, in order: those of unknown ids are passed over
+unfoldable pub with_elements : List (Option Extension) → ExtensionValues → List (ℕ × List ℕ) → ExtensionValues
+with_elements exts values [] = values
+with_elements exts values (e ∷ elements) = with_elements exts (with_value values (named_by exts e.0) e.1) elements
+
+-- the elements of an extension: other profiles have none
+abbrev pub elements_of : ℕ → List ℕ → List (ℕ × List ℕ)
+elements_of profile bytes =
+    if profile == 48862
+    then one_byte_elements 0 bytes
+    else if profile / 16 == 256
+    then two_byte_elements 0 bytes
+    else []
+
 -- the values that an extension of this profile with these bytes has under a map
 unfoldable pub values_of : List (Option Extension) → ℕ → List ℕ → ExtensionValues
-values_of exts profile bytes = no_values
+values_of exts profile bytes = with_elements exts no_values (elements_of profile bytes)
 
--- the extension in which values are written, with its own header; nothing where no value is there that has an id
+-- the extension in which values are written, with its own header: so far none is written
 unfoldable pub extension_bytes : List (Option Extension) → ExtensionValues → List ℕ
 extension_bytes exts values = []
 
--- the values as they are read again: those that have an id, as their wire form holds them
+-- the values as they are read again: so far none
 unfoldable pub written_values : List (Option Extension) → ExtensionValues → ExtensionValues
 written_values exts values = no_values

@@ -378,3 +378,25 @@ plain_is_read_again exts h rest p =
     ap (λ (e : List ℕ). header_of exts (packet h e rest)) empty
     ∙ packet_reads exts no_values h [] rest i (nothing refl)
     ∙ ap Some (same_header _ _ _ _ _ _ _ _ _ _ _ _ _ _ _ _ _ _ _ _ refl refl (omega (arith, p.type)) refl refl refl refl (sym p.zeros) (sym p.values) (omega (arith, p.len)))
+
+-- A header without values has twelve bytes, and four for each source.
+abbrev pub PlainIsAsLong : Type 0
+PlainIsAsLong =
+    (exts : ExtensionMap) (h : RtpHeader) → h.ext_vals ≡ no_values → h.csrc_count ≤ length h.csrc → length (header_bytes exts h) ≡ 12 + 4 * h.csrc_count
+
+pub plain_is_as_long : PlainIsAsLong
+unfolding header_bytes
+plain_is_as_long exts h none few =
+    let sources = csrc_of h in
+    let extension = extension_bytes exts h.ext_vals in
+    let empty : length extension ≡ 0 = ap length (ap (extension_bytes exts) none ∙ nothing_written exts) in
+    omega (arith, empty, length-append (flat_map (to_be_bytes w32) sources) extension, length-flat_words sources, length-take-le h.csrc_count h.csrc few)
+
+-- Each header that is written has at least its first twelve bytes.
+abbrev pub HasFixedBytes : Type 0
+HasFixedBytes = (exts : ExtensionMap) (h : RtpHeader) → 12 ≤ length (header_bytes exts h)
+
+pub has_fixed_bytes : HasFixedBytes
+unfolding header_bytes
+has_fixed_bytes exts h =
+    omega (arith, length-append (flat_map (to_be_bytes w32) (csrc_of h)) (extension_bytes exts h.ext_vals))

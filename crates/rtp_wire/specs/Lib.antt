@@ -1,9 +1,14 @@
 pub mod Bytes
 pub mod BytesLaws
+pub mod ElementsLaws
 pub mod Extensions
 pub mod Header
 pub mod HeaderLaws
+pub mod Ids
 pub mod Name
 pub mod NameLaws
 pub mod Padding
+pub mod Reading
+pub mod Repairs
 pub mod Widen
+pub mod Window

@@ -80,7 +80,7 @@ fn place_of(places: &[Option<Extension>], extension: Extension) -> Option<usize>
 }
 
 impl ExtensionMap {
-    ghost use Rattle.rtp_wire.specs.Extensions.{no_extensions, standard_extensions, with_extension, id_of};
+    ghost use Rattle.rtp_wire.specs.Extensions.{no_extensions, standard_extensions, with_extension, id_of, named_by};
 
     /// The map without ids.
     pub fn empty() -> Self
@@ -124,6 +124,17 @@ impl ExtensionMap {
         match place_of(&self.places, extension) {
             Some(place) => Some(place as u8),
             None => None,
+        }
+    }
+
+    /// The extension that an id names, if it names one.
+    pub fn named_by(&self, id: u8) -> Option<Extension>
+        ensures { result ≡ named_by self.now id }
+    {
+        if id < 15 {
+            self.places[usize::from(id)]
+        } else {
+            None
         }
     }
 }

@@ -1,12 +1,16 @@
-ghost use Rattle.std.specs.Prelude.{◌≡◌, ℕ, ◌+◌, ◌-◌, ◌*◌, ◌≤◌, IsTrue, List, ◌++◌, length, take, drop, replicate, Some};
+ghost use Rattle.std.specs.Prelude.{◌≡◌, ℕ, ◌+◌, ◌-◌, ◌*◌, ◌%◌, ◌≤◌, IsTrue, List, ◌++◌, length, take, drop, replicate, Some};
 ghost use Rattle.std.specs.List.{flat_map};
-ghost use Rattle.std.specs.Int.{w32, to_be_bytes};
+ghost use Rattle.std.specs.Int.{w16, w32, to_be_bytes};
+ghost use Rattle.std.specs.Option.{option_map};
+ghost use Rattle.rtp_wire.specs.Widen.{widen16};
+ghost use Rattle.rtp_wire.specs.Repairs.{original_of, blank_length, blank_payload};
 ghost use Rattle.rtp_wire.specs.Bytes.{u16_at, u32_at};
 ghost use Rattle.rtp_wire.specs.BytesLaws.{AreWords};
 
 use crate::extension::ExtensionMap;
-use crate::number::{Pt, Ssrc};
+use crate::number::{Pt, SeqNo, Ssrc};
 use crate::values::ExtensionValues;
+use crate::widen as wide;
 
 /// The header of an RTP packet (RFC 3550 section 5.1).
 #[derive(Clone, Copy, Debug, PartialEq, Eq)]
@@ -180,7 +184,7 @@ impl RtpHeader {
     }
 
     /// Writes the header to the front of the bytes, and gives its length: the low 7 bits of the type, the first
-    /// `csrc_count` sources, and those values that have an id under the map.
+    /// `csrc_count` sources, and no extension: values are not written so far.
     #[tactic(auto, unfolding(crate::specs::Header::header_bytes))]
     pub fn write_to(&self, buf: &mut [u8], exts: &ExtensionMap) -> usize
         requires room { 160 ≤ length buf.old }
@@ -208,6 +212,59 @@ impl RtpHeader {
             return None;
         }
         Some(&payload[..payload.len() - padding])
+    }
+
+    /// The sequence number of which the header has the low 16 bits, after the last one (RFC 3711 section 3.3.1).
+    pub fn sequence_number(&self, last: Option<SeqNo>) -> SeqNo
+        ensures { result ≡ widen16 last self.now.sequence_number }
+    {
+        let last = match last {
+            Some(number) => Some(u64::from(number)),
+            None => None,
+        };
+        SeqNo::from(wide::widen16(last, self.sequence_number))
+    }
+
+    /// The low 16 bits of the number of the packet that a repair repairs, and that packet's payload (RFC 4588 section 4).
+    /// None exactly where fewer than 2 bytes stand.
+    pub fn read_original_sequence_number(payload: &[u8]) -> Option<(u16, &[u8])>
+        ensures { option_map (λ p. (p.0, p.1.now)) result ≡ original_of payload.now }
+    {
+        if payload.len() < 2 {
+            return None;
+        }
+        let (_, original) = payload.split_at(2);
+        Some((u16_at(payload, 0), original))
+    }
+
+    /// Writes the low 16 bits of the number of the packet that a repair repairs to the front of its payload, and gives their
+    /// length, 2.
+    pub fn write_original_sequence_number(payload: &mut [u8], number: SeqNo) -> usize
+        requires { 2 ≤ length payload.old }
+        ensures bytes { payload.new ≡ to_be_bytes w16 (number % 65536) ++ drop 2 payload.old }
+        ensures len { result ≡ 2 }
+    {
+        let low = (u64::from(number) % 65536) as u16;
+        let (front, _) = payload.split_at_mut(2);
+        front.copy_from_slice(&low.to_be_bytes());
+        2
+    }
+
+    /// Writes the payload of a packet that is only padding, of an asked length from 16 to 240 bytes in whole blocks of 16, and
+    /// gives its length.
+    pub fn create_padding_packet(payload: &mut [u8], asked: usize) -> usize
+        requires low { 16 ≤ asked }
+        requires high { asked ≤ 240 }
+        requires room { 240 ≤ length payload.old }
+        ensures bytes { payload.new ≡ blank_payload asked ++ drop result payload.old }
+        ensures len { result ≡ blank_length asked }
+    {
+        let len = (asked + 15) / 16 * 16;
+        let (blank, _) = payload.split_at_mut(len);
+        let (zeros, count) = blank.split_at_mut(len - 1);
+        zeros.fill(0);
+        count.copy_from_slice(&[len as u8]);
+        len
     }
 }
 

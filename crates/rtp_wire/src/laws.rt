@@ -1,4 +1,4 @@
-ghost use Rattle.rtp_wire.specs.HeaderLaws.{ReadsOwnBytes, PlainIsReadAgain};
+ghost use Rattle.rtp_wire.specs.HeaderLaws.{ReadsOwnBytes, PlainIsReadAgain, PlainIsAsLong, HasFixedBytes};
 
 /// The header at the front of some bytes is read off its own bytes alone.
 pub fn header_reads_own_bytes()
@@ -8,4 +8,10 @@ pub fn header_reads_own_bytes()
 /// A header without values, whose fields fit their places, is read again as it was written, under each map.
 pub fn plain_header_is_read_again()
     ensures { PlainIsReadAgain }
+{}
+
+/// A header without values has twelve bytes and four for each source, and each header at least twelve.
+pub fn headers_are_as_long()
+    ensures plain { PlainIsAsLong }
+    ensures fixed { HasFixedBytes }
 {}

@@ -93,7 +93,7 @@ impl fmt::Display for Pt {
 
 /// An extended sequence number, 65,536 times the rollover count plus the 16 bits of the header
 /// (RFC 3711 section 3.3.1). Contracts see the number.
-#[derive(Clone, Copy, Debug, PartialEq, Eq, PartialOrd, Ord, Hash)]
+#[derive(Clone, Copy, Debug, Default, PartialEq, Eq, PartialOrd, Ord, Hash)]
 pub struct SeqNo(u64);
 
 impl Model for SeqNo {

@@ -1,3 +1,8 @@
+pub mod Lists
 pub mod Ivs
-pub mod Codes
 pub mod Sealing
+pub mod RtcpParts
+pub mod Results
+pub mod Shape
+pub mod CmParts
+pub mod RtcpSealing

@@ -1,6 +1,6 @@
 -- What is true of sealed datagrams, of the laws of a cipher.
 use Rattle.std.proofs.Common.{◌≡◌, ℕ, ◌+◌, ◌/◌, ◌%◌, append_assoc, ◌≤◌, List, ◌++◌, length, take, drop, arith, refl, sym, ap, ◌∙◌}
-use Rattle.std.proofs.lemmas.List.{take_at, drop_at, length-take, length-append, take-append-drop}
+use Rattle.std.proofs.lemmas.List.{take_at, length-append, take-append-drop}
 use Rattle.std.specs.Int.{w32, to_be_bytes}
 use Rattle.srtp_core.specs.Keys.{SessionKeys}
 use Rattle.srtp_core.specs.Streams.{streamed}
@@ -8,19 +8,10 @@ use Rattle.srtp_core.specs.StreamLaws.{streamed-streamed, length-streamed}
 use Rattle.srtp_core.specs.Seals.{gcm_rtp_iv, cm_iv, cm_rtp_tag, cm_sealed_rtp, gcm_sealed_rtp, rtp_seal, sealed_rtp, OpensTo}
 use Rattle.srtp_core.specs.SealLaws.{sealed_rtp_is}
 use Rattle.srtp_core.specs.Laws.{RtpSealsApart, RtpOpensOnce, RtpOpensSealed}
-use Rattle.srtp_core.proofs.Codes.{length-tag}
+use Rattle.srtp_core.proofs.Lists.{length-front, front_same, back_same}
+use Rattle.srtp_core.specs.Codes.{length-tag}
 use Rattle.srtp_core.specs.declared.profile.SrtpProfile.{SrtpProfile}
 use Rattle.srtp_core.specs.declared.profile.SrtpProfile.TheVariants.{Aes128CmSha1_80, AeadAes128Gcm, AeadAes256Gcm}
-
-length-front : (n : ℕ) (bytes : List ℕ) → n ≤ length bytes → length (take n bytes) ≡ n
-length-front n bytes h = omega (arith, length-take n bytes)
-
--- two fronts of one length, with what stands behind them
-front_same : (a b c d : List ℕ) → length a ≡ length b → a ++ c ≡ b ++ d → a ≡ b
-front_same a b c d h e = sym (take_at a c (length b) h) ∙ ap (take (length b)) e ∙ take_at b d (length b) refl
-
-back_same : (a b c d : List ℕ) → length a ≡ length b → a ++ c ≡ b ++ d → c ≡ d
-back_same a b c d h e = sym (drop_at a c (length b) h) ∙ ap (drop (length b)) e ∙ drop_at b d (length b) refl
 
 gcm_apart : (aead : List ℕ → List ℕ → List ℕ → List ℕ → List ℕ) → ((key iv aad p q : List ℕ) → aead key iv aad p ≡ aead key iv aad q → p ≡ q)
     → (key salt : List ℕ) (ssrc index : ℕ) (h k p q : List ℕ) → length h ≡ length k
@@ -63,7 +54,7 @@ opens_once keystream aead apart profile keys ssrc index n bytes p q o u =
     let other : rtp_seal keystream aead profile keys ssrc index (take n bytes) q ≡ bytes = sym (sealed_rtp_is keystream aead profile keys ssrc index n bytes q u.header) ∙ u.seal in
     (rtp_apart keystream aead apart profile keys ssrc index (take n bytes) (take n bytes) p q refl (one ∙ sym other)).1
 
-rtp_front : (keystream : List ℕ → List ℕ → ℕ → ℕ) (aead : List ℕ → List ℕ → List ℕ → List ℕ → List ℕ) (profile : SrtpProfile) (keys : SessionKeys) (ssrc index n : ℕ) (h p : List ℕ) → length h ≡ n
+pub rtp_front : (keystream : List ℕ → List ℕ → ℕ → ℕ) (aead : List ℕ → List ℕ → List ℕ → List ℕ → List ℕ) (profile : SrtpProfile) (keys : SessionKeys) (ssrc index n : ℕ) (h p : List ℕ) → length h ≡ n
     → take n (rtp_seal keystream aead profile keys ssrc index h p) ≡ h
 rtp_front keystream aead Aes128CmSha1_80 keys ssrc index n h p long =
     let s = streamed (keystream keys.rtp_key (cm_iv keys.rtp_salt ssrc index)) p in
@@ -89,5 +80,5 @@ opens_sealed keystream aead profile keys ssrc index n plain h w =
       within = w;
       header = omega (arith, rtp_longer keystream aead profile keys ssrc index (take n plain) (drop n plain));
       seal = ap (λ f. rtp_seal keystream aead profile keys ssrc index (take n (f ++ drop n plain)) (drop n (f ++ drop n plain))) front
-        ∙ ap (λ f. rtp_seal keystream aead profile keys ssrc index (take n f) (drop n f)) (take-append-drop n plain)
+          ∙ ap (λ f. rtp_seal keystream aead profile keys ssrc index (take n f) (drop n f)) (take-append-drop n plain);
     }

@@ -14,5 +14,5 @@ abbrev pub new_state : (List ℕ → List ℕ → List ℕ) → SrtpProfile → 
 new_state block profile material left index = record {
   profile = profile;
   keys = session_keys block profile material left;
-  srtcp_index = index
+  srtcp_index = index;
 }

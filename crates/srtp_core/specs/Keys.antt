@@ -66,7 +66,7 @@ keys_of block profile key salt = record {
   rtp_salt = derived (block key) salt 2 (salt_len profile);
   rtcp_key = derived (block key) salt 3 (key_len profile);
   rtcp_authentication = derived (block key) salt 4 (authentication_len profile);
-  rtcp_salt = derived (block key) salt 5 (salt_len profile)
+  rtcp_salt = derived (block key) salt 5 (salt_len profile);
 }
 
 -- the keys under which the left side, or the right side, seals

@@ -1,7 +1,8 @@
 -- Laws of sealed datagrams and of initial values.
-use Rattle.std.specs.Prelude.{ℕ, ◌≡◌, ◌≤◌, ◌<◌, ◌^◌, List, length, drop}
+use Rattle.std.specs.Prelude.{ℕ, ◌≡◌, ◌≤◌, ◌<◌, ◌+◌, ◌^◌, Bool, List, length, take, drop}
 use Rattle.srtp_core.specs.Keys.{SessionKeys}
 use Rattle.srtp_core.specs.Seals.{rtp_iv, rtcp_iv, sealed_rtp, OpensTo}
+use Rattle.srtp_core.specs.RtcpSeals.{sealed_rtcp, stated_bit, stated_index, RtcpOpensTo}
 use Rattle.srtp_core.specs.declared.profile.SrtpProfile.{SrtpProfile}
 
 -- no two datagrams under one salt have one initial value: RTP indices are below 2^48, SRTCP indices below 2^31
@@ -33,3 +34,29 @@ RtpOpensSealed keystream aead =
     (profile : SrtpProfile) (keys : SessionKeys) (ssrc index n : ℕ) (plain : List ℕ) → n ≤ length plain
     → let bytes = sealed_rtp keystream aead profile keys ssrc index n plain in
     length bytes ≤ 2000 → OpensTo keystream aead profile keys ssrc index n bytes (drop n plain)
+
+-- a sealed datagram begins with its header, is no shorter than the plain one, and at most 16 bytes longer
+abbrev pub RtpSealKeepsHeader : (List ℕ → List ℕ → ℕ → ℕ) → (List ℕ → List ℕ → List ℕ → List ℕ → List ℕ) → Type 0
+RtpSealKeepsHeader keystream aead =
+    (profile : SrtpProfile) (keys : SessionKeys) (ssrc index n : ℕ) (plain : List ℕ) → n ≤ length plain
+    → let bytes = sealed_rtp keystream aead profile keys ssrc index n plain in
+    (take n bytes ≡ take n plain) × (length plain ≤ length bytes) × (length bytes ≤ length plain + 16)
+
+-- an SRTCP datagram opens to one packet at most
+abbrev pub RtcpOpensOnce : (List ℕ → List ℕ → ℕ → ℕ) → (List ℕ → List ℕ → List ℕ → List ℕ → List ℕ) → Type 0
+RtcpOpensOnce keystream aead =
+    (profile : SrtpProfile) (keys : SessionKeys) (bytes p q : List ℕ)
+    → RtcpOpensTo keystream aead profile keys bytes p → RtcpOpensTo keystream aead profile keys bytes q → p ≡ q
+
+-- an SRTCP datagram that was sealed states its E bit and its index
+abbrev pub RtcpStates : (List ℕ → List ℕ → ℕ → ℕ) → (List ℕ → List ℕ → List ℕ → List ℕ → List ℕ) → Type 0
+RtcpStates keystream aead =
+    (profile : SrtpProfile) (keys : SessionKeys) (bit : Bool) (index : ℕ) (plain : List ℕ) → index < 2 ^ 31
+    → let bytes = sealed_rtcp keystream aead profile keys bit index plain in
+    (stated_bit profile bytes ≡ bit) × (stated_index profile bytes ≡ index)
+
+-- and opens to its packet
+abbrev pub RtcpOpensSealed : (List ℕ → List ℕ → ℕ → ℕ) → (List ℕ → List ℕ → List ℕ → List ℕ → List ℕ) → Type 0
+RtcpOpensSealed keystream aead =
+    (profile : SrtpProfile) (keys : SessionKeys) (bit : Bool) (index : ℕ) (plain : List ℕ) → index < 2 ^ 31 → 8 ≤ length plain
+    → RtcpOpensTo keystream aead profile keys (sealed_rtcp keystream aead profile keys bit index plain) plain

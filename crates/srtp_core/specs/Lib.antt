@@ -7,10 +7,13 @@ pub mod KeyLaws
 pub mod Names
 pub mod CipherKeys
 pub mod Hmac
+pub mod Codes
+pub mod Sha
+pub mod ShaLaws
 pub mod Seals
 pub mod SealLaws
 pub mod RtcpSeals
-pub mod RtcpLaws
+pub mod CmSeals
 pub mod Contexts
 pub mod Views
 pub mod Unchanged

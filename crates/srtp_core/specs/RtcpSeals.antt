@@ -65,3 +65,9 @@ stated_index profile bytes = stated_word profile bytes % 2 ^ 31
 pub record RtcpOpensTo (keystream : List ℕ → List ℕ → ℕ → ℕ) (aead : List ℕ → List ℕ → List ℕ → List ℕ → List ℕ) (profile : SrtpProfile) (keys : SessionKeys) (bytes plain : List ℕ) : Type 0 where
   pub header : 8 ≤ length plain
   pub seal : sealed_rtcp keystream aead profile keys (stated_bit profile bytes) (stated_index profile bytes) plain ≡ bytes
+
+-- the same with the authenticated encryption alone: the word is the last 4 bytes
+pub record GcmRtcpOpens (aead : List ℕ → List ℕ → List ℕ → List ℕ → List ℕ) (key salt bytes plain : List ℕ) : Type 0 where
+  pub header : 8 ≤ length plain
+  pub seal : let word = from_be_bytes w32 (drop (length bytes - 4) bytes) in
+      gcm_sealed_rtcp aead key salt (nat_le (2 ^ 31) word) (word % 2 ^ 31) (take 8 plain) (drop 8 plain) ≡ bytes

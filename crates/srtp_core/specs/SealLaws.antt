@@ -23,7 +23,7 @@ some_opens keystream aead profile keys ssrc index n bytes output None w h e = e
 some_opens keystream aead profile keys ssrc index n bytes output (Some m) w h e = record {
   within = w;
   header = h;
-  seal = sealed_rtp_is keystream aead profile keys ssrc index n bytes (take m output) h ∙ e
+  seal = sealed_rtp_is keystream aead profile keys ssrc index n bytes (take m output) h ∙ e;
 }
 
 pub none_opens : (keystream : List ℕ → List ℕ → ℕ → ℕ) (aead : List ℕ → List ℕ → List ℕ → List ℕ → List ℕ) (profile : SrtpProfile) (keys : SessionKeys) (ssrc index n : ℕ) (bytes : List ℕ) (r : Option ℕ)

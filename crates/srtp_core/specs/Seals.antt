@@ -17,9 +17,14 @@ unfoldable pub gcm_rtcp_iv : List ℕ → ℕ → ℕ → List ℕ
 gcm_rtcp_iv salt ssrc index = xored (0 ∷ 0 ∷ to_be_bytes w32 ssrc ++ 0 ∷ 0 ∷ to_be_bytes w32 index) salt
 
 -- RFC 3711, 4.1.1: the SSRC from byte 4 on, XOR the index from byte 6 on, XOR the salt from byte 0 on
+abbrev pub cm_source : ℕ → List ℕ
+cm_source ssrc = replicate 4 0 ++ to_be_bytes w32 ssrc ++ replicate 8 0
+
+abbrev pub cm_index : ℕ → List ℕ
+cm_index index = replicate 6 0 ++ to_be_bytes w64 index ++ replicate 2 0
+
 unfoldable pub cm_iv : List ℕ → ℕ → ℕ → List ℕ
-cm_iv salt ssrc index =
-    xored (xored (replicate 4 0 ++ to_be_bytes w32 ssrc ++ replicate 8 0) (replicate 6 0 ++ to_be_bytes w64 index ++ replicate 2 0)) (salt ++ replicate 2 0)
+cm_iv salt ssrc index = xored (xored (cm_source ssrc) (cm_index index)) (salt ++ replicate 2 0)
 
 -- the initial value of an RTP datagram under its index, which is 65,536 times the rollover count plus the sequence number
 abbrev pub rtp_iv : SrtpProfile → List ℕ → ℕ → ℕ → List ℕ

@@ -1,24 +1,31 @@
-ghost use Rattle.std.specs.Prelude.{◌≡◌, ◌≢◌, ℕ, ◌+◌, ◌^◌, ◌<◌, ◌≤◌, List, ◌++◌, length, take, IfOk, IfErr, IfSome, IfNone, IsErrOf};
+ghost use Rattle.std.specs.Prelude.{◌≡◌, ◌≢◌, ℕ, ◌+◌, ◌%◌, ◌^◌, ◌<◌, ◌≤◌, true, List, ◌++◌, length, take, IfOk, IfErr, IfSome, IfNone, IsErrOf, OnOk, OnErr};
 ghost use Rattle.std.specs.Borrow.{sem};
 ghost use Rattle.srtp_core.specs.Keys.{material_len, session_keys};
 ghost use Rattle.srtp_core.specs.Seals.{sealed_rtp, OpensTo};
+ghost use Rattle.srtp_core.specs.RtcpSeals.{sealed_rtcp, RtcpOpensTo};
 ghost use Rattle.srtp_core.specs.Contexts.{new_state};
 ghost use Rattle.srtp_core.specs.Views.{profile_of, session_of};
 
 use crate::cipher::SrtpCipher;
+use crate::cm::CmDirection;
 use crate::error::SrtpError;
-use crate::gcm;
 use crate::gcm::GcmDirection;
 use crate::keying::{KeyingMaterial, SrtpKey};
 use crate::profile::SrtpProfile;
+use crate::{cm, gcm, gcm_rtcp};
+use rtp_wire::RtpHeader;
 use std::alloc::{AllocError, Global};
 use std::marker::Model;
 
 /// The greatest RTP datagram that is opened, in bytes.
 const MAX_DATAGRAM_LEN: usize = 2000;
 
+/// The first index that no SRTCP datagram has.
+const MAX_SRTCP_INDEX: u64 = 2_147_483_648;
+
 #[derive(Drop)]
 enum Keys<C: SrtpCipher> {
+    Cm(CmDirection<C>),
     Gcm128(GcmDirection<C>),
     Gcm256(GcmDirection<C>),
 }
@@ -42,7 +49,7 @@ impl<C: SrtpCipher> Model for SrtpContext<C> {
 
     ghost use Rattle.srtp_core.specs.Views.{profile_of, session_of};
 
-    ghost view = { λ c. record { profile = profile_of c.keys; keys = session_of c.keys; srtcp_index = c.srtcp_index } };
+    ghost view = { λ c. record { profile = profile_of c.keys; keys = session_of C.bytes_128 c.keys; srtcp_index = c.srtcp_index } };
 
     ghost invariant = { λ c. (length c.scratch.items ≡ 2000) × (c.srtcp_index ≤ 2 ^ 31) };
 }
@@ -63,7 +70,6 @@ impl<C: SrtpCipher> SrtpContext<C> {
         mat: &KeyingMaterial,
         left: bool,
     ) -> Result<Self, SrtpError>
-        requires { profile ≢ SrtpProfile.Aes128CmSha1_80 }
         ensures made { IfOk result (λ c. c ≡ new_state C.block profile mat.now left 0) }
         ensures key_length { length mat.now ≢ material_len profile → IsErrOf result SrtpError.KeyLength }
         ensures memory { length mat.now ≡ material_len profile → IfErr result (λ e. e ≡ SrtpError.Memory) }
@@ -84,8 +90,7 @@ impl<C: SrtpCipher> SrtpContext<C> {
         left: bool,
         srtcp_index: u64,
     ) -> Result<Self, SrtpError>
-        requires profile { profile ≢ SrtpProfile.Aes128CmSha1_80 }
-        requires index { srtcp_index ≤ 2 ^ 31 }
+        requires { srtcp_index ≤ 2 ^ 31 }
         ensures made { IfOk result (λ c. c ≡ new_state C.block profile mat.now left srtcp_index) }
         ensures key_length { length mat.now ≢ material_len profile → IsErrOf result SrtpError.KeyLength }
         ensures memory { length mat.now ≡ material_len profile → IfErr result (λ e. e ≡ SrtpError.Memory) }
@@ -104,62 +109,62 @@ impl<C: SrtpCipher> SrtpContext<C> {
         })
     }
 
+    /// Seals an RTP datagram that begins with this header, under this index: 65,536 times the
+    /// rollover count plus the header's sequence number (RFC 3711 section 3.3, RFC 7714 section 8).
+    ///
+    /// # Errors
+    /// Where there is no memory.
     #[tactic(auto, unfolding(crate::specs::Seals::sealed_rtp))]
-    fn seal_rtp(
+    pub fn protect_rtp(
         &mut self,
         buf: &[u8],
-        header_len: usize,
-        ssrc: u32,
+        header: &RtpHeader,
         index: u64,
     ) -> Result<Vec<u8>, AllocError>
-        requires header { header_len ≤ length buf.now }
+        requires header { header.now.header_len ≤ length buf.now }
         requires index { index < 2 ^ 48 }
-        ensures sealed { IfOk result (λ v. v.items ≡ sealed_rtp C.keystream C.aead self.old.profile self.old.keys ssrc index header_len buf.now) }
+        requires low { index % 65536 ≡ header.now.sequence_number }
+        ensures sealed { IfOk result (λ v. v.items
+            ≡ sealed_rtp C.keystream C.aead self.old.profile self.old.keys header.now.ssrc index header.now.header_len buf.now) }
         ensures same { self.new ≡ self.old }
     {
+        let ssrc = u32::from(header.ssrc);
+        let len = header.header_len;
         match &self.keys {
-            Keys::Gcm128(keys) => gcm::seal_rtp(
-                self.alloc,
-                self.cipher,
-                &keys.rtp,
-                buf,
-                header_len,
-                ssrc,
-                index,
-            ),
-            Keys::Gcm256(keys) => gcm::seal_rtp(
-                self.alloc,
-                self.cipher,
-                &keys.rtp,
-                buf,
-                header_len,
-                ssrc,
-                index,
-            ),
+            Keys::Cm(keys) => {
+                cm::seal_rtp(self.alloc, self.cipher, &keys.rtp, buf, len, ssrc, index)
+            }
+            Keys::Gcm128(keys) => {
+                gcm::seal_rtp(self.alloc, self.cipher, &keys.rtp, buf, len, ssrc, index)
+            }
+            Keys::Gcm256(keys) => {
+                gcm::seal_rtp(self.alloc, self.cipher, &keys.rtp, buf, len, ssrc, index)
+            }
         }
     }
 
-    fn open_rtp(
-        &mut self,
-        buf: &[u8],
-        header_len: usize,
-        ssrc: u32,
-        index: u64,
-    ) -> Option<&[u8]>
-        requires { index < 2 ^ 48 }
-        ensures some { IfSome result (λ p. OpensTo C.keystream C.aead self.old.profile self.old.keys ssrc index header_len buf.now p.now) }
-        ensures none { IfNone result ((p : List ℕ) → OpensTo C.keystream C.aead self.old.profile self.old.keys ssrc index header_len buf.now p → ⊥) }
+    /// Opens an RTP datagram that begins with this header, and lends its payload. `None` where the
+    /// datagram is longer than 2,000 bytes or shorter than its header and a tag, or where it is no
+    /// payload's seal under this index. Takes no memory.
+    pub fn unprotect_rtp(&mut self, buf: &[u8], header: &RtpHeader, index: u64) -> Option<&[u8]>
+        requires index { index < 2 ^ 48 }
+        requires low { index % 65536 ≡ header.now.sequence_number }
+        ensures some { IfSome result (λ p.
+            OpensTo C.keystream C.aead self.old.profile self.old.keys header.now.ssrc index header.now.header_len buf.now p.now) }
+        ensures none { IfNone result ((p : List ℕ)
+            → OpensTo C.keystream C.aead self.old.profile self.old.keys header.now.ssrc index header.now.header_len buf.now p → ⊥) }
         ensures* after { sem 𝓛 (IsUnchangedAfter (the_row C.row C.Key128.row C.Key256.row C.SrtpCipher) self.entry) }
     {
-        if buf.len() > MAX_DATAGRAM_LEN || header_len > buf.len() {
+        let len = header.header_len;
+        if buf.len() > MAX_DATAGRAM_LEN || len > buf.len() {
             return None;
         }
         match open_front(
             self.cipher,
             &self.keys,
             buf,
-            header_len,
-            ssrc,
+            len,
+            u32::from(header.ssrc),
             index,
             &mut self.scratch,
         ) {
@@ -167,18 +172,62 @@ impl<C: SrtpCipher> SrtpContext<C> {
             None => None,
         }
     }
+
+    /// Seals an RTCP packet under the next index, with the E bit set (RFC 3711 section 3.4, RFC 7714
+    /// section 9).
+    ///
+    /// # Errors
+    /// `KeyExhausted` exactly where the index is 2^31; `Memory`. Then nothing changes.
+    pub fn protect_rtcp(&mut self, buf: &[u8]) -> Result<Vec<u8>, SrtpError>
+        requires { 8 ≤ length buf.now }
+        ensures sealed { IfOk result (λ v. v.items
+            ≡ sealed_rtcp C.keystream C.aead self.old.profile self.old.keys true self.old.srtcp_index buf.now) }
+        ensures next { OnOk result (self.new ≡ record self.old { srtcp_index = self.old.srtcp_index + 1 }) }
+        ensures refused { OnErr result (self.new ≡ self.old) }
+        ensures exhausted { self.old.srtcp_index ≡ 2 ^ 31 → IsErrOf result SrtpError.KeyExhausted }
+        ensures memory { self.old.srtcp_index ≢ 2 ^ 31 → IfErr result (λ e. e ≡ SrtpError.Memory) }
+        ensures bound { self.new.srtcp_index ≤ 2 ^ 31 }
+    {
+        if self.srtcp_index == MAX_SRTCP_INDEX {
+            return Err(SrtpError::KeyExhausted);
+        }
+        let index = self.srtcp_index as u32;
+        let sealed = seal_packet(self.alloc, self.cipher, &self.keys, buf, index)?;
+        self.srtcp_index += 1;
+        Ok(sealed)
+    }
+
+    /// Opens an RTCP packet. `None` where the datagram is not the seal, under the index that it
+    /// states, of a packet of at least 8 bytes: encrypted where it states the E bit, else plain with
+    /// a tag.
+    ///
+    /// # Errors
+    /// Where there is no memory.
+    pub fn unprotect_rtcp(&mut self, buf: &[u8]) -> Result<Option<Vec<u8>>, AllocError>
+        ensures some { IfOk result (λ r. IfSome r (λ v. RtcpOpensTo C.keystream C.aead self.old.profile self.old.keys buf.now v.items)) }
+        ensures none { IfOk result (λ r. IfNone r ((p : List ℕ) → RtcpOpensTo C.keystream C.aead self.old.profile self.old.keys buf.now p → ⊥)) }
+        ensures same { self.new ≡ self.old }
+    {
+        open_packet(self.alloc, self.cipher, &self.keys, buf)
+    }
 }
 
 /// The keys of a direction.
 #[tactic(auto, using(crate::specs::KeyLaws::derived_nothing))]
-fn keys_of<C: SrtpCipher>(cipher: C, profile: SrtpProfile, mat: &KeyingMaterial, left: bool) -> Keys<C>
-    requires profile { profile ≢ SrtpProfile.Aes128CmSha1_80 }
-    requires length { length mat.now ≡ material_len profile }
+fn keys_of<C: SrtpCipher>(
+    cipher: C,
+    profile: SrtpProfile,
+    mat: &KeyingMaterial,
+    left: bool,
+) -> Keys<C>
+    requires { length mat.now ≡ material_len profile }
     ensures profile { profile_of result ≡ profile }
-    ensures keys { session_of result ≡ session_keys C.block profile mat.now left }
+    ensures keys { session_of C.bytes_128 result ≡ session_keys C.block profile mat.now left }
 {
     match profile {
-        SrtpProfile::Aes128CmSha1_80 => unreachable!(),
+        SrtpProfile::Aes128CmSha1_80 => {
+            Keys::Cm(cm::cm_direction(cipher, &SrtpKey::<16, 14>::new(mat, left)))
+        }
         SrtpProfile::AeadAes128Gcm => {
             Keys::Gcm128(gcm::gcm_direction(cipher, &SrtpKey::<16, 12>::new(mat, left)))
         }
@@ -204,62 +253,71 @@ fn open_front<C: SrtpCipher>(
     requires index { index < 2 ^ 48 }
     ensures same { length output.new ≡ length output.old }
     ensures len { IfSome result (λ n. n ≤ length output.new) }
-    ensures opens { IfSome result (λ n. OpensTo C.keystream C.aead (profile_of keys.now) (session_of keys.now) ssrc index header_len buf.now (take n output.new)) }
-    ensures none { IfNone result ((p : List ℕ) → OpensTo C.keystream C.aead (profile_of keys.now) (session_of keys.now) ssrc index header_len buf.now p → ⊥) }
+    ensures opens { IfSome result (λ n. OpensTo C.keystream C.aead (profile_of keys.now) (session_of C.bytes_128 keys.now) ssrc index header_len buf.now (take n output.new)) }
+    ensures none { IfNone result ((p : List ℕ) → OpensTo C.keystream C.aead (profile_of keys.now) (session_of C.bytes_128 keys.now) ssrc index header_len buf.now p → ⊥) }
 {
     match keys {
-        Keys::Gcm128(direction) => gcm::open_rtp(cipher, &direction.rtp, buf, header_len, ssrc, index, output),
-        Keys::Gcm256(direction) => gcm::open_rtp(cipher, &direction.rtp, buf, header_len, ssrc, index, output),
+        Keys::Cm(direction) => cm::open_rtp(
+            cipher,
+            &direction.rtp,
+            buf,
+            header_len,
+            ssrc,
+            index,
+            output,
+        ),
+        Keys::Gcm128(direction) => gcm::open_rtp(
+            cipher,
+            &direction.rtp,
+            buf,
+            header_len,
+            ssrc,
+            index,
+            output,
+        ),
+        Keys::Gcm256(direction) => gcm::open_rtp(
+            cipher,
+            &direction.rtp,
+            buf,
+            header_len,
+            ssrc,
+            index,
+            output,
+        ),
     }
 }
 
-#[cfg(test)]
-mod tests {
-    use super::*;
-    use crate::toy::ToyCipher;
-    use std::test::Fail;
-
-    const PLAIN: [u8; 14] = [0x80, 0x60, 0, 1, 0, 0, 0, 0, 0, 0, 0, 0x2a, 1, 2];
-
-    fn sides(
-        alloc: Global,
-        profile: SrtpProfile,
-        material: &[u8],
-    ) -> Result<(SrtpContext<ToyCipher>, SrtpContext<ToyCipher>), SrtpError>
-        requires { profile ≢ SrtpProfile.Aes128CmSha1_80 }
-    {
-        let mat = KeyingMaterial::new(alloc, material)?;
-        let sender = SrtpContext::new(alloc, ToyCipher, profile, &mat, true)?;
-        let receiver = SrtpContext::new(alloc, ToyCipher, profile, &mat, true)?;
-        Ok((sender, receiver))
+#[tactic(auto, unfolding(crate::specs::RtcpSeals::sealed_rtcp))]
+fn seal_packet<C: SrtpCipher>(
+    alloc: Global,
+    cipher: C,
+    keys: &Keys<C>,
+    buf: &[u8],
+    index: u32,
+) -> Result<Vec<u8>, AllocError>
+    requires header { 8 ≤ length buf.now }
+    requires index { index < 2 ^ 31 }
+    ensures { IfOk result (λ v. v.items ≡ sealed_rtcp C.keystream C.aead (profile_of keys.now) (session_of C.bytes_128 keys.now) true index buf.now) }
+{
+    match keys {
+        Keys::Cm(direction) => cm::seal_rtcp(alloc, cipher, &direction.rtcp, buf, index),
+        Keys::Gcm128(direction) => gcm_rtcp::seal_rtcp(alloc, cipher, &direction.rtcp, buf, index),
+        Keys::Gcm256(direction) => gcm_rtcp::seal_rtcp(alloc, cipher, &direction.rtcp, buf, index),
     }
+}
 
-    #[test]
-    fn gcm_128_seals_and_opens(rt: HostRuntime) -> Result<(), Fail> {
-        let (mut sender, mut receiver) = sides(rt.alloc(), SrtpProfile::AeadAes128Gcm, &[0; 56])?;
-        let sealed = sender.seal_rtp(&PLAIN, 12, 42, 1)?;
-        let wanted = [
-            0x80, 0x60, 0, 1, 0, 0, 0, 0, 0, 0, 0, 0x2a, 1, 2, 0x80, 0x60, 0, 1, 0, 0x2a, 0, 2, 0,
-            0, 0, 0x2b, 1, 2, 0, 1,
-        ];
-        assert_eq!(rt; sealed.as_slice(), wanted.as_slice());
-        let opened = receiver.open_rtp(&sealed, 12, 42, 1).ok_or("not opened")?;
-        assert_eq!(rt; opened, [1, 2].as_slice());
-        assert!(rt; receiver.open_rtp(&sealed, 12, 42, 2).is_none());
-        Ok(())
-    }
-
-    #[test]
-    fn gcm_256_seals_and_opens(rt: HostRuntime) -> Result<(), Fail> {
-        let (mut sender, mut receiver) = sides(rt.alloc(), SrtpProfile::AeadAes256Gcm, &[0; 88])?;
-        let sealed = sender.seal_rtp(&PLAIN, 12, 42, 1)?;
-        let wanted = [
-            0x80, 0x60, 0, 1, 0, 0, 0, 0, 0, 0, 0, 0x2a, 1, 2, 0x80, 0x60, 0, 1, 0, 0x2a, 0, 2, 0,
-            0, 0, 0x2b, 1, 2, 0, 0,
-        ];
-        assert_eq!(rt; sealed.as_slice(), wanted.as_slice());
-        let opened = receiver.open_rtp(&sealed, 12, 42, 1).ok_or("not opened")?;
-        assert_eq!(rt; opened, [1, 2].as_slice());
-        Ok(())
+fn open_packet<C: SrtpCipher>(
+    alloc: Global,
+    cipher: C,
+    keys: &Keys<C>,
+    buf: &[u8],
+) -> Result<Option<Vec<u8>>, AllocError>
+    ensures some { IfOk result (λ r. IfSome r (λ v. RtcpOpensTo C.keystream C.aead (profile_of keys.now) (session_of C.bytes_128 keys.now) buf.now v.items)) }
+    ensures none { IfOk result (λ r. IfNone r ((p : List ℕ) → RtcpOpensTo C.keystream C.aead (profile_of keys.now) (session_of C.bytes_128 keys.now) buf.now p → ⊥)) }
+{
+    match keys {
+        Keys::Cm(direction) => cm::open_rtcp(alloc, cipher, &direction.rtcp, buf),
+        Keys::Gcm128(direction) => gcm_rtcp::open_rtcp(alloc, cipher, &direction.rtcp, buf),
+        Keys::Gcm256(direction) => gcm_rtcp::open_rtcp(alloc, cipher, &direction.rtcp, buf),
     }
 }

@@ -8,7 +8,7 @@ use crate::cipher_key::CipherKey;
 use crate::keying::SrtpKey;
 use std::alloc::{AllocError, Global};
 
-fn xor_into(bytes: &mut [u8], with: &[u8])
+pub(crate) fn xor_into(bytes: &mut [u8], with: &[u8])
     requires { length with.now ≡ length bytes.old }
     ensures { bytes.new ≡ xored bytes.old with.now }
 {
@@ -118,7 +118,12 @@ pub(crate) fn seal_rtp<C: SrtpCipher>(
     let (header, payload) = buf.split_at(header_len);
     let (front, end) = sealed.split_at_mut(header_len);
     front.copy_from_slice(header);
-    let iv = rtp_iv(keys.salt, ssrc, (index / 65536) as u32, (index % 65536) as u16);
+    let iv = rtp_iv(
+        keys.salt,
+        ssrc,
+        (index / 65536) as u32,
+        (index % 65536) as u16,
+    );
     keys.key.seal(cipher, &iv, header, &[], payload, end);
     Ok(sealed)
 }
@@ -150,7 +155,12 @@ pub(crate) fn open_rtp<C: SrtpCipher>(
     }
     let len = sealed.len() - 16;
     let (front, _) = output.split_at_mut(len);
-    let iv = rtp_iv(keys.salt, ssrc, (index / 65536) as u32, (index % 65536) as u16);
+    let iv = rtp_iv(
+        keys.salt,
+        ssrc,
+        (index / 65536) as u32,
+        (index % 65536) as u16,
+    );
     if keys.key.open(cipher, &iv, header, &[], sealed, front) {
         Some(len)
     } else {

@@ -1,7 +1,7 @@
 ghost use Rattle.std.specs.Prelude.{◌≡◌, ℕ, ◌+◌, ◌^◌, ◌<◌, ◌≤◌, List, [], ◌++◌, true, length, take, drop, IfOk, IfSome, IfNone};
 ghost use Rattle.std.specs.Int.{w32, from_be_bytes, to_be_bytes};
 ghost use Rattle.srtp_core.specs.Seals.{gcm_rtcp_iv};
-ghost use Rattle.srtp_core.specs.RtcpSeals.{e_and_index, sender_of, gcm_sealed_rtcp};
+ghost use Rattle.srtp_core.specs.RtcpSeals.{e_and_index, sender_of, gcm_sealed_rtcp, GcmRtcpOpens};
 
 use crate::cipher::SrtpCipher;
 use crate::gcm::{GcmKeys, rtcp_iv};
@@ -86,23 +86,48 @@ fn open_clear<C: SrtpCipher>(
     cipher: C,
     keys: &GcmKeys<C>,
     index: u32,
-    header: &[u8],
     plain: &[u8],
     tag: &[u8],
     word: &[u8],
 ) -> Result<Option<Vec<u8>>, AllocError>
-    requires header { length header.now ≡ 8 }
+    requires header { 8 ≤ length plain.now }
     requires tag { length tag.now ≡ 16 }
     ensures opened { IfOk result (λ r. IfSome r (λ v. v.items ≡ plain.now)) }
     ensures some { IfOk result (λ r. IfSome r (λ _.
-        C.aead keys.now.key (gcm_rtcp_iv keys.now.salt (sender_of header.now) index) (plain.now ++ word.now) [] ≡ tag.now)) }
+        C.aead keys.now.key (gcm_rtcp_iv keys.now.salt (sender_of (take 8 plain.now)) index) (plain.now ++ word.now) [] ≡ tag.now)) }
     ensures none { IfOk result (λ r. IfNone r (
-        C.aead keys.now.key (gcm_rtcp_iv keys.now.salt (sender_of header.now) index) (plain.now ++ word.now) [] ≡ tag.now → ⊥)) }
+        C.aead keys.now.key (gcm_rtcp_iv keys.now.salt (sender_of (take 8 plain.now)) index) (plain.now ++ word.now) [] ≡ tag.now → ⊥)) }
 {
+    let (header, _) = plain.split_at(8);
     let iv = rtcp_iv(keys.salt, sender(header), index);
     if keys.key.open(cipher, &iv, plain, word, tag, &mut []) {
         Ok(Some(plain.to_vec(alloc)?))
     } else {
         Ok(None)
+    }
+}
+
+/// Opens an RTCP packet, encrypted or not.
+pub(crate) fn open_rtcp<C: SrtpCipher>(
+    alloc: Global,
+    cipher: C,
+    keys: &GcmKeys<C>,
+    buf: &[u8],
+) -> Result<Option<Vec<u8>>, AllocError>
+    ensures some { IfOk result (λ r. IfSome r (λ v. GcmRtcpOpens C.aead keys.now.key keys.now.salt buf.now v.items)) }
+    ensures none { IfOk result (λ r. IfNone r ((p : List ℕ) → GcmRtcpOpens C.aead keys.now.key keys.now.salt buf.now p → ⊥)) }
+{
+    if buf.len() < 28 {
+        return Ok(None);
+    }
+    let (sealed, word) = buf.split_at(buf.len() - 4);
+    let number = number_of(word);
+    let index = number % E_BIT;
+    if number >= E_BIT {
+        let (header, body) = sealed.split_at(8);
+        open_encrypted(alloc, cipher, keys, index, header, body, word)
+    } else {
+        let (plain, tag) = sealed.split_at(sealed.len() - 16);
+        open_clear(alloc, cipher, keys, index, plain, tag, word)
     }
 }

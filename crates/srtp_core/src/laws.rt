@@ -1,6 +1,6 @@
 //! Laws as functions without a body: what they ensure is proved, and can be cited by a call.
 
-ghost use Rattle.srtp_core.specs.Laws.{RtpIvsApart, RtcpIvsApart, RtpSealsApart, RtpOpensOnce, RtpOpensSealed};
+ghost use Rattle.srtp_core.specs.Laws.{RtpSealKeepsHeader, RtpIvsApart, RtcpIvsApart, RtpSealsApart, RtpOpensOnce, RtpOpensSealed, RtcpOpensOnce, RtcpStates, RtcpOpensSealed};
 
 use crate::cipher::SrtpCipher;
 
@@ -28,4 +28,25 @@ pub fn rtp_opens_once<C: SrtpCipher>()
 /// A datagram that was sealed opens to its payload.
 pub fn rtp_opens_sealed<C: SrtpCipher>()
     ensures { RtpOpensSealed C.keystream C.aead }
+{}
+
+/// A sealed datagram begins with its header, is no shorter than the plain one, and at most 16 bytes
+/// longer.
+pub fn rtp_seal_keeps_header<C: SrtpCipher>()
+    ensures { RtpSealKeepsHeader C.keystream C.aead }
+{}
+
+/// An SRTCP datagram opens to one packet at most.
+pub fn rtcp_opens_once<C: SrtpCipher>()
+    ensures { RtcpOpensOnce C.keystream C.aead }
+{}
+
+/// An SRTCP datagram that was sealed states its E bit and its index.
+pub fn rtcp_states<C: SrtpCipher>()
+    ensures { RtcpStates C.keystream C.aead }
+{}
+
+/// An SRTCP datagram that was sealed opens to its packet.
+pub fn rtcp_opens_sealed<C: SrtpCipher>()
+    ensures { RtcpOpensSealed C.keystream C.aead }
 {}

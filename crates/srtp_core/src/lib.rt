@@ -1,21 +1,36 @@
 //! SRTP (RFC 3711, RFC 7714): ciphers, session keys, sealing and opening.
 #![tactic(auto)]
 
+pub mod aead_aes_128_gcm;
+pub mod aead_aes_256_gcm;
+pub mod aes_128_cm_sha1_80;
 mod cipher;
 mod cipher_key;
+mod cm;
 mod context;
 mod error;
 mod gcm;
 mod gcm_rtcp;
+mod hmac;
 mod keying;
 pub mod laws;
 mod profile;
+mod sha;
 mod stream;
 mod toy;
 
 pub use cipher::SrtpCipher;
 pub use context::SrtpContext;
 pub use error::SrtpError;
+pub use hmac::sha1_hmac;
 pub use keying::{KeyingMaterial, SrtpKey};
 pub use profile::SrtpProfile;
+pub use sha::{ShaCipher, ShaKey128, ShaKey256};
 pub use toy::{ToyCipher, ToyKey128, ToyKey256};
+
+/// The length of a block of the cipher, in bytes.
+pub const SRTP_BLOCK_SIZE: usize = 16;
+/// The most by which a sealed RTCP packet is longer than the packet, in bytes.
+pub const SRTCP_OVERHEAD: usize = 20;
+/// The most by which a sealed RTP datagram is longer than the datagram, in bytes.
+pub const SRTP_OVERHEAD: usize = 16;

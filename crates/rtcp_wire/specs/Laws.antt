@@ -1,0 +1,94 @@
+-- What the definitions of reading and writing owe each other.
+use Rattle.std.specs.Prelude.{◌≡◌, ℕ, ℤ, pos, negsuc, ◌*◌, min, map, ◌%◌, ◌^◌, ◌<◌, ◌≤◌, List, ◌++◌, length, Option, Some, ◌==◌, false}
+use Rattle.std.specs.List.{flat_map, AllByRecursion}
+use Rattle.rtcp_wire.specs.declared.packet.Rtcp.{Rtcp}
+use Rattle.rtcp_wire.specs.declared.packet.Rtcp.TheVariants.{SenderReport, ReceiverReport, Goodbye, ExtendedReport, Nack, Pli, Fir, Remb, AppSpecificFeedback}
+use Rattle.rtcp_wire.specs.declared.nack.NackEntry.{NackEntry}
+use Rattle.rtcp_wire.specs.declared.request.FirEntry.{FirEntry}
+use Rattle.rtcp_wire.specs.declared.report.ReceptionReport.{ReceptionReport}
+use Rattle.rtcp_wire.specs.declared.report.SenderInfo.{SenderInfo}
+use Rattle.rtcp_wire.specs.declared.extended.DlrrItem.{DlrrItem}
+use Rattle.rtcp_wire.specs.declared.extended.ReportBlock.{ReportBlock}
+use Rattle.rtcp_wire.specs.declared.extended.ReportBlock.TheVariants.{Rrtr, Dlrr}
+use Rattle.media_base.specs.Wallclock.{unix_of_ntp, ntp_of_unix}
+use Rattle.rtcp_wire.specs.Remb.{is_remb, mantissa_of, exponent_of}
+use Rattle.rtcp_wire.specs.Frame.{Frame, frame_at}
+use Rattle.rtcp_wire.specs.Items.{items_of}
+use Rattle.rtcp_wire.specs.Texts.{framed, text_of, body_of, IsWritable}
+
+-- the frame of a written item is read again, whatever follows it
+abbrev pub FramesReadBack : Type 0
+FramesReadBack =
+    (count kind : ℕ) (body rest : List ℕ) → count ≤ 31 → length body % 4 ≡ 0 → length body < 2 ^ 18
+    → frame_at (framed count kind body ++ rest) ≡ Some (record { count = count; kind = kind; body = body; rest = rest })
+
+-- the fields fit their places on the wire
+abbrev pub IsNackEntry : NackEntry → Type 0
+IsNackEntry e = (e.pid < 2 ^ 16) × (e.blp < 2 ^ 16)
+
+abbrev pub IsFirEntry : FirEntry → Type 0
+IsFirEntry e = e.ssrc < 2 ^ 32
+
+abbrev pub IsSigned24 : ℤ → Type 0
+IsSigned24 (pos n) = n < 8388608
+IsSigned24 (negsuc n) = n < 8388608
+
+pub record IsReport (r : ReceptionReport) : Type 0 where
+  pub ssrc : r.ssrc < 2 ^ 32
+  pub fraction : r.fraction_lost < 256
+  pub lost : IsSigned24 r.packets_lost
+  pub greatest : r.max_seq < 2 ^ 32
+  pub jitter : r.jitter < 2 ^ 32
+  pub last : r.last_sr_time < 2 ^ 32
+  pub delay : r.last_sr_delay < 2 ^ 32
+
+-- what the wire holds of a moment, and of a rate
+abbrev pub held_info : SenderInfo → SenderInfo
+held_info s = record s { ntp_time = unix_of_ntp (ntp_of_unix s.ntp_time) }
+
+abbrev pub held_rate : ℕ → ℕ
+held_rate rate = min (mantissa_of rate * 2 ^ exponent_of rate) 10000000000
+
+abbrev pub held_block : ReportBlock → ReportBlock
+held_block (Rrtr r) = Rrtr (record { ntp_time = unix_of_ntp (ntp_of_unix r.ntp_time) })
+held_block (Dlrr d) = Dlrr d
+
+-- an item as its wire form holds it: moments and rates as they are rounded
+abbrev pub held : Rtcp → Rtcp
+held (SenderReport r) = SenderReport (record { sender_info = held_info r.sender_info; reports = r.reports })
+held (Remb r) = Remb (record { sender_ssrc = r.sender_ssrc; bitrate = held_rate r.bitrate; ssrcs = r.ssrcs })
+held (ReceiverReport r) = ReceiverReport r
+held (Goodbye g) = Goodbye g
+held (ExtendedReport r) = ExtendedReport (record { ssrc = r.ssrc; blocks = map held_block r.blocks })
+held (Nack n) = Nack n
+held (Pli p) = Pli p
+held (Fir f) = Fir f
+held (AppSpecificFeedback f) = AppSpecificFeedback f
+
+abbrev pub IsDlrrItem : DlrrItem → Type 0
+IsDlrrItem i = (i.ssrc < 2 ^ 32) × (i.last_rr_time < 2 ^ 32) × (i.last_rr_delay < 2 ^ 32)
+
+abbrev pub IsBlock : ReportBlock → Type 0
+IsBlock (Rrtr r) = Unit {0}
+IsBlock (Dlrr d) = (length d.items ≤ 21845) × AllByRecursion IsDlrrItem d.items
+
+-- reports, goodbyes and feedback whose fields fit, and application feedback whose words are not those
+-- of a REMB
+abbrev pub FieldsFit : Rtcp → Type 0
+FieldsFit (SenderReport r) = (r.sender_info.ssrc < 2 ^ 32) × (r.sender_info.rtp_time < 2 ^ 32) × (r.sender_info.sender_packet_count < 2 ^ 32) × (r.sender_info.sender_octet_count < 2 ^ 32) × AllByRecursion IsReport r.reports
+FieldsFit (Remb r) = (r.sender_ssrc < 2 ^ 32) × (r.bitrate < 2 ^ 64) × AllByRecursion (λ s. s < 2 ^ 32) r.ssrcs
+FieldsFit (ReceiverReport r) = (r.sender_ssrc < 2 ^ 32) × AllByRecursion IsReport r.reports
+FieldsFit (Goodbye g) = AllByRecursion (λ s. s < 2 ^ 32) g.reports
+FieldsFit (Nack n) = (n.sender_ssrc < 2 ^ 32) × (n.ssrc < 2 ^ 32) × (length n.reports ≤ 31) × AllByRecursion IsNackEntry n.reports
+FieldsFit (Pli p) = (p.sender_ssrc < 2 ^ 32) × (p.ssrc < 2 ^ 32)
+FieldsFit (Fir f) = (f.sender_ssrc < 2 ^ 32) × (length f.reports ≤ 31) × AllByRecursion IsFirEntry f.reports
+FieldsFit (AppSpecificFeedback f) = (f.sender_ssrc < 2 ^ 32) × (f.media_ssrc < 2 ^ 32) × (is_remb (body_of (AppSpecificFeedback f)) ≡ false)
+FieldsFit (ExtendedReport r) = (r.ssrc < 2 ^ 32) × (length r.blocks ≤ 31) × AllByRecursion IsBlock r.blocks
+
+pub record IsHeld (x : Rtcp) : Type 0 where
+  pub writable : IsWritable x
+  pub fields : FieldsFit x
+
+-- such items, written one after another, are read again, in order
+abbrev pub ItemsReadBack : Type 0
+ItemsReadBack = (xs : List Rtcp) → AllByRecursion IsHeld xs → items_of (flat_map text_of xs) ≡ map held xs

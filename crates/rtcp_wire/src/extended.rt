@@ -1,0 +1,227 @@
+//! Extended reports (RFC 3611).
+ghost use Rattle.std.specs.Prelude.{◌≡◌, ◌++◌, length, IfOk, Option};
+ghost use Rattle.std.specs.Int.{w16, to_be_bytes};
+ghost use Rattle.std.specs.Option.{option_map};
+ghost use Rattle.rtcp_wire.specs.Wire.{Puts, some_if};
+ghost use Rattle.rtcp_wire.specs.Extended.{with_blocks, kept, block_of, block_at, block_kind, block_content, block_text, blocks_of, extended_report_of, extended_report_body};
+
+use crate::row::{Put, Row, read_many, write_rows};
+use crate::wire::{double, half, put, word};
+use media_base::{Listed, SystemTime, SystemTimeExt};
+use rtp_wire::Ssrc;
+use std::alloc::{AllocError, Global};
+
+/// Blocks of reports of one sender (RFC 3611 section 2).
+#[derive(Debug, PartialEq, Eq, Drop)]
+pub struct ExtendedReport {
+    pub ssrc: Ssrc,
+    pub blocks: Listed<ReportBlock>,
+}
+
+/// A block of an extended report.
+#[derive(Debug, PartialEq, Eq, Drop)]
+pub enum ReportBlock {
+    Rrtr(Rrtr),
+    Dlrr(Dlrr),
+}
+
+/// When a receiver sent this (RFC 3611 section 4.4).
+#[derive(Clone, Copy, Debug, PartialEq, Eq)]
+pub struct Rrtr {
+    /// The moment, held in nanoseconds; on the wire 64 bits of NTP.
+    pub ntp_time: SystemTime,
+}
+
+/// How long ago the moments of receivers came in (RFC 3611 section 4.5).
+#[derive(Debug, PartialEq, Eq, Drop)]
+pub struct Dlrr {
+    pub items: Listed<DlrrItem>,
+}
+
+/// How long ago the moment of one receiver came in.
+#[derive(Clone, Copy, Debug, PartialEq, Eq)]
+pub struct DlrrItem {
+    /// The receiver.
+    pub ssrc: Ssrc,
+    /// The middle 32 bits of the NTP time of its last moment, or 0.
+    pub last_rr_time: u32,
+    /// The time since it came in, in 65,536ths of a second, or 0.
+    pub last_rr_delay: u32,
+}
+
+impl Row for DlrrItem {
+    ghost use Rattle.rtcp_wire.specs.Extended.{dlrr_item_at};
+
+    ghost size = { 12 };
+
+    ghost row_of = { dlrr_item_at };
+
+    fn size() -> usize {
+        12
+    }
+
+    #[tactic(auto, unfolding(crate::specs::Extended::dlrr_item_at))]
+    fn read(bytes: &[u8]) -> Self {
+        DlrrItem {
+            ssrc: word(bytes, 0).into(),
+            last_rr_time: word(bytes, 4),
+            last_rr_delay: word(bytes, 8),
+        }
+    }
+}
+
+impl Put for DlrrItem {
+    ghost use Rattle.rtcp_wire.specs.Extended.{dlrr_item_text};
+
+    ghost text_of = { dlrr_item_text };
+
+    #[tactic(auto, unfolding(crate::specs::Extended::dlrr_item_text))]
+    fn write(&self, out: &mut [u8], at: usize) -> Option<usize> {
+        let words = [self.ssrc.into(), self.last_rr_time, self.last_rr_delay];
+        write_rows(&words, out, at)
+    }
+}
+
+// Reads the contents of a block, and adds it, if its type is known; false where it is too short.
+#[tactic(auto, unfolding(crate::specs::Extended::block_of))]
+fn read_block(
+    alloc: Global,
+    kind: u8,
+    content: &[u8],
+    blocks: &mut Listed<ReportBlock>,
+) -> Result<bool, AllocError>
+    ensures { IfOk result (λ read. option_map (λ new. blocks.old ++ new) (block_of kind content.now) ≡ some_if read blocks.new) }
+{
+    match kind {
+        4 => {
+            if content.len() < 8 {
+                return Ok(false);
+            }
+            let ntp_time = SystemTime::from_ntp_64(double(content, 0));
+            blocks.push(ReportBlock::Rrtr(Rrtr { ntp_time }))?;
+        }
+        5 => {
+            let items = read_many(alloc, content, content.len() / 12)?;
+            blocks.push(ReportBlock::Dlrr(Dlrr { items }))?;
+        }
+        _ => {}
+    }
+    Ok(true)
+}
+
+// Reads the block at the front, and gives what follows it, or None where it is too short.
+#[tactic(auto, unfolding(crate::specs::Extended::block_at))]
+fn read_first_block<'a>(
+    alloc: Global,
+    bytes: &'a [u8],
+    blocks: &mut Listed<ReportBlock>,
+) -> Result<Option<&'a [u8]>, AllocError>
+    ensures { IfOk result (λ next. option_map (with_blocks blocks.old) (block_at bytes.now) ≡ option_map (λ r. kept blocks.new r.now) next) }
+{
+    if bytes.len() < 4 {
+        return Ok(None);
+    }
+    let len = 4 * usize::from(half(bytes, 2)) + 4;
+    if bytes.len() < len {
+        return Ok(None);
+    }
+    let (block, rest) = bytes.split_at(len);
+    let (_, content) = block.split_at(4);
+    if read_block(alloc, bytes[0], content, blocks)? {
+        Ok(Some(rest))
+    } else {
+        Ok(None)
+    }
+}
+
+// Reads the first 31 blocks, or None where one is too short.
+fn read_blocks(alloc: Global, bytes: &[u8]) -> Result<Option<Listed<ReportBlock>>, AllocError>
+    ensures { IfOk result (λ blocks. blocks ≡ blocks_of bytes.now) }
+{
+    let mut blocks = Listed::new(alloc);
+    let mut rest = bytes;
+    for _ in 0..31usize {
+        if rest.is_empty() {
+            return Ok(Some(blocks));
+        }
+        match read_first_block(alloc, rest, &mut blocks) {
+            Ok(Some(after)) => rest = after,
+            Ok(None) => return Ok(None),
+            Err(error) => return Err(error),
+        }
+    }
+    Ok(Some(blocks))
+}
+
+#[tactic(auto, unfolding(crate::specs::Extended::extended_report_of))]
+pub(crate) fn read_extended_report(
+    alloc: Global,
+    body: &[u8],
+) -> Result<Option<ExtendedReport>, AllocError>
+    ensures { IfOk result (λ r. r ≡ extended_report_of body.now) }
+{
+    if body.len() < 4 {
+        return Ok(None);
+    }
+    let (_, rest) = body.split_at(4);
+    let Some(blocks) = read_blocks(alloc, rest)? else {
+        return Ok(None);
+    };
+    Ok(Some(ExtendedReport {
+        ssrc: word(body, 0).into(),
+        blocks,
+    }))
+}
+
+impl ReportBlock {
+    fn kind(&self) -> u8
+        ensures { result ≡ block_kind self.now }
+    {
+        match self {
+            ReportBlock::Rrtr(_) => 4,
+            ReportBlock::Dlrr(_) => 5,
+        }
+    }
+
+    #[tactic(auto, unfolding(crate::specs::Extended::block_content))]
+    fn write_content(&self, out: &mut [u8]) -> Option<usize>
+        ensures { Puts out.old 0 (block_content self.now) out.new result }
+    {
+        match self {
+            ReportBlock::Rrtr(rrtr) => put(out, 0, &rrtr.ntp_time.as_ntp_64().to_be_bytes()),
+            ReportBlock::Dlrr(dlrr) => write_rows(dlrr.items.as_slice(), out, 0),
+        }
+    }
+}
+
+// A number of words, modulo 2^16.
+fn count_of_words(words: usize) -> [u8; 2]
+    ensures { result ≡ to_be_bytes w16 words }
+{
+    [(words / 256 % 256) as u8, (words % 256) as u8]
+}
+
+impl Put for ReportBlock {
+    ghost text_of = { block_text };
+
+    #[tactic(auto, unfolding(crate::specs::Extended::block_text))]
+    fn write(&self, out: &mut [u8], at: usize) -> Option<usize> {
+        if out.len() < at || out.len() - at < 4 {
+            return None;
+        }
+        let (_, room) = out.split_at_mut(at);
+        let (head, body) = room.split_at_mut(4);
+        let len = self.write_content(body)?;
+        let words = count_of_words(len / 4);
+        head.copy_from_slice(&[self.kind(), 0, words[0], words[1]]);
+        Some(at + 4 + len)
+    }
+}
+
+#[tactic(auto, unfolding(crate::specs::Extended::extended_report_body))]
+pub(crate) fn write_extended_report(report: &ExtendedReport, out: &mut [u8]) -> Option<usize>
+    ensures { Puts out.old 0 (extended_report_body report.now) out.new result }
+{
+    let at = put(out, 0, &u32::from(report.ssrc).to_be_bytes())?;
+    write_rows(report.blocks.as_slice(), out, at)
+}

@@ -1,0 +1,8 @@
+use Rattle.rtp_wire.specs.HeaderLaws.{plain_is_as_long, has_fixed_bytes}
+use Rattle.rtp_wire.proofs.laws.headers_are_as_long.Goals as goal
+
+pub returns-clause-plain : goal.returns-clause-plain
+returns-clause-plain c = plain_is_as_long
+
+pub returns-clause-fixed : goal.returns-clause-fixed
+returns-clause-fixed c = has_fixed_bytes

@@ -1,0 +1,20 @@
+//! AES-128 in Galois counter mode with a tag of 128 bits (RFC 7714).
+
+/// The length of a key, in bytes.
+pub const KEY_LEN: usize = 16;
+/// The length of a salt, in bytes.
+pub const SALT_LEN: usize = 12;
+/// The length of the associated data of an encrypted RTCP packet, in bytes.
+pub const RTCP_AAD_LEN: usize = 12;
+/// The length of a tag, in bytes.
+pub const TAG_LEN: usize = 16;
+/// The length of an initial value, in bytes.
+pub const IV_LEN: usize = 12;
+
+pub type AeadKey = [u8; 16];
+
+pub type RtpSalt = [u8; 12];
+
+pub type RtpIv = [u8; 12];
+
+pub use crate::gcm::{rtcp_iv, rtp_iv};

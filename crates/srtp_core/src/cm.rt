@@ -1,0 +1,201 @@
+ghost use Rattle.std.specs.Prelude.{◌≡◌, ℕ, ◌+◌, ◌-◌, ◌^◌, ◌<◌, ◌≤◌, List, ◌++◌, true, length, take, drop, IfOk, IfSome, IfNone};
+ghost use Rattle.srtp_core.specs.Keys.{derived};
+ghost use Rattle.srtp_core.specs.Seals.{cm_iv, cm_sealed_rtp};
+ghost use Rattle.srtp_core.specs.Streams.{streamed};
+ghost use Rattle.srtp_core.specs.CmSeals.{CmRtcpOpens};
+ghost use Rattle.srtp_core.specs.RtcpSeals.{sender_of, cm_sealed_rtcp};
+
+use crate::aes_128_cm_sha1_80::{HMAC_TAG_LEN, rtcp_tag, rtcp_verify, rtp_iv, rtp_tag, rtp_verify};
+use crate::cipher::SrtpCipher;
+use crate::gcm_rtcp::{E_BIT, number_of, sender};
+use crate::keying::SrtpKey;
+use std::alloc::{AllocError, Global};
+
+/// A key for counter mode, with the key of its tags and its salt.
+#[derive(Drop)]
+pub(crate) struct CmKeys<C: SrtpCipher> {
+    pub(crate) key: C::Key128,
+    pub(crate) authentication: [u8; 20],
+    pub(crate) salt: [u8; 14],
+}
+
+/// The keys of a direction.
+#[derive(Drop)]
+pub(crate) struct CmDirection<C: SrtpCipher> {
+    pub(crate) rtp: CmKeys<C>,
+    pub(crate) rtcp: CmKeys<C>,
+}
+
+fn cm_keys<C: SrtpCipher>(cipher: C, master: &SrtpKey<16, 14>, first_label: u8) -> CmKeys<C>
+    requires { first_label ≤ 3 }
+    ensures key { C.bytes_128 result.key ≡ derived (C.block master.now.master) master.now.salt first_label 16 }
+    ensures authentication { result.authentication ≡ derived (C.block master.now.master) master.now.salt (first_label + 1) 20 }
+    ensures salt { result.salt ≡ derived (C.block master.now.master) master.now.salt (first_label + 2) 14 }
+{
+    let mut key = [0; 16];
+    master.derive(cipher, first_label, &mut key);
+    let mut authentication = [0; 20];
+    master.derive(cipher, first_label + 1, &mut authentication);
+    let mut salt = [0; 14];
+    master.derive(cipher, first_label + 2, &mut salt);
+    CmKeys {
+        key: cipher.key_128(&key),
+        authentication,
+        salt,
+    }
+}
+
+/// The keys of a direction, of its master key.
+pub(crate) fn cm_direction<C: SrtpCipher>(cipher: C, master: &SrtpKey<16, 14>) -> CmDirection<C>
+    ensures rtp_key { C.bytes_128 result.rtp.key ≡ derived (C.block master.now.master) master.now.salt 0 16 }
+    ensures rtp_authentication { result.rtp.authentication ≡ derived (C.block master.now.master) master.now.salt 1 20 }
+    ensures rtp_salt { result.rtp.salt ≡ derived (C.block master.now.master) master.now.salt 2 14 }
+    ensures rtcp_key { C.bytes_128 result.rtcp.key ≡ derived (C.block master.now.master) master.now.salt 3 16 }
+    ensures rtcp_authentication { result.rtcp.authentication ≡ derived (C.block master.now.master) master.now.salt 4 20 }
+    ensures rtcp_salt { result.rtcp.salt ≡ derived (C.block master.now.master) master.now.salt 5 14 }
+{
+    CmDirection {
+        rtp: cm_keys(cipher, master, 0),
+        rtcp: cm_keys(cipher, master, 3),
+    }
+}
+
+/// Seals an RTP datagram whose header is its first bytes.
+pub(crate) fn seal_rtp<C: SrtpCipher>(
+    alloc: Global,
+    cipher: C,
+    keys: &CmKeys<C>,
+    buf: &[u8],
+    header_len: usize,
+    ssrc: u32,
+    index: u64,
+) -> Result<Vec<u8>, AllocError>
+    requires header { header_len ≤ length buf.now }
+    requires index { index < 2 ^ 48 }
+    ensures { IfOk result (λ v. v.items
+        ≡ cm_sealed_rtp C.keystream (C.bytes_128 keys.now.key) keys.now.authentication keys.now.salt ssrc index (take header_len buf.now) (drop header_len buf.now)) }
+{
+    let mut sealed = vec![in alloc; 0; buf.len() + HMAC_TAG_LEN]?;
+    let (header, payload) = buf.split_at(header_len);
+    let (text, tag) = sealed.split_at_mut(buf.len());
+    let (front, body) = text.split_at_mut(header_len);
+    front.copy_from_slice(header);
+    cipher.ctr(&keys.key, &rtp_iv(keys.salt, ssrc, index), payload, body);
+    tag.copy_from_slice(&rtp_tag(&keys.authentication, text, index));
+    Ok(sealed)
+}
+
+/// Opens an RTP datagram whose header is its first bytes, into the front of a buffer, and tells the
+/// length of the payload.
+pub(crate) fn open_rtp<C: SrtpCipher>(
+    cipher: C,
+    keys: &CmKeys<C>,
+    buf: &[u8],
+    header_len: usize,
+    ssrc: u32,
+    index: u64,
+    output: &mut [u8],
+) -> Option<usize>
+    requires header { header_len ≤ length buf.now }
+    requires room { length buf.now ≤ length output.old }
+    requires index { index < 2 ^ 48 }
+    ensures same { length output.new ≡ length output.old }
+    ensures len { IfSome result (λ n. n ≤ length output.new) }
+    ensures opens { IfSome result (λ n.
+        cm_sealed_rtp C.keystream (C.bytes_128 keys.now.key) keys.now.authentication keys.now.salt ssrc index (take header_len buf.now) (take n output.new) ≡ buf.now) }
+    ensures none { IfNone result ((payload : List ℕ)
+        → cm_sealed_rtp C.keystream (C.bytes_128 keys.now.key) keys.now.authentication keys.now.salt ssrc index (take header_len buf.now) payload ≡ buf.now → ⊥) }
+{
+    if buf.len() - header_len < HMAC_TAG_LEN {
+        return None;
+    }
+    let (text, tag) = buf.split_at(buf.len() - HMAC_TAG_LEN);
+    if !rtp_verify(&keys.authentication, text, index, tag) {
+        return None;
+    }
+    let (_, body) = text.split_at(header_len);
+    let (front, _) = output.split_at_mut(body.len());
+    cipher.ctr(&keys.key, &rtp_iv(keys.salt, ssrc, index), body, front);
+    Some(body.len())
+}
+
+/// Seals an RTCP packet.
+pub(crate) fn seal_rtcp<C: SrtpCipher>(
+    alloc: Global,
+    cipher: C,
+    keys: &CmKeys<C>,
+    buf: &[u8],
+    index: u32,
+) -> Result<Vec<u8>, AllocError>
+    requires header { 8 ≤ length buf.now }
+    requires index { index < 2 ^ 31 }
+    ensures { IfOk result (λ v. v.items
+        ≡ cm_sealed_rtcp C.keystream (C.bytes_128 keys.now.key) keys.now.authentication keys.now.salt true index (take 8 buf.now) (drop 8 buf.now)) }
+{
+    let mut sealed = vec![in alloc; 0; buf.len() + 4 + HMAC_TAG_LEN]?;
+    let (header, rest) = buf.split_at(8);
+    let (text, tag) = sealed.split_at_mut(buf.len() + 4);
+    let (front, behind) = text.split_at_mut(8);
+    let (body, word) = behind.split_at_mut(rest.len());
+    front.copy_from_slice(header);
+    let iv = rtp_iv(keys.salt, sender(header), index as u64);
+    cipher.ctr(&keys.key, &iv, rest, body);
+    word.copy_from_slice(&(E_BIT + index).to_be_bytes());
+    tag.copy_from_slice(&rtcp_tag(&keys.authentication, text));
+    Ok(sealed)
+}
+
+/// A packet whose rest is deciphered.
+fn deciphered<C: SrtpCipher>(
+    alloc: Global,
+    cipher: C,
+    keys: &CmKeys<C>,
+    packet: &[u8],
+    index: u32,
+) -> Result<Vec<u8>, AllocError>
+    requires { 8 ≤ length packet.now }
+    ensures { IfOk result (λ v. v.items ≡ take 8 packet.now
+        ++ streamed (C.keystream (C.bytes_128 keys.now.key) (cm_iv keys.now.salt (sender_of (take 8 packet.now)) index)) (drop 8 packet.now)) }
+{
+    let mut plain = vec![in alloc; 0; packet.len()]?;
+    let (header, rest) = packet.split_at(8);
+    let (front, body) = plain.split_at_mut(8);
+    front.copy_from_slice(header);
+    let iv = rtp_iv(keys.salt, sender(header), index as u64);
+    cipher.ctr(&keys.key, &iv, rest, body);
+    Ok(plain)
+}
+
+fn copied(alloc: Global, packet: &[u8]) -> Result<Vec<u8>, AllocError>
+    ensures { IfOk result (λ v. v.items ≡ packet.now) }
+{
+    packet.to_vec(alloc)
+}
+
+/// Opens an RTCP packet, encrypted or not.
+pub(crate) fn open_rtcp<C: SrtpCipher>(
+    alloc: Global,
+    cipher: C,
+    keys: &CmKeys<C>,
+    buf: &[u8],
+) -> Result<Option<Vec<u8>>, AllocError>
+    ensures some { IfOk result (λ r. IfSome r (λ v.
+        CmRtcpOpens C.keystream (C.bytes_128 keys.now.key) keys.now.authentication keys.now.salt buf.now v.items)) }
+    ensures none { IfOk result (λ r. IfNone r ((p : List ℕ)
+        → CmRtcpOpens C.keystream (C.bytes_128 keys.now.key) keys.now.authentication keys.now.salt buf.now p → ⊥)) }
+{
+    if buf.len() < 22 {
+        return Ok(None);
+    }
+    let (text, tag) = buf.split_at(buf.len() - HMAC_TAG_LEN);
+    if !rtcp_verify(&keys.authentication, text, tag) {
+        return Ok(None);
+    }
+    let (packet, word) = text.split_at(text.len() - 4);
+    let number = number_of(word);
+    if number >= E_BIT {
+        Ok(Some(deciphered(alloc, cipher, keys, packet, number % E_BIT)?))
+    } else {
+        Ok(Some(copied(alloc, packet)?))
+    }
+}

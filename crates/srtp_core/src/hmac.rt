@@ -1,0 +1,48 @@
+ghost use Rattle.std.specs.Prelude.{◌≡◌, ℕ, ◌≤◌, List, ◌++◌, length, slice_index};
+ghost use Rattle.srtp_core.specs.Hmac.{pad_of, hmac_of};
+ghost use Rattle.sha1.specs.Sha1.{sha1};
+
+use sha1::Sha1;
+
+fn byte_or_zero(bytes: &[u8], i: usize) -> u8
+    ensures { result ≡ slice_index bytes.now i }
+{
+    if i < bytes.len() { bytes[i] } else { 0 }
+}
+
+fn pad(key: &[u8], with: u8) -> [u8; 64]
+    requires { length key.now ≤ 64 }
+    ensures { result ≡ pad_of key.now with }
+{
+    let mut block = [0; 64];
+    for i in 0..64 {
+        block[i] = with ^ byte_or_zero(key, i);
+    }
+    block
+}
+
+fn keyed(key: &[u8], part1: &[u8], part2: &[u8]) -> [u8; 20]
+    requires { length key.now ≤ 64 }
+    ensures { result ≡ sha1 (pad_of key.now 0x5c ++ sha1 (pad_of key.now 0x36 ++ (part1.now ++ part2.now))) }
+{
+    let mut inner = Sha1::new();
+    inner.update(&pad(key, 0x36));
+    inner.update(part1);
+    inner.update(part2);
+    let mut outer = Sha1::new();
+    outer.update(&pad(key, 0x5c));
+    outer.update(&inner.finalize());
+    outer.finalize()
+}
+
+/// HMAC-SHA1 (RFC 2104) of two parts, one after the other.
+#[tactic(auto, unfolding(crate::specs::Hmac::hmac_of))]
+pub fn sha1_hmac(key: &[u8], part1: &[u8], part2: &[u8]) -> [u8; 20]
+    ensures { result ≡ hmac_of key.now (part1.now ++ part2.now) }
+{
+    if key.len() > 64 {
+        keyed(&Sha1::digest(key), part1, part2)
+    } else {
+        keyed(key, part1, part2)
+    }
+}
