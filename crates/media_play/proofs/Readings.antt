@@ -1,0 +1,173 @@
+-- What is read off the entries of a run and off what one step more brings.
+use Rattle.std.proofs.Common.{◌≡◌, inl, inr, ℕ, true, false, not, ◌&&◌, List, [], ◌∷◌, ◌++◌, map, refl, sym, ap, ◌∙◌, subst}
+use Rattle.std.specs.Prelude.{◌==◌}
+use Rattle.std.specs.List.{flat_map}
+use Rattle.std.proofs.lemmas.List.{append-nil}
+use Rattle.std.proofs.lemmas.List.Concat.{flat_map-append}
+use Rattle.std.proofs.lemmas.Bool.{and_parts, and_from, eqb-true, eq-eqb}
+use Rattle.rtp_wire.specs.declared.header.RtpHeader.{RtpHeader}
+use Rattle.media_script.specs.declared.entry.Side.{Side}
+use Rattle.media_script.specs.declared.entry.Side.TheVariants.{A, B}
+use Rattle.media_script.specs.declared.entry.Kind.{Kind}
+use Rattle.media_script.specs.declared.entry.Kind.TheVariants.{Rtp, Rtcp}
+use Rattle.media_script.specs.declared.entry.Write.{Write as Writing}
+use Rattle.media_script.specs.declared.entry.Packet.{Packet}
+use Rattle.media_script.specs.declared.entry.Entry.{Entry}
+use Rattle.media_script.specs.declared.entry.Entry.TheVariants.{Wrote, Ticked, Got, Sealed, Opened, Yielded}
+use Rattle.media_script.specs.declared.setup.Setup.{Setup}
+use Rattle.media_script.specs.Sides.{same_side, same_kind, peer_of}
+use Rattle.media_script.specs.Setup.{streams_of}
+use Rattle.media_play.specs.Listing.{IsIn}
+use Rattle.media_play.specs.Entries.{write_on, writes_on, write_by, writes_by, sealed_number_on, sealed_numbers, is_sealed, queued}
+use Rattle.media_play.specs.Opening.{Sealing, Receives, opens, stays, yields, packet_from}
+use Rattle.media_play.specs.Plain.{plain_of}
+use Rattle.media_play.specs.Play.{sealed_write, to_seal, sealed_at_tick}
+use Rattle.media_play.proofs.Lists.{IsIn-right, IsIn-flat_map, IsIn-from_flat_map, IsIn-from_filter, tested, any-from_in, map-flat_map}
+
+pub same_side-true : (s t : Side) → same_side s t ≡ true → s ≡ t
+same_side-true A A e = refl
+same_side-true A B e = absurd cc
+same_side-true B A e = absurd cc
+same_side-true B B e = refl
+
+pub same_side-refl : (s : Side) → same_side s s ≡ true
+same_side-refl A = refl
+same_side-refl B = refl
+
+pub same_kind-true : (s t : Kind) → same_kind s t ≡ true → s ≡ t
+same_kind-true Rtp Rtp e = refl
+same_kind-true Rtp Rtcp e = absurd cc
+same_kind-true Rtcp Rtp e = absurd cc
+same_kind-true Rtcp Rtcp e = refl
+
+pub same_side-peer : (s : Side) → same_side (peer_of s) s ≡ false
+same_side-peer A = refl
+same_side-peer B = refl
+
+-- a stream of a side is its own
+pub same_stream : (s : Side) (r : ℕ) → (same_side s s && (r == r)) ≡ true
+same_stream s r = and_from (same_side s s) (r == r) (same_side-refl s) (eq-eqb r r refl)
+
+pub sealed_at_tick-map : (seal : Sealing) (setup : Setup) (side : Side) (entries : List Entry)
+    → sealed_at_tick seal setup side entries ≡ map (sealed_write seal side) (to_seal setup side entries)
+sealed_at_tick-map seal setup side entries = map-flat_map (sealed_write seal side) (λ ssrc. queued side ssrc entries) (streams_of side setup)
+
+-- what nothing new has is as before
+pub same_reading : {Y : Type 0} (f : Entry → List Y) (xs ys : List Entry) → flat_map f ys ≡ [] → flat_map f (xs ++ ys) ≡ flat_map f xs
+same_reading f xs ys none = flat_map-append f xs ys ∙ ap (λ zs. flat_map f xs ++ zs) none ∙ append-nil (flat_map f xs)
+
+pub seals_none : {Y : Type 0} (seal : Sealing) (side : Side) (f : Entry → List Y) → ((s : Side) (k : Kind) (r i : ℕ) (p b : List ℕ) → f (Sealed s k r i p b) ≡ [])
+    → (ws : List Writing) → flat_map f (map (sealed_write seal side) ws) ≡ []
+seals_none seal side f none [] = refl
+seals_none seal side f none (w ∷ ws) = rw (none side Rtp w.ssrc w.number (plain_of w) (seal side w.ssrc w.number 12 (plain_of w))) (seals_none seal side f none ws)
+
+pub tick_none : {Y : Type 0} (seal : Sealing) (setup : Setup) (side : Side) (entries : List Entry) (f : Entry → List Y) → ((s : Side) (k : Kind) (r i : ℕ) (p b : List ℕ) → f (Sealed s k r i p b) ≡ [])
+    → flat_map f (sealed_at_tick seal setup side entries) ≡ []
+tick_none seal setup side entries f none = ap (flat_map f) (sealed_at_tick-map seal setup side entries) ∙ seals_none seal side f none (to_seal setup side entries)
+
+pub yields_none : {Y : Type 0} (f : Entry → List Y) → ((s : Side) (p : Packet) → f (Yielded s p) ≡ []) → (side : Side) (header : RtpHeader) (number : ℕ) (plain : List ℕ)
+    → flat_map f (yields side header number plain) ≡ []
+yields_none f none side header number plain =
+    elim (tested (header.ssrc == 0)) [ inl t ↦ rw t refl | inr t ↦ rw (t, none side (packet_from header number plain)) refl ]
+
+pub received_none : {Y : Type 0} (f : Entry → List Y) → ((s : Side) (k : Kind) (r i : ℕ) (p : List ℕ) → f (Opened s k r i p) ≡ []) → ((s : Side) (p : Packet) → f (Yielded s p) ≡ [])
+    → {seal : Sealing} {setup : Setup} {side : Side} {entries : List Entry} {bytes : List ℕ} {brought : List Entry} → Receives seal setup side entries bytes brought → flat_map f brought ≡ []
+received_none f opened yielded {side = side} (opens header number plain o) = rw (opened side Rtp header.ssrc number plain) (yields_none f yielded side header number plain)
+received_none f opened yielded (stays none) = refl
+
+-- writes
+
+pub written_on : (s : Side) (r : ℕ) (entries : List Entry) (w : Writing) → IsIn w (writes_on s r entries) → w.ssrc ≡ r
+written_on s r [] w h = absurd h
+written_on s r (Wrote t time u ∷ entries) w h =
+    elim (tested (same_side s t && (u.ssrc == r))) [
+      | inl e ↦ elim (rw e at h) [
+        | inl is ↦ ap (λ (x : Writing). x.ssrc) is ∙ eqb-true u.ssrc r (and_parts (same_side s t) (u.ssrc == r) e).1
+        | inr i ↦ written_on s r entries w i
+      ]
+      | inr e ↦ written_on s r entries w (rw e at h)
+    ]
+written_on s r (Ticked t time ∷ entries) w h = written_on s r entries w h
+written_on s r (Got t time k b ∷ entries) w h = written_on s r entries w h
+written_on s r (Sealed t k q i p b ∷ entries) w h = written_on s r entries w h
+written_on s r (Opened t k q i p ∷ entries) w h = written_on s r entries w h
+written_on s r (Yielded t p ∷ entries) w h = written_on s r entries w h
+
+pub written_by : (s : Side) (r : ℕ) (entries : List Entry) (w : Writing) → IsIn w (writes_on s r entries) → IsIn w (writes_by s entries)
+written_by s r [] w h = absurd h
+written_by s r (Wrote t time u ∷ entries) w h =
+    elim (tested (same_side s t && (u.ssrc == r))) [
+      | inl e ↦ rw (and_parts (same_side s t) (u.ssrc == r) e).0 (elim (rw e at h) [ inl is ↦ inl is | inr i ↦ inr (written_by s r entries w i) ])
+      | inr e ↦ IsIn-right w (write_by s (Wrote t time u)) (writes_by s entries) (written_by s r entries w (rw e at h))
+    ]
+written_by s r (Ticked t time ∷ entries) w h = written_by s r entries w h
+written_by s r (Got t time k b ∷ entries) w h = written_by s r entries w h
+written_by s r (Sealed t k q i p b ∷ entries) w h = written_by s r entries w h
+written_by s r (Opened t k q i p ∷ entries) w h = written_by s r entries w h
+written_by s r (Yielded t p ∷ entries) w h = written_by s r entries w h
+
+pub by_written : (s : Side) (entries : List Entry) (w : Writing) → IsIn w (writes_by s entries) → IsIn w (writes_on s w.ssrc entries)
+by_written s [] w h = absurd h
+by_written s (Wrote t time u ∷ entries) w h =
+    elim (tested (same_side s t)) [
+      | inl e ↦ elim (rw e at h) [
+        | inl is ↦ rw (e, eq-eqb u.ssrc w.ssrc (ap (λ (x : Writing). x.ssrc) (sym is))) (inl is)
+        | inr i ↦ IsIn-right w (write_on s w.ssrc (Wrote t time u)) (writes_on s w.ssrc entries) (by_written s entries w i)
+      ]
+      | inr e ↦ IsIn-right w (write_on s w.ssrc (Wrote t time u)) (writes_on s w.ssrc entries) (by_written s entries w (rw e at h))
+    ]
+by_written s (Ticked t time ∷ entries) w h = by_written s entries w h
+by_written s (Got t time k b ∷ entries) w h = by_written s entries w h
+by_written s (Sealed t k q i p b ∷ entries) w h = by_written s entries w h
+by_written s (Opened t k q i p ∷ entries) w h = by_written s entries w h
+by_written s (Yielded t p ∷ entries) w h = by_written s entries w h
+
+-- seals
+
+pub sealed_in : (s : Side) (r : ℕ) (entries : List Entry) (n : ℕ) → IsIn n (sealed_numbers s r entries)
+    → (plain bytes : List ℕ) × IsIn (Sealed s Rtp r n plain bytes) entries
+sealed_in s r entries n h =
+    let got = IsIn-from_flat_map (sealed_number_on s r) n entries h in
+    at got.0 got.1 got.2
+  where
+    at : (e : Entry) → IsIn e entries → IsIn n (sealed_number_on s r e) → (plain bytes : List ℕ) × IsIn (Sealed s Rtp r n plain bytes) entries
+    at (Sealed t k q i p b) here there =
+        elim (tested (same_side s t && (same_kind Rtp k && (q == r)))) [
+          | inl e ↦
+              let parts = and_parts (same_side s t) (same_kind Rtp k && (q == r)) e in
+              let more = and_parts (same_kind Rtp k) (q == r) parts.1 in
+              let is-s = same_side-true s t parts.0 in
+              let is-k = same_kind-true Rtp k more.0 in
+              let is-r = eqb-true q r more.1 in
+              elim (rw e at there) [
+                | inl is-n ↦
+                    let same : Sealed t k q i p b ≡ Sealed s Rtp r n p b = cc in
+                    (p, b, subst (λ x. IsIn x entries) same here)
+                | inr other ↦ absurd other
+              ]
+          | inr e ↦ absurd (rw e at there)
+        ]
+    at (Wrote t time u) here there = absurd there
+    at (Ticked t time) here there = absurd there
+    at (Got t time k b) here there = absurd there
+    at (Opened t k q i p) here there = absurd there
+    at (Yielded t p) here there = absurd there
+
+pub seal_in : (s : Side) (r : ℕ) (entries : List Entry) (n : ℕ) (plain bytes : List ℕ) → IsIn (Sealed s Rtp r n plain bytes) entries → IsIn n (sealed_numbers s r entries)
+seal_in s r entries n plain bytes h =
+    IsIn-flat_map (sealed_number_on s r) (Sealed s Rtp r n plain bytes) n entries h (rw (same_side-refl s, eq-eqb r r refl) (inl refl))
+
+-- a write that waits
+pub queued_in : (s : Side) (r : ℕ) (entries : List Entry) (w : Writing) → IsIn w (queued s r entries)
+    → IsIn w (writes_on s r entries) × (IsIn w.number (sealed_numbers s r entries) → ⊥)
+queued_in s r entries w h =
+    let got = IsIn-from_filter (λ w. not (is_sealed (sealed_numbers s r entries) w)) w (writes_on s r entries) h in
+    (got.0, λ i. absurd (cc (got.1, any-from_in (λ n. n == w.number) w.number (sealed_numbers s r entries) i (eq-eqb w.number w.number refl))))
+
+pub to_seal_in : (setup : Setup) (side : Side) (entries : List Entry) (w : Writing) → IsIn w (to_seal setup side entries)
+    → IsIn w (writes_on side w.ssrc entries) × (IsIn w.number (sealed_numbers side w.ssrc entries) → ⊥)
+to_seal_in setup side entries w h =
+    let got = IsIn-from_flat_map (λ ssrc. queued side ssrc entries) w (streams_of side setup) h in
+    let waits = queued_in side got.0 entries w got.2 in
+    let is : got.0 ≡ w.ssrc = sym (written_on side got.0 entries w waits.0) in
+    (subst (λ r. IsIn w (writes_on side r entries)) is waits.0, λ i. waits.1 (subst (λ r. IsIn w.number (sealed_numbers side r entries)) (sym is) i))

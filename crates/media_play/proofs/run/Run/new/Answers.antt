@@ -1,0 +1,18 @@
+use Rattle.std.proofs.Common.{◌≡◌, ◌∙◌, [], sym, ap, subst}
+use Rattle.media_script.specs.declared.entry.Side.TheVariants.{A, B}
+use Rattle.media_play.specs.Entries.{last_time}
+use Rattle.media_play.specs.Play.{Played, start}
+use Rattle.media_play.specs.Sessions.{Ready, sealing_of}
+use Rattle.media_play.proofs.run.Run.new.Goals as goal
+
+pub returns : goal.returns
+returns g c =
+    let K = g.C.SrtpCipher in
+    let setup = c.args.setup.now in
+    let none : c.new-3.result ≡ [] = c.new-3.ensures in
+    record {
+      a_knows = subst (Ready K.block setup A c.in_ok-new.field-0) (sym none) c.in_ok-new.ensures;
+      b_knows = subst (Ready K.block setup B c.in_ok-new-2.field-0) (sym none) c.in_ok-new-2.ensures;
+      time = c.from_nanos.ensures ∙ ap last_time (sym none);
+      played = subst (Played (sealing_of K.keystream K.aead K.block setup) setup []) (sym none) start;
+    }

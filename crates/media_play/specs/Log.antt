@@ -1,0 +1,33 @@
+-- Where the sealed datagrams stand among the entries.
+use Rattle.std.specs.Prelude.{ℕ, ◌+◌, Bool, true, false, cond, List, [], ◌∷◌, Option, Some, None, slice_get}
+use Rattle.std.specs.Option.{option_and_then}
+use Rattle.media_script.specs.declared.entry.Side.{Side}
+use Rattle.media_script.specs.declared.entry.Entry.{Entry}
+use Rattle.media_script.specs.declared.entry.Entry.TheVariants.{Sealed}
+use Rattle.media_script.specs.Sides.{same_side}
+
+-- whether a side sealed by this entry
+abbrev pub seals : Side → Entry → Bool
+seals side (Sealed s kind ssrc index plain bytes) = same_side side s
+seals side entry = false
+
+abbrev pub is_seal : Entry → Bool
+is_seal (Sealed s kind ssrc index plain bytes) = true
+is_seal entry = false
+
+-- the places of the entries by which a side sealed, the first entry standing at this place
+abbrev pub places_from : ℕ → Side → List Entry → List ℕ
+places_from at side [] = []
+places_from at side (entry ∷ entries) = cond (seals side entry) (at ∷ places_from (at + 1) side entries) (places_from (at + 1) side entries)
+
+abbrev pub places : Side → List Entry → List ℕ
+places side entries = places_from 0 side entries
+
+-- the bytes of a seal
+abbrev pub bytes_of : Entry → Option (List ℕ)
+bytes_of (Sealed s kind ssrc index plain bytes) = Some bytes
+bytes_of entry = None
+
+-- the bytes of the seal that stands at a place
+abbrev pub sealed_at : List Entry → ℕ → Option (List ℕ)
+sealed_at entries place = option_and_then bytes_of (slice_get entries place)

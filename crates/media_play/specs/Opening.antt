@@ -1,0 +1,73 @@
+-- What opens, and what is then yielded.
+use Rattle.std.specs.Prelude.{◌≡◌, ◌≤◌, ℕ, Bool, true, false, IsTrue, ◌||◌, ◌&&◌, ◌==◌, if◌then◌else◌, List, [], ◌∷◌, ◌++◌, length, take, drop, Option, Some, None, IsSome, unwrap_or}
+use Rattle.rtp_wire.specs.declared.header.RtpHeader.{RtpHeader}
+use Rattle.rtp_wire.specs.Header.{csrc_of}
+use Rattle.rtp_wire.specs.Widen.{widen16}
+use Rattle.rtp_wire.specs.Padding.{unpadded}
+use Rattle.media_play.specs.Plain.{read_header}
+use Rattle.media_script.specs.declared.entry.Side.{Side}
+use Rattle.media_script.specs.declared.entry.Kind.TheVariants.{Rtp}
+use Rattle.media_script.specs.declared.entry.Packet.{Packet}
+use Rattle.media_script.specs.declared.entry.Entry.{Entry}
+use Rattle.media_script.specs.declared.entry.Entry.TheVariants.{Opened, Yielded}
+use Rattle.media_script.specs.declared.setup.Setup.{Setup}
+use Rattle.media_script.specs.Sides.{peer_of}
+use Rattle.media_script.specs.Setup.{streams_of, types_of}
+use Rattle.media_play.specs.Entries.{taken}
+use Rattle.repair_core.specs.Fresh.{greatest_of, is_fresh}
+use Rattle.media_play.specs.Rules.{has}
+
+-- the number with these low 16 bits, where it is fresh
+abbrev pub fresh_number : List ℕ → ℕ → Option ℕ
+fresh_number l low = if is_fresh l (widen16 (greatest_of l) low) then Some (widen16 (greatest_of l) low) else None
+
+-- SSRC 0, or a main SSRC of the other side's streams with a payload type that the setup claims
+abbrev pub is_known : Setup → Side → RtpHeader → Bool
+is_known setup side header = (header.ssrc == 0) || (has (streams_of (peer_of side) setup) header.ssrc && has (types_of setup) header.payload_type)
+
+-- the payload without its padding
+abbrev pub cut : RtpHeader → List ℕ → List ℕ
+cut header payload = if header.has_padding then unwrap_or (unpadded payload) payload else payload
+
+-- the packet with a header, a number and a payload
+abbrev pub packet_with : RtpHeader → ℕ → List ℕ → Packet
+packet_with header number payload = record {
+  ssrc = header.ssrc;
+  number = number;
+  pt = header.payload_type;
+  rtp_time = header.timestamp;
+  marker = header.marker;
+  csrc = csrc_of header;
+  payload = payload;
+}
+
+-- the packet of a plain datagram under its number
+abbrev pub packet_from : RtpHeader → ℕ → List ℕ → Packet
+packet_from header number plain = packet_with header number (cut header (drop header.header_len plain))
+
+-- what an opened RTP datagram yields: its packet, but on SSRC 0 nothing
+abbrev pub yields : Side → RtpHeader → ℕ → List ℕ → List Entry
+yields side header number plain = if header.ssrc == 0 then [] else Yielded side (packet_from header number plain) ∷ []
+
+-- the bytes that a side makes of a plain RTP datagram under an SSRC and an extended number, the length of its header
+-- being given
+abbrev pub Sealing : Type 0
+Sealing = Side → ℕ → ℕ → ℕ → List ℕ → List ℕ
+
+-- RTP bytes that come to a side after these entries open under this number to this plain datagram
+pub record Opens (seal : Sealing) (setup : Setup) (side : Side) (entries : List Entry) (bytes : List ℕ) (header : RtpHeader) (number : ℕ) (plain : List ℕ) : Type 0 where
+  pub short : length bytes ≤ 2000
+  pub reads : read_header bytes ≡ Some header
+  pub known : is_known setup side header ≡ true
+  pub widened : number ≡ widen16 (greatest_of (taken side header.ssrc entries)) header.sequence_number
+  pub fresh : is_fresh (taken side header.ssrc entries) number ≡ true
+  pub front : take header.header_len plain ≡ take header.header_len bytes
+  pub sealed : seal (peer_of side) header.ssrc number header.header_len plain ≡ bytes
+  pub unpads : IsTrue header.has_padding → IsSome (unpadded (drop header.header_len plain))
+
+-- what RTP bytes bring that come to a side after these entries
+pub data Receives (seal : Sealing) (setup : Setup) (side : Side) (entries : List Entry) (bytes : List ℕ) : List Entry → Type 0 where
+  opens : (header : RtpHeader) (number : ℕ) (plain : List ℕ) → Opens seal setup side entries bytes header number plain
+      → Receives seal setup side entries bytes (Opened side Rtp header.ssrc number plain ∷ yields side header number plain)
+  stays : ((header : RtpHeader) (number : ℕ) (plain : List ℕ) → Opens seal setup side entries bytes header number plain → ⊥)
+      → Receives seal setup side entries bytes []

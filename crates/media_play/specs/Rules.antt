@@ -1,0 +1,47 @@
+-- The first rule that a step breaks, after these entries.
+use Rattle.std.specs.Prelude.{ℕ, ◌^◌, Bool, not, ◌||◌, ◌==◌, nat_lt, nat_le, if◌then◌else◌, List, length, Option, Some, None}
+use Rattle.std.specs.List.{list_any}
+use Rattle.media_script.specs.declared.entry.Side.{Side}
+use Rattle.media_script.specs.declared.entry.Write.{Write as Writing}
+use Rattle.media_script.specs.declared.entry.Entry.{Entry}
+use Rattle.media_script.specs.declared.step.Step.{Step}
+use Rattle.media_script.specs.declared.step.Step.TheVariants.{Write, Tick, Deliver}
+use Rattle.media_script.specs.declared.setup.Setup.{Setup}
+use Rattle.media_script.specs.Sides.{peer_of}
+use Rattle.media_script.specs.Setup.{streams_of, types_of}
+use Rattle.media_play.specs.declared.fault.StepFault.{StepFault}
+use Rattle.media_play.specs.declared.fault.StepFault.TheVariants.{TimeZero, TimeBack, TimeBeyond, UnknownStream, UnknownDatagram, UnknownType, NumberTooBig, NumberUsed, PayloadTooLong}
+use Rattle.media_play.specs.Entries.{last_time, writes_on, datagrams}
+
+abbrev pub has : List ℕ → ℕ → Bool
+has xs n = list_any (λ x. x == n) xs
+
+-- the first fault, where there is one, else what the rules after it say
+abbrev pub or_else : Option StepFault → Option StepFault → Option StepFault
+or_else (Some fault) later = Some fault
+or_else None later = later
+
+-- 1 to 10^16 ns, and no time falls
+abbrev pub time_fault : List Entry → ℕ → Option StepFault
+time_fault entries time =
+    if time == 0 then Some TimeZero
+    else (if nat_lt time (last_time entries) then Some TimeBack
+    else (if nat_lt (10 ^ 16) time then Some TimeBeyond else None))
+
+abbrev pub write_fault : Setup → List Entry → Side → Writing → Option StepFault
+write_fault setup entries side w =
+    if not (has (streams_of side setup) w.ssrc) then Some UnknownStream
+    else (if not (has (types_of setup) w.pt) then Some UnknownType
+    else (if nat_le (2 ^ 48) w.number then Some NumberTooBig
+    else (if list_any (λ u. u.number == w.number) (writes_on side w.ssrc entries) then Some NumberUsed
+    else (if nat_lt 1400 (length w.payload) then Some PayloadTooLong else None))))
+
+-- a datagram that the other side sealed, counted from 1
+abbrev pub deliver_fault : List Entry → Side → ℕ → Option StepFault
+deliver_fault entries side k =
+    if (k == 0) || nat_lt (length (datagrams (peer_of side) entries)) k then Some UnknownDatagram else None
+
+abbrev pub step_fault : Setup → List Entry → Step → Option StepFault
+step_fault setup entries (Write side time write) = or_else (time_fault entries time) (write_fault setup entries side write)
+step_fault setup entries (Tick side time) = time_fault entries time
+step_fault setup entries (Deliver side time k) = or_else (time_fault entries time) (deliver_fault entries side k)

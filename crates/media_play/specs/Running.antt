@@ -1,0 +1,44 @@
+-- What a run knows of the steps that it played.
+use Rattle.std.specs.Prelude.{◌≡◌, ◌+◌, ◌≤◌, ℕ, List, [], length, take, slice_get, Some, None, Result, Ok, Err}
+use Rattle.media_script.specs.declared.entry.Side.TheVariants.{A, B}
+use Rattle.media_script.specs.declared.entry.Entry.{Entry}
+use Rattle.media_script.specs.declared.transcript.Transcript.{Transcript}
+use Rattle.media_script.specs.declared.step.Step.{Step}
+use Rattle.media_script.specs.declared.setup.Setup.{Setup}
+use Rattle.media_play.specs.declared.fault.RunError.{RunError}
+use Rattle.media_play.specs.declared.fault.RunFault.{RunFault}
+use Rattle.media_play.specs.declared.fault.RunError.TheVariants as error
+use Rattle.media_play.specs.Entries.{last_time}
+use Rattle.media_play.specs.Opening.{Sealing}
+use Rattle.media_play.specs.Play.{Played}
+use Rattle.media_play.specs.Rules.{step_fault}
+use Rattle.media_play.specs.Sessions.{SessionState, Ready}
+use Rattle.media_play.specs.SetupRules.{setup_fault}
+
+-- the two sessions, the entries so far and the time of the last step
+pub record RunState : Type 0 where
+  pub a : SessionState
+  pub b : SessionState
+  pub log : List Entry
+  pub latest : ℕ
+
+-- the entries are those that these steps brought, and each part knows them
+pub record Running (block : List ℕ → List ℕ → List ℕ) (seal : Sealing) (setup : Setup) (run : RunState) (steps : List Step) : Type 0 where
+  pub a_knows : Ready block setup A run.a run.log
+  pub b_knows : Ready block setup B run.b run.log
+  pub time : run.latest ≡ last_time run.log
+  pub played : Played seal setup steps run.log
+
+-- why a run ended, and what it brought until then: nothing for a setup that breaks a rule; all steps before the one that
+-- breaks a rule, which is the first one; without memory some steps at the front
+abbrev pub HasCause : Sealing → Setup → List Step → List Entry → RunError → Type 0
+HasCause seal setup steps entries (error.Setup fault) = (setup_fault setup ≡ Some fault) × (entries ≡ [])
+HasCause seal setup steps entries (error.Step number fault) =
+    (setup_fault setup ≡ None) × ((before : ℕ) × (step : Step) × (number ≡ before + 1) × (slice_get steps before ≡ Some step)
+    × Played seal setup (take before steps) entries × (step_fault setup entries step ≡ Some fault))
+HasCause seal setup steps entries error.Memory = (played : ℕ) × (played ≤ length steps) × Played seal setup (take played steps) entries
+
+-- what holds of the entries of a run, whether it came to its end or not
+abbrev pub OfRun : Result Transcript RunFault → (List Entry → Type 0) → Type 0
+OfRun (Ok entries) P = P entries
+OfRun (Err fault) P = P fault.sofar

@@ -1,0 +1,56 @@
+-- What a session knows of the entries so far.
+use Rattle.std.specs.Prelude.{◌≡◌, ℕ, Bool, true, false, List, [], ◌∷◌, take, drop, Option, Some, None}
+use Rattle.rtp_wire.specs.declared.header.RtpHeader.{RtpHeader}
+use Rattle.srtp_core.specs.Contexts.{SrtpState, new_state}
+use Rattle.srtp_core.specs.Keys.{session_keys}
+use Rattle.srtp_core.specs.Seals.{sealed_rtp, OpensTo}
+use Rattle.media_script.specs.declared.entry.Side.{Side}
+use Rattle.media_script.specs.declared.entry.Side.TheVariants.{A, B}
+use Rattle.media_script.specs.declared.entry.Kind.TheVariants.{Rtp}
+use Rattle.media_script.specs.declared.entry.Packet.{Packet}
+use Rattle.media_script.specs.declared.entry.Entry.{Entry}
+use Rattle.media_script.specs.declared.entry.Entry.TheVariants.{Opened, Yielded}
+use Rattle.media_script.specs.declared.setup.Setup.{Setup}
+use Rattle.media_script.specs.Setup.{material_of}
+use Rattle.media_script.specs.Sides.{peer_of}
+use Rattle.media_play.specs.declared.session.Received.{Received}
+use Rattle.media_play.specs.declared.streams.Streams.{Streams}
+use Rattle.media_play.specs.Knowing.{Knows}
+use Rattle.media_play.specs.Opening.{Sealing}
+
+-- side A is the left one
+abbrev pub is_left : Side → Bool
+is_left A = true
+is_left B = false
+
+-- how the sides of a setup seal, with a cipher's key stream, authenticated encryption and block
+abbrev pub sealing_of : (List ℕ → List ℕ → ℕ → ℕ) → (List ℕ → List ℕ → List ℕ → List ℕ → List ℕ) → (List ℕ → List ℕ → List ℕ) → Setup → Sealing
+sealing_of keystream aead block setup side ssrc index n plain =
+    sealed_rtp keystream aead setup.profile (session_keys block setup.profile (material_of setup) (is_left side)) ssrc index n plain
+
+-- the context that seals, the one that opens, and the streams
+pub record SessionState : Type 0 where
+  pub sealing : SrtpState
+  pub opening : SrtpState
+  pub streams : Streams
+
+-- the session seals with its side's keys and opens with its peer's, and its streams know the entries
+pub record Ready (block : List ℕ → List ℕ → List ℕ) (setup : Setup) (side : Side) (session : SessionState) (entries : List Entry) : Type 0 where
+  pub seals : session.sealing ≡ new_state block setup.profile (material_of setup) (is_left side) 0
+  pub opens : session.opening ≡ new_state block setup.profile (material_of setup) (is_left (peer_of side)) 0
+  pub knows : Knows setup side session.streams entries
+
+-- the bytes open in this context to this plain datagram, whose header is that of the bytes
+abbrev pub OpensAs : (List ℕ → List ℕ → ℕ → ℕ) → (List ℕ → List ℕ → List ℕ → List ℕ → List ℕ) → SrtpState → RtpHeader → ℕ → List ℕ → List ℕ → Type 0
+OpensAs keystream aead state header number bytes plain =
+    (take header.header_len plain ≡ take header.header_len bytes)
+    × OpensTo keystream aead state.profile state.keys header.ssrc number header.header_len bytes (drop header.header_len plain)
+
+abbrev pub yielded : Side → Option Packet → List Entry
+yielded side None = []
+yielded side (Some packet) = Yielded side packet ∷ []
+
+-- what a datagram brought that came to a side
+abbrev pub received_entries : Side → Option Received → List Entry
+received_entries side None = []
+received_entries side (Some r) = Opened side Rtp r.ssrc r.number r.plain ∷ yielded side r.packet

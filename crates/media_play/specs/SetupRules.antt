@@ -1,0 +1,66 @@
+-- The first rule that a setup breaks.
+use Rattle.std.specs.Prelude.{ℕ, Bool, true, false, not, ◌||◌, ◌&&◌, ◌==◌, nat_lt, if◌then◌else◌, List, [], ◌∷◌, ◌++◌, length, map, option_to_list, Option, Some, None, is_some}
+use Rattle.std.specs.List.{flat_map, list_any}
+use Rattle.std.specs.Str.{bytes_eq}
+use Rattle.media_script.specs.declared.setup.Stream.{Stream}
+use Rattle.media_script.specs.declared.setup.Media.{Media}
+use Rattle.media_script.specs.declared.setup.Setup.{Setup}
+use Rattle.media_script.specs.Setup.{material_len, material_of, types_of}
+use Rattle.media_script.specs.Sides.{same_side}
+use Rattle.media_play.specs.declared.fault.SetupFault.{SetupFault}
+use Rattle.media_play.specs.declared.fault.SetupFault.TheVariants.{KeyLength, TypeTwice, SsrcZero, SsrcTwice, RidTwice, RtxLater}
+use Rattle.media_play.specs.Rules.{has}
+
+-- a number stands twice
+abbrev pub repeats : List ℕ → Bool
+repeats [] = false
+repeats (x ∷ xs) = has xs x || repeats xs
+
+-- the streams of both sides, in order
+abbrev pub all_streams : Setup → List Stream
+all_streams setup = flat_map (λ (m : Media). m.streams) setup.media
+
+-- the main SSRC of a stream, and its RTX SSRC where it has one
+abbrev pub both_of : Stream → List ℕ
+both_of stream = stream.ssrc ∷ option_to_list stream.rtx
+
+abbrev pub stream_ssrcs : Setup → List ℕ
+stream_ssrcs setup = flat_map both_of (all_streams setup)
+
+-- the SSRCs under which the sides themselves speak
+abbrev pub local_ssrcs : List ℕ
+local_ssrcs = 1 ∷ 2 ∷ []
+
+abbrev pub any_mid_again : List Media → Bool
+any_mid_again [] = false
+any_mid_again (m ∷ ms) = list_any (λ (n : Media). bytes_eq n.mid m.mid) ms || any_mid_again ms
+
+-- a stream without a rid shares every rid
+abbrev pub rids_meet : Option (List ℕ) → Option (List ℕ) → Bool
+rids_meet (Some a) (Some b) = bytes_eq a b
+rids_meet _ _ = true
+
+-- two streams of one media and side share a rid
+abbrev pub meets : Stream → Stream → Bool
+meets s t = same_side s.side t.side && rids_meet s.rid t.rid
+
+abbrev pub any_rid_again : List Stream → Bool
+any_rid_again [] = false
+any_rid_again (s ∷ ss) = list_any (meets s) ss || any_rid_again ss
+
+abbrev pub has_rtx : Stream → Bool
+has_rtx stream = is_some stream.rtx
+
+-- the rules of media and their streams
+abbrev pub media_fault : List Media → Option SetupFault
+media_fault media =
+    if any_mid_again media || list_any (λ (m : Media). any_rid_again m.streams) media then Some RidTwice
+    else (if list_any (λ (m : Media). list_any has_rtx m.streams) media then Some RtxLater else None)
+
+abbrev pub setup_fault : Setup → Option SetupFault
+setup_fault setup =
+    if not (length (material_of setup) == material_len setup.profile) then Some KeyLength
+    else (if list_any (nat_lt 127) (types_of setup) || repeats (types_of setup) then Some TypeTwice
+    else (if has (stream_ssrcs setup) 0 then Some SsrcZero
+    else (if repeats (local_ssrcs ++ stream_ssrcs setup) then Some SsrcTwice
+    else media_fault setup.media)))

@@ -1,0 +1,88 @@
+use media_script::Transcript;
+use std::alloc::AllocError;
+
+/// The first rule that a setup breaks, in this order.
+#[derive(Clone, Copy, Debug, PartialEq, Eq)]
+pub enum SetupFault {
+    /// The key material has another length than the profile's.
+    KeyLength,
+    /// A payload type is claimed twice, or is above 127.
+    TypeTwice,
+    /// An SSRC is 0.
+    SsrcZero,
+    /// An SSRC stands twice among the main, RTX and local ones of both sides.
+    SsrcTwice,
+    /// Two media have one mid, or two streams of one media and side one rid. A stream without a rid
+    /// shares every rid.
+    RidTwice,
+    /// A stream has an RTX SSRC, which runs do not support yet.
+    RtxLater,
+}
+
+/// The first rule that a step breaks, in this order.
+#[derive(Clone, Copy, Debug, PartialEq, Eq)]
+pub enum StepFault {
+    /// Its time is 0.
+    TimeZero,
+    /// Its time is below that of the step before, of either side.
+    TimeBack,
+    /// Its time is above 10^16 ns.
+    TimeBeyond,
+    /// No stream of the side has the SSRC.
+    UnknownStream,
+    /// The other side has not sealed so many datagrams yet.
+    UnknownDatagram,
+    /// The setup does not claim the payload type.
+    UnknownType,
+    /// The number is 2^48 or more.
+    NumberTooBig,
+    /// The number was written before on the SSRC.
+    NumberUsed,
+    /// The payload has more than 1,400 bytes.
+    PayloadTooLong,
+}
+
+/// Why a step was not played.
+#[derive(Clone, Copy, Debug, PartialEq, Eq)]
+pub enum StepError {
+    Memory,
+    Rule(StepFault),
+}
+
+impl From<AllocError> for StepError {
+    ghost use Rattle.std.specs.Prelude.{◌≡◌};
+    ghost use Rattle.media_play.specs.declared.fault.StepError.TheVariants.{Memory};
+
+    ghost from_gives = { λ _ e. e ≡ Memory };
+
+    fn from(_: AllocError) -> Self {
+        StepError::Memory
+    }
+}
+
+impl From<StepFault> for StepError {
+    ghost use Rattle.std.specs.Prelude.{◌≡◌};
+    ghost use Rattle.media_play.specs.declared.fault.StepError.TheVariants.{Rule};
+
+    ghost from_gives = { λ fault e. e ≡ Rule fault };
+
+    fn from(fault: StepFault) -> Self {
+        StepError::Rule(fault)
+    }
+}
+
+/// Why a run ended before its last step.
+#[derive(Clone, Copy, Debug, PartialEq, Eq)]
+pub enum RunError {
+    Memory,
+    Setup(SetupFault),
+    /// The step of this number, counted from 1, broke a rule.
+    Step(u64, StepFault),
+}
+
+/// Why a run ended before its last step, and the transcript of the steps that were played.
+#[derive(Debug, Drop)]
+pub struct RunFault {
+    pub cause: RunError,
+    pub sofar: Transcript,
+}

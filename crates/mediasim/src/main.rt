@@ -1,0 +1,29 @@
+//! Plays a script of two media sessions from standard input, and writes what happened to standard
+//! output. The one command is `run`.
+#![tactic(auto)]
+
+use media_base::{ReaderSource, WriterSink};
+use media_play::media_main;
+use std::process::ExitCode;
+use std::{env, io};
+
+// The words behind the program's name.
+fn words(rt: &HostRuntime) -> io::Result<Vec<String>> {
+    let mut words = Vec::new(rt.alloc());
+    for word in env::args(rt)?.skip(1) {
+        words.push(word)?;
+    }
+    Ok(words)
+}
+
+fn main(rt: HostRuntime) -> ExitCode {
+    // Words that cannot be read are no command.
+    let words = match words(&rt) {
+        Ok(words) => words,
+        Err(_) => Vec::new(rt.alloc()),
+    };
+    let mut source = ReaderSource::new(rt.reader());
+    let mut sink = WriterSink::new(io::writer(&rt));
+    let report = media_main(rt.alloc(), &words, &mut source, &mut sink);
+    ExitCode::from(report.status)
+}
