@@ -1,11 +1,14 @@
 -- Header extensions (RFC 8285): which id names which value, and the values of a header.
-use Rattle.std.specs.Prelude.{ℕ, zero, suc, ◌+◌, ◌*◌, ◌/◌, ◌%◌, ◌==◌, ℤ, pos, ◌-ℤ◌, nat_lt, Bool, false, ◌||◌, Option, Some, None, List, [], ◌∷◌, length, take, drop, map, replicate, slice_set, slice_index, slice_index_or, position, if◌then◌else◌}
+use Rattle.std.specs.Prelude.{ℕ, zero, suc, ◌+◌, ◌-◌, ◌*◌, ◌/◌, ◌%◌, ◌==◌, nat_lt, Bool, false, ◌||◌, Option, Some, None, List, [], ◌∷◌, ◌++◌, length, take, drop, map, replicate, slice_set, slice_index, slice_index_or, position, if◌then◌else◌}
+use Rattle.std.specs.List.{flat_map, list_any, range_with_len}
+use Rattle.std.specs.Int.{w16, to_be_bytes}
 use Rattle.std.specs.Option.{option_or}
 use Rattle.rtp_wire.specs.declared.extension.Extension.{Extension}
 use Rattle.rtp_wire.specs.declared.extension.Extension.TheVariants.{AudioLevel, AbsoluteSendTime, TransportSequenceNumber, RtpMid, RtpStreamId, RepairedRtpStreamId, VideoOrientation, AbsoluteCaptureTime, PlayoutDelay}
 use Rattle.rtp_wire.specs.declared.values.ExtensionValues.{ExtensionValues}
 use Rattle.rtp_wire.specs.Name.{name_of}
 use Rattle.rtp_wire.specs.Reading.{transport_in, send_time_in, level_in, voice_in, turn_in, capture_in, least_delay_in, greatest_delay_in}
+use Rattle.rtp_wire.specs.Writing.{value_bytes, without, wire_values}
 
 -- the extensions told apart
 abbrev pub extension_number : Extension → ℕ
@@ -135,10 +138,70 @@ elements_of profile bytes =
 unfoldable pub values_of : List (Option Extension) → ℕ → List ℕ → ExtensionValues
 values_of exts profile bytes = with_elements exts no_values (elements_of profile bytes)
 
--- the extension in which values are written, with its own header: so far none is written
-unfoldable pub extension_bytes : List (Option Extension) → ExtensionValues → List ℕ
-extension_bytes exts values = []
+-- the ids that are written: 0 is padding, and 15 ends a reading
+abbrev pub written_ids : List ℕ
+written_ids = range_with_len 1 14
 
--- the values as they are read again: so far none
+abbrev pub bytes_at : Option Extension → ExtensionValues → Option (List ℕ)
+bytes_at None values = None
+bytes_at (Some e) values = value_bytes e values
+
+abbrev pub left_after : Option Extension → ExtensionValues → ExtensionValues
+left_after None values = values
+left_after (Some e) values = without e values
+
+abbrev pub element_at : ℕ → Option (List ℕ) → List (ℕ × List ℕ)
+element_at id None = []
+element_at id (Some bytes) = (id, bytes) ∷ []
+
+-- the elements in which values are written, in the order of these ids: a value is written once
+unfoldable pub written_elements : List ℕ → List (Option Extension) → ExtensionValues → List (ℕ × List ℕ)
+written_elements [] exts values = []
+written_elements (id ∷ ids) exts values = element_at id (bytes_at (named_by exts id) values) ++ written_elements ids exts (left_after (named_by exts id) values)
+
+-- an element of the one-byte form: a byte of its id and its length less 1, and its bytes
+abbrev pub element_bytes : ℕ × List ℕ → List ℕ
+element_bytes e = (e.0 * 16 + (length e.1 - 1)) ∷ e.1
+
+-- the data of an extension in which values are written, before it is filled up
+unfoldable pub written_data : List (Option Extension) → ExtensionValues → List ℕ
+written_data exts values = flat_map element_bytes (written_elements written_ids exts values)
+
+abbrev pub words_for : ℕ → ℕ
+words_for n = (n + 3) / 4
+
+-- data with a header of its own: the profile of the one-byte form (RFC 8285 section 4.2) and the length in words, for which
+-- zeros fill up the data. No data has no extension.
+abbrev pub with_data : List ℕ → List ℕ
+with_data [] = []
+with_data (b ∷ bytes) =
+    let n = words_for (length (b ∷ bytes)) in
+    190 ∷ 222 ∷ to_be_bytes w16 n ++ ((b ∷ bytes) ++ replicate (4 * n - length (b ∷ bytes)) 0)
+
+-- the extension in which values are written, with its own header
+unfoldable pub extension_bytes : List (Option Extension) → ExtensionValues → List ℕ
+extension_bytes exts values = with_data (written_data exts values)
+
+-- an id from 1 to 14 names the extension
+abbrev pub is_named : List ℕ → List (Option Extension) → Extension → Bool
+is_named ids exts e = list_any (λ id. is_at e (named_by exts id)) ids
+
+abbrev pub if_named : {X : Type 0} → List (Option Extension) → Extension → Option X → Option X
+if_named exts e value = if is_named written_ids exts e then value else None
+
+-- the values as they are read again: those that are there and whose extension has an id, each as its wire form holds it
 unfoldable pub written_values : List (Option Extension) → ExtensionValues → ExtensionValues
-written_values exts values = no_values
+written_values exts values =
+    let wire = wire_values values in record {
+      audio_level = if_named exts AudioLevel wire.audio_level;
+      voice_activity = if_named exts AudioLevel wire.voice_activity;
+      video_orientation = if_named exts VideoOrientation wire.video_orientation;
+      abs_send_time = if_named exts AbsoluteSendTime wire.abs_send_time;
+      transport_cc = if_named exts TransportSequenceNumber wire.transport_cc;
+      play_delay_min = if_named exts PlayoutDelay wire.play_delay_min;
+      play_delay_max = if_named exts PlayoutDelay wire.play_delay_max;
+      rid = if_named exts RtpStreamId wire.rid;
+      rid_repair = if_named exts RepairedRtpStreamId wire.rid_repair;
+      mid = if_named exts RtpMid wire.mid;
+      abs_capture_time = if_named exts AbsoluteCaptureTime wire.abs_capture_time;
+    }

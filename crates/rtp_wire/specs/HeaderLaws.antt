@@ -7,9 +7,10 @@ use Rattle.std.proofs.lemmas.Bool.Decides.{nat_tests}
 use Rattle.std.proofs.lemmas.Option.{cond_some}
 use Rattle.std.proofs.lemmas.Nat.{from_be_bytes-to_be_bytes_2, from_be_bytes-to_be_bytes_4}
 use Rattle.rtp_wire.specs.Bytes.{u16_at, words_of}
-use Rattle.std.proofs.lemmas.List.{length-take-le, take_at, drop_at, drop-drop}
+use Rattle.std.proofs.lemmas.List.{length-take-le, take_at, drop_at, drop-drop, length-replicate}
 use Rattle.rtp_wire.specs.declared.values.ExtensionValues.{ExtensionValues}
-use Rattle.rtp_wire.specs.Extensions.{no_values, values_of, extension_bytes, written_values}
+use Rattle.rtp_wire.specs.Extensions.{no_values, one_byte_elements, with_elements, values_of, written_data, words_for, with_data, extension_bytes, written_values}
+use Rattle.rtp_wire.specs.WritingLaws.{data_bound, data_again, no_data}
 use Rattle.rtp_wire.specs.BytesLaws.{same_piece, same_byte, AreWords, words_again, length-flat_words}
 use Rattle.rtp_wire.specs.declared.extension.ExtensionMap.{ExtensionMap}
 use Rattle.rtp_wire.specs.declared.header.RtpHeader.{RtpHeader}
@@ -344,9 +345,23 @@ read_again exts h i w rest =
     packet_reads exts (written_values exts h.ext_vals) h (extension_bytes exts h.ext_vals) rest i w
     ∙ ap (λ (n : ℕ). Some (read_form h (written_values exts h.ext_vals) n)) (sym (length_written exts h i))
 
+data_written : (exts : ExtensionMap) (values : ExtensionValues) (bytes : List ℕ) → length bytes ≤ 75 → ((k : ℕ) → values_of exts 48862 (bytes ++ replicate k 0) ≡ values) → IsWritten exts values (with_data bytes)
+data_written exts values [] h again = nothing (sym (again 0) ∙ unfold values_of with_elements one_byte_elements in refl)
+data_written exts values (b ∷ bytes) h again =
+    let n : ℕ = words_for (length (b ∷ bytes)) in
+    let more : ℕ = 4 * n - length (b ∷ bytes) in
+    some n ((b ∷ bytes) ++ replicate more 0) (omega arith) (omega (arith, length-append (b ∷ bytes) (replicate more 0), length-replicate {A = ℕ} more 0)) (again more)
+
 pub is_written : (exts : ExtensionMap) (values : ExtensionValues) → IsWritten exts (written_values exts values) (extension_bytes exts values)
-unfolding extension_bytes written_values
-is_written exts values = nothing refl
+unfolding extension_bytes
+is_written exts values = data_written exts (written_values exts values) (written_data exts values) (data_bound exts values) (data_again exts values)
+
+-- Each header whose fields are in their ranges is read again as its wire form, under each map and whatever follows it.
+abbrev pub WrittenIsReadAgain : Type 0
+WrittenIsReadAgain = (exts : ExtensionMap) (h : RtpHeader) → IsHeader h → IsReadAgain exts h
+
+pub written_is_read_again : WrittenIsReadAgain
+written_is_read_again exts h i = read_again exts h i (is_written exts h.ext_vals)
 
 -- a header without values, whose fields are in the ranges of their places on the wire
 pub record IsPlainHeader (h : RtpHeader) : Type 0 where
@@ -368,7 +383,7 @@ PlainIsReadAgain =
 
 nothing_written : (exts : ExtensionMap) → extension_bytes exts no_values ≡ []
 unfolding extension_bytes
-nothing_written exts = refl
+nothing_written exts = ap with_data (no_data exts)
 
 pub plain_is_read_again : PlainIsReadAgain
 unfolding header_bytes packet

@@ -12,3 +12,5 @@ pub mod Reading
 pub mod Repairs
 pub mod Widen
 pub mod Window
+pub mod Writing
+pub mod WritingLaws

@@ -184,7 +184,8 @@ impl RtpHeader {
     }
 
     /// Writes the header to the front of the bytes, and gives its length: the low 7 bits of the type, the first
-    /// `csrc_count` sources, and no extension: values are not written so far.
+    /// `csrc_count` sources, and the values that are there and have an id, in the one-byte form (RFC 8285 section 4.2) with
+    /// ids ascending. Where no value is written there is no extension, and its bit is clear.
     #[tactic(auto, unfolding(crate::specs::Header::header_bytes))]
     pub fn write_to(&self, buf: &mut [u8], exts: &ExtensionMap) -> usize
         requires room { 160 ≤ length buf.old }

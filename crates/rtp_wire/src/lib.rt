@@ -11,11 +11,15 @@ mod number;
 mod values;
 mod widen;
 mod window;
+mod writing;
 
 pub use extension::{Extension, ExtensionMap};
 pub use header::RtpHeader;
 pub use ids::{Direction, MidRid, SessionId, TwccClusterId, TwccPacketId};
-pub use laws::{header_reads_own_bytes, headers_are_as_long, plain_header_is_read_again};
+pub use laws::{
+    header_reads_own_bytes, headers_are_as_long, plain_header_is_read_again,
+    written_header_is_read_again,
+};
 pub use media_time::{Frequency, MediaTime};
 pub use name::{Mid, Rid};
 pub use number::{Pt, SeqNo, Ssrc};

@@ -115,7 +115,7 @@ pub struct ExtensionValues {
 }
 
 impl ExtensionValues {
-    ghost use Rattle.rtp_wire.specs.Extensions.{no_values, with_value, with_elements, one_byte_elements, two_byte_elements, values_of, extension_bytes, written_values};
+    ghost use Rattle.rtp_wire.specs.Extensions.{no_values, with_value, with_elements, one_byte_elements, two_byte_elements, values_of};
 
     /// No values.
     pub fn none() -> Self
@@ -251,19 +251,6 @@ impl ExtensionValues {
         } else {
             ExtensionValues::none()
         }
-    }
-
-    /// Writes the extension of these values under a map to the front of the bytes, and gives its length. So far no value is
-    /// written, so that there is no extension.
-    #[tactic(auto, unfolding(crate::specs::Extensions::extension_bytes))]
-    pub fn write(&self, bytes: &mut [u8], exts: &ExtensionMap) -> usize
-        requires { 88 ≤ length bytes.old }
-        ensures bytes { bytes.new ≡ extension_bytes exts.now self.now ++ drop result bytes.old }
-        ensures len { result ≡ length (extension_bytes exts.now self.now) }
-    {
-        let _exts = *exts;
-        let _room = bytes.len();
-        0
     }
 }
 

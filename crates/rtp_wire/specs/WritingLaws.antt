@@ -1,0 +1,442 @@
+-- The elements in which values are written are read again, as the wire form of the values, and are at most 75 bytes.
+use Rattle.std.proofs.Common.{◌≡◌, ℕ, zero, suc, ◌+◌, ◌-◌, ◌*◌, ◌/◌, ◌%◌, ◌^◌, ◌≤◌, ◌⊎◌, inl, inr, ⊎_elim, Bool, true, false, cond, Option, Some, None, List, [], ◌∷◌, ◌++◌, length, take, drop, replicate, refl, sym, ap, ◌∙◌, append_assoc, arith, length-append}
+use Rattle.std.specs.Prelude.{◌==◌, ◌||◌, ℤ, pos, negsuc}
+use Rattle.std.specs.List.{flat_map, AllByRecursion, range_with_len}
+use Rattle.std.specs.Option.{option_or, option_map, option_and_then}
+use Rattle.std.specs.Int.{w16, w64, to_be_bytes, from_be_bytes}
+use native.Mathlib.Nat.{div-div-eq-div-mul}
+use Rattle.std.proofs.lemmas.Bool.Decides.{nat_tests}
+use Rattle.std.proofs.lemmas.Grind.{flat_map-append}
+use Rattle.std.proofs.lemmas.List.{take_at, drop_at}
+use Rattle.rtp_wire.specs.declared.media_time.MediaTime.{MediaTime}
+use Rattle.rtp_wire.specs.declared.extension.Extension.{Extension}
+use Rattle.rtp_wire.specs.declared.extension.Extension.TheVariants.{AudioLevel, AbsoluteSendTime, TransportSequenceNumber, RtpMid, RtpStreamId, RepairedRtpStreamId, VideoOrientation, AbsoluteCaptureTime, PlayoutDelay}
+use Rattle.rtp_wire.specs.declared.extension.ExtensionMap.{ExtensionMap}
+use Rattle.rtp_wire.specs.declared.values.ExtensionValues.{ExtensionValues}
+use Rattle.rtp_wire.specs.declared.values.VideoOrientation.{VideoOrientation as Turn}
+use Rattle.rtp_wire.specs.declared.values.VideoOrientation.TheVariants.{Deg0, Deg90, Deg180, Deg270}
+use Rattle.rtp_wire.specs.Name.{is_name, name_of}
+use Rattle.rtp_wire.specs.Reading.{u24_of, level_of, hundredths}
+use Rattle.rtp_wire.specs.Writing.{u24_bytes, minus_level, level_byte, quarter_turns, delay_steps, both, value_bytes, without, wire_values}
+use Rattle.rtp_wire.specs.Extensions.{named_by, is_at, no_values, one_byte_elements, with_value, with_elements, values_of, written_ids, bytes_at, left_after, element_at, written_elements, element_bytes, written_data, is_named, written_values}
+use Rattle.rtp_wire.specs.ElementsLaws.{one_padding, one_element}
+
+-- numbers in bytes, read again
+
+byte_and_rest : (n p : ℕ) → n / p ≡ n / p % 256 + n / (p * 256) * 256
+byte_and_rest n p = omega (arith, div-div-eq-div-mul n p 256)
+
+u24_joined : (a b c n p q r : ℕ) → n ≡ a + p * 256 → p ≡ b + q * 256 → q ≡ c + r * 256 → c * 65536 + b * 256 + a + r * 16777216 ≡ n
+u24_joined a b c n p q r at_0 at_1 at_2 = omega arith
+
+u24_again : (n : ℕ) → u24_of (u24_bytes n) ≡ n % 2 ^ 24
+u24_again n =
+    let low : n ≡ n % 256 + n / 256 * 256 = omega arith in
+    omega (arith, u24_joined _ _ _ n _ _ _ low (byte_and_rest n 256) (byte_and_rest n 65536))
+
+u16_again : (n : ℕ) → n / 256 % 256 * 256 + n % 256 ≡ n % 2 ^ 16
+u16_again n =
+    let low : n ≡ n % 256 + n / 256 * 256 = omega arith in
+    omega (arith, byte_and_rest n 256)
+
+u64_joined : (a b c d e f g h n p q r s t u v w : ℕ) → n ≡ a + p * 256 → p ≡ b + q * 256 → q ≡ c + r * 256 → r ≡ d + s * 256 → s ≡ e + t * 256 → t ≡ f + u * 256 → u ≡ g + v * 256 → v ≡ h + w * 256
+    → h * 72057594037927936 + g * 281474976710656 + f * 1099511627776 + e * 4294967296 + d * 16777216 + c * 65536 + b * 256 + a + w * 18446744073709551616 ≡ n
+u64_joined a b c d e f g h n p q r s t u v w at_0 at_1 at_2 at_3 at_4 at_5 at_6 at_7 = omega arith
+
+u64_cut : (s n : ℕ) → s + n / 18446744073709551616 * 18446744073709551616 ≡ n → s ≡ n % 2 ^ 64
+u64_cut s n h = omega arith
+
+u64_again : (n : ℕ) → from_be_bytes w64 (take 8 (to_be_bytes w64 n)) ≡ n % 2 ^ 64
+u64_again n =
+    let low : n ≡ n % 256 + n / 256 * 256 = omega arith in
+    u64_cut _ n (u64_joined _ _ _ _ _ _ _ _ n _ _ _ _ _ _ _ _ low (byte_and_rest n 256) (byte_and_rest n 65536) (byte_and_rest n 16777216) (byte_and_rest n 4294967296) (byte_and_rest n 1099511627776) (byte_and_rest n 281474976710656) (byte_and_rest n 72057594037927936))
+
+level_bound : (l : ℤ) → minus_level l ≤ 127
+level_bound (pos n) = omega arith
+level_bound (negsuc n) = omega arith
+
+byte_level : (s : Bool) (n : ℕ) → n ≤ 127 → (cond s 128 0 + n) % 128 ≡ n
+byte_level true n h = omega arith
+byte_level false n h = omega arith
+
+byte_voice : (s : Bool) (n : ℕ) → n ≤ 127 → ((cond s 128 0 + n) / 128 % 2 == 1) ≡ s
+byte_voice true n h = let e : (128 + n) / 128 % 2 ≡ 1 = omega arith in rw e refl
+byte_voice false n h = let e : (0 + n) / 128 % 2 ≡ 0 = omega arith in rw e refl
+
+-- the values after the bytes of one, if there are any
+with_bytes : ExtensionValues → Option Extension → Option (List ℕ) → ExtensionValues
+with_bytes v p None = v
+with_bytes v p (Some bytes) = with_value v p bytes
+
+-- the values v, and over them those of w that an extension holds
+abbrev taken : Extension → ExtensionValues → ExtensionValues → ExtensionValues
+taken AudioLevel v w = record v { audio_level = option_or (wire_values w).audio_level v.audio_level; voice_activity = option_or (wire_values w).voice_activity v.voice_activity }
+taken AbsoluteSendTime v w = record v { abs_send_time = option_or (wire_values w).abs_send_time v.abs_send_time }
+taken TransportSequenceNumber v w = record v { transport_cc = option_or (wire_values w).transport_cc v.transport_cc }
+taken RtpMid v w = record v { mid = option_or (wire_values w).mid v.mid }
+taken RtpStreamId v w = record v { rid = option_or (wire_values w).rid v.rid }
+taken RepairedRtpStreamId v w = record v { rid_repair = option_or (wire_values w).rid_repair v.rid_repair }
+taken VideoOrientation v w = record v { video_orientation = option_or (wire_values w).video_orientation v.video_orientation }
+taken AbsoluteCaptureTime v w = record v { abs_capture_time = option_or (wire_values w).abs_capture_time v.abs_capture_time }
+taken PlayoutDelay v w = record v { play_delay_min = option_or (wire_values w).play_delay_min v.play_delay_min; play_delay_max = option_or (wire_values w).play_delay_max v.play_delay_max }
+
+abbrev taken_at : Option Extension → ExtensionValues → ExtensionValues → ExtensionValues
+taken_at None v w = v
+taken_at (Some e) v w = taken e v w
+
+same_level : (v : ExtensionValues) (a b : ℕ) (s t : Bool) → a ≡ b → s ≡ t → (let x : ExtensionValues = record v { audio_level = Some (level_of a); voice_activity = Some s } in x) ≡ record v { audio_level = Some (level_of b); voice_activity = Some t }
+same_level v a b s t p q = cc
+
+level_taken : (v : ExtensionValues) (level : Option ℤ) (voice : Option Bool) → with_bytes v (Some AudioLevel) (both (λ l s. level_byte l s ∷ []) level voice)
+    ≡ record v { audio_level = option_or (both (λ l s. level_of (minus_level l)) level voice) v.audio_level; voice_activity = option_or (both (λ l s. s) level voice) v.voice_activity }
+unfolding with_bytes
+level_taken v None voice = refl
+level_taken v (Some l) None = refl
+level_taken v (Some l) (Some s) = same_level v _ _ _ _ (byte_level s (minus_level l) (level_bound l)) (byte_voice s (minus_level l) (level_bound l))
+
+time_taken : (v : ExtensionValues) (time : Option ℕ) → with_bytes v (Some AbsoluteSendTime) (option_map u24_bytes time) ≡ record v { abs_send_time = option_or (option_map (λ n. n % 2 ^ 24) time) v.abs_send_time }
+unfolding with_bytes
+time_taken v None = refl
+time_taken v (Some n) = ap (λ (t : ℕ). let x : ExtensionValues = record v { abs_send_time = Some t } in x) (u24_again n)
+
+number_taken : (v : ExtensionValues) (number : Option ℕ) → with_bytes v (Some TransportSequenceNumber) (option_map (to_be_bytes w16) number) ≡ record v { transport_cc = option_or (option_map (λ n. n % 2 ^ 16) number) v.transport_cc }
+unfolding with_bytes
+number_taken v None = refl
+number_taken v (Some n) = ap (λ (t : ℕ). let x : ExtensionValues = record v { transport_cc = Some t } in x) (u16_again n)
+
+turn_taken : (v : ExtensionValues) (turn : Option Turn) → with_bytes v (Some VideoOrientation) (option_map (λ t. quarter_turns t ∷ []) turn) ≡ record v { video_orientation = option_or turn v.video_orientation }
+unfolding with_bytes
+turn_taken v None = refl
+turn_taken v (Some Deg0) = refl
+turn_taken v (Some Deg90) = refl
+turn_taken v (Some Deg180) = refl
+turn_taken v (Some Deg270) = refl
+
+capture_taken : (v : ExtensionValues) (time : Option ℕ) → with_bytes v (Some AbsoluteCaptureTime) (option_map (to_be_bytes w64) time) ≡ record v { abs_capture_time = option_or (option_map (λ n. n % 2 ^ 64) time) v.abs_capture_time }
+unfolding with_bytes
+capture_taken v None = refl
+capture_taken v (Some n) = ap (λ (t : ℕ). let x : ExtensionValues = record v { abs_capture_time = Some t } in x) (u64_again n)
+
+same_delays : (v : ExtensionValues) (a b c d : ℕ) → a ≡ b → c ≡ d → (let x : ExtensionValues = record v { play_delay_min = Some (hundredths a); play_delay_max = Some (hundredths c) } in x) ≡ record v { play_delay_min = Some (hundredths b); play_delay_max = Some (hundredths d) }
+same_delays v a b c d p q = cc
+
+delays_again : (a b n : ℕ) → a ≤ 4095 → b ≤ 4095 → n ≡ (a * 4096 + b) % 2 ^ 24 → (n / 4096 ≡ a) × (n % 4096 ≡ b)
+delays_again a b n small few e = (omega arith, omega arith)
+
+steps_bound : (t : MediaTime) → delay_steps t ≤ 4095
+steps_bound t = omega arith
+
+delays_taken : (v : ExtensionValues) (least greatest : Option MediaTime) → with_bytes v (Some PlayoutDelay) (both (λ a b. u24_bytes (delay_steps a * 4096 + delay_steps b)) least greatest)
+    ≡ record v { play_delay_min = option_or (both (λ a b. hundredths (delay_steps a)) least greatest) v.play_delay_min; play_delay_max = option_or (both (λ a b. hundredths (delay_steps b)) least greatest) v.play_delay_max }
+unfolding with_bytes
+delays_taken v None greatest = refl
+delays_taken v (Some a) None = refl
+delays_taken v (Some a) (Some b) =
+    let again = delays_again (delay_steps a) (delay_steps b) (u24_of (u24_bytes (delay_steps a * 4096 + delay_steps b))) (steps_bound a) (steps_bound b) (u24_again (delay_steps a * 4096 + delay_steps b)) in
+    same_delays v _ _ _ _ again.0 again.1
+
+name_case : (bytes : List ℕ) → (name_of bytes ≡ Some bytes) ⊎ (name_of bytes ≡ None)
+name_case bytes = elim (is_name bytes) as (λ t. (cond t (Some bytes) None ≡ Some bytes) ⊎ (cond t (Some bytes) None ≡ None)) [ true ↦ inl refl | false ↦ inr refl ]
+
+mid_taken : (v : ExtensionValues) (name : Option (List ℕ)) → with_bytes v (Some RtpMid) (option_and_then name_of name) ≡ record v { mid = option_or (option_and_then name_of name) v.mid }
+unfolding with_bytes
+mid_taken v None = refl
+mid_taken v (Some bytes) =
+    ⊎_elim
+    (λ (e : name_of bytes ≡ Some bytes). ap (with_bytes v (Some RtpMid)) e)
+    (λ (e : name_of bytes ≡ None). ap (with_bytes v (Some RtpMid)) e ∙ sym (ap (λ (o : Option (List ℕ)). let x : ExtensionValues = record v { mid = option_or o v.mid } in x) e))
+    (name_case bytes)
+
+rid_taken : (v : ExtensionValues) (name : Option (List ℕ)) → with_bytes v (Some RtpStreamId) (option_and_then name_of name) ≡ record v { rid = option_or (option_and_then name_of name) v.rid }
+unfolding with_bytes
+rid_taken v None = refl
+rid_taken v (Some bytes) =
+    ⊎_elim
+    (λ (e : name_of bytes ≡ Some bytes). ap (with_bytes v (Some RtpStreamId)) e)
+    (λ (e : name_of bytes ≡ None). ap (with_bytes v (Some RtpStreamId)) e ∙ sym (ap (λ (o : Option (List ℕ)). let x : ExtensionValues = record v { rid = option_or o v.rid } in x) e))
+    (name_case bytes)
+
+repaired_taken : (v : ExtensionValues) (name : Option (List ℕ)) → with_bytes v (Some RepairedRtpStreamId) (option_and_then name_of name) ≡ record v { rid_repair = option_or (option_and_then name_of name) v.rid_repair }
+unfolding with_bytes
+repaired_taken v None = refl
+repaired_taken v (Some bytes) =
+    ⊎_elim
+    (λ (e : name_of bytes ≡ Some bytes). ap (with_bytes v (Some RepairedRtpStreamId)) e)
+    (λ (e : name_of bytes ≡ None). ap (with_bytes v (Some RepairedRtpStreamId)) e ∙ sym (ap (λ (o : Option (List ℕ)). let x : ExtensionValues = record v { rid_repair = option_or o v.rid_repair } in x) e))
+    (name_case bytes)
+
+bytes_taken : (p : Option Extension) (v w : ExtensionValues) → with_bytes v p (bytes_at p w) ≡ taken_at p v w
+bytes_taken None v w = unfold with_bytes in refl
+bytes_taken (Some AudioLevel) v w = level_taken v w.audio_level w.voice_activity
+bytes_taken (Some AbsoluteSendTime) v w = time_taken v w.abs_send_time
+bytes_taken (Some TransportSequenceNumber) v w = number_taken v w.transport_cc
+bytes_taken (Some RtpMid) v w = mid_taken v w.mid
+bytes_taken (Some RtpStreamId) v w = rid_taken v w.rid
+bytes_taken (Some RepairedRtpStreamId) v w = repaired_taken v w.rid_repair
+bytes_taken (Some VideoOrientation) v w = turn_taken v w.video_orientation
+bytes_taken (Some AbsoluteCaptureTime) v w = capture_taken v w.abs_capture_time
+bytes_taken (Some PlayoutDelay) v w = delays_taken v w.play_delay_min w.play_delay_max
+
+-- the values v, and over them the wire form of those of w whose extension passes the test
+abbrev over : (Extension → Bool) → ExtensionValues → ExtensionValues → ExtensionValues
+over passes v w = record {
+  audio_level = cond (passes AudioLevel) (option_or (wire_values w).audio_level v.audio_level) v.audio_level;
+  voice_activity = cond (passes AudioLevel) (option_or (wire_values w).voice_activity v.voice_activity) v.voice_activity;
+  video_orientation = cond (passes VideoOrientation) (option_or (wire_values w).video_orientation v.video_orientation) v.video_orientation;
+  abs_send_time = cond (passes AbsoluteSendTime) (option_or (wire_values w).abs_send_time v.abs_send_time) v.abs_send_time;
+  transport_cc = cond (passes TransportSequenceNumber) (option_or (wire_values w).transport_cc v.transport_cc) v.transport_cc;
+  play_delay_min = cond (passes PlayoutDelay) (option_or (wire_values w).play_delay_min v.play_delay_min) v.play_delay_min;
+  play_delay_max = cond (passes PlayoutDelay) (option_or (wire_values w).play_delay_max v.play_delay_max) v.play_delay_max;
+  rid = cond (passes RtpStreamId) (option_or (wire_values w).rid v.rid) v.rid;
+  rid_repair = cond (passes RepairedRtpStreamId) (option_or (wire_values w).rid_repair v.rid_repair) v.rid_repair;
+  mid = cond (passes RtpMid) (option_or (wire_values w).mid v.mid) v.mid;
+  abs_capture_time = cond (passes AbsoluteCaptureTime) (option_or (wire_values w).abs_capture_time v.abs_capture_time) v.abs_capture_time;
+}
+
+same_values : (a b : Option ℤ) (c d : Option Bool) (e f : Option Turn) (g h i j : Option ℕ) (k l m n : Option MediaTime) (o p q r s t : Option (List ℕ)) (u v : Option ℕ)
+    → a ≡ b → c ≡ d → e ≡ f → g ≡ h → i ≡ j → k ≡ l → m ≡ n → o ≡ p → q ≡ r → s ≡ t → u ≡ v
+    → (let x : ExtensionValues = record { audio_level = a; voice_activity = c; video_orientation = e; abs_send_time = g; transport_cc = i; play_delay_min = k; play_delay_max = m; rid = o; rid_repair = q; mid = s; abs_capture_time = u } in x)
+    ≡ record { audio_level = b; voice_activity = d; video_orientation = f; abs_send_time = h; transport_cc = j; play_delay_min = l; play_delay_max = n; rid = p; rid_repair = r; mid = t; abs_capture_time = v }
+same_values a b c d e f g h i j k l m n o p q r s t u v h1 h2 h3 h4 h5 h6 h7 h8 h9 h10 h11 = cc
+
+same_either : {X : Type 0} (t : Bool) (x : X) → cond t x x ≡ x
+same_either true x = refl
+same_either false x = refl
+
+-- a value that was taken is not left, and so is not taken again
+taken_once : (passes : Extension → Bool) (p : Option Extension) (v w : ExtensionValues) → over passes (taken_at p v w) (left_after p w) ≡ over (λ e. is_at e p || passes e) v w
+taken_once passes None v w = refl
+taken_once passes (Some AudioLevel) v w = same_values _ _ _ _ _ _ _ _ _ _ _ _ _ _ _ _ _ _ _ _ _ _ (same_either (passes AudioLevel) _) (same_either (passes AudioLevel) _) refl refl refl refl refl refl refl refl refl
+taken_once passes (Some VideoOrientation) v w = same_values _ _ _ _ _ _ _ _ _ _ _ _ _ _ _ _ _ _ _ _ _ _ refl refl (same_either (passes VideoOrientation) _) refl refl refl refl refl refl refl refl
+taken_once passes (Some AbsoluteSendTime) v w = same_values _ _ _ _ _ _ _ _ _ _ _ _ _ _ _ _ _ _ _ _ _ _ refl refl refl (same_either (passes AbsoluteSendTime) _) refl refl refl refl refl refl refl
+taken_once passes (Some TransportSequenceNumber) v w = same_values _ _ _ _ _ _ _ _ _ _ _ _ _ _ _ _ _ _ _ _ _ _ refl refl refl refl (same_either (passes TransportSequenceNumber) _) refl refl refl refl refl refl
+taken_once passes (Some PlayoutDelay) v w = same_values _ _ _ _ _ _ _ _ _ _ _ _ _ _ _ _ _ _ _ _ _ _ refl refl refl refl refl (same_either (passes PlayoutDelay) _) (same_either (passes PlayoutDelay) _) refl refl refl refl
+taken_once passes (Some RtpStreamId) v w = same_values _ _ _ _ _ _ _ _ _ _ _ _ _ _ _ _ _ _ _ _ _ _ refl refl refl refl refl refl refl (same_either (passes RtpStreamId) _) refl refl refl
+taken_once passes (Some RepairedRtpStreamId) v w = same_values _ _ _ _ _ _ _ _ _ _ _ _ _ _ _ _ _ _ _ _ _ _ refl refl refl refl refl refl refl refl (same_either (passes RepairedRtpStreamId) _) refl refl
+taken_once passes (Some RtpMid) v w = same_values _ _ _ _ _ _ _ _ _ _ _ _ _ _ _ _ _ _ _ _ _ _ refl refl refl refl refl refl refl refl refl (same_either (passes RtpMid) _) refl
+taken_once passes (Some AbsoluteCaptureTime) v w = same_values _ _ _ _ _ _ _ _ _ _ _ _ _ _ _ _ _ _ _ _ _ _ refl refl refl refl refl refl refl refl refl refl (same_either (passes AbsoluteCaptureTime) _)
+
+element_read : (exts : ExtensionMap) (v : ExtensionValues) (id : ℕ) (bytes : Option (List ℕ)) (rest : List (ℕ × List ℕ)) → with_elements exts v (element_at id bytes ++ rest) ≡ with_elements exts (with_bytes v (named_by exts id) bytes) rest
+unfolding with_elements with_bytes
+element_read exts v id None rest = refl
+element_read exts v id (Some bytes) rest = refl
+
+elements_taken : (ids : List ℕ) (exts : ExtensionMap) (v w : ExtensionValues) → with_elements exts v (written_elements ids exts w) ≡ over (is_named ids exts) v w
+unfolding with_elements written_elements
+elements_taken [] exts v w = refl
+elements_taken (id ∷ ids) exts v w =
+    let p : Option Extension = named_by exts id in
+    let rest : List (ℕ × List ℕ) = written_elements ids exts (left_after p w) in
+    element_read exts v id (bytes_at p w) rest
+    ∙ ap (λ (x : ExtensionValues). with_elements exts x rest) (bytes_taken p v w)
+    ∙ elements_taken ids exts (taken_at p v w) (left_after p w)
+    ∙ taken_once (is_named ids exts) p v w
+
+or_nothing : {X : Type 0} (t : Bool) (o : Option X) → cond t (option_or o None) None ≡ cond t o None
+or_nothing true None = refl
+or_nothing true (Some x) = refl
+or_nothing false o = refl
+
+elements_hold : (exts : ExtensionMap) (values : ExtensionValues) → with_elements exts no_values (written_elements written_ids exts values) ≡ written_values exts values
+unfolding written_values
+elements_hold exts values =
+    elements_taken written_ids exts no_values values
+    ∙ same_values _ _ _ _ _ _ _ _ _ _ _ _ _ _ _ _ _ _ _ _ _ _
+    (or_nothing _ _) (or_nothing _ _) (or_nothing _ _) (or_nothing _ _) (or_nothing _ _) (or_nothing _ _) (or_nothing _ _) (or_nothing _ _) (or_nothing _ _) (or_nothing _ _) (or_nothing _ _)
+
+-- how long the bytes of values are
+
+abbrev FitsIn : ℕ → Option (List ℕ) → Type 0
+FitsIn n None = Unit {0}
+FitsIn n (Some bytes) = (1 ≤ length bytes) × (length bytes ≤ n)
+
+abbrev longest : Extension → ℕ
+longest AudioLevel = 1
+longest AbsoluteSendTime = 3
+longest TransportSequenceNumber = 2
+longest RtpMid = 16
+longest RtpStreamId = 16
+longest RepairedRtpStreamId = 16
+longest VideoOrientation = 1
+longest AbsoluteCaptureTime = 8
+longest PlayoutDelay = 3
+
+mapped_fits : {X : Type 0} (f : X → List ℕ) (n : ℕ) → ((x : X) → (1 ≤ length (f x)) × (length (f x) ≤ n)) → (o : Option X) → FitsIn n (option_map f o)
+mapped_fits f n h None = tt
+mapped_fits f n h (Some x) = h x
+
+both_fits : {X Y : Type 0} (f : X → Y → List ℕ) (n : ℕ) → ((x : X) (y : Y) → (1 ≤ length (f x y)) × (length (f x y) ≤ n)) → (o : Option X) (p : Option Y) → FitsIn n (both f o p)
+both_fits f n h None p = tt
+both_fits f n h (Some x) None = tt
+both_fits f n h (Some x) (Some y) = h x y
+
+name_long : (bytes : List ℕ) → is_name bytes ≡ true → (1 ≤ length bytes) × (length bytes ≤ 16)
+name_long bytes h = (grind (arith, nat_tests), grind (arith, nat_tests))
+
+name_fits_at : (bytes : List ℕ) (t : Bool) → is_name bytes ≡ t → FitsIn 16 (cond t (Some bytes) None)
+name_fits_at bytes true h = name_long bytes h
+name_fits_at bytes false h = tt
+
+name_fits : (name : Option (List ℕ)) → FitsIn 16 (option_and_then name_of name)
+name_fits None = tt
+name_fits (Some bytes) = name_fits_at bytes (is_name bytes) refl
+
+value_fits : (e : Extension) (w : ExtensionValues) → FitsIn (longest e) (value_bytes e w)
+value_fits AudioLevel w = both_fits _ 1 (λ x y. (omega arith, omega arith)) w.audio_level w.voice_activity
+value_fits AbsoluteSendTime w = mapped_fits _ 3 (λ x. (omega arith, omega arith)) w.abs_send_time
+value_fits TransportSequenceNumber w = mapped_fits _ 2 (λ x. (omega arith, omega arith)) w.transport_cc
+value_fits RtpMid w = name_fits w.mid
+value_fits RtpStreamId w = name_fits w.rid
+value_fits RepairedRtpStreamId w = name_fits w.rid_repair
+value_fits VideoOrientation w = mapped_fits _ 1 (λ x. (omega arith, omega arith)) w.video_orientation
+value_fits AbsoluteCaptureTime w = mapped_fits _ 8 (λ x. (omega arith, omega arith)) w.abs_capture_time
+value_fits PlayoutDelay w = both_fits _ 3 (λ x y. (omega arith, omega arith)) w.play_delay_min w.play_delay_max
+
+-- the length of an element
+abbrev size_of : Option (List ℕ) → ℕ
+size_of None = 0
+size_of (Some bytes) = length bytes + 1
+
+abbrev size : ExtensionValues → ℕ
+size w =
+    size_of (value_bytes AudioLevel w) + size_of (value_bytes AbsoluteSendTime w) + size_of (value_bytes TransportSequenceNumber w) + size_of (value_bytes RtpMid w)
+    + size_of (value_bytes RtpStreamId w) + size_of (value_bytes RepairedRtpStreamId w) + size_of (value_bytes VideoOrientation w) + size_of (value_bytes AbsoluteCaptureTime w)
+    + size_of (value_bytes PlayoutDelay w)
+
+size_fits : (n : ℕ) (o : Option (List ℕ)) → FitsIn n o → size_of o ≤ n + 1
+size_fits n None h = omega arith
+size_fits n (Some bytes) h = omega arith
+
+sum_bound : (a b c d e f g h i : ℕ) → a ≤ 2 → b ≤ 4 → c ≤ 3 → d ≤ 17 → e ≤ 17 → f ≤ 17 → g ≤ 2 → h ≤ 9 → i ≤ 4 → a + b + c + d + e + f + g + h + i ≤ 75
+sum_bound a b c d e f g h i ha hb hc hd he hf hg hh hi = omega arith
+
+size_at : (e : Extension) (w : ExtensionValues) → size_of (value_bytes e w) ≤ longest e + 1
+size_at e w = size_fits (longest e) (value_bytes e w) (value_fits e w)
+
+size_bound : (w : ExtensionValues) → size w ≤ 75
+size_bound w =
+    sum_bound _ _ _ _ _ _ _ _ _ (size_at AudioLevel w) (size_at AbsoluteSendTime w) (size_at TransportSequenceNumber w) (size_at RtpMid w) (size_at RtpStreamId w) (size_at RepairedRtpStreamId w) (size_at VideoOrientation w) (size_at AbsoluteCaptureTime w) (size_at PlayoutDelay w)
+
+size_split : (e : Extension) (w : ExtensionValues) → size w ≡ size_of (value_bytes e w) + size (without e w)
+size_split AudioLevel w = omega arith
+size_split AbsoluteSendTime w = omega arith
+size_split TransportSequenceNumber w = omega arith
+size_split RtpMid w = omega arith
+size_split RtpStreamId w = omega arith
+size_split RepairedRtpStreamId w = omega arith
+size_split VideoOrientation w = omega arith
+size_split AbsoluteCaptureTime w = omega arith
+size_split PlayoutDelay w = omega arith
+
+size_at_id : (p : Option Extension) (w : ExtensionValues) → size w ≡ size_of (bytes_at p w) + size (left_after p w)
+size_at_id None w = omega arith
+size_at_id (Some e) w = size_split e w
+
+length-element : (id : ℕ) (bytes : Option (List ℕ)) → length (flat_map element_bytes (element_at id bytes)) ≡ size_of bytes
+length-element id None = refl
+length-element id (Some bytes) = omega (arith, length-append bytes [])
+
+elements_bound : (ids : List ℕ) (exts : ExtensionMap) (w : ExtensionValues) → length (flat_map element_bytes (written_elements ids exts w)) ≤ size w
+unfolding written_elements
+elements_bound [] exts w = omega arith
+elements_bound (id ∷ ids) exts w =
+    let p : Option Extension = named_by exts id in
+    let first : List (ℕ × List ℕ) = element_at id (bytes_at p w) in
+    let rest : List (ℕ × List ℕ) = written_elements ids exts (left_after p w) in
+    let parts : length (flat_map element_bytes (first ++ rest)) ≡ length (flat_map element_bytes first) + length (flat_map element_bytes rest) = ap length (flat_map-append element_bytes first rest) ∙ length-append (flat_map element_bytes first) (flat_map element_bytes rest) in
+    joined_bound _ _ _ _ _ _ parts (length-element id (bytes_at p w)) (elements_bound ids exts (left_after p w)) (size_at_id p w)
+  where
+    joined_bound : (all a b s t whole : ℕ) → all ≡ a + b → a ≡ s → b ≤ t → whole ≡ s + t → all ≤ whole
+    joined_bound all a b s t whole e f g h = omega arith
+
+pub data_bound : (exts : ExtensionMap) (values : ExtensionValues) → length (written_data exts values) ≤ 75
+unfolding written_data
+data_bound exts values = omega (arith, elements_bound written_ids exts values, size_bound values)
+
+-- elements that are written are read again, with the zeros that fill them up
+
+abbrev IsElement : ℕ × List ℕ → Type 0
+IsElement e = (1 ≤ e.0) × (e.0 ≤ 14) × (1 ≤ length e.1) × (length e.1 ≤ 16)
+
+abbrev IsId : ℕ → Type 0
+IsId id = (1 ≤ id) × (id ≤ 14)
+
+longest_bound : (e : Extension) → longest e ≤ 16
+longest_bound AudioLevel = omega arith
+longest_bound AbsoluteSendTime = omega arith
+longest_bound TransportSequenceNumber = omega arith
+longest_bound RtpMid = omega arith
+longest_bound RtpStreamId = omega arith
+longest_bound RepairedRtpStreamId = omega arith
+longest_bound VideoOrientation = omega arith
+longest_bound AbsoluteCaptureTime = omega arith
+longest_bound PlayoutDelay = omega arith
+
+element_fits : (id n : ℕ) (bytes : Option (List ℕ)) (rest : List (ℕ × List ℕ)) → IsId id → n ≤ 16 → FitsIn n bytes → AllByRecursion IsElement rest → AllByRecursion IsElement (element_at id bytes ++ rest)
+element_fits id n None rest i h f r = r
+element_fits id n (Some bytes) rest i h f r = ((i.0, i.1, f.0, omega arith), r)
+
+elements_fit_at : (id : ℕ) (ids : List ℕ) (exts : ExtensionMap) (p : Option Extension) (w : ExtensionValues) → IsId id → AllByRecursion IsElement (written_elements ids exts (left_after p w)) → AllByRecursion IsElement (element_at id (bytes_at p w) ++ written_elements ids exts (left_after p w))
+elements_fit_at id ids exts None w i r = r
+elements_fit_at id ids exts (Some e) w i r = element_fits id (longest e) (value_bytes e w) _ i (longest_bound e) (value_fits e w) r
+
+elements_fit : (ids : List ℕ) (exts : ExtensionMap) (w : ExtensionValues) → AllByRecursion IsId ids → AllByRecursion IsElement (written_elements ids exts w)
+unfolding written_elements
+elements_fit [] exts w h = tt
+elements_fit (id ∷ ids) exts w h = elements_fit_at id ids exts (named_by exts id) w h.0 (elements_fit ids exts (left_after (named_by exts id) w) h.1)
+
+ids_are : (n id : ℕ) → 1 ≤ id → id + n ≤ 15 → AllByRecursion IsId (range_with_len id n)
+ids_are zero id low high = tt
+ids_are (suc n) id low high = ((low, omega arith), ids_are n (id + 1) (omega arith) (omega arith))
+
+zeros_read : (k : ℕ) → one_byte_elements 0 (replicate k 0) ≡ []
+zeros_read zero = unfold one_byte_elements in refl
+zeros_read (suc k) = one_padding (replicate k 0) ∙ zeros_read k
+
+same_element : (id n : ℕ) (bytes : List ℕ) (m : ℕ) (more : List ℕ) (es fs : List (ℕ × List ℕ)) → m ≡ id → more ≡ bytes → es ≡ fs → (m, more) ∷ es ≡ (id, bytes) ∷ fs
+same_element id n bytes m more es fs p q r = cc
+
+element_again : (id : ℕ) (bytes tail : List ℕ) (es : List (ℕ × List ℕ)) → 1 ≤ id → id ≤ 14 → 1 ≤ length bytes → length bytes ≤ 16 → one_byte_elements 0 tail ≡ es → one_byte_elements 0 ((id * 16 + (length bytes - 1)) ∷ bytes ++ tail) ≡ (id, bytes) ∷ es
+element_again id bytes tail es low high some few e =
+    let b : ℕ = id * 16 + (length bytes - 1) in
+    let n_is : b % 16 + 1 ≡ length bytes = omega arith in
+    one_element b (bytes ++ tail) (omega arith) (omega arith) (omega (arith, n_is, length-append bytes tail))
+    ∙ same_element id 0 bytes _ _ _ _ (omega arith) (ap (λ (k : ℕ). take k (bytes ++ tail)) n_is ∙ take_at bytes tail (length bytes) refl) (ap (λ (k : ℕ). one_byte_elements 0 (drop k (bytes ++ tail))) n_is ∙ ap (one_byte_elements 0) (drop_at bytes tail (length bytes) refl) ∙ e)
+
+elements_again : (es : List (ℕ × List ℕ)) (k : ℕ) → AllByRecursion IsElement es → one_byte_elements 0 (flat_map element_bytes es ++ replicate k 0) ≡ es
+elements_again [] k h = zeros_read k
+elements_again (e ∷ es) k h =
+    ap (λ (l : List ℕ). one_byte_elements 0 ((e.0 * 16 + (length e.1 - 1)) ∷ l)) (append_assoc e.1 (flat_map element_bytes es) (replicate k 0))
+    ∙ element_again e.0 e.1 (flat_map element_bytes es ++ replicate k 0) es h.0.0 h.0.1 h.0.2 h.0.3 (elements_again es k h.1)
+
+-- the data that is written has the values as their wire form holds them, whatever zeros follow it
+pub data_again : (exts : ExtensionMap) (values : ExtensionValues) (k : ℕ) → values_of exts 48862 (written_data exts values ++ replicate k 0) ≡ written_values exts values
+unfolding values_of written_data
+data_again exts values k =
+    ap (with_elements exts no_values) (elements_again (written_elements written_ids exts values) k (elements_fit written_ids exts values (ids_are 14 1 (omega arith) (omega arith))))
+    ∙ elements_hold exts values
+
+-- without values nothing is written
+
+no_bytes : (p : Option Extension) → bytes_at p no_values ≡ None
+no_bytes None = refl
+no_bytes (Some AudioLevel) = refl
+no_bytes (Some other) = refl
+
+none_left : (p : Option Extension) → left_after p no_values ≡ no_values
+none_left None = refl
+none_left (Some AudioLevel) = refl
+none_left (Some other) = refl
+
+no_elements : (ids : List ℕ) (exts : ExtensionMap) → written_elements ids exts no_values ≡ []
+unfolding written_elements
+no_elements [] exts = refl
+no_elements (id ∷ ids) exts =
+    let p : Option Extension = named_by exts id in
+    ap (λ (o : Option (List ℕ)). element_at id o ++ written_elements ids exts (left_after p no_values)) (no_bytes p)
+    ∙ ap (written_elements ids exts) (none_left p)
+    ∙ no_elements ids exts
+
+pub no_data : (exts : ExtensionMap) → written_data exts no_values ≡ []
+unfolding written_data
+no_data exts = ap (flat_map element_bytes) (no_elements written_ids exts)

@@ -1,0 +1,203 @@
+ghost use Rattle.std.specs.Prelude.{◌≡◌, ◌+◌, ◌*◌, ◌-◌, ◌≤◌, ◌<◌, ◌^◌, ◌∷◌, ◌++◌, length, drop, unwrap_or};
+ghost use Rattle.std.specs.Option.{option_map};
+ghost use Rattle.rtp_wire.specs.Writing.{u24_bytes, level_byte, quarter_turns, delay_steps};
+
+use crate::extension::{Extension, ExtensionMap};
+use crate::media_time::{Frequency, MediaTime};
+use crate::values::{ExtensionValues, VideoOrientation};
+
+// Writes a piece to the front of the bytes, and gives its length.
+fn put(bytes: &mut [u8], piece: &[u8]) -> usize
+    requires { length piece.now ≤ length bytes.old }
+    ensures bytes { bytes.new ≡ piece.now ++ drop result bytes.old }
+    ensures len { result ≡ length piece.now }
+{
+    let (front, _) = bytes.split_at_mut(piece.len());
+    front.copy_from_slice(piece);
+    piece.len()
+}
+
+fn u24_bytes(number: u32) -> [u8; 3]
+    ensures { result ≡ u24_bytes number }
+{
+    let [_, high, middle, low] = number.to_be_bytes();
+    [high, middle, low]
+}
+
+fn level_byte(level: i8, voice: bool) -> u8
+    ensures { result ≡ level_byte level voice }
+{
+    let minus = if level < 0 {
+        level.unsigned_abs().min(127)
+    } else {
+        0
+    };
+    if voice { 128 + minus } else { minus }
+}
+
+fn quarter_turns(turn: VideoOrientation) -> u8
+    ensures { result ≡ quarter_turns turn }
+{
+    match turn {
+        VideoOrientation::Deg0 => 0,
+        VideoOrientation::Deg270 => 1,
+        VideoOrientation::Deg180 => 2,
+        VideoOrientation::Deg90 => 3,
+    }
+}
+
+fn delay_steps(delay: MediaTime) -> u32
+    ensures { result ≡ delay_steps delay }
+{
+    delay.rebase(Frequency::HUNDREDTHS).numer().min(4095) as u32
+}
+
+impl ExtensionValues {
+    ghost use Rattle.rtp_wire.specs.Writing.{value_bytes, bytes_or_none, without};
+    ghost use Rattle.rtp_wire.specs.Extensions.{element_at, element_bytes, written_data, extension_bytes};
+    ghost use Rattle.std.specs.List.{flat_map};
+
+    // Writes the value of an extension to the front of the bytes, and gives its length: None where it is not there.
+    fn put_value(&self, extension: Extension, bytes: &mut [u8]) -> Option<usize>
+        requires { length (bytes_or_none (value_bytes extension self.now)) ≤ length bytes.old }
+        ensures bytes { bytes.new ≡ bytes_or_none (value_bytes extension self.now) ++ drop (unwrap_or result 0) bytes.old }
+        ensures len { result ≡ option_map length (value_bytes extension self.now) }
+    {
+        match extension {
+            Extension::AudioLevel => {
+                let level = self.audio_level?;
+                let voice = self.voice_activity?;
+                Some(put(bytes, &[level_byte(level, voice)]))
+            }
+            Extension::AbsoluteSendTime => {
+                let time = self.abs_send_time?;
+                Some(put(bytes, &u24_bytes(time.units())))
+            }
+            Extension::TransportSequenceNumber => {
+                let number = self.transport_cc?;
+                Some(put(bytes, &number.to_be_bytes()))
+            }
+            Extension::RtpMid => {
+                let mid = self.mid?;
+                Some(put(bytes, mid.as_slice()))
+            }
+            Extension::RtpStreamId => {
+                let rid = self.rid?;
+                Some(put(bytes, rid.as_slice()))
+            }
+            Extension::RepairedRtpStreamId => {
+                let rid = self.rid_repair?;
+                Some(put(bytes, rid.as_slice()))
+            }
+            Extension::VideoOrientation => {
+                let turn = self.video_orientation?;
+                Some(put(bytes, &[quarter_turns(turn)]))
+            }
+            Extension::AbsoluteCaptureTime => {
+                let time = self.abs_capture_time?;
+                Some(put(bytes, &time.as_ntp_64().to_be_bytes()))
+            }
+            Extension::PlayoutDelay => {
+                let least = delay_steps(self.play_delay_min?);
+                let greatest = delay_steps(self.play_delay_max?);
+                Some(put(bytes, &u24_bytes(least * 4096 + greatest)))
+            }
+        }
+    }
+
+    // Writes an element of the one-byte form, if the value of the extension is there, and gives its length.
+    fn put_element(&self, id: u8, extension: Extension, bytes: &mut [u8]) -> usize
+        requires low { 1 ≤ id }
+        requires high { id ≤ 14 }
+        requires some { 1 ≤ length bytes.old }
+        requires room { length (flat_map element_bytes (element_at id (value_bytes extension self.now))) ≤ length bytes.old }
+        ensures bytes { bytes.new ≡ flat_map element_bytes (element_at id (value_bytes extension self.now)) ++ drop result bytes.old }
+        ensures len { result ≡ length (flat_map element_bytes (element_at id (value_bytes extension self.now))) }
+    {
+        let (head, rest) = bytes.split_at_mut(1);
+        match self.put_value(extension, rest) {
+            None => 0,
+            Some(len) => put(head, &[id * 16 + (len - 1) as u8]) + len,
+        }
+    }
+
+    fn without(self, extension: Extension) -> Self
+        ensures { result ≡ without extension self }
+    {
+        match extension {
+            Extension::AudioLevel => ExtensionValues {
+                audio_level: None,
+                voice_activity: None,
+                ..self
+            },
+            Extension::AbsoluteSendTime => ExtensionValues {
+                abs_send_time: None,
+                ..self
+            },
+            Extension::TransportSequenceNumber => ExtensionValues {
+                transport_cc: None,
+                ..self
+            },
+            Extension::RtpMid => ExtensionValues { mid: None, ..self },
+            Extension::RtpStreamId => ExtensionValues { rid: None, ..self },
+            Extension::RepairedRtpStreamId => ExtensionValues {
+                rid_repair: None,
+                ..self
+            },
+            Extension::VideoOrientation => ExtensionValues {
+                video_orientation: None,
+                ..self
+            },
+            Extension::AbsoluteCaptureTime => ExtensionValues {
+                abs_capture_time: None,
+                ..self
+            },
+            Extension::PlayoutDelay => ExtensionValues {
+                play_delay_min: None,
+                play_delay_max: None,
+                ..self
+            },
+        }
+    }
+
+    // Writes the elements of these values, ids ascending, and gives their length. A value is written once.
+    fn put_elements(&self, bytes: &mut [u8], exts: &ExtensionMap) -> usize
+        requires { 76 ≤ length bytes.old }
+        ensures bytes { bytes.new ≡ written_data exts.now self.now ++ drop result bytes.old }
+        ensures len { result ≡ length (written_data exts.now self.now) }
+        ensures bound { result ≤ 75 }
+    {
+        let mut left = *self;
+        let mut at = 0;
+        for id in 1..15 {
+            if let Some(extension) = exts.named_by(id) {
+                let (_, rest) = bytes.split_at_mut(at);
+                at += left.put_element(id, extension, rest);
+                left = left.without(extension);
+            }
+        }
+        at
+    }
+
+    /// Writes the extension of these values under a map to the front of the bytes, and gives its length: the one-byte form
+    /// (RFC 8285 section 4.2) with its own header, ids ascending, of the values that are there and whose extension has an id,
+    /// and zeros to a whole word. It is 0 where nothing is written.
+    #[tactic(auto, unfolding(crate::specs::Extensions::extension_bytes))]
+    pub fn write(&self, bytes: &mut [u8], exts: &ExtensionMap) -> usize
+        requires { 88 ≤ length bytes.old }
+        ensures bytes { bytes.new ≡ extension_bytes exts.now self.now ++ drop result bytes.old }
+        ensures len { result ≡ length (extension_bytes exts.now self.now) }
+    {
+        let (head, rest) = bytes.split_at_mut(4);
+        let len = self.put_elements(rest, exts);
+        if len == 0 {
+            return 0;
+        }
+        let words = len.div_ceil(4);
+        let (_, behind) = rest.split_at_mut(len);
+        let (zeros, _) = behind.split_at_mut(4 * words - len);
+        zeros.fill(0);
+        head.copy_from_slice(&[0xbe, 0xde, 0, words as u8]);
+        4 + 4 * words
+    }
+}
