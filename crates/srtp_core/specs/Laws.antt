@@ -1,6 +1,6 @@
 -- Laws of sealed datagrams and of initial values.
 use Rattle.std.specs.Prelude.{ℕ, ◌≡◌, ◌≤◌, ◌<◌, ◌+◌, ◌^◌, Bool, List, length, take, drop}
-use Rattle.srtp_core.specs.Keys.{SessionKeys}
+use Rattle.srtp_core.specs.Keys.{SessionKeys, tag_len}
 use Rattle.srtp_core.specs.Seals.{rtp_iv, rtcp_iv, sealed_rtp, OpensTo}
 use Rattle.srtp_core.specs.RtcpSeals.{sealed_rtcp, stated_bit, stated_index, RtcpOpensTo}
 use Rattle.srtp_core.specs.declared.profile.SrtpProfile.{SrtpProfile}
@@ -60,3 +60,10 @@ abbrev pub RtcpOpensSealed : (List ℕ → List ℕ → ℕ → ℕ) → (List �
 RtcpOpensSealed keystream aead =
     (profile : SrtpProfile) (keys : SessionKeys) (bit : Bool) (index : ℕ) (plain : List ℕ) → index < 2 ^ 31 → 8 ≤ length plain
     → RtcpOpensTo keystream aead profile keys (sealed_rtcp keystream aead profile keys bit index plain) plain
+
+-- a sealed SRTCP datagram begins with the first 8 bytes of its packet, and is longer by its word and its tag
+abbrev pub RtcpSealKeepsHeader : (List ℕ → List ℕ → ℕ → ℕ) → (List ℕ → List ℕ → List ℕ → List ℕ → List ℕ) → Type 0
+RtcpSealKeepsHeader keystream aead =
+    (profile : SrtpProfile) (keys : SessionKeys) (bit : Bool) (index : ℕ) (plain : List ℕ) → 8 ≤ length plain
+    → let bytes = sealed_rtcp keystream aead profile keys bit index plain in
+    (take 8 bytes ≡ take 8 plain) × (length bytes ≡ length plain + 4 + tag_len profile)
