@@ -7,3 +7,4 @@ pub mod Shape
 pub mod CmParts
 pub mod RtcpSealing
 pub mod RtcpShape
+pub mod Longer

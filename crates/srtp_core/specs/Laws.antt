@@ -22,6 +22,12 @@ RtpSealsApart keystream aead =
     (profile : SrtpProfile) (keys : SessionKeys) (ssrc index n : ℕ) (p q : List ℕ) → n ≤ length p → n ≤ length q
     → sealed_rtp keystream aead profile keys ssrc index n p ≡ sealed_rtp keystream aead profile keys ssrc index n q → p ≡ q
 
+-- a sealed datagram is longer than the plain one by its tag
+abbrev pub RtpSealIsLonger : (List ℕ → List ℕ → ℕ → ℕ) → (List ℕ → List ℕ → List ℕ → List ℕ → List ℕ) → Type 0
+RtpSealIsLonger keystream aead =
+    (profile : SrtpProfile) (keys : SessionKeys) (ssrc index n : ℕ) (plain : List ℕ) → n ≤ length plain
+    → length (sealed_rtp keystream aead profile keys ssrc index n plain) ≡ length plain + tag_len profile
+
 -- a datagram opens to one payload at most
 abbrev pub RtpOpensOnce : (List ℕ → List ℕ → ℕ → ℕ) → (List ℕ → List ℕ → List ℕ → List ℕ → List ℕ) → Type 0
 RtpOpensOnce keystream aead =

@@ -7,8 +7,10 @@ ghost use Rattle.srtp_core.specs.Streams.{streamed, counter_mode};
 ///
 /// No call takes memory. The lengths of the outputs are conditions.
 pub trait SrtpCipher: Copy {
+    /// A key of 16 bytes.
     type Key128: Drop;
 
+    /// A key of 32 bytes.
     type Key256: Drop;
 
     /// The bytes of a key of 16 bytes.
