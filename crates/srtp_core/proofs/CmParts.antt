@@ -1,11 +1,10 @@
 -- A datagram under counter mode in parts.
-use Rattle.std.proofs.Common.{◌≡◌, ℕ, ◌+◌, ◌-◌, ◌*◌, ◌/◌, ◌%◌, ◌^◌, ◌<◌, ◌≤◌, Bool, true, false, List, [], ◌++◌, length, get_or, take, drop, arith, refl, sym, ap, ◌∙◌, append_assoc}
-use Rattle.std.specs.Prelude.{nat_le, Option, Some, None, Result, Ok, Err, IfOk, IfSome, IfNone}
+use Rattle.std.proofs.Common.{◌≡◌, ℕ, ◌+◌, ◌-◌, ◌/◌, ◌%◌, ◌^◌, ◌<◌, ◌≤◌, Bool, true, false, List, ◌++◌, length, get_or, take, drop, arith, refl, sym, ap, ◌∙◌, append_assoc}
+use Rattle.std.specs.Prelude.{nat_le}
 use Rattle.std.specs.Int.{w32, to_be_bytes, from_be_bytes}
 use Rattle.std.proofs.lemmas.List.{take_at, drop_at, length-take, length-drop, length-append, take-append-drop, take-append-le, get_or_append_left}
 use Rattle.std.proofs.lemmas.Bool.{le-leb}
 use Rattle.std.proofs.lemmas.Bool.Decides.{nat_tests}
-use Rattle.std.proofs.lemmas.Nat.{be_bytes_4}
 use Rattle.srtp_core.specs.Streams.{streamed}
 use Rattle.srtp_core.specs.StreamLaws.{streamed-streamed, length-streamed}
 use Rattle.srtp_core.specs.Hmac.{hmac_of}
@@ -13,7 +12,7 @@ use Rattle.srtp_core.specs.Seals.{cm_iv, cm_rtp_tag, cm_sealed_rtp}
 use Rattle.srtp_core.specs.RtcpSeals.{e_and_index, sender_of, cm_rest, cm_sealed_rtcp}
 use Rattle.srtp_core.specs.CmSeals.{CmRtcpOpens}
 use Rattle.srtp_core.specs.Codes.{length-tag}
-use Rattle.srtp_core.proofs.Lists.{front_same, back_same, front_of, back_of}
+use Rattle.srtp_core.proofs.Lists.{front_of, back_of}
 use Rattle.srtp_core.proofs.RtcpParts.{small_front, small_back, word_true, word_false}
 
 -- RTP: of a datagram with room for a tag

@@ -1,5 +1,5 @@
 -- An initial value is XORed with the salt once more, and then read.
-use Rattle.std.proofs.Common.{◌≡◌, ℕ, ◌+◌, ◌/◌, ◌%◌, ◌<◌, ◌^◌, List, ◌∷◌, ◌++◌, length, take, drop, sym, ap, ◌∙◌, arith, replicate, refl, lit<}
+use Rattle.std.proofs.Common.{◌≡◌, ℕ, ◌/◌, ◌%◌, ◌<◌, ◌^◌, List, ◌∷◌, ◌++◌, length, take, drop, sym, ap, ◌∙◌, arith, replicate, refl, lit<}
 use Rattle.std.specs.Prelude.{slice_index, bit_xor}
 use Rattle.std.specs.Int.{w16, w32, w64, byte_at, to_be_bytes, from_be_bytes}
 use Rattle.std.specs.Int.Bits.{xor_zero_r}

@@ -6,3 +6,5 @@ pub mod Results
 pub mod Shape
 pub mod CmParts
 pub mod RtcpSealing
+pub mod RtcpShape
+pub mod Longer

@@ -1,5 +1,5 @@
 -- What is known of the values inside a result.
-use Rattle.std.proofs.Common.{◌≡◌, ℕ, List}
+use Rattle.std.proofs.Common.{ℕ, List}
 use Rattle.std.specs.Prelude.{Option, Some, None, Result, Ok, Err, IfOk, IfSome, IfNone}
 use Rattle.srtp_core.specs.Keys.{SessionKeys}
 use Rattle.srtp_core.specs.RtcpSeals.{sealed_rtcp, stated_word, RtcpOpensTo, GcmRtcpOpens}

@@ -1,22 +1,21 @@
 -- What is true of sealed RTCP packets, of the laws of a cipher.
-use Rattle.std.proofs.Common.{◌≡◌, ℕ, ◌+◌, ◌-◌, ◌*◌, ◌/◌, ◌%◌, ◌^◌, ◌<◌, ◌≤◌, Bool, true, false, List, [], ◌++◌, length, get_or, take, drop, arith, refl, sym, ap, ◌∙◌, append_assoc}
+use Rattle.std.proofs.Common.{◌≡◌, ℕ, ◌+◌, ◌-◌, ◌%◌, ◌^◌, ◌<◌, ◌≤◌, Bool, true, false, List, [], ◌++◌, length, take, drop, arith, refl, sym, ap, ◌∙◌, append_assoc}
 use Rattle.std.specs.Prelude.{nat_le}
-use Rattle.std.specs.Int.{w32, to_be_bytes, from_be_bytes}
+use Rattle.std.specs.Int.{w32, from_be_bytes}
 use Rattle.std.proofs.lemmas.Nat.{from_be_bytes-to_be_bytes_4}
 use Rattle.std.proofs.lemmas.Bool.{le-leb}
 use Rattle.std.proofs.lemmas.Bool.Decides.{nat_tests}
-use Rattle.std.proofs.lemmas.List.{take_at, drop_at, length-take, length-drop, length-append, take-append-drop, get_or_append_left}
+use Rattle.std.proofs.lemmas.List.{drop_at, length-append, take-append-drop}
 use Rattle.srtp_core.specs.Keys.{SessionKeys}
 use Rattle.srtp_core.specs.Streams.{streamed}
-use Rattle.srtp_core.specs.StreamLaws.{streamed-streamed, length-streamed}
+use Rattle.srtp_core.specs.StreamLaws.{streamed-streamed}
 use Rattle.srtp_core.specs.Hmac.{hmac_of}
 use Rattle.srtp_core.specs.Codes.{length-tag}
 use Rattle.srtp_core.specs.Seals.{gcm_rtcp_iv, cm_iv}
-use Rattle.srtp_core.specs.RtcpSeals.{e_and_index, sender_of, cm_rest, gcm_sealed_rtcp, cm_sealed_rtcp, rtcp_seal, sealed_rtcp, stated_word, stated_bit, stated_index, word_place, RtcpOpensTo}
+use Rattle.srtp_core.specs.RtcpSeals.{e_and_index, sender_of, cm_rest, gcm_sealed_rtcp, cm_sealed_rtcp, sealed_rtcp, stated_word, stated_bit, stated_index}
 use Rattle.srtp_core.specs.Laws.{RtcpOpensOnce, RtcpStates, RtcpOpensSealed}
-use Rattle.srtp_core.proofs.Lists.{length-front, front_same, back_same, front_of, back_of}
-use Rattle.srtp_core.proofs.CmParts.{four_bytes, rest_len, four}
-use Rattle.srtp_core.proofs.RtcpParts.{gcm_rtcp_longer}
+use Rattle.srtp_core.proofs.Lists.{length-front, front_same, back_same, front_of}
+use Rattle.srtp_core.proofs.CmParts.{four_bytes, four}
 use Rattle.srtp_core.specs.declared.profile.SrtpProfile.{SrtpProfile}
 use Rattle.srtp_core.specs.declared.profile.SrtpProfile.TheVariants.{Aes128CmSha1_80, AeadAes128Gcm, AeadAes256Gcm}
 

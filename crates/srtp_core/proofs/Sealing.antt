@@ -1,11 +1,11 @@
 -- What is true of sealed datagrams, of the laws of a cipher.
-use Rattle.std.proofs.Common.{◌≡◌, ℕ, ◌+◌, ◌/◌, ◌%◌, append_assoc, ◌≤◌, List, ◌++◌, length, take, drop, arith, refl, sym, ap, ◌∙◌}
+use Rattle.std.proofs.Common.{◌≡◌, ℕ, ◌/◌, ◌%◌, append_assoc, ◌≤◌, List, ◌++◌, length, take, drop, arith, refl, sym, ap, ◌∙◌}
 use Rattle.std.proofs.lemmas.List.{take_at, length-append, take-append-drop}
 use Rattle.std.specs.Int.{w32, to_be_bytes}
 use Rattle.srtp_core.specs.Keys.{SessionKeys}
 use Rattle.srtp_core.specs.Streams.{streamed}
-use Rattle.srtp_core.specs.StreamLaws.{streamed-streamed, length-streamed}
-use Rattle.srtp_core.specs.Seals.{gcm_rtp_iv, cm_iv, cm_rtp_tag, cm_sealed_rtp, gcm_sealed_rtp, rtp_seal, sealed_rtp, OpensTo}
+use Rattle.srtp_core.specs.StreamLaws.{streamed-streamed}
+use Rattle.srtp_core.specs.Seals.{gcm_rtp_iv, cm_iv, cm_rtp_tag, cm_sealed_rtp, gcm_sealed_rtp, rtp_seal, sealed_rtp}
 use Rattle.srtp_core.specs.SealLaws.{sealed_rtp_is}
 use Rattle.srtp_core.specs.Laws.{RtpSealsApart, RtpOpensOnce, RtpOpensSealed}
 use Rattle.srtp_core.proofs.Lists.{length-front, front_same, back_same}

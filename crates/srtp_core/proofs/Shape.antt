@@ -1,6 +1,6 @@
 -- What a sealed datagram has of the plain one.
 use Rattle.std.proofs.Common.{◌≡◌, ℕ, ◌+◌, ◌/◌, ◌%◌, ◌≤◌, List, ◌++◌, length, take, drop, arith}
-use Rattle.std.proofs.lemmas.List.{length-append, length-take, length-drop}
+use Rattle.std.proofs.lemmas.List.{length-append, length-drop}
 use Rattle.std.specs.Int.{w32, to_be_bytes}
 use Rattle.srtp_core.specs.Keys.{SessionKeys}
 use Rattle.srtp_core.specs.Streams.{streamed}

@@ -1,6 +1,6 @@
 -- Laws of sealed datagrams and of initial values.
 use Rattle.std.specs.Prelude.{ℕ, ◌≡◌, ◌≤◌, ◌<◌, ◌+◌, ◌^◌, Bool, List, length, take, drop}
-use Rattle.srtp_core.specs.Keys.{SessionKeys}
+use Rattle.srtp_core.specs.Keys.{SessionKeys, tag_len}
 use Rattle.srtp_core.specs.Seals.{rtp_iv, rtcp_iv, sealed_rtp, OpensTo}
 use Rattle.srtp_core.specs.RtcpSeals.{sealed_rtcp, stated_bit, stated_index, RtcpOpensTo}
 use Rattle.srtp_core.specs.declared.profile.SrtpProfile.{SrtpProfile}
@@ -21,6 +21,12 @@ abbrev pub RtpSealsApart : (List ℕ → List ℕ → ℕ → ℕ) → (List ℕ
 RtpSealsApart keystream aead =
     (profile : SrtpProfile) (keys : SessionKeys) (ssrc index n : ℕ) (p q : List ℕ) → n ≤ length p → n ≤ length q
     → sealed_rtp keystream aead profile keys ssrc index n p ≡ sealed_rtp keystream aead profile keys ssrc index n q → p ≡ q
+
+-- a sealed datagram is longer than the plain one by its tag
+abbrev pub RtpSealIsLonger : (List ℕ → List ℕ → ℕ → ℕ) → (List ℕ → List ℕ → List ℕ → List ℕ → List ℕ) → Type 0
+RtpSealIsLonger keystream aead =
+    (profile : SrtpProfile) (keys : SessionKeys) (ssrc index n : ℕ) (plain : List ℕ) → n ≤ length plain
+    → length (sealed_rtp keystream aead profile keys ssrc index n plain) ≡ length plain + tag_len profile
 
 -- a datagram opens to one payload at most
 abbrev pub RtpOpensOnce : (List ℕ → List ℕ → ℕ → ℕ) → (List ℕ → List ℕ → List ℕ → List ℕ → List ℕ) → Type 0
@@ -60,3 +66,10 @@ abbrev pub RtcpOpensSealed : (List ℕ → List ℕ → ℕ → ℕ) → (List �
 RtcpOpensSealed keystream aead =
     (profile : SrtpProfile) (keys : SessionKeys) (bit : Bool) (index : ℕ) (plain : List ℕ) → index < 2 ^ 31 → 8 ≤ length plain
     → RtcpOpensTo keystream aead profile keys (sealed_rtcp keystream aead profile keys bit index plain) plain
+
+-- a sealed SRTCP datagram begins with the first 8 bytes of its packet, and is longer by its word and its tag
+abbrev pub RtcpSealKeepsHeader : (List ℕ → List ℕ → ℕ → ℕ) → (List ℕ → List ℕ → List ℕ → List ℕ → List ℕ) → Type 0
+RtcpSealKeepsHeader keystream aead =
+    (profile : SrtpProfile) (keys : SessionKeys) (bit : Bool) (index : ℕ) (plain : List ℕ) → 8 ≤ length plain
+    → let bytes = sealed_rtcp keystream aead profile keys bit index plain in
+    (take 8 bytes ≡ take 8 plain) × (length bytes ≡ length plain + 4 + tag_len profile)

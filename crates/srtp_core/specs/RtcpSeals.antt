@@ -1,5 +1,5 @@
 -- Sealed RTCP packets (RFC 3711, 3.4; RFC 7714, 9 and 17).
-use Rattle.std.specs.Prelude.{ℕ, ◌≡◌, ◌≤◌, ◌+◌, ◌-◌, ◌%◌, ◌^◌, Bool, true, false, nat_le, if◌then◌else◌, List, [], ◌++◌, length, take, drop}
+use Rattle.std.specs.Prelude.{ℕ, ◌≡◌, ◌≤◌, ◌+◌, ◌-◌, ◌%◌, ◌^◌, Bool, true, false, nat_le, List, [], ◌++◌, length, take, drop}
 use Rattle.std.specs.Int.{w32, to_be_bytes, from_be_bytes}
 use Rattle.srtp_core.specs.Streams.{streamed}
 use Rattle.srtp_core.specs.Hmac.{hmac_of}

@@ -1,5 +1,5 @@
 -- What is true of the cipher over SHA-1.
-use Rattle.std.proofs.Common.{◌≡◌, ℕ, ◌+◌, List, ◌++◌, length, take, drop, refl, sym, ap, ◌∙◌, arith}
+use Rattle.std.proofs.Common.{◌≡◌, ℕ, ◌+◌, List, length, take, drop, sym, ap, ◌∙◌, arith}
 use Rattle.std.proofs.lemmas.List.{length-take}
 use Rattle.sha1.specs.Sha1.{sha1}
 use Rattle.srtp_core.specs.Streams.{streamed}

@@ -1,5 +1,5 @@
 -- What is true of the toy cipher.
-use Rattle.std.proofs.Common.{◌≡◌, ℕ, ◌+◌, ◌<◌, List, ◌++◌, length, take, drop, [], ◌∷◌, suc, ◌%◌, refl, sym, ap, ◌∙◌, arith, add-zero, zero-add}
+use Rattle.std.proofs.Common.{◌≡◌, ℕ, ◌+◌, ◌<◌, List, ◌++◌, length, take, drop, [], ◌∷◌, suc, ◌%◌, refl, sym, ap, ◌∙◌, arith, add-zero}
 use Rattle.std.specs.Int.{w32, to_be_bytes}
 use Rattle.std.specs.Prelude.{slice_index, bit_xor, ◌==◌, if◌then◌else◌}
 use Rattle.std.specs.Int.Bits.{xor_assoc}

@@ -11,10 +11,13 @@ pub const TAG_LEN: usize = 16;
 /// The length of an initial value, in bytes.
 pub const IV_LEN: usize = 12;
 
+/// A key for authenticated encryption.
 pub type AeadKey = [u8; 32];
 
+/// A salt, of RTP or of RTCP.
 pub type RtpSalt = [u8; 12];
 
+/// An initial value, of RTP or of RTCP.
 pub type RtpIv = [u8; 12];
 
 pub use crate::gcm::{rtcp_iv, rtp_iv};

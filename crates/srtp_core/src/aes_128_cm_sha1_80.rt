@@ -17,10 +17,13 @@ pub const HMAC_KEY_LEN: usize = 20;
 /// The length of a tag, in bytes.
 pub const HMAC_TAG_LEN: usize = 10;
 
+/// A key for counter mode.
 pub type AesKey = [u8; 16];
 
+/// A salt, of RTP or of RTCP.
 pub type RtpSalt = [u8; 14];
 
+/// An initial value, of RTP or of RTCP.
 pub type RtpIv = [u8; 16];
 
 fn source_bytes(ssrc: u32) -> [u8; 16]

@@ -7,8 +7,10 @@ ghost use Rattle.srtp_core.specs.Streams.{streamed, counter_mode};
 ///
 /// No call takes memory. The lengths of the outputs are conditions.
 pub trait SrtpCipher: Copy {
+    /// A key of 16 bytes.
     type Key128: Drop;
 
+    /// A key of 32 bytes.
     type Key256: Drop;
 
     /// The bytes of a key of 16 bytes.
@@ -111,23 +113,4 @@ pub trait SrtpCipher: Copy {
 
     /// The key stream is the counter mode of the blocks.
     ghost counts: { (key iv : List ℕ) (i : ℕ) → keystream key iv i ≡ counter_mode (block key) iv i };
-}
-
-/// What is opened after it was sealed is what was sealed.
-pub fn there_and_back<C: SrtpCipher>(
-    cipher: C,
-    key: &[u8; 16],
-    iv: &[u8; 12],
-    input: &[u8],
-    sealed: &mut [u8],
-    output: &mut [u8],
-) -> bool
-    requires room { length sealed.old ≡ length input.now + 16 }
-    requires same { length output.old ≡ length input.now }
-    ensures opened { IsTrue result }
-    ensures plain { output.new ≡ input.now }
-{
-    let key = cipher.key_128(key);
-    cipher.seal_128(&key, iv, &[], &[], input, sealed);
-    cipher.open_128(&key, iv, &[], &[], sealed, output)
 }

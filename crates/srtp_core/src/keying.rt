@@ -30,6 +30,7 @@ impl KeyingMaterial {
         Ok(KeyingMaterial { bytes })
     }
 
+    /// The bytes.
     pub fn as_slice(&self) -> &[u8]
         ensures { result.now ≡ self.now }
     {
@@ -40,7 +41,9 @@ impl KeyingMaterial {
 /// A master key of `ML` bytes with its salt of `SL` bytes.
 #[derive(Drop)]
 pub struct SrtpKey<const ML: usize, const SL: usize> {
+    /// The master key.
     pub master: [u8; ML],
+    /// The master salt.
     pub salt: [u8; SL],
 }
 

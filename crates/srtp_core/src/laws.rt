@@ -1,6 +1,6 @@
 //! Laws as functions without a body: what they ensure is proved, and can be cited by a call.
 
-ghost use Rattle.srtp_core.specs.Laws.{RtpSealKeepsHeader, RtpIvsApart, RtcpIvsApart, RtpSealsApart, RtpOpensOnce, RtpOpensSealed, RtcpOpensOnce, RtcpStates, RtcpOpensSealed};
+ghost use Rattle.srtp_core.specs.Laws.{RtpSealKeepsHeader, RtpIvsApart, RtcpIvsApart, RtpSealsApart, RtpOpensOnce, RtpOpensSealed, RtcpOpensOnce, RtcpStates, RtcpOpensSealed, RtcpSealKeepsHeader, RtpSealIsLonger};
 
 use crate::cipher::SrtpCipher;
 
@@ -49,4 +49,15 @@ pub fn rtcp_states<C: SrtpCipher>()
 /// An SRTCP datagram that was sealed opens to its packet.
 pub fn rtcp_opens_sealed<C: SrtpCipher>()
     ensures { RtcpOpensSealed C.keystream C.aead }
+{}
+
+/// A sealed SRTCP datagram begins with the first 8 bytes of its packet, and is longer by its word of
+/// 4 bytes and its tag.
+pub fn rtcp_seal_keeps_header<C: SrtpCipher>()
+    ensures { RtcpSealKeepsHeader C.keystream C.aead }
+{}
+
+/// A sealed RTP datagram is longer than the plain one by its tag: 10 or 16 bytes.
+pub fn rtp_seal_is_longer<C: SrtpCipher>()
+    ensures { RtpSealIsLonger C.keystream C.aead }
 {}

@@ -7,8 +7,11 @@ use std::fmt;
 /// A protection profile (RFC 5764 section 4.1.2, RFC 7714 section 14.2).
 #[derive(Clone, Copy, Debug, PartialEq, Eq)]
 pub enum SrtpProfile {
+    /// AES-128 in counter mode with a tag of 80 bits (RFC 3711).
     Aes128CmSha1_80,
+    /// AES-128 in Galois counter mode (RFC 7714).
     AeadAes128Gcm,
+    /// AES-256 in Galois counter mode (RFC 7714).
     AeadAes256Gcm,
 }
 

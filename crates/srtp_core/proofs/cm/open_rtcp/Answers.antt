@@ -1,8 +1,4 @@
 use Rattle.std.proofs.Common.{◌≡◌, true, arith}
-use Rattle.srtp_core.specs.Streams.{streamed}
-use Rattle.std.proofs.Common.{◌∙◌, ◌%◌, ◌^◌, ◌++◌, ap, take, drop}
-use Rattle.srtp_core.specs.Seals.{cm_iv}
-use Rattle.srtp_core.specs.RtcpSeals.{sender_of}
 use Rattle.srtp_core.proofs.CmParts.{Split, encrypted_opens, clear_opens, rtcp_code, rtcp_short}
 use Rattle.srtp_core.proofs.cm.open_rtcp.Goals as goal
 

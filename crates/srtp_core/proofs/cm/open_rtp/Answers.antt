@@ -1,4 +1,4 @@
-use Rattle.std.proofs.Common.{◌≡◌, true, ◌++◌, ◌∙◌, length, take, drop, ap, sym, arith}
+use Rattle.std.proofs.Common.{◌≡◌, true, ◌∙◌, length, take, ap, arith}
 use Rattle.std.proofs.lemmas.List.{take_at}
 use Rattle.srtp_core.specs.Streams.{streamed}
 use Rattle.srtp_core.specs.StreamLaws.{length-streamed}

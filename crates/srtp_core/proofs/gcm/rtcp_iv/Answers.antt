@@ -1,4 +1,4 @@
-use Rattle.std.proofs.Common.{◌≡◌, ◌∙◌, ap, take, drop, [], ◌∷◌}
+use Rattle.std.proofs.Common.{◌≡◌, ◌∙◌, ap, take, [], ◌∷◌}
 use Rattle.media_base.specs.Text.{xored}
 use Rattle.srtp_core.specs.Seals.{gcm_rtcp_iv}
 use Rattle.srtp_core.proofs.gcm.rtcp_iv.Goals as goal

@@ -1,4 +1,4 @@
-use Rattle.std.proofs.Common.{ℕ, ◌-◌, arith, length}
+use Rattle.std.proofs.Common.{◌-◌, arith, length}
 use Rattle.srtp_core.proofs.RtcpParts.{Split, small_back, encrypted_opens, encrypted_opens_not, clear_opens, clear_opens_not}
 use Rattle.srtp_core.proofs.gcm_rtcp.open_rtcp.Goals as goal
 

@@ -1,4 +1,4 @@
-use Rattle.std.proofs.Common.{arith, ◌∙◌, ap, length, ◌++◌, sym}
+use Rattle.std.proofs.Common.{◌∙◌, ap, length, ◌++◌, sym}
 use Rattle.std.proofs.lemmas.Slice.Eq.{slice_eq-Decides}
 use Rattle.std.proofs.lemmas.Bool.Decides.{Decides-eqb}
 use Rattle.srtp_core.specs.Streams.{streamed}
