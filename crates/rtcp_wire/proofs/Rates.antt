@@ -1,8 +1,7 @@
 -- The parts of a rate.
-use Rattle.std.proofs.Common.{◌≡◌, ℕ, zero, suc, ◌+◌, ◌-◌, ◌*◌, ◌/◌, ◌^◌, ◌<◌, ◌≤◌, inl, inr, refl, sym, ap, ◌∙◌, arith}
+use Rattle.std.proofs.Common.{ℕ, zero, suc, ◌+◌, ◌^◌, ◌<◌, ◌≤◌, arith}
 use Rattle.std.proofs.lemmas.Nat.{leading_top, shr_below}
 use Rattle.std.proofs.Math.Nat.{pow-le-pow_right}
-use Rattle.std.specs.Int.{w64, leading_zeros}
 use Rattle.rtcp_wire.specs.Remb.{exponent_of, mantissa_of}
 
 below_power : (a j k : ℕ) → j ≤ k → a < 2 ^ j → a < 2 ^ k

@@ -1,25 +1,26 @@
 -- What was written is read again.
-use Rattle.std.proofs.Common.{◌≡◌, ℕ, zero, suc, ◌+◌, ◌-◌, ◌*◌, ◌/◌, ◌%◌, ◌^◌, ◌<◌, ◌≤◌, Bool, true, false, cond, eqb, ltb, leb, List, [], ◌∷◌, ◌++◌, length, get_or, take, drop, Option, Some, None, refl, sym, ap, subst, ◌∙◌, append_assoc, arith, length-append}
+use Rattle.std.proofs.Common.{◌≡◌, ℕ, zero, suc, ◌+◌, ◌-◌, ◌*◌, ◌/◌, ◌%◌, ◌^◌, ◌<◌, ◌≤◌, Bool, true, false, ltb, leb, List, [], ◌∷◌, ◌++◌, length, take, drop, Option, Some, None, refl, sym, ap, ◌∙◌, append_assoc, arith, length-append}
 use Rattle.std.specs.Prelude.{slice_index, map, ℤ, pos, negsuc, min}
 use Rattle.std.specs.List.{flat_map, AllByRecursion}
-use Rattle.std.specs.Int.{w16, w32, w64, to_be_bytes, from_be_bytes}
+use Rattle.std.specs.Int.{w16, w32, to_be_bytes, from_be_bytes}
 use Rattle.std.proofs.lemmas.Bool.{le-ltb, lt-ltb, le-leb}
 use Rattle.std.proofs.lemmas.List.{append-nil, take_at, drop_at}
 use Rattle.std.proofs.lemmas.Nat.{from_be_bytes-to_be_bytes_2, from_be_bytes-to_be_bytes_4, from_be_bytes-to_be_bytes_8}
-use Rattle.rtcp_wire.specs.Wire.{half_at, word_at, words, rows_of}
-use Rattle.rtcp_wire.specs.Frame.{Frame, item_len, frame_at}
+use Rattle.rtcp_wire.specs.Wire.{half_at, word_at, rows_of}
+use Rattle.rtcp_wire.specs.Frame.{item_len, frame_at}
 use Rattle.rtcp_wire.specs.Rows.{nack_entry_at, nack_entry_text, fir_entry_at, fir_entry_text, report_at, report_text, signed24, bits24}
 use Rattle.rtcp_wire.specs.Feedback.{nack_of, nack_body, pli_of, pli_body, fir_of, fir_body, app_feedback_of, app_feedback_body}
-use Rattle.media_base.specs.Wallclock.{unix_of_ntp, ntp_of_unix}
+use Rattle.media_base.specs.Wallclock.{ntp_of_unix}
 use Rattle.rtcp_wire.specs.Remb.{is_remb, remb_of, remb_body, mantissa_of, exponent_of}
 use Rattle.rtcp_wire.proofs.Rates.{mantissa_small}
+use Rattle.rtcp_wire.proofs.SdesAgain.{descriptions_again}
 use Rattle.rtcp_wire.specs.declared.remb.Remb.{Remb as RembItem}
 use Rattle.rtcp_wire.specs.declared.report.SenderInfo.{SenderInfo}
 use Rattle.rtcp_wire.specs.declared.report.SenderReport.{SenderReport as SenderItem}
 use Rattle.rtcp_wire.specs.Reports.{sender_info_at, sender_info_text, sender_report_of, sender_report_body, receiver_report_of, receiver_report_body, goodbye_of, goodbye_body}
 use Rattle.rtcp_wire.specs.Items.{reading_of, transport_feedback_of, payload_feedback_of, application_of, item_or_short, first_of, with_rest, item_at, items_within, items_of}
 use Rattle.rtcp_wire.specs.declared.packet.Rtcp.{Rtcp}
-use Rattle.rtcp_wire.specs.declared.packet.Rtcp.TheVariants.{SenderReport, ReceiverReport, Goodbye, ExtendedReport, Nack, Pli, Fir, Remb, AppSpecificFeedback}
+use Rattle.rtcp_wire.specs.declared.packet.Rtcp.TheVariants.{SenderReport, ReceiverReport, SourceDescription, Goodbye, ExtendedReport, Nack, Pli, Fir, Remb, AppSpecificFeedback}
 use Rattle.rtcp_wire.specs.declared.packet.Reading.TheVariants.{Item}
 use Rattle.rtcp_wire.specs.declared.request.Fir.{Fir as FirItem}
 use Rattle.rtcp_wire.specs.declared.source.Goodbye.{Goodbye as GoodbyeItem}
@@ -30,14 +31,14 @@ use Rattle.rtcp_wire.specs.declared.nack.Nack.{Nack as NackItem}
 use Rattle.rtcp_wire.specs.declared.request.FirEntry.{FirEntry}
 use Rattle.rtcp_wire.specs.declared.request.Pli.{Pli as PliItem}
 use Rattle.rtcp_wire.specs.declared.report.ReceptionReport.{ReceptionReport}
-use Rattle.rtcp_wire.specs.Laws.{IsNackEntry, IsFirEntry, IsSigned24, IsReport, IsDlrrItem, IsBlock, FieldsFit, IsHeld, held, held_block, held_info, held_rate}
+use Rattle.rtcp_wire.specs.Laws.{IsNackEntry, IsFirEntry, IsSigned24, IsReport, IsDlrrItem, IsBlock, IsHeld, held, held_block, held_info, held_rate}
 use Rattle.std.specs.Option.{option_map, option_and_then}
 use Rattle.rtcp_wire.specs.Extended.{dlrr_item_at, dlrr_item_text, block_of, block_at, block_kind, block_content, block_text, kept, blocks_within, blocks_of, extended_report_of, extended_report_body}
 use Rattle.rtcp_wire.specs.declared.extended.DlrrItem.{DlrrItem}
 use Rattle.rtcp_wire.specs.declared.extended.ReportBlock.{ReportBlock}
 use Rattle.rtcp_wire.specs.declared.extended.ReportBlock.TheVariants.{Rrtr, Dlrr}
 use Rattle.rtcp_wire.specs.declared.extended.ExtendedReport.{ExtendedReport as ExtendedItem}
-use Rattle.rtcp_wire.specs.Texts.{framed, text_of, kind_of, count_of, body_of, IsWritable}
+use Rattle.rtcp_wire.specs.Texts.{framed, text_of, kind_of, count_of, body_of}
 
 -- rows that were put one after another are read again
 rows_again : {T : Type 0} (row : List ℕ → T) (text : T → List ℕ) (size : ℕ) (Whole : T → Type 0) (again : (x : T) (rest : List ℕ) → Whole x → (row (text x ++ rest) ≡ x) × (drop size (text x ++ rest) ≡ rest)) (xs : List T) (rest : List ℕ)
@@ -357,13 +358,12 @@ block_again b rest w =
     ∙ ap (λ (x : List ℕ). shape x (drop (length content) (content ++ rest))) front ∙ ap (shape content) back
     ∙ ap (option_map (λ blocks. kept blocks rest)) (content_again b w)
 
-blocks_again : (n : ℕ) (bs : List ReportBlock) → length bs ≤ n → AllByRecursion IsBlock bs → blocks_within n (flat_map block_text bs) ≡ Some (map held_block bs)
-blocks_again zero [] le w = refl
-blocks_again zero (b ∷ bs) le w = absurd (omega arith)
-blocks_again (suc n) [] le w = refl
-blocks_again (suc n) (b ∷ bs) le w =
+blocks_again : (n : ℕ) (bs : List ReportBlock) → AllByRecursion IsBlock bs → blocks_within n (flat_map block_text bs) ≡ Some (map held_block (take n bs))
+blocks_again zero bs w = refl
+blocks_again (suc n) [] w = refl
+blocks_again (suc n) (b ∷ bs) w =
     let one = block_again b (flat_map block_text bs) w.0 in
-    let others = blocks_again n bs (omega arith) w.1 in
+    let others = blocks_again n bs w.1 in
     some_block n b (flat_map block_text bs) ∙ rw (one, others) refl
 
 extended_report_is : (body : List ℕ) → 4 ≤ length body → extended_report_of body ≡ option_map (λ blocks. made_report (word_at body 0) blocks) (blocks_of (drop 4 body))
@@ -372,26 +372,27 @@ extended_report_is body long =
     let t : ltb (length body) 4 ≡ false = le-ltb _ _ long in
     rw t refl
 
-extended_report_again : (r : ExtendedItem) → r.ssrc < 2 ^ 32 → length r.blocks ≤ 31 → AllByRecursion IsBlock r.blocks → extended_report_of (extended_report_body r) ≡ Some (made_report r.ssrc (map held_block r.blocks))
+extended_report_again : (r : ExtendedItem) → r.ssrc < 2 ^ 32 → AllByRecursion IsBlock r.blocks → extended_report_of (extended_report_body r) ≡ Some (made_report r.ssrc (map held_block (take 31 r.blocks)))
 unfolding extended_report_body blocks_of
-extended_report_again r s few w =
+extended_report_again r s w =
     let a : from_be_bytes w32 (to_be_bytes w32 r.ssrc) ≡ r.ssrc = from_be_bytes-to_be_bytes_4 r.ssrc s in
     extended_report_is (extended_report_body r) (omega arith)
-    ∙ ap (option_map (λ blocks. made_report (word_at (extended_report_body r) 0) blocks)) (blocks_again 31 r.blocks few w)
-    ∙ ap (λ (x : ℕ). Some (made_report x (map held_block r.blocks))) a
+    ∙ ap (option_map (λ blocks. made_report (word_at (extended_report_body r) 0) blocks)) (blocks_again 31 r.blocks w)
+    ∙ ap (λ (x : ℕ). Some (made_report x (map held_block (take 31 r.blocks)))) a
 
 -- ---- items
 
 reading_again : (x : Rtcp) → IsHeld x → reading_of (kind_of x) (count_of x) (body_of x) ≡ Item (held x)
 unfolding reading_of transport_feedback_of payload_feedback_of
 reading_again (ReceiverReport r) w = ap (item_or_short ReceiverReport) (receiver_report_again r w.fields.0 w.fields.1)
+reading_again (SourceDescription d) w = ap (item_or_short SourceDescription) (descriptions_again d w.fields)
 reading_again (Goodbye g) w = ap (item_or_short Goodbye) (goodbye_again g w.fields)
 reading_again (Nack n) w = ap (item_or_short Nack) (nack_again n w.fields.0 w.fields.1 w.fields.2 w.fields.3)
 reading_again (Pli p) w = ap (item_or_short Pli) (pli_again p w.fields.0 w.fields.1)
 reading_again (Fir f) w = ap (item_or_short Fir) (fir_again f w.fields.0 w.fields.1 w.fields.2)
 reading_again (AppSpecificFeedback f) w = ap (λ (b : Bool). application_of b (app_feedback_body f)) w.fields.2 ∙ ap (item_or_short AppSpecificFeedback) (app_again f w.fields.0 w.fields.1 w.writable.whole)
 reading_again (SenderReport r) w = ap (item_or_short SenderReport) (sender_report_again r w.fields.0 w.fields.1 w.fields.2 w.fields.3 w.fields.4)
-reading_again (ExtendedReport r) w = ap (item_or_short ExtendedReport) (extended_report_again r w.fields.0 w.fields.1 w.fields.2)
+reading_again (ExtendedReport r) w = ap (item_or_short ExtendedReport) (extended_report_again r w.fields.0 w.fields.1)
 reading_again (Remb r) w = ap (λ (b : Bool). application_of b (remb_body r)) (remb_named r) ∙ ap (item_or_short Remb) (remb_again r w.writable.inner w.fields.0 w.fields.1 w.fields.2)
 
 item_again : (x : Rtcp) (rest : List ℕ) → IsHeld x → item_at (text_of x ++ rest) ≡ Some (held x ∷ [], rest)

@@ -1,12 +1,13 @@
 -- The items that a datagram holds (RFC 3550 section 6.1, RFC 5506).
-use Rattle.std.specs.Prelude.{ℕ, Bool, true, false, zero, suc, ◌+◌, ◌/◌, ◌==◌, ◌&&◌, List, [], ◌∷◌, ◌++◌, length, Option, Some, None, if◌then◌else◌}
+use Rattle.std.specs.Prelude.{ℕ, Bool, true, false, zero, suc, ◌/◌, ◌==◌, List, [], ◌∷◌, ◌++◌, length, Option, Some, None, if◌then◌else◌}
 use Rattle.std.specs.Option.{option_map, option_map_or}
 use Rattle.rtcp_wire.specs.declared.packet.Rtcp.{Rtcp}
-use Rattle.rtcp_wire.specs.declared.packet.Rtcp.TheVariants.{SenderReport, ReceiverReport, Goodbye, ExtendedReport, Nack, Pli, Fir, Remb, AppSpecificFeedback}
+use Rattle.rtcp_wire.specs.declared.packet.Rtcp.TheVariants.{SenderReport, ReceiverReport, SourceDescription, Goodbye, ExtendedReport, Nack, Pli, Fir, Remb, AppSpecificFeedback}
 use Rattle.rtcp_wire.specs.declared.packet.Reading.{Reading}
 use Rattle.rtcp_wire.specs.declared.packet.Reading.TheVariants.{Item, PassedOver, TooShort}
 use Rattle.rtcp_wire.specs.Frame.{Frame, frame_at}
 use Rattle.rtcp_wire.specs.Reports.{sender_report_of, receiver_report_of, goodbye_of}
+use Rattle.rtcp_wire.specs.Descriptions.{descriptions_of}
 use Rattle.rtcp_wire.specs.Remb.{is_remb, remb_of}
 use Rattle.rtcp_wire.specs.Extended.{extended_report_of}
 use Rattle.rtcp_wire.specs.Feedback.{nack_of, pli_of, fir_of, app_feedback_of}
@@ -43,11 +44,12 @@ unfoldable pub reading_of : ℕ → ℕ → List ℕ → Reading
 reading_of kind count body =
     if kind == 200 then item_or_short SenderReport (sender_report_of count body)
     else (if kind == 201 then item_or_short ReceiverReport (receiver_report_of count body)
+    else (if kind == 202 then item_or_short SourceDescription (descriptions_of count body)
     else (if kind == 203 then item_or_short Goodbye (goodbye_of count body)
     else (if kind == 205 then transport_feedback_of count body
     else (if kind == 206 then payload_feedback_of count body
     else (if kind == 207 then item_or_short ExtendedReport (extended_report_of body)
-    else PassedOver)))))
+    else PassedOver))))))
 
 -- what an item adds, and what follows it; reading stops at an item that is too short for its fields
 abbrev pub with_rest : List ℕ → Reading → Option (List Rtcp × List ℕ)

@@ -1,8 +1,8 @@
 -- What the definitions of reading and writing owe each other.
-use Rattle.std.specs.Prelude.{◌≡◌, ℕ, ℤ, pos, negsuc, ◌*◌, min, map, ◌%◌, ◌^◌, ◌<◌, ◌≤◌, List, ◌++◌, length, Option, Some, ◌==◌, false}
+use Rattle.std.specs.Prelude.{◌≡◌, ℕ, ℤ, pos, negsuc, ◌*◌, min, map, take, ◌%◌, ◌^◌, ◌<◌, ◌≤◌, List, ◌++◌, length, Some, false}
 use Rattle.std.specs.List.{flat_map, AllByRecursion}
 use Rattle.rtcp_wire.specs.declared.packet.Rtcp.{Rtcp}
-use Rattle.rtcp_wire.specs.declared.packet.Rtcp.TheVariants.{SenderReport, ReceiverReport, Goodbye, ExtendedReport, Nack, Pli, Fir, Remb, AppSpecificFeedback}
+use Rattle.rtcp_wire.specs.declared.packet.Rtcp.TheVariants.{SenderReport, ReceiverReport, SourceDescription, Goodbye, ExtendedReport, Nack, Pli, Fir, Remb, AppSpecificFeedback}
 use Rattle.rtcp_wire.specs.declared.nack.NackEntry.{NackEntry}
 use Rattle.rtcp_wire.specs.declared.request.FirEntry.{FirEntry}
 use Rattle.rtcp_wire.specs.declared.report.ReceptionReport.{ReceptionReport}
@@ -10,9 +10,12 @@ use Rattle.rtcp_wire.specs.declared.report.SenderInfo.{SenderInfo}
 use Rattle.rtcp_wire.specs.declared.extended.DlrrItem.{DlrrItem}
 use Rattle.rtcp_wire.specs.declared.extended.ReportBlock.{ReportBlock}
 use Rattle.rtcp_wire.specs.declared.extended.ReportBlock.TheVariants.{Rrtr, Dlrr}
+use Rattle.rtcp_wire.specs.declared.source.SdesItem.{SdesItem}
+use Rattle.rtcp_wire.specs.declared.source.Sdes.{Sdes}
 use Rattle.media_base.specs.Wallclock.{unix_of_ntp, ntp_of_unix}
+use Rattle.rtcp_wire.specs.Descriptions.{sdes_number, sdes_type_of}
 use Rattle.rtcp_wire.specs.Remb.{is_remb, mantissa_of, exponent_of}
-use Rattle.rtcp_wire.specs.Frame.{Frame, frame_at}
+use Rattle.rtcp_wire.specs.Frame.{frame_at}
 use Rattle.rtcp_wire.specs.Items.{items_of}
 use Rattle.rtcp_wire.specs.Texts.{framed, text_of, body_of, IsWritable}
 
@@ -53,13 +56,19 @@ abbrev pub held_block : ReportBlock → ReportBlock
 held_block (Rrtr r) = Rrtr (record { ntp_time = unix_of_ntp (ntp_of_unix r.ntp_time) })
 held_block (Dlrr d) = Dlrr d
 
--- an item as its wire form holds it: moments and rates as they are rounded
+-- of a source's items the first 31
+abbrev pub held_sdes : Sdes → Sdes
+held_sdes s = record s { values = take 31 s.values }
+
+-- an item as its wire form holds it: moments and rates as they are rounded, and of the lists of blocks and
+-- of a source's items what is read
 abbrev pub held : Rtcp → Rtcp
 held (SenderReport r) = SenderReport (record { sender_info = held_info r.sender_info; reports = r.reports })
 held (Remb r) = Remb (record { sender_ssrc = r.sender_ssrc; bitrate = held_rate r.bitrate; ssrcs = r.ssrcs })
 held (ReceiverReport r) = ReceiverReport r
+held (SourceDescription d) = SourceDescription (record { reports = map held_sdes d.reports })
 held (Goodbye g) = Goodbye g
-held (ExtendedReport r) = ExtendedReport (record { ssrc = r.ssrc; blocks = map held_block r.blocks })
+held (ExtendedReport r) = ExtendedReport (record { ssrc = r.ssrc; blocks = map held_block (take 31 r.blocks) })
 held (Nack n) = Nack n
 held (Pli p) = Pli p
 held (Fir f) = Fir f
@@ -72,18 +81,27 @@ abbrev pub IsBlock : ReportBlock → Type 0
 IsBlock (Rrtr r) = Unit {0}
 IsBlock (Dlrr d) = (length d.items ≤ 21845) × AllByRecursion IsDlrrItem d.items
 
--- reports, goodbyes and feedback whose fields fit, and application feedback whose words are not those
+-- the type is the one that its number names, which is not the zero that ends a list, and the length of the
+-- text fits a byte
+abbrev pub IsSdesItem : SdesItem → Type 0
+IsSdesItem i = (sdes_type_of (sdes_number i.kind) ≡ i.kind) × (0 < sdes_number i.kind) × (length i.text ≤ 255)
+
+abbrev pub IsSdes : Sdes → Type 0
+IsSdes s = (s.ssrc < 2 ^ 32) × AllByRecursion IsSdesItem s.values
+
+-- reports, descriptions, goodbyes and feedback whose fields fit, and application feedback whose words are not those
 -- of a REMB
 abbrev pub FieldsFit : Rtcp → Type 0
 FieldsFit (SenderReport r) = (r.sender_info.ssrc < 2 ^ 32) × (r.sender_info.rtp_time < 2 ^ 32) × (r.sender_info.sender_packet_count < 2 ^ 32) × (r.sender_info.sender_octet_count < 2 ^ 32) × AllByRecursion IsReport r.reports
 FieldsFit (Remb r) = (r.sender_ssrc < 2 ^ 32) × (r.bitrate < 2 ^ 64) × AllByRecursion (λ s. s < 2 ^ 32) r.ssrcs
 FieldsFit (ReceiverReport r) = (r.sender_ssrc < 2 ^ 32) × AllByRecursion IsReport r.reports
+FieldsFit (SourceDescription d) = AllByRecursion IsSdes d.reports
 FieldsFit (Goodbye g) = AllByRecursion (λ s. s < 2 ^ 32) g.reports
 FieldsFit (Nack n) = (n.sender_ssrc < 2 ^ 32) × (n.ssrc < 2 ^ 32) × (length n.reports ≤ 31) × AllByRecursion IsNackEntry n.reports
 FieldsFit (Pli p) = (p.sender_ssrc < 2 ^ 32) × (p.ssrc < 2 ^ 32)
 FieldsFit (Fir f) = (f.sender_ssrc < 2 ^ 32) × (length f.reports ≤ 31) × AllByRecursion IsFirEntry f.reports
 FieldsFit (AppSpecificFeedback f) = (f.sender_ssrc < 2 ^ 32) × (f.media_ssrc < 2 ^ 32) × (is_remb (body_of (AppSpecificFeedback f)) ≡ false)
-FieldsFit (ExtendedReport r) = (r.ssrc < 2 ^ 32) × (length r.blocks ≤ 31) × AllByRecursion IsBlock r.blocks
+FieldsFit (ExtendedReport r) = (r.ssrc < 2 ^ 32) × AllByRecursion IsBlock r.blocks
 
 pub record IsHeld (x : Rtcp) : Type 0 where
   pub writable : IsWritable x

@@ -2,10 +2,12 @@ pub mod Wire
 pub mod Rows
 pub mod Frame
 pub mod Reports
+pub mod Descriptions
 pub mod Feedback
 pub mod Remb
 pub mod Named
 pub mod Extended
 pub mod Items
+pub mod Streams
 pub mod Texts
 pub mod Laws

@@ -1,10 +1,10 @@
 -- Items in bytes.
-use Rattle.std.specs.Prelude.{◌≡◌, ℕ, ℤ, pos, zero, suc, ◌+◌, ◌-◌, ◌*◌, ◌/◌, ◌%◌, ◌^◌, ◌≤◌, ◌<◌, ◌≤ℤ◌, List, [], ◌∷◌, ◌++◌, length, nat_le, if◌then◌else◌}
-use Rattle.std.specs.List.{AllByRecursion}
+use Rattle.std.specs.Prelude.{◌≡◌, ℕ, suc, ◌+◌, ◌-◌, ◌/◌, ◌%◌, ◌^◌, ◌≤◌, ◌<◌, List, [], ◌∷◌, ◌++◌, length, nat_le, if◌then◌else◌}
 use Rattle.std.specs.Int.{w16, to_be_bytes}
 use Rattle.rtcp_wire.specs.declared.packet.Rtcp.{Rtcp}
-use Rattle.rtcp_wire.specs.declared.packet.Rtcp.TheVariants.{SenderReport, ReceiverReport, Goodbye, ExtendedReport, Nack, Pli, Fir, Remb, AppSpecificFeedback}
+use Rattle.rtcp_wire.specs.declared.packet.Rtcp.TheVariants.{SenderReport, ReceiverReport, SourceDescription, Goodbye, ExtendedReport, Nack, Pli, Fir, Remb, AppSpecificFeedback}
 use Rattle.rtcp_wire.specs.Reports.{sender_report_body, receiver_report_body, goodbye_body}
+use Rattle.rtcp_wire.specs.Descriptions.{descriptions_body}
 use Rattle.rtcp_wire.specs.Remb.{remb_body}
 use Rattle.rtcp_wire.specs.Extended.{extended_report_body}
 use Rattle.rtcp_wire.specs.Feedback.{nack_body, pli_body, fir_body, app_feedback_body}
@@ -13,6 +13,7 @@ use Rattle.rtcp_wire.specs.Feedback.{nack_body, pli_body, fir_body, app_feedback
 abbrev pub kind_of : Rtcp → ℕ
 kind_of (SenderReport r) = 200
 kind_of (ReceiverReport r) = 201
+kind_of (SourceDescription d) = 202
 kind_of (Goodbye g) = 203
 kind_of (ExtendedReport r) = 207
 kind_of (Nack n) = 205
@@ -25,6 +26,7 @@ kind_of (AppSpecificFeedback f) = 206
 abbrev pub count_of : Rtcp → ℕ
 count_of (SenderReport r) = length r.reports
 count_of (ReceiverReport r) = length r.reports
+count_of (SourceDescription d) = length d.reports
 count_of (Goodbye g) = length g.reports
 count_of (ExtendedReport r) = 0
 count_of (Nack n) = 1
@@ -37,6 +39,7 @@ count_of (AppSpecificFeedback f) = 15
 abbrev pub body_of : Rtcp → List ℕ
 body_of (SenderReport r) = sender_report_body r
 body_of (ReceiverReport r) = receiver_report_body r
+body_of (SourceDescription d) = descriptions_body d
 body_of (Goodbye g) = goodbye_body g
 body_of (ExtendedReport r) = extended_report_body r
 body_of (Nack n) = nack_body n

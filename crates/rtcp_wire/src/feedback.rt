@@ -18,6 +18,20 @@ pub struct AppSpecificFeedback {
     pub payload: Bytes,
 }
 
+impl AppSpecificFeedback {
+    /// A copy of it.
+    pub fn clone(&self, alloc: Global) -> Result<Self, AllocError>
+        ensures { IfOk result (λ f. f ≡ self.now) }
+    {
+        let payload = Bytes::from_slice(alloc, self.payload.as_slice())?;
+        Ok(AppSpecificFeedback {
+            sender_ssrc: self.sender_ssrc,
+            media_ssrc: self.media_ssrc,
+            payload,
+        })
+    }
+}
+
 #[tactic(auto, unfolding(crate::specs::Feedback::app_feedback_of))]
 pub(crate) fn read_app_feedback(
     alloc: Global,

@@ -13,19 +13,21 @@ mod remb;
 mod report;
 mod request;
 mod row;
+mod rtcp_fb;
 mod source;
 mod wire;
 
 pub use extended::{Dlrr, DlrrItem, ExtendedReport, ReportBlock, Rrtr};
 pub use feedback::AppSpecificFeedback;
-pub use laws::frames_read_back;
+pub use laws::{frames_read_back, items_read_back};
 pub use list::ReportList;
 pub use nack::{Nack, NackEntry};
 pub use packet::Rtcp;
 pub use remb::Remb;
 pub use report::{ReceiverReport, ReceptionReport, SenderInfo, SenderReport};
 pub use request::{Fir, FirEntry, Pli};
-pub use source::Goodbye;
+pub use rtcp_fb::RtcpFb;
+pub use source::{Descriptions, Goodbye, Sdes, SdesItem, SdesType};
 
 #[cfg(test)]
 mod tests;

@@ -14,7 +14,9 @@ use crate::report::{
     write_sender_report,
 };
 use crate::request::{Fir, Pli, read_fir, read_pli, write_fir, write_pli};
-use crate::source::{Goodbye, read_goodbye, write_goodbye};
+use crate::source::{
+    Descriptions, Goodbye, read_descriptions, read_goodbye, write_descriptions, write_goodbye,
+};
 use std::alloc::{AllocError, Global};
 use std::collections::VecDeque;
 
@@ -23,6 +25,7 @@ use std::collections::VecDeque;
 pub enum Rtcp {
     SenderReport(SenderReport),
     ReceiverReport(ReceiverReport),
+    SourceDescription(Descriptions),
     Goodbye(Goodbye),
     ExtendedReport(ExtendedReport),
     Nack(Nack),
@@ -111,6 +114,9 @@ impl Rtcp {
         match frame.kind {
             200 => Ok(item_or_short(read_sender_report(count, body).map(Rtcp::SenderReport))),
             201 => Ok(item_or_short(read_receiver_report(count, body).map(Rtcp::ReceiverReport))),
+            202 => Ok(item_or_short(read_descriptions(alloc, count, body)?.map(
+                Rtcp::SourceDescription,
+            ))),
             203 => Ok(item_or_short(read_goodbye(count, body).map(Rtcp::Goodbye))),
             205 => Ok(Rtcp::read_transport_feedback(count, body)),
             206 => Rtcp::read_payload_feedback(alloc, count, body),
@@ -199,6 +205,7 @@ impl Rtcp {
         match self {
             Rtcp::SenderReport(report) => write_sender_report(report, out),
             Rtcp::ReceiverReport(report) => write_receiver_report(report, out),
+            Rtcp::SourceDescription(described) => write_descriptions(described, out),
             Rtcp::Goodbye(goodbye) => write_goodbye(goodbye, out),
             Rtcp::ExtendedReport(report) => write_extended_report(report, out),
             Rtcp::Nack(nack) => write_nack(nack, out),
@@ -215,6 +222,7 @@ impl Rtcp {
         match self {
             Rtcp::SenderReport(_) => 200,
             Rtcp::ReceiverReport(_) => 201,
+            Rtcp::SourceDescription(_) => 202,
             Rtcp::Goodbye(_) => 203,
             Rtcp::ExtendedReport(_) => 207,
             Rtcp::Nack(_) => 205,
@@ -230,6 +238,7 @@ impl Rtcp {
         match self {
             Rtcp::SenderReport(report) => report.reports.len() as u8,
             Rtcp::ReceiverReport(report) => report.reports.len() as u8,
+            Rtcp::SourceDescription(described) => described.reports.as_slice().len() as u8,
             Rtcp::Goodbye(goodbye) => goodbye.reports.len() as u8,
             Rtcp::ExtendedReport(_) => 0,
             Rtcp::Nack(_) | Rtcp::Pli(_) => 1,

@@ -1,4 +1,4 @@
-use Rattle.std.proofs.Common.{rules, arith}
+use Rattle.std.proofs.Common.{arith}
 use Rattle.std.proofs.lemmas.Grind.{common_steps}
 use Rattle.rtcp_wire.proofs.Rows.{puts_more, puts_none}
 use Rattle.rtcp_wire.proofs.row.write_rows.Goals as goal

@@ -1,4 +1,4 @@
-use Rattle.rtcp_wire.proofs.Reading.{read_more, read_stops, read_ends, read_fails, read_starts}
+use Rattle.rtcp_wire.proofs.Reading.{read_fails, read_starts}
 use Rattle.rtcp_wire.proofs.packet.Rtcp.read_packet.Goals as goal
 
 pub loop-init : goal.loop-init

@@ -1,7 +1,5 @@
-use Rattle.std.proofs.Common.{◌≡◌, ◌-◌, ◌+◌, length, drop, arith, ◌∙◌, ap, ◌∷◌, refl, subst, ℕ}
-use Rattle.rtcp_wire.specs.declared.packet.Rtcp.{Rtcp}
-use Rattle.std.specs.Prelude.{List}
-use Rattle.rtcp_wire.proofs.Writing.{IsWritten, first_and_rest, write_more, write_stops, is_done}
+use Rattle.std.proofs.Common.{◌≡◌, ◌-◌, ◌+◌, length, arith, ◌∙◌, ◌∷◌, refl}
+use Rattle.rtcp_wire.proofs.Writing.{first_and_rest, write_more, write_stops, is_done}
 use Rattle.rtcp_wire.proofs.packet.Rtcp.write_packet.Goals as goal
 
 pub returns-in-None-clause-bytes : goal.returns-in-None-clause-bytes
