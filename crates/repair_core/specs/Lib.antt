@@ -1,7 +1,10 @@
 pub mod Entries
 pub mod EvictingBuffer
 pub mod Fresh
+pub mod Jitter
 pub mod NackRegister
+pub mod ReceiverRegister
+pub mod Reception
 pub mod ResendStore
 pub mod Ring
 pub mod Rounds

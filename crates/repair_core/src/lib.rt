@@ -3,12 +3,15 @@
 #![tactic(auto)]
 
 mod gap_window;
+mod jitter;
 mod missing;
+mod register;
 mod register_nack;
 mod ring;
 mod rtx_cache_buf;
 mod slots;
 
 pub use gap_window::GapWindow;
+pub use register::{ReceiverRegister, expected, packets_lost};
 pub use register_nack::NackRegister;
 pub use rtx_cache_buf::EvictingBuffer;
