@@ -8,5 +8,6 @@ pub mod Reception
 pub mod ResendStore
 pub mod Ring
 pub mod Rounds
+pub mod RtxCache
 pub mod Slots
 pub mod RegisterState

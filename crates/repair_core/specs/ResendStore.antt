@@ -1,5 +1,5 @@
 -- What a store of sent packets must hold, read off what happened to it since it was made or cleared.
-use Rattle.std.specs.Prelude.{◌≡◌, ℕ, ◌+◌, ◌<◌, ◌≤◌, Bool, ◌&&◌, ◌==◌, ◌⊎◌, max, if◌then◌else◌, List, [], ◌∷◌, ◌++◌, Option, Some, None}
+use Rattle.std.specs.Prelude.{◌≡◌, ℕ, ◌+◌, ◌<◌, ◌≤◌, Bool, true, ◌&&◌, ◌==◌, ◌⊎◌, max, if◌then◌else◌, List, [], ◌∷◌, ◌++◌, Option, Some, None}
 
 -- a value was pushed under a position at a moment, and was stored or not; a moment came at which too old values go
 pub data Event (T : Type 0) : Type 0 where
@@ -106,3 +106,18 @@ MayGo past p t = (t + past.age < latest_eviction past.events) ⊎ (p + size_of p
 abbrev pub HeldAs : {T : Type 0} → Past T → ℕ → Option T → Type 0
 HeldAs {T} past p None = (t : ℕ) (v : T) → last_under p past.events ≡ Some (t, v) → MayGo past p t
 HeldAs past p (Some v) = (t : ℕ) × (last_under p past.events ≡ Some (t, v)) × (IsRising past.events → latest_eviction past.events ≤ t + past.age)
+
+-- positions that are pushed rise, and no moment of a push or an eviction is before one that came before
+abbrev pub InOrderFrom : {T : Type 0} → ℕ → ℕ → List (Event T) → Type 0
+InOrderFrom next now [] = Unit {0}
+InOrderFrom next now (pushed p t v stored ∷ es) = (next ≤ p) × (now ≤ t) × InOrderFrom (p + 1) t es
+InOrderFrom next now (evicted t ∷ es) = (now ≤ t) × InOrderFrom next t es
+
+abbrev pub IsInOrder : {T : Type 0} → List (Event T) → Type 0
+IsInOrder es = InOrderFrom 0 0 es
+
+-- every value that was pushed was stored
+abbrev pub AllStored : {T : Type 0} → List (Event T) → Type 0
+AllStored [] = Unit {0}
+AllStored (pushed p t v stored ∷ es) = (stored ≡ true) × AllStored es
+AllStored (evicted t ∷ es) = AllStored es
