@@ -2,6 +2,7 @@ pub mod Entries
 pub mod EvictingBuffer
 pub mod Fresh
 pub mod Jitter
+pub mod Lending
 pub mod NackRegister
 pub mod ReceiverRegister
 pub mod Reception

@@ -1,5 +1,5 @@
 -- What a store of sent packets must hold, read off what happened to it since it was made or cleared.
-use Rattle.std.specs.Prelude.{◌≡◌, ℕ, ◌+◌, ◌<◌, ◌≤◌, Bool, true, ◌&&◌, ◌==◌, ◌⊎◌, max, if◌then◌else◌, List, [], ◌∷◌, ◌++◌, Option, Some, None}
+use Rattle.std.specs.Prelude.{◌≡◌, ℕ, ◌+◌, ◌<◌, ◌≤◌, Bool, true, ◌&&◌, ◌==◌, ◌⊎◌, max, if◌then◌else◌, map, List, [], ◌∷◌, ◌++◌, Option, Some, None}
 
 -- a value was pushed under a position at a moment, and was stored or not; a moment came at which too old values go
 pub data Event (T : Type 0) : Type 0 where
@@ -19,6 +19,14 @@ with_event past e = record past { events = past.events ++ e ∷ [] }
 -- a store that was made, or cleared
 abbrev pub emptied : {T : Type 0} → Past T → Past T
 emptied past = record past { events = [] }
+
+-- what happened, as if each value that was pushed under a position had been this one
+abbrev pub revalued_event : {T : Type 0} → ℕ → T → Event T → Event T
+revalued_event p w (pushed q t v stored) = pushed q t (if q == p then w else v) stored
+revalued_event p w (evicted t) = evicted t
+
+abbrev pub revalued : {T : Type 0} → Past T → ℕ → T → Past T
+revalued past p w = record past { events = map (revalued_event p w) past.events }
 
 abbrev pub size_of : {T : Type 0} → Past T → ℕ
 size_of past = max past.initial past.greatest
