@@ -20,3 +20,6 @@ pub use register_nack::NackRegister;
 pub use resend_store::ResendStore;
 pub use rtx_cache::{Cached, RtxCache};
 pub use rtx_cache_buf::EvictingBuffer;
+
+#[cfg(test)]
+mod tests;

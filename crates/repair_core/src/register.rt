@@ -73,7 +73,7 @@ impl ReceiverRegister {
         requires { seq < 2 ^ 48 }
         ensures { (past : Reception) → StandsFor self.old past → StandsFor self.new (recovered past seq) }
     {
-        self.nack.update(seq);
+        let _ = self.nack.update(seq);
     }
 
     /// Takes the number of a packet that came if it is fresh, and tells whether it was. The packet

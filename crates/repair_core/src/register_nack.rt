@@ -396,6 +396,9 @@ mod tests {
         assert!(rt; register.update(SeqNo::from(12)));
         for round in 0..7u64 {
             let mut reports = ReportList::new();
+            let range = SeqNo::from(10)..SeqNo::from(12);
+            let deadline = register.recovery_deadline(range, Instant::from_nanos(1), None);
+            assert_eq!(rt; deadline.is_some(), 5 <= round);
             register.nack_reports(Instant::from_nanos(round * 105_000_000), None, &mut reports);
             if round < 5 {
                 assert_eq!(rt;
@@ -406,6 +409,17 @@ mod tests {
                 assert!(rt; reports.is_empty());
             }
         }
+        let received = Instant::from_nanos(1);
+        let range = SeqNo::from(10)..SeqNo::from(12);
+        assert_eq!(rt;
+            register.recovery_deadline(range, received, None),
+            Some(Instant::from_nanos(720_000_000))
+        );
+        let range = SeqNo::from(0)..SeqNo::from(11);
+        assert_eq!(rt;
+            register.recovery_deadline(range, received, None),
+            Some(Instant::from_nanos(300_000_001))
+        );
         Ok(())
     }
 

@@ -302,13 +302,4 @@ mod tests {
         assert_eq!(rt; buffer.get(3).copied(), Some('C'));
         Ok(())
     }
-
-    // Each call that takes memory answers with ample memory.
-    #[test]
-    fn surface_ample(rt: HostRuntime) -> Result<(), Fail> {
-        let mut buffer = EvictingBuffer::new(rt.alloc(), 1, Duration::from_nanos(1), 1)?;
-        assert!(rt; buffer.push(1, second(0), 'A').is_ok());
-        assert!(rt; crate::NackRegister::new(rt.alloc(), None).is_ok());
-        Ok(())
-    }
 }
