@@ -8,11 +8,11 @@ use Rattle.std.proofs.lemmas.Bool.{cases_eq, cases_lt}
 use Rattle.repair_core.specs.declared.slots.Slot.{Slot}
 use Rattle.repair_core.specs.RegisterState.{RegisterState}
 use Rattle.repair_core.specs.Fresh.{greatest, is_fresh, with_number}
-use Rattle.repair_core.specs.Slots.{no_slot, taken_slot, holds, untouched, known_in, known, asks_at, slot_due, asked_slot, ask, ask_all, due_in, slot_needs}
-use Rattle.repair_core.specs.Rounds.{Heard, started_at, came, round, taken, in_gap, may_ask, asked, is_due, numbers_up, candidates, due, is_pending}
+use Rattle.repair_core.specs.Slots.{no_slot, taken_slot, holds, untouched, known_in, known, asks_at, slot_due, asked_slot, ask, ask_all, due_in}
+use Rattle.repair_core.specs.Rounds.{Heard, started_at, came, round, taken, in_gap, may_ask, asked, is_due, numbers_up, candidates, due}
 use Rattle.repair_core.specs.declared.missing.Missing.{Missing}
 use Rattle.repair_core.specs.Entries.{IsPacking}
-use Rattle.repair_core.specs.NackRegister.{IsKept, Keeps, StandsFor, put_number, started, Remembers, window_of, with_round, round_due, needs_any}
+use Rattle.repair_core.specs.NackRegister.{IsKept, Keeps, StandsFor, put_number, started, Remembers, window_of, with_round, round_due}
 use Rattle.repair_core.proofs.RegisterLaws.{greatest-push, any_push, kept_at, apart, fresh_near, blank_stands, put_number_is}
 
 -- what is known of a number whose slot was written
@@ -29,7 +29,7 @@ known_over slots k n s long is ne =
     let within : n % 101 < length slots = omega arith in
     rw (is, get_or-set_same slots (n % 101) s no_slot within) (grind (arith, nat_tests))
 
-holds_known : (slots : List Slot) (k : ℕ) → holds slots k ≡ (known slots k).taken
+pub holds_known : (slots : List Slot) (k : ℕ) → holds slots k ≡ (known slots k).taken
 holds_known slots k = pick (slice_index_or slots (k % 101) no_slot) where
   pick : (s : Slot) → (s.taken && eqb s.number k) ≡ (known_in s k).taken
   pick s = choose (eqb s.number k) where
@@ -91,7 +91,7 @@ record IsAsked (r : RegisterState) (past : Heard) (now wait k : ℕ) (slots : Li
   same : (j : ℕ) → greatest (taken past) ≤ j + 100 → holds slots j ≡ holds r.slots j
   until : (j : ℕ) → list_any (nat_eq j) (taken past) ≡ false → greatest (taken past) ≤ j + 100 → asks_at slots j ≡ asked_until past now wait k j
 
-gap_inside : (l : List ℕ) (x : ℕ) (xs : List ℕ) (k : ℕ) → l ≡ x ∷ xs → max x (greatest l - 100) ≤ k → k < greatest l → in_gap l k ≡ not (list_any (nat_eq k) l)
+pub gap_inside : (l : List ℕ) (x : ℕ) (xs : List ℕ) (k : ℕ) → l ≡ x ∷ xs → max x (greatest l - 100) ≤ k → k < greatest l → in_gap l k ≡ not (list_any (nat_eq k) l)
 gap_inside l x xs k is low high =
     subst (λ (m : List ℕ). max x (greatest m - 100) ≤ k → k < greatest m → in_gap m k ≡ not (list_any (nat_eq k) m)) (sym is) (inside x xs k) low high where
       inside : (x : ℕ) (xs : List ℕ) (k : ℕ) → max x (greatest (x ∷ xs) - 100) ≤ k → k < greatest (x ∷ xs) → in_gap (x ∷ xs) k ≡ not (list_any (nat_eq k) (x ∷ xs))
@@ -361,60 +361,3 @@ began_none r off blank = record { stands = blank_stands r off blank; asks = λ k
 pub began : (r : RegisterState) (o : Option ℕ) → r.started ≡ false → r.slots ≡ replicate 101 no_slot → Remembers (started r o) (started_at o)
 began r None off blank = began_none r off blank
 began r (Some n) off blank = let first = came_fresh r (started_at None) n refl (began_none r off blank) in record { stands = first.stands; asks = first.asks }
-
--- whether some number is to be asked for again
-any_same : (count k : ℕ) (p q : ℕ → Bool) → ((j : ℕ) → k ≤ j → j < k + count → p j ≡ q j) → list_any p (numbers_up count k) ≡ list_any q (numbers_up count k)
-any_same zero k p q same = refl
-any_same (suc count) k p q same =
-    ap (λ (b : Bool). b || list_any p (numbers_up count (k + 1))) (same k (omega arith) (omega arith))
-    ∙ ap (λ (b : Bool). q k || b) (any_same count (k + 1) p q (λ j from to. same j (omega arith) (omega arith)))
-
-needs_here : (r : RegisterState) (x : ℕ) (xs : List ℕ) (past : Heard) (k : ℕ) → taken past ≡ x ∷ xs → Keeps r x (taken past) → Remembers r past → max x (greatest (taken past) - 100) ≤ k → k < greatest (taken past)
-    → slot_needs (known r.slots k) ≡ (in_gap (taken past) k && ltb (asked past k).0 5)
-needs_here r x xs past k shape keeps m low high = pick (list_any (nat_eq k) (taken past)) refl where
-  near : greatest (taken past) ≤ k + 100
-  near = omega arith
-
-  known_taken : (known r.slots k).taken ≡ list_any (nat_eq k) (taken past)
-  known_taken = sym (holds_known r.slots k) ∙ kept_at r x (taken past) keeps k near
-
-  pick : (b : Bool) → list_any (nat_eq k) (taken past) ≡ b → slot_needs (known r.slots k) ≡ (in_gap (taken past) k && ltb (asked past k).0 5)
-  pick true t =
-      ap (λ (c : Bool). not c && ltb (known r.slots k).asks 5) (known_taken ∙ t)
-      ∙ sym (ap (λ (c : Bool). c && ltb (asked past k).0 5) (gap_inside (taken past) x xs k shape low high ∙ ap not t))
-  pick false t =
-      ap (λ (c : Bool). not c && ltb (known r.slots k).asks 5) (known_taken ∙ t)
-      ∙ ap (λ (p : ℕ × ℕ). ltb p.0 5) (m.asks k t near)
-      ∙ sym (ap (λ (c : Bool). c && ltb (asked past k).0 5) (gap_inside (taken past) x xs k shape low high ∙ ap not t))
-
-pub pending_is : (r : RegisterState) (past : Heard) → Remembers r past → needs_any r ≡ is_pending past
-unfolding StandsFor
-pending_is r past m = pick (taken past) refl m.stands where
-  test : ℕ → Bool
-  test k = in_gap (taken past) k && ltb (asked past k).0 5
-
-  pick : (l : List ℕ) → taken past ≡ l → (length r.slots ≡ 101) × IsKept r l → needs_any r ≡ is_pending past
-  pick [] shape h =
-      ap (λ (b : Bool). b && list_any (λ k. slot_needs (known r.slots k)) (window_of r)) h.1.0
-      ∙ sym (ap (λ (l : List ℕ). list_any (λ k. in_gap (taken past) k && ltb (asked past k).0 5) (candidates l)) shape)
-  pick (x ∷ xs) shape h =
-      let keeps : Keeps r x (taken past) = subst (λ (l : List ℕ). Keeps r x l) (sym shape) h.1 in
-      let g = greatest (taken past) in
-      let window : window_of r ≡ window_from x g = ap (λ (f : ℕ). window_from f r.greatest) keeps.low ∙ ap (λ (n : ℕ). window_from x n) keeps.high in
-      let wanted : candidates (taken past) ≡ window_from x g = ap candidates shape ∙ ap (λ (l : List ℕ). window_from x (greatest l)) (sym shape) in
-      ap (λ (b : Bool). b && list_any (λ k. slot_needs (known r.slots k)) (window_of r)) keeps.begun
-      ∙ ap (λ (w : List ℕ). list_any (λ k. slot_needs (known r.slots k)) w) window
-      ∙ any_same (g - max x (g - 100)) (max x (g - 100)) (λ k. slot_needs (known r.slots k)) (λ k. in_gap (taken past) k && ltb (asked past k).0 5)
-      (λ j from to. needs_here r x xs past j shape keeps m from (omega arith))
-      ∙ sym (ap (λ (w : List ℕ). list_any (λ k. in_gap (taken past) k && ltb (asked past k).0 5) w) wanted)
-
--- steps of the look
-pub any_next : (slots : List Slot) (g k : ℕ) → k < g → slot_needs (known slots k) ≡ false → list_any (λ n. slot_needs (known slots n)) (numbers_up (g - k) k) ≡ list_any (λ n. slot_needs (known slots n)) (numbers_up (g - (k + 1)) (k + 1))
-any_next slots g k lt no_need =
-    ap (λ (l : List ℕ). list_any (λ n. slot_needs (known slots n)) l) (numbers_next g k lt)
-    ∙ ap (λ (b : Bool). b || list_any (λ n. slot_needs (known slots n)) (numbers_up (g - (k + 1)) (k + 1))) no_need
-
-pub any_found : (slots : List Slot) (g k : ℕ) → k < g → slot_needs (known slots k) ≡ true → list_any (λ n. slot_needs (known slots n)) (numbers_up (g - k) k) ≡ true
-any_found slots g k lt need =
-    ap (λ (l : List ℕ). list_any (λ n. slot_needs (known slots n)) l) (numbers_next g k lt)
-    ∙ ap (λ (b : Bool). b || list_any (λ n. slot_needs (known slots n)) (numbers_up (g - (k + 1)) (k + 1))) need

@@ -1,5 +1,6 @@
 -- What an evicting buffer stands for.
 use Rattle.std.specs.Prelude.{◌≡◌, ℕ, ◌+◌, ◌%◌, ◌<◌, ◌≤◌, ◌⊎◌, ◌&&◌, Bool, true, false, nat_lt, nat_le, Option, Some, None, unwrap_or, [], ◌∷◌, length, map, replicate, option_map}
+use Rattle.std.specs.Vec.{with_item}
 use Rattle.repair_core.specs.declared.ring.Entry.{Entry}
 use Rattle.repair_core.specs.declared.rtx_cache_buf.EvictingBuffer.{EvictingBuffer}
 use Rattle.repair_core.specs.Ring.{slot_of, held, put_in, settled_all, clashes, least_young, kept_from, IsIn, IsInPlace}
@@ -21,6 +22,14 @@ pub record StandsFor {T : Type 0} (b : EvictingBuffer T) (past : Past T) : Type 
   pub newest : b.last ≡ last_position past.events
   pub marked : (m : ℕ) → b.mark ≡ Some m → m ≤ next_position past.events
   pub young : IsRising past.events → (p : ℕ) (e : Entry T) → held b.ring.items p ≡ Some e → latest_eviction past.events ≤ e.moment + past.age
+
+-- the buffer with another value in the entry of a slot
+abbrev pub with_slot : {T : Type 0} → EvictingBuffer T → ℕ → Option (Entry T) → T → EvictingBuffer T
+with_slot {T} b i o w = record b { ring = with_item b.ring i (option_map (λ (e : Entry T). record e { value = w }) o) }
+
+-- the buffer with another value in the slot of a position
+unfoldable pub with_value : {T : Type 0} → EvictingBuffer T → ℕ → T → EvictingBuffer T
+with_value b p w = with_slot b (p % length b.ring.items) (slot_of b.ring.items p) w
 
 -- no entry of another position stands in the slot, unless the ring has its greatest size
 abbrev pub IsReady : {T : Type 0} → EvictingBuffer T → ℕ → Type 0

@@ -1,9 +1,14 @@
 pub mod Entries
 pub mod EvictingBuffer
 pub mod Fresh
+pub mod Jitter
+pub mod Lending
 pub mod NackRegister
+pub mod ReceiverRegister
+pub mod Reception
 pub mod ResendStore
 pub mod Ring
 pub mod Rounds
+pub mod RtxCache
 pub mod Slots
 pub mod RegisterState

@@ -1,9 +1,9 @@
 -- What a register stands for.
-use Rattle.std.specs.Prelude.{◌≡◌, ℕ, ◌+◌, ◌-◌, ◌%◌, ◌<◌, ◌≤◌, Bool, true, false, not, ◌&&◌, ◌||◌, nat_eq, nat_lt, nat_le, max, if◌then◌else◌, slice_set, length, List, [], ◌∷◌, Option, Some, None}
+use Rattle.std.specs.Prelude.{◌≡◌, ℕ, ◌+◌, ◌-◌, ◌%◌, ◌<◌, ◌≤◌, Bool, true, false, not, ◌&&◌, ◌||◌, nat_eq, nat_lt, nat_le, min, max, unwrap_or, if◌then◌else◌, slice_set, length, List, [], ◌∷◌, Option, Some, None}
 use Rattle.std.specs.List.{list_any}
 use Rattle.repair_core.specs.Fresh.{greatest}
-use Rattle.repair_core.specs.Slots.{holds, taken_slot, known, asks_at, ask_all, due_in, slot_needs}
-use Rattle.repair_core.specs.Rounds.{Heard, taken, asked, numbers_up}
+use Rattle.repair_core.specs.Slots.{holds, taken_slot, known, asks_at, ask_all, due_in, slot_needs, latest_in}
+use Rattle.repair_core.specs.Rounds.{Heard, taken, asked, numbers_up, grace_of, moment_after}
 use Rattle.repair_core.specs.RegisterState.{RegisterState}
 
 -- of a list that is not empty the register keeps its first and its greatest, and which of the last 101 numbers are in it;
@@ -57,5 +57,15 @@ with_round r now wait = if r.started then record r { slots = ask_all now wait r.
 abbrev pub round_due : RegisterState → ℕ → ℕ → List ℕ
 round_due r now wait = if r.started then due_in now wait r.slots (window_of r) else []
 
-abbrev pub needs_any : RegisterState → Bool
-needs_any r = r.started && list_any (λ k. slot_needs (known r.slots k)) (window_of r)
+-- the numbers of the window from one on and below another
+abbrev pub window_in : RegisterState → ℕ → ℕ → List ℕ
+window_in r from to = let low = max (max r.first (r.greatest - 100)) from in numbers_up (min r.greatest to - low) low
+
+abbrev pub needs_any : RegisterState → ℕ → ℕ → Bool
+needs_any r from to = r.started && list_any (λ k. slot_needs (known r.slots k)) (window_in r from to)
+
+abbrev pub last_ask : RegisterState → ℕ → ℕ → Option ℕ
+last_ask r from to = if r.started then latest_in r.slots None (window_in r from to) else None
+
+abbrev pub give_up : RegisterState → ℕ → ℕ → ℕ → Option ℕ → Option ℕ
+give_up r from to received trip = if needs_any r from to then None else moment_after (unwrap_or (last_ask r from to) received) (grace_of trip)

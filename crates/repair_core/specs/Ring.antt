@@ -1,5 +1,5 @@
 -- A ring of slots, in which an entry stands in the slot of its position's remainder.
-use Rattle.std.specs.Prelude.{◌≡◌, ℕ, ◌-◌, ◌%◌, Bool, true, false, not, ◌&&◌, ◌||◌, ◌==◌, ◌⊎◌, nat_eq, nat_lt, nat_le, if◌then◌else◌, length, List, [], ◌∷◌, slice_index_or, slice_set, Option, Some, None, fold}
+use Rattle.std.specs.Prelude.{◌≡◌, ℕ, ◌-◌, ◌%◌, Bool, true, false, not, ◌&&◌, ◌||◌, ◌==◌, ◌⊎◌, nat_eq, nat_lt, nat_le, if◌then◌else◌, length, List, [], ◌∷◌, slice_index_or, slice_set, Option, Some, None, option_map, fold}
 use Rattle.std.specs.List.{list_any}
 use Rattle.repair_core.specs.declared.ring.Entry.{Entry}
 
@@ -14,6 +14,10 @@ slot_of ring p = slice_index_or ring (p % length ring) None
 -- the entry that the ring holds of a position
 abbrev pub held : {T : Type 0} → List (Option (Entry T)) → ℕ → Option (Entry T)
 held ring p = matching p (slot_of ring p)
+
+-- the index of the slot of a position, where its entry stands there
+abbrev pub place_in : {T : Type 0} → List (Option (Entry T)) → ℕ → Option ℕ
+place_in {T} ring p = option_map (λ (e : Entry T). p % length ring) (held ring p)
 
 -- an entry may take the slot: of this position, or of a lower one alone
 abbrev pub yields_to : {T : Type 0} → ℕ → Option (Entry T) → Bool

@@ -1,6 +1,6 @@
 -- What a register knows of the numbers in its window.
-use Rattle.std.specs.Prelude.{ℕ, ◌+◌, ◌%◌, Bool, true, false, not, ◌&&◌, ◌==◌, nat_lt, if◌then◌else◌, List, [], ◌∷◌, slice_index_or, slice_set}
-use Rattle.repair_core.specs.Rounds.{may_ask}
+use Rattle.std.specs.Prelude.{ℕ, ◌+◌, ◌%◌, Bool, true, false, not, ◌&&◌, ◌==◌, nat_lt, if◌then◌else◌, List, [], ◌∷◌, slice_index_or, slice_set, Option}
+use Rattle.repair_core.specs.Rounds.{may_ask, later}
 use Rattle.repair_core.specs.declared.slots.Slot.{Slot}
 
 abbrev pub no_slot : Slot
@@ -52,3 +52,8 @@ due_in now wait slots (k ∷ ks) = if slot_due (known slots k) now wait then k �
 
 abbrev pub slot_needs : Slot → Bool
 slot_needs s = not s.taken && nat_lt s.asks 5
+
+-- the latest of the last asks of the numbers that were not taken, and of one more
+abbrev pub latest_in : List Slot → Option ℕ → List ℕ → Option ℕ
+latest_in slots latest [] = latest
+latest_in slots latest (k ∷ ks) = latest_in slots (if (known slots k).taken then latest else later latest (known slots k).last) ks

@@ -1,8 +1,8 @@
-ghost use Rattle.std.specs.Prelude.{◌≡◌, ◌<◌, ◌≤◌, ◌^◌, ◌++◌, None, IfOk, length};
+ghost use Rattle.std.specs.Prelude.{◌≡◌, ◌+◌, ◌<◌, ◌≤◌, ◌^◌, ◌++◌, None, IfOk, length};
 ghost use Rattle.std.specs.Option.{ForSome};
 ghost use Rattle.std.specs.Bool.{OnFalse};
 ghost use Rattle.repair_core.specs.Fresh.{is_fresh, greatest_of};
-ghost use Rattle.repair_core.specs.Rounds.{Heard, started_at, came, round, taken, due, is_pending, wait_of};
+ghost use Rattle.repair_core.specs.Rounds.{Heard, started_at, came, round, taken, due, is_pending, wait_of, deadline};
 ghost use Rattle.repair_core.specs.Entries.{packed};
 
 use crate::register_nack::NackRegister;
@@ -10,6 +10,7 @@ use media_base::{Duration, Instant};
 use rtcp_wire::{NackEntry, ReportList};
 use rtp_wire::SeqNo;
 use std::alloc::{AllocError, Global};
+use std::ops::Range;
 
 /// What remembers enough of the numbers that were taken and asked for. Numbers are below 2^48.
 /// After `new` no call takes memory.
@@ -56,7 +57,17 @@ pub trait GapWindow: Drop {
     )
         requires { length reports.old ≤ 25 }
         ensures asked { (past : Heard) → remembers self.old past → remembers self.new (round past now (wait_of trip)) }
-        ensures entries { (past : Heard) → remembers self.old past → reports.new ≡ reports.old ++ packed None (due past now (wait_of trip)) };
+        ensures entries { (past : Heard) → remembers self.old past → reports.new ≡ reports.old ++ packed None (due past now (wait_of trip)) }
+        ensures few { length reports.new ≤ length reports.old + 6 };
+
+    /// When the missing numbers of the range are given up.
+    fn recovery_deadline(
+        &self,
+        range: Range<SeqNo>,
+        received: Instant,
+        trip: Option<Duration>,
+    ) -> Option<Instant>
+        ensures { (past : Heard) → remembers self.now past → result ≡ deadline past range.start range.end received trip };
 }
 
 impl GapWindow for NackRegister {
@@ -95,5 +106,14 @@ impl GapWindow for NackRegister {
         reports: &mut ReportList<NackEntry>,
     ) {
         NackRegister::nack_reports(self, now, trip, reports);
+    }
+
+    fn recovery_deadline(
+        &self,
+        range: Range<SeqNo>,
+        received: Instant,
+        trip: Option<Duration>,
+    ) -> Option<Instant> {
+        NackRegister::recovery_deadline(self, range, received, trip)
     }
 }

@@ -3,12 +3,23 @@
 #![tactic(auto)]
 
 mod gap_window;
+mod jitter;
 mod missing;
+mod register;
 mod register_nack;
+mod resend_store;
 mod ring;
+mod rtx_cache;
 mod rtx_cache_buf;
+mod size_classes;
 mod slots;
 
 pub use gap_window::GapWindow;
+pub use register::{ReceiverRegister, expected, packets_lost};
 pub use register_nack::NackRegister;
+pub use resend_store::ResendStore;
+pub use rtx_cache::{Cached, RtxCache};
 pub use rtx_cache_buf::EvictingBuffer;
+
+#[cfg(test)]
+mod tests;

@@ -3,7 +3,7 @@ ghost use Rattle.std.specs.Option.{ForSome};
 ghost use Rattle.std.specs.Bool.{OnFalse, OnTrue};
 ghost use Rattle.repair_core.specs.Fresh.{is_fresh, with_number, greatest_of, started_from};
 ghost use Rattle.repair_core.specs.Slots.{holds, known, slot_due, slot_needs, ask};
-ghost use Rattle.repair_core.specs.Rounds.{Heard, started_at, came, round, due, is_pending, wait_of};
+ghost use Rattle.repair_core.specs.Rounds.{Heard, started_at, came, round, due, is_pending, wait_of, deadline, grace_of, later as later_of};
 ghost use Rattle.repair_core.specs.Entries.{packed};
 
 use crate::missing::{Missing, pack};
@@ -13,6 +13,7 @@ use rtcp_wire::{NackEntry, ReportList};
 use rtp_wire::SeqNo;
 use std::alloc::{AllocError, Global};
 use std::marker::Model;
+use std::ops::Range;
 
 /// The numbers that were taken, as far as the answers need them: the first, the greatest, and which
 /// of the last 101 are among them. Its room is taken when it is made.
@@ -36,7 +37,7 @@ impl Model for NackRegister {
 }
 
 impl NackRegister {
-    ghost use Rattle.repair_core.specs.NackRegister.{StandsFor, accepts_number, put_number, started, Remembers, with_round, round_due, needs_any};
+    ghost use Rattle.repair_core.specs.NackRegister.{StandsFor, accepts_number, put_number, started, Remembers, with_round, round_due, needs_any, last_ask, give_up};
 
     /// A register that took nothing, or that took this number alone: it then accepts nothing up to
     /// it. Numbers are below 2^48.
@@ -171,33 +172,85 @@ impl NackRegister {
         requires { length reports.old ≤ 25 }
         ensures asked { (past : Heard) → Remembers self.old past → Remembers self.new (round past now (wait_of trip)) }
         ensures entries { (past : Heard) → Remembers self.old past → reports.new ≡ reports.old ++ packed None (due past now (wait_of trip)) }
+        ensures few { length reports.new ≤ length reports.old + 6 }
     {
         self.round(now, wait(trip), reports);
     }
 
     /// Whether some missing number was asked for fewer than five times.
-    #[tactic(auto, using(crate::proofs::RoundLaws::pending_is))]
+    #[tactic(auto, using(crate::proofs::GapLaws::pending_is))]
     pub fn has_pending_nacks(&self) -> bool
         ensures { (past : Heard) → Remembers self.now past → result ≡ is_pending past }
     {
-        self.needs_any()
+        self.needs_any(0, self.greatest)
     }
 
-    #[tactic(auto, using(crate::proofs::RoundLaws::any_found))]
-    fn needs_any(&self) -> bool
-        ensures { result ≡ needs_any self.now }
+    /// When the missing numbers of the range are given up: None while one of them may be asked for
+    /// again, else three round trips after the latest ask, or after `received` where none is missing,
+    /// where 100 ms stand for an unknown trip. None too where that is past the last moment.
+    #[tactic(auto, using(crate::proofs::GapLaws::give_up_is))]
+    pub fn recovery_deadline(
+        &self,
+        range: Range<SeqNo>,
+        received: Instant,
+        trip: Option<Duration>,
+    ) -> Option<Instant>
+        ensures { (past : Heard) → Remembers self.now past → result ≡ deadline past range.start range.end received trip }
+    {
+        self.give_up(u64::from(range.start), u64::from(range.end), received, trip)
+    }
+
+    fn give_up(
+        &self,
+        from: u64,
+        to: u64,
+        received: Instant,
+        trip: Option<Duration>,
+    ) -> Option<Instant>
+        ensures { result ≡ give_up self.now from to received trip }
+    {
+        if self.needs_any(from, to) {
+            return None;
+        }
+        let last = self.last_ask(from, to).unwrap_or(received);
+        last.checked_add(grace(trip))
+    }
+
+    /// Whether a missing number of the range was asked for fewer than five times.
+    #[tactic(auto, using(crate::proofs::GapLaws::any_found))]
+    fn needs_any(&self, from: u64, to: u64) -> bool
+        ensures { result ≡ needs_any self.now from to }
     {
         if !self.started {
             return false;
         }
-        let low = self.first.max(self.greatest.saturating_sub(100));
-        let greatest = self.greatest;
-        for number in low..greatest {
+        let low = self.first.max(self.greatest.saturating_sub(100)).max(from);
+        let high = self.greatest.min(to);
+        for number in low..high {
             if self.needs(number) {
                 return true;
             }
         }
         false
+    }
+
+    /// The latest ask for a missing number of the range.
+    fn last_ask(&self, from: u64, to: u64) -> Option<Instant>
+        ensures { result ≡ last_ask self.now from to }
+    {
+        if !self.started {
+            return None;
+        }
+        let low = self.first.max(self.greatest.saturating_sub(100)).max(from);
+        let high = self.greatest.min(to);
+        let mut latest = None;
+        for number in low..high {
+            let slot = self.known(number);
+            if !slot.taken {
+                latest = later(latest, slot.last);
+            }
+        }
+        latest
     }
 
     fn needs(&self, number: u64) -> bool
@@ -247,6 +300,7 @@ impl NackRegister {
         requires { length reports.old ≤ 25 }
         ensures asked { self.new ≡ with_round self.old now wait }
         ensures entries { reports.new ≡ reports.old ++ packed None (round_due self.old now wait) }
+        ensures few { length reports.new ≤ length reports.old + 6 }
     {
         if !self.started {
             return;
@@ -273,6 +327,23 @@ fn wait(trip: Option<Duration>) -> Duration
         None => Duration::from_nanos(100_000_000),
     };
     trip.saturating_add(Duration::from_nanos(5_000_000))
+}
+
+/// Three round trips.
+fn grace(trip: Option<Duration>) -> Duration
+    ensures { result ≡ grace_of trip }
+{
+    let trip = trip.unwrap_or(Duration::from_nanos(100_000_000));
+    trip.saturating_mul(3)
+}
+
+fn later(latest: Option<Instant>, moment: Instant) -> Option<Instant>
+    ensures { result ≡ later_of latest moment }
+{
+    match latest {
+        Some(other) => Some(other.max(moment)),
+        None => Some(moment),
+    }
 }
 
 fn is_due(slot: Slot, now: Instant, wait: Duration) -> bool
@@ -325,6 +396,9 @@ mod tests {
         assert!(rt; register.update(SeqNo::from(12)));
         for round in 0..7u64 {
             let mut reports = ReportList::new();
+            let range = SeqNo::from(10)..SeqNo::from(12);
+            let deadline = register.recovery_deadline(range, Instant::from_nanos(1), None);
+            assert_eq!(rt; deadline.is_some(), 5 <= round);
             register.nack_reports(Instant::from_nanos(round * 105_000_000), None, &mut reports);
             if round < 5 {
                 assert_eq!(rt;
@@ -335,6 +409,17 @@ mod tests {
                 assert!(rt; reports.is_empty());
             }
         }
+        let received = Instant::from_nanos(1);
+        let range = SeqNo::from(10)..SeqNo::from(12);
+        assert_eq!(rt;
+            register.recovery_deadline(range, received, None),
+            Some(Instant::from_nanos(720_000_000))
+        );
+        let range = SeqNo::from(0)..SeqNo::from(11);
+        assert_eq!(rt;
+            register.recovery_deadline(range, received, None),
+            Some(Instant::from_nanos(300_000_001))
+        );
         Ok(())
     }
 

@@ -1,6 +1,6 @@
 ghost use Rattle.std.specs.Prelude.{◌≡◌, ℕ, ◌<◌, ◌≤◌, ◌⊎◌, ◌%◌, ◌∷◌, [], List, Option, Some, None, false, map, max, replicate, length, IfOk, IfSome, option_map, is_some};
 ghost use Rattle.std.specs.Option.{option_copied};
-ghost use Rattle.repair_core.specs.Ring.{slot_of, held, has_room, is_other, put_in, settled, settled_all, clashes, least_young, lower as lower_of, kept_from, raise, IsIn};
+ghost use Rattle.repair_core.specs.Ring.{slot_of, held, place_in, has_room, is_other, put_in, settled, settled_all, clashes, least_young, lower as lower_of, kept_from, raise, IsIn};
 
 use media_base::{Duration, Instant};
 use std::alloc::{AllocError, Global};
@@ -22,6 +22,21 @@ pub fn entry_at<T>(ring: &[Option<Entry<T>>], position: u64) -> Option<&Entry<T>
     }
     match &ring[(position % ring.len() as u64) as usize] {
         Some(entry) if entry.position == position => Some(entry),
+        _ => None,
+    }
+}
+
+/// The index of the slot of a position, where its entry stands there.
+pub fn place_of<T>(ring: &[Option<Entry<T>>], position: u64) -> Option<usize>
+    ensures place { result ≡ place_in ring.now position }
+    ensures within { IfSome result (λ i. i < length ring.now) }
+{
+    if ring.is_empty() {
+        return None;
+    }
+    let index = (position % ring.len() as u64) as usize;
+    match &ring[index] {
+        Some(entry) if entry.position == position => Some(index),
         _ => None,
     }
 }

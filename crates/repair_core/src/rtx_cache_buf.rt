@@ -1,13 +1,15 @@
-ghost use Rattle.std.specs.Prelude.{◌≡◌, ℕ, ◌+◌, ◌<◌, ◌≤◌, ◌⊎◌, Bool, [], ◌∷◌, Option, Some, None, true, max, is_some, option_and_then, length, OnOk, OnErr, IfOk};
-ghost use Rattle.std.specs.Option.{option_copied};
+ghost use Rattle.std.specs.Prelude.{◌≡◌, ℕ, ◌+◌, ◌<◌, ◌≤◌, ◌⊎◌, Bool, [], ◌∷◌, Option, Some, None, true, max, is_some, option_and_then, length, OnSome, OnOk, OnErr, IfOk};
+ghost use Rattle.std.specs.Option.{option_copied, option_copied_mut};
+ghost use Rattle.std.specs.Borrow.{sem};
 ghost use Rattle.std.specs.Bool.{OnTrue};
 ghost use Rattle.repair_core.specs.Ring.{held, has_room, settled_all};
-ghost use Rattle.repair_core.specs.ResendStore.{Event, pushed, evicted, Past, with_event, emptied, size_of, last_position, MustStore, HeldAs};
-ghost use Rattle.repair_core.specs.EvictingBuffer.{StandsFor, value_at, Grows, Places, Evicts, IsReady, IsPushed, takes_push};
+ghost use Rattle.repair_core.specs.ResendStore.{Event, pushed, evicted, Past, with_event, emptied, revalued, size_of, last_position, MustStore, HeldAs};
+ghost use Rattle.repair_core.specs.Lending.{LendsValue};
+ghost use Rattle.repair_core.specs.EvictingBuffer.{StandsFor, value_at, with_value, Grows, Places, Evicts, IsReady, IsPushed, takes_push};
 
 use crate::ring::{
     Entry, blank, drop_below, entry_at, first_young, grown_size, is_free, is_occupied, last_below,
-    move_all, put,
+    move_all, place_of, put,
 };
 use media_base::{Duration, Instant};
 use std::alloc::{AllocError, Global};
@@ -173,6 +175,18 @@ impl<T: Drop> EvictingBuffer<T> {
         }
     }
 
+    /// The value of a position, where it is held, to be changed in its place.
+    #[tactic(auto, unfolding(crate::specs::EvictingBuffer::value_at, crate::specs::EvictingBuffer::with_value))]
+    pub fn get_mut(&mut self, position: u64) -> Option<&mut T>
+        ensures* writes_back { sem 𝓛 (LendsValue T.row self.entry position result) }
+        ensures value { option_copied_mut result ≡ value_at self.old position }
+        ensures stands { OnSome result ((past : Past T) (w : T) → StandsFor self.old past → StandsFor (with_value self.old position w) (revalued past position w)) }
+    {
+        let index = place_of(&self.ring, position)?;
+        let entry = self.ring[index].as_mut()?;
+        Some(&mut entry.value)
+    }
+
     /// Whether the value of a position is held.
     #[tactic(auto, unfolding(crate::specs::EvictingBuffer::value_at))]
     pub fn contains(&self, position: u64) -> bool
@@ -286,15 +300,6 @@ mod tests {
         assert_eq!(rt; buffer.get(3).copied(), Some('C'));
         buffer.push(1, second(0), 'D')?;
         assert_eq!(rt; buffer.get(3).copied(), Some('C'));
-        Ok(())
-    }
-
-    // Each call that takes memory answers with ample memory.
-    #[test]
-    fn surface_ample(rt: HostRuntime) -> Result<(), Fail> {
-        let mut buffer = EvictingBuffer::new(rt.alloc(), 1, Duration::from_nanos(1), 1)?;
-        assert!(rt; buffer.push(1, second(0), 'A').is_ok());
-        assert!(rt; crate::NackRegister::new(rt.alloc(), None).is_ok());
         Ok(())
     }
 }

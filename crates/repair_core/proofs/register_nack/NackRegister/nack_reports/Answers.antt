@@ -16,4 +16,5 @@ returns c = record {
       c.round.ensures.entries
       ∙ ap (λ (w : ℕ). c.args.reports.now ++ packed None (round_due c.args.self.now c.args.now w)) c.wait.ensures
       ∙ ap (λ (ks : List ℕ). c.args.reports.now ++ packed None ks) (round_is c.args.self.now past c.args.now (wait_of c.args.trip) m).1;
+  few = c.round.ensures.few;
 }

@@ -6,5 +6,5 @@ use Rattle.repair_core.proofs.register_nack.NackRegister.needs_any.Given as goal
 
 abbrev pub invariant-loop-number : goal.invariant-loop-number
 invariant-loop-number l =
-    list_any (λ n. slot_needs (known l.self.slots n)) (numbers_up (l.greatest - l.number) l.number)
-    ≡ list_any (λ n. slot_needs (known l.self.slots n)) (numbers_up (l.greatest - l.low) l.low)
+    list_any (λ n. slot_needs (known l.self.slots n)) (numbers_up (l.high - l.number) l.number)
+    ≡ list_any (λ n. slot_needs (known l.self.slots n)) (numbers_up (l.high - l.low) l.low)

@@ -1,0 +1,107 @@
+-- What is reported of a source, read off what came from it (RFC 3550, sections 6.4.1, A.3 and A.8).
+use Rattle.std.specs.Prelude.{ℕ, ◌+◌, ◌-◌, ◌*◌, ◌/◌, ◌%◌, ◌^◌, ◌==◌, ℤ, pos, ◌-ℤ◌, nat_le, min, unwrap_or, if◌then◌else◌, Option, Some, None}
+use Rattle.rtcp_wire.specs.declared.report.ReceptionReport.{ReceptionReport}
+use Rattle.repair_core.specs.declared.jitter.TimePoint.{TimePoint}
+use Rattle.repair_core.specs.Fresh.{is_fresh, greatest_of}
+use Rattle.repair_core.specs.Rounds.{Heard, started_at, came, round, taken}
+use Rattle.repair_core.specs.Jitter.{entered, jitter_after, rtp_jitter}
+
+-- what a register was told since it was made or cleared: the number it started from, if any, then the packets that came, the
+-- numbers that were recovered, the rounds of asking, and the reports, each with the counts it was made of
+pub data Reception : Type 0 where
+  begun_at : Option ℕ → Reception
+  arrived : Reception → (number : ℕ) (point : TimePoint) → Reception
+  recovered : Reception → (number : ℕ) → Reception
+  asked_at : Reception → (now wait : ℕ) → Reception
+  reported : Reception → (expected received : ℕ) → Reception
+
+-- what is kept of the numbers: recovered ones count as taken
+abbrev pub heard : Reception → Heard
+heard (begun_at o) = started_at o
+heard (arrived past n point) = came (heard past) n
+heard (recovered past n) = came (heard past) n
+heard (asked_at past now wait) = round (heard past) now wait
+heard (reported past e r) = heard past
+
+-- the number of the first packet that came
+abbrev pub first_in : Reception → Option ℕ
+first_in (begun_at o) = None
+first_in (arrived past n point) = Some (unwrap_or (first_in past) n)
+first_in (recovered past n) = first_in past
+first_in (asked_at past now wait) = first_in past
+first_in (reported past e r) = first_in past
+
+-- how many packets came whose number was fresh, at most 2^64 - 1. Recovered numbers were not received
+abbrev pub received : Reception → ℕ
+received (begun_at o) = 0
+received (arrived past n point) = if is_fresh (taken (heard past)) n then min (received past + 1) (2 ^ 64 - 1) else received past
+received (recovered past n) = received past
+received (asked_at past now wait) = received past
+received (reported past e r) = received past
+
+-- the packets expected and received at the last report
+abbrev pub last_counts : Reception → ℕ × ℕ
+last_counts (begun_at o) = (0, 0)
+last_counts (arrived past n point) = last_counts past
+last_counts (recovered past n) = last_counts past
+last_counts (asked_at past now wait) = last_counts past
+last_counts (reported past e r) = (e, r)
+
+-- the last packet that entered the jitter, and the jitter
+abbrev pub last_point : Reception → Option TimePoint
+last_point (begun_at o) = None
+last_point (arrived past n point) = entered (last_point past) point
+last_point (recovered past n) = last_point past
+last_point (asked_at past now wait) = last_point past
+last_point (reported past e r) = last_point past
+
+abbrev pub jitter_of : Reception → ℕ
+jitter_of (begun_at o) = 0
+jitter_of (arrived past n point) = jitter_after (jitter_of past) (last_point past) point
+jitter_of (recovered past n) = jitter_of past
+jitter_of (asked_at past now wait) = jitter_of past
+jitter_of (reported past e r) = jitter_of past
+
+-- how many packets are expected from the first number to the last
+abbrev pub expected_of : ℕ → ℕ → ℕ
+expected_of first last = last - first + 1
+
+-- the packets lost, in 24 signed bits: from -0x800000 to 0x7fffff
+abbrev pub lost_of : ℕ → ℕ → ℤ
+lost_of expected received =
+    if nat_le received expected then pos (min (expected - received) 8388607) else (pos 0 -ℤ pos (min (received - expected) 8388608))
+
+-- how many were lost since the last counts
+abbrev pub lost_since : ℕ × ℕ → ℕ → ℕ → ℕ
+lost_since last expected received = (expected - last.0) + last.1 - received
+
+-- the share of what was expected since the last counts that was lost, in 256ths, at most 255
+abbrev pub fraction_of : ℕ × ℕ → ℕ → ℕ → ℕ
+fraction_of last expected received =
+    if expected - last.0 == 0 then 0 else min 255 (256 * lost_since last expected received / (expected - last.0))
+
+abbrev pub jitter_in : Reception → ℕ
+jitter_in past = rtp_jitter (last_point past) (jitter_of past)
+
+-- a report of a source whose SSRC and last sender report are left 0
+abbrev pub block_of : ℕ → ℤ → ℕ → ℕ → ReceptionReport
+block_of fraction lost last jitter = record { ssrc = 0; fraction_lost = fraction; packets_lost = lost; max_seq = last % 2 ^ 32; jitter = jitter; last_sr_time = 0; last_sr_delay = 0 }
+
+-- the report, where a packet came, of the first number and the greatest
+abbrev pub report_from : Reception → Option ℕ → Option ℕ → Option ReceptionReport
+report_from past (Some first) (Some last) =
+    Some (block_of (fraction_of (last_counts past) (expected_of first last) (received past)) (lost_of (expected_of first last) (received past)) last (jitter_in past))
+report_from past (Some first) None = None
+report_from past None o = None
+
+abbrev pub report_of : Reception → Option ReceptionReport
+report_of past = report_from past (first_in past) (greatest_of (taken (heard past)))
+
+abbrev pub after_from : Reception → Option ℕ → Option ℕ → Reception
+after_from past (Some first) (Some last) = reported past (expected_of first last) (received past)
+after_from past (Some first) None = past
+after_from past None o = past
+
+-- what a register was told, after a report
+abbrev pub after_report : Reception → Reception
+after_report past = after_from past (first_in past) (greatest_of (taken (heard past)))

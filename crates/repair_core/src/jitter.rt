@@ -1,0 +1,126 @@
+ghost use Rattle.std.specs.Prelude.{◌≡◌, ◌+◌, ◌*◌, ◌^◌, ◌<◌, ◌≤◌, None};
+ghost use Rattle.repair_core.specs.Jitter.{distance as distance_of, nanos_of, deviation as deviation_of, next_jitter, units_of, entered, jitter_after, rtp_jitter};
+
+use media_base::Instant;
+
+/// When a packet arrived, and its RTP time, in so many units a second.
+#[derive(Clone, Copy, Debug)]
+pub struct TimePoint {
+    pub arrival: Instant,
+    pub rtp_time: u32,
+    pub clock_rate: u32,
+}
+
+/// The interarrival jitter (RFC 3550 sections 6.4.1 and A.8), in 65,536ths of a nanosecond, and the
+/// last packet that entered it.
+#[derive(Clone, Copy, Debug)]
+pub struct Jitter {
+    pub last: Option<TimePoint>,
+    pub value: u128,
+    ghost small: { value < 2 ^ 82 },
+}
+
+impl Jitter {
+    /// The jitter that no packet entered.
+    pub fn new() -> Self
+        ensures last { result.last ≡ None }
+        ensures value { result.value ≡ 0 }
+    {
+        Jitter {
+            last: None,
+            value: 0,
+        }
+    }
+
+    /// Takes a packet in, unless it has the RTP time of the last one that entered.
+    pub fn enter(&mut self, point: TimePoint)
+        requires { 0 < point.clock_rate }
+        ensures last { self.new.last ≡ entered self.old.last point }
+        ensures value { self.new.value ≡ jitter_after self.old.value self.old.last point }
+    {
+        *self = self.after(point);
+    }
+
+    fn after(self, point: TimePoint) -> Jitter
+        requires { 0 < point.clock_rate }
+        ensures last { result.last ≡ entered self.last point }
+        ensures value { result.value ≡ jitter_after self.value self.last point }
+    {
+        let Some(last) = self.last else {
+            return Jitter {
+                last: Some(point),
+                value: self.value,
+            };
+        };
+        if last.rtp_time == point.rtp_time {
+            return self;
+        }
+        let value = next(self.value, deviation(&last, &point));
+        Jitter {
+            last: Some(point),
+            value,
+        }
+    }
+
+    /// The jitter in units of the last packet's RTP clock, rounded half up, at most 2^32 - 1.
+    pub fn in_rtp_ts(&self) -> u32
+        ensures { result ≡ rtp_jitter self.now.last self.now.value }
+    {
+        match self.last {
+            Some(last) => in_units(self.value, last.clock_rate),
+            None => 0,
+        }
+    }
+}
+
+fn in_units(value: u128, rate: u32) -> u32
+    requires { value < 2 ^ 82 }
+    ensures { result ≡ units_of value rate }
+{
+    let units = (value * u128::from(rate) + 32_768_000_000_000) / 65_536_000_000_000;
+    units.min(u128::from(u32::MAX)) as u32
+}
+
+fn next(value: u128, deviation: u128) -> u128
+    requires value { value < 2 ^ 82 }
+    requires deviation { deviation < 2 ^ 66 }
+    ensures value { result ≡ next_jitter value deviation }
+    ensures small { result < 2 ^ 82 }
+{
+    (15 * value + 65_536 * deviation) / 16
+}
+
+/// How far the time between two arrivals is from the time between their RTP times, in nanoseconds.
+fn deviation(last: &TimePoint, point: &TimePoint) -> u128
+    requires { 0 < point.now.clock_rate }
+    ensures value { result ≡ deviation_of last.now point.now }
+    ensures small { result < 2 ^ 66 }
+{
+    let steps = point.rtp_time.wrapping_sub(last.rtp_time);
+    let before = u128::from(last.arrival.as_nanos());
+    let after = u128::from(point.arrival.as_nanos());
+    if steps < 0x8000_0000 {
+        let length = nanos(u64::from(steps), point.clock_rate);
+        distance(after, before + u128::from(length))
+    } else {
+        let length = nanos(0x1_0000_0000 - u64::from(steps), point.clock_rate);
+        distance(after + u128::from(length), before)
+    }
+}
+
+fn distance(a: u128, b: u128) -> u128
+    ensures value { result ≡ distance_of a b }
+    ensures small { result ≤ a + b }
+{
+    if a < b { b - a } else { a - b }
+}
+
+/// So many units of an RTP clock, cut to nanoseconds.
+fn nanos(units: u64, rate: u32) -> u64
+    requires units { units ≤ 2 ^ 32 }
+    requires rate { 0 < rate }
+    ensures value { result ≡ nanos_of units rate }
+    ensures small { result < 2 ^ 63 }
+{
+    units * 1_000_000_000 / u64::from(rate)
+}

@@ -1,0 +1,219 @@
+ghost use Rattle.std.specs.Prelude.{◌≡◌, ℕ, ◌+◌, ◌-◌, ◌<◌, ◌≤◌, ◌^◌, ◌++◌, None, IfOk, IfSome, length};
+ghost use Rattle.std.specs.Option.{ForSome};
+ghost use Rattle.rtcp_wire.specs.Laws.{IsSigned24};
+ghost use Rattle.repair_core.specs.Fresh.{is_fresh, greatest_of};
+ghost use Rattle.repair_core.specs.Rounds.{taken, due, is_pending, wait_of, deadline};
+ghost use Rattle.repair_core.specs.Entries.{packed};
+ghost use Rattle.repair_core.specs.Reception.{Reception, begun_at, arrived, recovered, asked_at, reported, heard, last_counts, jitter_in, fraction_of, lost_of, expected_of, block_of, report_of, after_report};
+
+use crate::jitter::{Jitter, TimePoint};
+use crate::register_nack::NackRegister;
+use media_base::{Duration, Instant};
+use rtcp_wire::{NackEntry, ReceptionReport, ReportList};
+use rtp_wire::{SeqNo, Ssrc};
+use std::alloc::{AllocError, Global};
+use std::ops::Range;
+
+/// What is kept of the packets of a source: which numbers came, how many, and how evenly (RFC 3550
+/// section 6.4.1). Numbers are below 2^48. After `new` no call takes memory.
+#[derive(Debug, Drop)]
+pub struct ReceiverRegister {
+    nack: NackRegister,
+    first: Option<SeqNo>,
+    count: u64,
+    expected_prior: u64,
+    received_prior: u64,
+    jitter: Jitter,
+}
+
+impl ReceiverRegister {
+    ghost use Rattle.repair_core.specs.ReceiverRegister.{StandsFor};
+
+    /// A register that received nothing. From the given number, if any, it starts as `NackRegister`
+    /// does.
+    pub fn new(alloc: Global, max_seq_no: Option<SeqNo>) -> Result<Self, AllocError>
+        requires { ForSome max_seq_no (λ n. n < 2 ^ 48) }
+        ensures { IfOk result (λ r. StandsFor r (begun_at max_seq_no)) }
+    {
+        let nack = NackRegister::new(alloc, max_seq_no)?;
+        Ok(ReceiverRegister {
+            nack,
+            first: None,
+            count: 0,
+            expected_prior: 0,
+            received_prior: 0,
+            jitter: Jitter::new(),
+        })
+    }
+
+    /// Makes it as a new one, in the room that it has.
+    pub fn clear(&mut self, max_seq_no: Option<SeqNo>)
+        requires { ForSome max_seq_no (λ n. n < 2 ^ 48) }
+        ensures { StandsFor self.new (begun_at max_seq_no) }
+    {
+        self.nack.clear(max_seq_no);
+        self.first = None;
+        self.count = 0;
+        self.expected_prior = 0;
+        self.received_prior = 0;
+        self.jitter = Jitter::new();
+    }
+
+    /// Whether the number may still be taken.
+    pub fn accepts(&self, seq: SeqNo) -> bool
+        requires { seq < 2 ^ 48 }
+        ensures { (past : Reception) → StandsFor self.now past → result ≡ is_fresh (taken (heard past)) seq }
+    {
+        self.nack.accepts(seq)
+    }
+
+    /// Takes a number that was rebuilt from redundancy (RFC 2198). It is neither asked for nor taken
+    /// again, and does not count as received.
+    pub fn mark_recovered(&mut self, seq: SeqNo)
+        requires { seq < 2 ^ 48 }
+        ensures { (past : Reception) → StandsFor self.old past → StandsFor self.new (recovered past seq) }
+    {
+        let _ = self.nack.update(seq);
+    }
+
+    /// Takes the number of a packet that came if it is fresh, and tells whether it was. The packet
+    /// enters the jitter in any case. The clock rate is at least 1.
+    pub fn update(&mut self, seq: SeqNo, arrival: Instant, rtp_time: u32, clock_rate: u32) -> bool
+        requires seq { seq < 2 ^ 48 }
+        requires rate { 0 < clock_rate }
+        ensures fresh { (past : Reception) → StandsFor self.old past → result ≡ is_fresh (taken (heard past)) seq }
+        ensures arrived { (past : Reception) → StandsFor self.old past → StandsFor self.new (arrived past seq (record { arrival = arrival; rtp_time = rtp_time; clock_rate = clock_rate })) }
+    {
+        self.first = Some(self.first.unwrap_or(seq));
+        let fresh = self.nack.update(seq);
+        if fresh {
+            self.count = self.count.saturating_add(1);
+        }
+        self.jitter.enter(TimePoint {
+            arrival,
+            rtp_time,
+            clock_rate,
+        });
+        fresh
+    }
+
+    /// When the missing numbers of the range are given up, as `NackRegister::recovery_deadline`.
+    pub fn recovery_deadline(
+        &self,
+        range: Range<SeqNo>,
+        received: Instant,
+        trip: Option<Duration>,
+    ) -> Option<Instant>
+        ensures { (past : Reception) → StandsFor self.now past → result ≡ deadline (heard past) range.start range.end received trip }
+    {
+        self.nack.recovery_deadline(range, received, trip)
+    }
+
+    /// Whether some missing number was asked for fewer than five times.
+    pub fn has_pending_nacks(&self) -> bool
+        ensures { (past : Reception) → StandsFor self.now past → result ≡ is_pending (heard past) }
+    {
+        self.nack.has_pending_nacks()
+    }
+
+    /// Asks for the missing numbers that are due, as `NackRegister::nack_reports`.
+    pub fn nack_report(
+        &mut self,
+        now: Instant,
+        trip: Option<Duration>,
+        reports: &mut ReportList<NackEntry>,
+    )
+        requires { length reports.old ≤ 25 }
+        ensures asked { (past : Reception) → StandsFor self.old past → StandsFor self.new (asked_at past now (wait_of trip)) }
+        ensures entries { (past : Reception) → StandsFor self.old past → reports.new ≡ reports.old ++ packed None (due (heard past) now (wait_of trip)) }
+        ensures few { length reports.new ≤ length reports.old + 6 }
+    {
+        self.nack.nack_reports(now, trip, reports);
+    }
+
+    /// The greatest number that was taken.
+    pub fn max_seq(&self) -> Option<SeqNo>
+        ensures greatest { (past : Reception) → StandsFor self.now past → result ≡ greatest_of (taken (heard past)) }
+        ensures small { IfSome result (λ n. n < 2 ^ 48) }
+    {
+        self.nack.max_seq()
+    }
+
+    /// A report of the source, with its SSRC and the last sender report left 0; None where no packet
+    /// came. The fraction lost is that since the report before (RFC 3550 section 6.4.1).
+    pub fn reception_report(&mut self) -> Option<ReceptionReport>
+        ensures report { (past : Reception) → StandsFor self.old past → result ≡ report_of past }
+        ensures after { (past : Reception) → StandsFor self.old past → StandsFor self.new (after_report past) }
+    {
+        let first = self.first?;
+        let last = self.max_seq()?;
+        let expected = expected(first, last);
+        let fraction = self.fraction_lost(expected, self.count);
+        let lost = packets_lost(expected, self.count);
+        Some(report(fraction, lost, last, self.jitter_in_rtp_ts()))
+    }
+
+    /// The jitter in units of the RTP clock, rounded half up (RFC 3550 section 6.4.1).
+    pub fn jitter_in_rtp_ts(&self) -> u32
+        ensures { (past : Reception) → StandsFor self.now past → result ≡ jitter_in past }
+    {
+        self.jitter.in_rtp_ts()
+    }
+
+    /// The share of the packets expected since the last such call that was lost, in 256ths, at most
+    /// 255; 0 where nothing more was expected or lost (RFC 3550 section A.3).
+    pub fn fraction_lost(&mut self, expected: u64, received: u64) -> u8
+        ensures fraction { (past : Reception) → StandsFor self.old past → result ≡ fraction_of (last_counts past) expected received }
+        ensures reported { (past : Reception) → StandsFor self.old past → StandsFor self.new (reported past expected received) }
+    {
+        let fraction = fraction(self.expected_prior, self.received_prior, expected, received);
+        self.expected_prior = expected;
+        self.received_prior = received;
+        fraction
+    }
+}
+
+fn fraction(expected_prior: u64, received_prior: u64, expected: u64, received: u64) -> u8
+    ensures { result ≡ fraction_of (expected_prior, received_prior) expected received }
+{
+    let more = expected.saturating_sub(expected_prior);
+    if more == 0 {
+        return 0;
+    }
+    let lost = (u128::from(more) + u128::from(received_prior)).saturating_sub(u128::from(received));
+    (256 * lost / u128::from(more)).min(255) as u8
+}
+
+fn report(fraction_lost: u8, packets_lost: i32, last: SeqNo, jitter: u32) -> ReceptionReport
+    ensures { result ≡ block_of fraction_lost packets_lost last jitter }
+{
+    ReceptionReport {
+        ssrc: Ssrc::from(0),
+        fraction_lost,
+        packets_lost,
+        max_seq: (u64::from(last) % 0x1_0000_0000) as u32,
+        jitter,
+        last_sr_time: 0,
+        last_sr_delay: 0,
+    }
+}
+
+/// How many packets are expected from the first number to the last, which is below 2^48.
+pub fn expected(first: SeqNo, last: SeqNo) -> u64
+    requires { last < 2 ^ 48 }
+    ensures { result ≡ expected_of first last }
+{
+    u64::from(last).saturating_sub(u64::from(first)) + 1
+}
+
+/// The packets lost, in 24 signed bits: from -0x800000 to 0x7fffff (RFC 3550 section A.3).
+pub fn packets_lost(expected: u64, received: u64) -> i32
+    ensures value { result ≡ lost_of expected received }
+    ensures bits { IsSigned24 result }
+{
+    if received <= expected {
+        (expected - received).min(0x7f_ffff) as i32
+    } else {
+        -((received - expected).min(0x80_0000) as i32)
+    }
+}

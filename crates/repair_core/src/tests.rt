@@ -1,0 +1,306 @@
+ghost use Rattle.std.specs.Prelude.{◌≡◌, ℕ, ◌+◌, ◌<◌, ◌≤◌, ◌^◌, ◌&&◌, ◌||◌, not, nat_eq, nat_lt, nat_le};
+ghost use Rattle.std.specs.List.{list_any};
+ghost use Rattle.repair_core.specs.Fresh.{greatest, is_fresh};
+
+use crate::{
+    Cached, EvictingBuffer, NackRegister, ReceiverRegister, RtxCache, expected, packets_lost,
+};
+use media_base::{Duration, Instant};
+use rtp_wire::SeqNo;
+use std::test::Fail;
+
+fn millis(count: u64) -> Instant
+    requires { count < 1000000 }
+{
+    Instant::from_nanos(count * 1_000_000)
+}
+
+// The definition of a fresh number, as a program over the list of those that were taken.
+fn greatest_in(taken: &[u64]) -> u64
+    ensures { result ≡ greatest taken.now }
+{
+    match taken.split_first() {
+        Some((first, rest)) => (*first).max(greatest_in(rest)),
+        None => 0,
+    }
+}
+
+fn has_number(taken: &[u64], number: u64) -> bool
+    ensures { result ≡ list_any (nat_eq number) taken.now }
+{
+    taken.iter().any(|other| number == *other)
+}
+
+fn is_open(first: u64, greatest: u64, has: bool, number: u64) -> bool
+    requires { number < 2 ^ 48 }
+    ensures { result ≡ (nat_lt greatest number || (not has && (nat_le first number && nat_le greatest (number + 100)))) }
+{
+    greatest < number || (!has && first <= number && greatest <= number + 100)
+}
+
+fn is_fresh_in(taken: &[u64], number: u64) -> bool
+    requires { number < 2 ^ 48 }
+    ensures { result ≡ is_fresh taken.now number }
+{
+    match taken.split_first() {
+        Some((first, _)) => is_open(
+            *first,
+            greatest_in(taken),
+            has_number(taken, number),
+            number,
+        ),
+        None => true,
+    }
+}
+
+// Numbers that come one after another: jumps of 1, 100, 101, 102, 200, 201 and 65,536, numbers at both
+// ends of the window and below the first, replays, and numbers out of order.
+const CASES: [[u64; 6]; 40] = [
+    [1_000, 1_001, 901, 900, 1_001, 1_000],
+    [1_000, 1_050, 1_051, 951, 950, 1_050],
+    [0, 1, 0, 0, 2, 0],
+    [1_000, 999, 1_001, 1_000, 1_001, 1_102],
+    [1_001, 1_000, 1_002, 1_002, 1_101, 902],
+    [1_000, 1_100, 1_000, 999, 1_100, 1_099],
+    [1_000, 1_050, 1_150, 1_050, 1_049, 1_050],
+    [0, 100, 99, 0, 101, 1],
+    [1_000, 999, 1_100, 1_000, 1_001, 1_201],
+    [1_100, 1_000, 1_101, 1_200, 1_200, 1_100],
+    [1_000, 1_101, 1_001, 1_000, 1_101, 1_100],
+    [1_000, 1_050, 1_151, 1_051, 1_050, 1_050],
+    [0, 101, 100, 0, 102, 2],
+    [1_000, 999, 1_101, 1_000, 1_001, 1_202],
+    [1_101, 1_000, 1_102, 1_202, 1_201, 1_102],
+    [1_000, 1_102, 1_002, 1_001, 1_102, 1_101],
+    [1_000, 1_050, 1_152, 1_052, 1_051, 1_050],
+    [0, 102, 101, 0, 103, 3],
+    [1_000, 999, 1_102, 1_000, 1_001, 1_203],
+    [1_102, 1_000, 1_103, 1_204, 1_202, 1_104],
+    [1_000, 1_200, 1_100, 1_099, 1_200, 1_199],
+    [1_000, 1_050, 1_250, 1_150, 1_149, 1_050],
+    [0, 200, 199, 0, 201, 101],
+    [1_000, 999, 1_200, 1_000, 1_001, 1_301],
+    [1_200, 1_000, 1_201, 1_400, 1_300, 1_300],
+    [1_000, 1_201, 1_101, 1_100, 1_201, 1_200],
+    [1_000, 1_050, 1_251, 1_151, 1_150, 1_050],
+    [0, 201, 200, 0, 202, 102],
+    [1_000, 999, 1_201, 1_000, 1_001, 1_302],
+    [1_201, 1_000, 1_202, 1_402, 1_301, 1_302],
+    [1_000, 66_536, 66_436, 66_435, 66_536, 66_535],
+    [1_000, 1_050, 66_586, 66_486, 66_485, 1_050],
+    [0, 65_536, 65_535, 0, 65_537, 65_437],
+    [1_000, 999, 66_536, 1_000, 1_001, 66_637],
+    [66_536, 1_000, 66_537, 132_072, 66_636, 131_972],
+    [10, 10, 10, 11, 11, 12],
+    [10, 12, 11, 11, 10, 9],
+    [65_535, 65_536, 65_534, 65_535, 65_537, 65_436],
+    [
+        281_474_976_710_554,
+        281_474_976_710_655,
+        281_474_976_710_554,
+        281_474_976_710_555,
+        281_474_976_710_654,
+        281_474_976_710_655,
+    ],
+    [500, 601, 500, 501, 502, 601],
+];
+
+#[test]
+fn forty_cases(rt: HostRuntime) -> Result<(), Fail> {
+    for case in CASES.iter() {
+        let mut register = NackRegister::new(rt.alloc(), None)?;
+        let mut taken: Vec<u64> = Vec::new(rt.alloc());
+        for number in case.iter() {
+            let number = *number % 0x1_0000_0000_0000;
+            let fresh = is_fresh_in(taken.as_slice(), number);
+            assert_eq!(rt;
+                register.accepts(SeqNo::from(number)),
+                fresh,
+                "{number} of {case:?}"
+            );
+            assert_eq!(rt;
+                register.update(SeqNo::from(number)),
+                fresh,
+                "{number} of {case:?}"
+            );
+            if fresh {
+                taken.push(number)?;
+            }
+            assert_eq!(rt;
+                register.max_seq(),
+                Some(SeqNo::from(greatest_in(taken.as_slice())))
+            );
+        }
+    }
+    Ok(())
+}
+
+// The same where the first number is remembered.
+#[test]
+fn forty_cases_started(rt: HostRuntime) -> Result<(), Fail> {
+    let mut register = NackRegister::new(rt.alloc(), None)?;
+    for case in CASES.iter() {
+        let first = case[0] % 0x1_0000_0000_0000;
+        register.clear(Some(SeqNo::from(first)));
+        let mut taken = vec![in rt.alloc(); first]?;
+        for number in case.iter() {
+            let number = *number % 0x1_0000_0000_0000;
+            let fresh = is_fresh_in(taken.as_slice(), number);
+            assert_eq!(rt;
+                register.update(SeqNo::from(number)),
+                fresh,
+                "{number} of {case:?}"
+            );
+            if fresh {
+                taken.push(number)?;
+            }
+        }
+    }
+    Ok(())
+}
+
+#[test]
+fn losses(rt: HostRuntime) -> Result<(), Fail> {
+    let mut register = ReceiverRegister::new(rt.alloc(), None)?;
+    assert!(rt; register.reception_report().is_none());
+    for number in [10u64, 11, 12, 13, 19] {
+        assert!(rt; register.update(SeqNo::from(number), millis(7), 0, 90_000));
+    }
+    let report = register.reception_report().ok_or("no report")?;
+    assert_eq!(rt; report.fraction_lost, 128);
+    assert_eq!(rt; report.packets_lost, 5);
+    assert_eq!(rt; report.max_seq, 19);
+    assert_eq!(rt; report.jitter, 0);
+    register.mark_recovered(SeqNo::from(14));
+    assert!(rt; !register.accepts(SeqNo::from(14)));
+    let report = register.reception_report().ok_or("no report")?;
+    assert_eq!(rt; report.fraction_lost, 0);
+    assert_eq!(rt; report.packets_lost, 5);
+    Ok(())
+}
+
+#[test]
+fn jitter(rt: HostRuntime) -> Result<(), Fail> {
+    let mut register = ReceiverRegister::new(rt.alloc(), None)?;
+    register.update(SeqNo::from(1), millis(0), 1, 8_000);
+    register.update(SeqNo::from(2), millis(50), 161, 8_000);
+    register.update(SeqNo::from(3), millis(100), 321, 8_000);
+    assert_eq!(rt; register.jitter_in_rtp_ts(), 29);
+    Ok(())
+}
+
+#[test]
+fn fractions(rt: HostRuntime) -> Result<(), Fail> {
+    let mut register = ReceiverRegister::new(rt.alloc(), None)?;
+    assert_eq!(rt; register.fraction_lost(120, 118), 4);
+    assert_eq!(rt; register.fraction_lost(240, 240), 0);
+    register.clear(None);
+    assert_eq!(rt; register.fraction_lost(100, 0), 255);
+    assert_eq!(rt; expected(SeqNo::from(14), SeqNo::from(17)), 4);
+    assert_eq!(rt; packets_lost(4, 3), 1);
+    assert_eq!(rt; packets_lost(0, 10_000_000), -0x80_0000);
+    assert_eq!(rt; packets_lost(10_000_000, 0), 0x7f_ffff);
+    Ok(())
+}
+
+#[derive(Debug, Drop)]
+struct Packet {
+    number: u64,
+    size: usize,
+}
+
+impl Cached for Packet {
+    ghost number = { λ p. p.number };
+
+    ghost size = { λ p. p.size };
+
+    fn seq_no(&self) -> SeqNo {
+        SeqNo::from(self.number)
+    }
+
+    fn payload_len(&self) -> usize {
+        self.size
+    }
+}
+
+fn number_of(packet: Option<&Packet>) -> Option<u64> {
+    match packet {
+        Some(packet) => Some(packet.number),
+        None => None,
+    }
+}
+
+#[test]
+fn cache_of_one(rt: HostRuntime) -> Result<(), Fail> {
+    let mut cache = RtxCache::new(rt.alloc(), 1, Duration::from_secs(3))?;
+    cache.cache_sent_packet(Packet { number: 1, size: 8 }, millis(1))?;
+    assert_eq!(rt;
+        number_of(cache.get_cached_packet_smaller_than(25)),
+        Some(1)
+    );
+    assert_eq!(rt; number_of(cache.get_cached_packet_smaller_than(24)), None);
+    Ok(())
+}
+
+// The greatest class below the size, of which the packet cached last is held.
+#[test]
+fn by_size(rt: HostRuntime) -> Result<(), Fail> {
+    let mut cache = RtxCache::new(rt.alloc(), 20, Duration::from_secs(3))?;
+    for (number, size) in [(1u64, 30usize), (2, 60), (3, 900), (4, 49), (5, 1_999)] {
+        cache.cache_sent_packet(
+            Packet {
+                number,
+                size: size % 2_000,
+            },
+            millis(number),
+        )?;
+    }
+    for (size, number) in [
+        (2_000usize, Some(5u64)),
+        (1_975, Some(3)),
+        (900, Some(2)),
+        (74, Some(4)),
+        (49, None),
+    ] {
+        assert_eq!(rt;
+            number_of(cache.get_cached_packet_smaller_than(size.min(2_000))),
+            number,
+            "{size}"
+        );
+    }
+    assert_eq!(rt; cache.last_cached_seq_no(), Some(SeqNo::from(5)));
+    assert_eq!(rt;
+        number_of(cache.get_cached_packet_by_seq_no(SeqNo::from(4))),
+        Some(4)
+    );
+    cache.cache_sent_packet(Packet { number: 6, size: 1 }, millis(4_000))?;
+    assert_eq!(rt;
+        number_of(cache.get_cached_packet_smaller_than(2_000)),
+        Some(6)
+    );
+    assert_eq!(rt; number_of(cache.last_packet()), Some(6));
+    cache.clear();
+    assert_eq!(rt; number_of(cache.last_packet()), None);
+    Ok(())
+}
+
+// Each call that takes memory answers with ample memory.
+#[test]
+fn surface_ample(rt: HostRuntime) -> Result<(), Fail> {
+    let mut buffer = EvictingBuffer::new(rt.alloc(), 1, Duration::from_secs(1), 1)?;
+    assert!(rt; buffer.push(1, millis(0), 'A').is_ok());
+    if let Some(value) = buffer.get_mut(1) {
+        *value = 'B';
+    }
+    assert_eq!(rt; buffer.get(1).copied(), Some('B'));
+    assert!(rt; !NackRegister::new(rt.alloc(), Some(SeqNo::from(3)))?.accepts(SeqNo::from(3)));
+    assert!(rt; ReceiverRegister::new(rt.alloc(), None)?.accepts(SeqNo::from(3)));
+    let mut cache = RtxCache::new(rt.alloc(), 2, Duration::from_secs(1))?;
+    assert!(rt;
+        cache
+            .cache_sent_packet(Packet { number: 9, size: 1 }, millis(0))
+            .is_ok()
+    );
+    assert_eq!(rt; cache.last_cached_seq_no(), Some(SeqNo::from(9)));
+    Ok(())
+}
