@@ -1,0 +1,4 @@
+pub mod Rows
+pub mod Symbols
+pub mod Chunks
+pub mod ReadBack

@@ -1,0 +1,5 @@
+pub mod Wire
+pub mod Statuses
+pub mod Chunks
+pub mod Feedback
+pub mod Laws

@@ -1,0 +1,23 @@
+-- Fields in bytes, the high byte first.
+use Rattle.std.specs.Prelude.{◌≡◌, ℕ, ◌+◌, ◌<◌, ◌≤◌, List, ◌++◌, length, take, drop, Option, Some, None}
+use Rattle.std.specs.Int.{w16, w32, from_be_bytes, to_be_bytes}
+use Rattle.std.specs.List.{flat_map}
+
+-- the number in the two or four bytes at a place
+abbrev pub half_at : List ℕ → ℕ → ℕ
+half_at bytes at = from_be_bytes w16 (drop at bytes)
+
+abbrev pub word_at : List ℕ → ℕ → ℕ
+word_at bytes at = from_be_bytes w32 (drop at bytes)
+
+-- halves and words, one after another
+abbrev pub halves : List ℕ → List ℕ
+halves ns = flat_map (to_be_bytes w16) ns
+
+abbrev pub words : List ℕ → List ℕ
+words ns = flat_map (to_be_bytes w32) ns
+
+-- the text was put at a place, and ends at end; or there is no room for it
+abbrev pub Puts : List ℕ → ℕ → List ℕ → List ℕ → Option ℕ → Type 0
+Puts old at text new None = length old < at + length text
+Puts old at text new (Some end) = (end ≡ at + length text) × (take end new ≡ take at old ++ text) × (end ≤ length new)

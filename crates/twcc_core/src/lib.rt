@@ -1,0 +1,15 @@
+//! Transport-wide congestion control: what feedback says of packets, in bytes, and the registers of
+//! packets sent and received (draft-holmer-rmcat-transport-wide-cc-extensions-01).
+#![tactic(auto)]
+
+mod chunk;
+mod feedback;
+mod laws;
+mod status;
+#[cfg(test)]
+mod tests;
+mod wire;
+
+pub use feedback::{Twcc, read_twcc, write_twcc};
+pub use laws::{feedback_is_whole, feedback_reads_back};
+pub use status::PacketStatus;

@@ -1,0 +1,107 @@
+ghost use Rattle.std.specs.Prelude.{◌≡◌, ◌<◌, IfOk};
+ghost use Rattle.std.specs.Option.{option_map};
+ghost use Rattle.std.specs.List.{flat_map};
+ghost use Rattle.twcc_core.specs.Wire.{Puts};
+ghost use Rattle.twcc_core.specs.Statuses.{delta_text, status_at, statuses_of};
+
+use crate::wire::{half, put};
+use media_base::Listed;
+use std::alloc::{AllocError, Global};
+
+/// What feedback says of a packet (draft-holmer-rmcat-transport-wide-cc-extensions-01 section 3.1.1).
+#[derive(Clone, Copy, Debug, PartialEq, Eq)]
+pub enum PacketStatus {
+    NotReceived,
+    /// It came so many steps of 250 us after the received one before it, the first of all after the
+    /// reference time.
+    Received(i16),
+}
+
+impl PacketStatus {
+    ghost use Rattle.twcc_core.specs.Statuses.{symbol_of};
+
+    // The symbol of two bits.
+    pub(crate) fn symbol(self) -> u8
+        ensures value { result ≡ symbol_of self }
+        ensures small { result < 3 }
+    {
+        match self {
+            PacketStatus::NotReceived => 0,
+            PacketStatus::Received(delta) => { if delta >= 0 && delta < 256 { 1 } else { 2 } }
+        }
+    }
+
+    // Puts the delta, where there is one.
+    fn write_delta(self, out: &mut [u8], at: usize) -> Option<usize>
+        ensures { Puts out.old at (delta_text self) out.new result }
+    {
+        match self {
+            PacketStatus::NotReceived => put(out, at, &[]),
+            PacketStatus::Received(delta) => {
+                if delta >= 0 && delta < 256 {
+                    put(out, at, &[delta as u8])
+                } else {
+                    put(out, at, &delta.to_be_bytes())
+                }
+            }
+        }
+    }
+}
+
+// What a symbol and the bytes from its delta on say, and what follows them.
+#[tactic(auto, unfolding(crate::specs::Statuses::status_at))]
+fn read_status(symbol: u8, bytes: &[u8]) -> Option<(PacketStatus, &[u8])>
+    ensures { option_map (λ x. (x.0, x.1.now)) result ≡ status_at symbol bytes.now }
+{
+    match symbol {
+        1 => {
+            let (first, rest) = bytes.split_first()?;
+            Some((PacketStatus::Received(i16::from(*first)), rest))
+        }
+        2 => {
+            if bytes.len() < 2 {
+                return None;
+            }
+            let (delta, rest) = bytes.split_at(2);
+            Some((PacketStatus::Received(half(delta, 0).cast_signed()), rest))
+        }
+        _ => Some((PacketStatus::NotReceived, bytes)),
+    }
+}
+
+// What symbols say, with the deltas one after another, or None where the bytes end before.
+pub(crate) fn read_statuses(
+    alloc: Global,
+    symbols: &[u8],
+    bytes: &[u8],
+) -> Result<Option<Listed<PacketStatus>>, AllocError>
+    ensures { IfOk result (λ rows. rows ≡ statuses_of symbols.now bytes.now) }
+{
+    let mut rows = Listed::new(alloc);
+    let mut rest = bytes;
+    for symbol in symbols {
+        let Some((status, after)) = read_status(*symbol, rest) else {
+            return Ok(None);
+        };
+        rows.push(status)?;
+        rest = after;
+    }
+    Ok(Some(rows))
+}
+
+// Puts deltas one after another, or says that there is no room for them.
+pub(crate) fn write_deltas(rows: &[PacketStatus], out: &mut [u8], at: usize) -> Option<usize>
+    ensures { Puts out.old at (flat_map delta_text rows.now) out.new result }
+{
+    if out.len() < at {
+        return None;
+    }
+    let mut end = at;
+    for row in rows {
+        match row.write_delta(out, end) {
+            Some(next) => end = next,
+            None => return None,
+        }
+    }
+    Some(end)
+}

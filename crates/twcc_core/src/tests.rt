@@ -1,0 +1,119 @@
+use super::*;
+use media_base::Listed;
+use rtp_wire::Ssrc;
+use std::process::Abort;
+use std::test::Fail;
+
+// Seven packets 1 ms after one another, one that is missing and one 250 us before the last, from the
+// number 65,535 on: a run, a vector, deltas and fill.
+const WORKED: [u8; 32] = [
+    0, 0, 0, 1, 0, 0, 0, 42, 0xff, 0xff, 0, 9, 0xff, 0xff, 0xff, 7, 0x20, 7, 0xc8, 0, 4, 4, 4, 4,
+    4, 4, 4, 0xff, 0xff, 0, 0, 0,
+];
+
+fn worked(rt: &HostRuntime) -> Result<Twcc, Fail> {
+    let mut rows = Listed::new(rt.alloc());
+    for _ in 0..7u8 {
+        rows.push(PacketStatus::Received(4))?;
+    }
+    rows.push(PacketStatus::NotReceived)?;
+    rows.push(PacketStatus::Received(-1))?;
+    Ok(feedback(65_535, -1, rows))
+}
+
+fn feedback(base_seq: u16, reference_time: i32, rows: Listed<PacketStatus>) -> Twcc {
+    Twcc {
+        sender_ssrc: Ssrc::from(1),
+        ssrc: Ssrc::from(42),
+        base_seq,
+        reference_time,
+        feedback_count: 7,
+        rows,
+    }
+}
+
+fn write(rt: &impl Abort, twcc: &Twcc, out: &mut [u8]) -> Option<usize> {
+    assert!(rt; twcc.rows.as_slice().len() < 65_536);
+    write_twcc(twcc, out)
+}
+
+#[test]
+fn worked_bytes(rt: HostRuntime) -> Result<(), Fail> {
+    let read = read_twcc(rt.alloc(), &WORKED)?.ok_or("nothing read")?;
+    assert!(rt; read == worked(&rt)?);
+    let mut out = [1; 32];
+    assert_eq!(rt; write(&rt, &read, &mut out), Some(32));
+    assert!(rt; out == WORKED);
+    assert_eq!(rt; write(&rt, &read, &mut out[..31]), None);
+    Ok(())
+}
+
+// Cut anywhere before the end of the deltas there is no feedback.
+#[test]
+fn cut_feedback(rt: HostRuntime) -> Result<(), Fail> {
+    for len in 0..29 {
+        assert!(rt; read_twcc(rt.alloc(), &WORKED[..len])?.is_none());
+    }
+    assert!(rt; read_twcc(rt.alloc(), &WORKED[..29])?.is_some());
+    Ok(())
+}
+
+// A vector of one bit a symbol, and the reserved symbol 3 in one of two bits, which says no arrival.
+#[test]
+fn vectors_read(rt: HostRuntime) -> Result<(), Fail> {
+    let bytes = [
+        0, 0, 0, 1, 0, 0, 0, 42, 0, 5, 0, 16, 0, 0, 1, 7, 0xa8, 1, 0xdc, 0, 255, 3, 9, 1,
+    ];
+    let read = read_twcc(rt.alloc(), &bytes)?.ok_or("nothing read")?;
+    let mut rows = Listed::new(rt.alloc());
+    rows.push(PacketStatus::Received(255))?;
+    rows.push(PacketStatus::NotReceived)?;
+    rows.push(PacketStatus::Received(3))?;
+    for _ in 0..10u8 {
+        rows.push(PacketStatus::NotReceived)?;
+    }
+    rows.push(PacketStatus::Received(9))?;
+    rows.push(PacketStatus::Received(1))?;
+    rows.push(PacketStatus::NotReceived)?;
+    assert!(rt; read == feedback(5, 1, rows));
+    Ok(())
+}
+
+// Deltas of 8 bits end at 255, those of 16 bits at -32,768 and 32,767.
+#[test]
+fn delta_limits(rt: HostRuntime) -> Result<(), Fail> {
+    let mut rows = Listed::new(rt.alloc());
+    for delta in [255, 256, -1, 32_767, -32_768, 0] {
+        rows.push(PacketStatus::Received(delta))?;
+    }
+    let mut out = [1; 28];
+    assert_eq!(rt; write(&rt, &feedback(5, 1, rows), &mut out), Some(28));
+    assert!(rt;
+        out == [
+            0, 0, 0, 1, 0, 0, 0, 42, 0, 5, 0, 6, 0, 0, 1, 7, 0xda, 0xa4, 255, 1, 0, 0xff, 0xff,
+            0x7f, 0xff, 0x80, 0, 0,
+        ]
+    );
+    Ok(())
+}
+
+// Six missing packets are told by a vector, seven by a run, and 8,192 by a run and a vector.
+#[test]
+fn gaps(rt: HostRuntime) -> Result<(), Fail> {
+    for (count, chunks) in [
+        (6, [0xc0, 0, 0, 0]),
+        (7, [0, 7, 0, 0]),
+        (8_191, [0x1f, 0xff, 0, 0]),
+        (8_192, [0x1f, 0xff, 0xc0, 0]),
+    ] {
+        let mut rows = Listed::new(rt.alloc());
+        for _ in 0..count {
+            rows.push(PacketStatus::NotReceived)?;
+        }
+        let mut out = [1; 20];
+        assert_eq!(rt; write(&rt, &feedback(5, 1, rows), &mut out), Some(20));
+        let (_, end) = out.split_at(16);
+        assert!(rt; end == chunks.as_slice());
+    }
+    Ok(())
+}
