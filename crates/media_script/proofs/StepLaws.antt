@@ -108,3 +108,4 @@ step_again words (step.Write side time w) is =
       flag_again w.nackable,
       hex_again is.1 w.payload is.3,
     ) refl
+step_again words (step.Foreign side time kind bytes) is = absurd is

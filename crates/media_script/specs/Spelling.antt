@@ -35,6 +35,7 @@ IsStep words (step.Write side time w) =
     (t : List ℕ) × (h : List ℕ) × IsTime t time × IsHex h w.payload × Fits w
     × (words ≡ codes "write" ∷ side_text side ∷ t ∷ decimal w.ssrc ∷ decimal w.number ∷ decimal w.pt ∷ decimal w.rtp_time
     ∷ flag_text w.marker ∷ flag_text w.nackable ∷ h ∷ [])
+IsStep words (step.Foreign side time kind bytes) = ⊥
 
 -- one space stands between two words
 abbrev pub words_of : List ℕ → List (List ℕ)

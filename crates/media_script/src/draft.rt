@@ -9,7 +9,7 @@ use crate::entry::Side;
 use crate::error::LineError;
 use crate::setup::{self, CipherName, Codec, MediaKind, PayloadType, Setup};
 use media_base::{Bytes, Listed};
-use rtp_wire::{Pt, Ssrc};
+use rtp_wire::{Mid, Pt, Ssrc};
 use srtp_core::SrtpProfile;
 use std::alloc::{AllocError, Global};
 
@@ -40,7 +40,7 @@ impl Draft {
         ensures { Gives (λ s. s) result (setup_of self) }
     {
         match self {
-            Draft::ForBegin => Ok(base(alloc)?),
+            Draft::ForBegin => base(alloc),
             _ => Err(LineError::Outside),
         }
     }
@@ -56,9 +56,12 @@ fn expect(line: &[u8], text: &[u8], next: Draft) -> Result<Draft, LineError>
     }
 }
 
-fn base(alloc: Global) -> Result<Setup, AllocError>
-    ensures { IfOk result (λ s. s ≡ base_setup) }
+fn base(alloc: Global) -> Result<Setup, LineError>
+    ensures { Gives (λ s. s) result (Some base_setup) }
 {
+    let Some(mid) = Mid::from_slice(b"v") else {
+        return Err(LineError::Outside);
+    };
     let stream = setup::Stream {
         side: Side::A,
         ssrc: Ssrc::from(42),
@@ -66,7 +69,7 @@ fn base(alloc: Global) -> Result<Setup, AllocError>
         rid: None,
     };
     let media = setup::Media {
-        mid: Bytes::from_slice(alloc, b"v")?,
+        mid,
         kind: MediaKind::Video,
         cname: Bytes::from_slice(alloc, b"cam")?,
         streams: Listed::from_vec(vec![in alloc; stream]?),
