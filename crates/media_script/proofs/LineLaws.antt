@@ -1,5 +1,5 @@
 -- What a setup line says is how it is spelled, and the other way round.
-use Rattle.std.proofs.Common.{◌≡◌, ℕ, ◌^◌, lit≤, Bool, true, false, cond, List, [], ◌∷◌, Option, Some, None, refl, sym, ap, ◌∙◌, subst}
+use Rattle.std.proofs.Common.{◌≡◌, ℕ, ◌^◌, lit≤, Bool, true, false, cond, List, [], ◌∷◌, Some, None, refl, sym, ap, ◌∙◌, subst}
 use Rattle.std.specs.Prelude.{codes}
 use Rattle.std.specs.Fmt.{decimal}
 use Rattle.std.specs.Str.{bytes_eq}
@@ -7,8 +7,8 @@ use Rattle.media_script.specs.declared.setup.PayloadType.{PayloadType}
 use Rattle.media_script.specs.declared.setup.Stream.{Stream}
 use Rattle.media_script.specs.declared.setup_line.SetupLine.{SetupLine}
 use Rattle.media_script.specs.declared.setup_line.SetupLine.TheVariants as line
-use Rattle.media_script.specs.Words.{◌>>=◌, narrow_of, side_of, cipher_of, profile_of, key_of, codec_of, media_kind_of, rate_of, name_of, optional}
-use Rattle.media_script.specs.Grammar.{field, ended, cipher_line_of, profile_line_of, key_line_of, type_line_of, media_line_of, stream_line_of, setup_line_of}
+use Rattle.media_script.specs.Words.{narrow_of, side_of, cipher_of, profile_of, key_of, codec_of, media_kind_of, rate_of, name_of, optional}
+use Rattle.media_script.specs.Grammar.{cipher_line_of, profile_line_of, key_line_of, type_line_of, media_line_of, stream_line_of, setup_line_of}
 use Rattle.media_script.specs.Names.{side_text, cipher_text, profile_text, codec_text, media_kind_text}
 use Rattle.media_script.specs.Spelling.{IsSetupLine}
 use Rattle.media_script.proofs.WordLaws.{equal, narrow_spelled, narrow_again, side_spelled, side_again, cipher_spelled, cipher_again, profile_spelled, profile_again, key_spelled, key_again, codec_spelled, codec_again, media_kind_spelled, media_kind_again, rate_spelled, rate_again, name_spelled, name_again, rtx_spelled, rtx_again, rid_spelled, rid_again}

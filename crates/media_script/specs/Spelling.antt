@@ -1,5 +1,5 @@
 -- The grammar of scripts: which bytes spell which setup and steps.
-use Rattle.std.specs.Prelude.{◌≡◌, ◌≢◌, ◌⊎◌, ℕ, ◌*◌, ◌^◌, ◌<◌, ◌≤◌, List, [], ◌∷◌, ◌++◌, length, slice_index, Bool, true, not, ◌==◌, ◌||◌, filter, Option, Some, None, Ok, codes, All}
+use Rattle.std.specs.Prelude.{◌≡◌, ◌≢◌, ◌⊎◌, ℕ, ◌*◌, ◌^◌, ◌<◌, ◌≤◌, List, [], ◌∷◌, ◌++◌, length, slice_index, Bool, not, ◌==◌, ◌||◌, filter, Option, Some, None, Ok, codes, All}
 use Rattle.std.specs.Char.{is_ascii_alphanumeric}
 use Rattle.std.specs.Fmt.{decimal}
 use Rattle.std.specs.List.{slice_split, flat_map, AllByRecursion, AllPass}
@@ -9,7 +9,6 @@ use Rattle.media_script.specs.declared.entry.Kind.TheVariants.{Rtp}
 use Rattle.media_script.specs.declared.entry.Write.{Write}
 use Rattle.media_script.specs.declared.setup.Key.{Key}
 use Rattle.media_script.specs.declared.setup.Key.TheVariants.{Zero, Given}
-use Rattle.media_script.specs.declared.setup.Stream.{Stream}
 use Rattle.media_script.specs.declared.setup.Setup.{Setup}
 use Rattle.media_script.specs.declared.setup_line.SetupLine.{SetupLine}
 use Rattle.media_script.specs.declared.setup_line.SetupLine.TheVariants as line
