@@ -25,3 +25,6 @@ pub use setup::{CipherName, Codec, Key, Media, MediaKind, PayloadType, Setup, St
 pub use step::Step;
 pub use text::{entries_text, write_transcript};
 pub use transcript::Transcript;
+
+#[cfg(test)]
+mod tests;
