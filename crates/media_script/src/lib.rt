@@ -6,9 +6,13 @@ mod entry;
 mod error;
 mod fields;
 mod genuine;
+mod left;
 mod lines;
+mod media_list;
 mod reader;
 mod setup;
+mod setup_line;
+mod setup_lines;
 mod step;
 mod steps;
 mod text;
@@ -21,3 +25,6 @@ pub use setup::{CipherName, Codec, Key, Media, MediaKind, PayloadType, Setup, St
 pub use step::Step;
 pub use text::{entries_text, write_transcript};
 pub use transcript::Transcript;
+
+#[cfg(test)]
+mod tests;

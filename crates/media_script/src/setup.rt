@@ -4,7 +4,7 @@ ghost use Rattle.media_script.specs.Setup.{material_len, material_of, streams_of
 
 use crate::entry::Side;
 use media_base::{Bytes, Listed};
-use rtp_wire::{Pt, Ssrc};
+use rtp_wire::{Mid, Pt, Rid, Ssrc};
 use srtp_core::SrtpProfile;
 use std::alloc::{AllocError, Global};
 
@@ -56,7 +56,7 @@ pub enum MediaKind {
 }
 
 /// A stream of packets, sent by one side and received by the other.
-#[derive(Debug, PartialEq, Eq, Drop)]
+#[derive(Clone, Copy, Debug, PartialEq, Eq)]
 pub struct Stream {
     /// The side that sends it.
     pub side: Side,
@@ -65,14 +65,14 @@ pub struct Stream {
     /// The SSRC of its repairs (RFC 4588 section 4).
     pub rtx: Option<Ssrc>,
     /// The name of its layer, in ASCII letters and digits.
-    pub rid: Option<Bytes>,
+    pub rid: Option<Rid>,
 }
 
 /// A media section with its streams.
 #[derive(Debug, PartialEq, Eq, Drop)]
 pub struct Media {
     /// Its name, in ASCII letters and digits.
-    pub mid: Bytes,
+    pub mid: Mid,
     pub kind: MediaKind,
     /// The canonical name of its sources (RFC 3550 section 6.5.1).
     pub cname: Bytes,

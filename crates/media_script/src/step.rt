@@ -1,5 +1,5 @@
-use crate::entry::{Side, Write};
-use media_base::Instant;
+use crate::entry::{Kind, Side, Write};
+use media_base::{Bytes, Instant};
 
 /// What a script has one side do.
 #[derive(Debug, PartialEq, Eq, Drop)]
@@ -20,5 +20,12 @@ pub enum Step {
         side: Side,
         time: Instant,
         datagram: u64,
+    },
+    /// It gets these bytes.
+    Foreign {
+        side: Side,
+        time: Instant,
+        kind: Kind,
+        bytes: Bytes,
     },
 }
