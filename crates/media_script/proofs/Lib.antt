@@ -1,6 +1,9 @@
 pub mod FilterMap
 pub mod GenuineLaws
 pub mod Kept
+pub mod LineLaws
+pub mod MediaLaws
+pub mod Names
 pub mod Numbers
 pub mod Pieces
 pub mod Reading

@@ -6,14 +6,14 @@ use Rattle.std.specs.Str.{bytes_eq}
 use Rattle.media_script.specs.declared.entry.Write.{Write}
 use Rattle.media_script.specs.declared.step.Step.{Step}
 use Rattle.media_script.specs.declared.step.Step.TheVariants as step
-use Rattle.media_script.specs.Words.{◌>>=◌, number_of, narrow_of, time_of, side_of, flag_of, hex_of}
-use Rattle.media_script.specs.Grammar.{field, ended, tick_of, deliver_of, write_of, step_of}
-use Rattle.media_script.specs.Names.{side_text, flag_text}
+use Rattle.media_script.specs.Words.{◌>>=◌, number_of, narrow_of, time_of, side_of, flag_of, hex_of, kind_of}
+use Rattle.media_script.specs.Grammar.{field, ended, tick_of, deliver_of, write_of, foreign_of, step_of}
+use Rattle.media_script.specs.Names.{side_text, kind_text, flag_text}
 use Rattle.media_script.specs.Spelling.{IsStep}
-use Rattle.media_script.proofs.WordLaws.{equal, number_spelled, number_again, narrow_spelled, narrow_again, time_spelled, time_again, side_spelled, side_again, flag_spelled, flag_again, hex_spelled, hex_again}
+use Rattle.media_script.proofs.WordLaws.{equal, number_spelled, number_again, narrow_spelled, narrow_again, time_spelled, time_again, side_spelled, side_again, kind_spelled, kind_again, flag_spelled, flag_again, hex_spelled, hex_again}
 
 -- one field, and what is read of the words after it
-with_field : {X Y C : Type 0} (read : List ℕ → Option X) (words : List (List ℕ)) (f : X × List (List ℕ) → Option Y) (y : Y) → (field read words >>= f) ≡ Some y
+pub with_field : {X Y C : Type 0} (read : List ℕ → Option X) (words : List (List ℕ)) (f : X × List (List ℕ) → Option Y) (y : Y) → (field read words >>= f) ≡ Some y
     → ((word : List ℕ) (rest : List (List ℕ)) (x : X) → words ≡ word ∷ rest → read word ≡ Some x → f (x, rest) ≡ Some y → C) → C
 with_field read [] f y e k = absurd cc
 with_field {X} {Y} {C} read (word ∷ rest) f y e k = go (read word) refl e where
@@ -21,7 +21,7 @@ with_field {X} {Y} {C} read (word ∷ rest) f y e k = go (read word) refl e wher
   go (Some x) is e' = k word rest x refl is e'
   go None is e' = absurd cc
 
-all_said : {Y : Type 0} (words : List (List ℕ)) (y z : Y) → (ended words >>= λ _. Some y) ≡ Some z → (words ≡ []) × (y ≡ z)
+pub all_said : {Y : Type 0} (words : List (List ℕ)) (y z : Y) → (ended words >>= λ _. Some y) ≡ Some z → (words ≡ []) × (y ≡ z)
 all_said [] y z e = (refl, cc)
 all_said (word ∷ words) y z e = absurd cc
 
@@ -78,21 +78,38 @@ write_spelled words did e =
     subst (IsStep (codes "write" ∷ words)) c.1
     (t, h, time_spelled t time said2, hex_spelled h payload said9, record { ssrc = n3.1; number = n4.1; pt = n5.1; rtp_time = n6.1 }, λ i. codes "write" ∷ q1 i))))))))))
 
+foreign_spelled : (words : List (List ℕ)) (did : Step) → foreign_of words ≡ Some did → IsStep (codes "foreign" ∷ words) did
+unfolding foreign_of
+foreign_spelled words did e =
+    with_field side_of words _ did e (λ s r1 side split1 said1 e1.
+    with_field time_of r1 _ did e1 (λ t r2 time split2 said2 e2.
+    with_field kind_of r2 _ did e2 (λ w3 r3 kind split3 said3 e3.
+    with_field hex_of r3 _ did e3 (λ h r4 bytes split4 said4 e4.
+    let c = all_said r4 (step.Foreign side time kind bytes) did e4 in
+    let n3 = kind_spelled w3 kind said3 in
+    let q4 : r3 ≡ h ∷ [] = split4 ∙ (λ i. h ∷ c.0 i) in
+    let q3 : r2 ≡ kind_text kind ∷ h ∷ [] = split3 ∙ (λ i. n3.0 i ∷ q4 i) in
+    let q2 : r1 ≡ t ∷ kind_text kind ∷ h ∷ [] = split2 ∙ (λ i. t ∷ q3 i) in
+    let q1 : words ≡ side_text side ∷ t ∷ kind_text kind ∷ h ∷ [] = split1 ∙ (λ i. side_spelled s side said1 i ∷ q2 i) in
+    subst (IsStep (codes "foreign" ∷ words)) c.1 (t, h, time_spelled t time said2, hex_spelled h bytes said4, n3.1, λ i. codes "foreign" ∷ q1 i)))))
+
 -- what a line says is how it is spelled
 pub step_spelled : (words : List (List ℕ)) (did : Step) → step_of words ≡ Some did → IsStep words did
 unfolding step_of
 step_spelled [] did e = absurd cc
-step_spelled (kind ∷ words) did e = go (bytes_eq kind (codes "write")) (bytes_eq kind (codes "tick")) (bytes_eq kind (codes "deliver")) refl refl refl e where
-  go : (a b c : Bool) → bytes_eq kind (codes "write") ≡ a → bytes_eq kind (codes "tick") ≡ b → bytes_eq kind (codes "deliver") ≡ c
-      → cond a (write_of words) (cond b (tick_of words) (cond c (deliver_of words) None)) ≡ Some did → IsStep (kind ∷ words) did
-  go true b c p q r e' = subst (λ k. IsStep (k ∷ words) did) (sym (equal kind (codes "write") p)) (write_spelled words did e')
-  go false true c p q r e' = subst (λ k. IsStep (k ∷ words) did) (sym (equal kind (codes "tick") q)) (tick_spelled words did e')
-  go false false true p q r e' = subst (λ k. IsStep (k ∷ words) did) (sym (equal kind (codes "deliver") r)) (deliver_spelled words did e')
-  go false false false p q r e' = absurd cc
+step_spelled (kind ∷ words) did e =
+    go (bytes_eq kind (codes "write")) (bytes_eq kind (codes "tick")) (bytes_eq kind (codes "deliver")) (bytes_eq kind (codes "foreign")) refl refl refl refl e where
+      go : (a b c d : Bool) → bytes_eq kind (codes "write") ≡ a → bytes_eq kind (codes "tick") ≡ b → bytes_eq kind (codes "deliver") ≡ c → bytes_eq kind (codes "foreign") ≡ d
+          → cond a (write_of words) (cond b (tick_of words) (cond c (deliver_of words) (cond d (foreign_of words) None))) ≡ Some did → IsStep (kind ∷ words) did
+      go true b c d p q r s e' = subst (λ k. IsStep (k ∷ words) did) (sym (equal kind (codes "write") p)) (write_spelled words did e')
+      go false true c d p q r s e' = subst (λ k. IsStep (k ∷ words) did) (sym (equal kind (codes "tick") q)) (tick_spelled words did e')
+      go false false true d p q r s e' = subst (λ k. IsStep (k ∷ words) did) (sym (equal kind (codes "deliver") r)) (deliver_spelled words did e')
+      go false false false true p q r s e' = subst (λ k. IsStep (k ∷ words) did) (sym (equal kind (codes "foreign") s)) (foreign_spelled words did e')
+      go false false false false p q r s e' = absurd cc
 
 -- and what is spelled so is read
 pub step_again : (words : List (List ℕ)) (did : Step) → IsStep words did → step_of words ≡ Some did
-unfolding step_of tick_of deliver_of write_of
+unfolding step_of tick_of deliver_of write_of foreign_of
 step_again words (step.Tick side time) is = ap step_of is.2 ∙ rw (side_again side, time_again is.0 time is.1) refl
 step_again words (step.Deliver side time k) is = ap step_of is.3 ∙ rw (side_again side, time_again is.0 time is.1, number_again k is.2) refl
 step_again words (step.Write side time w) is =
@@ -108,4 +125,5 @@ step_again words (step.Write side time w) is =
       flag_again w.nackable,
       hex_again is.1 w.payload is.3,
     ) refl
-step_again words (step.Foreign side time kind bytes) is = absurd is
+step_again words (step.Foreign side time kind bytes) is =
+    ap step_of is.5 ∙ rw (side_again side, time_again is.0 time is.2, kind_again kind is.4, hex_again is.1 bytes is.3) refl

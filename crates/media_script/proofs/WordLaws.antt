@@ -1,5 +1,5 @@
 -- What a word says is how it is spelled, and the other way round.
-use Rattle.std.proofs.Common.{◌≡◌, ◌⊎◌, lit<, inl, inr, ℕ, zero, suc, ◌+◌, ◌-◌, ◌*◌, ◌^◌, ◌<◌, ◌≤◌, Bool, true, false, cond, not, ◌&&◌, eqb, ltb, List, [], ◌∷◌, ◌++◌, length, take, get_or, Option, Some, None, Result, Ok, Err, refl, sym, ap, ◌∙◌, subst, arith}
+use Rattle.std.proofs.Common.{◌≡◌, ◌⊎◌, lit<, lit≤, inl, inr, ℕ, zero, suc, ◌+◌, ◌-◌, ◌*◌, ◌^◌, ◌<◌, ◌≤◌, Bool, true, false, cond, not, ◌&&◌, eqb, leb, ltb, List, [], ◌∷◌, ◌++◌, length, take, get_or, Option, Some, None, Result, Ok, Err, refl, sym, ap, ◌∙◌, subst, arith}
 use Rattle.std.specs.Prelude.{codes}
 use Rattle.std.specs.Fmt.{decimal}
 use Rattle.std.specs.Str.{all_ascii_digits, bytes_eq}
@@ -11,13 +11,28 @@ use Rattle.std.proofs.lemmas.List.{get_or_at, length-append, take_at}
 use Rattle.std.proofs.lemmas.Slice.Eq.{bytes_eq-Decides, ends_is}
 use Rattle.std.proofs.lemmas.Fmt.{decimal-digits_value, digits_decimal, digits_value-decimal, decimal_nonempty, first_decimal, decimal_digit}
 use Rattle.std.proofs.lemmas.Str.Parse.{IsNumeralModel, digit_at, numerals_by_value, tells_all_ascii_digits}
-use Rattle.hex.specs.Hex.{decode_of}
+use Rattle.std.specs.Char.{is_ascii_alphanumeric}
+use Rattle.std.specs.List.{list_all}
+use Rattle.std.proofs.lemmas.List.Sums.{AllPass-from_list_all, list_all-from_AllPass}
+use Rattle.hex.specs.Hex.{decode_of, decode_pairs}
+use Rattle.srtp_core.specs.declared.profile.SrtpProfile.{SrtpProfile}
+use Rattle.srtp_core.specs.declared.profile.SrtpProfile.TheVariants.{AeadAes128Gcm}
 use Rattle.hex.specs.declared.error.FromHexError.{FromHexError}
 use Rattle.media_script.specs.declared.entry.Side.{Side}
 use Rattle.media_script.specs.declared.entry.Side.TheVariants.{A, B}
-use Rattle.media_script.specs.Words.{◌>>=◌, below, plain_front, is_number, number_of, narrow_of, has_ms, time_of, side_of, flag_of, hex_of}
-use Rattle.media_script.specs.Names.{side_text, flag_text}
-use Rattle.media_script.specs.Spelling.{IsTime, IsHex}
+use Rattle.media_script.specs.declared.entry.Kind.{Kind}
+use Rattle.media_script.specs.declared.entry.Kind.TheVariants.{Rtp}
+use Rattle.media_script.specs.declared.setup.CipherName.{CipherName}
+use Rattle.media_script.specs.declared.setup.CipherName.TheVariants.{Toy}
+use Rattle.media_script.specs.declared.setup.Codec.{Codec}
+use Rattle.media_script.specs.declared.setup.Codec.TheVariants.{Opus, Pcmu, Pcma, Telephone, Vp8, Vp9, H264, H265, H266, Av1}
+use Rattle.media_script.specs.declared.setup.Key.{Key}
+use Rattle.media_script.specs.declared.setup.Key.TheVariants.{Zero, Given}
+use Rattle.media_script.specs.declared.setup.MediaKind.{MediaKind}
+use Rattle.media_script.specs.declared.setup.MediaKind.TheVariants.{Audio, Video}
+use Rattle.media_script.specs.Words.{◌>>=◌, below, plain_front, is_number, number_of, narrow_of, has_ms, time_of, side_of, flag_of, hex_of, kind_of, cipher_of, profile_of, key_of, one_of, codecs, codec_of, media_kind_of, rate_of, is_name, name_of, optional}
+use Rattle.media_script.specs.Names.{side_text, flag_text, kind_text, cipher_text, profile_text, codec_text, media_kind_text}
+use Rattle.media_script.specs.Spelling.{IsTime, IsHex, IsName, IsKey, IsOptional, IsSsrc, IsNamed}
 
 own : IsNumeralModel (λ ds. all_ascii_digits ds ≡ true) (digits_value 10)
 own = numerals_by_value _ tells_all_ascii_digits
@@ -176,3 +191,167 @@ hex_again word bytes (inr digits) = go (bytes_eq word (codes "-")) refl where
   go false p =
       let some : eqb (length word) 0 ≡ false = grind (arith, nat_tests, digits.0) in
       rw (p, some, digits.1) refl
+
+pub kind_spelled : (word : List ℕ) (kind : Kind) → kind_of word ≡ Some kind → (word ≡ kind_text kind) × (kind ≡ Rtp)
+unfolding kind_of
+kind_spelled word kind e =
+    let a = if_some (bytes_eq word (codes "rtp")) Rtp kind e in
+    (equal word (codes "rtp") a.0 ∙ ap kind_text a.1, sym a.1)
+
+pub kind_again : (kind : Kind) → kind ≡ Rtp → kind_of (kind_text kind) ≡ Some kind
+unfolding kind_of
+kind_again kind is = let P : Kind → Type 0 = λ k. kind_of (kind_text k) ≡ Some k in subst P (sym is) refl
+
+pub cipher_spelled : (word : List ℕ) (cipher : CipherName) → cipher_of word ≡ Some cipher → word ≡ cipher_text cipher
+unfolding cipher_of
+cipher_spelled word cipher e =
+    let a = if_some (bytes_eq word (codes "toy")) Toy cipher e in
+    equal word (codes "toy") a.0 ∙ ap cipher_text a.1
+
+pub cipher_again : (cipher : CipherName) → cipher_of (cipher_text cipher) ≡ Some cipher
+unfolding cipher_of
+cipher_again Toy = refl
+
+pub profile_spelled : (word : List ℕ) (profile : SrtpProfile) → profile_of word ≡ Some profile → (word ≡ profile_text profile) × (profile ≡ AeadAes128Gcm)
+unfolding profile_of
+profile_spelled word profile e =
+    let a = if_some (bytes_eq word (codes "gcm128")) AeadAes128Gcm profile e in
+    (equal word (codes "gcm128") a.0 ∙ ap profile_text a.1, sym a.1)
+
+pub profile_again : (profile : SrtpProfile) → profile ≡ AeadAes128Gcm → profile_of (profile_text profile) ≡ Some profile
+unfolding profile_of
+profile_again profile is = let P : SrtpProfile → Type 0 = λ p. profile_of (profile_text p) ≡ Some p in subst P (sym is) refl
+
+pub key_spelled : (word : List ℕ) (key : Key) → key_of word ≡ Some key → IsKey word key
+unfolding key_of
+key_spelled word key e = first (bytes_eq word (codes "zero")) refl e where
+  first : (b : Bool) → bytes_eq word (codes "zero") ≡ b → cond b (Some Zero) (hex_of word >>= λ bytes. Some (Given bytes)) ≡ Some key → IsKey word key
+  first true p e' = let is : Zero ≡ key = cc in subst (IsKey word) is (equal word (codes "zero") p)
+  first false p e' =
+      let a = bind_some (hex_of word) (λ bytes. Some (Given bytes)) key e' in
+      let is : Given a.0 ≡ key = cc in
+      subst (IsKey word) is (hex_spelled word a.0 a.1)
+
+zero_no_hex : hex_of (codes "zero") ≡ None
+unfolding hex_of decode_pairs
+zero_no_hex = refl
+
+pub key_again : (word : List ℕ) (key : Key) → IsKey word key → key_of word ≡ Some key
+unfolding key_of
+key_again word Zero is = ap key_of is ∙ refl
+key_again word (Given bytes) is = go (bytes_eq word (codes "zero")) refl where
+  go : (b : Bool) → bytes_eq word (codes "zero") ≡ b → cond b (Some Zero) (hex_of word >>= λ bs. Some (Given bs)) ≡ Some (Given bytes)
+  go true p = absurd (let none = ap hex_of (equal word (codes "zero") p) ∙ zero_no_hex in let some = hex_again word bytes is in cc (none, some))
+  go false p = rw (hex_again word bytes is) refl
+
+-- one of several words
+one_spelled : {X : Type 0} (text : X → List ℕ) (xs : List X) (word : List ℕ) (x : X) → one_of text xs word ≡ Some x → word ≡ text x
+one_spelled text [] word x e = absurd cc
+one_spelled {X} text (y ∷ xs) word x e = go (one_spelled text xs word x) (bytes_eq word (text y)) refl e where
+  go : (one_of text xs word ≡ Some x → word ≡ text x) → (b : Bool) → bytes_eq word (text y) ≡ b → cond b (Some y) (one_of text xs word) ≡ Some x → word ≡ text x
+  go next true p e' = let is : y ≡ x = cc in equal word (text y) p ∙ ap text is
+  go next false p e' = next e'
+
+pub codec_spelled : (word : List ℕ) (codec : Codec) → codec_of word ≡ Some codec → word ≡ codec_text codec
+unfolding codec_of
+codec_spelled word codec e = one_spelled codec_text codecs word codec e
+
+pub codec_again : (codec : Codec) → codec_of (codec_text codec) ≡ Some codec
+unfolding codec_of
+codec_again Opus = refl
+codec_again Pcmu = refl
+codec_again Pcma = refl
+codec_again Telephone = refl
+codec_again Vp8 = refl
+codec_again Vp9 = refl
+codec_again H264 = refl
+codec_again H265 = refl
+codec_again H266 = refl
+codec_again Av1 = refl
+
+pub media_kind_spelled : (word : List ℕ) (kind : MediaKind) → media_kind_of word ≡ Some kind → word ≡ media_kind_text kind
+unfolding media_kind_of
+media_kind_spelled word kind e = one_spelled media_kind_text (Audio ∷ Video ∷ []) word kind e
+
+pub media_kind_again : (kind : MediaKind) → media_kind_of (media_kind_text kind) ≡ Some kind
+unfolding media_kind_of
+media_kind_again Audio = refl
+media_kind_again Video = refl
+
+pub rate_spelled : (word : List ℕ) (rate : ℕ) → rate_of word ≡ Some rate → (word ≡ decimal rate) × (0 < rate) × (rate < 2 ^ 32)
+unfolding rate_of
+rate_spelled word rate e =
+    let a = bind_some (narrow_of (2 ^ 32) word) (λ n. cond (eqb n 0) None (Some n)) rate e in
+    let n = narrow_spelled (2 ^ 32) word a.0 a.1 in
+    go a.0 (eqb a.0 0) refl a.2 n where
+      go : (n : ℕ) (b : Bool) → eqb n 0 ≡ b → cond b None (Some n) ≡ Some rate → (word ≡ decimal n) × (n < 2 ^ 32) → (word ≡ decimal rate) × (0 < rate) × (rate < 2 ^ 32)
+      go n true p e' is = absurd cc
+      go n false p e' is =
+          let same : n ≡ rate = cc in
+          let some : 0 < n = grind (arith, nat_tests) in
+          (is.0 ∙ ap decimal same, omega (arith, same), omega (arith, same, is.1))
+
+pub rate_again : (rate : ℕ) → 0 < rate → rate < 2 ^ 32 → rate_of (decimal rate) ≡ Some rate
+unfolding rate_of
+rate_again rate some small =
+    let not_zero : eqb rate 0 ≡ false = grind (arith, nat_tests) in
+    rw (narrow_again (2 ^ 32) rate (lit≤ tt) small, not_zero) refl
+
+-- names
+pub name_spelled : (most : ℕ) (word name : List ℕ) → name_of most word ≡ Some name → (word ≡ name) × IsName most name
+unfolding name_of
+name_spelled most word name e =
+    let a = if_some (is_name most word) word name e in
+    (a.1, subst (IsName most) a.1 (parts (eqb (length word) 0) (leb (length word) most) (list_all is_ascii_alphanumeric word) refl refl refl a.0)) where
+      parts : (a b c : Bool) → eqb (length word) 0 ≡ a → leb (length word) most ≡ b → list_all is_ascii_alphanumeric word ≡ c → (not a && (b && c)) ≡ true → IsName most word
+      parts false true true p q r e' = record { some = grind (arith, nat_tests); few = grind (arith, nat_tests); plain = AllPass-from_list_all is_ascii_alphanumeric word r }
+      parts true b c p q r e' = absurd cc
+      parts false false c p q r e' = absurd cc
+      parts false true false p q r e' = absurd cc
+
+pub name_again : (most : ℕ) (name : List ℕ) → IsName most name → name_of most name ≡ Some name
+unfolding name_of
+name_again most name is =
+    let p : eqb (length name) 0 ≡ false = grind (arith, nat_tests, is.some) in
+    let q : leb (length name) most ≡ true = grind (arith, nat_tests, is.few) in
+    rw (p, q, list_all-from_AllPass is_ascii_alphanumeric name is.plain) refl
+
+-- a word, or - for none
+module _ {X : Type 0} (read : List ℕ → Option X) (Spells : List ℕ → X → Type 0) where
+  pub optional_spelled : ((word : List ℕ) (x : X) → read word ≡ Some x → Spells word x) → (word : List ℕ) (o : Option X) → optional read word ≡ Some o → IsOptional Spells word o
+  unfolding optional
+  optional_spelled one word o e = go (bytes_eq word (codes "-")) refl e where
+    go : (b : Bool) → bytes_eq word (codes "-") ≡ b → cond b (Some None) (read word >>= λ x. Some (Some x)) ≡ Some o → IsOptional Spells word o
+    go true p e' = let is : None ≡ o = cc in subst (IsOptional Spells word) is (equal word (codes "-") p)
+    go false p e' =
+        let a = bind_some (read word) (λ x. Some (Some x)) o e' in
+        let is : Some a.0 ≡ o = cc in
+        subst (IsOptional Spells word) is (one word a.0 a.1)
+
+  pub optional_again : read (codes "-") ≡ None → ((word : List ℕ) (x : X) → Spells word x → read word ≡ Some x) → (word : List ℕ) (o : Option X) → IsOptional Spells word o → optional read word ≡ Some o
+  unfolding optional
+  optional_again none one word None is = ap (optional read) is ∙ refl
+  optional_again none one word (Some x) is = go (bytes_eq word (codes "-")) refl where
+    go : (b : Bool) → bytes_eq word (codes "-") ≡ b → cond b (Some None) (read word >>= λ y. Some (Some y)) ≡ Some (Some x)
+    go true p = absurd (let no = ap read (equal word (codes "-") p) ∙ none in let yes = one word x is in cc (no, yes))
+    go false p = rw (one word x is) refl
+
+dash_no_number : narrow_of (2 ^ 32) (codes "-") ≡ None
+unfolding narrow_of number_of
+dash_no_number = refl
+
+dash_no_name : name_of 16 (codes "-") ≡ None
+unfolding name_of
+dash_no_name = refl
+
+pub rtx_spelled : (word : List ℕ) (rtx : Option ℕ) → optional (narrow_of (2 ^ 32)) word ≡ Some rtx → IsOptional IsSsrc word rtx
+rtx_spelled = optional_spelled (narrow_of (2 ^ 32)) IsSsrc (λ word n e. narrow_spelled (2 ^ 32) word n e)
+
+pub rtx_again : (word : List ℕ) (rtx : Option ℕ) → IsOptional IsSsrc word rtx → optional (narrow_of (2 ^ 32)) word ≡ Some rtx
+rtx_again = optional_again (narrow_of (2 ^ 32)) IsSsrc dash_no_number (λ word n is. ap (narrow_of (2 ^ 32)) is.0 ∙ narrow_again (2 ^ 32) n (lit≤ tt) is.1)
+
+pub rid_spelled : (word : List ℕ) (rid : Option (List ℕ)) → optional (name_of 16) word ≡ Some rid → IsOptional IsNamed word rid
+rid_spelled = optional_spelled (name_of 16) IsNamed (λ word name e. name_spelled 16 word name e)
+
+pub rid_again : (word : List ℕ) (rid : Option (List ℕ)) → IsOptional IsNamed word rid → optional (name_of 16) word ≡ Some rid
+rid_again = optional_again (name_of 16) IsNamed dash_no_name (λ word name is. ap (name_of 16) is.0 ∙ name_again 16 name is.1)

@@ -1,9 +1,17 @@
--- The words for a side, a kind and a flag.
+-- The words for what a script names.
 use Rattle.std.specs.Prelude.{ℕ, List, codes, Bool, true, false}
+use Rattle.srtp_core.specs.declared.profile.SrtpProfile.{SrtpProfile}
+use Rattle.srtp_core.specs.declared.profile.SrtpProfile.TheVariants.{Aes128CmSha1_80, AeadAes128Gcm, AeadAes256Gcm}
 use Rattle.media_script.specs.declared.entry.Side.{Side}
 use Rattle.media_script.specs.declared.entry.Side.TheVariants.{A, B}
 use Rattle.media_script.specs.declared.entry.Kind.{Kind}
 use Rattle.media_script.specs.declared.entry.Kind.TheVariants.{Rtp, Rtcp}
+use Rattle.media_script.specs.declared.setup.CipherName.{CipherName}
+use Rattle.media_script.specs.declared.setup.CipherName.TheVariants.{Toy}
+use Rattle.media_script.specs.declared.setup.Codec.{Codec}
+use Rattle.media_script.specs.declared.setup.Codec.TheVariants.{Opus, Pcmu, Pcma, Telephone, Vp8, Vp9, H264, H265, H266, Av1}
+use Rattle.media_script.specs.declared.setup.MediaKind.{MediaKind}
+use Rattle.media_script.specs.declared.setup.MediaKind.TheVariants.{Audio, Video}
 
 abbrev pub side_text : Side → List ℕ
 side_text A = codes "A"
@@ -16,3 +24,27 @@ kind_text Rtcp = codes "rtcp"
 abbrev pub flag_text : Bool → List ℕ
 flag_text false = codes "0"
 flag_text true = codes "1"
+
+abbrev pub cipher_text : CipherName → List ℕ
+cipher_text Toy = codes "toy"
+
+abbrev pub profile_text : SrtpProfile → List ℕ
+profile_text Aes128CmSha1_80 = codes "cm"
+profile_text AeadAes128Gcm = codes "gcm128"
+profile_text AeadAes256Gcm = codes "gcm256"
+
+abbrev pub codec_text : Codec → List ℕ
+codec_text Opus = codes "opus"
+codec_text Pcmu = codes "pcmu"
+codec_text Pcma = codes "pcma"
+codec_text Telephone = codes "telephone"
+codec_text Vp8 = codes "vp8"
+codec_text Vp9 = codes "vp9"
+codec_text H264 = codes "h264"
+codec_text H265 = codes "h265"
+codec_text H266 = codes "h266"
+codec_text Av1 = codes "av1"
+
+abbrev pub media_kind_text : MediaKind → List ℕ
+media_kind_text Audio = codes "audio"
+media_kind_text Video = codes "video"

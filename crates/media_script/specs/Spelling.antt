@@ -1,13 +1,20 @@
 -- The grammar of scripts: which bytes spell which setup and steps.
-use Rattle.std.specs.Prelude.{◌≡◌, ◌≢◌, ◌⊎◌, ℕ, ◌*◌, ◌^◌, ◌<◌, List, [], ◌∷◌, ◌++◌, length, slice_index, Bool, not, ◌==◌, ◌||◌, filter, Ok, codes, All}
+use Rattle.std.specs.Prelude.{◌≡◌, ◌≢◌, ◌⊎◌, ℕ, ◌*◌, ◌^◌, ◌<◌, ◌≤◌, List, [], ◌∷◌, ◌++◌, length, slice_index, Bool, not, ◌==◌, ◌||◌, filter, Option, Some, None, Ok, codes, All}
+use Rattle.std.specs.Char.{is_ascii_alphanumeric}
 use Rattle.std.specs.Fmt.{decimal}
-use Rattle.std.specs.List.{slice_split, flat_map, AllByRecursion}
+use Rattle.std.specs.List.{slice_split, flat_map, AllByRecursion, AllPass}
 use Rattle.hex.specs.Hex.{decode_of}
+use Rattle.srtp_core.specs.declared.profile.SrtpProfile.TheVariants.{AeadAes128Gcm}
+use Rattle.media_script.specs.declared.entry.Kind.TheVariants.{Rtp}
 use Rattle.media_script.specs.declared.entry.Write.{Write}
+use Rattle.media_script.specs.declared.setup.Key.{Key}
+use Rattle.media_script.specs.declared.setup.Key.TheVariants.{Zero, Given}
 use Rattle.media_script.specs.declared.setup.Setup.{Setup}
+use Rattle.media_script.specs.declared.setup_line.SetupLine.{SetupLine}
+use Rattle.media_script.specs.declared.setup_line.SetupLine.TheVariants as line
 use Rattle.media_script.specs.declared.step.Step.{Step}
 use Rattle.media_script.specs.declared.step.Step.TheVariants as step
-use Rattle.media_script.specs.Names.{side_text, flag_text}
+use Rattle.media_script.specs.Names.{side_text, kind_text, flag_text, cipher_text, profile_text, codec_text, media_kind_text}
 use Rattle.media_script.specs.SetupLines.{IsSetup}
 
 -- a time in nanoseconds, or in milliseconds with ms behind it
@@ -18,6 +25,41 @@ pub record IsTime (word : List ℕ) (time : ℕ) : Type 0 where
 -- hex digits in either case, or - for none
 abbrev pub IsHex : List ℕ → List ℕ → Type 0
 IsHex word bytes = ((word ≡ codes "-") × (bytes ≡ [])) ⊎ ((0 < length word) × (decode_of word ≡ Ok bytes))
+
+-- 1 to so many ASCII letters and digits
+pub record IsName (most : ℕ) (word : List ℕ) : Type 0 where
+  pub some : 0 < length word
+  pub few : length word ≤ most
+  pub plain : AllPass is_ascii_alphanumeric word
+
+-- the keying material, or zero for as many zeros as the profile asks for
+abbrev pub IsKey : List ℕ → Key → Type 0
+IsKey word Zero = word ≡ codes "zero"
+IsKey word (Given bytes) = IsHex word bytes
+
+-- a word, or - for none
+abbrev pub IsOptional : {X : Type 0} → (List ℕ → X → Type 0) → List ℕ → Option X → Type 0
+IsOptional Spells word None = word ≡ codes "-"
+IsOptional Spells word (Some x) = Spells word x
+
+abbrev pub IsSsrc : List ℕ → ℕ → Type 0
+IsSsrc word ssrc = (word ≡ decimal ssrc) × (ssrc < 2 ^ 32)
+
+abbrev pub IsNamed : List ℕ → List ℕ → Type 0
+IsNamed word rid = (word ≡ rid) × IsName 16 rid
+
+-- the words of a setup line
+abbrev pub IsSetupLine : List (List ℕ) → SetupLine → Type 0
+IsSetupLine words (line.Cipher cipher) = words ≡ codes "cipher" ∷ cipher_text cipher ∷ []
+IsSetupLine words (line.Profile profile) = (profile ≡ AeadAes128Gcm) × (words ≡ codes "profile" ∷ profile_text profile ∷ [])
+IsSetupLine words (line.Key key) = (k : List ℕ) × IsKey k key × (words ≡ codes "key" ∷ k ∷ [])
+IsSetupLine words (line.Type t) =
+    (t.pt < 2 ^ 8) × (0 < t.rate) × (t.rate < 2 ^ 32) × (words ≡ codes "type" ∷ decimal t.pt ∷ codec_text t.codec ∷ decimal t.rate ∷ [])
+IsSetupLine words (line.Media mid kind cname) =
+    IsName 16 mid × IsName 255 cname × (words ≡ codes "media" ∷ mid ∷ media_kind_text kind ∷ cname ∷ [])
+IsSetupLine words (line.Stream mid stream) =
+    (rtx : List ℕ) × (rid : List ℕ) × IsName 16 mid × (stream.ssrc < 2 ^ 32) × IsOptional IsSsrc rtx stream.rtx × IsOptional IsNamed rid stream.rid
+    × (words ≡ codes "stream" ∷ side_text stream.side ∷ mid ∷ decimal stream.ssrc ∷ rtx ∷ rid ∷ [])
 
 -- the numbers of a packet are within their types
 pub record Fits (w : Write) : Type 0 where
@@ -35,7 +77,9 @@ IsStep words (step.Write side time w) =
     (t : List ℕ) × (h : List ℕ) × IsTime t time × IsHex h w.payload × Fits w
     × (words ≡ codes "write" ∷ side_text side ∷ t ∷ decimal w.ssrc ∷ decimal w.number ∷ decimal w.pt ∷ decimal w.rtp_time
     ∷ flag_text w.marker ∷ flag_text w.nackable ∷ h ∷ [])
-IsStep words (step.Foreign side time kind bytes) = ⊥
+IsStep words (step.Foreign side time kind bytes) =
+    (t : List ℕ) × (h : List ℕ) × IsTime t time × IsHex h bytes × (kind ≡ Rtp)
+    × (words ≡ codes "foreign" ∷ side_text side ∷ t ∷ kind_text kind ∷ h ∷ [])
 
 -- one space stands between two words
 abbrev pub words_of : List ℕ → List (List ℕ)
@@ -48,6 +92,13 @@ AreSteps [] (s ∷ steps) = ⊥
 AreSteps (line ∷ lines) [] = ⊥
 AreSteps (line ∷ lines) (s ∷ steps) = IsStep (words_of line) s × AreSteps lines steps
 
+-- what the setup lines say, line by line
+abbrev pub AreSetupLines : List (List ℕ) → List SetupLine → Type 0
+AreSetupLines [] [] = Unit {0}
+AreSetupLines [] (s ∷ said) = ⊥
+AreSetupLines (line ∷ lines) [] = ⊥
+AreSetupLines (line ∷ lines) (s ∷ said) = IsSetupLine (words_of line) s × AreSetupLines lines said
+
 -- an empty line, and one that begins with #
 abbrev pub is_passed_over : List ℕ → Bool
 is_passed_over line = (length line == 0) || (slice_index line 0 == 35)
@@ -55,9 +106,11 @@ is_passed_over line = (length line == 0) || (slice_index line 0 == 35)
 -- the first line, the setup, and the steps
 pub record AreParts (lines : List (List ℕ)) (setup : Setup) (steps : List Step) : Type 0 where
   pub setup_lines : List (List ℕ)
+  pub said : List SetupLine
   pub step_lines : List (List ℕ)
   pub parts : lines ≡ codes "str0m-media 1" ∷ (setup_lines ++ (codes "begin" ∷ (step_lines ++ (codes "end" ∷ []))))
-  pub setup_is : IsSetup setup_lines setup
+  pub lines_are : AreSetupLines setup_lines said
+  pub setup_is : IsSetup said setup
   pub steps_are : AreSteps step_lines steps
 
 -- each line ends with a line feed; empty lines and lines that begin with # are passed over

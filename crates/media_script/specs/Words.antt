@@ -1,12 +1,26 @@
 -- What the words of a line say.
-use Rattle.std.specs.Prelude.{ℕ, ◌-◌, ◌*◌, ◌^◌, List, [], ◌∷◌, length, take, Bool, true, false, not, ◌&&◌, ◌==◌, nat_lt, nat_eq, if◌then◌else◌, Option, Some, None, codes}
-use Rattle.std.specs.List.{ends_with}
+use Rattle.std.specs.Prelude.{ℕ, ◌-◌, ◌*◌, ◌^◌, List, [], ◌∷◌, length, take, Bool, true, false, not, ◌&&◌, ◌==◌, nat_lt, nat_le, nat_eq, if◌then◌else◌, Option, Some, None, codes}
+use Rattle.std.specs.Char.{is_ascii_alphanumeric}
+use Rattle.std.specs.List.{ends_with, list_all}
 use Rattle.std.specs.Str.{all_ascii_digits, bytes_eq}
 use Rattle.std.specs.Str.Parse.{digits_value}
 use Rattle.std.specs.Result.{result_ok}
 use Rattle.hex.specs.Hex.{decode_of}
+use Rattle.srtp_core.specs.declared.profile.SrtpProfile.{SrtpProfile}
+use Rattle.srtp_core.specs.declared.profile.SrtpProfile.TheVariants.{AeadAes128Gcm}
 use Rattle.media_script.specs.declared.entry.Side.{Side}
 use Rattle.media_script.specs.declared.entry.Side.TheVariants.{A, B}
+use Rattle.media_script.specs.declared.entry.Kind.{Kind}
+use Rattle.media_script.specs.declared.entry.Kind.TheVariants.{Rtp}
+use Rattle.media_script.specs.declared.setup.CipherName.{CipherName}
+use Rattle.media_script.specs.declared.setup.CipherName.TheVariants.{Toy}
+use Rattle.media_script.specs.declared.setup.Codec.{Codec}
+use Rattle.media_script.specs.declared.setup.Codec.TheVariants.{Opus, Pcmu, Pcma, Telephone, Vp8, Vp9, H264, H265, H266, Av1}
+use Rattle.media_script.specs.declared.setup.Key.{Key}
+use Rattle.media_script.specs.declared.setup.Key.TheVariants.{Zero, Given}
+use Rattle.media_script.specs.declared.setup.MediaKind.{MediaKind}
+use Rattle.media_script.specs.declared.setup.MediaKind.TheVariants.{Audio, Video}
+use Rattle.media_script.specs.Names.{codec_text, media_kind_text}
 
 infixl 10 ◌>>=◌
 abbrev pub ◌>>=◌ : {A B : Type 0} → Option A → (A → Option B) → Option B
@@ -55,3 +69,49 @@ unfoldable pub hex_of : List ℕ → Option (List ℕ)
 hex_of word =
     if bytes_eq word (codes "-") then Some []
     else (if length word == 0 then None else result_ok (decode_of word))
+
+-- the kinds of datagrams that a script may hand in
+unfoldable pub kind_of : List ℕ → Option Kind
+kind_of word = if bytes_eq word (codes "rtp") then Some Rtp else None
+
+unfoldable pub cipher_of : List ℕ → Option CipherName
+cipher_of word = if bytes_eq word (codes "toy") then Some Toy else None
+
+unfoldable pub profile_of : List ℕ → Option SrtpProfile
+profile_of word = if bytes_eq word (codes "gcm128") then Some AeadAes128Gcm else None
+
+unfoldable pub key_of : List ℕ → Option Key
+key_of word =
+    if bytes_eq word (codes "zero") then Some Zero
+    else (hex_of word >>= λ bytes. Some (Given bytes))
+
+-- the first of these whose text the word is
+abbrev pub one_of : {X : Type 0} → (X → List ℕ) → List X → List ℕ → Option X
+one_of text [] word = None
+one_of text (x ∷ xs) word = if bytes_eq word (text x) then Some x else one_of text xs word
+
+abbrev pub codecs : List Codec
+codecs = Opus ∷ Pcmu ∷ Pcma ∷ Telephone ∷ Vp8 ∷ Vp9 ∷ H264 ∷ H265 ∷ H266 ∷ Av1 ∷ []
+
+unfoldable pub codec_of : List ℕ → Option Codec
+codec_of word = one_of codec_text codecs word
+
+unfoldable pub media_kind_of : List ℕ → Option MediaKind
+media_kind_of word = one_of media_kind_text (Audio ∷ Video ∷ []) word
+
+-- units of RTP time in a second
+unfoldable pub rate_of : List ℕ → Option ℕ
+rate_of word = do
+  n ← narrow_of (2 ^ 32) word
+  if n == 0 then None else Some n
+
+-- 1 to so many ASCII letters and digits
+abbrev pub is_name : ℕ → List ℕ → Bool
+is_name most word = not (length word == 0) && (nat_le (length word) most && list_all is_ascii_alphanumeric word)
+
+unfoldable pub name_of : ℕ → List ℕ → Option (List ℕ)
+name_of most word = if is_name most word then Some word else None
+
+-- a word, or - for none
+unfoldable pub optional : {X : Type 0} → (List ℕ → Option X) → List ℕ → Option (Option X)
+optional read word = if bytes_eq word (codes "-") then Some None else (read word >>= λ x. Some (Some x))

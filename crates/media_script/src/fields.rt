@@ -1,11 +1,18 @@
 // What the words of a line say.
-ghost use Rattle.std.specs.Prelude.{◌≡◌, ◌^◌};
-ghost use Rattle.media_script.specs.Words.{plain_front, number_of, narrow_of, time_of, side_of, flag_of, hex_of};
+ghost use Rattle.std.specs.Prelude.{◌≡◌, ◌^◌, IsTrue, IfOk};
+ghost use Rattle.std.specs.Option.{ForSome, option_copied};
+ghost use Rattle.std.specs.Char.{is_ascii_alphanumeric};
+ghost use Rattle.std.specs.List.{list_all};
+ghost use Rattle.media_script.specs.Words.{plain_front, number_of, narrow_of, time_of, side_of, flag_of, hex_of, kind_of, cipher_of, profile_of, key_of, codec_of, media_kind_of, rate_of, is_name, name_of, optional};
 ghost use Rattle.media_script.specs.Gives.{Gives};
 
-use crate::entry::Side;
+use crate::entry::{Kind, Side};
 use crate::error::LineError;
+use crate::setup::{CipherName, Codec, Key, MediaKind};
 use hex::FromHexError;
+use media_base::Bytes;
+use rtp_wire::{Mid, Rid};
+use srtp_core::SrtpProfile;
 use std::alloc::Global;
 
 fn has_plain_front(word: &[u8]) -> bool
@@ -122,4 +129,172 @@ pub fn hex(alloc: Global, word: &[u8]) -> Result<Vec<u8>, LineError>
         Err(FromHexError::OutOfMemory) => Err(LineError::Memory),
         Err(_) => Err(LineError::Outside),
     }
+}
+
+#[tactic(auto, unfolding(crate::specs::Words::kind_of))]
+pub fn kind(word: &[u8]) -> Result<Kind, LineError>
+    ensures { Gives (λ k. k) result (kind_of word.now) }
+{
+    if word == b"rtp".as_slice() {
+        Ok(Kind::Rtp)
+    } else {
+        Err(LineError::Outside)
+    }
+}
+
+#[tactic(auto, unfolding(crate::specs::Words::cipher_of))]
+pub fn cipher(word: &[u8]) -> Result<CipherName, LineError>
+    ensures { Gives (λ c. c) result (cipher_of word.now) }
+{
+    if word == b"toy".as_slice() {
+        Ok(CipherName::Toy)
+    } else {
+        Err(LineError::Outside)
+    }
+}
+
+#[tactic(auto, unfolding(crate::specs::Words::profile_of))]
+pub fn profile(word: &[u8]) -> Result<SrtpProfile, LineError>
+    ensures { Gives (λ p. p) result (profile_of word.now) }
+{
+    if word == b"gcm128".as_slice() {
+        Ok(SrtpProfile::AeadAes128Gcm)
+    } else {
+        Err(LineError::Outside)
+    }
+}
+
+#[tactic(auto, unfolding(crate::specs::Words::key_of))]
+pub fn key(alloc: Global, word: &[u8]) -> Result<Key, LineError>
+    ensures { Gives (λ k. k) result (key_of word.now) }
+{
+    if word == b"zero".as_slice() {
+        return Ok(Key::Zero);
+    }
+    let bytes = hex(alloc, word)?;
+    Ok(Key::Given(Bytes::from_vec(bytes)))
+}
+
+#[tactic(auto, unfolding(crate::specs::Words::codec_of))]
+pub fn codec(word: &[u8]) -> Result<Codec, LineError>
+    ensures { Gives (λ c. c) result (codec_of word.now) }
+{
+    if word == b"opus".as_slice() {
+        Ok(Codec::Opus)
+    } else if word == b"pcmu".as_slice() {
+        Ok(Codec::Pcmu)
+    } else if word == b"pcma".as_slice() {
+        Ok(Codec::Pcma)
+    } else if word == b"telephone".as_slice() {
+        Ok(Codec::Telephone)
+    } else if word == b"vp8".as_slice() {
+        Ok(Codec::Vp8)
+    } else if word == b"vp9".as_slice() {
+        Ok(Codec::Vp9)
+    } else if word == b"h264".as_slice() {
+        Ok(Codec::H264)
+    } else if word == b"h265".as_slice() {
+        Ok(Codec::H265)
+    } else if word == b"h266".as_slice() {
+        Ok(Codec::H266)
+    } else if word == b"av1".as_slice() {
+        Ok(Codec::Av1)
+    } else {
+        Err(LineError::Outside)
+    }
+}
+
+#[tactic(auto, unfolding(crate::specs::Words::media_kind_of))]
+pub fn media_kind(word: &[u8]) -> Result<MediaKind, LineError>
+    ensures { Gives (λ k. k) result (media_kind_of word.now) }
+{
+    if word == b"audio".as_slice() {
+        Ok(MediaKind::Audio)
+    } else if word == b"video".as_slice() {
+        Ok(MediaKind::Video)
+    } else {
+        Err(LineError::Outside)
+    }
+}
+
+// Units of RTP time in a second.
+#[tactic(auto, unfolding(crate::specs::Words::rate_of))]
+pub fn rate(word: &[u8]) -> Result<u32, LineError>
+    ensures { Gives (λ n. n) result (rate_of word.now) }
+{
+    let n = number_32(word)?;
+    if n == 0 {
+        return Err(LineError::Outside);
+    }
+    Ok(n)
+}
+
+// 1 to so many ASCII letters and digits.
+fn is_name(word: &[u8], most: usize) -> bool
+    ensures { result ≡ is_name most word.now }
+{
+    !word.is_empty() && word.len() <= most && is_plain(word)
+}
+
+fn is_plain(word: &[u8]) -> bool
+    ensures { result ≡ list_all is_ascii_alphanumeric word.now }
+{
+    word.iter().all(|b| b.is_ascii_alphanumeric())
+}
+
+// The word, if it is a name of 1 to so many ASCII letters and digits.
+#[tactic(auto, unfolding(crate::specs::Words::name_of))]
+pub fn name(word: &[u8], most: usize) -> Result<&[u8], LineError>
+    ensures value { Gives (λ n. n.now) result (name_of most word.now) }
+    ensures name { IfOk result (λ n. IsTrue (is_name most n.now)) }
+{
+    if !is_name(word, most) {
+        return Err(LineError::Outside);
+    }
+    Ok(word)
+}
+
+#[tactic(auto, using(crate::proofs::Names::is_wire_name))]
+pub fn mid(name: &[u8]) -> Mid
+    requires { IsTrue (is_name 16 name.now) }
+    ensures { result ≡ name.now }
+{
+    match Mid::from_slice(name) {
+        Some(mid) => mid,
+        None => unreachable!(),
+    }
+}
+
+#[tactic(auto, using(crate::proofs::Names::is_wire_name))]
+pub fn rid(name: Option<&[u8]>) -> Option<Rid>
+    requires { ForSome name (λ n. IsTrue (is_name 16 n.now)) }
+    ensures { result ≡ option_copied name.entry }
+{
+    match name {
+        Some(name) => Rid::from_slice(name),
+        None => None,
+    }
+}
+
+// A number of 32 bits, or - for none.
+#[tactic(auto, unfolding(crate::specs::Words::optional))]
+pub fn optional_32(word: &[u8]) -> Result<Option<u32>, LineError>
+    ensures { Gives (λ n. n) result (optional (narrow_of (2 ^ 32)) word.now) }
+{
+    if word == b"-".as_slice() {
+        return Ok(None);
+    }
+    Ok(Some(number_32(word)?))
+}
+
+// A name of 1 to 16 ASCII letters and digits, or - for none.
+#[tactic(auto, unfolding(crate::specs::Words::optional))]
+pub fn optional_name(word: &[u8]) -> Result<Option<&[u8]>, LineError>
+    ensures value { Gives (λ n. option_copied n) result (optional (name_of 16) word.now) }
+    ensures name { IfOk result (λ n. ForSome n (λ n. IsTrue (is_name 16 n.now))) }
+{
+    if word == b"-".as_slice() {
+        return Ok(None);
+    }
+    Ok(Some(name(word, 16)?))
 }

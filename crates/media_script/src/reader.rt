@@ -10,6 +10,7 @@ use crate::draft::Draft;
 use crate::error::{LineError, ScriptError};
 use crate::lines::{first_line, is_passed_over};
 use crate::setup::Setup;
+use crate::setup_lines::setup_line;
 use crate::step::Step;
 use crate::steps::step;
 use media_base::Listed;
@@ -20,8 +21,8 @@ use std::alloc::Global;
 pub enum Reader {
     Head,
     InSetup(Draft),
-    InSteps(Setup, Listed<Step>),
-    Ended(Setup, Listed<Step>),
+    InSteps(Draft, Listed<Step>),
+    Ended(Draft, Listed<Step>),
 }
 
 impl Reader {
@@ -44,20 +45,21 @@ impl Reader {
                 if line != b"str0m-media 1".as_slice() {
                     return Err(LineError::Outside);
                 }
-                Ok(Reader::InSetup(Draft::ForKey))
+                Ok(Reader::InSetup(Draft::new(alloc)))
             }
             Reader::InSetup(draft) => {
                 if line == b"begin".as_slice() {
-                    return Ok(Reader::InSteps(draft.finish(alloc)?, Listed::new(alloc)));
+                    return Ok(Reader::InSteps(draft, Listed::new(alloc)));
                 }
-                Ok(Reader::InSetup(draft.take_line(line)?))
+                let said = setup_line(alloc, line)?;
+                Ok(Reader::InSetup(draft.with_line(alloc, said)?))
             }
-            Reader::InSteps(setup, mut steps) => {
+            Reader::InSteps(draft, mut steps) => {
                 if line == b"end".as_slice() {
-                    return Ok(Reader::Ended(setup, steps));
+                    return Ok(Reader::Ended(draft, steps));
                 }
                 steps.push(step(alloc, line)?)?;
-                Ok(Reader::InSteps(setup, steps))
+                Ok(Reader::InSteps(draft, steps))
             }
             Reader::Ended(_, _) => Err(LineError::Outside),
         }
@@ -69,7 +71,10 @@ impl Reader {
         ensures { GivesScript (λ x. (x.0, x.1.items)) result (whole_of line self) }
     {
         match self {
-            Reader::Ended(setup, steps) => Ok((setup, steps.into_vec())),
+            Reader::Ended(draft, steps) => match draft.finish() {
+                Some(setup) => Ok((setup, steps.into_vec())),
+                None => Err(ScriptError::Syntax(line)),
+            },
             _ => Err(ScriptError::Syntax(line)),
         }
     }

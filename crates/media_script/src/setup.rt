@@ -56,7 +56,7 @@ pub enum MediaKind {
 }
 
 /// A stream of packets, sent by one side and received by the other.
-#[derive(Debug, PartialEq, Eq, Drop)]
+#[derive(Clone, Copy, Debug, PartialEq, Eq)]
 pub struct Stream {
     /// The side that sends it.
     pub side: Side,

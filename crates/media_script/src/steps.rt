@@ -1,90 +1,19 @@
 // The words of a step.
-ghost use Rattle.std.specs.Prelude.{◌≡◌, ◌^◌};
-ghost use Rattle.media_script.specs.Words.{number_of, narrow_of, time_of, side_of, flag_of, hex_of};
-ghost use Rattle.media_script.specs.Grammar.{texts, field, ended, tick_of, deliver_of, write_of, step_of};
+ghost use Rattle.std.specs.Prelude.{◌≡◌};
+ghost use Rattle.media_script.specs.Grammar.{texts, tick_of, deliver_of, write_of, foreign_of, step_of};
 ghost use Rattle.media_script.specs.Spelling.{words_of};
 ghost use Rattle.media_script.specs.Gives.{Gives};
 
-use crate::entry::{Side, Write};
+use crate::entry::Write;
 use crate::error::LineError;
-use crate::fields::{flag, hex, number, number_8, number_32, side, time};
+use crate::left::{
+    end, flag_at, hex_at, kind_at, number_8_at, number_32_at, number_at, side_at, time_at,
+};
 use crate::lines::words;
 use crate::step::Step;
 use media_base::{Bytes, Instant};
 use rtp_wire::{Pt, SeqNo, Ssrc};
 use std::alloc::Global;
-
-fn side_at<'a>(words: &'a [&'a [u8]]) -> Result<(Side, &'a [&'a [u8]]), LineError>
-    ensures { Gives (λ x. (x.0, texts x.1.now)) result (field side_of (texts words.now)) }
-{
-    match words {
-        [word, rest @ ..] => Ok((side(word)?, rest)),
-        [] => Err(LineError::Outside),
-    }
-}
-
-fn time_at<'a>(words: &'a [&'a [u8]]) -> Result<(u64, &'a [&'a [u8]]), LineError>
-    ensures { Gives (λ x. (x.0, texts x.1.now)) result (field time_of (texts words.now)) }
-{
-    match words {
-        [word, rest @ ..] => Ok((time(word)?, rest)),
-        [] => Err(LineError::Outside),
-    }
-}
-
-fn number_at<'a>(words: &'a [&'a [u8]]) -> Result<(u64, &'a [&'a [u8]]), LineError>
-    ensures { Gives (λ x. (x.0, texts x.1.now)) result (field number_of (texts words.now)) }
-{
-    match words {
-        [word, rest @ ..] => Ok((number(word)?, rest)),
-        [] => Err(LineError::Outside),
-    }
-}
-
-fn number_32_at<'a>(words: &'a [&'a [u8]]) -> Result<(u32, &'a [&'a [u8]]), LineError>
-    ensures { Gives (λ x. (x.0, texts x.1.now)) result (field (narrow_of (2 ^ 32)) (texts words.now)) }
-{
-    match words {
-        [word, rest @ ..] => Ok((number_32(word)?, rest)),
-        [] => Err(LineError::Outside),
-    }
-}
-
-fn number_8_at<'a>(words: &'a [&'a [u8]]) -> Result<(u8, &'a [&'a [u8]]), LineError>
-    ensures { Gives (λ x. (x.0, texts x.1.now)) result (field (narrow_of (2 ^ 8)) (texts words.now)) }
-{
-    match words {
-        [word, rest @ ..] => Ok((number_8(word)?, rest)),
-        [] => Err(LineError::Outside),
-    }
-}
-
-fn flag_at<'a>(words: &'a [&'a [u8]]) -> Result<(bool, &'a [&'a [u8]]), LineError>
-    ensures { Gives (λ x. (x.0, texts x.1.now)) result (field flag_of (texts words.now)) }
-{
-    match words {
-        [word, rest @ ..] => Ok((flag(word)?, rest)),
-        [] => Err(LineError::Outside),
-    }
-}
-
-fn hex_at<'a>(alloc: Global, words: &'a [&'a [u8]]) -> Result<(Vec<u8>, &'a [&'a [u8]]), LineError>
-    ensures { Gives (λ x. (x.0.items, texts x.1.now)) result (field hex_of (texts words.now)) }
-{
-    match words {
-        [word, rest @ ..] => Ok((hex(alloc, word)?, rest)),
-        [] => Err(LineError::Outside),
-    }
-}
-
-fn end(words: &[&[u8]]) -> Result<(), LineError>
-    ensures { Gives (λ x. x) result (ended (texts words.now)) }
-{
-    match words {
-        [] => Ok(()),
-        _ => Err(LineError::Outside),
-    }
-}
 
 #[tactic(auto, unfolding(crate::specs::Grammar::tick_of))]
 fn tick(words: &[&[u8]]) -> Result<Step, LineError>
@@ -143,6 +72,23 @@ fn write(alloc: Global, words: &[&[u8]]) -> Result<Step, LineError>
     })
 }
 
+#[tactic(auto, unfolding(crate::specs::Grammar::foreign_of))]
+fn foreign(alloc: Global, words: &[&[u8]]) -> Result<Step, LineError>
+    ensures { Gives (λ s. s) result (foreign_of (texts words.now)) }
+{
+    let (side, rest) = side_at(words)?;
+    let (time, rest) = time_at(rest)?;
+    let (kind, rest) = kind_at(rest)?;
+    let (bytes, rest) = hex_at(alloc, rest)?;
+    end(rest)?;
+    Ok(Step::Foreign {
+        side,
+        time: Instant::from_nanos(time),
+        kind,
+        bytes: Bytes::from_vec(bytes),
+    })
+}
+
 #[tactic(auto, unfolding(crate::specs::Grammar::step_of))]
 fn step_in(alloc: Global, words: &[&[u8]]) -> Result<Step, LineError>
     ensures { Gives (λ s. s) result (step_of (texts words.now)) }
@@ -156,6 +102,8 @@ fn step_in(alloc: Global, words: &[&[u8]]) -> Result<Step, LineError>
                 tick(rest)
             } else if *kind == b"deliver".as_slice() {
                 deliver(rest)
+            } else if *kind == b"foreign".as_slice() {
+                foreign(alloc, rest)
             } else {
                 Err(LineError::Outside)
             }
