@@ -8,6 +8,7 @@ use Rattle.std.proofs.lemmas.List.Elements.{filter-append}
 use Rattle.std.proofs.lemmas.Bool.{and_parts, eqb-true, eq-eqb, false≢true, false_from_ne_true, not_from_true, not_from_false}
 use Rattle.rtp_wire.specs.declared.header.RtpHeader.{RtpHeader}
 use Rattle.media_script.specs.declared.entry.Side.{Side}
+use Rattle.media_script.specs.declared.entry.Kind.{Kind}
 use Rattle.media_script.specs.declared.entry.Kind.TheVariants.{Rtp}
 use Rattle.media_script.specs.declared.entry.Write.{Write as Writing}
 use Rattle.media_script.specs.declared.entry.Entry.{Entry}
@@ -48,11 +49,11 @@ sealed_numbers-ticked_other seal setup s r entries side time other =
     same_reading (sealed_number_on s r) entries (Ticked side time ∷ sealed_at_tick seal setup side entries)
     (ap (flat_map (sealed_number_on s r)) (sealed_at_tick-map seal setup side entries) ∙ no_numbers seal s side r other (to_seal setup side entries))
 
-pub sealed_numbers-got : {seal : Sealing} {setup : Setup} (s : Side) (r : ℕ) (entries : List Entry) (side : Side) (time : ℕ) (bytes : List ℕ) (brought : List Entry)
-    → Receives seal setup side entries bytes brought
-    → sealed_numbers s r (entries ++ Got side time Rtp bytes ∷ brought) ≡ sealed_numbers s r entries
-sealed_numbers-got s r entries side time bytes brought h =
-    same_reading (sealed_number_on s r) entries (Got side time Rtp bytes ∷ brought) (received_none (sealed_number_on s r) (λ s k r i p. refl) (λ s p. refl) h)
+pub sealed_numbers-got : {seal : Sealing} {setup : Setup} (s : Side) (r : ℕ) (entries : List Entry) (side : Side) (time : ℕ) (kind : Kind) (bytes : List ℕ) (brought : List Entry)
+    → Receives seal setup side entries kind bytes brought
+    → sealed_numbers s r (entries ++ Got side time kind bytes ∷ brought) ≡ sealed_numbers s r entries
+sealed_numbers-got s r entries side time kind bytes brought h =
+    same_reading (sealed_number_on s r) entries (Got side time kind bytes ∷ brought) (received_none (sealed_number_on s r) (λ s k r i p. refl) (λ s p. refl) h)
 
 -- what waits to be sealed
 
@@ -149,12 +150,12 @@ queued-ticked_other seal setup s r entries side time other =
     queued_same s r entries (entries ++ Ticked side time ∷ sealed_at_tick seal setup side entries)
     (sealed_numbers-ticked_other seal setup s r entries side time other) (writes_on-ticked seal setup s r entries side time)
 
-pub queued-got : {seal : Sealing} {setup : Setup} (s : Side) (r : ℕ) (entries : List Entry) (side : Side) (time : ℕ) (bytes : List ℕ) (brought : List Entry)
-    → Receives seal setup side entries bytes brought
-    → queued s r (entries ++ Got side time Rtp bytes ∷ brought) ≡ queued s r entries
-queued-got s r entries side time bytes brought h =
-    queued_same s r entries (entries ++ Got side time Rtp bytes ∷ brought)
-    (sealed_numbers-got s r entries side time bytes brought h) (writes_on-got s r entries side time bytes brought h)
+pub queued-got : {seal : Sealing} {setup : Setup} (s : Side) (r : ℕ) (entries : List Entry) (side : Side) (time : ℕ) (kind : Kind) (bytes : List ℕ) (brought : List Entry)
+    → Receives seal setup side entries kind bytes brought
+    → queued s r (entries ++ Got side time kind bytes ∷ brought) ≡ queued s r entries
+queued-got s r entries side time kind bytes brought h =
+    queued_same s r entries (entries ++ Got side time kind bytes ∷ brought)
+    (sealed_numbers-got s r entries side time kind bytes brought h) (writes_on-got s r entries side time kind bytes brought h)
 
 -- on what is no stream of its side there are no writes, and nothing waits
 pub writes_on-unknown : {seal : Sealing} {setup : Setup} {steps : List Step} {entries : List Entry} → Played seal setup steps entries
@@ -180,22 +181,22 @@ pub taken-ticked : (seal : Sealing) (setup : Setup) (s : Side) (r : ℕ) (entrie
 taken-ticked seal setup s r entries side time =
     same_reading (taken_on s r) entries (Ticked side time ∷ sealed_at_tick seal setup side entries) (tick_none seal setup side entries (taken_on s r) (λ s k r i p b. refl))
 
-pub taken-stays : (s : Side) (r : ℕ) (entries : List Entry) (side : Side) (time : ℕ) (bytes : List ℕ) → taken s r (entries ++ Got side time Rtp bytes ∷ []) ≡ taken s r entries
-taken-stays s r entries side time bytes = same_reading (taken_on s r) entries (Got side time Rtp bytes ∷ []) refl
+pub taken-stays : (s : Side) (r : ℕ) (entries : List Entry) (side : Side) (time : ℕ) (kind : Kind) (bytes : List ℕ) → taken s r (entries ++ Got side time kind bytes ∷ []) ≡ taken s r entries
+taken-stays s r entries side time kind bytes = same_reading (taken_on s r) entries (Got side time kind bytes ∷ []) refl
 
-pub taken-opens : (s : Side) (r : ℕ) (entries : List Entry) (side : Side) (time : ℕ) (bytes : List ℕ) (header : RtpHeader) (number : ℕ) (plain : List ℕ)
-    → taken s r (entries ++ Got side time Rtp bytes ∷ Opened side Rtp header.ssrc number plain ∷ yields side header number plain)
+pub taken-opens : (s : Side) (r : ℕ) (entries : List Entry) (side : Side) (time : ℕ) (kind : Kind) (bytes : List ℕ) (header : RtpHeader) (number : ℕ) (plain : List ℕ)
+    → taken s r (entries ++ Got side time kind bytes ∷ Opened side Rtp header.ssrc number plain ∷ yields side header number plain)
     ≡ taken s r entries ++ cond (same_side s side && (header.ssrc == r)) (number ∷ []) []
-taken-opens s r entries side time bytes header number plain =
-    flat_map-append (taken_on s r) entries (Got side time Rtp bytes ∷ Opened side Rtp header.ssrc number plain ∷ yields side header number plain)
+taken-opens s r entries side time kind bytes header number plain =
+    flat_map-append (taken_on s r) entries (Got side time kind bytes ∷ Opened side Rtp header.ssrc number plain ∷ yields side header number plain)
     ∙ ap (λ zs. taken s r entries ++ (cond (same_side s side && (header.ssrc == r)) (number ∷ []) [] ++ zs)) (yields_none (taken_on s r) (λ s p. refl) side header number plain)
     ∙ ap (λ zs. taken s r entries ++ zs) (append-nil (cond (same_side s side && (header.ssrc == r)) (number ∷ []) []))
 
-pub taken-opens_here : (entries : List Entry) (side : Side) (time : ℕ) (bytes : List ℕ) (header : RtpHeader) (number : ℕ) (plain : List ℕ)
-    → taken side header.ssrc (entries ++ Got side time Rtp bytes ∷ Opened side Rtp header.ssrc number plain ∷ yields side header number plain)
+pub taken-opens_here : (entries : List Entry) (side : Side) (time : ℕ) (kind : Kind) (bytes : List ℕ) (header : RtpHeader) (number : ℕ) (plain : List ℕ)
+    → taken side header.ssrc (entries ++ Got side time kind bytes ∷ Opened side Rtp header.ssrc number plain ∷ yields side header number plain)
     ≡ taken side header.ssrc entries ++ number ∷ []
-taken-opens_here entries side time bytes header number plain =
-    taken-opens side header.ssrc entries side time bytes header number plain
+taken-opens_here entries side time kind bytes header number plain =
+    taken-opens side header.ssrc entries side time kind bytes header number plain
     ∙ ap (λ b. taken side header.ssrc entries ++ cond b (number ∷ []) []) (same_stream side header.ssrc)
 
 -- the datagrams of a side
@@ -225,11 +226,11 @@ datagrams-ticked_other seal setup s entries side time other =
     same_reading (datagram_by s) entries (Ticked side time ∷ sealed_at_tick seal setup side entries)
     (ap (flat_map (datagram_by s)) (sealed_at_tick-map seal setup side entries) ∙ no_datagrams seal s side other (to_seal setup side entries))
 
-pub datagrams-got : {seal : Sealing} {setup : Setup} (s : Side) (entries : List Entry) (side : Side) (time : ℕ) (bytes : List ℕ) (brought : List Entry)
-    → Receives seal setup side entries bytes brought
-    → datagrams s (entries ++ Got side time Rtp bytes ∷ brought) ≡ datagrams s entries
-datagrams-got s entries side time bytes brought h =
-    same_reading (datagram_by s) entries (Got side time Rtp bytes ∷ brought) (received_none (datagram_by s) (λ s k r i p. refl) (λ s p. refl) h)
+pub datagrams-got : {seal : Sealing} {setup : Setup} (s : Side) (entries : List Entry) (side : Side) (time : ℕ) (kind : Kind) (bytes : List ℕ) (brought : List Entry)
+    → Receives seal setup side entries kind bytes brought
+    → datagrams s (entries ++ Got side time kind bytes ∷ brought) ≡ datagrams s entries
+datagrams-got s entries side time kind bytes brought h =
+    same_reading (datagram_by s) entries (Got side time kind bytes ∷ brought) (received_none (datagram_by s) (λ s k r i p. refl) (λ s p. refl) h)
 
 -- the last time
 
@@ -248,10 +249,10 @@ last_time-ticked seal setup entries side time =
     ∙ ap (λ ts. flat_map time_of entries ++ time ∷ ts) (tick_none seal setup side entries time_of (λ s k r i p b. refl)))
     ∙ latest-push (flat_map time_of entries) time
 
-pub last_time-got : {seal : Sealing} {setup : Setup} (entries : List Entry) (side : Side) (time : ℕ) (bytes : List ℕ) (brought : List Entry)
-    → Receives seal setup side entries bytes brought
-    → last_time (entries ++ Got side time Rtp bytes ∷ brought) ≡ time
-last_time-got entries side time bytes brought h =
-    ap latest (flat_map-append time_of entries (Got side time Rtp bytes ∷ brought)
+pub last_time-got : {seal : Sealing} {setup : Setup} (entries : List Entry) (side : Side) (time : ℕ) (kind : Kind) (bytes : List ℕ) (brought : List Entry)
+    → Receives seal setup side entries kind bytes brought
+    → last_time (entries ++ Got side time kind bytes ∷ brought) ≡ time
+last_time-got entries side time kind bytes brought h =
+    ap latest (flat_map-append time_of entries (Got side time kind bytes ∷ brought)
     ∙ ap (λ ts. flat_map time_of entries ++ time ∷ ts) (received_none time_of (λ s k r i p. refl) (λ s p. refl) h))
     ∙ latest-push (flat_map time_of entries) time

@@ -4,7 +4,7 @@ use Rattle.std.specs.Prelude.{◌==◌}
 use Rattle.std.specs.List.{AllByRecursion}
 use Rattle.std.proofs.lemmas.List.{append-nil}
 use Rattle.media_script.specs.declared.entry.Side.{Side}
-use Rattle.media_script.specs.declared.entry.Kind.TheVariants.{Rtp}
+use Rattle.media_script.specs.declared.entry.Kind.{Kind}
 use Rattle.media_script.specs.declared.entry.Write.{Write as Writing}
 use Rattle.media_script.specs.declared.entry.Entry.{Entry}
 use Rattle.media_script.specs.declared.entry.Entry.TheVariants.{Wrote, Ticked, Got}
@@ -59,7 +59,7 @@ seals_only seal side (w ∷ ws) = (refl, seals_only seal side ws)
 pub tick_only : (seal : Sealing) (setup : Setup) (side : Side) (entries : List Entry) → NoSteps (sealed_at_tick seal setup side entries)
 tick_only seal setup side entries = subst NoSteps (sym (sealed_at_tick-map seal setup side entries)) (seals_only seal side (to_seal setup side entries))
 
-pub received_only : {seal : Sealing} {setup : Setup} {side : Side} {entries : List Entry} {bytes : List ℕ} {chunk : List Entry} → Receives seal setup side entries bytes chunk → NoSteps chunk
+pub received_only : {seal : Sealing} {setup : Setup} {side : Side} {entries : List Entry} {kind : Kind} {bytes : List ℕ} {chunk : List Entry} → Receives seal setup side entries kind bytes chunk → NoSteps chunk
 received_only (opens header number plain o) = (refl, elim (tested (header.ssrc == 0)) [ inl t ↦ rw t tt | inr t ↦ rw t (refl, tt) ])
 received_only (stays none) = tt
 
@@ -67,8 +67,8 @@ received_only (stays none) = tt
 pub EachStep-played : {seal : Sealing} {setup : Setup} (P : List Entry → Entry → List Entry → Type 0)
     → ((entries : List Entry) (side : Side) (time : ℕ) (w : Writing) → P entries (Wrote side time w) [])
     → ((entries : List Entry) (side : Side) (time : ℕ) → P entries (Ticked side time) (sealed_at_tick seal setup side entries))
-    → ((steps : List Step) (entries : List Entry) → Played seal setup steps entries → (side : Side) (time : ℕ) (bytes : List ℕ) (chunk : List Entry) → Receives seal setup side entries bytes chunk
-    → P entries (Got side time Rtp bytes) chunk)
+    → ((steps : List Step) (entries : List Entry) → Played seal setup steps entries → (side : Side) (time : ℕ) (kind : Kind) (bytes : List ℕ) (chunk : List Entry) → Receives seal setup side entries kind bytes chunk
+    → P entries (Got side time kind bytes) chunk)
     → {steps : List Step} {entries : List Entry} → Played seal setup steps entries → EachStep P entries
 EachStep-played P p q r start = tt
 EachStep-played {seal} {setup} P p q r (turn {steps} {entries} h step new e o) = go (EachStep-played P p q r h) o
@@ -77,9 +77,9 @@ EachStep-played {seal} {setup} P p q r (turn {steps} {entries} h step new e o) =
     go each (wrote side time w a b) = EachStep-more P entries (Wrote side time w) [] each refl tt (p entries side time w)
     go each (ticked side time) =
         EachStep-more P entries (Ticked side time) (sealed_at_tick seal setup side entries) each refl (tick_only seal setup side entries) (q entries side time)
-    go each (got side time k bytes chunk at received) =
-        EachStep-more P entries (Got side time Rtp bytes) chunk each refl (received_only received) (r steps entries h side time bytes chunk received)
+    go each (got side time kind bytes chunk at received) =
+        EachStep-more P entries (Got side time kind bytes) chunk each refl (received_only received) (r steps entries h side time kind bytes chunk received)
 
 pub steps_are_answered : {seal : Sealing} {setup : Setup} {steps : List Step} {entries : List Entry} → Played seal setup steps entries → StepsAreAnswered seal setup entries
 steps_are_answered {seal} {setup} h =
-    EachStep-played (Answers seal setup) (λ entries side time w. refl) (λ entries side time. refl) (λ steps entries h side time bytes chunk received. received) h
+    EachStep-played (Answers seal setup) (λ entries side time w. refl) (λ entries side time. refl) (λ steps entries h side time kind bytes chunk received. received) h

@@ -4,6 +4,7 @@ use Rattle.std.specs.Prelude.{◌==◌}
 use Rattle.std.proofs.lemmas.List.{append-nil}
 use Rattle.std.proofs.lemmas.List.Concat.{flat_map-append}
 use Rattle.media_script.specs.declared.entry.Side.{Side}
+use Rattle.media_script.specs.declared.entry.Kind.{Kind}
 use Rattle.media_script.specs.declared.entry.Kind.TheVariants.{Rtp}
 use Rattle.media_script.specs.declared.entry.Packet.{Packet}
 use Rattle.media_script.specs.declared.entry.Entry.{Entry}
@@ -16,8 +17,8 @@ use Rattle.media_play.specs.Opening.{Sealing, Receives, opens, stays, yields, pa
 use Rattle.media_play.specs.Play.{sealed_write, Outcome, wrote, ticked, got, Played, start, turn}
 use Rattle.media_play.specs.SetupFacts.{IsSound}
 use Rattle.media_play.specs.WireLaws.{WireLaws}
-use Rattle.media_play.specs.Headline.{IsRightSeal, SealsAreRight, NoNonceTwice, IsSentWrite, SendsWrites, NoPacketTwice, IsOwedTo, YieldsWrites, HoldsSoFar}
-use Rattle.media_play.proofs.Genuineness.{last_got, HasSeal, has_seals}
+use Rattle.media_play.specs.Headline.{IsRightSeal, SealsAreRight, NoNonceTwice, IsSentWrite, SendsWrites, NoPacketTwice, IsOwedTo, HoldsSoFar}
+use Rattle.media_play.proofs.Genuineness.{HasSeal, has_seals}
 use Rattle.media_play.proofs.Lists.{IsIn-left, IsIn-from_map, tested, EachFrom-append, EachFrom-left, EachFrom-right}
 use Rattle.media_play.specs.Play.{to_seal}
 use Rattle.media_play.proofs.Readings.{sealed_at_tick-map}
@@ -74,11 +75,11 @@ front_of_one past (x ∷ []) rest entry e owed = let is : x ≡ entry = cc e in 
 front_of_one past (x ∷ y ∷ front) rest entry e owed = absurd (cc e)
 
 module _ {seal : Sealing} {setup : Setup} (wire : WireLaws seal) (sound : IsSound setup) where
-  front_received : {side : Side} {entries : List Entry} {bytes : List ℕ} {chunk : List Entry} (time : ℕ) → Stands seal setup entries → Receives seal setup side entries bytes chunk
-      → (front rest : List Entry) → front ++ rest ≡ Got side time Rtp bytes ∷ chunk → EachFrom HasSeal entries front → EachFrom IsOwedTo entries front
-  front_received {side} {entries} {bytes} time h (stays none) front rest e genuine =
-      front_owes_nothing entries front rest (Got side time Rtp bytes ∷ []) e (λ s p i. elim i [ inl is ↦ absurd (cc is) | inr other ↦ other ])
-  front_received {side} {entries} {bytes} time h (opens header number plain o) front rest e genuine =
+  front_received : {side : Side} {entries : List Entry} {kind : Kind} {bytes : List ℕ} {chunk : List Entry} (time : ℕ) → Stands seal setup entries → Receives seal setup side entries kind bytes chunk
+      → (front rest : List Entry) → front ++ rest ≡ Got side time kind bytes ∷ chunk → EachFrom HasSeal entries front → EachFrom IsOwedTo entries front
+  front_received {side} {entries} {kind} {bytes} time h (stays none) front rest e genuine =
+      front_owes_nothing entries front rest (Got side time kind bytes ∷ []) e (λ s p i. elim i [ inl is ↦ absurd (cc is) | inr other ↦ other ])
+  front_received {side} {entries} {kind} {bytes} time h (opens header number plain o) front rest e genuine =
       elim (cut front rest heard (yields side header number plain) e) [
         | inl m ↦ front_owes_nothing entries front m.0 heard m.1 quiet
         | inr m ↦
@@ -87,7 +88,7 @@ module _ {seal : Sealing} {setup : Setup} (wire : WireLaws seal) (sound : IsSoun
       ]
     where
       heard : List Entry
-      heard = Got side time Rtp bytes ∷ Opened side Rtp header.ssrc number plain ∷ []
+      heard = Got side time kind bytes ∷ Opened side Rtp header.ssrc number plain ∷ []
 
       quiet : (s : Side) (p : Packet) → IsIn (Yielded s p) heard → ⊥
       quiet s p (inl is) = absurd (cc is)
@@ -95,12 +96,12 @@ module _ {seal : Sealing} {setup : Setup} (wire : WireLaws seal) (sound : IsSoun
       quiet s p (inr (inr other)) = other
 
       after : List Entry
-      after = (entries ++ Got side time Rtp bytes ∷ []) ++ Opened side Rtp header.ssrc number plain ∷ []
+      after = (entries ++ Got side time kind bytes ∷ []) ++ Opened side Rtp header.ssrc number plain ∷ []
 
       last : (m : List Entry) → m ++ rest ≡ yields side header number plain → EachFrom HasSeal entries (heard ++ m) → EachFrom IsOwedTo (entries ++ heard) m
       last m is g =
           let owed = owed_yield time wire sound h o g.1.0 in
-          subst (λ past. EachFrom IsOwedTo past m) (append_assoc entries (Got side time Rtp bytes ∷ []) (Opened side Rtp header.ssrc number plain ∷ []))
+          subst (λ past. EachFrom IsOwedTo past m) (append_assoc entries (Got side time kind bytes ∷ []) (Opened side Rtp header.ssrc number plain ∷ []))
           (elim (tested (header.ssrc == 0)) [
             | inl t ↦ front_owes_nothing after m rest [] (rw t at is) (λ s p i. i)
             | inr t ↦ front_of_one after m rest (Yielded side (packet_from header number plain)) (rw t at is) owed
@@ -120,7 +121,7 @@ module _ {seal : Sealing} {setup : Setup} (wire : WireLaws seal) (sound : IsSoun
             let is : Yielded s p ≡ sealed_write seal side w.0 = w.2 in
             absurd (cc is)
       ])
-  front_owed {entries} h (got side time k bytes chunk at received) front rest e genuine = front_received time h received front rest e genuine
+  front_owed {entries} h (got side time kind bytes chunk at received) front rest e genuine = front_received time h received front rest e genuine
 
   -- also where a run ended within a step, each packet that is yielded is a write of the other side
   pub yields_owed-front : {steps : List Step} {entries : List Entry} → Played seal setup steps entries → (front rest : List Entry) → front ++ rest ≡ entries → EachFrom HasSeal [] front → EachFrom IsOwedTo [] front

@@ -7,7 +7,6 @@ use Rattle.media_script.specs.declared.entry.Kind.{Kind}
 use Rattle.media_script.specs.declared.entry.Entry.{Entry}
 use Rattle.media_script.specs.declared.entry.Entry.TheVariants.{Wrote, Ticked, Got, Sealed, Opened, Yielded}
 use Rattle.media_script.specs.Genuine.{got_after, IsPeersSeal, IsGenuine}
-use Rattle.media_script.specs.Genuine as genuine
 use Rattle.media_script.specs.Sides.{peer_of}
 use Rattle.media_play.specs.Listing.{IsIn, EachFrom}
 use Rattle.media_play.proofs.Lists.{IsIn-right}

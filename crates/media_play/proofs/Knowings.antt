@@ -16,6 +16,7 @@ use Rattle.rtp_wire.specs.declared.header.RtpHeader.{RtpHeader}
 use Rattle.repair_core.specs.Fresh.{is_fresh, with_number}
 use Rattle.repair_core.specs.NackRegister.{StandsFor}
 use Rattle.media_script.specs.declared.entry.Side.{Side}
+use Rattle.media_script.specs.declared.entry.Kind.{Kind}
 use Rattle.media_script.specs.declared.entry.Kind.TheVariants.{Rtp}
 use Rattle.media_script.specs.declared.entry.Write.{Write as Writing}
 use Rattle.media_script.specs.declared.entry.Entry.{Entry}
@@ -325,9 +326,9 @@ distinct_sources setup side sound = (
   sound.distinct side,
 )
 
-module _ (side : Side) (entries : List Entry) (time : ℕ) (bytes : List ℕ) (header : RtpHeader) (number : ℕ) (plain : List ℕ) where
+module _ (side : Side) (entries : List Entry) (time : ℕ) (kind : Kind) (bytes : List ℕ) (header : RtpHeader) (number : ℕ) (plain : List ℕ) where
   abbrev opened : List Entry
-  opened = Got side time Rtp bytes ∷ Opened side Rtp header.ssrc number plain ∷ yields side header number plain
+  opened = Got side time kind bytes ∷ Opened side Rtp header.ssrc number plain ∷ yields side header number plain
 
   pub writes_on-opened : (s : Side) (r : ℕ) → writes_on s r (entries ++ opened) ≡ writes_on s r entries
   writes_on-opened s r = same_reading (write_on s r) entries opened (yields_none (write_on s r) (λ s p. refl) side header number plain)
@@ -349,7 +350,7 @@ module _ (side : Side) (entries : List Entry) (time : ℕ) (bytes : List ℕ) (h
   taken_elsewhere : (i : Incoming) → (i.ssrc ≡ header.ssrc → ⊥) → TakesAs side entries i → TakesAs side (entries ++ opened) i
   taken_elsewhere i other h =
       subst (StandsFor i.register)
-      (sym (taken-opens side i.ssrc entries side time bytes header number plain
+      (sym (taken-opens side i.ssrc entries side time kind bytes header number plain
       ∙ ap (λ b. taken side i.ssrc entries ++ cond b (number ∷ []) []) (other_stream side i.ssrc header.ssrc other) ∙ append-nil (taken side i.ssrc entries))) h
 
   pub takes_opened : (is : List Incoming) (at : ℕ) (i new : Incoming) → at < length is → i ≡ get_or is at i → NoRepeat (map source_of is)
@@ -363,7 +364,7 @@ module _ (side : Side) (entries : List Entry) (time : ℕ) (bytes : List ℕ) (h
       let added : with_number (taken side header.ssrc entries) number ≡ taken side header.ssrc entries ++ number ∷ [] = rw fresh refl in
       let now : TakesAs side (entries ++ opened) new =
       subst (StandsFor new.register)
-      (added ∙ sym (taken-opens_here entries side time bytes header number plain) ∙ ap (λ r. taken side r (entries ++ opened)) (sym (same ∙ here)))
+      (added ∙ sym (taken-opens_here entries side time kind bytes header number plain) ∙ ap (λ r. taken side r (entries ++ opened)) (sym (same ∙ here)))
       (taken_on (taken side header.ssrc entries) before) in
       one_changes source_of (TakesAs side entries) (TakesAs side (entries ++ opened)) header.ssrc taken_elsewhere new now is at distinct e h
 

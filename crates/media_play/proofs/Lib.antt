@@ -19,3 +19,4 @@ pub mod OthersReceive
 pub mod Others
 pub mod Soundness
 pub mod Playing
+pub mod Whole

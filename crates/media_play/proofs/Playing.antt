@@ -1,5 +1,5 @@
 -- What a run knows after one step more, and what holds of it wherever it ends.
-use Rattle.std.proofs.Common.{◌≡◌, ◌<◌, ◌≤◌, ◌+◌, ℕ, List, [], ◌∷◌, ◌++◌, length, take, get_or, slice_get, Option, Some, None, Result, Ok, Err, IfOk, IfErr, refl, sym, ap, ◌∙◌, subst, arith}
+use Rattle.std.proofs.Common.{◌≡◌, ◌<◌, ◌+◌, ℕ, List, [], ◌∷◌, ◌++◌, length, take, get_or, Option, Some, None, Result, Ok, Err, IfOk, IfErr, refl, sym, ap, ◌∙◌, subst}
 use Rattle.std.proofs.lemmas.List.{take_more}
 use Rattle.std.proofs.lemmas.Option.{slice_get-get_or}
 use Rattle.media_script.specs.declared.entry.Entry.{Entry}
@@ -14,10 +14,10 @@ use Rattle.media_play.specs.declared.fault.StepError.{StepError}
 use Rattle.media_play.specs.declared.fault.StepError.TheVariants.{Rule}
 use Rattle.media_play.specs.Errors.{IsBroken}
 use Rattle.media_play.specs.Opening.{Sealing}
-use Rattle.media_play.specs.Play.{Played, start}
+use Rattle.media_play.specs.Play.{Played}
 use Rattle.media_play.specs.Headline.{StepsAreAnswered, SealsAreRight, NoNonceTwice, SendsWrites, YieldsWrites, NoPacketTwice, FirstSendingsAreYielded}
 use Rattle.media_play.specs.Rules.{step_fault}
-use Rattle.media_play.specs.Running.{RunState, Running, HasCause, OfRun}
+use Rattle.media_play.specs.Running.{HasCause, OfRun}
 use Rattle.media_play.specs.SetupFacts.{IsSound}
 use Rattle.media_play.specs.SetupRules.{setup_fault}
 use Rattle.media_play.specs.WireLaws.{WireLaws}

@@ -71,7 +71,7 @@ yields_none f none side header number plain =
     elim (tested (header.ssrc == 0)) [ inl t ↦ rw t refl | inr t ↦ rw (t, none side (packet_from header number plain)) refl ]
 
 pub received_none : {Y : Type 0} (f : Entry → List Y) → ((s : Side) (k : Kind) (r i : ℕ) (p : List ℕ) → f (Opened s k r i p) ≡ []) → ((s : Side) (p : Packet) → f (Yielded s p) ≡ [])
-    → {seal : Sealing} {setup : Setup} {side : Side} {entries : List Entry} {bytes : List ℕ} {brought : List Entry} → Receives seal setup side entries bytes brought → flat_map f brought ≡ []
+    → {seal : Sealing} {setup : Setup} {side : Side} {entries : List Entry} {kind : Kind} {bytes : List ℕ} {brought : List Entry} → Receives seal setup side entries kind bytes brought → flat_map f brought ≡ []
 received_none f opened yielded {side = side} (opens header number plain o) = rw (opened side Rtp header.ssrc number plain) (yields_none f yielded side header number plain)
 received_none f opened yielded (stays none) = refl
 

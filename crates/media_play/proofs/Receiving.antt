@@ -15,6 +15,7 @@ use Rattle.srtp_core.specs.Keys.{session_keys}
 use Rattle.srtp_core.specs.Laws.{RtpOpensOnce}
 use Rattle.srtp_core.specs.Seals.{sealed_rtp}
 use Rattle.media_script.specs.declared.entry.Side.{Side}
+use Rattle.media_script.specs.declared.entry.Kind.{Kind}
 use Rattle.media_script.specs.declared.entry.Kind.TheVariants.{Rtp}
 use Rattle.media_script.specs.declared.entry.Write.{Write as Writing}
 use Rattle.media_script.specs.declared.entry.Packet.{Packet}
@@ -37,12 +38,12 @@ use Rattle.media_play.proofs.Readings.{same_reading}
 
 -- bytes that open are short, begin with a header, and their number is accepted
 
-pub stays_short : {seal : Sealing} {setup : Setup} {side : Side} {entries : List Entry} {bytes : List ℕ} → 2000 < length bytes
-    → (header : RtpHeader) (number : ℕ) (plain : List ℕ) → Opens seal setup side entries bytes header number plain → ⊥
+pub stays_short : {seal : Sealing} {setup : Setup} {side : Side} {entries : List Entry} {kind : Kind} {bytes : List ℕ} → 2000 < length bytes
+    → (header : RtpHeader) (number : ℕ) (plain : List ℕ) → Opens seal setup side entries kind bytes header number plain → ⊥
 stays_short long header number plain o = let short = o.short in absurd (omega arith)
 
-pub stays_unread : {seal : Sealing} {setup : Setup} {side : Side} {entries : List Entry} {bytes : List ℕ} → read_header bytes ≡ None
-    → (header : RtpHeader) (number : ℕ) (plain : List ℕ) → Opens seal setup side entries bytes header number plain → ⊥
+pub stays_unread : {seal : Sealing} {setup : Setup} {side : Side} {entries : List Entry} {kind : Kind} {bytes : List ℕ} → read_header bytes ≡ None
+    → (header : RtpHeader) (number : ℕ) (plain : List ℕ) → Opens seal setup side entries kind bytes header number plain → ⊥
 stays_unread {bytes = bytes} none header number plain o =
     let reads : read_header bytes ≡ Some header = o.reads in
     let no : None ≡ Some header = sym none ∙ reads in
@@ -57,8 +58,8 @@ one_number o m n a b = cc
 no_number : (o : Option ℕ) (m : ℕ) → o ≡ None → o ≡ Some m → ⊥
 no_number o m a b = cc
 
-pub accepts_opens : {seal : Sealing} {setup : Setup} {side : Side} {entries : List Entry} {bytes : List ℕ} {header : RtpHeader} {number : ℕ} {plain : List ℕ}
-    → Opens seal setup side entries bytes header number plain → accepted setup side entries header ≡ Some number
+pub accepts_opens : {seal : Sealing} {setup : Setup} {side : Side} {entries : List Entry} {kind : Kind} {bytes : List ℕ} {header : RtpHeader} {number : ℕ} {plain : List ℕ}
+    → Opens seal setup side entries kind bytes header number plain → accepted setup side entries header ≡ Some number
 accepts_opens {setup = setup} {side} {entries} {header = header} o =
     let known : is_known setup side header ≡ true = o.known in
     let fresh : is_fresh (taken side header.ssrc entries) (widen16 (greatest_of (taken side header.ssrc entries)) header.sequence_number) ≡ true =
@@ -90,10 +91,10 @@ accepted_parts setup side entries header number e =
       | inr t ↦ let found = rw t at e in absurd (cc)
     ]
 
-pub stays_unaccepted : {seal : Sealing} {setup : Setup} {side : Side} {entries : List Entry} {bytes : List ℕ} (h : RtpHeader) → read_header bytes ≡ Some h
+pub stays_unaccepted : {seal : Sealing} {setup : Setup} {side : Side} {entries : List Entry} {kind : Kind} {bytes : List ℕ} (h : RtpHeader) → read_header bytes ≡ Some h
     → accepted setup side entries h ≡ None
-    → (header : RtpHeader) (number : ℕ) (plain : List ℕ) → Opens seal setup side entries bytes header number plain → ⊥
-stays_unaccepted {setup = setup} {side} {entries} {bytes} h reads none header number plain o =
+    → (header : RtpHeader) (number : ℕ) (plain : List ℕ) → Opens seal setup side entries kind bytes header number plain → ⊥
+stays_unaccepted {setup = setup} {side} {entries} {kind} {bytes} h reads none header number plain o =
     let same : header ≡ h = one_header (read_header bytes) header h o.reads reads in
     no_number (accepted setup side entries header) number (ap (accepted setup side entries) same ∙ none) (accepts_opens o)
 
@@ -103,7 +104,7 @@ module _ (keystream : List ℕ → List ℕ → ℕ → ℕ) (aead : List ℕ �
   back n bytes plain front = ap (λ (l : List ℕ). l ++ drop n plain) (sym front) ∙ take-append-drop n plain
 
   pub opens_as : (entries : List Entry) (bytes : List ℕ) (header : RtpHeader) (number : ℕ) (plain : List ℕ)
-      → Opens (sealing_of keystream aead block setup) setup side entries bytes header number plain → OpensAs keystream aead state header number bytes plain
+      → Opens (sealing_of keystream aead block setup) setup side entries Rtp bytes header number plain → OpensAs keystream aead state header number bytes plain
   opens_as entries bytes header number plain o =
       let n = header.header_len in
       let keys = session_keys block setup.profile (material_of setup) (is_left (peer_of side)) in
@@ -119,13 +120,14 @@ module _ (keystream : List ℕ → List ℕ → ℕ → ℕ) (aead : List ℕ �
   pub opens_to : (entries : List Entry) (bytes : List ℕ) (header : RtpHeader) (number : ℕ) (plain : List ℕ) → read_header bytes ≡ Some header
       → accepted setup side entries header ≡ Some number → OpensAs keystream aead state header number bytes plain
       → (IsTrue header.has_padding → IsSome (unpadded (drop header.header_len plain)))
-      → Opens (sealing_of keystream aead block setup) setup side entries bytes header number plain
+      → Opens (sealing_of keystream aead block setup) setup side entries Rtp bytes header number plain
   opens_to entries bytes header number plain reads accepts opened unpads =
       let n = header.header_len in
       let keys = session_keys block setup.profile (material_of setup) (is_left (peer_of side)) in
       let parts = accepted_parts setup side entries header number accepts in
       let here : OpensAs keystream aead (new_state block setup.profile (material_of setup) (is_left (peer_of side)) 0) header number bytes plain =
       subst (λ (s : SrtpState). OpensAs keystream aead s header number bytes plain) is opened in record {
+        rtp = refl;
         short = here.1.within;
         reads = reads;
         known = parts.known;
@@ -138,17 +140,17 @@ module _ (keystream : List ℕ → List ℕ → ℕ → ℕ) (aead : List ℕ �
 
   -- bytes that open do so under the header that stands there and under its number
   only_so : (entries : List Entry) (bytes : List ℕ) (h : RtpHeader) (n : ℕ) → read_header bytes ≡ Some h → accepted setup side entries h ≡ Some n
-      → (header : RtpHeader) (number : ℕ) (plain : List ℕ) → Opens (sealing_of keystream aead block setup) setup side entries bytes header number plain
-      → Opens (sealing_of keystream aead block setup) setup side entries bytes h n plain
+      → (header : RtpHeader) (number : ℕ) (plain : List ℕ) → Opens (sealing_of keystream aead block setup) setup side entries Rtp bytes header number plain
+      → Opens (sealing_of keystream aead block setup) setup side entries Rtp bytes h n plain
   only_so entries bytes h n reads accepts header number plain o =
       let seal = sealing_of keystream aead block setup in
       let same : header ≡ h = one_header (read_header bytes) header h o.reads reads in
       let also : number ≡ n = one_number (accepted setup side entries h) number n (ap (accepted setup side entries) (sym same) ∙ accepts_opens o) accepts in
-      subst (λ (m : ℕ). Opens seal setup side entries bytes h m plain) also (subst (λ (g : RtpHeader). Opens seal setup side entries bytes g number plain) same o)
+      subst (λ (m : ℕ). Opens seal setup side entries Rtp bytes h m plain) also (subst (λ (g : RtpHeader). Opens seal setup side entries Rtp bytes g number plain) same o)
 
   pub stays_sealed : (entries : List Entry) (bytes : List ℕ) (h : RtpHeader) (n : ℕ) → read_header bytes ≡ Some h → accepted setup side entries h ≡ Some n
       → ((plain : List ℕ) → OpensAs keystream aead state h n bytes plain → ⊥)
-      → (header : RtpHeader) (number : ℕ) (plain : List ℕ) → Opens (sealing_of keystream aead block setup) setup side entries bytes header number plain → ⊥
+      → (header : RtpHeader) (number : ℕ) (plain : List ℕ) → Opens (sealing_of keystream aead block setup) setup side entries Rtp bytes header number plain → ⊥
   stays_sealed entries bytes h n reads accepts none header number plain o =
       none plain (opens_as entries bytes h n plain (only_so entries bytes h n reads accepts header number plain o))
 
@@ -161,7 +163,7 @@ module _ (keystream : List ℕ → List ℕ → ℕ → ℕ) (aead : List ℕ �
 
   pub stays_padded : RtpOpensOnce keystream aead → (entries : List Entry) (bytes : List ℕ) (h : RtpHeader) (n : ℕ) (p : List ℕ) → read_header bytes ≡ Some h
       → accepted setup side entries h ≡ Some n → OpensAs keystream aead state h n bytes p → IsTrue h.has_padding → IsNone (unpadded (drop h.header_len p))
-      → (header : RtpHeader) (number : ℕ) (plain : List ℕ) → Opens (sealing_of keystream aead block setup) setup side entries bytes header number plain → ⊥
+      → (header : RtpHeader) (number : ℕ) (plain : List ℕ) → Opens (sealing_of keystream aead block setup) setup side entries Rtp bytes header number plain → ⊥
   stays_padded once entries bytes h n p reads accepts opened padded none header number plain o =
       let here = only_so entries bytes h n reads accepts header number plain o in
       let same : drop h.header_len plain ≡ drop h.header_len p =
@@ -207,18 +209,18 @@ pub ready_with : (block : List ℕ → List ℕ → List ℕ) (setup : Setup) (s
     → Ready block setup side (record { sealing = sealing; opening = opening; streams = streams }) more
 ready_with block setup side session entries more sealing opening streams ready s o k = record { seals = s ∙ ready.seals; opens = o ∙ ready.opens; knows = k }
 
-pub knows_got : (setup : Setup) (side : Side) (entries : List Entry) (time : ℕ) (bytes : List ℕ) (streams : Streams) → Knows setup side streams entries
-    → Knows setup side streams (entries ++ Got side time Rtp bytes ∷ [])
-knows_got setup side entries time bytes =
-    let got = Got side time Rtp bytes ∷ [] in
+pub knows_got : (setup : Setup) (side : Side) (entries : List Entry) (time : ℕ) (kind : Kind) (bytes : List ℕ) (streams : Streams) → Knows setup side streams entries
+    → Knows setup side streams (entries ++ Got side time kind bytes ∷ [])
+knows_got setup side entries time kind bytes =
+    let got = Got side time kind bytes ∷ [] in
     knows_still setup side entries (entries ++ got)
     (λ r. ap (λ (ns : List ℕ). filter (λ w. not (is_sealed ns w)) (writes_on side r (entries ++ got))) (same_reading (sealed_number_on side r) entries got refl)
     ∙ ap (λ (ws : List Writing). filter (λ w. not (is_sealed (sealed_numbers side r entries) w)) ws) (same_reading (write_on side r) entries got refl))
     (λ r. same_reading (write_on side r) entries got refl)
     (λ r. same_reading (taken_on side r) entries got refl)
 
-pub nothing_received : (block : List ℕ → List ℕ → List ℕ) (seal : Sealing) (setup : Setup) (side : Side) (session : SessionState) (entries : List Entry) (time : ℕ) (bytes : List ℕ)
-    → Ready block setup side session entries → ((header : RtpHeader) (number : ℕ) (plain : List ℕ) → Opens seal setup side entries bytes header number plain → ⊥)
-    → Receives seal setup side entries bytes [] × Ready block setup side session (entries ++ Got side time Rtp bytes ∷ [])
-nothing_received block seal setup side session entries time bytes ready none =
-    (stays none, record { seals = ready.seals; opens = ready.opens; knows = knows_got setup side entries time bytes session.streams ready.knows })
+pub nothing_received : (block : List ℕ → List ℕ → List ℕ) (seal : Sealing) (setup : Setup) (side : Side) (session : SessionState) (entries : List Entry) (time : ℕ) (kind : Kind) (bytes : List ℕ)
+    → Ready block setup side session entries → ((header : RtpHeader) (number : ℕ) (plain : List ℕ) → Opens seal setup side entries kind bytes header number plain → ⊥)
+    → Receives seal setup side entries kind bytes [] × Ready block setup side session (entries ++ Got side time kind bytes ∷ [])
+nothing_received block seal setup side session entries time kind bytes ready none =
+    (stays none, record { seals = ready.seals; opens = ready.opens; knows = knows_got setup side entries time kind bytes session.streams ready.knows })

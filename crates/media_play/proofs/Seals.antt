@@ -34,8 +34,8 @@ pub Each-played : {seal : Sealing} {setup : Setup} (P : List Entry → Entry →
     → ((past : List Entry) (s : Side) (t : ℕ) → P past (Ticked s t))
     → ((steps : List Step) (entries : List Entry) → Played seal setup steps entries → (side : Side) (time : ℕ)
     → EachFrom P (entries ++ Ticked side time ∷ []) (map (sealed_write seal side) (to_seal setup side entries)))
-    → ((steps : List Step) (entries : List Entry) → Played seal setup steps entries → (side : Side) (time : ℕ) (bytes : List ℕ) (chunk : List Entry) → Receives seal setup side entries bytes chunk
-    → EachFrom P entries (Got side time Rtp bytes ∷ chunk))
+    → ((steps : List Step) (entries : List Entry) → Played seal setup steps entries → (side : Side) (time : ℕ) (kind : Kind) (bytes : List ℕ) (chunk : List Entry) → Receives seal setup side entries kind bytes chunk
+    → EachFrom P entries (Got side time kind bytes ∷ chunk))
     → {steps : List Step} {entries : List Entry} → Played seal setup steps entries → Each P entries
 Each-played P p q r g start = tt
 Each-played {seal} {setup} P p q r g (turn {steps} {entries} h step new e o) = EachFrom-append P [] entries new (Each-played P p q r g h) (go o)
@@ -43,25 +43,25 @@ Each-played {seal} {setup} P p q r g (turn {steps} {entries} h step new e o) = E
     go : {step : Step} {new : List Entry} → Outcome seal setup entries step new → EachFrom P entries new
     go (wrote side time w a b) = (p entries side time w, tt)
     go (ticked side time) = (q entries side time, subst (EachFrom P (entries ++ Ticked side time ∷ [])) (sym (sealed_at_tick-map seal setup side entries)) (r steps entries h side time))
-    go (got side time k bytes chunk at received) = g steps entries h side time bytes chunk received
+    go (got side time kind bytes chunk at received) = g steps entries h side time kind bytes chunk received
 
 -- a law on seals says nothing of what is received
 pub received_free : {seal : Sealing} {setup : Setup} (P : List Entry → Entry → Type 0) → ((past : List Entry) (s : Side) (t : ℕ) (k : Kind) (b : List ℕ) → P past (Got s t k b))
     → ((past : List Entry) (s : Side) (k : Kind) (r i : ℕ) (p : List ℕ) → P past (Opened s k r i p))
     → ((past : List Entry) (s : Side) (packet : Packet) → P past (Yielded s packet))
-    → {side : Side} {entries : List Entry} {bytes : List ℕ} {chunk : List Entry} → Receives seal setup side entries bytes chunk
-    → (time : ℕ) (past : List Entry) → EachFrom P past (Got side time Rtp bytes ∷ chunk)
-received_free P p q y {side = side} {bytes = bytes} (opens header number plain o) time past = (
-  p past side time Rtp bytes,
+    → {side : Side} {entries : List Entry} {kind : Kind} {bytes : List ℕ} {chunk : List Entry} → Receives seal setup side entries kind bytes chunk
+    → (time : ℕ) (past : List Entry) → EachFrom P past (Got side time kind bytes ∷ chunk)
+received_free P p q y {side = side} {kind = kind} {bytes = bytes} (opens header number plain o) time past = (
+  p past side time kind bytes,
   (
-    q (past ++ Got side time Rtp bytes ∷ []) side Rtp header.ssrc number plain,
+    q (past ++ Got side time kind bytes ∷ []) side Rtp header.ssrc number plain,
     elim (tested (header.ssrc == 0)) [
       | inl t ↦ rw t tt
-      | inr t ↦ rw t (y ((past ++ Got side time Rtp bytes ∷ []) ++ Opened side Rtp header.ssrc number plain ∷ []) side (packet_from header number plain), tt)
+      | inr t ↦ rw t (y ((past ++ Got side time kind bytes ∷ []) ++ Opened side Rtp header.ssrc number plain ∷ []) side (packet_from header number plain), tt)
     ],
   ),
 )
-received_free P p q y {side = side} {bytes = bytes} (stays none) time past = (p past side time Rtp bytes, tt)
+received_free P p q y {side = side} {kind = kind} {bytes = bytes} (stays none) time past = (p past side time kind bytes, tt)
 
 -- each seal is that of an earlier write
 
@@ -128,7 +128,7 @@ tick_sends seal setup entries sound h side time =
 pub sends_writes : {seal : Sealing} {setup : Setup} {steps : List Step} {entries : List Entry} → IsSound setup → Played seal setup steps entries → SendsWrites entries
 sends_writes {seal} {setup} sound h =
     Each-played IsSentWrite (λ past s t w. tt) (λ past s t. tt) (λ steps entries h side time. tick_sends seal setup entries sound (stands h) side time)
-    (λ steps entries h side time bytes chunk received. received_free IsSentWrite (λ past s t k b. tt) (λ past s k r i p. tt) (λ past s packet. tt) received time entries) h
+    (λ steps entries h side time kind bytes chunk received. received_free IsSentWrite (λ past s t k b. tt) (λ past s k r i p. tt) (λ past s packet. tt) received time entries) h
 
 -- each seal is right
 
@@ -158,7 +158,7 @@ seals_are_right {seal} {setup} wire sound h =
     (λ steps entries h side time.
     rights_from seal setup side wire sound (entries ++ Ticked side time ∷ []) (to_seal setup side entries)
     (λ w i. (stands h).fits side w.ssrc w (to_seal_in setup side entries w i).0))
-    (λ steps entries h side time bytes chunk received.
+    (λ steps entries h side time kind bytes chunk received.
     received_free (λ past entry. IsRightSeal seal setup entry) (λ past s t k b. tt) (λ past s k r i p. tt) (λ past s packet. tt) received time entries)
     h
 
@@ -229,4 +229,4 @@ pub no_nonce_twice : {seal : Sealing} {setup : Setup} {steps : List Step} {entri
 no_nonce_twice {seal} {setup} {steps} {entries} sound h s =
     nonces_from s [] entries tt (sends_writes sound h)
     (Each-played IsRtp (λ past s t w. tt) (λ past s t. tt) (λ steps entries h side time. rtp_from seal side (entries ++ Ticked side time ∷ []) (to_seal setup side entries))
-    (λ steps entries h side time bytes chunk received. received_free IsRtp (λ past s t k b. tt) (λ past s k r i p. tt) (λ past s packet. tt) received time entries) h)
+    (λ steps entries h side time kind bytes chunk received. received_free IsRtp (λ past s t k b. tt) (λ past s k r i p. tt) (λ past s packet. tt) received time entries) h)

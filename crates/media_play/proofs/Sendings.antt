@@ -8,7 +8,8 @@ use Rattle.std.proofs.lemmas.Bool.{and_from, or_right, eqb-true, false≢true}
 use Rattle.rtp_wire.specs.declared.header.RtpHeader.{RtpHeader}
 use Rattle.rtp_wire.specs.Widen.{widen16}
 use Rattle.media_script.specs.declared.entry.Side.{Side}
-use Rattle.media_script.specs.declared.entry.Kind.TheVariants.{Rtp}
+use Rattle.media_script.specs.declared.entry.Kind.{Kind}
+use Rattle.media_script.specs.declared.entry.Kind.TheVariants.{Rtp, Rtcp}
 use Rattle.media_script.specs.declared.entry.Write.{Write as Writing}
 use Rattle.media_script.specs.declared.entry.Packet.{Packet}
 use Rattle.media_script.specs.declared.entry.Entry.{Entry}
@@ -50,9 +51,9 @@ record IsWrite (header : RtpHeader) (number : ℕ) (plain : List ℕ) (w : Writi
   pub head : header ≡ header_of_write w
   pub packet : packet_from header number plain ≡ as_packet w
 
-same_header : {seal : Sealing} {setup : Setup} {side : Side} {entries : List Entry} {bytes : List ℕ} {header : RtpHeader} {number : ℕ} {plain : List ℕ} (w : Writing)
-    → WireLaws seal → FitsHeader w → Opens seal setup side entries bytes header number plain → seal (peer_of side) w.ssrc w.number 12 (plain_of w) ≡ bytes → header ≡ header_of_write w
-same_header {seal} {setup} {side} {entries} {bytes} {header} {number} {plain} w wire fits o e =
+same_header : {seal : Sealing} {setup : Setup} {side : Side} {entries : List Entry} {kind : Kind} {bytes : List ℕ} {header : RtpHeader} {number : ℕ} {plain : List ℕ} (w : Writing)
+    → WireLaws seal → FitsHeader w → Opens seal setup side entries kind bytes header number plain → seal (peer_of side) w.ssrc w.number 12 (plain_of w) ≡ bytes → header ≡ header_of_write w
+same_header {seal} {setup} {side} {entries} {kind} {bytes} {header} {number} {plain} w wire fits o e =
     same_Some header (header_of_write w) (sym o.reads ∙ ap read_header (sym e) ∙ header_of_seal seal (peer_of side) w wire fits)
 
 same_plain : (seal : Sealing) (side : Side) (w : Writing) (bytes plain : List ℕ) → WireLaws seal → seal side w.ssrc w.number 12 (plain_of w) ≡ bytes
@@ -77,10 +78,10 @@ packet_of_write w wire = λ i. record {
   payload = wire.payload w i;
 }
 
-opens_to_write : {seal : Sealing} {setup : Setup} {side : Side} {entries : List Entry} {bytes : List ℕ} {header : RtpHeader} {number : ℕ} {plain : List ℕ} (w : Writing)
-    → WireLaws seal → FitsHeader w → Opens seal setup side entries bytes header number plain → seal (peer_of side) w.ssrc w.number 12 (plain_of w) ≡ bytes → number ≡ w.number
+opens_to_write : {seal : Sealing} {setup : Setup} {side : Side} {entries : List Entry} {kind : Kind} {bytes : List ℕ} {header : RtpHeader} {number : ℕ} {plain : List ℕ} (w : Writing)
+    → WireLaws seal → FitsHeader w → Opens seal setup side entries kind bytes header number plain → seal (peer_of side) w.ssrc w.number 12 (plain_of w) ≡ bytes → number ≡ w.number
     → IsWrite header number plain w
-opens_to_write {seal} {setup} {side} {entries} {bytes} {header} {number} {plain} w wire fits o e n =
+opens_to_write {seal} {setup} {side} {entries} {kind} {bytes} {header} {number} {plain} w wire fits o e n =
     let head : header ≡ header_of_write w = same_header w wire fits o e in
     let front : take 12 plain ≡ take 12 bytes = subst (λ (h : RtpHeader). take h.header_len plain ≡ take h.header_len bytes) head o.front in
     let sealed : seal (peer_of side) w.ssrc w.number 12 plain ≡ bytes =
@@ -95,25 +96,25 @@ opens_to_write {seal} {setup} {side} {entries} {bytes} {header} {number} {plain}
 
 -- in a genuine run
 
-last_got-push : (old : List ℕ) (entries : List Entry) (side : Side) (time : ℕ) (bytes : List ℕ) → last_got old (entries ++ Got side time Rtp bytes ∷ []) ≡ bytes
-last_got-push old [] side time bytes = refl
-last_got-push old (Got s t k new ∷ entries) side time bytes = last_got-push new entries side time bytes
-last_got-push old (Wrote s t w ∷ entries) side time bytes = last_got-push old entries side time bytes
-last_got-push old (Ticked s t ∷ entries) side time bytes = last_got-push old entries side time bytes
-last_got-push old (Sealed s k r i p b ∷ entries) side time bytes = last_got-push old entries side time bytes
-last_got-push old (Opened s k r i p ∷ entries) side time bytes = last_got-push old entries side time bytes
-last_got-push old (Yielded s p ∷ entries) side time bytes = last_got-push old entries side time bytes
+last_got-push : (old : List ℕ) (entries : List Entry) (side : Side) (time : ℕ) (kind : Kind) (bytes : List ℕ) → last_got old (entries ++ Got side time kind bytes ∷ []) ≡ bytes
+last_got-push old [] side time kind bytes = refl
+last_got-push old (Got s t k new ∷ entries) side time kind bytes = last_got-push new entries side time kind bytes
+last_got-push old (Wrote s t w ∷ entries) side time kind bytes = last_got-push old entries side time kind bytes
+last_got-push old (Ticked s t ∷ entries) side time kind bytes = last_got-push old entries side time kind bytes
+last_got-push old (Sealed s k r i p b ∷ entries) side time kind bytes = last_got-push old entries side time kind bytes
+last_got-push old (Opened s k r i p ∷ entries) side time kind bytes = last_got-push old entries side time kind bytes
+last_got-push old (Yielded s p ∷ entries) side time kind bytes = last_got-push old entries side time kind bytes
 
-owed_packet : {seal : Sealing} {setup : Setup} {side : Side} {entries : List Entry} {bytes : List ℕ} {header : RtpHeader} {number : ℕ} {plain : List ℕ} (time : ℕ)
-    → WireLaws seal → IsSound setup → Stands seal setup entries → Opens seal setup side entries bytes header number plain
-    → HasSeal (entries ++ Got side time Rtp bytes ∷ []) (Opened side Rtp header.ssrc number plain)
+owed_packet : {seal : Sealing} {setup : Setup} {side : Side} {entries : List Entry} {kind : Kind} {bytes : List ℕ} {header : RtpHeader} {number : ℕ} {plain : List ℕ} (time : ℕ)
+    → WireLaws seal → IsSound setup → Stands seal setup entries → Opens seal setup side entries kind bytes header number plain
+    → HasSeal (entries ++ Got side time kind bytes ∷ []) (Opened side Rtp header.ssrc number plain)
     → (w : Writing) × IsIn w (writes_by (peer_of side) entries) × (packet_from header number plain ≡ as_packet w)
-owed_packet {seal} {setup} {side} {entries} {bytes} {header} {number} {plain} time wire sound h o genuine =
+owed_packet {seal} {setup} {side} {entries} {kind} {bytes} {header} {number} {plain} time wire sound h o genuine =
     let sealed : List ℕ = genuine.0 in
-    let there : IsIn (Sealed (peer_of side) Rtp header.ssrc number sealed bytes) (entries ++ Got side time Rtp bytes ∷ []) =
-    subst (λ b. IsIn (Sealed (peer_of side) Rtp header.ssrc number sealed b) (entries ++ Got side time Rtp bytes ∷ [])) (last_got-push [] entries side time bytes) genuine.1 in
+    let there : IsIn (Sealed (peer_of side) Rtp header.ssrc number sealed bytes) (entries ++ Got side time kind bytes ∷ []) =
+    subst (λ b. IsIn (Sealed (peer_of side) Rtp header.ssrc number sealed b) (entries ++ Got side time kind bytes ∷ [])) (last_got-push [] entries side time kind bytes) genuine.1 in
     let before : IsIn (Sealed (peer_of side) Rtp header.ssrc number sealed bytes) entries =
-    elim (IsIn-append (Sealed (peer_of side) Rtp header.ssrc number sealed bytes) entries (Got side time Rtp bytes ∷ []) there) [
+    elim (IsIn-append (Sealed (peer_of side) Rtp header.ssrc number sealed bytes) entries (Got side time kind bytes ∷ []) there) [
       | inl i ↦ i
       | inr i ↦ elim i [ inl is ↦ absurd (cc is) | inr other ↦ absurd other ]
     ] in
@@ -129,20 +130,20 @@ seals_owe_nothing : (seal : Sealing) (side : Side) (past : List Entry) (ws : Lis
 seals_owe_nothing seal side past [] = tt
 seals_owe_nothing seal side past (w ∷ ws) = (tt, seals_owe_nothing seal side (past ++ sealed_write seal side w ∷ []) ws)
 
-pub owed_yield : {seal : Sealing} {setup : Setup} {side : Side} {entries : List Entry} {bytes : List ℕ} {header : RtpHeader} {number : ℕ} {plain : List ℕ} (time : ℕ)
-    → WireLaws seal → IsSound setup → Stands seal setup entries → Opens seal setup side entries bytes header number plain
-    → HasSeal (entries ++ Got side time Rtp bytes ∷ []) (Opened side Rtp header.ssrc number plain)
-    → IsOwedTo ((entries ++ Got side time Rtp bytes ∷ []) ++ Opened side Rtp header.ssrc number plain ∷ []) (Yielded side (packet_from header number plain))
-owed_yield {seal} {setup} {side} {entries} {bytes} {header} {number} {plain} time wire sound h o genuine =
+pub owed_yield : {seal : Sealing} {setup : Setup} {side : Side} {entries : List Entry} {kind : Kind} {bytes : List ℕ} {header : RtpHeader} {number : ℕ} {plain : List ℕ} (time : ℕ)
+    → WireLaws seal → IsSound setup → Stands seal setup entries → Opens seal setup side entries kind bytes header number plain
+    → HasSeal (entries ++ Got side time kind bytes ∷ []) (Opened side Rtp header.ssrc number plain)
+    → IsOwedTo ((entries ++ Got side time kind bytes ∷ []) ++ Opened side Rtp header.ssrc number plain ∷ []) (Yielded side (packet_from header number plain))
+owed_yield {seal} {setup} {side} {entries} {kind} {bytes} {header} {number} {plain} time wire sound h o genuine =
     let got = owed_packet time wire sound h o genuine in
-    let now : IsIn got.0 (writes_by (peer_of side) ((entries ++ Got side time Rtp bytes ∷ []) ++ Opened side Rtp header.ssrc number plain ∷ [])) =
-    rw (append_assoc entries (Got side time Rtp bytes ∷ []) (Opened side Rtp header.ssrc number plain ∷ []), flat_map-append (write_by (peer_of side)) entries (Got side time Rtp bytes ∷ Opened side Rtp header.ssrc number plain ∷ []))
+    let now : IsIn got.0 (writes_by (peer_of side) ((entries ++ Got side time kind bytes ∷ []) ++ Opened side Rtp header.ssrc number plain ∷ [])) =
+    rw (append_assoc entries (Got side time kind bytes ∷ []) (Opened side Rtp header.ssrc number plain ∷ []), flat_map-append (write_by (peer_of side)) entries (Got side time kind bytes ∷ Opened side Rtp header.ssrc number plain ∷ []))
     (IsIn-left got.0 (writes_by (peer_of side) entries) [] got.1) in
     (got.0, now, got.2)
 
-owed_received : {seal : Sealing} {setup : Setup} {side : Side} {entries : List Entry} {bytes : List ℕ} {chunk : List Entry} (time : ℕ) → WireLaws seal → IsSound setup → Stands seal setup entries
-    → Receives seal setup side entries bytes chunk → EachFrom HasSeal entries (Got side time Rtp bytes ∷ chunk) → EachFrom IsOwedTo entries (Got side time Rtp bytes ∷ chunk)
-owed_received {seal} {setup} {side} {entries} {bytes} time wire sound h (opens header number plain o) genuine =
+owed_received : {seal : Sealing} {setup : Setup} {side : Side} {entries : List Entry} {kind : Kind} {bytes : List ℕ} {chunk : List Entry} (time : ℕ) → WireLaws seal → IsSound setup → Stands seal setup entries
+    → Receives seal setup side entries kind bytes chunk → EachFrom HasSeal entries (Got side time kind bytes ∷ chunk) → EachFrom IsOwedTo entries (Got side time kind bytes ∷ chunk)
+owed_received {seal} {setup} {side} {entries} {kind} {bytes} time wire sound h (opens header number plain o) genuine =
     (tt, (tt, elim (tested (header.ssrc == 0)) [ inl t ↦ rw t tt | inr t ↦ rw t (owed_yield time wire sound h o genuine.1.0, tt) ]))
 owed_received time wire sound h (stays none) genuine = (tt, tt)
 
@@ -159,7 +160,7 @@ yields_owed {seal} {setup} wire sound (turn {steps} {entries} h step new e o) ge
       subst (EachFrom IsOwedTo (entries ++ Ticked side time ∷ [])) (sym (sealed_at_tick-map seal setup side entries))
           (seals_owe_nothing seal side (entries ++ Ticked side time ∷ []) (to_seal setup side entries)),
     )
-    go (got side time k bytes chunk at received) g = owed_received time wire sound (stands h) received g
+    go (got side time kind bytes chunk at received) g = owed_received time wire sound (stands h) received g
 
 pub yields_writes : {seal : Sealing} {setup : Setup} {steps : List Step} {entries : List Entry} → WireLaws seal → IsSound setup → Played seal setup steps entries → YieldsWrites entries
 yields_writes {seal} {setup} {steps} {entries} wire sound h genuine = yields_owed wire sound h (has_seals entries genuine)
@@ -177,13 +178,14 @@ nonzero_stream setup side r sound known =
 write_opens : {seal : Sealing} {setup : Setup} {side : Side} {entries : List Entry} {bytes : List ℕ} (w : Writing) → WireLaws seal → IsSound setup → IsWriting setup (peer_of side) w
     → seal (peer_of side) w.ssrc w.number 12 (plain_of w) ≡ bytes
     → widen16 (greatest_of (taken side w.ssrc entries)) (w.number % 65536) ≡ w.number → is_fresh (taken side w.ssrc entries) w.number ≡ true
-    → Opens seal setup side entries bytes (header_of_write w) w.number (plain_of w)
+    → Opens seal setup side entries Rtp bytes (header_of_write w) w.number (plain_of w)
 write_opens {seal} {setup} {side} {entries} {bytes} w wire sound ok e widened fresh =
     let room : 12 ≤ length (plain_of w) = omega (arith, wire.long w) in
     let long : length bytes ≤ length (plain_of w) + 16 = subst (λ b. length b ≤ length (plain_of w) + 16) e (wire.tag (peer_of side) w.ssrc w.number 12 (plain_of w) room) in
     let total = wire.long w in
     let payload : length w.payload ≤ 1400 = ok.payload in
     record {
+      rtp = refl;
       short = omega (arith, long, total, payload);
       reads = ap read_header (sym e) ∙ header_of_seal seal (peer_of side) w wire (fits_header sound ok);
       known = or_right _ _ (and_from _ _ ok.stream ok.type);
@@ -195,7 +197,7 @@ write_opens {seal} {setup} {side} {entries} {bytes} w wire sound ok e widened fr
     }
 
 yields_it : {seal : Sealing} {setup : Setup} {side : Side} {entries : List Entry} {bytes : List ℕ} {chunk : List Entry} (w : Writing) → WireLaws seal → IsSound setup
-    → IsWriting setup (peer_of side) w → seal (peer_of side) w.ssrc w.number 12 (plain_of w) ≡ bytes → Receives seal setup side entries bytes chunk
+    → IsWriting setup (peer_of side) w → seal (peer_of side) w.ssrc w.number 12 (plain_of w) ≡ bytes → Receives seal setup side entries Rtp bytes chunk
     → widen16 (greatest_of (taken side w.ssrc entries)) (w.number % 65536) ≡ w.number → is_fresh (taken side w.ssrc entries) w.number ≡ true
     → IsIn (Yielded side (as_packet w)) chunk
 yields_it {seal} {setup} {side} {entries} w wire sound ok e (opens header number plain o) widened fresh =
@@ -209,7 +211,7 @@ yields_it {seal} {setup} {side} {entries} w wire sound ok e (stays none) widened
     none (header_of_write w) w.number (plain_of w) (write_opens w wire sound ok e widened fresh)
 
 widens_so : {seal : Sealing} {setup : Setup} {side : Side} {entries : List Entry} {bytes : List ℕ} {chunk : List Entry} (w : Writing) → WireLaws seal → IsSound setup
-    → IsWriting setup (peer_of side) w → seal (peer_of side) w.ssrc w.number 12 (plain_of w) ≡ bytes → Receives seal setup side entries bytes chunk
+    → IsWriting setup (peer_of side) w → seal (peer_of side) w.ssrc w.number 12 (plain_of w) ≡ bytes → Receives seal setup side entries Rtp bytes chunk
     → IsIn (Yielded side (as_packet w)) chunk
     → (widen16 (greatest_of (taken side w.ssrc entries)) (w.number % 65536) ≡ w.number) × (is_fresh (taken side w.ssrc entries) w.number ≡ true)
 widens_so w wire sound ok e (opens header number plain o) (inl is) = absurd cc
@@ -236,7 +238,11 @@ pub first_sendings_are_yielded : {seal : Sealing} {setup : Setup} {steps : List 
     → FirstSendingsAreYielded seal entries
 first_sendings_are_yielded {seal} {setup} wire sound h =
     EachStep-played (YieldsExactly seal) (λ entries side time w. tt) (λ entries side time. tt)
-    (λ steps entries h side time bytes chunk received w written sealed e.
-    let ok : IsWriting setup (peer_of side) w = (stands h).fits (peer_of side) w.ssrc w (by_written (peer_of side) entries w written) in
-    (λ i. widens_so w wire sound ok e received i, λ r. yields_it w wire sound ok e received r.0 r.1))
-    h
+    (λ steps entries h side time kind bytes chunk received. at kind time (stands h) received) h
+  where
+    at : (kind : Kind) (time : ℕ) {entries : List Entry} {side : Side} {bytes : List ℕ} {chunk : List Entry} → Stands seal setup entries
+        → Receives seal setup side entries kind bytes chunk → YieldsExactly seal entries (Got side time kind bytes) chunk
+    at Rtp time {entries} {side} h received = λ w written sealed e.
+        let ok : IsWriting setup (peer_of side) w = h.fits (peer_of side) w.ssrc w (by_written (peer_of side) entries w written) in
+        (λ i. widens_so w wire sound ok e received i, λ r. yields_it w wire sound ok e received r.0 r.1)
+    at Rtcp time h received = tt

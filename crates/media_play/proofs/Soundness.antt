@@ -1,5 +1,5 @@
 -- A setup that breaks no rule is one for which the laws of a run hold.
-use Rattle.std.proofs.Common.{◌≡◌, ◌⊎◌, inl, inr, Bool, true, false, not, cond, ◌||◌, ℕ, ltb, ◌<◌, ◌^◌, List, [], ◌∷◌, ◌++◌, length, Option, Some, None, refl, sym, ap, ◌∙◌, subst, arith}
+use Rattle.std.proofs.Common.{◌≡◌, inl, inr, Bool, true, false, not, cond, ◌||◌, ℕ, ◌<◌, ◌^◌, List, [], ◌∷◌, ◌++◌, length, Option, Some, None, refl, sym, ap, ◌∙◌, subst, arith}
 use Rattle.std.specs.Prelude.{◌==◌, nat_lt}
 use Rattle.std.specs.List.{flat_map, filter_map, list_any}
 use Rattle.std.proofs.lemmas.Bool.{eqb-true, eq-eqb, ltb-false, false≢true}
@@ -15,8 +15,8 @@ use Rattle.media_play.specs.declared.fault.SetupFault.TheVariants.{KeyLength, Ty
 use Rattle.media_play.specs.Listing.{IsIn, NoRepeat}
 use Rattle.media_play.specs.Rules.{has}
 use Rattle.media_play.specs.SetupFacts.{IsSound}
-use Rattle.media_play.specs.SetupRules.{setup_fault, repeats, stream_ssrcs, local_ssrcs, all_streams, both_of, media_fault}
-use Rattle.media_play.proofs.Lists.{IsIn-left, IsIn-right, IsIn-append, tested, any-from_in, in-from_any}
+use Rattle.media_play.specs.SetupRules.{setup_fault, repeats, stream_ssrcs, local_ssrcs, all_streams, both_of}
+use Rattle.media_play.proofs.Lists.{IsIn-right, tested, any-from_in, in-from_any}
 
 fault_none : (b : Bool) (fault : SetupFault) (other : Option SetupFault) → cond b (Some fault) other ≡ None → (b ≡ false) × (other ≡ None)
 fault_none true fault other e = absurd cc

@@ -7,7 +7,6 @@ use Rattle.std.proofs.lemmas.List.Concat.{flat_map-append}
 use Rattle.std.proofs.lemmas.Bool.{and_parts, eqb-true, eq-eqb, false≢true, not-false, leb-false, ltb-false}
 use Rattle.media_script.specs.declared.entry.Side.{Side}
 use Rattle.media_script.specs.declared.entry.Kind.{Kind}
-use Rattle.media_script.specs.declared.entry.Kind.TheVariants.{Rtp}
 use Rattle.media_script.specs.declared.entry.Write.{Write as Writing}
 use Rattle.media_script.specs.declared.entry.Entry.{Entry}
 use Rattle.media_script.specs.declared.entry.Entry.TheVariants.{Wrote, Ticked, Got, Sealed}
@@ -92,13 +91,13 @@ writes_on-ticked seal setup s r entries side time =
     same_reading (write_on s r) entries (Ticked side time ∷ sealed_at_tick seal setup side entries)
     (tick_none seal setup side entries (write_on s r) (λ s k r i p b. refl))
 
-pub writes_on-got : {seal : Sealing} {setup : Setup} (s : Side) (r : ℕ) (entries : List Entry) (side : Side) (time : ℕ) (bytes : List ℕ) (brought : List Entry)
-    → Receives seal setup side entries bytes brought
-    → writes_on s r (entries ++ Got side time Rtp bytes ∷ brought) ≡ writes_on s r entries
-writes_on-got s r entries side time bytes brought h =
-    same_reading (write_on s r) entries (Got side time Rtp bytes ∷ brought) (received_none (write_on s r) (λ s k r i p. refl) (λ s p. refl) h)
+pub writes_on-got : {seal : Sealing} {setup : Setup} (s : Side) (r : ℕ) (entries : List Entry) (side : Side) (time : ℕ) (kind : Kind) (bytes : List ℕ) (brought : List Entry)
+    → Receives seal setup side entries kind bytes brought
+    → writes_on s r (entries ++ Got side time kind bytes ∷ brought) ≡ writes_on s r entries
+writes_on-got s r entries side time kind bytes brought h =
+    same_reading (write_on s r) entries (Got side time kind bytes ∷ brought) (received_none (write_on s r) (λ s k r i p. refl) (λ s p. refl) h)
 
-no_seal_received : {seal : Sealing} {setup : Setup} {side : Side} {entries : List Entry} {bytes : List ℕ} {brought : List Entry} → Receives seal setup side entries bytes brought
+no_seal_received : {seal : Sealing} {setup : Setup} {side : Side} {entries : List Entry} {kind : Kind} {bytes : List ℕ} {brought : List Entry} → Receives seal setup side entries kind bytes brought
     → (s : Side) (k : Kind) (r i : ℕ) (p b : List ℕ) → IsIn (Sealed s k r i p b) brought → ⊥
 no_seal_received {side = side} (opens header number plain o) s k r i p b (inl e) = absurd cc
 no_seal_received {side = side} (opens header number plain o) s k r i p b (inr h) =
@@ -185,8 +184,8 @@ after_step {seal} {setup} {entries} (wrote side time w a b) e h = after_write se
 after_step {seal} {setup} {entries} (ticked side time) e h =
     after_other seal setup entries (Ticked side time ∷ sealed_at_tick seal setup side entries) (λ s r. writes_on-ticked seal setup s r entries side time)
     (λ s k r i p b j. elim j [ inl is ↦ absurd (cc is) | inr l ↦ sealed_by_tick seal setup entries side s k r i p b l ]) h
-after_step {seal} {setup} {entries} (got side time k bytes brought at received) e h =
-    after_other seal setup entries (Got side time Rtp bytes ∷ brought) (λ s r. writes_on-got s r entries side time bytes brought received)
+after_step {seal} {setup} {entries} (got side time kind bytes brought at received) e h =
+    after_other seal setup entries (Got side time kind bytes ∷ brought) (λ s r. writes_on-got s r entries side time kind bytes brought received)
     (λ s k r i p b j. elim j [ inl is ↦ absurd (cc is) | inr l ↦ absurd (no_seal_received received s k r i p b l) ]) h
 
 pub stands : {seal : Sealing} {setup : Setup} {steps : List Step} {entries : List Entry} → Played seal setup steps entries → Stands seal setup entries

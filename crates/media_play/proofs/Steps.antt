@@ -1,24 +1,21 @@
 -- A run plays the steps of its script.
-use Rattle.std.proofs.Common.{◌≡◌, inl, inr, ℕ, ◌≤◌, List, [], ◌∷◌, ◌++◌, map, None, refl, sym, ap, subst, append_assoc, arith}
+use Rattle.std.proofs.Common.{◌≡◌, inl, inr, ℕ, List, [], ◌∷◌, ◌++◌, map, None, refl, sym, ap, subst, append_assoc}
 use Rattle.std.specs.Prelude.{◌==◌}
 use Rattle.std.proofs.lemmas.List.{append-nil}
-use Rattle.std.proofs.lemmas.Bool.{eqb-false, or_parts}
 use Rattle.media_script.specs.declared.entry.Side.{Side}
-use Rattle.media_script.specs.declared.entry.Kind.TheVariants.{Rtp}
+use Rattle.media_script.specs.declared.entry.Kind.{Kind}
 use Rattle.media_script.specs.declared.entry.Write.{Write as Writing}
 use Rattle.media_script.specs.declared.entry.Entry.{Entry}
 use Rattle.media_script.specs.declared.entry.Entry.TheVariants.{Wrote, Ticked, Got, Sealed, Opened, Yielded}
 use Rattle.media_script.specs.declared.step.Step.{Step}
-use Rattle.media_script.specs.declared.step.Step.TheVariants.{Deliver}
 use Rattle.media_script.specs.declared.setup.Setup.{Setup}
 use Rattle.media_play.specs.Opening.{Sealing, Receives, opens, stays}
 use Rattle.media_play.specs.Play.{sealed_write, Outcome, wrote, ticked, got, Played, start, turn}
-use Rattle.media_play.specs.Rules.{time_fault, deliver_fault, step_fault}
+use Rattle.media_play.specs.Rules.{step_fault}
 use Rattle.media_play.specs.Headline.{PlaysFrom, PlaysSteps}
 use Rattle.media_play.proofs.Lists.{tested}
 use Rattle.media_play.specs.Play.{to_seal}
 use Rattle.media_play.proofs.Readings.{sealed_at_tick-map}
-use Rattle.media_play.proofs.Stands.{or_else_none, cond_none}
 
 PlaysFrom-append : (past : List Entry) (steps more : List Step) (entries new : List Entry) → PlaysFrom past steps entries → PlaysFrom (past ++ entries) more new
     → PlaysFrom past (steps ++ more) (entries ++ new)
@@ -39,9 +36,7 @@ PlaysFrom-append past steps more (Got s t kind b ∷ entries) new h k = (
   h.1 ++ more,
   ap (λ ss. ss ++ more) h.2,
   h.3,
-  h.4,
-  h.5,
-  PlaysFrom-append (past ++ Got s t kind b ∷ []) h.1 more entries new h.6 (subst (λ es. PlaysFrom es more new) (sym (append_assoc past (Got s t kind b ∷ []) entries)) k),
+  PlaysFrom-append (past ++ Got s t kind b ∷ []) h.1 more entries new h.4 (subst (λ es. PlaysFrom es more new) (sym (append_assoc past (Got s t kind b ∷ []) entries)) k),
 )
 PlaysFrom-append past steps more (Sealed s kind r i p b ∷ entries) new h k =
     PlaysFrom-append (past ++ Sealed s kind r i p b ∷ []) steps more entries new h (subst (λ es. PlaysFrom es more new) (sym (append_assoc past (Sealed s kind r i p b ∷ []) entries)) k)
@@ -54,16 +49,10 @@ seals_play_none : (seal : Sealing) (side : Side) (past : List Entry) (ws : List 
 seals_play_none seal side past [] = refl
 seals_play_none seal side past (w ∷ ws) = seals_play_none seal side (past ++ sealed_write seal side w ∷ []) ws
 
-received_plays_none : {seal : Sealing} {setup : Setup} {side : Side} {entries : List Entry} {bytes : List ℕ} {chunk : List Entry} (past : List Entry)
-    → Receives seal setup side entries bytes chunk → PlaysFrom past [] chunk
+received_plays_none : {seal : Sealing} {setup : Setup} {side : Side} {entries : List Entry} {kind : Kind} {bytes : List ℕ} {chunk : List Entry} (past : List Entry)
+    → Receives seal setup side entries kind bytes chunk → PlaysFrom past [] chunk
 received_plays_none past (opens header number plain o) = elim (tested (header.ssrc == 0)) [ inl t ↦ rw t refl | inr t ↦ rw t refl ]
 received_plays_none past (stays none) = refl
-
-counted : (setup : Setup) (entries : List Entry) (side : Side) (time k : ℕ) → step_fault setup entries (Deliver side time k) ≡ None → 1 ≤ k
-counted setup entries side time k e =
-    let parts = or_parts (k == 0) _ (cond_none _ _ _ (or_else_none (time_fault entries time) (deliver_fault entries side k) e).1).0 in
-    let not_zero : k ≡ 0 → ⊥ = eqb-false k 0 parts.0 in
-    omega (arith, not_zero)
 
 one_step : {seal : Sealing} {setup : Setup} {entries : List Entry} {step : Step} {new : List Entry} → Outcome seal setup entries step new → step_fault setup entries step ≡ None
     → PlaysFrom entries (step ∷ []) new
@@ -74,8 +63,8 @@ one_step {seal} {setup} {entries} (ticked side time) e = (
   subst (PlaysFrom (entries ++ Ticked side time ∷ []) []) (sym (sealed_at_tick-map seal setup side entries))
       (seals_play_none seal side (entries ++ Ticked side time ∷ []) (to_seal setup side entries)),
 )
-one_step {seal} {setup} {entries} (got side time k bytes chunk at received) e =
-    (k, [], refl, refl, counted setup entries side time k e, at, received_plays_none (entries ++ Got side time Rtp bytes ∷ []) received)
+one_step {seal} {setup} {entries} (got {step} side time kind bytes chunk at received) e =
+    (step, [], refl, at, received_plays_none (entries ++ Got side time kind bytes ∷ []) received)
 
 pub plays_steps : {seal : Sealing} {setup : Setup} {steps : List Step} {entries : List Entry} → Played seal setup steps entries → PlaysSteps steps entries
 plays_steps start = refl

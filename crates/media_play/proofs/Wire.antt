@@ -1,7 +1,6 @@
 -- What headers and seals give to the laws of a run.
-use Rattle.std.proofs.Common.{◌≡◌, ℕ, zero, suc, ◌+◌, ◌-◌, ◌*◌, ◌/◌, ◌%◌, ◌<◌, ◌≤◌, ◌^◌, List, [], ◌∷◌, ◌++◌, length, take, drop, replicate, Some, refl, sym, ap, ◌∙◌, arith}
+use Rattle.std.proofs.Common.{ℕ, zero, suc, ◌≤◌, List, [], length, replicate, refl, arith}
 use Rattle.std.proofs.lemmas.List.{length-append, drop_at}
-use Rattle.rtp_wire.specs.declared.header.RtpHeader.{RtpHeader}
 use Rattle.rtp_wire.specs.BytesLaws.{AreWords}
 use Rattle.rtp_wire.specs.Extensions.{no_extensions}
 use Rattle.rtp_wire.specs.Header.{header_bytes}
@@ -9,7 +8,7 @@ use Rattle.rtp_wire.specs.HeaderLaws.{ReadsOwnBytes, PlainIsReadAgain, PlainIsAs
 use Rattle.srtp_core.specs.Laws.{RtpSealsApart, RtpSealKeepsHeader}
 use Rattle.media_script.specs.declared.entry.Write.{Write as Writing}
 use Rattle.media_script.specs.declared.setup.Setup.{Setup}
-use Rattle.media_play.specs.Plain.{read_header, header_of_write, plain_of}
+use Rattle.media_play.specs.Plain.{header_of_write, plain_of}
 use Rattle.media_play.specs.Sessions.{sealing_of}
 use Rattle.media_play.specs.WireLaws.{WireLaws, FitsHeader}
 

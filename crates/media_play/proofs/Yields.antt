@@ -7,6 +7,7 @@ use Rattle.std.proofs.lemmas.List.Concat.{flat_map-append}
 use Rattle.std.proofs.lemmas.Bool.{and_parts, or_cases, ltb-true, eq-eqb, false≢true, not-true}
 use Rattle.rtp_wire.specs.declared.header.RtpHeader.{RtpHeader}
 use Rattle.media_script.specs.declared.entry.Side.{Side}
+use Rattle.media_script.specs.declared.entry.Kind.{Kind}
 use Rattle.media_script.specs.declared.entry.Kind.TheVariants.{Rtp}
 use Rattle.media_script.specs.declared.entry.Packet.{Packet}
 use Rattle.media_script.specs.declared.entry.Entry.{Entry}
@@ -49,36 +50,36 @@ same_apart s xs ys e f h = record {
   took = λ packet i. subst (IsIn packet.number) (sym (f packet.ssrc)) (h.took packet (subst (IsIn packet) e i));
 }
 
-packets-opens : (s : Side) (entries : List Entry) (side : Side) (time : ℕ) (bytes : List ℕ) (header : RtpHeader) (number : ℕ) (plain : List ℕ)
-    → packets s (entries ++ Got side time Rtp bytes ∷ Opened side Rtp header.ssrc number plain ∷ yields side header number plain)
+packets-opens : (s : Side) (entries : List Entry) (side : Side) (time : ℕ) (kind : Kind) (bytes : List ℕ) (header : RtpHeader) (number : ℕ) (plain : List ℕ)
+    → packets s (entries ++ Got side time kind bytes ∷ Opened side Rtp header.ssrc number plain ∷ yields side header number plain)
     ≡ packets s entries ++ packets s (yields side header number plain)
-packets-opens s entries side time bytes header number plain =
-    flat_map-append (packet_by s) entries (Got side time Rtp bytes ∷ Opened side Rtp header.ssrc number plain ∷ yields side header number plain)
+packets-opens s entries side time kind bytes header number plain =
+    flat_map-append (packet_by s) entries (Got side time kind bytes ∷ Opened side Rtp header.ssrc number plain ∷ yields side header number plain)
 
-apart_opens : {seal : Sealing} {setup : Setup} (s : Side) (entries : List Entry) (side : Side) (time : ℕ) (bytes : List ℕ) (header : RtpHeader) (number : ℕ) (plain : List ℕ)
-    → Opens seal setup side entries bytes header number plain → Apart s entries
-    → Apart s (entries ++ Got side time Rtp bytes ∷ Opened side Rtp header.ssrc number plain ∷ yields side header number plain)
-apart_opens s entries side time bytes header number plain o h =
+apart_opens : {seal : Sealing} {setup : Setup} (s : Side) (entries : List Entry) (side : Side) (time : ℕ) (kind : Kind) (bytes : List ℕ) (header : RtpHeader) (number : ℕ) (plain : List ℕ)
+    → Opens seal setup side entries kind bytes header number plain → Apart s entries
+    → Apart s (entries ++ Got side time kind bytes ∷ Opened side Rtp header.ssrc number plain ∷ yields side header number plain)
+apart_opens s entries side time kind bytes header number plain o h =
     elim (tested (same_side s side)) [
       | inl here ↦ yielded here
       | inr other ↦ unheard other
     ]
   where
     after : List Entry
-    after = entries ++ Got side time Rtp bytes ∷ Opened side Rtp header.ssrc number plain ∷ yields side header number plain
+    after = entries ++ Got side time kind bytes ∷ Opened side Rtp header.ssrc number plain ∷ yields side header number plain
 
     packet : Packet
     packet = packet_from header number plain
 
     all : (r : ℕ) → taken s r after ≡ taken s r entries ++ cond (same_side s side && (header.ssrc == r)) (number ∷ []) []
-    all r = taken-opens s r entries side time bytes header number plain
+    all r = taken-opens s r entries side time kind bytes header number plain
 
     old : (p : Packet) → IsIn p (packets s entries) → IsIn p.number (taken s p.ssrc after)
     old p i = subst (IsIn p.number) (sym (all p.ssrc)) (IsIn-left p.number (taken s p.ssrc entries) (cond (same_side s side && (header.ssrc == p.ssrc)) (number ∷ []) []) (h.took p i))
 
     kept : packets s (yields side header number plain) ≡ [] → Apart s after
     kept none =
-        let same : packets s after ≡ packets s entries = packets-opens s entries side time bytes header number plain ∙ ap (λ zs. packets s entries ++ zs) none ∙ append-nil (packets s entries) in
+        let same : packets s after ≡ packets s entries = packets-opens s entries side time kind bytes header number plain ∙ ap (λ zs. packets s entries ++ zs) none ∙ append-nil (packets s entries) in
         record { once = subst NoRepeat (sym same) h.once; took = λ p i. old p (subst (IsIn p) same i) }
 
     unheard : same_side s side ≡ false → Apart s after
@@ -86,7 +87,7 @@ apart_opens s entries side time bytes header number plain o h =
 
     one_more : same_side s side ≡ true → packets s (yields side header number plain) ≡ packet ∷ [] → Apart s after
     one_more here one =
-        let more : packets s after ≡ packets s entries ++ packet ∷ [] = packets-opens s entries side time bytes header number plain ∙ ap (λ zs. packets s entries ++ zs) one in
+        let more : packets s after ≡ packets s entries ++ packet ∷ [] = packets-opens s entries side time kind bytes header number plain ∙ ap (λ zs. packets s entries ++ zs) one in
         let is : side ≡ s = sym (same_side-true s side here) in
         let new : IsIn number (taken s header.ssrc entries) → ⊥ =
         λ i. fresh_new (taken side header.ssrc entries) number o.fresh (subst (λ t. IsIn number (taken t header.ssrc entries)) (sym is) i) in
@@ -116,13 +117,13 @@ apart {seal} {setup} (turn {steps} {entries} h step new e o) s = go (apart h s) 
         same_apart s entries (entries ++ Ticked side time ∷ sealed_at_tick seal setup side entries)
         (same_reading (packet_by s) entries (Ticked side time ∷ sealed_at_tick seal setup side entries) (tick_none seal setup side entries (packet_by s) (λ s k r i p b. refl)))
         (λ r. taken-ticked seal setup s r entries side time) a
-    go a (got side time k bytes chunk at received) = heard chunk received
+    go a (got side time kind bytes chunk at received) = heard chunk received
       where
-        heard : (chunk : List Entry) → Receives seal setup side entries bytes chunk → Apart s (entries ++ Got side time Rtp bytes ∷ chunk)
-        heard chunk (opens header number plain o) = apart_opens s entries side time bytes header number plain o a
+        heard : (chunk : List Entry) → Receives seal setup side entries kind bytes chunk → Apart s (entries ++ Got side time kind bytes ∷ chunk)
+        heard chunk (opens header number plain o) = apart_opens s entries side time kind bytes header number plain o a
         heard chunk (stays none) =
-            same_apart s entries (entries ++ Got side time Rtp bytes ∷ []) (same_reading (packet_by s) entries (Got side time Rtp bytes ∷ []) refl)
-            (λ r. taken-stays s r entries side time bytes) a
+            same_apart s entries (entries ++ Got side time kind bytes ∷ []) (same_reading (packet_by s) entries (Got side time kind bytes ∷ []) refl)
+            (λ r. taken-stays s r entries side time kind bytes) a
 
 pub no_packet_twice : {seal : Sealing} {setup : Setup} {steps : List Step} {entries : List Entry} → Played seal setup steps entries → NoPacketTwice entries
 no_packet_twice h s = (apart h s).once

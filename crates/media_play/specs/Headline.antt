@@ -1,5 +1,5 @@
 -- What holds of the entries of a run.
-use Rattle.std.specs.Prelude.{◌≡◌, ◌↔◌, ◌<◌, ◌≤◌, ◌-◌, ◌^◌, ◌%◌, ℕ, false, true, List, [], ◌∷◌, ◌++◌, slice_get, Some}
+use Rattle.std.specs.Prelude.{◌≡◌, ◌↔◌, ◌<◌, ◌^◌, ◌%◌, ℕ, false, true, List, [], ◌∷◌, ◌++◌, Some}
 use Rattle.rtp_wire.specs.declared.header.RtpHeader.{RtpHeader}
 use Rattle.rtp_wire.specs.Widen.{widen16}
 use Rattle.media_script.specs.declared.entry.Side.{Side}
@@ -9,17 +9,17 @@ use Rattle.media_script.specs.declared.entry.Write.{Write as Writing}
 use Rattle.media_script.specs.declared.entry.Entry.{Entry}
 use Rattle.media_script.specs.declared.entry.Entry.TheVariants.{Wrote, Ticked, Got, Sealed, Yielded}
 use Rattle.media_script.specs.declared.step.Step.{Step}
-use Rattle.media_script.specs.declared.step.Step.TheVariants.{Write, Tick, Deliver}
+use Rattle.media_script.specs.declared.step.Step.TheVariants.{Write, Tick}
 use Rattle.media_script.specs.declared.setup.Setup.{Setup}
 use Rattle.media_script.specs.Genuine.{IsGenuine}
 use Rattle.media_script.specs.Sides.{peer_of}
 use Rattle.media_script.specs.Setup.{streams_of}
 use Rattle.media_play.specs.Listing.{IsIn, NoRepeat, Each, EachStep}
-use Rattle.media_play.specs.Entries.{writes_by, writes_on, sealed_numbers, datagrams, nonces, taken, packets}
+use Rattle.media_play.specs.Entries.{writes_by, writes_on, sealed_numbers, nonces, taken, packets}
 use Rattle.repair_core.specs.Fresh.{greatest_of, is_fresh}
 use Rattle.media_play.specs.Opening.{Sealing, Receives}
 use Rattle.media_play.specs.Plain.{read_header, plain_of, as_packet}
-use Rattle.media_play.specs.Play.{sealed_write, sealed_at_tick}
+use Rattle.media_play.specs.Play.{sealed_write, sealed_at_tick, Brings}
 use Rattle.media_play.specs.Rules.{has}
 
 -- a sealed datagram is the seal of its plain, which reads with its SSRC and the low 16 bits of its number; the SSRC is
@@ -68,7 +68,7 @@ SendsWrites entries = Each IsSentWrite entries
 abbrev pub Answers : Sealing → Setup → List Entry → Entry → List Entry → Type 0
 Answers seal setup past (Wrote side time write) chunk = chunk ≡ []
 Answers seal setup past (Ticked side time) chunk = chunk ≡ sealed_at_tick seal setup side past
-Answers seal setup past (Got side time kind bytes) chunk = Receives seal setup side past bytes chunk
+Answers seal setup past (Got side time kind bytes) chunk = Receives seal setup side past kind bytes chunk
 Answers seal setup past _ chunk = Unit {0}
 
 abbrev pub StepsAreAnswered : Sealing → Setup → List Entry → Type 0
@@ -100,8 +100,7 @@ YieldsExactly seal past _ chunk = Unit {0}
 abbrev pub FirstSendingsAreYielded : Sealing → List Entry → Type 0
 FirstSendingsAreYielded seal entries = EachStep (YieldsExactly seal) entries
 
--- the steps among these entries are those of the script, in order: a datagram that comes is the one that the script
--- counts, from 1, among those that the other side sealed before
+-- the steps among these entries are those of the script, in order: bytes that come are those that the step brings
 abbrev pub PlaysFrom : List Entry → List Step → List Entry → Type 0
 PlaysFrom past steps [] = steps ≡ []
 PlaysFrom past steps (Wrote side time write ∷ entries) =
@@ -109,8 +108,8 @@ PlaysFrom past steps (Wrote side time write ∷ entries) =
 PlaysFrom past steps (Ticked side time ∷ entries) =
     (rest : List Step) × (steps ≡ Tick side time ∷ rest) × PlaysFrom (past ++ Ticked side time ∷ []) rest entries
 PlaysFrom past steps (Got side time kind bytes ∷ entries) =
-    (k : ℕ) × (rest : List Step) × (steps ≡ Deliver side time k ∷ rest) × (kind ≡ Rtp) × (1 ≤ k)
-    × (slice_get (datagrams (peer_of side) past) (k - 1) ≡ Some bytes) × PlaysFrom (past ++ Got side time kind bytes ∷ []) rest entries
+    (step : Step) × (rest : List Step) × (steps ≡ step ∷ rest) × Brings past side time kind bytes step
+    × PlaysFrom (past ++ Got side time kind bytes ∷ []) rest entries
 PlaysFrom past steps (entry ∷ entries) = PlaysFrom (past ++ entry ∷ []) steps entries
 
 abbrev pub PlaysSteps : List Step → List Entry → Type 0

@@ -1,11 +1,12 @@
 -- What opens, and what is then yielded.
-use Rattle.std.specs.Prelude.{◌≡◌, ◌≤◌, ℕ, Bool, true, false, IsTrue, ◌||◌, ◌&&◌, ◌==◌, if◌then◌else◌, List, [], ◌∷◌, ◌++◌, length, take, drop, Option, Some, None, IsSome, unwrap_or}
+use Rattle.std.specs.Prelude.{◌≡◌, ◌≤◌, ℕ, Bool, true, IsTrue, ◌||◌, ◌&&◌, ◌==◌, if◌then◌else◌, List, [], ◌∷◌, length, take, drop, Option, Some, None, IsSome, unwrap_or}
 use Rattle.rtp_wire.specs.declared.header.RtpHeader.{RtpHeader}
 use Rattle.rtp_wire.specs.Header.{csrc_of}
 use Rattle.rtp_wire.specs.Widen.{widen16}
 use Rattle.rtp_wire.specs.Padding.{unpadded}
 use Rattle.media_play.specs.Plain.{read_header}
 use Rattle.media_script.specs.declared.entry.Side.{Side}
+use Rattle.media_script.specs.declared.entry.Kind.{Kind}
 use Rattle.media_script.specs.declared.entry.Kind.TheVariants.{Rtp}
 use Rattle.media_script.specs.declared.entry.Packet.{Packet}
 use Rattle.media_script.specs.declared.entry.Entry.{Entry}
@@ -54,8 +55,10 @@ yields side header number plain = if header.ssrc == 0 then [] else Yielded side 
 abbrev pub Sealing : Type 0
 Sealing = Side → ℕ → ℕ → ℕ → List ℕ → List ℕ
 
--- RTP bytes that come to a side after these entries open under this number to this plain datagram
-pub record Opens (seal : Sealing) (setup : Setup) (side : Side) (entries : List Entry) (bytes : List ℕ) (header : RtpHeader) (number : ℕ) (plain : List ℕ) : Type 0 where
+-- bytes that come to a side after these entries open under this number to this plain datagram; they are RTP, since no
+-- RTCP opens yet
+pub record Opens (seal : Sealing) (setup : Setup) (side : Side) (entries : List Entry) (kind : Kind) (bytes : List ℕ) (header : RtpHeader) (number : ℕ) (plain : List ℕ) : Type 0 where
+  pub rtp : kind ≡ Rtp
   pub short : length bytes ≤ 2000
   pub reads : read_header bytes ≡ Some header
   pub known : is_known setup side header ≡ true
@@ -65,9 +68,9 @@ pub record Opens (seal : Sealing) (setup : Setup) (side : Side) (entries : List 
   pub sealed : seal (peer_of side) header.ssrc number header.header_len plain ≡ bytes
   pub unpads : IsTrue header.has_padding → IsSome (unpadded (drop header.header_len plain))
 
--- what RTP bytes bring that come to a side after these entries
-pub data Receives (seal : Sealing) (setup : Setup) (side : Side) (entries : List Entry) (bytes : List ℕ) : List Entry → Type 0 where
-  opens : (header : RtpHeader) (number : ℕ) (plain : List ℕ) → Opens seal setup side entries bytes header number plain
-      → Receives seal setup side entries bytes (Opened side Rtp header.ssrc number plain ∷ yields side header number plain)
-  stays : ((header : RtpHeader) (number : ℕ) (plain : List ℕ) → Opens seal setup side entries bytes header number plain → ⊥)
-      → Receives seal setup side entries bytes []
+-- what bytes bring that come to a side after these entries: where they open, what they open to, and else nothing
+pub data Receives (seal : Sealing) (setup : Setup) (side : Side) (entries : List Entry) (kind : Kind) (bytes : List ℕ) : List Entry → Type 0 where
+  opens : (header : RtpHeader) (number : ℕ) (plain : List ℕ) → Opens seal setup side entries kind bytes header number plain
+      → Receives seal setup side entries kind bytes (Opened side Rtp header.ssrc number plain ∷ yields side header number plain)
+  stays : ((header : RtpHeader) (number : ℕ) (plain : List ℕ) → Opens seal setup side entries kind bytes header number plain → ⊥)
+      → Receives seal setup side entries kind bytes []

@@ -1,5 +1,5 @@
 -- What the top call did.
-use Rattle.std.specs.Prelude.{ℕ, ◌<◌, ◌≡◌, ◌⊎◌, List, [], ◌∷◌, ◌++◌, length, codes, Err}
+use Rattle.std.specs.Prelude.{ℕ, ◌<◌, ◌≤◌, ◌≡◌, ◌⊎◌, List, [], ◌∷◌, ◌++◌, length, codes, Err}
 use Rattle.std.specs.Fmt.{decimal}
 use Rattle.std.specs.declared.option.Option.{Option}
 use Rattle.std.specs.declared.option.Option.TheVariants.{Some, None}
@@ -22,7 +22,7 @@ use Rattle.media_play.specs.FaultNames.{setup_fault_name, step_fault_name}
 use Rattle.media_play.specs.Headline.{HoldsOfRun}
 use Rattle.media_play.specs.Opening.{Sealing}
 use Rattle.media_play.specs.Play.{Played}
-use Rattle.media_play.specs.Running.{HasCause}
+use Rattle.media_play.specs.Running.{HasCause, AreValidSteps}
 use Rattle.media_play.specs.Sessions.{sealing_of}
 use Rattle.media_play.specs.SetupRules.{setup_fault}
 
@@ -119,3 +119,32 @@ pub record Answers (limit : ℕ) (words : List (List ℕ)) (left left' held held
   pub plays : Plays limit words left left' end transcript text
   pub tells : ((answer ≡ end) × (answered ≡ transcript) × Appends held held' text)
       ⊎ ((answer ≡ WriteFault) × (answered ≡ None) × WritesFront held held' text)
+
+-- the source tells its bytes, which are a script of this setup and these steps
+abbrev pub TellsScript : Option (List ℕ) → Given → List Act → Type 0
+TellsScript None setup steps = ⊥
+TellsScript (Some bytes) setup steps = IsScript bytes setup steps
+
+-- the call came to the end of this setup and these steps, or to one that is no end of a script
+abbrev pub EndsInRun : Given → List Act → End → Option (List Entry) → List ℕ → Type 0
+EndsInRun setup steps Done transcript text = RunEnds setup steps Done transcript text
+EndsInRun setup steps (Setup fault) transcript text = RunEnds setup steps (Setup fault) transcript text
+EndsInRun setup steps (Step number fault) transcript text = RunEnds setup steps (Step number fault) transcript text
+EndsInRun setup steps (Syntax line) transcript text = ⊥
+EndsInRun setup steps end transcript text = transcript ≡ None
+
+-- the command run, and a source that tells a script within the length, whose setup and steps break no rule
+pub record IsInOrder (limit : ℕ) (words : List (List ℕ)) (left : Option (List ℕ)) (setup : Given) (steps : List Act) : Type 0 where
+  pub command : IsCommand words
+  pub bytes : List ℕ
+  pub told : left ≡ Some bytes
+  pub script : IsScript bytes setup steps
+  pub short : length bytes ≤ limit
+  pub fine : setup_fault setup ≡ None
+  pub valid : AreValidSteps (toy_sealing setup) setup steps
+
+-- all steps were played, or memory ran out
+abbrev pub PlaysAll : Given → List Act → End → Option (List Entry) → Type 0
+PlaysAll setup steps Done (Some entries) = Played (toy_sealing setup) setup steps entries
+PlaysAll setup steps Memory None = Unit {0}
+PlaysAll setup steps end transcript = ⊥

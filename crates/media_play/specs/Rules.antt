@@ -5,7 +5,7 @@ use Rattle.media_script.specs.declared.entry.Side.{Side}
 use Rattle.media_script.specs.declared.entry.Write.{Write as Writing}
 use Rattle.media_script.specs.declared.entry.Entry.{Entry}
 use Rattle.media_script.specs.declared.step.Step.{Step}
-use Rattle.media_script.specs.declared.step.Step.TheVariants.{Write, Tick, Deliver}
+use Rattle.media_script.specs.declared.step.Step.TheVariants.{Write, Tick, Deliver, Foreign}
 use Rattle.media_script.specs.declared.setup.Setup.{Setup}
 use Rattle.media_script.specs.Sides.{peer_of}
 use Rattle.media_script.specs.Setup.{streams_of, types_of}
@@ -45,3 +45,4 @@ abbrev pub step_fault : Setup → List Entry → Step → Option StepFault
 step_fault setup entries (Write side time write) = or_else (time_fault entries time) (write_fault setup entries side write)
 step_fault setup entries (Tick side time) = time_fault entries time
 step_fault setup entries (Deliver side time k) = or_else (time_fault entries time) (deliver_fault entries side k)
+step_fault setup entries (Foreign side time kind bytes) = time_fault entries time

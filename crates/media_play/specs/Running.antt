@@ -38,6 +38,12 @@ HasCause seal setup steps entries (error.Step number fault) =
     × Played seal setup (take before steps) entries × (step_fault setup entries step ≡ Some fault))
 HasCause seal setup steps entries error.Memory = (played : ℕ) × (played ≤ length steps) × Played seal setup (take played steps) entries
 
+-- no step breaks a rule after the entries that the steps before it brought
+abbrev pub AreValidSteps : Sealing → Setup → List Step → Type 0
+AreValidSteps seal setup steps =
+    (before : ℕ) (step : Step) (entries : List Entry) → slice_get steps before ≡ Some step → Played seal setup (take before steps) entries
+    → step_fault setup entries step ≡ None
+
 -- what holds of the entries of a run, whether it came to its end or not
 abbrev pub OfRun : Result Transcript RunFault → (List Entry → Type 0) → Type 0
 OfRun (Ok entries) P = P entries

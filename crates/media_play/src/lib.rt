@@ -10,8 +10,6 @@ mod session;
 mod setup_rules;
 mod stream;
 mod streams;
-#[cfg(test)]
-mod tests;
 mod top;
 mod waiting;
 mod write;

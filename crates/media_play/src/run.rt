@@ -2,14 +2,14 @@ ghost use Rattle.std.specs.Prelude.{◌≡◌, ◌∷◌, ◌++◌, ◌+◌, ◌
 ghost use Rattle.media_script.specs.declared.entry.Entry.{Entry as Happening};
 ghost use Rattle.media_script.specs.declared.entry.Entry.TheVariants.{Wrote, Ticked};
 ghost use Rattle.media_script.specs.declared.step.Step.{Step as Act};
-ghost use Rattle.media_script.specs.declared.step.Step.TheVariants.{Write as WriteStep, Tick as TickStep, Deliver as DeliverStep};
+ghost use Rattle.media_script.specs.declared.step.Step.TheVariants.{Write as WriteStep, Tick as TickStep, Deliver as DeliverStep, Foreign as ForeignStep};
 ghost use Rattle.media_script.specs.declared.setup.Setup.{Setup as Given};
 ghost use Rattle.media_script.specs.Sides.{peer_of};
 ghost use Rattle.media_play.specs.Entries.{datagrams};
 ghost use Rattle.media_play.specs.Errors.{IsBroken};
 ghost use Rattle.media_play.specs.Headline.{StepsAreAnswered, SealsAreRight, NoNonceTwice, SendsWrites, YieldsWrites, NoPacketTwice, FirstSendingsAreYielded};
 ghost use Rattle.media_play.specs.Opening.{Sealing};
-ghost use Rattle.media_play.specs.Play.{IsDelivery, Played, sealed_at_tick};
+ghost use Rattle.media_play.specs.Play.{Brings, IsArrival, Played, sealed_at_tick};
 ghost use Rattle.media_play.specs.Running.{HasCause, OfRun};
 ghost use Rattle.media_play.specs.SetupRules.{setup_fault};
 ghost use Rattle.media_play.specs.Rules.{write_fault, deliver_fault};
@@ -83,6 +83,24 @@ impl<C: SrtpCipher> Run<C> {
         Ok(())
     }
 
+    /// The datagram that the other side sealed as its `number`-th, counted from 1.
+    fn datagram_for(&self, side: Side, number: u64) -> Result<&[u8], StepFault>
+        ensures { MatchResult result
+            (λ bytes. (deliver_fault self.now.log side number ≡ None) × (1 ≤ number) × (slice_get (datagrams (peer_of side) self.now.log) (number - 1) ≡ Some bytes.now))
+            (λ fault. deliver_fault self.now.log side number ≡ Some fault) }
+    {
+        if number == 0 {
+            return Err(StepFault::UnknownDatagram);
+        }
+        let Ok(place) = usize::try_from(number - 1) else {
+            return Err(StepFault::UnknownDatagram);
+        };
+        match self.log.datagram(side.peer(), place) {
+            Some(bytes) => Ok(bytes),
+            None => Err(StepFault::UnknownDatagram),
+        }
+    }
+
     fn write(
         &mut self,
         alloc: Global,
@@ -123,6 +141,29 @@ impl<C: SrtpCipher> Run<C> {
         Ok(())
     }
 
+    /// Takes in bytes that a step brings to a side.
+    fn receive(
+        &mut self,
+        alloc: Global,
+        side: Side,
+        time: Instant,
+        kind: Kind,
+        bytes: Bytes,
+    ) -> Result<(), AllocError>
+        ensures done { OnOk result ((setup : Given) (steps : List Act) (step : Act) → IsSound setup
+            → Running C.block (sealing_of C.keystream C.aead C.block setup) setup self.old steps
+            → Brings self.old.log side time kind bytes step → step_fault setup self.old.log step ≡ None
+            → Running C.block (sealing_of C.keystream C.aead C.block setup) setup self.new (steps ++ step ∷ [])) }
+        ensures longer { (more : List Happening) × (self.new.log ≡ self.old.log ++ more) }
+    {
+        match side {
+            Side::A => receive_step(alloc, &mut self.a, &mut self.log, side, time, kind, bytes)?,
+            Side::B => receive_step(alloc, &mut self.b, &mut self.log, side, time, kind, bytes)?,
+        }
+        self.latest = time;
+        Ok(())
+    }
+
     fn deliver(
         &mut self,
         alloc: Global,
@@ -138,11 +179,29 @@ impl<C: SrtpCipher> Run<C> {
         ensures longer { (more : List Happening) × (self.new.log ≡ self.old.log ++ more) }
     {
         self.check_time(time)?;
-        match side {
-            Side::A => deliver_step(alloc, &mut self.a, &mut self.log, side, time, datagram)?,
-            Side::B => deliver_step(alloc, &mut self.b, &mut self.log, side, time, datagram)?,
-        }
-        self.latest = time;
+        let bytes = Bytes::from_slice(alloc, self.datagram_for(side, datagram)?)?;
+        self.receive(alloc, side, time, Kind::Rtp, bytes)?;
+        Ok(())
+    }
+
+    fn foreign(
+        &mut self,
+        alloc: Global,
+        side: Side,
+        time: Instant,
+        kind: Kind,
+        bytes: &Bytes,
+    ) -> Result<(), StepError>
+        ensures done { OnOk result ((setup : Given) (steps : List Act) → IsSound setup
+            → Running C.block (sealing_of C.keystream C.aead C.block setup) setup self.old steps
+            → Running C.block (sealing_of C.keystream C.aead C.block setup) setup self.new (steps ++ ForeignStep side time kind bytes.now ∷ [])) }
+        ensures broken { (setup : Given) (steps : List Act) → Running C.block (sealing_of C.keystream C.aead C.block setup) setup self.old steps
+            → IsBroken result (step_fault setup self.old.log (ForeignStep side time kind bytes.now)) (self.new.log ≡ self.old.log) }
+        ensures longer { (more : List Happening) × (self.new.log ≡ self.old.log ++ more) }
+    {
+        self.check_time(time)?;
+        let bytes = Bytes::from_slice(alloc, bytes.as_slice())?;
+        self.receive(alloc, side, time, kind, bytes)?;
         Ok(())
     }
 
@@ -163,6 +222,12 @@ impl<C: SrtpCipher> Run<C> {
                 time,
                 datagram,
             } => self.deliver(alloc, *side, *time, *datagram),
+            Step::Foreign {
+                side,
+                time,
+                kind,
+                bytes,
+            } => self.foreign(alloc, *side, *time, *kind, bytes),
         }
     }
 }
@@ -314,39 +379,21 @@ fn tick_step<C: SrtpCipher>(
     Ok(())
 }
 
-/// The datagram that the other side sealed as its `number`-th, counted from 1.
-fn datagram_for(log: &Log, side: Side, number: u64) -> Result<&[u8], StepFault>
-    ensures { MatchResult result (λ bytes. (deliver_fault log.now side number ≡ None) × (slice_get (datagrams (peer_of side) log.now) (number - 1) ≡ Some bytes.now))
-        (λ fault. deliver_fault log.now side number ≡ Some fault) }
-{
-    if number == 0 {
-        return Err(StepFault::UnknownDatagram);
-    }
-    let Ok(place) = usize::try_from(number - 1) else {
-        return Err(StepFault::UnknownDatagram);
-    };
-    match log.datagram(side.peer(), place) {
-        Some(bytes) => Ok(bytes),
-        None => Err(StepFault::UnknownDatagram),
-    }
-}
-
-fn deliver_step<C: SrtpCipher>(
+fn receive_step<C: SrtpCipher>(
     alloc: Global,
     session: &mut Session<C>,
     log: &mut Log,
     side: Side,
     time: Instant,
-    datagram: u64,
-) -> Result<(), StepError>
+    kind: Kind,
+    bytes: Bytes,
+) -> Result<(), AllocError>
     ensures ready { OnOk result ((setup : Given) → IsSound setup → Ready C.block setup side session.old log.old
-        → IsDelivery (sealing_of C.keystream C.aead C.block setup) setup side time datagram log.old log.new × Ready C.block setup side session.new log.new) }
-    ensures rule { IsBroken result (deliver_fault log.old side datagram) (log.new ≡ log.old) }
+        → IsArrival (sealing_of C.keystream C.aead C.block setup) setup side time kind bytes log.old log.new × Ready C.block setup side session.new log.new) }
     ensures longer { (more : List Happening) × (log.new ≡ log.old ++ more) }
 {
-    let bytes = Bytes::from_slice(alloc, datagram_for(log, side, datagram)?)?;
-    let received = session.receive(alloc, bytes.as_slice())?;
-    log.push(Entry::Got(side, time, Kind::Rtp, bytes))?;
+    let received = session.receive(alloc, kind, bytes.as_slice())?;
+    log.push(Entry::Got(side, time, kind, bytes))?;
     push_received(log, side, received)?;
     Ok(())
 }

@@ -1,4 +1,4 @@
-ghost use Rattle.std.specs.Prelude.{◌≡◌, ◌∷◌, ◌++◌, ◌<◌, ◌≤◌, ◌^◌, ◌%◌, ◌==◌, if◌then◌else◌, ℕ, List, [], length, map, drop, slice_get, Some, None, IsTrue, IsSome, IsNone, IfOk, IfSome, IfNone, OnOk};
+ghost use Rattle.std.specs.Prelude.{◌≡◌, ◌∷◌, ◌++◌, ◌<◌, ◌≤◌, ◌^◌, ◌%◌, ◌==◌, if◌then◌else◌, ℕ, List, [], length, map, drop, slice_get, Some, None, IsTrue, IsSome, IsNone, IfOk, IfSome, IfNone, OnOk, OnErr};
 ghost use Rattle.std.specs.Result.{result_err};
 ghost use Rattle.rtp_wire.specs.Header.{csrc_of};
 ghost use Rattle.rtp_wire.specs.Padding.{unpadded};
@@ -18,7 +18,7 @@ use crate::log::Log;
 use crate::streams::Streams;
 use crate::waiting::Waiting;
 use media_base::{Bytes, Listed};
-use media_script::{Packet, Setup, Side, Write};
+use media_script::{Kind, Packet, Setup, Side, Write};
 use rtp_wire::{ExtensionMap, RtpHeader, SeqNo, Ssrc};
 use srtp_core::laws::rtp_opens_once;
 use srtp_core::{KeyingMaterial, SrtpCipher, SrtpContext, SrtpError, SrtpProfile};
@@ -250,12 +250,34 @@ impl<C: SrtpCipher> Session<C> {
         self.streams.put(alloc, at, write)
     }
 
-    /// Takes in RTP bytes, and tells what they open to. Bytes that do not open change nothing.
-    pub fn receive(&mut self, alloc: Global, bytes: &[u8]) -> Result<Option<Received>, AllocError>
-        ensures { IfOk result (λ r. (setup : Given) (side : Party) (entries : List Entry) (time : ℕ) → IsSound setup
+    /// Takes in bytes, and tells what they open to. Bytes that do not open change nothing.
+    pub fn receive(
+        &mut self,
+        alloc: Global,
+        kind: Kind,
+        bytes: &[u8],
+    ) -> Result<Option<Received>, AllocError>
+        ensures received { IfOk result (λ r. (setup : Given) (side : Party) (entries : List Entry) (time : ℕ) → IsSound setup
             → Ready C.block setup side self.old entries
-            → Receives (sealing_of C.keystream C.aead C.block setup) setup side entries bytes.now (received_entries side r)
+            → Receives (sealing_of C.keystream C.aead C.block setup) setup side entries kind bytes.now (received_entries side r)
+            × Ready C.block setup side self.new (entries ++ Got side time kind bytes.now ∷ received_entries side r)) }
+        ensures unopened { IfOk result (λ r. IfNone r (self.new ≡ self.old)) }
+        ensures err { OnErr result (self.new ≡ self.old) }
+    {
+        match kind {
+            Kind::Rtp => self.receive_rtp(alloc, bytes),
+            // No RTCP is opened yet.
+            Kind::Rtcp => Ok(None),
+        }
+    }
+
+    fn receive_rtp(&mut self, alloc: Global, bytes: &[u8]) -> Result<Option<Received>, AllocError>
+        ensures received { IfOk result (λ r. (setup : Given) (side : Party) (entries : List Entry) (time : ℕ) → IsSound setup
+            → Ready C.block setup side self.old entries
+            → Receives (sealing_of C.keystream C.aead C.block setup) setup side entries Rtp bytes.now (received_entries side r)
             × Ready C.block setup side self.new (entries ++ Got side time Rtp bytes.now ∷ received_entries side r)) }
+        ensures unopened { IfOk result (λ r. IfNone r (self.new ≡ self.old)) }
+        ensures err { OnErr result (self.new ≡ self.old) }
     {
         rtp_opens_once::<C>();
         if bytes.len() > MAX_DATAGRAM_LEN {

@@ -6,9 +6,8 @@ ghost use Rattle.media_play.specs.Rules.{has};
 ghost use Rattle.media_play.specs.SetupRules.{repeats, both_of, stream_ssrcs, local_ssrcs, any_mid_again, rids_meet, meets, any_rid_again, has_rtx, media_fault, setup_fault};
 
 use crate::fault::SetupFault;
-use media_base::Bytes;
 use media_script::{Media, Setup, Stream};
-use rtp_wire::Pt;
+use rtp_wire::{Mid, Pt, Rid};
 use std::alloc::{AllocError, Global};
 
 /// The greatest payload type.
@@ -83,7 +82,7 @@ fn all_ssrcs(alloc: Global, setup: &Setup) -> Result<Vec<u32>, AllocError>
     Ok(ssrcs)
 }
 
-fn has_mid(media: &[Media], mid: &Bytes) -> bool
+fn has_mid(media: &[Media], mid: &Mid) -> bool
     ensures { result ≡ list_any (λ m. bytes_eq m.mid mid.now) media.now }
 {
     media.iter().any(|m| m.mid == *mid)
@@ -100,7 +99,7 @@ fn any_mid_again(media: &[Media]) -> bool
     false
 }
 
-fn rids_meet(a: &Option<Bytes>, b: &Option<Bytes>) -> bool
+fn rids_meet(a: &Option<Rid>, b: &Option<Rid>) -> bool
     ensures { result ≡ rids_meet a.now b.now }
 {
     match (a, b) {

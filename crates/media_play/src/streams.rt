@@ -5,6 +5,7 @@ ghost use Rattle.std.specs.List.{flat_map, AllByRecursion};
 ghost use Rattle.repair_core.specs.Fresh.{is_fresh};
 ghost use Rattle.rtp_wire.specs.declared.header.RtpHeader.{RtpHeader as Header};
 ghost use Rattle.media_script.specs.declared.entry.Side.{Side as Party};
+ghost use Rattle.media_script.specs.declared.entry.Kind.{Kind};
 ghost use Rattle.media_script.specs.declared.entry.Kind.TheVariants.{Rtp};
 ghost use Rattle.media_script.specs.declared.entry.Entry.{Entry};
 ghost use Rattle.media_script.specs.declared.entry.Entry.TheVariants.{Wrote, Ticked, Got, Opened};
@@ -197,9 +198,9 @@ impl Streams {
     pub fn take(&mut self, at: usize, number: SeqNo)
         requires place { at < length self.old.incoming.items }
         requires number { number < 2 ^ 48 }
-        ensures { (setup : Given) (side : Party) (entries : List Entry) (time : ℕ) (bytes plain : List ℕ) (header : Header) → Knows setup side self.old entries → IsSound setup
+        ensures { (setup : Given) (side : Party) (entries : List Entry) (time : ℕ) (kind : Kind) (bytes plain : List ℕ) (header : Header) → Knows setup side self.old entries → IsSound setup
             → slice_get (map source_of self.old.incoming.items) at ≡ Some header.ssrc → is_fresh (taken side header.ssrc entries) number ≡ true
-            → Knows setup side self.new (entries ++ Got side time Rtp bytes ∷ Opened side Rtp header.ssrc number plain ∷ yields side header number plain) }
+            → Knows setup side self.new (entries ++ Got side time kind bytes ∷ Opened side Rtp header.ssrc number plain ∷ yields side header number plain) }
     {
         let stream = &mut self.incoming[at];
         stream.register.update(number);

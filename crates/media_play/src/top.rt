@@ -1,8 +1,11 @@
 ghost use Rattle.std.specs.Prelude.{◌≡◌, ◌++◌, ◌↔◌, List, ℕ, map, codes, string_bytes, IsTrue, IfOk, IfSome, Some, None};
 ghost use Rattle.media_base.specs.Causes.{Rose};
+ghost use Rattle.media_script.specs.declared.setup.Setup.{Setup as Given};
+ghost use Rattle.media_script.specs.declared.step.Step.{Step as Act};
+ghost use Rattle.media_script.specs.Spelling.{IsScript};
 ghost use Rattle.media_script.specs.Text.{entries_text as lines_of, text_of};
-ghost use Rattle.media_play.specs.Headline.{HoldsAlways, NoNonceTwice, SendsWrites, YieldsWrites, NoPacketTwice};
-ghost use Rattle.media_play.specs.Outcome.{status_of, IsCommand, syntax_line, setup_line, step_line, RunEnds, Cause, IsOfScript, Plays, Answers};
+ghost use Rattle.media_play.specs.Headline.{HoldsAlways, StepsAreAnswered, SealsAreRight, NoNonceTwice, SendsWrites, YieldsWrites, NoPacketTwice, FirstSendingsAreYielded};
+ghost use Rattle.media_play.specs.Outcome.{status_of, toy_sealing, IsCommand, syntax_line, setup_line, step_line, RunEnds, Cause, IsOfScript, Plays, Answers, TellsScript, EndsInRun, IsInOrder, PlaysAll};
 
 use crate::fault::{RunError, SetupFault, StepFault};
 use crate::report::{End, Report};
@@ -138,6 +141,8 @@ fn play_steps(alloc: Global, setup: &Setup, steps: &[Step]) -> Result<Played, Al
 fn play_script(alloc: Global, bytes: &[u8]) -> Played
     ensures cause { (words : List (List ℕ)) → IsCommand words
         → Cause LIMIT words bytes.now result.end result.transcript (result.text.items ++ result.last.now) }
+    ensures script { (setup : Given) (steps : List Act) → IsScript bytes.now setup steps
+        → EndsInRun setup steps result.end result.transcript (result.text.items ++ result.last.now) }
     ensures laws { IfSome result.transcript HoldsAlways }
     ensures whole { IsOfScript result.end }
 {
@@ -156,6 +161,8 @@ fn play_script(alloc: Global, bytes: &[u8]) -> Played
 fn play<S: Source>(alloc: Global, words: &[String], source: &mut S) -> Played
     ensures plays { Plays LIMIT (map string_bytes words.now) (S.left source.old) (S.left source.new)
         result.end result.transcript (result.text.items ++ result.last.now) }
+    ensures script { (setup : Given) (steps : List Act) → TellsScript (S.left source.old) setup steps
+        → EndsInRun setup steps result.end result.transcript (result.text.items ++ result.last.now) }
     ensures laws { IfSome result.transcript HoldsAlways }
     ensures read_fault { result.end ≡ End.ReadFault → Rose (S.fault_count source.old) (S.fault_count source.new) }
     ensures no_write { result.end ≡ End.WriteFault → ⊥ }
@@ -225,7 +232,22 @@ pub fn media_main<S: Source, K: Sink>(
     // These two come only where an end of the program has failed.
     ensures read_fault { result.end ≡ End.ReadFault → Rose (S.fault_count source.old) (S.fault_count source.new) }
     ensures write_fault { result.end ≡ End.WriteFault → Rose (K.fault_count sink.old) (K.fault_count sink.new) }
+    // A script in order is played to its last step, where neither end of the program fails.
+    ensures complete { (setup : Given) (steps : List Act) → IsInOrder LIMIT (map string_bytes words.now) (S.left source.old) setup steps
+        → (Rose (S.fault_count source.old) (S.fault_count source.new) → ⊥)
+        → (Rose (K.fault_count sink.old) (K.fault_count sink.new) → ⊥)
+        → PlaysAll setup steps result.end result.transcript }
 
+    // A write brings nothing. A tick seals all queued writes, stream by stream. What comes is opened
+    // exactly where it opens, and its packet yielded.
+    ensures steps { (setup : Given) (acts : List Act) → TellsScript (S.left source.old) setup acts
+        → IfSome result.transcript (StepsAreAnswered (toy_sealing setup) setup) }
+    // Each sealed datagram is a seal under its side's keys.
+    ensures seals { (setup : Given) (acts : List Act) → TellsScript (S.left source.old) setup acts
+        → IfSome result.transcript (SealsAreRight (toy_sealing setup) setup) }
+    // A delivered first sending is yielded exactly where it widens to itself and is fresh.
+    ensures exactly { (setup : Given) (acts : List Act) → TellsScript (S.left source.old) setup acts
+        → IfSome result.transcript (FirstSendingsAreYielded (toy_sealing setup)) }
     // No two datagrams of a direction share a nonce.
     ensures nonces { IfSome result.transcript NoNonceTwice }
     // Each sealed datagram is one earlier write of its side, none twice.

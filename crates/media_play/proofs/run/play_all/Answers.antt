@@ -1,14 +1,10 @@
-use Rattle.std.proofs.Common.{◌≡◌, ◌∷◌, ◌++◌, ◌+◌, ◌<◌, ◌≤◌, ℕ, List, [], length, rules, take, slice_get, get_or, Some, None, refl, sym, ◌∙◌, subst, arith}
-use Rattle.media_script.specs.declared.entry.Entry.{Entry as Happening}
-use Rattle.media_script.specs.declared.step.Step.{Step as Act}
+use Rattle.std.proofs.Common.{◌≡◌, ◌+◌, ◌<◌, [], length, rules, take, sym, ◌∙◌, subst, arith}
 use Rattle.media_play.specs.declared.fault.StepFault.{StepFault}
 use Rattle.media_play.specs.declared.fault.RunError.TheVariants as error
 use Rattle.media_play.specs.Play.{Played, start}
-use Rattle.media_play.specs.Errors.{IsBroken}
-use Rattle.media_play.specs.Running.{Running, HasCause, OfRun}
-use Rattle.media_play.specs.SetupRules.{setup_fault}
+use Rattle.media_play.specs.Running.{Running, HasCause}
 use Rattle.media_play.specs.Rules.{step_fault}
-use Rattle.media_play.specs.Sessions.{Ready, sealing_of}
+use Rattle.media_play.specs.Sessions.{sealing_of}
 use Rattle.media_play.proofs.Soundness.{sound_setup}
 use Rattle.media_play.proofs.Playing.{steps_more, broken_step, broken_by}
 use Rattle.media_play.proofs.run.play_all.Goals as goal

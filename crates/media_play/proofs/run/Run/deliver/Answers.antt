@@ -1,28 +1,12 @@
-use Rattle.std.proofs.Common.{◌≡◌, None, sym, subst}
-use Rattle.media_play.specs.Rules.{time_fault}
-use Rattle.media_play.specs.Running.{RunState, Running}
-use Rattle.media_play.specs.Sessions.{sealing_of}
-use Rattle.media_play.proofs.OthersReceive.{delivers_a, delivers_b}
+use Rattle.std.proofs.Common.{Some, ap, sym, ◌∙◌}
+use Rattle.media_script.specs.declared.step.Step.TheVariants.{Deliver}
+use Rattle.media_play.specs.Play.{delivered}
+use Rattle.media_play.proofs.OthersReceive.{no_fault}
 use Rattle.media_play.proofs.run.Run.deliver.Goals as goal
-use Rattle.media_play.proofs.run.Run.deliver.Goals.{in-A+in_ok-deliver_step-in-A, in-B+in_ok-deliver_step-in-B}
 
 pub returns-clause-done : goal.returns-clause-done
 returns-clause-done g c setup steps sound running =
-    let K = g.C.SrtpCipher in
-    let seal = sealing_of K.keystream K.aead K.block setup in
-    let run : RunState = record { a = c.self.inside.a; b = c.self.inside.b; log = c.self.inside.log; latest = c.self.inside.latest } in
-    let side = c.args.side in
-    let time = c.args.time in
-    let before : Running K.block seal setup run steps = subst (λ (r : RunState). Running K.block seal setup r steps) (sym c.self.view_is) running in
-    let fault : time_fault run.log time ≡ None =
-    subst (λ (r : RunState). time_fault r.log time ≡ None) (sym c.self.view_is) (c.in_ok-check_time.ensures c.args.self.now.log running.time) in
-    elim c.match-side.branch [
-      | in-A+in_ok-deliver_step-in-A w ↦
-          rw w.self-inside-is
-          (delivers_a K.block seal setup run steps before side time fault w.deliver_step.new.log w.in-A.is w.deliver_step.new.session c.args.datagram w.in_ok-deliver_step-in-A.ensures.rule
-          (w.in_ok-deliver_step-in-A.ensures.ready setup sound))
-      | in-B+in_ok-deliver_step-in-B w ↦
-          rw w.self-inside-is
-          (delivers_b K.block seal setup run steps before side time fault w.deliver_step-in-B.new.log w.in-B.is w.deliver_step-in-B.new.session c.args.datagram w.in_ok-deliver_step-in-B.ensures.rule
-          (w.in_ok-deliver_step-in-B.ensures.ready setup sound))
-    ]
+    let known = c.in_ok-datagram_for.ensures in
+    c.in_ok-receive.ensures.done setup steps (Deliver c.args.side c.args.time c.args.datagram) sound running
+    (delivered c.args.datagram c.in_ok-bytes.bytes known.1 (known.2 ∙ ap Some (sym c.in_ok-bytes.ensures)))
+    (no_fault _ _ (c.in_ok-check_time.ensures c.args.self.now.log running.time) known.0)

@@ -1,6 +1,6 @@
 // Whole runs, from the bytes of a script to the bytes of its text.
-use crate::{End, Report, StepFault, media_main};
 use media_base::{MemSink, MemSource};
+use media_play::{End, Report, StepFault, media_main};
 use std::alloc::Global;
 use std::test::Fail;
 

@@ -1,0 +1,15 @@
+use Rattle.std.proofs.Common.{List, ℕ, sym, subst, ◌∙◌}
+use Rattle.media_script.specs.declared.step.Step.TheVariants.{Foreign}
+use Rattle.media_play.specs.Play.{Brings, foreign}
+use Rattle.media_play.proofs.run.Run.foreign.Goals as goal
+
+pub returns-clause-done : goal.returns-clause-done
+returns-clause-done g c setup steps sound running =
+    let side = c.args.side in
+    let time = c.args.time in
+    let kind = c.args.kind in
+    let bytes = c.args.bytes.now in
+    let log = c.args.self.now.log in
+    c.in_ok-receive.ensures.done setup steps (Foreign side time kind bytes) sound running
+    (subst (λ (l : List ℕ). Brings log side time kind l (Foreign side time kind bytes)) (sym (c.in_ok-bytes.ensures ∙ c.as_slice.ensures)) (foreign kind bytes))
+    (c.in_ok-check_time.ensures log running.time)
