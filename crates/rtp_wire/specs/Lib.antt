@@ -5,6 +5,7 @@ pub mod Extensions
 pub mod Header
 pub mod HeaderLaws
 pub mod Ids
+pub mod Moments
 pub mod Name
 pub mod NameLaws
 pub mod Padding

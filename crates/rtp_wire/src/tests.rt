@@ -1,4 +1,5 @@
 use super::*;
+use media_base::{Beginning, Instant};
 use std::test::Fail;
 
 const PLAIN: [u8; 14] = [0x80, 0x60, 0, 1, 0, 0, 0, 0, 0, 0, 0, 0x2a, 1, 2];
@@ -240,6 +241,217 @@ fn payloads_of_repairs(rt: HostRuntime) -> Result<(), Fail> {
         SeqNo::from(65537)
     );
     Ok(())
+}
+
+// The example of RFC 8285 section 4.2: elements of 1, 2 and 4 bytes, with padding between the last two.
+#[test]
+fn padding_between_elements_of_the_one_byte_form(rt: HostRuntime) -> Result<(), Fail> {
+    let exts = ExtensionMap::standard();
+    let bytes = [
+        0x90, 0x60, 0, 1, 0, 0, 0, 0, 0, 0, 0, 0x2a, 0xbe, 0xde, 0, 3, 0x10, 0x7f, 0x31, 1, 2, 0,
+        0, 0x43, b'a', b'b', b'c', b'd', 9, 9,
+    ];
+    let header = RtpHeader::parse(&bytes, &exts).ok_or("no header")?;
+    assert_eq!(rt; header.header_len, 28);
+    assert_eq!(rt; header.ext_vals.audio_level, Some(-127));
+    assert_eq!(rt; header.ext_vals.voice_activity, Some(false));
+    assert_eq!(rt; header.ext_vals.transport_cc, Some(0x0102));
+    assert_eq!(rt; header.ext_vals.mid, Mid::from_slice(b"abcd"));
+    assert!(rt; RtpHeader::parse(&bytes[..27], &exts).is_none());
+    Ok(())
+}
+
+// The example of RFC 8285 section 4.3: elements of 0, 1 and 4 bytes, with padding between the last two.
+#[test]
+fn padding_between_elements_of_the_two_byte_form(rt: HostRuntime) -> Result<(), Fail> {
+    let exts = ExtensionMap::standard();
+    let bytes = [
+        0x90, 0x60, 0, 1, 0, 0, 0, 0, 0, 0, 0, 0x2a, 0x10, 0, 0, 3, 3, 0, 13, 1, 2, 0, 4, 4, b'a',
+        b'b', b'c', b'd',
+    ];
+    let header = RtpHeader::parse(&bytes, &exts).ok_or("no header")?;
+    assert_eq!(rt; header.header_len, 28);
+    assert_eq!(rt; header.ext_vals.transport_cc, None);
+    assert_eq!(rt;
+        header.ext_vals.video_orientation,
+        Some(VideoOrientation::Deg180)
+    );
+    assert_eq!(rt; header.ext_vals.mid, Mid::from_slice(b"abcd"));
+    Ok(())
+}
+
+fn all_values() -> ExtensionValues {
+    ExtensionValues {
+        audio_level: Some(-5),
+        voice_activity: Some(true),
+        video_orientation: Some(VideoOrientation::Deg90),
+        abs_send_time: Some(AbsSendTime::from_units(0x010203)),
+        transport_cc: Some(0x1234),
+        play_delay_min: Some(MediaTime::new(1, Frequency::HUNDREDTHS)),
+        play_delay_max: Some(MediaTime::new(2, Frequency::HUNDREDTHS)),
+        rid: Rid::from_slice(b"q"),
+        rid_repair: Rid::from_slice(b"r"),
+        mid: Mid::from_slice(b"ab"),
+        abs_capture_time: Some(AbsCaptureTime::from_ntp_64(0x1_8000_0000)),
+    }
+}
+
+// A header with each of these values, under the ids of `ExtensionMap::standard`, 5 for the delay and 6 for the capture.
+const ALL: [u8; 48] = [
+    0x90, 0x60, 0, 1, 0, 0, 0, 0, 0, 0, 0, 0x2a, 0xbe, 0xde, 0, 8, 0x10, 0x85, 0x22, 1, 2, 3, 0x31,
+    0x12, 0x34, 0x41, b'a', b'b', 0x52, 0, 0x10, 2, 0x67, 0, 0, 0, 1, 0x80, 0, 0, 0, 0xa0, b'q',
+    0xb0, b'r', 0xd0, 3, 0,
+];
+
+// Each value alone, under the id 7: the whole extension (RFC 8285 section 4.2).
+#[test]
+fn each_value_is_written(rt: HostRuntime) {
+    let rows: [(Extension, &[u8]); 9] = [
+        (Extension::AudioLevel, &[0xbe, 0xde, 0, 1, 0x70, 0x85, 0, 0]),
+        (
+            Extension::AbsoluteSendTime,
+            &[0xbe, 0xde, 0, 1, 0x72, 1, 2, 3],
+        ),
+        (
+            Extension::TransportSequenceNumber,
+            &[0xbe, 0xde, 0, 1, 0x71, 0x12, 0x34, 0],
+        ),
+        (Extension::RtpMid, &[0xbe, 0xde, 0, 1, 0x71, b'a', b'b', 0]),
+        (
+            Extension::RtpStreamId,
+            &[0xbe, 0xde, 0, 1, 0x70, b'q', 0, 0],
+        ),
+        (
+            Extension::RepairedRtpStreamId,
+            &[0xbe, 0xde, 0, 1, 0x70, b'r', 0, 0],
+        ),
+        (
+            Extension::VideoOrientation,
+            &[0xbe, 0xde, 0, 1, 0x70, 3, 0, 0],
+        ),
+        (
+            Extension::AbsoluteCaptureTime,
+            &[0xbe, 0xde, 0, 3, 0x77, 0, 0, 0, 1, 0x80, 0, 0, 0, 0, 0, 0],
+        ),
+        (
+            Extension::PlayoutDelay,
+            &[0xbe, 0xde, 0, 1, 0x72, 0, 0x10, 2],
+        ),
+    ];
+    for (extension, whole) in rows {
+        let mut exts = ExtensionMap::empty();
+        exts.set(7, extension);
+        let mut bytes = [9; 88];
+        let len = all_values().write(&mut bytes, &exts);
+        assert!(rt; 4 <= len && len < 88);
+        assert_eq!(rt; &bytes[..len], whole, "of {extension:?}");
+        assert_eq!(rt; bytes[len], 9);
+        let read = ExtensionValues::read(&exts, 0xbede, &bytes[4..len]);
+        let mut again = [9; 88];
+        assert_eq!(rt; read.write(&mut again, &exts), len);
+        assert_eq!(rt; &again[..], &bytes[..]);
+        assert_eq!(rt; ExtensionValues::none().write(&mut again, &exts), 0);
+        assert_eq!(rt; all_values().write(&mut again, &ExtensionMap::empty()), 0);
+    }
+}
+
+#[test]
+fn all_values_are_written(rt: HostRuntime) -> Result<(), Fail> {
+    let mut exts = ExtensionMap::standard();
+    exts.set(5, Extension::PlayoutDelay);
+    exts.set(6, Extension::AbsoluteCaptureTime);
+    let mut header = RtpHeader::parse(&PLAIN, &exts).ok_or("no header")?;
+    assert_eq!(rt; header.csrc_count, 0);
+    header.ext_vals = all_values();
+    let mut bytes = [9; 160];
+    let len = header.write_to(&mut bytes, &exts);
+    assert_eq!(rt; len, 48);
+    assert!(rt; bytes.as_slice().starts_with(ALL.as_slice()));
+    assert_eq!(rt; bytes.as_slice().get(48).copied(), Some(9));
+    let read = RtpHeader::parse(&bytes, &exts).ok_or("no header")?;
+    assert_eq!(rt; read.ext_vals, all_values());
+    assert_eq!(rt; read.header_len, 48);
+    Ok(())
+}
+
+// 15 sources, all extensions and names of 16 bytes fit in 152 bytes.
+#[test]
+fn the_longest_header(rt: HostRuntime) -> Result<(), Fail> {
+    let mut exts = ExtensionMap::standard();
+    exts.set(5, Extension::PlayoutDelay);
+    exts.set(6, Extension::AbsoluteCaptureTime);
+    let mut many = [9; 72];
+    many[0] = 0x8f;
+    let mut header = RtpHeader::parse(&many, &exts).ok_or("no header")?;
+    assert_eq!(rt; header.csrc_count, 15);
+    header.ext_vals = ExtensionValues {
+        rid: Rid::from_slice(b"0123456789abcdef"),
+        rid_repair: Rid::from_slice(b"0123456789abcdef"),
+        mid: Mid::from_slice(b"0123456789abcdef"),
+        ..all_values()
+    };
+    let mut bytes = [9; 160];
+    assert_eq!(rt; header.write_to(&mut bytes, &exts), 152);
+    assert_eq!(rt; bytes[0], 0x9f);
+    assert_eq!(rt; &bytes[72..78], [0xbe, 0xde, 0, 19, 0x10, 0x85].as_slice());
+    assert_eq!(rt; &bytes[149..153], [0xd0, 3, 0, 9].as_slice());
+    Ok(())
+}
+
+// Half of a pair is not written. A level outside -127 to 0 is the nearest of them, a delay is rounded down to 10 ms, and
+// one above 40,950 ms is that.
+#[test]
+fn values_are_written_as_their_places_hold_them(rt: HostRuntime) {
+    let mut exts = ExtensionMap::empty();
+    exts.set(1, Extension::AudioLevel);
+    exts.set(2, Extension::PlayoutDelay);
+    let mut bytes = [9; 88];
+    let half = ExtensionValues {
+        voice_activity: None,
+        play_delay_max: None,
+        ..all_values()
+    };
+    assert_eq!(rt; half.write(&mut bytes, &exts), 0);
+    let rows = [
+        (5, 19, 40_960, [0x10, 0, 0x22, 0, 0x1f, 0xff, 0, 0]),
+        (0, 0, 40_959, [0x10, 0, 0x22, 0, 0x0f, 0xff, 0, 0]),
+        (-1, 20, 20, [0x10, 1, 0x22, 0, 0x20, 2, 0, 0]),
+        (-127, 10, 29, [0x10, 127, 0x22, 0, 0x10, 2, 0, 0]),
+        (-128, 9, u64::MAX, [0x10, 127, 0x22, 0, 0x0f, 0xff, 0, 0]),
+    ];
+    for (level, least, greatest, data) in rows {
+        let values = ExtensionValues {
+            audio_level: Some(level),
+            voice_activity: Some(false),
+            play_delay_min: Some(MediaTime::new(least, Frequency::MILLIS)),
+            play_delay_max: Some(MediaTime::new(greatest, Frequency::MILLIS)),
+            ..ExtensionValues::none()
+        };
+        assert_eq!(rt; values.write(&mut bytes, &exts), 12);
+        assert_eq!(rt; &bytes[4..12], data.as_slice());
+    }
+}
+
+// NTP seconds begin at a multiple of 64 s with the Unix epoch, and 2^24 units are 64 s.
+#[test]
+fn send_times_are_told_in_24_bits(rt: HostRuntime) {
+    let beginning = Beginning { unix_secs: 0 };
+    let at = |millis: u64| Instant::from_nanos(millis * 1_000_000);
+    assert_eq!(rt; AbsSendTime::new(at(0), &beginning).units(), 0);
+    assert_eq!(rt; AbsSendTime::new(at(1_500), &beginning).units(), 0x06_0000);
+    assert_eq!(rt; AbsSendTime::new(at(63_999), &beginning).units(), 0xff_fef9);
+    let sent = AbsSendTime::new(at(64_000 + 1_500), &beginning);
+    assert_eq!(rt; sent.units(), 0x06_0000);
+    let rows = [
+        (1_499, 0),
+        (1_500, 1_500),
+        (65_499, 1_500),
+        (65_500, 65_500),
+        (129_499, 65_500),
+    ];
+    for (now, moment) in rows {
+        assert_eq!(rt; sent.moment(at(now), &beginning), at(moment), "at {now}");
+    }
 }
 
 // No call of this crate takes memory: each is made once, and its answer compared.

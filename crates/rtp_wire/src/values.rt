@@ -1,11 +1,12 @@
-ghost use Rattle.std.specs.Prelude.{◌≡◌, ◌*◌, ◌/◌, ◌%◌, ◌<◌, ◌≤◌, ◌^◌, ◌++◌, length, drop};
+ghost use Rattle.std.specs.Prelude.{◌≡◌, ◌%◌, ◌<◌, ◌≤◌, ◌^◌, length};
 ghost use Rattle.media_base.specs.Wallclock.{ntp_nanos};
+ghost use Rattle.rtp_wire.specs.Moments.{send_units, sent_at};
 ghost use Rattle.rtp_wire.specs.Reading.{u24_of, transport_in, send_time_in, level_in, voice_in, turn_in, capture_in, least_delay_in, greatest_delay_in};
 
 use crate::extension::{Extension, ExtensionMap};
 use crate::media_time::{Frequency, MediaTime};
 use crate::name::{Mid, Rid};
-use media_base::{Beginning, Instant, InstantExt};
+use media_base::{Beginning, Duration, Instant, InstantExt, already_happened};
 use std::marker::Model;
 
 /// How the picture has to be turned to be shown upright, in degrees clockwise.
@@ -33,6 +34,13 @@ impl Model for AbsSendTime {
     ghost inverse = { λ n. record { 0 = n } };
 }
 
+fn units_of(length: Duration) -> u128
+    ensures value { result ≡ send_units length }
+    ensures bound { result < 2 ^ 53 }
+{
+    u128::from(length.as_nanos()) * 0x4_0000 / 1_000_000_000
+}
+
 impl AbsSendTime {
     /// The low 24 bits of a number of units of 2^-18 s.
     pub fn from_units(units: u64) -> Self
@@ -43,10 +51,22 @@ impl AbsSendTime {
 
     /// When a moment of a run is, rounded down.
     pub fn new(moment: Instant, beginning: &Beginning) -> Self
-        ensures { result ≡ ntp_nanos beginning.now.unix_secs moment * 2 ^ 18 / 1000000000 % 2 ^ 24 }
+        ensures { result ≡ send_units (ntp_nanos beginning.now.unix_secs moment) % 2 ^ 24 }
     {
-        let nanos = u128::from(moment.to_ntp_duration(beginning).as_nanos());
-        AbsSendTime((nanos * 0x4_0000 / 1_000_000_000 % 0x100_0000) as u32)
+        AbsSendTime((units_of(moment.to_ntp_duration(beginning)) % 0x100_0000) as u32)
+    }
+
+    /// The moment of a run that is nearest at or before `now` and has these 24 bits, rounded down: the beginning where that
+    /// is before it.
+    pub fn moment(self, now: Instant, beginning: &Beginning) -> Instant
+        ensures value { result ≡ sent_at self beginning.now.unix_secs now }
+        ensures before { result ≤ now }
+    {
+        let last = units_of(now.to_ntp_duration(beginning));
+        let ago = (last + 0x100_0000 - u128::from(self.0)) % 0x100_0000;
+        let nanos = last.saturating_sub(ago) * 1_000_000_000 / 0x4_0000;
+        let start = already_happened().to_ntp_duration(beginning);
+        Instant::from_nanos(nanos as u64).saturating_sub(start)
     }
 
     /// Units of 2^-18 s, modulo 2^24.

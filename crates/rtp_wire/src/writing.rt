@@ -1,4 +1,4 @@
-ghost use Rattle.std.specs.Prelude.{◌≡◌, ◌+◌, ◌*◌, ◌-◌, ◌≤◌, ◌<◌, ◌^◌, ◌∷◌, ◌++◌, length, drop, unwrap_or};
+ghost use Rattle.std.specs.Prelude.{◌≡◌, ◌≤◌, ◌++◌, length, drop, unwrap_or};
 ghost use Rattle.std.specs.Option.{option_map};
 ghost use Rattle.rtp_wire.specs.Writing.{u24_bytes, level_byte, quarter_turns, delay_steps};
 
