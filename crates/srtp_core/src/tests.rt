@@ -184,7 +184,7 @@ fn opens<C: SrtpCipher>(
     }
 }
 
-// The toy cipher under a zero key: each profile's datagram, worked out by hand.
+// The toy cipher under a zero master key, which enciphers a block to itself.
 #[test]
 fn datagrams_under_a_zero_key(rt: HostRuntime) -> Result<(), Fail> {
     let mut context = zero_key(&rt, ToyCipher, SrtpProfile::AeadAes128Gcm)?;
@@ -443,4 +443,40 @@ fn names_and_lengths(rt: HostRuntime) -> Result<(), Fail> {
         (16, 20, 16)
     );
     Ok(())
+}
+
+// RFC 3711 section 5, RFC 7714 section 12.
+#[test]
+fn lengths_of_the_profiles(rt: HostRuntime) {
+    assert_eq!(rt;
+        (aes_128_cm_sha1_80::KEY_LEN, aes_128_cm_sha1_80::SALT_LEN),
+        (16, 14)
+    );
+    assert_eq!(rt;
+        (
+            aes_128_cm_sha1_80::HMAC_KEY_LEN,
+            aes_128_cm_sha1_80::HMAC_TAG_LEN
+        ),
+        (20, 10)
+    );
+    assert_eq!(rt;
+        (aead_aes_128_gcm::KEY_LEN, aead_aes_128_gcm::SALT_LEN),
+        (16, 12)
+    );
+    assert_eq!(rt;
+        (aead_aes_128_gcm::RTCP_AAD_LEN, aead_aes_128_gcm::TAG_LEN),
+        (12, 16)
+    );
+    assert_eq!(rt;
+        (aead_aes_256_gcm::KEY_LEN, aead_aes_256_gcm::SALT_LEN),
+        (32, 12)
+    );
+    assert_eq!(rt;
+        (aead_aes_256_gcm::RTCP_AAD_LEN, aead_aes_256_gcm::TAG_LEN),
+        (12, 16)
+    );
+    assert_eq!(rt;
+        (aead_aes_128_gcm::IV_LEN, aead_aes_256_gcm::IV_LEN),
+        (12, 12)
+    );
 }
