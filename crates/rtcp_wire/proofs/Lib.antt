@@ -6,3 +6,4 @@ pub mod Blocks
 pub mod Chunks
 pub mod SdesAgain
 pub mod ReadBack
+pub mod Lengths

@@ -50,7 +50,7 @@ rows_again row text size Whole again (x ∷ xs) rest whole =
     let e : flat_map text (x ∷ xs) ++ rest ≡ text x ++ (flat_map text xs ++ rest) = append_assoc (text x) (flat_map text xs) rest in
     rw (e, a.0, a.1, b) refl
 
-rows_len : {T : Type 0} (text : T → List ℕ) (size : ℕ) (len : (x : T) → length (text x) ≡ size) (xs : List T) → length (flat_map text xs) ≡ length xs * size
+pub rows_len : {T : Type 0} (text : T → List ℕ) (size : ℕ) (len : (x : T) → length (text x) ≡ size) (xs : List T) → length (flat_map text xs) ≡ length xs * size
 rows_len text size len [] = omega arith
 rows_len text size len (x ∷ xs) = omega (arith, length-append (text x) (flat_map text xs), len x, rows_len text size len xs)
 
@@ -136,7 +136,7 @@ pli_again p s t =
     let b : from_be_bytes w32 (to_be_bytes w32 p.ssrc) ≡ p.ssrc = from_be_bytes-to_be_bytes_4 p.ssrc t in
     ap (λ (x : ℕ). make x (from_be_bytes w32 (to_be_bytes w32 p.ssrc))) a ∙ ap (make p.sender_ssrc) b
 
-nack_entry_len : (e : NackEntry) → length (nack_entry_text e) ≡ 4
+pub nack_entry_len : (e : NackEntry) → length (nack_entry_text e) ≡ 4
 unfolding nack_entry_text
 nack_entry_len e = refl
 
@@ -156,7 +156,7 @@ nack_again n s t few rows =
     let b : from_be_bytes w32 (to_be_bytes w32 n.ssrc) ≡ n.ssrc = from_be_bytes-to_be_bytes_4 n.ssrc t in
     nack_is (nack_body n) (length n.reports) (omega arith) (omega (arith, len)) (omega (arith, len)) ∙ rw (a, b, again) refl
 
-fir_entry_len : (e : FirEntry) → length (fir_entry_text e) ≡ 8
+pub fir_entry_len : (e : FirEntry) → length (fir_entry_text e) ≡ 8
 unfolding fir_entry_text
 fir_entry_len e = refl
 
@@ -202,7 +202,7 @@ goodbye_again g rows =
     let again : rows_of (λ bytes. word_at bytes 0) 4 (length g.reports) (flat_map (to_be_bytes w32) g.reports) ≡ g.reports = ap (rows_of (λ bytes. word_at bytes 0) 4 (length g.reports)) (sym (append-nil (flat_map (to_be_bytes w32) g.reports))) ∙ rows_again (λ bytes. word_at bytes 0) (to_be_bytes w32) 4 (λ s. s < 2 ^ 32) ssrc_again g.reports [] rows in
     goodbye_is (length g.reports) (goodbye_body g) (omega (arith, len)) ∙ rw again refl
 
-report_len : (r : ReceptionReport) → length (report_text r) ≡ 24
+pub report_len : (r : ReceptionReport) → length (report_text r) ≡ 24
 unfolding report_text
 report_len r = refl
 
@@ -311,7 +311,7 @@ dlrr_item_again i rest whole =
     let c = from_be_bytes-to_be_bytes_4 i.last_rr_delay whole.2 in
     (rw (a, b, c) refl, refl)
 
-dlrr_item_len : (i : DlrrItem) → length (dlrr_item_text i) ≡ 12
+pub dlrr_item_len : (i : DlrrItem) → length (dlrr_item_text i) ≡ 12
 unfolding dlrr_item_text
 dlrr_item_len i = refl
 

@@ -17,7 +17,7 @@ use Rattle.rtcp_wire.specs.Descriptions.{sdes_number, sdes_type_of}
 use Rattle.rtcp_wire.specs.Remb.{is_remb, mantissa_of, exponent_of}
 use Rattle.rtcp_wire.specs.Frame.{frame_at}
 use Rattle.rtcp_wire.specs.Items.{items_of}
-use Rattle.rtcp_wire.specs.Texts.{framed, text_of, body_of, IsWritable}
+use Rattle.rtcp_wire.specs.Texts.{framed, text_of, body_of, IsWritable, LengthsFit}
 
 -- the frame of a written item is read again, whatever follows it
 abbrev pub FramesReadBack : Type 0
@@ -110,3 +110,7 @@ pub record IsHeld (x : Rtcp) : Type 0 where
 -- such items, written one after another, are read again, in order
 abbrev pub ItemsReadBack : Type 0
 ItemsReadBack = (xs : List Rtcp) → AllByRecursion IsHeld xs → items_of (flat_map text_of xs) ≡ map held xs
+
+-- items whose counts and lengths fit can be written
+abbrev pub ItemsFitByLengths : Type 0
+ItemsFitByLengths = (x : Rtcp) → LengthsFit x → IsWritable x

@@ -1,8 +1,10 @@
 -- Items in bytes.
 use Rattle.std.specs.Prelude.{◌≡◌, ℕ, suc, ◌+◌, ◌-◌, ◌/◌, ◌%◌, ◌^◌, ◌≤◌, ◌<◌, List, [], ◌∷◌, ◌++◌, length, nat_le, if◌then◌else◌}
+use Rattle.std.specs.List.{AllByRecursion}
 use Rattle.std.specs.Int.{w16, to_be_bytes}
 use Rattle.rtcp_wire.specs.declared.packet.Rtcp.{Rtcp}
 use Rattle.rtcp_wire.specs.declared.packet.Rtcp.TheVariants.{SenderReport, ReceiverReport, SourceDescription, Goodbye, ExtendedReport, Nack, Pli, Fir, Remb, AppSpecificFeedback}
+use Rattle.rtcp_wire.specs.declared.source.Sdes.{Sdes}
 use Rattle.rtcp_wire.specs.Reports.{sender_report_body, receiver_report_body, goodbye_body}
 use Rattle.rtcp_wire.specs.Descriptions.{descriptions_body}
 use Rattle.rtcp_wire.specs.Remb.{remb_body}
@@ -66,6 +68,23 @@ pub record IsWritable (x : Rtcp) : Type 0 where
   pub count : count_of x ≤ 31
   pub size : length (body_of x) < 2 ^ 18
   pub whole : length (body_of x) % 4 ≡ 0
+
+-- at most 31 items, and texts whose lengths fit a byte
+abbrev pub IsShortSdes : Sdes → Type 0
+IsShortSdes s = (length s.values ≤ 31) × AllByRecursion (λ i. length i.text ≤ 255) s.values
+
+-- the counts and lengths of an item alone, from which it follows that it can be written
+abbrev pub LengthsFit : Rtcp → Type 0
+LengthsFit (SenderReport r) = length r.reports ≤ 31
+LengthsFit (ReceiverReport r) = length r.reports ≤ 31
+LengthsFit (SourceDescription d) = (length d.reports ≤ 31) × AllByRecursion IsShortSdes d.reports
+LengthsFit (Goodbye g) = length g.reports ≤ 31
+LengthsFit (ExtendedReport r) = length (extended_report_body r) < 2 ^ 18
+LengthsFit (Nack n) = length n.reports ≤ 31
+LengthsFit (Pli p) = Unit {0}
+LengthsFit (Fir f) = length f.reports ≤ 31
+LengthsFit (Remb r) = length r.ssrcs ≤ 255
+LengthsFit (AppSpecificFeedback f) = (length f.payload % 4 ≡ 0) × (length f.payload + 8 < 2 ^ 18)
 
 -- how many items at the front fit
 abbrev pub fitting : ℕ → List Rtcp → ℕ

@@ -1,5 +1,5 @@
 //! Laws of what is read and written.
-ghost use Rattle.rtcp_wire.specs.Laws.{FramesReadBack, ItemsReadBack};
+ghost use Rattle.rtcp_wire.specs.Laws.{FramesReadBack, ItemsReadBack, ItemsFitByLengths};
 
 /// The frame of a written item is read again, whatever follows it.
 #[tactic(auto, using(crate::proofs::ReadBack::frame_again))]
@@ -7,9 +7,17 @@ pub fn frames_read_back()
     ensures { FramesReadBack }
 {}
 
-/// Reports, goodbyes and feedback, written one after another, are read again, in order, each field as its
-/// wire form holds it: moments and rates as they are rounded, all else as it was.
+/// Reports, descriptions, goodbyes and feedback, written one after another, are read again, in order, each
+/// field as its wire form holds it: moments and rates as they are rounded, of blocks and of a source's items
+/// the first 31, all else as it was.
 #[tactic(auto, using(crate::proofs::ReadBack::items_again))]
 pub fn items_read_back()
     ensures { ItemsReadBack }
+{}
+
+/// Items whose counts and lengths fit their fields can be written: at most 31 entries, blocks, sources or
+/// items of a source, texts of at most 255 bytes, at most 255 SSRCs of a REMB, whole words of an application.
+#[tactic(auto, using(crate::proofs::Lengths::counted))]
+pub fn items_fit_by_lengths()
+    ensures { ItemsFitByLengths }
 {}

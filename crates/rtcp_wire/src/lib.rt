@@ -19,7 +19,7 @@ mod wire;
 
 pub use extended::{Dlrr, DlrrItem, ExtendedReport, ReportBlock, Rrtr};
 pub use feedback::AppSpecificFeedback;
-pub use laws::{frames_read_back, items_read_back};
+pub use laws::{frames_read_back, items_fit_by_lengths, items_read_back};
 pub use list::ReportList;
 pub use nack::{Nack, NackEntry};
 pub use packet::Rtcp;
