@@ -29,7 +29,7 @@ pub struct Twcc {
 }
 
 // The signed number of 24 bits.
-fn signed(bits: u32) -> i32
+pub(crate) fn signed(bits: u32) -> i32
     requires { bits < 16777216 }
     ensures { result ≡ signed24 bits }
 {
@@ -85,7 +85,7 @@ fn write_words(all: &[u32], out: &mut [u8], at: usize) -> Option<usize>
 }
 
 // The reference time in 24 bits.
-fn reference_bits(twcc: &Twcc) -> u32
+pub(crate) fn reference_bits(twcc: &Twcc) -> u32
     ensures value { result ≡ bits24 twcc.now.reference_time }
     ensures small { result < 16777216 }
 {

@@ -1,5 +1,6 @@
 //! Laws of what is read and written.
 ghost use Rattle.twcc_core.specs.Laws.{FeedbackReadsBack, FeedbackIsWhole};
+ghost use Rattle.twcc_core.specs.Times.{ReportsTellArrivals};
 
 /// Written feedback is read again as it was.
 #[tactic(auto, using(crate::proofs::ReadBack::twcc_again))]
@@ -8,7 +9,12 @@ pub fn feedback_reads_back()
 {}
 
 /// Written feedback has whole words, and fits an item of RTCP.
-#[tactic(auto, using(crate::proofs::ReadBack::twcc_whole))]
 pub fn feedback_is_whole()
     ensures { FeedbackIsWhole }
+{}
+
+/// A report that was built, written and read again tells which numbers came, from the lowest unreported
+/// on, and when, as the wire holds it.
+pub fn reports_tell_arrivals()
+    ensures { ReportsTellArrivals }
 {}

@@ -5,11 +5,18 @@
 mod chunk;
 mod feedback;
 mod laws;
+mod moments;
+mod receive;
+mod share;
+mod size;
 mod status;
 #[cfg(test)]
 mod tests;
 mod wire;
 
 pub use feedback::{Twcc, read_twcc, write_twcc};
-pub use laws::{feedback_is_whole, feedback_reads_back};
+pub use laws::{feedback_is_whole, feedback_reads_back, reports_tell_arrivals};
+pub use moments::arrivals;
+pub use receive::TwccRecvRegister;
+pub use share::Share;
 pub use status::PacketStatus;

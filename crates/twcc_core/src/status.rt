@@ -1,4 +1,4 @@
-ghost use Rattle.std.specs.Prelude.{◌≡◌, ◌<◌, IfOk};
+ghost use Rattle.std.specs.Prelude.{◌≡◌, ◌<◌, ◌≤◌, length, IfOk};
 ghost use Rattle.std.specs.Option.{option_map};
 ghost use Rattle.std.specs.List.{flat_map};
 ghost use Rattle.twcc_core.specs.Wire.{Puts};
@@ -28,6 +28,18 @@ impl PacketStatus {
         match self {
             PacketStatus::NotReceived => 0,
             PacketStatus::Received(delta) => { if delta >= 0 && delta < 256 { 1 } else { 2 } }
+        }
+    }
+
+    // How many bytes the delta takes.
+    pub(crate) fn delta_len(self) -> usize
+        ensures value { result ≡ length (delta_text self) }
+        ensures small { result ≤ 2 }
+    {
+        match self.symbol() {
+            0 => 0,
+            1 => 1,
+            _ => 2,
         }
     }
 

@@ -1,6 +1,6 @@
 use super::*;
-use media_base::Listed;
-use rtp_wire::Ssrc;
+use media_base::{Instant, Listed};
+use rtp_wire::{SeqNo, Ssrc};
 use std::process::Abort;
 use std::test::Fail;
 
@@ -115,5 +115,137 @@ fn gaps(rt: HostRuntime) -> Result<(), Fail> {
         let (_, end) = out.split_at(16);
         assert!(rt; end == chunks.as_slice());
     }
+    Ok(())
+}
+
+fn register(rt: &HostRuntime, arrivals: &[(u64, u64)]) -> Result<TwccRecvRegister, Fail> {
+    let mut register = TwccRecvRegister::new(rt.alloc());
+    for (number, nanos) in arrivals {
+        register.update_seq(SeqNo::from(*number), Instant::from_nanos(*nanos))?;
+    }
+    Ok(register)
+}
+
+fn build(
+    rt: &HostRuntime,
+    register: &mut TwccRecvRegister,
+    limit: usize,
+) -> Result<Option<Twcc>, Fail> {
+    Ok(register.build_report(rt.alloc(), Ssrc::from(1), Ssrc::from(42), limit)?)
+}
+
+fn rows(rt: &HostRuntime, statuses: &[PacketStatus]) -> Result<Listed<PacketStatus>, Fail> {
+    let mut rows = Listed::new(rt.alloc());
+    for status in statuses {
+        rows.push(*status)?;
+    }
+    Ok(rows)
+}
+
+fn moments(rt: &HostRuntime, nanos: &[Option<u64>]) -> Result<Listed<Option<Instant>>, Fail> {
+    let mut moments = Listed::new(rt.alloc());
+    for moment in nanos {
+        moments.push(moment.map(Instant::from_nanos))?;
+    }
+    Ok(moments)
+}
+
+// Three numbers about 65,536, of which the second comes after the report, and then again.
+#[test]
+fn late_at_the_wrap(rt: HostRuntime) -> Result<(), Fail> {
+    let mut register = register(&rt, &[(65_534, 65_000_000), (65_536, 66_000_000)])?;
+    let first = build(&rt, &mut register, 1_000)?.ok_or("no report")?;
+    let expected = Twcc {
+        sender_ssrc: Ssrc::from(1),
+        ssrc: Ssrc::from(42),
+        base_seq: 65_534,
+        reference_time: 1,
+        feedback_count: 0,
+        rows: rows(
+            &rt,
+            &[
+                PacketStatus::Received(4),
+                PacketStatus::NotReceived,
+                PacketStatus::Received(4),
+            ],
+        )?,
+    };
+    assert!(rt; first == expected);
+    assert!(rt; !register.has_unreported());
+    assert!(rt; build(&rt, &mut register, 1_000)?.is_none());
+    for nanos in [70_000_000, 90_000_000] {
+        register.update_seq(SeqNo::from(65_535), Instant::from_nanos(nanos))?;
+    }
+    let second = build(&rt, &mut register, 1_000)?.ok_or("no report")?;
+    let deltas = [PacketStatus::Received(24), PacketStatus::Received(-16)];
+    assert!(rt; second.rows == rows(&rt, &deltas)?);
+    assert!(rt; (second.base_seq, second.feedback_count) == (65_535, 1));
+    Ok(())
+}
+
+// Two numbers take 24 bytes with the header, the third 28.
+#[test]
+fn reports_within_a_limit(rt: HostRuntime) -> Result<(), Fail> {
+    let mut register = register(&rt, &[(7, 0), (8, 250_000), (9, 750_000)])?;
+    assert!(rt; build(&rt, &mut register, 23)?.is_none());
+    let first = build(&rt, &mut register, 27)?.ok_or("no report")?;
+    let statuses = [PacketStatus::Received(0), PacketStatus::Received(1)];
+    assert!(rt; first.rows == rows(&rt, &statuses)?);
+    let second = build(&rt, &mut register, 27)?.ok_or("no report")?;
+    assert!(rt; second.rows == rows(&rt, &[PacketStatus::Received(3)])?);
+    assert!(rt; (second.base_seq, second.feedback_count) == (9, 1));
+    Ok(())
+}
+
+// A report ends before a delta of 32,768 steps, and not before one of 32,767.
+#[test]
+fn reports_end_before_a_wide_delta(rt: HostRuntime) -> Result<(), Fail> {
+    let mut register = register(&rt, &[(1, 0), (2, 8_191_750_000), (4, 16_383_750_000)])?;
+    let first = build(&rt, &mut register, 1_000)?.ok_or("no report")?;
+    let statuses = [
+        PacketStatus::Received(0),
+        PacketStatus::Received(32_767),
+        PacketStatus::NotReceived,
+    ];
+    assert!(rt; first.rows == rows(&rt, &statuses)?);
+    assert!(rt; register.has_unreported());
+    Ok(())
+}
+
+#[test]
+fn shares_missing(rt: HostRuntime) -> Result<(), Fail> {
+    let none = register(&rt, &[])?;
+    assert!(rt; none.loss().is_none() && none.max_seq().is_none());
+    let few = register(&rt, &[(5, 0), (4, 0), (8, 0)])?;
+    assert_eq!(rt;
+        few.loss(),
+        Some(Share {
+            missing: 2,
+            total: 5
+        })
+    );
+    assert!(rt; few.max_seq() == Some(SeqNo::from(8)));
+    let many = register(&rt, &[(1, 0), (200, 0), (101, 0), (100, 0)])?;
+    assert_eq!(rt;
+        many.loss(),
+        Some(Share {
+            missing: 98,
+            total: 100
+        })
+    );
+    Ok(())
+}
+
+// Each call that takes memory, once, with ample memory.
+#[test]
+fn surface_ample(rt: HostRuntime) -> Result<(), Fail> {
+    let mut register = register(&rt, &[(3, 64_000_000_100), (5, 64_000_500_000)])?;
+    let report = build(&rt, &mut register, 1_000)?.ok_or("no report")?;
+    let mut out = [0; 20];
+    assert_eq!(rt; write(&rt, &report, &mut out), Some(20));
+    let read = read_twcc(rt.alloc(), &out)?.ok_or("nothing read")?;
+    assert!(rt; read == report);
+    let told = [Some(64_000_000_000), None, Some(64_000_500_000)];
+    assert!(rt; arrivals(rt.alloc(), &read)? == moments(&rt, &told)?);
     Ok(())
 }
