@@ -48,9 +48,9 @@ fn lines_with(text: &[u8], start: &str) -> usize {
         .count()
 }
 
-// A write of so many bytes.
-fn write_of(alloc: Global, bytes: u64) -> Result<String, Fail> {
-    let mut step = "write A 1 42 1 96 0 0 0 ".to_string(alloc)?;
+// A write under a number, of so many bytes.
+fn write_of(alloc: Global, number: &str, bytes: u64) -> Result<String, Fail> {
+    let mut step = format!(in alloc; "write A 1 42 {number} 96 0 0 0 ")?;
     for _byte in 0..bytes {
         step.push_str("00")?;
     }
@@ -88,10 +88,10 @@ fn empty_script_and_empty_payload(rt: HostRuntime) -> Result<(), Fail> {
 
 #[test]
 fn payload_limit(rt: HostRuntime) -> Result<(), Fail> {
-    let step = write_of(rt.alloc(), 1_400)?;
+    let step = write_of(rt.alloc(), "1", 1_400)?;
     let (report, _) = ran(rt.alloc(), step.as_str())?;
     assert_eq!(rt; report.status, 0);
-    let step = write_of(rt.alloc(), 1_401)?;
+    let step = write_of(rt.alloc(), "1", 1_401)?;
     let (report, sink) = ran(rt.alloc(), step.as_str())?;
     assert_eq!(rt; report.status, 2);
     assert_eq!(rt; report.end, End::Step(1, StepFault::PayloadTooLong));
@@ -205,5 +205,194 @@ fn failing_sink(rt: HostRuntime) -> Result<(), Fail> {
     assert_eq!(rt; report.status, 5);
     assert_eq!(rt; report.end, End::WriteFault);
     assert!(rt; ONE_WRITE_TEXT.as_bytes().starts_with(sink.bytes()));
+    Ok(())
+}
+
+// A key of 55 bytes, where the profile takes 56.
+const SHORT_KEY: &str =
+    "key 00000000000000000000000000000000000000000000000000000000000000000000000000000000000000000000000000000000000000\n";
+
+// A script of these setup lines, without steps.
+fn setup_script(alloc: Global, lines: &str) -> Result<Vec<u8>, Fail> {
+    let mut text = "str0m-media 1\n".to_string(alloc)?;
+    text.push_str(lines)?;
+    text.push_str("begin\nend\n")?;
+    Ok(text.into_bytes())
+}
+
+#[test]
+fn setup_faults(rt: HostRuntime) -> Result<(), Fail> {
+    let alloc = rt.alloc();
+    for (lines, fault) in [
+        (SHORT_KEY, "KeyLength"),
+        (
+            "key 00\ntype 96 vp8 90000\ntype 96 vp9 90000\n",
+            "KeyLength",
+        ),
+        (
+            "key zero\ntype 96 vp8 90000\ntype 96 vp9 90000\n",
+            "TypeTwice",
+        ),
+        (
+            "key zero\ntype 128 vp8 90000\nmedia v video cam\nstream A v 0 - -\n",
+            "TypeTwice",
+        ),
+        (
+            "key zero\nmedia v video cam\nstream A v 0 - -\n",
+            "SsrcZero",
+        ),
+        (
+            "key zero\nmedia v video cam\nstream A v 0 - -\nstream B v 1 - -\n",
+            "SsrcZero",
+        ),
+        (
+            "key zero\nmedia v video cam\nstream A v 42 - -\nstream B v 42 - -\n",
+            "SsrcTwice",
+        ),
+        (
+            "key zero\nmedia v video cam\nstream A v 2 - -\n",
+            "SsrcTwice",
+        ),
+        (
+            "key zero\nmedia v video cam\nstream A v 42 42 -\nstream A v 44 - -\n",
+            "SsrcTwice",
+        ),
+        (
+            "key zero\nmedia v video cam\nmedia v audio mic\n",
+            "RidTwice",
+        ),
+        (
+            "key zero\nmedia v video cam\nstream A v 42 - h\nstream A v 43 - h\n",
+            "RidTwice",
+        ),
+        (
+            "key zero\nmedia v video cam\nstream A v 42 44 -\nstream A v 43 - h\n",
+            "RidTwice",
+        ),
+        (
+            "key zero\nmedia v video cam\nstream A v 42 43 -\n",
+            "RtxLater",
+        ),
+    ] {
+        let (report, sink) = ran_on(alloc, setup_script(alloc, lines)?)?;
+        let text = format!(in alloc; "fault setup {fault}\n")?;
+        assert_eq!(rt; report.status, 1, "at {lines}");
+        assert_eq!(rt; sink.bytes(), text.as_bytes(), "at {lines}");
+    }
+    Ok(())
+}
+
+#[test]
+fn step_faults(rt: HostRuntime) -> Result<(), Fail> {
+    let alloc = rt.alloc();
+    for (steps, fault) in [
+        ("tick A 0\n", "fault step 1 TimeZero"),
+        ("foreign B 0 rtp -\n", "fault step 1 TimeZero"),
+        ("deliver B 0 1\n", "fault step 1 TimeZero"),
+        ("tick A 2\ntick B 1\n", "fault step 2 TimeBack"),
+        (
+            "tick A 2\nwrite B 1 42 1 96 0 0 0 01\n",
+            "fault step 2 TimeBack",
+        ),
+        ("tick A 10000000000000001\n", "fault step 1 TimeBeyond"),
+        ("deliver A 10000000000000001 1\n", "fault step 1 TimeBeyond"),
+        ("write B 1 42 1 96 0 0 0 01\n", "fault step 1 UnknownStream"),
+        ("write A 1 41 1 97 0 0 0 01\n", "fault step 1 UnknownStream"),
+        ("deliver B 1 1\n", "fault step 1 UnknownDatagram"),
+        ("deliver B 1 0\n", "fault step 1 UnknownDatagram"),
+        ("write A 1 42 1 97 0 0 0 01\n", "fault step 1 UnknownType"),
+        (
+            "write A 1 42 281474976710656 97 0 0 0 01\n",
+            "fault step 1 UnknownType",
+        ),
+        (
+            "write A 1 42 281474976710656 96 0 0 0 01\n",
+            "fault step 1 NumberTooBig",
+        ),
+        (
+            "write A 1 42 1 96 0 0 0 01\nwrite A 1 42 1 96 0 0 0 02\n",
+            "fault step 2 NumberUsed",
+        ),
+    ] {
+        let (report, sink) = ran(alloc, steps)?;
+        assert_eq!(rt; report.status, 2, "at {steps}");
+        assert_eq!(rt; lines_with(sink.bytes(), fault), 1, "at {steps}");
+    }
+    Ok(())
+}
+
+#[test]
+fn long_payloads_of_wrong_numbers(rt: HostRuntime) -> Result<(), Fail> {
+    let alloc = rt.alloc();
+    let (_, sink) = ran(alloc, write_of(alloc, "281474976710656", 1_401)?.as_str())?;
+    assert_eq!(rt; sink.bytes(), b"fault step 1 NumberTooBig\n".as_slice());
+    let mut steps = write_of(alloc, "1", 1_400)?;
+    steps.push_str(write_of(alloc, "1", 1_401)?.as_str())?;
+    let (report, _) = ran(alloc, steps.as_str())?;
+    assert_eq!(rt; report.end, End::Step(2, StepFault::NumberUsed));
+    Ok(())
+}
+
+#[test]
+fn foreign_seal(rt: HostRuntime) -> Result<(), Fail> {
+    let (report, sink) = ran(
+        rt.alloc(),
+        "foreign B 1 rtp 80600002000000000000002a0380600002002a00020000002803000001\n",
+    )?;
+    assert_eq!(rt; report.end, End::Done);
+    assert_eq!(rt;
+        sink.bytes(),
+        b"got B rtp 29\nopened B rtp 42 2\nyielded B 42 2 96 0 0 03\nend genuine=no repairs=yes\n".as_slice()
+    );
+    Ok(())
+}
+
+// A datagram with SSRC 42 and number 6, whose payload is sealed to so many zeros.
+fn zeros(alloc: Global, bytes: u64) -> Result<String, Fail> {
+    let mut step = "foreign B 1 rtp 80600006000000000000002a".to_string(alloc)?;
+    for _byte in 0..bytes {
+        step.push_str("00")?;
+    }
+    step.push_str("804a0004002a00040000005100000001\n")?;
+    Ok(step)
+}
+
+// Each of these is the seal of its plain datagram wherever a header stands in front of it.
+const UNOPENED: &str = "foreign B 1 rtp -
+foreign B 1 rtp 8060000100000000000000
+foreign B 1 rtp 00600002000000000000002a0300600002002a00020000002803000001
+foreign B 1 rtp 40600002000000000000002a0340600002002a00020000002803000001
+foreign B 1 rtp c0600002000000000000002a03c0600002002a00020000002803000001
+foreign B 1 rtp 8f600002000000000000002a0380600002002a00020000002803000001
+foreign B 1 rtp 90600002000000000000002abede000480600002002a000200000028
+foreign B 1 rtp a0600003000000000000002a00a0600003002a00020000002900000001
+foreign B 1 rtp a0600004000000000000002a05a0600004002a00020000002e05000001
+foreign B 1 rtp 80610005000000000000002a0380610005002a00020000002f03000001
+foreign B 1 rtp 8060000500000000000000630380600005006300020000006603000001
+";
+
+// And each of these opens: SSRC 0, a number that a datagram which did not open had, and padding.
+const OPENED: &str = "foreign B 1 rtp 80600001000000000000000080600001000000020000000100000001
+foreign B 1 rtp 80600002000000000000002a0380600002002a00020000002803000001
+foreign B 1 rtp a0600004000000000000002a070002a0600004002a00020000002e07000201
+";
+
+#[test]
+fn foreign_datagrams(rt: HostRuntime) -> Result<(), Fail> {
+    let alloc = rt.alloc();
+    let mut steps = UNOPENED.to_string(alloc)?;
+    steps.push_str(zeros(alloc, 1_973)?.as_str())?;
+    let (report, sink) = ran(alloc, steps.as_str())?;
+    assert_eq!(rt; report.end, End::Done);
+    assert_eq!(rt; lines_with(sink.bytes(), "got B rtp"), 12);
+    assert_eq!(rt; lines_with(sink.bytes(), "opened"), 0);
+    steps.push_str(OPENED)?;
+    steps.push_str(zeros(alloc, 1_972)?.as_str())?;
+    let (_, sink) = ran(alloc, steps.as_str())?;
+    assert_eq!(rt; lines_with(sink.bytes(), "opened B rtp"), 4);
+    assert_eq!(rt; lines_with(sink.bytes(), "opened B rtp 0 1"), 1);
+    assert_eq!(rt; lines_with(sink.bytes(), "yielded B"), 3);
+    assert_eq!(rt; lines_with(sink.bytes(), "yielded B 42 4 96 0 0 07"), 1);
+    assert_eq!(rt; lines_with(sink.bytes(), "end genuine=no repairs=yes"), 1);
     Ok(())
 }
