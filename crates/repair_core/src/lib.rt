@@ -16,7 +16,7 @@ mod size_classes;
 mod slots;
 
 pub use gap_window::GapWindow;
-pub use laws::rounds_name_the_due;
+pub use laws::{remembered_is_not_fresh, rounds_name_the_due, taken_is_not_fresh};
 pub use register::{ReceiverRegister, expected, packets_lost};
 pub use register_nack::NackRegister;
 pub use resend_store::ResendStore;
