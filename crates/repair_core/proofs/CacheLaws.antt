@@ -1,13 +1,11 @@
 -- Which packet a cache gives for a size.
-use Rattle.std.proofs.Common.{◌≡◌, ◌≢◌, ℕ, zero, suc, ◌+◌, ◌-◌, ◌*◌, ◌/◌, ◌<◌, ◌≤◌, Bool, true, false, cond, eqb, List, [], ◌∷◌, ◌++◌, refl, sym, ap, ◌∙◌, subst, arith, length, replicate, max, inl, inr, ⊎_elim, ◌⊎◌, Option, Some, None}
-use Rattle.std.specs.Prelude.{◌||◌, nat_eq, slice_index_or, slice_set, option_and_then, IfSome, IsNone}
+use Rattle.std.proofs.Common.{◌≡◌, ◌≢◌, ℕ, zero, suc, ◌+◌, ◌/◌, ◌<◌, ◌≤◌, Bool, true, false, cond, eqb, List, [], ◌∷◌, refl, sym, ap, ◌∙◌, subst, arith, inl, inr, ⊎_elim, ◌⊎◌, Option, Some, None}
+use Rattle.std.specs.Prelude.{◌||◌, nat_eq}
 use Rattle.std.specs.List.{list_any}
 use Rattle.std.proofs.lemmas.Bool.Decides.{nat_tests}
-use Rattle.std.proofs.lemmas.List.{get_or-set_other, get_or-set_same, get_or-replicate}
-use Rattle.std.proofs.lemmas.Bool.{cases_eq, cases_lt}
-use Rattle.repair_core.specs.ResendStore.{Event, pushed, evicted, Past, with_event, MustStore, latter, greatest_by, last_by, stored_under, last_under, after_pushed, next_position, evicted_at, latest_eviction, InOrderFrom, IsInOrder, AllStored, MayGo, HeldAs}
-use Rattle.repair_core.specs.RtxCache.{number_in, last_of_class, greatest_below, is_push_of, CachedOnce, NoneKept}
-use Rattle.repair_core.proofs.EventLaws.{last_by-push, under_stored}
+use Rattle.std.proofs.lemmas.Bool.{cases_eq}
+use Rattle.repair_core.specs.ResendStore.{Event, pushed, evicted, latter, stored_under, last_under, InOrderFrom, AllStored}
+use Rattle.repair_core.specs.RtxCache.{number_in, last_of_class, greatest_below, is_push_of, CachedOnce}
 
 latter_none : {A : Type 0} (o : Option A) → latter None o ≡ o
 latter_none None = refl

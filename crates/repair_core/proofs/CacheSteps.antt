@@ -1,17 +1,17 @@
 -- What a cache stands for after each step.
-use Rattle.std.proofs.Common.{◌≡◌, ◌≢◌, ℕ, zero, suc, ◌+◌, ◌-◌, ◌/◌, ◌<◌, ◌≤◌, Bool, true, false, cond, eqb, List, [], ◌∷◌, ◌++◌, refl, sym, ap, ◌∙◌, subst, arith, length, replicate, max, min, inl, inr, ⊎_elim, ◌⊎◌, Option, Some, None}
-use Rattle.std.specs.Prelude.{slice_index_or, slice_set, option_and_then, option_map, IfSome}
+use Rattle.std.proofs.Common.{◌≡◌, ◌≢◌, ℕ, zero, suc, ◌+◌, ◌-◌, ◌/◌, ◌<◌, ◌≤◌, Bool, true, false, cond, eqb, List, [], ◌∷◌, ◌++◌, refl, sym, ap, ◌∙◌, subst, arith, length, replicate, max, min, inl, inr, ⊎_elim, Option, Some, None}
+use Rattle.std.specs.Prelude.{slice_index_or, slice_set, option_and_then}
 use Rattle.std.proofs.lemmas.Bool.Decides.{nat_tests}
 use Rattle.std.proofs.lemmas.List.{get_or-set_other, get_or-set_same, get_or-replicate, length-set}
 use Rattle.std.proofs.lemmas.Bool.{cases_eq}
 use Rattle.repair_core.specs.declared.rtx_cache.RtxCache.{RtxCache}
 use Rattle.repair_core.specs.declared.rtx_cache_buf.EvictingBuffer.{EvictingBuffer}
-use Rattle.repair_core.specs.ResendStore.{Event, pushed, evicted, Past, with_event, emptied, MustStore, last_by, last_under, latter, next_position, latest_eviction, InOrderFrom, IsInOrder, AllStored, MayGo, HeldAs}
+use Rattle.repair_core.specs.ResendStore.{Event, pushed, evicted, Past, with_event, emptied, latter, next_position, latest_eviction, InOrderFrom, IsInOrder, AllStored, HeldAs}
 use Rattle.repair_core.specs.EvictingBuffer.{StandsFor as BufferStandsFor, value_at, IsPushed}
 use Rattle.repair_core.specs.RtxCache.{number_in, last_of_class, greatest_below, packet_at, made_for, StandsFor, IsCached, CachedOnce, NoneKept}
 use Rattle.repair_core.proofs.EventLaws.{last_by-push}
 use Rattle.repair_core.proofs.BufferLaws.{held_as}
-use Rattle.repair_core.proofs.CacheLaws.{class_of_last, HasLast, last_after, none_below, some_below, below_same}
+use Rattle.repair_core.proofs.CacheLaws.{class_of_last, last_after, none_below, some_below, below_same}
 
 no_number : {P : Type 0} (size : P → ℕ) (numbers : List (Option ℕ)) → numbers ≡ replicate 80 None → (k : ℕ) → k < 80 → slice_index_or numbers k None ≡ None
 no_number size numbers blank k lt = ap (λ (l : List (Option ℕ)). slice_index_or l k None) blank ∙ get_or-replicate 80 k None None lt

@@ -6,7 +6,7 @@ use Rattle.std.proofs.lemmas.Bool.{cases_eq}
 use Rattle.repair_core.specs.declared.ring.Entry.{Entry}
 use Rattle.repair_core.specs.declared.rtx_cache_buf.EvictingBuffer.{EvictingBuffer}
 use Rattle.repair_core.specs.Ring.{matching, slot_of, held, place_in, put_in}
-use Rattle.repair_core.specs.ResendStore.{Event, pushed, evicted, Past, revalued_event, revalued, size_of, latter, greatest_by, last_by, stored_under, last_under, stored_at, stored_position, greatest_stored, after_pushed, next_position, evicted_at, latest_eviction, RisesFrom, IsRising, MayGo}
+use Rattle.repair_core.specs.ResendStore.{Event, pushed, evicted, Past, revalued_event, revalued, size_of, latter, greatest_by, last_by, stored_under, last_under, stored_at, stored_position, greatest_stored, after_pushed, evicted_at, latest_eviction, RisesFrom, IsRising, MayGo}
 use Rattle.repair_core.specs.EvictingBuffer.{StandsFor, with_slot}
 use Rattle.repair_core.proofs.RingLaws.{held_slot, slot_held, held_put_same, held_put_other, held_put_from, in_place_put, length-put}
 

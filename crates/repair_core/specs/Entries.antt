@@ -1,7 +1,10 @@
 -- Missing numbers in entries of a NACK (RFC 4585, section 6.2.1).
-use Rattle.std.specs.Prelude.{◌≡◌, ℕ, ◌+◌, ◌-◌, ◌*◌, ◌^◌, ◌%◌, ◌<◌, ◌≤◌, nat_le, if◌then◌else◌, List, [], ◌∷◌, Option, Some, None, bit_or}
+use Rattle.std.specs.Prelude.{◌≡◌, ℕ, ◌+◌, ◌-◌, ◌*◌, ◌^◌, ◌%◌, ◌<◌, ◌≤◌, nat_le, if◌then◌else◌, map, List, [], ◌∷◌, Option, Some, None, bit_or}
+use Rattle.std.specs.List.{flat_map}
+use Rattle.rtcp_wire.specs.Named.{named_below}
 use Rattle.rtcp_wire.specs.declared.nack.NackEntry.{NackEntry}
 use Rattle.repair_core.specs.declared.missing.Missing.{Missing}
+use Rattle.repair_core.specs.Rounds.{Heard, due}
 
 -- the entry of a number and of those of the next 16 that its bits name
 abbrev pub entry_of : Missing → NackEntry
@@ -25,3 +28,11 @@ packed (Some m) (k ∷ ks) = if nat_le k (m.first + 16) then packed (Some (with_
 abbrev pub IsPacking : ℕ → ℕ → ℕ → Option Missing → ℕ → Type 0
 IsPacking low before k None n = n ≡ before
 IsPacking low before k (Some m) n = (m.first < k) × (before ≤ n) × (low + 17 * (n - before) ≤ m.first)
+
+-- the numbers that an entry names, modulo 2^16, from the PID on
+abbrev pub names : NackEntry → List ℕ
+names e = map (λ n. n % 65536) (e.pid ∷ named_below e.pid e.blp 16)
+
+-- the entries of a round name exactly the numbers that are due, modulo 2^16, in order
+abbrev pub RoundsNameTheDue : Type 0
+RoundsNameTheDue = (past : Heard) (now wait : ℕ) → flat_map names (packed None (due past now wait)) ≡ map (λ k. k % 65536) (due past now wait)

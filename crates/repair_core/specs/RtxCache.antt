@@ -1,5 +1,5 @@
 -- What a cache of sent packets stands for, and which packet it gives for a size.
-use Rattle.std.specs.Prelude.{◌≡◌, ℕ, zero, suc, ◌+◌, ◌/◌, ◌<◌, Bool, true, false, ◌==◌, min, if◌then◌else◌, length, List, [], ◌∷◌, slice_index_or, Option, Some, None}
+use Rattle.std.specs.Prelude.{◌≡◌, ℕ, zero, suc, ◌/◌, ◌<◌, Bool, true, false, ◌==◌, min, if◌then◌else◌, length, List, [], ◌∷◌, slice_index_or, Option, Some, None}
 use Rattle.std.specs.List.{list_any}
 use Rattle.repair_core.specs.declared.rtx_cache.RtxCache.{RtxCache}
 use Rattle.repair_core.specs.ResendStore.{Event, pushed, evicted, Past, with_event, MustStore, latter, last_by, last_under, IsInOrder, AllStored, MayGo}

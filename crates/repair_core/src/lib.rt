@@ -4,6 +4,7 @@
 
 mod gap_window;
 mod jitter;
+mod laws;
 mod missing;
 mod register;
 mod register_nack;
@@ -15,6 +16,7 @@ mod size_classes;
 mod slots;
 
 pub use gap_window::GapWindow;
+pub use laws::{remembered_is_not_fresh, rounds_name_the_due, taken_is_not_fresh};
 pub use register::{ReceiverRegister, expected, packets_lost};
 pub use register_nack::NackRegister;
 pub use resend_store::ResendStore;

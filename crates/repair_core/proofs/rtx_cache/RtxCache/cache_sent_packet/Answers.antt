@@ -1,4 +1,4 @@
-use Rattle.std.proofs.Common.{◌≡◌, ◌∙◌, ◌/◌, ℕ, List, Option, Some, ap, subst}
+use Rattle.std.proofs.Common.{◌≡◌, ◌∙◌, ◌/◌, ℕ, Some, ap, subst}
 use Rattle.std.specs.Prelude.{slice_set}
 use Rattle.repair_core.specs.EvictingBuffer.{IsPushed}
 use Rattle.repair_core.proofs.CacheSteps.{cached_stands}

@@ -1,4 +1,4 @@
-use Rattle.std.proofs.Common.{◌≡◌, ◌∙◌, ◌/◌, Bool, true, false, Option, None, Some, refl, sym, arith}
+use Rattle.std.proofs.Common.{◌≡◌, ◌∙◌, ◌/◌, true, false, Option, None, Some, refl, sym, arith}
 use Rattle.std.specs.Prelude.{IfSome, IsNone}
 use Rattle.repair_core.proofs.CacheSteps.{choice_is, smaller_is, none_is}
 use Rattle.repair_core.proofs.rtx_cache.RtxCache.get_cached_packet_smaller_than.Goals as goal

@@ -1,9 +1,9 @@
-use Rattle.std.proofs.Common.{◌≡◌, ◌∙◌, ℕ, ◌<◌, ◌%◌, List, Option, Some, None, ap, sym, subst, refl, inl, ◌⊎◌, length, arith}
+use Rattle.std.proofs.Common.{◌≡◌, ◌∙◌, ℕ, ◌<◌, ◌%◌, List, Option, Some, None, ap, sym, subst, inl, ◌⊎◌, length, arith}
 use Rattle.std.specs.Prelude.{option_map, slice_index_or}
 use Rattle.std.proofs.lemmas.List.{get_or_default}
 use Rattle.repair_core.specs.declared.ring.Entry.{Entry}
 use Rattle.repair_core.specs.declared.rtx_cache_buf.EvictingBuffer.{EvictingBuffer}
-use Rattle.repair_core.specs.Ring.{held, slot_of, place_in}
+use Rattle.repair_core.specs.Ring.{slot_of, place_in}
 use Rattle.repair_core.specs.ResendStore.{revalued}
 use Rattle.repair_core.specs.EvictingBuffer.{StandsFor, value_at, with_slot, with_value}
 use Rattle.repair_core.proofs.RingLaws.{held_slot}
