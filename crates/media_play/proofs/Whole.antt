@@ -16,8 +16,9 @@ use Rattle.media_play.specs.declared.fault.RunError.TheVariants as error
 use Rattle.media_play.specs.declared.fault.StepFault.{StepFault}
 use Rattle.media_play.specs.Headline.{HoldsOfRun}
 use Rattle.media_play.specs.Running.{HasCause}
+use Rattle.media_play.proofs.Steps.{plays_steps}
 use Rattle.media_script.specs.Text.{entries_text}
-use Rattle.media_play.specs.Outcome.{toy_sealing, step_line, RunEnds, Plays, TellsScript, EndsInRun, IsInOrder, PlaysAll}
+use Rattle.media_play.specs.Outcome.{toy_sealing, step_line, RunEnds, Plays, TellsScript, EndsInRun, IsInOrder, PlaysAll, PlaysToEnd}
 
 -- what is read to the end of input is all that the source tells
 pub tells_read : (left left' : Option (List ℕ)) (read : List ℕ) (setup : Given) (steps : List Act) → TellsScript left setup steps → Consumes left left' read → IsAtEnd left'
@@ -141,3 +142,19 @@ read_ends result p setup setup' steps steps' is same also ended =
     subst (λ (r : Result Played AllocError). IfOk r (λ p. RunEnds setup' steps' p.end p.transcript (p.text.items ++ p.last.now))) is ended in
     ends_in_run setup steps p.end p.transcript text
     (subst (λ (s : Given). RunEnds s steps p.end p.transcript text) (sym same) (subst (λ (t : List Act). RunEnds setup' t p.end p.transcript text) (sym also) here))
+
+-- the steps that were played are those of the script
+pub plays_to_end : (setup : Given) (steps : List Act) (end : End) (transcript : Option (List Entry)) (text : List ℕ) → EndsInRun setup steps end transcript text
+    → PlaysToEnd steps end transcript
+plays_to_end setup steps Done None text h = absurd h
+plays_to_end setup steps Done (Some entries) text h = plays_steps h.1
+plays_to_end setup steps (Setup fault) None text h = refl
+plays_to_end setup steps (Setup fault) (Some entries) text h = absurd h
+plays_to_end setup steps (Step number fault) None text h = absurd h
+plays_to_end setup steps (Step number fault) (Some entries) text h = let r = h.0.1 in (r.0, r.2, plays_steps r.4)
+plays_to_end setup steps (Syntax line) transcript text h = absurd h
+plays_to_end setup steps ReadFault transcript text h = h
+plays_to_end setup steps WriteFault transcript text h = h
+plays_to_end setup steps Memory transcript text h = h
+plays_to_end setup steps TooLong transcript text h = h
+plays_to_end setup steps Usage transcript text h = h

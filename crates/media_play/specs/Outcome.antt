@@ -1,5 +1,5 @@
 -- What the top call did.
-use Rattle.std.specs.Prelude.{ℕ, ◌<◌, ◌≤◌, ◌≡◌, ◌⊎◌, List, [], ◌∷◌, ◌++◌, length, codes, Err}
+use Rattle.std.specs.Prelude.{ℕ, ◌<◌, ◌≤◌, ◌+◌, ◌≡◌, ◌⊎◌, List, [], ◌∷◌, ◌++◌, length, take, codes, Err}
 use Rattle.std.specs.Fmt.{decimal}
 use Rattle.std.specs.declared.option.Option.{Option}
 use Rattle.std.specs.declared.option.Option.TheVariants.{Some, None}
@@ -19,7 +19,7 @@ use Rattle.media_play.specs.declared.fault.RunError.TheVariants as error
 use Rattle.media_play.specs.declared.report.End.{End}
 use Rattle.media_play.specs.declared.report.End.TheVariants.{Done, Setup, Step, ReadFault, WriteFault, Memory, Syntax, TooLong, Usage}
 use Rattle.media_play.specs.FaultNames.{setup_fault_name, step_fault_name}
-use Rattle.media_play.specs.Headline.{HoldsOfRun}
+use Rattle.media_play.specs.Headline.{HoldsOfRun, PlaysSteps}
 use Rattle.media_play.specs.Opening.{Sealing}
 use Rattle.media_play.specs.Play.{Played}
 use Rattle.media_play.specs.Running.{HasCause, AreValidSteps}
@@ -142,6 +142,12 @@ pub record IsInOrder (limit : ℕ) (words : List (List ℕ)) (left : Option (Lis
   pub short : length bytes ≤ limit
   pub fine : setup_fault setup ≡ None
   pub valid : AreValidSteps (toy_sealing setup) setup steps
+
+-- the steps among the entries are all those of the script, or those before the one that breaks a rule
+abbrev pub PlaysToEnd : List Act → End → Option (List Entry) → Type 0
+PlaysToEnd steps Done (Some entries) = PlaysSteps steps entries
+PlaysToEnd steps (Step number fault) (Some entries) = (before : ℕ) × (number ≡ before + 1) × PlaysSteps (take before steps) entries
+PlaysToEnd steps end transcript = transcript ≡ None
 
 -- all steps were played, or memory ran out
 abbrev pub PlaysAll : Given → List Act → End → Option (List Entry) → Type 0

@@ -5,7 +5,7 @@ ghost use Rattle.media_script.specs.declared.step.Step.{Step as Act};
 ghost use Rattle.media_script.specs.Spelling.{IsScript};
 ghost use Rattle.media_script.specs.Text.{entries_text as lines_of, text_of};
 ghost use Rattle.media_play.specs.Headline.{HoldsAlways, StepsAreAnswered, SealsAreRight, NoNonceTwice, SendsWrites, YieldsWrites, NoPacketTwice, FirstSendingsAreYielded};
-ghost use Rattle.media_play.specs.Outcome.{status_of, toy_sealing, IsCommand, syntax_line, setup_line, step_line, RunEnds, Cause, IsOfScript, Plays, Answers, TellsScript, EndsInRun, IsInOrder, PlaysAll};
+ghost use Rattle.media_play.specs.Outcome.{status_of, toy_sealing, IsCommand, syntax_line, setup_line, step_line, RunEnds, Cause, IsOfScript, Plays, Answers, TellsScript, EndsInRun, IsInOrder, PlaysAll, PlaysToEnd};
 
 use crate::fault::{RunError, SetupFault, StepFault};
 use crate::report::{End, Report};
@@ -238,6 +238,10 @@ pub fn media_main<S: Source, K: Sink>(
         → (Rose (K.fault_count sink.old) (K.fault_count sink.new) → ⊥)
         → PlaysAll setup steps result.end result.transcript }
 
+    // The steps of the transcript are those of the script, in order: a datagram that is delivered is
+    // the one that the other side sealed under this number.
+    ensures played { (setup : Given) (acts : List Act) → TellsScript (S.left source.old) setup acts
+        → PlaysToEnd acts result.end result.transcript }
     // A write brings nothing. A tick seals all queued writes, stream by stream. What comes is opened
     // exactly where it opens, and its packet yielded.
     ensures steps { (setup : Given) (acts : List Act) → TellsScript (S.left source.old) setup acts

@@ -1,6 +1,6 @@
 use Rattle.media_play.specs.Headline.{HoldsOfRun, StepsAreAnswered, SealsAreRight, FirstSendingsAreYielded}
 use Rattle.media_play.specs.Outcome.{toy_sealing}
-use Rattle.media_play.proofs.Whole.{holds_of_run, plays_all, order_tells, if_some_weaker}
+use Rattle.media_play.proofs.Whole.{holds_of_run, plays_all, order_tells, if_some_weaker, plays_to_end}
 use Rattle.media_play.proofs.top.media_main.Goals as goal
 
 pub returns-in-Ok-clause-complete : goal.returns-in-Ok-clause-complete
@@ -26,3 +26,6 @@ pub returns-in-Ok-clause-exactly : goal.returns-in-Ok-clause-exactly
 returns-in-Ok-clause-exactly g c setup acts told =
     if_some_weaker c.play-played.result.transcript (HoldsOfRun (toy_sealing setup) setup) (FirstSendingsAreYielded (toy_sealing setup)) (λ entries h. h.exactly)
     (holds_of_run setup acts _ _ _ (c.play-played.ensures.script setup acts told))
+
+pub returns-in-Ok-clause-played : goal.returns-in-Ok-clause-played
+returns-in-Ok-clause-played g c setup acts told = plays_to_end setup acts _ _ _ (c.play-played.ensures.script setup acts told)
