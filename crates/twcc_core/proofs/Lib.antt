@@ -6,3 +6,4 @@ pub mod Sizes
 pub mod Receiving
 pub mod Reporting
 pub mod Telling
+pub mod Nothing

@@ -1,12 +1,11 @@
 -- What was written is read again.
-use Rattle.std.proofs.Common.{◌≡◌, ℕ, zero, suc, ◌+◌, ◌-◌, ◌*◌, ◌/◌, ◌%◌, ◌^◌, ◌<◌, ◌≤◌, Bool, true, false, cond, eqb, ltb, leb, List, [], ◌∷◌, ◌++◌, length, get_or, take, drop, replicate, Option, Some, None, refl, sym, ap, subst, ◌∙◌, append_assoc, arith, length-append, length-drop}
-use Rattle.std.specs.Prelude.{slice_index, slice_get, map, ℤ, pos, negsuc, min, FitsSigned}
+use Rattle.std.proofs.Common.{◌≡◌, ℕ, zero, suc, ◌+◌, ◌-◌, ◌*◌, ◌/◌, ◌%◌, ◌^◌, ◌<◌, ◌≤◌, Bool, true, false, cond, eqb, ltb, leb, List, [], ◌∷◌, ◌++◌, length, take, drop, replicate, Option, Some, refl, sym, ap, ◌∙◌, append_assoc, arith, length-append, length-drop}
+use Rattle.std.specs.Prelude.{map, ℤ, pos, negsuc, min, FitsSigned}
 use Rattle.std.specs.List.{flat_map, AllByRecursion, take_while, prefix_len}
-use Rattle.std.specs.Int.{w16, w32, to_be_bytes, from_be_bytes, cast_signed, cast_unsigned}
+use Rattle.std.specs.Int.{w16, to_be_bytes, cast_unsigned}
 use Rattle.std.specs.Option.{option_map, option_and_then}
-use Rattle.std.proofs.lemmas.Bool.{le-ltb, lt-ltb, le-leb, lt-leb, ltb-true, leb-true, leb-false, eqb-true}
-use Rattle.std.proofs.lemmas.List.{append-nil, take_at, drop_at, take_min, take-append-drop, map-append, length-take-le, take-replicate}
-use Rattle.std.proofs.lemmas.List.Sums.{take_while-cons}
+use Rattle.std.proofs.lemmas.Bool.{le-ltb, lt-ltb, ltb-true, leb-true, leb-false, eqb-true}
+use Rattle.std.proofs.lemmas.List.{take-append-drop, map-append}
 use Rattle.std.proofs.lemmas.Int.{to_z-of_z}
 use Rattle.std.proofs.Math.Facts.{Fits-of_z}
 use Rattle.std.proofs.lemmas.Nat.{from_be_bytes-to_be_bytes_2, from_be_bytes-to_be_bytes_4}
@@ -14,11 +13,10 @@ use Rattle.twcc_core.specs.declared.status.PacketStatus.{PacketStatus}
 use Rattle.twcc_core.specs.declared.status.PacketStatus.TheVariants.{NotReceived, Received}
 use Rattle.twcc_core.specs.declared.feedback.Twcc.{Twcc}
 use Rattle.twcc_core.specs.Wire.{half_at, word_at, halves, words}
-use Rattle.twcc_core.specs.Statuses.{is_small, symbol_of, delta_text, status_at, statuses_of}
+use Rattle.twcc_core.specs.Statuses.{symbol_of, delta_text, status_at, statuses_of}
 use Rattle.twcc_core.specs.Chunks.{two_bit_symbols, chunk_symbols, with_symbols, symbols_within, symbols_of, symbol_at, run_of, vector_of, chunk_of, told_by, chunks_within, chunks_of}
 use Rattle.twcc_core.specs.Feedback.{signed24, bits24, with_rows, twcc_of, twcc_fields, fill_of, twcc_bytes}
 use Rattle.twcc_core.specs.Laws.{IsStatus, IsSigned24, IsFeedback}
-use Rattle.twcc_core.proofs.Chunks.{one_chunk}
 use Rattle.twcc_core.proofs.Symbols.{some_left, none_left}
 
 -- ---- symbols and deltas

@@ -1,5 +1,5 @@
 -- The loops over the numbers of a report.
-use Rattle.std.proofs.Common.{◌≡◌, ℕ, zero, suc, ◌+◌, ◌-◌, ◌*◌, ◌^◌, ◌<◌, ◌≤◌, Bool, true, false, cond, leb, List, [], ◌∷◌, ◌++◌, length, take, Option, Some, None, refl, sym, ap, ◌∙◌, append_assoc, arith, length-append}
+use Rattle.std.proofs.Common.{◌≡◌, ℕ, zero, suc, ◌+◌, ◌-◌, ◌^◌, ◌<◌, ◌≤◌, true, false, leb, List, [], ◌∷◌, ◌++◌, length, take, Option, Some, None, refl, sym, ap, ◌∙◌, append_assoc, arith, length-append}
 use Rattle.std.specs.Option.{option_map, option_map_or}
 use Rattle.std.proofs.lemmas.Bool.{le-leb, lt-leb, leb-true, leb-false}
 use Rattle.std.proofs.lemmas.List.{append-nil, take_at}
@@ -7,7 +7,7 @@ use Rattle.std.proofs.Math.Seq.{take-length, take-append-add}
 use Rattle.twcc_core.specs.declared.status.PacketStatus.{PacketStatus}
 use Rattle.twcc_core.specs.declared.size.Size.{Size}
 use Rattle.twcc_core.specs.Chunks.{chunks_of}
-use Rattle.twcc_core.specs.Reports.{arrival_of, row_of, last_after, with_last, rows_from, len_of, size_of, fitting, rows_within}
+use Rattle.twcc_core.specs.Reports.{arrival_of, row_of, last_after, with_last, rows_from, size_of, fitting, rows_within}
 use Rattle.twcc_core.specs.Sizes.{after_row, bytes_of, IsCounted}
 use Rattle.twcc_core.proofs.ReadBack.{chunks_len, deltas_len}
 use Rattle.twcc_core.proofs.Sizes.{counted_chunks, counted_deltas, counted_size, next_counted, size_grows}
@@ -71,7 +71,7 @@ fit_all : (limit : ℕ) (rows : List PacketStatus) (n : ℕ) → (0 < n → size
 fit_all limit rows zero le = refl
 fit_all limit rows (suc n) le = let t : leb (size_of (take (suc n) rows)) limit ≡ true = le-leb _ _ (le (omega arith)) in rw t refl
 
-fit_down : (limit : ℕ) (rows : List PacketStatus) (i n : ℕ) → i ≤ n → ((j : ℕ) → i < j → j ≤ n → limit < size_of (take j rows)) → fitting limit rows n ≡ fitting limit rows i
+pub fit_down : (limit : ℕ) (rows : List PacketStatus) (i n : ℕ) → i ≤ n → ((j : ℕ) → i < j → j ≤ n → limit < size_of (take j rows)) → fitting limit rows n ≡ fitting limit rows i
 fit_down limit rows i zero le more = let z : i ≡ 0 = omega arith in rw z refl
 fit_down limit rows i (suc n) le more =
     elim (leb (suc n) i) as (λ b. (leb (suc n) i ≡ b) → fitting limit rows (suc n) ≡ fitting limit rows i) [

@@ -4,7 +4,6 @@ use Rattle.std.specs.Prelude.{slice_get, min, ◌+◌, ◌-◌, ◌^◌, ◌%◌
 use Rattle.std.specs.Option.{option_map_or, option_and_then}
 use Rattle.std.proofs.lemmas.Bool.{le-ltb, lt-ltb}
 use Rattle.twcc_core.specs.declared.status.PacketStatus.{PacketStatus}
-use Rattle.twcc_core.specs.declared.feedback.Twcc.{Twcc}
 use Rattle.twcc_core.specs.Reports.{Receiving, unreported, report_rows, report_with, report_if, report_of, after_rows, after_report}
 
 pub nothing_due : (r : Receiving) (sender ssrc limit : ℕ) → None ≡ slice_get (unreported r) 0 → (report_of r sender ssrc limit ≡ None) × (after_report r limit ≡ r)

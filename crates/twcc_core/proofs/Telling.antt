@@ -1,10 +1,10 @@
 -- Reports tell which numbers came, and when.
-use Rattle.std.proofs.Common.{◌≡◌, ℕ, zero, suc, ◌+◌, ◌-◌, ◌*◌, ◌/◌, ◌%◌, ◌^◌, ◌<◌, ◌≤◌, Bool, true, false, cond, leb, ltb, List, [], ◌∷◌, ◌++◌, length, get_or, take, drop, append_assoc, Option, Some, None, refl, sym, ap, ◌∙◌, arith}
+use Rattle.std.proofs.Common.{◌≡◌, ℕ, zero, suc, ◌+◌, ◌-◌, ◌*◌, ◌%◌, ◌^◌, ◌<◌, ◌≤◌, true, false, cond, leb, ltb, List, [], ◌∷◌, ◌++◌, length, get_or, take, drop, append_assoc, Option, Some, None, refl, sym, ap, ◌∙◌, arith}
 use Rattle.std.specs.Prelude.{ℤ, pos, negsuc, min, slice_get, unwrap_or, FitsSigned}
 use Rattle.std.specs.Int.{w16}
 use Rattle.std.specs.Option.{option_map, option_map_or}
 use Rattle.std.specs.List.{AllByRecursion}
-use Rattle.std.proofs.lemmas.Bool.{le-ltb, lt-ltb, leb-true, leb-false, ltb-true, ltb-false}
+use Rattle.std.proofs.lemmas.Bool.{lt-ltb, leb-true, leb-false, ltb-true, ltb-false}
 use Rattle.std.proofs.lemmas.List.{length-take, append-nil}
 use Rattle.std.proofs.Math.ListN.{drop_of_length-le}
 use Rattle.twcc_core.specs.declared.status.PacketStatus.{PacketStatus}
@@ -12,7 +12,7 @@ use Rattle.twcc_core.specs.declared.status.PacketStatus.TheVariants.{NotReceived
 use Rattle.twcc_core.specs.declared.feedback.Twcc.{Twcc}
 use Rattle.twcc_core.specs.Feedback.{signed24, bits24, twcc_of, twcc_bytes}
 use Rattle.twcc_core.specs.Laws.{IsStatus, IsSigned24, IsFeedback}
-use Rattle.twcc_core.specs.Reports.{Receiving, unreported, arrival_of, steps_of, reference_of, delta_of, row_of, last_after, rows_from, rows_within, fitting, greatest_of, report_rows, report_with, report_if, report_of}
+use Rattle.twcc_core.specs.Reports.{Receiving, unreported, arrival_of, steps_of, reference_of, delta_of, row_of, last_after, rows_from, fitting, greatest_of, report_rows, report_with, report_if, report_of}
 use Rattle.twcc_core.specs.Times.{moment_after, row_moment, moments_from, moments_of, held, held_from, AreMoments}
 use Rattle.twcc_core.proofs.ReadBack.{twcc_again}
 use Rattle.twcc_core.proofs.Reporting.{something_due}

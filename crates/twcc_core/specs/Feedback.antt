@@ -1,7 +1,7 @@
 -- Transport-wide feedback in bytes (draft-holmer-rmcat-transport-wide-cc-extensions-01 section 3.1).
-use Rattle.std.specs.Prelude.{ℕ, ℤ, pos, ◌+◌, ◌-◌, ◌*◌, ◌/◌, ◌%◌, ◌-ℤ◌, List, [], ◌∷◌, ◌++◌, length, drop, replicate, nat_lt, Option, Some, None, if◌then◌else◌}
+use Rattle.std.specs.Prelude.{ℕ, ℤ, pos, ◌+◌, ◌-◌, ◌*◌, ◌/◌, ◌%◌, ◌-ℤ◌, List, [], ◌∷◌, ◌++◌, length, drop, replicate, nat_lt, Option, None, if◌then◌else◌}
 use Rattle.std.specs.List.{flat_map}
-use Rattle.std.specs.Int.{w16, w32, to_be_bytes, cast_unsigned}
+use Rattle.std.specs.Int.{w32, cast_unsigned}
 use Rattle.std.specs.Option.{option_map, option_and_then}
 use Rattle.twcc_core.specs.Wire.{half_at, word_at, halves, words}
 use Rattle.twcc_core.specs.Statuses.{statuses_of, delta_text}

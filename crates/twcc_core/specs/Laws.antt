@@ -1,5 +1,5 @@
 -- What the definitions of reading and writing owe each other.
-use Rattle.std.specs.Prelude.{◌≡◌, ℕ, ℤ, pos, negsuc, ◌%◌, ◌^◌, ◌<◌, length, Some, FitsSigned}
+use Rattle.std.specs.Prelude.{◌≡◌, ℤ, pos, negsuc, ◌%◌, ◌^◌, ◌<◌, length, Some, FitsSigned}
 use Rattle.std.specs.Int.{w16}
 use Rattle.std.specs.List.{AllByRecursion}
 use Rattle.twcc_core.specs.declared.status.PacketStatus.{PacketStatus}

@@ -1,5 +1,5 @@
 -- The arrivals that feedback tells.
-use Rattle.std.specs.Prelude.{◌≡◌, ℕ, ℤ, pos, negsuc, zero, suc, ◌+◌, ◌-◌, ◌*◌, ◌/◌, ◌^◌, ◌<◌, min, List, [], ◌∷◌, length, slice_get, unwrap_or, Option, Some, None}
+use Rattle.std.specs.Prelude.{◌≡◌, ℕ, ℤ, pos, negsuc, zero, suc, ◌+◌, ◌-◌, ◌*◌, ◌/◌, ◌^◌, ◌<◌, ◌≤◌, min, List, [], ◌∷◌, length, slice_get, unwrap_or, Option, Some, None}
 use Rattle.std.specs.Option.{option_map}
 use Rattle.twcc_core.specs.declared.status.PacketStatus.{PacketStatus}
 use Rattle.twcc_core.specs.declared.status.PacketStatus.TheVariants.{NotReceived, Received}
@@ -46,3 +46,11 @@ ReportsTellArrivals =
     (r : Receiving) (sender ssrc limit : ℕ) (t : Twcc) (first : ℕ × ℕ) → sender < 2 ^ 32 → ssrc < 2 ^ 32 → r.reports < 256 → AreMoments r.arrivals
     → slice_get (unreported r) 0 ≡ Some first → reference_of first.1 < 2 ^ 24 → report_of r sender ssrc limit ≡ Some t
     → (twcc_of (twcc_bytes t) ≡ Some t) × (moments_of t ≡ held_from r.arrivals first.0 (length t.rows))
+
+-- there is no report exactly where nothing is unreported or fewer than 24 bytes are left
+abbrev pub ReportsAreNone : Type 0
+ReportsAreNone =
+    (r : Receiving) (sender ssrc limit : ℕ)
+    → (slice_get (unreported r) 0 ≡ None → report_of r sender ssrc limit ≡ None)
+    × (limit < 24 → report_of r sender ssrc limit ≡ None)
+    × ((first : ℕ × ℕ) → slice_get (unreported r) 0 ≡ Some first → 24 ≤ limit → (t : Twcc) × (report_of r sender ssrc limit ≡ Some t))

@@ -1,6 +1,6 @@
 //! Laws of what is read and written.
 ghost use Rattle.twcc_core.specs.Laws.{FeedbackReadsBack, FeedbackIsWhole};
-ghost use Rattle.twcc_core.specs.Times.{ReportsTellArrivals};
+ghost use Rattle.twcc_core.specs.Times.{ReportsTellArrivals, ReportsAreNone};
 
 /// Written feedback is read again as it was.
 #[tactic(auto, using(crate::proofs::ReadBack::twcc_again))]
@@ -17,4 +17,9 @@ pub fn feedback_is_whole()
 /// on, and when, as the wire holds it.
 pub fn reports_tell_arrivals()
     ensures { ReportsTellArrivals }
+{}
+
+/// There is no report exactly where nothing is unreported or fewer than 24 bytes are left.
+pub fn reports_are_none()
+    ensures { ReportsAreNone }
 {}

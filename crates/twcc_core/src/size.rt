@@ -1,9 +1,8 @@
 // How many bytes feedback takes.
-ghost use Rattle.std.specs.Prelude.{◌≡◌, ◌<◌, ◌^◌, ◌∷◌, ◌++◌, [], List, length};
-ghost use Rattle.twcc_core.specs.Reports.{size_of};
-ghost use Rattle.twcc_core.specs.declared.status.PacketStatus.{PacketStatus};
+ghost use Rattle.std.specs.Prelude.{◌≡◌, ◌<◌, ◌^◌, [], length};
+ghost use Rattle.twcc_core.specs.Feedback.{twcc_bytes};
 
-use crate::PacketStatus;
+use crate::{PacketStatus, Twcc};
 
 // The size of feedback whose rows come one after another.
 #[derive(Drop)]
@@ -60,4 +59,17 @@ impl Size {
         let len = 20 + 2 * self.chunks + self.deltas;
         len + (4 - len % 4) % 4
     }
+}
+
+/// How many bytes `write_twcc` writes.
+pub fn twcc_len(twcc: &Twcc) -> usize
+    requires { length twcc.now.rows < 65536 }
+    ensures { result ≡ length (twcc_bytes twcc.now) }
+{
+    let rows = twcc.rows.as_slice();
+    let mut size = Size::new();
+    for row in rows {
+        size.add(*row);
+    }
+    size.bytes() - 4
 }

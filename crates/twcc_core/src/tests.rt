@@ -34,7 +34,9 @@ fn feedback(base_seq: u16, reference_time: i32, rows: Listed<PacketStatus>) -> T
 
 fn write(rt: &impl Abort, twcc: &Twcc, out: &mut [u8]) -> Option<usize> {
     assert!(rt; twcc.rows.as_slice().len() < 65_536);
-    write_twcc(twcc, out)
+    let written = write_twcc(twcc, out);
+    assert!(rt; written.unwrap_or(twcc_len(twcc)) == twcc_len(twcc));
+    written
 }
 
 #[test]

@@ -1,4 +1,4 @@
-use Rattle.std.proofs.Common.{sym, ◌∙◌, arith}
+use Rattle.std.proofs.Common.{arith}
 use Rattle.twcc_core.proofs.Chunks.{run_first, vector_first}
 use Rattle.twcc_core.proofs.chunk.first_chunk.Goals as goal
 

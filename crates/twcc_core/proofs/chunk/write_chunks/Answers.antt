@@ -1,6 +1,6 @@
 use Rattle.std.proofs.Common.{◌≡◌, ◌<◌, length, arith, rules}
 use Rattle.std.proofs.lemmas.Grind.{common_steps}
-use Rattle.twcc_core.proofs.Chunks.{put_starts, put_more, put_fails, put_ends}
+use Rattle.twcc_core.proofs.Chunks.{put_starts, put_more}
 use Rattle.twcc_core.proofs.chunk.write_chunks.Goals as goal
 
 pub loop-rest-init : goal.loop-rest-init

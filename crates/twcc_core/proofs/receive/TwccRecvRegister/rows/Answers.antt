@@ -1,9 +1,7 @@
-use Rattle.std.proofs.Common.{[], ◌∷◌, ◌++◌, arith, length-append, ◌+◌, ◌≡◌, Some, None, ◌≤◌, ◌<◌}
-use Rattle.std.specs.Option.{option_map}
-use Rattle.twcc_core.specs.Reports.{arrival_of, row_of, with_last}
-use Rattle.twcc_core.specs.Sizes.{after_row, bytes_of}
+use Rattle.std.proofs.Common.{[], ◌∷◌, ◌++◌, arith, length-append}
+use Rattle.twcc_core.specs.Sizes.{after_row}
 use Rattle.twcc_core.proofs.Sizes.{next_counted}
-use Rattle.twcc_core.proofs.Receiving.{rows_start, rows_more, rows_full, rows_broken, rows_end, counted_bounds}
+use Rattle.twcc_core.proofs.Receiving.{rows_start, rows_more, rows_full, counted_bounds}
 use Rattle.twcc_core.proofs.receive.TwccRecvRegister.rows.Goals as goal
 
 pub loop-i-init : goal.loop-i-init

@@ -1,4 +1,3 @@
-use Rattle.std.proofs.Common.{◌≤◌}
 use Rattle.twcc_core.specs.Reports.{rows_from}
 use Rattle.twcc_core.proofs.Receiving.{IsRowed}
 use Rattle.twcc_core.proofs.receive.TwccRecvRegister.rows.Given as goal
