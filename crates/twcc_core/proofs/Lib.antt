@@ -7,3 +7,4 @@ pub mod Receiving
 pub mod Reporting
 pub mod Telling
 pub mod Nothing
+pub mod Marking
