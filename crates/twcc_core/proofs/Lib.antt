@@ -8,3 +8,4 @@ pub mod Reporting
 pub mod Telling
 pub mod Nothing
 pub mod Marking
+pub mod ComingBack

@@ -1,12 +1,14 @@
 -- Packets sent, and what reports say of them.
-use Rattle.std.specs.Prelude.{ℕ, ◌-◌, ◌&&◌, Bool, false, List, [], ◌∷◌, ◌++◌, length, drop, map, reverse, find, slice_get, count_by, nat_lt, nat_le, is_some, is_none, unwrap_or, Option, Some, None, if◌then◌else◌}
+use Rattle.std.specs.Prelude.{◌≡◌, ℕ, ◌+◌, ◌-◌, ◌^◌, ◌<◌, ◌≤◌, ◌&&◌, Bool, false, List, [], ◌∷◌, ◌++◌, length, drop, map, filter, reverse, find, slice_get, count_by, nat_lt, nat_le, is_some, is_none, unwrap_or, Option, Some, None, if◌then◌else◌}
 use Rattle.std.specs.List.{filter_map}
 use Rattle.std.specs.Option.{option_map, option_map_or}
 use Rattle.rtp_wire.specs.Widen.{widen16}
 use Rattle.twcc_core.specs.declared.feedback.Twcc.{Twcc}
 use Rattle.twcc_core.specs.declared.share.Share.{Share}
 use Rattle.twcc_core.specs.declared.send.TwccSendRecord.{TwccSendRecord}
-use Rattle.twcc_core.specs.Times.{moments_of}
+use Rattle.twcc_core.specs.Feedback.{twcc_of, twcc_bytes}
+use Rattle.twcc_core.specs.Reports.{Receiving, unreported, arrival_of, reference_of, report_of}
+use Rattle.twcc_core.specs.Times.{moments_of, held, AreMoments}
 
 -- the last packets sent, in order, each with what the last report of it said; and the round trip that the
 -- last report told, if it told one
@@ -69,3 +71,21 @@ share_of start records = record { missing = count_by (is_missing_from start) rec
 
 unfoldable pub sent_loss : ℕ → List TwccSendRecord → Option Share
 sent_loss start records = if nat_lt 0 (count_by (is_told_from start) records) then Some (share_of start records) else None
+
+-- whether a record is of one of n numbers in a row, and what is put down in it of what was received
+abbrev pub is_among : ℕ → ℕ → TwccSendRecord → Bool
+is_among first n r = nat_le first r.id.seq && nat_lt r.id.seq (first + n)
+
+abbrev pub with_arrival_of : List (ℕ × ℕ) → ℕ → TwccSendRecord → TwccSendRecord
+with_arrival_of arrivals now r = with_report now r (option_map held (arrival_of arrivals r.id.seq))
+
+-- a report that was built, written, read again and taken in tells, of the packets sent with the numbers
+-- from the lowest unreported on, which came, and when, as the wire holds it, where the last packet sent
+-- is fewer than 32,768 numbers further, and the first reported arrival was before the reference time
+-- comes round, after about 12 days
+abbrev pub ReportsComeBack : Type 0
+ReportsComeBack =
+    (s : Sending) (r : Receiving) (sender ssrc limit now last : ℕ) (t : Twcc) (first : ℕ × ℕ) → sender < 2 ^ 32 → ssrc < 2 ^ 32 → r.reports < 256 → AreMoments r.arrivals
+    → slice_get (unreported r) 0 ≡ Some first → reference_of first.1 < 2 ^ 24 → report_of r sender ssrc limit ≡ Some t
+    → last_number s.records ≡ Some last → first.0 ≤ last → last < first.0 + 32768 → last < 2 ^ 48
+    → (twcc_of (twcc_bytes t) ≡ Some t) × (told_by s now t ≡ map (with_arrival_of r.arrivals now) (filter (is_among first.0 (length t.rows)) s.records))

@@ -16,7 +16,10 @@ mod tests;
 mod wire;
 
 pub use feedback::{Twcc, read_twcc, write_twcc};
-pub use laws::{feedback_is_whole, feedback_reads_back, reports_are_none, reports_tell_arrivals};
+pub use laws::{
+    feedback_is_whole, feedback_reads_back, reports_are_none, reports_come_back,
+    reports_tell_arrivals,
+};
 pub use moments::arrivals;
 pub use receive::TwccRecvRegister;
 pub use send::{TwccSendRecord, TwccSendRegister};
