@@ -7,3 +7,5 @@ pub mod Receiving
 pub mod Reporting
 pub mod Telling
 pub mod Nothing
+pub mod Marking
+pub mod ComingBack

@@ -136,7 +136,7 @@ reference_fits n lt =
 
 -- ---- reports
 
-made_of : (r : Receiving) (sender ssrc : ℕ) (first : ℕ × ℕ) (rows : List PacketStatus) (t : Twcc) → report_if r sender ssrc first rows ≡ Some t → report_with r sender ssrc first rows ≡ t
+pub made_of : (r : Receiving) (sender ssrc : ℕ) (first : ℕ × ℕ) (rows : List PacketStatus) (t : Twcc) → report_if r sender ssrc first rows ≡ Some t → report_with r sender ssrc first rows ≡ t
 made_of r sender ssrc first rows t =
     elim (ltb 0 (length rows)) as (λ b. cond b (Some (report_with r sender ssrc first rows)) None ≡ Some t → report_with r sender ssrc first rows ≡ t) [
       | true ↦ λ e. some_is (report_with r sender ssrc first rows) t e

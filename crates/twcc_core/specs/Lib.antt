@@ -6,3 +6,4 @@ pub mod Laws
 pub mod Reports
 pub mod Sizes
 pub mod Times
+pub mod Sending

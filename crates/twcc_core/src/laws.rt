@@ -1,6 +1,9 @@
 //! Laws of what is read and written.
 ghost use Rattle.twcc_core.specs.Laws.{FeedbackReadsBack, FeedbackIsWhole};
 ghost use Rattle.twcc_core.specs.Times.{ReportsTellArrivals, ReportsAreNone};
+ghost use Rattle.twcc_core.specs.Sending.{ReportsComeBack};
+
+use rtp_wire::widens_to_itself;
 
 /// Written feedback is read again as it was.
 #[tactic(auto, using(crate::proofs::ReadBack::twcc_again))]
@@ -23,3 +26,11 @@ pub fn reports_tell_arrivals()
 pub fn reports_are_none()
     ensures { ReportsAreNone }
 {}
+
+/// A report that was built, written, read again and taken in tells, of the packets sent, which came and
+/// when, as the wire holds it.
+pub fn reports_come_back()
+    ensures { ReportsComeBack }
+{
+    widens_to_itself();
+}

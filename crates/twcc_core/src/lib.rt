@@ -7,6 +7,7 @@ mod feedback;
 mod laws;
 mod moments;
 mod receive;
+mod send;
 mod share;
 mod size;
 mod status;
@@ -15,9 +16,13 @@ mod tests;
 mod wire;
 
 pub use feedback::{Twcc, read_twcc, write_twcc};
-pub use laws::{feedback_is_whole, feedback_reads_back, reports_are_none, reports_tell_arrivals};
+pub use laws::{
+    feedback_is_whole, feedback_reads_back, reports_are_none, reports_come_back,
+    reports_tell_arrivals,
+};
 pub use moments::arrivals;
 pub use receive::TwccRecvRegister;
+pub use send::{TwccSendRecord, TwccSendRegister};
 pub use share::Share;
 pub use size::twcc_len;
 pub use status::PacketStatus;

@@ -1,6 +1,7 @@
 use super::*;
-use media_base::{Instant, Listed};
-use rtp_wire::{SeqNo, Ssrc};
+use media_base::{DataSize, Duration, Instant, Listed};
+use rtp_wire::{SeqNo, Ssrc, TwccPacketId};
+use std::ops::Range;
 use std::process::Abort;
 use std::test::Fail;
 
@@ -238,6 +239,83 @@ fn shares_missing(rt: HostRuntime) -> Result<(), Fail> {
     Ok(())
 }
 
+// Packets of such numbers, each sent at so many nanoseconds.
+fn sent(rt: &HostRuntime, numbers: Range<u64>) -> Result<TwccSendRegister, Fail> {
+    let mut register = TwccSendRegister::new(rt.alloc());
+    for number in numbers {
+        let id = TwccPacketId::new(SeqNo::from(number));
+        register.register_seq(id, DataSize::bytes(1_000), Instant::from_nanos(number))?;
+    }
+    Ok(register)
+}
+
+// The records of such numbers, reported at a moment, and when each came.
+fn told(
+    rt: &HostRuntime,
+    reported: u64,
+    arrivals: &[(u64, Option<u64>)],
+) -> Result<Listed<TwccSendRecord>, Fail> {
+    let mut records = Listed::new(rt.alloc());
+    for (number, received) in arrivals {
+        records.push(TwccSendRecord {
+            id: TwccPacketId::new(SeqNo::from(*number)),
+            size: DataSize::bytes(1_000),
+            sent: Instant::from_nanos(*number),
+            reported: Some(Instant::from_nanos(reported)),
+            received: received.map(Instant::from_nanos),
+        })?;
+    }
+    Ok(records)
+}
+
+// Three numbers about 65,536, of which the second did not come.
+#[test]
+fn reported_at_the_wrap(rt: HostRuntime) -> Result<(), Fail> {
+    let mut register = sent(&rt, 65_530..65_540)?;
+    assert!(rt; register.rtt().is_none());
+    let statuses = [
+        PacketStatus::Received(4),
+        PacketStatus::NotReceived,
+        PacketStatus::Received(4),
+    ];
+    let report = feedback(65_534, 1, rows(&rt, &statuses)?);
+    let records = register.apply_report(rt.alloc(), Instant::from_nanos(70_000), &report)?;
+    let arrivals = [
+        (65_534, Some(65_000_000)),
+        (65_535, None),
+        (65_536, Some(66_000_000)),
+    ];
+    assert!(rt; records == told(&rt, 70_000, &arrivals)?);
+    assert!(rt; register.rtt() == Some(Duration::from_nanos(4_464)));
+    let now = Instant::from_nanos(70_010);
+    let third = Some(Share {
+        missing: 1,
+        total: 3,
+    });
+    assert_eq!(rt; register.loss(Duration::from_nanos(10), now), third);
+    assert_eq!(rt; register.loss(Duration::from_nanos(9), now), None);
+    Ok(())
+}
+
+// Of 1,001 packets the first is let go, and a report of numbers that were let go tells nothing.
+#[test]
+fn reports_of_what_was_let_go(rt: HostRuntime) -> Result<(), Fail> {
+    let mut register = sent(&rt, 5_000..6_001)?;
+    let two = rows(&rt, &[PacketStatus::Received(0), PacketStatus::Received(1)])?;
+    let report = feedback(5_000, 0, two);
+    let records = register.apply_report(rt.alloc(), Instant::from_nanos(7_000), &report)?;
+    assert!(rt; records == told(&rt, 7_000, &[(5_001, Some(250_000))])?);
+    assert!(rt; register.rtt() == Some(Duration::from_nanos(1_999)));
+    let two = rows(&rt, &[PacketStatus::Received(0), PacketStatus::Received(1)])?;
+    let report = feedback(4_998, 0, two);
+    let records = register.apply_report(rt.alloc(), Instant::from_nanos(8_000), &report)?;
+    assert!(rt; records.as_slice().is_empty());
+    assert!(rt; register.rtt().is_none());
+    let recent = register.loss(Duration::from_nanos(999), Instant::from_nanos(8_000));
+    assert!(rt; recent.is_none());
+    Ok(())
+}
+
 // Each call that takes memory, once, with ample memory.
 #[test]
 fn surface_ample(rt: HostRuntime) -> Result<(), Fail> {
@@ -247,7 +325,15 @@ fn surface_ample(rt: HostRuntime) -> Result<(), Fail> {
     assert_eq!(rt; write(&rt, &report, &mut out), Some(20));
     let read = read_twcc(rt.alloc(), &out)?.ok_or("nothing read")?;
     assert!(rt; read == report);
-    let told = [Some(64_000_000_000), None, Some(64_000_500_000)];
-    assert!(rt; arrivals(rt.alloc(), &read)? == moments(&rt, &told)?);
+    let came = [Some(64_000_000_000), None, Some(64_000_500_000)];
+    assert!(rt; arrivals(rt.alloc(), &read)? == moments(&rt, &came)?);
+    let mut register = sent(&rt, 3..6)?;
+    let records = register.apply_report(rt.alloc(), Instant::from_nanos(9), &read)?;
+    let arrivals = [
+        (3, Some(64_000_000_000)),
+        (4, None),
+        (5, Some(64_000_500_000)),
+    ];
+    assert!(rt; records == told(&rt, 9, &arrivals)?);
     Ok(())
 }

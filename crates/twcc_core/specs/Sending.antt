@@ -1,0 +1,91 @@
+-- Packets sent, and what reports say of them.
+use Rattle.std.specs.Prelude.{◌≡◌, ℕ, ◌+◌, ◌-◌, ◌^◌, ◌<◌, ◌≤◌, ◌&&◌, Bool, false, List, [], ◌∷◌, ◌++◌, length, drop, map, filter, reverse, find, slice_get, count_by, nat_lt, nat_le, is_some, is_none, unwrap_or, Option, Some, None, if◌then◌else◌}
+use Rattle.std.specs.List.{filter_map}
+use Rattle.std.specs.Option.{option_map, option_map_or}
+use Rattle.rtp_wire.specs.Widen.{widen16}
+use Rattle.twcc_core.specs.declared.feedback.Twcc.{Twcc}
+use Rattle.twcc_core.specs.declared.share.Share.{Share}
+use Rattle.twcc_core.specs.declared.send.TwccSendRecord.{TwccSendRecord}
+use Rattle.twcc_core.specs.Feedback.{twcc_of, twcc_bytes}
+use Rattle.twcc_core.specs.Reports.{Receiving, unreported, arrival_of, reference_of, report_of}
+use Rattle.twcc_core.specs.Times.{moments_of, held, AreMoments}
+
+-- the last packets sent, in order, each with what the last report of it said; and the round trip that the
+-- last report told, if it told one
+pub record Sending : Type 0 where
+  pub records : List TwccSendRecord
+  pub trip : Option ℕ
+
+-- one more packet; of all the last 1,000 are kept
+abbrev pub last_of : ℕ → List TwccSendRecord → List TwccSendRecord
+last_of n records = drop (length records - n) records
+
+abbrev pub with_sent : Sending → TwccSendRecord → Sending
+with_sent s sent = record { records = last_of 1000 (s.records ++ sent ∷ []); trip = s.trip }
+
+-- the number of the last packet sent, and the one that a report begins with
+abbrev pub last_number : List TwccSendRecord → Option ℕ
+last_number records = option_map (λ r. r.id.seq) (slice_get records (length records - 1))
+
+abbrev pub first_told : List TwccSendRecord → Twcc → ℕ
+first_told records t = widen16 (last_number records) t.base_seq
+
+-- what is told of a number by the moments of the numbers from a first one on, if it is among them
+abbrev pub moment_told : ℕ → List (Option ℕ) → ℕ → Option (Option ℕ)
+moment_told first moments number = if nat_lt number first then None else slice_get moments (number - first)
+
+-- the record of a number that is told
+abbrev pub with_report : ℕ → TwccSendRecord → Option ℕ → TwccSendRecord
+with_report now r received = record { id = r.id; size = r.size; sent = r.sent; reported = Some now; received = received }
+
+abbrev pub record_told : ℕ → List (Option ℕ) → ℕ → TwccSendRecord → Option TwccSendRecord
+record_told first moments now r = option_map (with_report now r) (moment_told first moments r.id.seq)
+
+-- each record, those that are told as they are told
+abbrev pub after_told : ℕ → List (Option ℕ) → ℕ → TwccSendRecord → TwccSendRecord
+after_told first moments now r = unwrap_or (record_told first moments now r) r
+
+-- the records that a report tells, in order of sending
+unfoldable pub told_by : Sending → ℕ → Twcc → List TwccSendRecord
+told_by s now t = filter_map (record_told (first_told s.records t) (moments_of t) now) s.records
+
+-- from sending to the report, for the last of the packets that came
+abbrev pub trip_of : ℕ → List TwccSendRecord → Option ℕ
+trip_of now records = option_map (λ r. now - r.sent) (find (λ r. is_some r.received) (reverse records))
+
+unfoldable pub after_applied : Sending → ℕ → Twcc → Sending
+after_applied s now t = record {
+  records = map (after_told (first_told s.records t) (moments_of t) now) s.records;
+  trip = trip_of now (told_by s now t);
+}
+
+-- the records that a report told at a moment or later, and those of them that are missing
+abbrev pub is_told_from : ℕ → TwccSendRecord → Bool
+is_told_from start r = option_map_or (λ moment. nat_le start moment) r.reported false
+
+abbrev pub is_missing_from : ℕ → TwccSendRecord → Bool
+is_missing_from start r = is_told_from start r && is_none r.received
+
+abbrev pub share_of : ℕ → List TwccSendRecord → Share
+share_of start records = record { missing = count_by (is_missing_from start) records; total = count_by (is_told_from start) records }
+
+unfoldable pub sent_loss : ℕ → List TwccSendRecord → Option Share
+sent_loss start records = if nat_lt 0 (count_by (is_told_from start) records) then Some (share_of start records) else None
+
+-- whether a record is of one of n numbers in a row, and what is put down in it of what was received
+abbrev pub is_among : ℕ → ℕ → TwccSendRecord → Bool
+is_among first n r = nat_le first r.id.seq && nat_lt r.id.seq (first + n)
+
+abbrev pub with_arrival_of : List (ℕ × ℕ) → ℕ → TwccSendRecord → TwccSendRecord
+with_arrival_of arrivals now r = with_report now r (option_map held (arrival_of arrivals r.id.seq))
+
+-- a report that was built, written, read again and taken in tells, of the packets sent with the numbers
+-- from the lowest unreported on, which came, and when, as the wire holds it, where the last packet sent
+-- is fewer than 32,768 numbers further, and the first reported arrival was before the reference time
+-- comes round, after about 12 days
+abbrev pub ReportsComeBack : Type 0
+ReportsComeBack =
+    (s : Sending) (r : Receiving) (sender ssrc limit now last : ℕ) (t : Twcc) (first : ℕ × ℕ) → sender < 2 ^ 32 → ssrc < 2 ^ 32 → r.reports < 256 → AreMoments r.arrivals
+    → slice_get (unreported r) 0 ≡ Some first → reference_of first.1 < 2 ^ 24 → report_of r sender ssrc limit ≡ Some t
+    → last_number s.records ≡ Some last → first.0 ≤ last → last < first.0 + 32768 → last < 2 ^ 48
+    → (twcc_of (twcc_bytes t) ≡ Some t) × (told_by s now t ≡ map (with_arrival_of r.arrivals now) (filter (is_among first.0 (length t.rows)) s.records))

@@ -1,0 +1,239 @@
+//! Packets sent, and what reports say of them.
+ghost use Rattle.std.specs.Prelude.{◌≡◌, ◌-◌, ◌≤◌, [], List, length, map, count_by, IfOk, OnOk, OnErr};
+ghost use Rattle.std.specs.List.{filter_map};
+ghost use Rattle.twcc_core.specs.Sending.{last_number, first_told, moment_told, record_told, after_told, trip_of, is_told_from, is_missing_from, sent_loss};
+
+use crate::{Share, Twcc, arrivals};
+use media_base::{DataSize, Duration, Instant, Listed};
+use rtp_wire::{TwccPacketId, widen16};
+use std::alloc::{AllocError, Global};
+use std::collections::VecDeque;
+use std::marker::Model;
+
+/// A packet sent, and what the last report of it said.
+#[derive(Clone, Copy, Debug, PartialEq, Eq)]
+pub struct TwccSendRecord {
+    pub id: TwccPacketId,
+    pub size: DataSize,
+    pub sent: Instant,
+    /// When the last report that tells it was taken in, None before any.
+    pub reported: Option<Instant>,
+    /// When it came, by the receiver's clock, None where the last report does not say so.
+    pub received: Option<Instant>,
+}
+
+// What is told of a number by the moments of the numbers from a first one on, if it is among them.
+fn told_at(first: u64, moments: &[Option<Instant>], number: u64) -> Option<Option<Instant>>
+    ensures { result ≡ moment_told first moments.now number }
+{
+    if number < first {
+        return None;
+    }
+    moments.get((number - first) as usize).copied()
+}
+
+impl TwccSendRecord {
+    fn number(&self) -> u64
+        ensures { result ≡ self.now.id.seq }
+    {
+        self.id.seq.into()
+    }
+
+    // As moments tell it, if they do.
+    fn told(&self, first: u64, moments: &[Option<Instant>], now: Instant) -> Option<TwccSendRecord>
+        ensures { result ≡ record_told first moments.now now self.now }
+    {
+        let received = told_at(first, moments, self.number())?;
+        Some(TwccSendRecord {
+            reported: Some(now),
+            received,
+            ..*self
+        })
+    }
+
+    fn is_told_from(self, start: Instant) -> bool
+        ensures { result ≡ is_told_from start self }
+    {
+        match self.reported {
+            Some(moment) => moment >= start,
+            None => false,
+        }
+    }
+
+    fn is_missing_from(self, start: Instant) -> bool
+        ensures { result ≡ is_missing_from start self }
+    {
+        self.is_told_from(start) && self.received.is_none()
+    }
+}
+
+// Puts down in each record what moments tell of it.
+fn mark(records: &mut [TwccSendRecord], first: u64, moments: &[Option<Instant>], now: Instant)
+    ensures { records.new ≡ map (after_told first moments.now now) records.old }
+{
+    for record in records.iter_mut() {
+        *record = record.told(first, moments, now).unwrap_or(*record);
+    }
+}
+
+// From sending to now, for the last of the packets that came.
+fn trip(records: &[TwccSendRecord], now: Instant) -> Option<Duration>
+    ensures { result ≡ trip_of now records.now }
+{
+    match records
+        .iter()
+        .rev()
+        .find(|record| record.received.is_some())
+    {
+        Some(record) => Some(now.saturating_duration_since(record.sent)),
+        None => None,
+    }
+}
+
+/// The last 1,000 packets sent, and what reports say of them.
+#[derive(Drop)]
+pub struct TwccSendRegister {
+    records: VecDeque<TwccSendRecord>,
+    trip: Option<Duration>,
+}
+
+impl Model for TwccSendRegister {
+    ghost use Rattle.std.specs.Prelude.{◌≤◌, length};
+    ghost use Rattle.twcc_core.specs.Sending.{Sending};
+
+    ghost Value = { Sending };
+
+    ghost view = { λ r. record { records = r.records.items; trip = r.trip } };
+
+    ghost invariant = { λ r. length r.records.items ≤ 1000 };
+}
+
+impl TwccSendRegister {
+    ghost use Rattle.twcc_core.specs.Sending.{Sending, with_sent, told_by, after_applied};
+
+    /// No packets.
+    pub fn new(alloc: Global) -> Self
+        ensures { result ≡ record { records = []; trip = None } }
+    {
+        TwccSendRegister {
+            records: VecDeque::new(alloc),
+            trip: None,
+        }
+    }
+
+    /// Takes in a packet that was sent. Of more than 1,000 the first is let go. Without memory nothing
+    /// changes.
+    pub fn register_seq(
+        &mut self,
+        id: TwccPacketId,
+        size: DataSize,
+        now: Instant,
+    ) -> Result<(), AllocError>
+        ensures ok { OnOk result (self.new ≡ with_sent self.old (record { id = id; size = size; sent = now; reported = None; received = None })) }
+        ensures err { OnErr result (self.new ≡ self.old) }
+    {
+        self.records.push_back(TwccSendRecord {
+            id,
+            size,
+            sent: now,
+            reported: None,
+            received: None,
+        })?;
+        if self.records.len() > 1_000 {
+            self.records.pop_front();
+        }
+        Ok(())
+    }
+
+    // The number of the last packet sent.
+    fn last(&self) -> Option<u64>
+        ensures { result ≡ last_number self.now.records }
+    {
+        match self.records.back() {
+            Some(record) => Some(record.number()),
+            None => None,
+        }
+    }
+
+    // The records that moments tell, as they tell them.
+    fn told(
+        &self,
+        alloc: Global,
+        first: u64,
+        moments: &[Option<Instant>],
+        now: Instant,
+    ) -> Result<Vec<TwccSendRecord>, AllocError>
+        ensures { IfOk result (λ told. told.items ≡ filter_map (record_told first moments.now now) self.now.records) }
+    {
+        self.records
+            .iter()
+            .filter_map(|record| record.told(first, moments, now))
+            .collect(alloc)
+    }
+
+    /// Takes in a report, whose first number is the one nearest to the last that was sent, and gives the
+    /// records of the packets that it tells and that are still held, in order of sending. Without memory
+    /// nothing changes.
+    #[tactic(auto, unfolding(crate::specs::Sending::told_by, crate::specs::Sending::after_applied))]
+    pub fn apply_report(
+        &mut self,
+        alloc: Global,
+        now: Instant,
+        twcc: &Twcc,
+    ) -> Result<Listed<TwccSendRecord>, AllocError>
+        ensures told { IfOk result (λ told. told ≡ told_by self.old now twcc.now) }
+        ensures ok { OnOk result (self.new ≡ after_applied self.old now twcc.now) }
+        ensures err { OnErr result (self.new ≡ self.old) }
+    {
+        let first = widen16(self.last(), twcc.base_seq);
+        let moments = arrivals(alloc, twcc)?;
+        let moments = moments.as_slice();
+        let told = self.told(alloc, first, moments, now)?;
+        mark(self.records.make_contiguous(), first, moments, now);
+        self.trip = trip(&told, now);
+        Ok(Listed::from_vec(told))
+    }
+
+    /// What is missing of the packets of which the last report was taken in so long before now or later.
+    /// None where there are none.
+    #[tactic(auto, unfolding(crate::specs::Sending::sent_loss))]
+    pub fn loss(&self, window: Duration, now: Instant) -> Option<Share>
+        ensures { result ≡ sent_loss (now - window) self.now.records }
+    {
+        let start = now.saturating_sub(window);
+        let total = self.count_told(start);
+        if total == 0 {
+            return None;
+        }
+        Some(Share {
+            missing: self.count_missing(start),
+            total,
+        })
+    }
+
+    fn count_told(&self, start: Instant) -> u64
+        ensures { result ≡ count_by (is_told_from start) self.now.records }
+    {
+        self.records
+            .iter()
+            .filter(|record| record.is_told_from(start))
+            .count() as u64
+    }
+
+    fn count_missing(&self, start: Instant) -> u64
+        ensures { result ≡ count_by (is_missing_from start) self.now.records }
+    {
+        self.records
+            .iter()
+            .filter(|record| record.is_missing_from(start))
+            .count() as u64
+    }
+
+    /// How long it took from sending the last of the packets that the last report says came, to that
+    /// report. None where it tells of none that came and is still held, and before any report.
+    pub fn rtt(&self) -> Option<Duration>
+        ensures { result ≡ self.now.trip }
+    {
+        self.trip
+    }
+}
