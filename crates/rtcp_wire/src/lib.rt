@@ -29,7 +29,7 @@ pub use report::{ReceiverReport, ReceptionReport, SenderInfo, SenderReport};
 pub use request::{Fir, FirEntry, Pli};
 pub use rtcp_fb::RtcpFb;
 pub use source::{Descriptions, Goodbye, Sdes, SdesItem, SdesType};
-pub use twcc_core::Twcc;
+pub use twcc_core::{PacketStatus, Twcc};
 
 #[cfg(test)]
 mod tests;
