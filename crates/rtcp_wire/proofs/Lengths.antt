@@ -4,7 +4,7 @@ use Rattle.std.specs.List.{flat_map, AllByRecursion}
 use Rattle.std.specs.Int.{w32, to_be_bytes}
 use Rattle.std.proofs.lemmas.List.{length-take}
 use Rattle.rtcp_wire.specs.declared.packet.Rtcp.{Rtcp}
-use Rattle.rtcp_wire.specs.declared.packet.Rtcp.TheVariants.{SenderReport, ReceiverReport, SourceDescription, Goodbye, ExtendedReport, Nack, Pli, Fir, Remb, AppSpecificFeedback}
+use Rattle.rtcp_wire.specs.declared.packet.Rtcp.TheVariants.{SenderReport, ReceiverReport, SourceDescription, Goodbye, ExtendedReport, Nack, Pli, Fir, Twcc, Remb, AppSpecificFeedback}
 use Rattle.rtcp_wire.specs.declared.source.SdesItem.{SdesItem}
 use Rattle.rtcp_wire.specs.declared.source.Sdes.{Sdes}
 use Rattle.rtcp_wire.specs.declared.extended.ReportBlock.{ReportBlock}
@@ -15,6 +15,7 @@ use Rattle.rtcp_wire.specs.Feedback.{nack_body, pli_body, fir_body, app_feedback
 use Rattle.rtcp_wire.specs.Remb.{remb_body}
 use Rattle.rtcp_wire.specs.Extended.{dlrr_item_text, block_text, block_content, extended_report_body}
 use Rattle.rtcp_wire.specs.Descriptions.{sdes_item_text, ended, sdes_text, descriptions_body}
+use Rattle.twcc_core.specs.Laws.{FeedbackIsWhole}
 use Rattle.rtcp_wire.specs.Texts.{IsWritable, LengthsFit, IsShortSdes}
 use Rattle.rtcp_wire.proofs.ReadBack.{rows_len, report_len, nack_entry_len, fir_entry_len, dlrr_item_len}
 
@@ -50,29 +51,30 @@ blocks_whole (Dlrr d ∷ bs) =
     let len = rows_len dlrr_item_text 12 dlrr_item_len d.items in
     omega (arith, len, length-append (block_text (Dlrr d)) (flat_map block_text bs), blocks_whole bs)
 
-pub counted : (x : Rtcp) → LengthsFit x → IsWritable x
+pub counted : FeedbackIsWhole → (x : Rtcp) → LengthsFit x → IsWritable x
 unfolding sender_report_body sender_info_text receiver_report_body goodbye_body nack_body pli_body fir_body app_feedback_body remb_body extended_report_body descriptions_body
-counted (SenderReport r) few =
+counted twcc (SenderReport r) few =
     let len = rows_len report_text 24 report_len r.reports in
     record { inner = tt; count = few; size = omega (arith, len); whole = omega (arith, len) }
-counted (ReceiverReport r) few =
+counted twcc (ReceiverReport r) few =
     let len = rows_len report_text 24 report_len r.reports in
     record { inner = tt; count = few; size = omega (arith, len); whole = omega (arith, len) }
-counted (SourceDescription d) w =
+counted twcc (SourceDescription d) w =
     let len = chunks_whole d.reports w.1 in
     record { inner = tt; count = w.0; size = omega (arith, len.1, w.0); whole = len.0 }
-counted (Goodbye g) few =
+counted twcc (Goodbye g) few =
     let len = rows_len (to_be_bytes w32) 4 (λ n. refl) g.reports in
     record { inner = tt; count = few; size = omega (arith, len); whole = omega (arith, len) }
-counted (ExtendedReport r) short = record { inner = tt; count = omega arith; size = short; whole = omega (arith, blocks_whole r.blocks) }
-counted (Nack n) few =
+counted twcc (ExtendedReport r) short = record { inner = tt; count = omega arith; size = short; whole = omega (arith, blocks_whole r.blocks) }
+counted twcc (Nack n) few =
     let len = rows_len nack_entry_text 4 nack_entry_len n.reports in
     record { inner = tt; count = omega arith; size = omega (arith, len); whole = omega (arith, len) }
-counted (Pli p) w = record { inner = tt; count = omega arith; size = omega arith; whole = refl }
-counted (Fir f) few =
+counted twcc (Pli p) w = record { inner = tt; count = omega arith; size = omega arith; whole = refl }
+counted twcc (Fir f) few =
     let len = rows_len fir_entry_text 8 fir_entry_len f.reports in
     record { inner = tt; count = omega arith; size = omega (arith, len); whole = omega (arith, len) }
-counted (Remb r) few =
+counted twcc (Twcc t) few = record { inner = few; count = omega arith; size = (twcc t few).1; whole = (twcc t few).0 }
+counted twcc (Remb r) few =
     let len = rows_len (to_be_bytes w32) 4 (λ n. refl) r.ssrcs in
     record { inner = few; count = omega arith; size = omega (arith, len); whole = omega (arith, len) }
-counted (AppSpecificFeedback f) w = record { inner = tt; count = omega arith; size = omega (arith, w.1); whole = omega (arith, w.0) }
+counted twcc (AppSpecificFeedback f) w = record { inner = tt; count = omega arith; size = omega (arith, w.1); whole = omega (arith, w.0) }

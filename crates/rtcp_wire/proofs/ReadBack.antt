@@ -20,7 +20,7 @@ use Rattle.rtcp_wire.specs.declared.report.SenderReport.{SenderReport as SenderI
 use Rattle.rtcp_wire.specs.Reports.{sender_info_at, sender_info_text, sender_report_of, sender_report_body, receiver_report_of, receiver_report_body, goodbye_of, goodbye_body}
 use Rattle.rtcp_wire.specs.Items.{reading_of, transport_feedback_of, payload_feedback_of, application_of, item_or_short, first_of, with_rest, item_at, items_within, items_of}
 use Rattle.rtcp_wire.specs.declared.packet.Rtcp.{Rtcp}
-use Rattle.rtcp_wire.specs.declared.packet.Rtcp.TheVariants.{SenderReport, ReceiverReport, SourceDescription, Goodbye, ExtendedReport, Nack, Pli, Fir, Remb, AppSpecificFeedback}
+use Rattle.rtcp_wire.specs.declared.packet.Rtcp.TheVariants.{SenderReport, ReceiverReport, SourceDescription, Goodbye, ExtendedReport, Nack, Pli, Fir, Twcc, Remb, AppSpecificFeedback}
 use Rattle.rtcp_wire.specs.declared.packet.Reading.TheVariants.{Item}
 use Rattle.rtcp_wire.specs.declared.request.Fir.{Fir as FirItem}
 use Rattle.rtcp_wire.specs.declared.source.Goodbye.{Goodbye as GoodbyeItem}
@@ -31,6 +31,7 @@ use Rattle.rtcp_wire.specs.declared.nack.Nack.{Nack as NackItem}
 use Rattle.rtcp_wire.specs.declared.request.FirEntry.{FirEntry}
 use Rattle.rtcp_wire.specs.declared.request.Pli.{Pli as PliItem}
 use Rattle.rtcp_wire.specs.declared.report.ReceptionReport.{ReceptionReport}
+use Rattle.twcc_core.specs.Laws.{FeedbackReadsBack}
 use Rattle.rtcp_wire.specs.Laws.{IsNackEntry, IsFirEntry, IsSigned24, IsReport, IsDlrrItem, IsBlock, IsHeld, held, held_block, held_info, held_rate}
 use Rattle.std.specs.Option.{option_map, option_and_then}
 use Rattle.rtcp_wire.specs.Extended.{dlrr_item_at, dlrr_item_text, block_of, block_at, block_kind, block_content, block_text, kept, blocks_within, blocks_of, extended_report_of, extended_report_body}
@@ -382,35 +383,36 @@ extended_report_again r s w =
 
 -- ---- items
 
-reading_again : (x : Rtcp) → IsHeld x → reading_of (kind_of x) (count_of x) (body_of x) ≡ Item (held x)
+reading_again : FeedbackReadsBack → (x : Rtcp) → IsHeld x → reading_of (kind_of x) (count_of x) (body_of x) ≡ Item (held x)
 unfolding reading_of transport_feedback_of payload_feedback_of
-reading_again (ReceiverReport r) w = ap (item_or_short ReceiverReport) (receiver_report_again r w.fields.0 w.fields.1)
-reading_again (SourceDescription d) w = ap (item_or_short SourceDescription) (descriptions_again d w.fields)
-reading_again (Goodbye g) w = ap (item_or_short Goodbye) (goodbye_again g w.fields)
-reading_again (Nack n) w = ap (item_or_short Nack) (nack_again n w.fields.0 w.fields.1 w.fields.2 w.fields.3)
-reading_again (Pli p) w = ap (item_or_short Pli) (pli_again p w.fields.0 w.fields.1)
-reading_again (Fir f) w = ap (item_or_short Fir) (fir_again f w.fields.0 w.fields.1 w.fields.2)
-reading_again (AppSpecificFeedback f) w = ap (λ (b : Bool). application_of b (app_feedback_body f)) w.fields.2 ∙ ap (item_or_short AppSpecificFeedback) (app_again f w.fields.0 w.fields.1 w.writable.whole)
-reading_again (SenderReport r) w = ap (item_or_short SenderReport) (sender_report_again r w.fields.0 w.fields.1 w.fields.2 w.fields.3 w.fields.4)
-reading_again (ExtendedReport r) w = ap (item_or_short ExtendedReport) (extended_report_again r w.fields.0 w.fields.1)
-reading_again (Remb r) w = ap (λ (b : Bool). application_of b (remb_body r)) (remb_named r) ∙ ap (item_or_short Remb) (remb_again r w.writable.inner w.fields.0 w.fields.1 w.fields.2)
+reading_again twcc (ReceiverReport r) w = ap (item_or_short ReceiverReport) (receiver_report_again r w.fields.0 w.fields.1)
+reading_again twcc (SourceDescription d) w = ap (item_or_short SourceDescription) (descriptions_again d w.fields)
+reading_again twcc (Goodbye g) w = ap (item_or_short Goodbye) (goodbye_again g w.fields)
+reading_again twcc (Nack n) w = ap (item_or_short Nack) (nack_again n w.fields.0 w.fields.1 w.fields.2 w.fields.3)
+reading_again twcc (Pli p) w = ap (item_or_short Pli) (pli_again p w.fields.0 w.fields.1)
+reading_again twcc (Fir f) w = ap (item_or_short Fir) (fir_again f w.fields.0 w.fields.1 w.fields.2)
+reading_again twcc (Twcc t) w = ap (item_or_short Twcc) (twcc t w.fields)
+reading_again twcc (AppSpecificFeedback f) w = ap (λ (b : Bool). application_of b (app_feedback_body f)) w.fields.2 ∙ ap (item_or_short AppSpecificFeedback) (app_again f w.fields.0 w.fields.1 w.writable.whole)
+reading_again twcc (SenderReport r) w = ap (item_or_short SenderReport) (sender_report_again r w.fields.0 w.fields.1 w.fields.2 w.fields.3 w.fields.4)
+reading_again twcc (ExtendedReport r) w = ap (item_or_short ExtendedReport) (extended_report_again r w.fields.0 w.fields.1)
+reading_again twcc (Remb r) w = ap (λ (b : Bool). application_of b (remb_body r)) (remb_named r) ∙ ap (item_or_short Remb) (remb_again r w.writable.inner w.fields.0 w.fields.1 w.fields.2)
 
-item_again : (x : Rtcp) (rest : List ℕ) → IsHeld x → item_at (text_of x ++ rest) ≡ Some (held x ∷ [], rest)
+item_again : FeedbackReadsBack → (x : Rtcp) (rest : List ℕ) → IsHeld x → item_at (text_of x ++ rest) ≡ Some (held x ∷ [], rest)
 unfolding item_at text_of
-item_again x rest w =
-    ap first_of (frame_again (count_of x) (kind_of x) (body_of x) rest w.writable.count w.writable.whole w.writable.size) ∙ ap (with_rest rest) (reading_again x w)
+item_again twcc x rest w =
+    ap first_of (frame_again (count_of x) (kind_of x) (body_of x) rest w.writable.count w.writable.whole w.writable.size) ∙ ap (with_rest rest) (reading_again twcc x w)
 
 none_at : item_at [] ≡ None
 unfolding item_at
 none_at = refl
 
-within_again : (n : ℕ) (xs : List Rtcp) → length xs ≤ n → AllByRecursion IsHeld xs → items_within n (flat_map text_of xs) ≡ map held xs
-within_again zero [] le w = refl
-within_again zero (x ∷ xs) le w = absurd (omega arith)
-within_again (suc n) [] le w = rw none_at refl
-within_again (suc n) (x ∷ xs) le w =
-    let one = item_again x (flat_map text_of xs) w.0 in
-    let others = within_again n xs (omega arith) w.1 in
+within_again : FeedbackReadsBack → (n : ℕ) (xs : List Rtcp) → length xs ≤ n → AllByRecursion IsHeld xs → items_within n (flat_map text_of xs) ≡ map held xs
+within_again twcc zero [] le w = refl
+within_again twcc zero (x ∷ xs) le w = absurd (omega arith)
+within_again twcc (suc n) [] le w = rw none_at refl
+within_again twcc (suc n) (x ∷ xs) le w =
+    let one = item_again twcc x (flat_map text_of xs) w.0 in
+    let others = within_again twcc n xs (omega arith) w.1 in
     rw (one, others) refl
 
 text_len : (x : Rtcp) → 4 ≤ length (text_of x)
@@ -421,6 +423,6 @@ texts_len : (xs : List Rtcp) → length xs * 4 ≤ length (flat_map text_of xs)
 texts_len [] = omega arith
 texts_len (x ∷ xs) = omega (arith, length-append (text_of x) (flat_map text_of xs), text_len x, texts_len xs)
 
-pub items_again : (xs : List Rtcp) → AllByRecursion IsHeld xs → items_of (flat_map text_of xs) ≡ map held xs
+pub items_again : FeedbackReadsBack → (xs : List Rtcp) → AllByRecursion IsHeld xs → items_of (flat_map text_of xs) ≡ map held xs
 unfolding items_of
-items_again xs w = within_again (length (flat_map text_of xs) / 4) xs (omega (arith, texts_len xs)) w
+items_again twcc xs w = within_again twcc (length (flat_map text_of xs) / 4) xs (omega (arith, texts_len xs)) w

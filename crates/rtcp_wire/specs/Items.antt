@@ -2,7 +2,7 @@
 use Rattle.std.specs.Prelude.{ℕ, Bool, true, false, zero, suc, ◌/◌, ◌==◌, List, [], ◌∷◌, ◌++◌, length, Option, Some, None, if◌then◌else◌}
 use Rattle.std.specs.Option.{option_map, option_map_or}
 use Rattle.rtcp_wire.specs.declared.packet.Rtcp.{Rtcp}
-use Rattle.rtcp_wire.specs.declared.packet.Rtcp.TheVariants.{SenderReport, ReceiverReport, SourceDescription, Goodbye, ExtendedReport, Nack, Pli, Fir, Remb, AppSpecificFeedback}
+use Rattle.rtcp_wire.specs.declared.packet.Rtcp.TheVariants.{SenderReport, ReceiverReport, SourceDescription, Goodbye, ExtendedReport, Nack, Pli, Fir, Twcc, Remb, AppSpecificFeedback}
 use Rattle.rtcp_wire.specs.declared.packet.Reading.{Reading}
 use Rattle.rtcp_wire.specs.declared.packet.Reading.TheVariants.{Item, PassedOver, TooShort}
 use Rattle.rtcp_wire.specs.Frame.{Frame, frame_at}
@@ -11,6 +11,7 @@ use Rattle.rtcp_wire.specs.Descriptions.{descriptions_of}
 use Rattle.rtcp_wire.specs.Remb.{is_remb, remb_of}
 use Rattle.rtcp_wire.specs.Extended.{extended_report_of}
 use Rattle.rtcp_wire.specs.Feedback.{nack_of, pli_of, fir_of, app_feedback_of}
+use Rattle.twcc_core.specs.Feedback.{twcc_of}
 
 -- an item, unless its bytes are too short for its fields
 abbrev pub reading_or_short : Option Rtcp → Reading
@@ -20,11 +21,13 @@ reading_or_short (Some x) = Item x
 abbrev pub item_or_short : {A : Type 0} → (A → Rtcp) → Option A → Reading
 item_or_short kind o = reading_or_short (option_map kind o)
 
--- transport layer feedback, by its format (RFC 4585 section 6.2)
+-- transport layer feedback, by its format (RFC 4585 section 6.2,
+-- draft-holmer-rmcat-transport-wide-cc-extensions-01 section 3.1)
 unfoldable pub transport_feedback_of : ℕ → List ℕ → Reading
 transport_feedback_of format body =
     if format == 1 then item_or_short Nack (nack_of body)
-    else PassedOver
+    else (if format == 15 then item_or_short Twcc (twcc_of body)
+    else PassedOver)
 
 -- application feedback, which is a REMB where its words begin with that name
 abbrev pub application_of : Bool → List ℕ → Reading

@@ -2,7 +2,7 @@
 use Rattle.std.specs.Prelude.{◌≡◌, ℕ, ℤ, pos, negsuc, ◌*◌, min, map, take, ◌%◌, ◌^◌, ◌<◌, ◌≤◌, List, ◌++◌, length, Some, false}
 use Rattle.std.specs.List.{flat_map, AllByRecursion}
 use Rattle.rtcp_wire.specs.declared.packet.Rtcp.{Rtcp}
-use Rattle.rtcp_wire.specs.declared.packet.Rtcp.TheVariants.{SenderReport, ReceiverReport, SourceDescription, Goodbye, ExtendedReport, Nack, Pli, Fir, Remb, AppSpecificFeedback}
+use Rattle.rtcp_wire.specs.declared.packet.Rtcp.TheVariants.{SenderReport, ReceiverReport, SourceDescription, Goodbye, ExtendedReport, Nack, Pli, Fir, Twcc, Remb, AppSpecificFeedback}
 use Rattle.rtcp_wire.specs.declared.nack.NackEntry.{NackEntry}
 use Rattle.rtcp_wire.specs.declared.request.FirEntry.{FirEntry}
 use Rattle.rtcp_wire.specs.declared.report.ReceptionReport.{ReceptionReport}
@@ -17,6 +17,7 @@ use Rattle.rtcp_wire.specs.Descriptions.{sdes_number, sdes_type_of}
 use Rattle.rtcp_wire.specs.Remb.{is_remb, mantissa_of, exponent_of}
 use Rattle.rtcp_wire.specs.Frame.{frame_at}
 use Rattle.rtcp_wire.specs.Items.{items_of}
+use Rattle.twcc_core.specs.Laws.{IsFeedback}
 use Rattle.rtcp_wire.specs.Texts.{framed, text_of, body_of, IsWritable, LengthsFit}
 
 -- the frame of a written item is read again, whatever follows it
@@ -72,6 +73,7 @@ held (ExtendedReport r) = ExtendedReport (record { ssrc = r.ssrc; blocks = map h
 held (Nack n) = Nack n
 held (Pli p) = Pli p
 held (Fir f) = Fir f
+held (Twcc t) = Twcc t
 held (AppSpecificFeedback f) = AppSpecificFeedback f
 
 abbrev pub IsDlrrItem : DlrrItem → Type 0
@@ -100,6 +102,7 @@ FieldsFit (Goodbye g) = AllByRecursion (λ s. s < 2 ^ 32) g.reports
 FieldsFit (Nack n) = (n.sender_ssrc < 2 ^ 32) × (n.ssrc < 2 ^ 32) × (length n.reports ≤ 31) × AllByRecursion IsNackEntry n.reports
 FieldsFit (Pli p) = (p.sender_ssrc < 2 ^ 32) × (p.ssrc < 2 ^ 32)
 FieldsFit (Fir f) = (f.sender_ssrc < 2 ^ 32) × (length f.reports ≤ 31) × AllByRecursion IsFirEntry f.reports
+FieldsFit (Twcc t) = IsFeedback t
 FieldsFit (AppSpecificFeedback f) = (f.sender_ssrc < 2 ^ 32) × (f.media_ssrc < 2 ^ 32) × (is_remb (body_of (AppSpecificFeedback f)) ≡ false)
 FieldsFit (ExtendedReport r) = (r.ssrc < 2 ^ 32) × AllByRecursion IsBlock r.blocks
 

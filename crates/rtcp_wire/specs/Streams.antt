@@ -6,7 +6,7 @@ use Rattle.rtcp_wire.specs.declared.extended.ReportBlock.TheVariants as block
 use Rattle.rtcp_wire.specs.declared.packet.Rtcp.{Rtcp}
 use Rattle.rtcp_wire.specs.declared.packet.Rtcp.TheVariants as rtcp
 use Rattle.rtcp_wire.specs.declared.rtcp_fb.RtcpFb.{RtcpFb}
-use Rattle.rtcp_wire.specs.declared.rtcp_fb.RtcpFb.TheVariants.{SenderInfo, ReceptionReport, SourceDescription, Goodbye, Rrtr, DlrrItem, Nack, Pli, Fir, Remb, AppSpecificFeedback}
+use Rattle.rtcp_wire.specs.declared.rtcp_fb.RtcpFb.TheVariants.{SenderInfo, ReceptionReport, SourceDescription, Goodbye, Rrtr, DlrrItem, Nack, Pli, Fir, Twcc, Remb, AppSpecificFeedback}
 
 -- a receiver's moment is told with the SSRC of the report that it stands in
 abbrev pub feedback_of_block : ℕ → ReportBlock → List RtcpFb
@@ -23,6 +23,7 @@ feedback_of (rtcp.ExtendedReport r) = flat_map (feedback_of_block r.ssrc) r.bloc
 feedback_of (rtcp.Nack n) = Nack n.ssrc n.reports ∷ []
 feedback_of (rtcp.Pli p) = Pli p ∷ []
 feedback_of (rtcp.Fir f) = map Fir f.reports
+feedback_of (rtcp.Twcc t) = Twcc t ∷ []
 feedback_of (rtcp.Remb r) = map (λ ssrc. Remb ssrc r.bitrate) r.ssrcs
 feedback_of (rtcp.AppSpecificFeedback f) = AppSpecificFeedback f ∷ []
 
@@ -37,6 +38,7 @@ stream_of (DlrrItem i) = i.ssrc
 stream_of (Nack s entries) = s
 stream_of (Pli p) = p.ssrc
 stream_of (Fir f) = f.ssrc
+stream_of (Twcc t) = t.ssrc
 stream_of (Remb s rate) = s
 stream_of (AppSpecificFeedback f) = f.media_ssrc
 
@@ -51,5 +53,6 @@ concerns_received (Rrtr r s) = false
 concerns_received (Nack s entries) = false
 concerns_received (Pli p) = false
 concerns_received (Fir f) = false
+concerns_received (Twcc t) = false
 concerns_received (Remb s rate) = false
 concerns_received (AppSpecificFeedback f) = false

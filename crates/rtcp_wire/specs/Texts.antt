@@ -3,13 +3,14 @@ use Rattle.std.specs.Prelude.{◌≡◌, ℕ, suc, ◌+◌, ◌-◌, ◌/◌, �
 use Rattle.std.specs.List.{AllByRecursion}
 use Rattle.std.specs.Int.{w16, to_be_bytes}
 use Rattle.rtcp_wire.specs.declared.packet.Rtcp.{Rtcp}
-use Rattle.rtcp_wire.specs.declared.packet.Rtcp.TheVariants.{SenderReport, ReceiverReport, SourceDescription, Goodbye, ExtendedReport, Nack, Pli, Fir, Remb, AppSpecificFeedback}
+use Rattle.rtcp_wire.specs.declared.packet.Rtcp.TheVariants.{SenderReport, ReceiverReport, SourceDescription, Goodbye, ExtendedReport, Nack, Pli, Fir, Twcc, Remb, AppSpecificFeedback}
 use Rattle.rtcp_wire.specs.declared.source.Sdes.{Sdes}
 use Rattle.rtcp_wire.specs.Reports.{sender_report_body, receiver_report_body, goodbye_body}
 use Rattle.rtcp_wire.specs.Descriptions.{descriptions_body}
 use Rattle.rtcp_wire.specs.Remb.{remb_body}
 use Rattle.rtcp_wire.specs.Extended.{extended_report_body}
 use Rattle.rtcp_wire.specs.Feedback.{nack_body, pli_body, fir_body, app_feedback_body}
+use Rattle.twcc_core.specs.Feedback.{twcc_bytes}
 
 -- the packet type (RFC 3550 section 12.1, RFC 4585 section 6.1)
 abbrev pub kind_of : Rtcp → ℕ
@@ -21,6 +22,7 @@ kind_of (ExtendedReport r) = 207
 kind_of (Nack n) = 205
 kind_of (Pli p) = 206
 kind_of (Fir f) = 206
+kind_of (Twcc t) = 205
 kind_of (Remb r) = 206
 kind_of (AppSpecificFeedback f) = 206
 
@@ -34,6 +36,7 @@ count_of (ExtendedReport r) = 0
 count_of (Nack n) = 1
 count_of (Pli p) = 1
 count_of (Fir f) = 4
+count_of (Twcc t) = 15
 count_of (Remb r) = 15
 count_of (AppSpecificFeedback f) = 15
 
@@ -47,6 +50,7 @@ body_of (ExtendedReport r) = extended_report_body r
 body_of (Nack n) = nack_body n
 body_of (Pli p) = pli_body p
 body_of (Fir f) = fir_body f
+body_of (Twcc t) = twcc_bytes t
 body_of (Remb r) = remb_body r
 body_of (AppSpecificFeedback f) = app_feedback_body f
 
@@ -57,8 +61,9 @@ framed count kind body = (128 + count) ∷ kind ∷ to_be_bytes w16 (length body
 unfoldable pub text_of : Rtcp → List ℕ
 text_of x = framed (count_of x) (kind_of x) (body_of x)
 
--- the count of SSRCs of a REMB has 8 bits
+-- the count of SSRCs of a REMB has 8 bits, that of the packets of transport-wide feedback 16
 abbrev pub CountFits : Rtcp → Type 0
+CountFits (Twcc t) = length t.rows < 65536
 CountFits (Remb r) = length r.ssrcs ≤ 255
 CountFits _ = Unit {0}
 
@@ -83,6 +88,7 @@ LengthsFit (ExtendedReport r) = length (extended_report_body r) < 2 ^ 18
 LengthsFit (Nack n) = length n.reports ≤ 31
 LengthsFit (Pli p) = Unit {0}
 LengthsFit (Fir f) = length f.reports ≤ 31
+LengthsFit (Twcc t) = length t.rows < 65536
 LengthsFit (Remb r) = length r.ssrcs ≤ 255
 LengthsFit (AppSpecificFeedback f) = (length f.payload % 4 ≡ 0) × (length f.payload + 8 < 2 ^ 18)
 

@@ -1,6 +1,8 @@
 //! Laws of what is read and written.
 ghost use Rattle.rtcp_wire.specs.Laws.{FramesReadBack, ItemsReadBack, ItemsFitByLengths};
 
+use twcc_core::{feedback_is_whole, feedback_reads_back};
+
 /// The frame of a written item is read again, whatever follows it.
 #[tactic(auto, using(crate::proofs::ReadBack::frame_again))]
 pub fn frames_read_back()
@@ -10,14 +12,17 @@ pub fn frames_read_back()
 /// Reports, descriptions, goodbyes and feedback, written one after another, are read again, in order, each
 /// field as its wire form holds it: moments and rates as they are rounded, of blocks and of a source's items
 /// the first 31, all else as it was.
-#[tactic(auto, using(crate::proofs::ReadBack::items_again))]
 pub fn items_read_back()
     ensures { ItemsReadBack }
-{}
+{
+    feedback_reads_back();
+}
 
 /// Items whose counts and lengths fit their fields can be written: at most 31 entries, blocks, sources or
-/// items of a source, texts of at most 255 bytes, at most 255 SSRCs of a REMB, whole words of an application.
-#[tactic(auto, using(crate::proofs::Lengths::counted))]
+/// items of a source, texts of at most 255 bytes, at most 255 SSRCs of a REMB, at most 65,535 packets of
+/// transport-wide feedback, whole words of an application.
 pub fn items_fit_by_lengths()
     ensures { ItemsFitByLengths }
-{}
+{
+    feedback_is_whole();
+}

@@ -1,5 +1,6 @@
 //! The RTCP wire: reports, feedback and extended reports (RFC 3550 section 6, RFC 4585 section 6,
-//! RFC 5104 section 4.3.1, RFC 3611 section 4), read from a datagram and written into one.
+//! RFC 5104 section 4.3.1, draft-holmer-rmcat-transport-wide-cc-extensions-01 section 3.1, RFC 3611
+//! section 4), read from a datagram and written into one.
 #![tactic(auto)]
 
 mod extended;
@@ -28,6 +29,7 @@ pub use report::{ReceiverReport, ReceptionReport, SenderInfo, SenderReport};
 pub use request::{Fir, FirEntry, Pli};
 pub use rtcp_fb::RtcpFb;
 pub use source::{Descriptions, Goodbye, Sdes, SdesItem, SdesType};
+pub use twcc_core::{PacketStatus, Twcc};
 
 #[cfg(test)]
 mod tests;

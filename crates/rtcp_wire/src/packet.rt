@@ -19,6 +19,7 @@ use crate::source::{
 };
 use std::alloc::{AllocError, Global};
 use std::collections::VecDeque;
+use twcc_core::{Twcc, read_twcc, write_twcc};
 
 /// An item of an RTCP datagram.
 #[derive(Debug, PartialEq, Eq, Drop)]
@@ -31,6 +32,7 @@ pub enum Rtcp {
     Nack(Nack),
     Pli(Pli),
     Fir(Fir),
+    Twcc(Twcc),
     Remb(Remb),
     AppSpecificFeedback(AppSpecificFeedback),
 }
@@ -118,7 +120,7 @@ impl Rtcp {
                 Rtcp::SourceDescription,
             ))),
             203 => Ok(item_or_short(read_goodbye(count, body).map(Rtcp::Goodbye))),
-            205 => Ok(Rtcp::read_transport_feedback(count, body)),
+            205 => Rtcp::read_transport_feedback(alloc, count, body),
             206 => Rtcp::read_payload_feedback(alloc, count, body),
             207 => Ok(item_or_short(read_extended_report(alloc, body)?.map(Rtcp::ExtendedReport))),
             _ => Ok(Reading::PassedOver),
@@ -126,12 +128,17 @@ impl Rtcp {
     }
 
     #[tactic(auto, unfolding(crate::specs::Items::transport_feedback_of))]
-    fn read_transport_feedback(format: u8, body: &[u8]) -> Reading
-        ensures { result ≡ transport_feedback_of format body.now }
+    fn read_transport_feedback(
+        alloc: Global,
+        format: u8,
+        body: &[u8],
+    ) -> Result<Reading, AllocError>
+        ensures { IfOk result (λ r. r ≡ transport_feedback_of format body.now) }
     {
         match format {
-            1 => item_or_short(read_nack(body).map(Rtcp::Nack)),
-            _ => Reading::PassedOver,
+            1 => Ok(item_or_short(read_nack(body).map(Rtcp::Nack))),
+            15 => Ok(item_or_short(read_twcc(alloc, body)?.map(Rtcp::Twcc))),
+            _ => Ok(Reading::PassedOver),
         }
     }
 
@@ -211,6 +218,7 @@ impl Rtcp {
             Rtcp::Nack(nack) => write_nack(nack, out),
             Rtcp::Pli(pli) => write_pli(pli, out),
             Rtcp::Fir(fir) => write_fir(fir, out),
+            Rtcp::Twcc(twcc) => write_twcc(twcc, out),
             Rtcp::Remb(remb) => write_remb(remb, out),
             Rtcp::AppSpecificFeedback(feedback) => write_app_feedback(feedback, out),
         }
@@ -225,7 +233,7 @@ impl Rtcp {
             Rtcp::SourceDescription(_) => 202,
             Rtcp::Goodbye(_) => 203,
             Rtcp::ExtendedReport(_) => 207,
-            Rtcp::Nack(_) => 205,
+            Rtcp::Nack(_) | Rtcp::Twcc(_) => 205,
             Rtcp::Pli(_) | Rtcp::Fir(_) | Rtcp::Remb(_) => 206,
             Rtcp::AppSpecificFeedback(_) => 206,
         }
@@ -243,7 +251,7 @@ impl Rtcp {
             Rtcp::ExtendedReport(_) => 0,
             Rtcp::Nack(_) | Rtcp::Pli(_) => 1,
             Rtcp::Fir(_) => 4,
-            Rtcp::Remb(_) | Rtcp::AppSpecificFeedback(_) => 15,
+            Rtcp::Twcc(_) | Rtcp::Remb(_) | Rtcp::AppSpecificFeedback(_) => 15,
         }
     }
 }

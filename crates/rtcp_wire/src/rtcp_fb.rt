@@ -14,6 +14,7 @@ use media_base::Bitrate;
 use rtp_wire::Ssrc;
 use std::alloc::{AllocError, Global};
 use std::collections::VecDeque;
+use twcc_core::Twcc;
 
 /// What an item says of one stream.
 #[derive(Debug, PartialEq, Eq, Drop)]
@@ -36,6 +37,8 @@ pub enum RtcpFb {
     Pli(Pli),
     /// A picture that stands alone is asked for.
     Fir(FirEntry),
+    /// Which packets came and when, whatever their stream.
+    Twcc(Twcc),
     /// The greatest rate that the receiver of the stream asks for.
     Remb(Ssrc, Bitrate),
     /// Feedback of an application on the stream.
@@ -89,6 +92,7 @@ impl RtcpFb {
                 let entries = fir.reports.as_slice();
                 entries.iter().copied().map(RtcpFb::Fir).collect(alloc)
             }
+            Rtcp::Twcc(twcc) => Ok(vec![in alloc; RtcpFb::Twcc(twcc)]?),
             Rtcp::Remb(remb) => RtcpFb::from_ssrcs(alloc, remb.bitrate, remb.ssrcs.as_slice()),
             Rtcp::AppSpecificFeedback(feedback) => {
                 Ok(vec![in alloc; RtcpFb::AppSpecificFeedback(feedback)]?)
@@ -142,8 +146,8 @@ impl RtcpFb {
         }
     }
 
-    /// The SSRC of the stream that it concerns: of a picture or packets that are asked for and of what an
-    /// application says that of the media, of a receiver's moment that of the receiver.
+    /// The SSRC of the stream that it concerns: of a picture or packets that are asked for, of transport-wide
+    /// feedback and of what an application says that of the media, of a receiver's moment that of the receiver.
     pub fn ssrc(&self) -> Ssrc
         ensures { result ≡ stream_of self.now }
     {
@@ -157,6 +161,7 @@ impl RtcpFb {
             RtcpFb::Nack(ssrc, _) => *ssrc,
             RtcpFb::Pli(pli) => pli.ssrc,
             RtcpFb::Fir(entry) => entry.ssrc,
+            RtcpFb::Twcc(twcc) => twcc.ssrc,
             RtcpFb::Remb(ssrc, _) => *ssrc,
             RtcpFb::AppSpecificFeedback(feedback) => feedback.media_ssrc,
         }
@@ -177,6 +182,7 @@ impl RtcpFb {
             | RtcpFb::Nack(_, _)
             | RtcpFb::Pli(_)
             | RtcpFb::Fir(_)
+            | RtcpFb::Twcc(_)
             | RtcpFb::Remb(_, _)
             | RtcpFb::AppSpecificFeedback(_) => false,
         }

@@ -1,3 +1,4 @@
+ghost use Rattle.std.specs.Prelude.{◌<◌, length};
 ghost use Rattle.rtcp_wire.specs.Texts.{IsWritable};
 
 use super::*;
@@ -35,6 +36,14 @@ const PLI: [u8; 12] = [0x81, 0xce, 0, 2, 0, 0, 0, 2, 0, 0, 0, 42];
 
 const FIR: [u8; 20] = [
     0x84, 0xce, 0, 4, 0, 0, 0, 1, 0, 0, 0, 0, 0, 0, 0, 42, 3, 0, 0, 0,
+];
+
+// Transport-wide feedback of ten packets from 10 on: a run of seven with deltas of 8 bits, and a vector of one with
+// a delta of -1 in 16 bits, one that did not come and one with a delta of 255
+// (draft-holmer-rmcat-transport-wide-cc-extensions-01 section 3.1).
+const TWCC: [u8; 36] = [
+    0x8f, 0xcd, 0, 8, 0, 0, 0, 1, 0, 0, 0, 42, 0, 10, 0, 10, 0xff, 0xff, 0xfe, 5, 0x20, 7, 0xe1, 0,
+    4, 4, 4, 4, 4, 4, 4, 0xff, 0xff, 0xff, 0, 0,
 ];
 
 // Feedback of an application (RFC 4585 section 6.4), and a REMB of 262,144 bits a second for two sources:
@@ -168,6 +177,65 @@ fn requests(rt: HostRuntime) -> Result<(), Fail> {
     both_ways(&rt, rt.alloc(), &FIR, item)
 }
 
+fn transport_feedback(alloc: Global) -> Result<Twcc, Fail> {
+    let mut rows = Listed::new(alloc);
+    for delta in [4, 4, 4, 4, 4, 4, 4, -1] {
+        rows.push(PacketStatus::Received(delta))?;
+    }
+    rows.push(PacketStatus::NotReceived)?;
+    rows.push(PacketStatus::Received(255))?;
+    Ok(Twcc {
+        sender_ssrc: Ssrc::from(1),
+        ssrc: Ssrc::from(42),
+        base_seq: 10,
+        reference_time: -2,
+        feedback_count: 5,
+        rows,
+    })
+}
+
+fn writable(twcc: Twcc) -> Rtcp
+    requires { length twcc.rows < 65536 }
+    ensures { IsWritable result }
+{
+    items_fit_by_lengths();
+    Rtcp::Twcc(twcc)
+}
+
+// An item between an empty report and a goodbye is written as the bytes.
+#[tactic(auto, unfolding(crate::specs::Reports::receiver_report_body, crate::specs::Reports::goodbye_body))]
+fn written_between(rt: &impl Abort, alloc: Global, item: Rtcp, bytes: &[u8]) -> Result<(), Fail>
+    requires { IsWritable item }
+{
+    let mut items = VecDeque::new(alloc);
+    items.push_back(Rtcp::ReceiverReport(ReceiverReport {
+        sender_ssrc: Ssrc::from(1),
+        reports: ReportList::new(),
+    }))?;
+    items.push_back(item)?;
+    let mut reports = ReportList::new();
+    reports.push(Ssrc::from(42));
+    items.push_back(Rtcp::Goodbye(Goodbye { reports }))?;
+    let mut out = [0; 64];
+    let len = Rtcp::write_packet(&mut items, &mut out);
+    assert!(rt; &out[..len] == bytes);
+    Ok(())
+}
+
+#[test]
+fn transport_feedback_between(rt: HostRuntime) -> Result<(), Fail> {
+    let mut datagram = EMPTY_REPORT.to_vec(rt.alloc())?;
+    datagram.extend_from_slice(&TWCC)?;
+    datagram.extend_from_slice(&GOODBYE)?;
+    let twcc = transport_feedback(rt.alloc())?;
+    assert!(rt; twcc.rows.as_slice().len() < 65_536);
+    let item = writable(twcc);
+    let read = read(rt.alloc(), datagram.as_slice())?;
+    assert_eq!(rt; read.len(), 3);
+    assert!(rt; read.get(1) == Some(&item));
+    written_between(&rt, rt.alloc(), item, datagram.as_slice())
+}
+
 #[test]
 #[tactic(auto, unfolding(crate::specs::Feedback::app_feedback_body, crate::specs::Remb::remb_body))]
 fn application_feedback(rt: HostRuntime) -> Result<(), Fail> {
@@ -226,7 +294,7 @@ fn before_a_goodbye(alloc: Global, bytes: &[u8]) -> Result<usize, Fail> {
 #[test]
 fn reading_goes_on_or_stops(rt: HostRuntime) -> Result<(), Fail> {
     // What stands before a goodbye, and how many items are read of both.
-    let table: [(&[u8], usize); 19] = [
+    let table: [(&[u8], usize); 20] = [
         // A type and two formats that nobody knows are passed over, a version that is not 2 is not.
         (&[0x80, 0xd5, 0, 0], 1),
         (&[0x82, 0xcd, 0, 2, 0, 0, 0, 1, 0, 0, 0, 42], 1),
@@ -255,6 +323,13 @@ fn reading_goes_on_or_stops(rt: HostRuntime) -> Result<(), Fail> {
         // An entry of a NACK and of a FIR in part.
         (&[0xa1, 0xcd, 0, 3, 0, 0, 0, 1, 0, 0, 0, 42, 0, 10, 0, 1], 0),
         (&[0x84, 0xce, 0, 3, 0, 0, 0, 1, 0, 0, 0, 0, 0, 0, 0, 42], 0),
+        // Transport-wide feedback on one packet without a chunk.
+        (
+            &[
+                0x8f, 0xcd, 0, 4, 0, 0, 0, 1, 0, 0, 0, 42, 0, 10, 0, 1, 0, 0, 0, 0,
+            ],
+            0,
+        ),
         // An RRTR of one word, and a block that nobody knows.
         (&[0x80, 0xcf, 0, 3, 0, 0, 0, 1, 4, 0, 0, 1, 0, 0, 0, 0], 0),
         (&[0x80, 0xcf, 0, 2, 0, 0, 0, 1, 9, 0, 0, 0], 2),
@@ -346,6 +421,7 @@ fn feedback_on_streams(rt: HostRuntime) -> Result<(), Fail> {
         &NACK,
         &FIR,
         &PLI,
+        &TWCC,
         &REMB,
         &APPLICATION,
         &EXTENDED,
@@ -360,6 +436,7 @@ fn feedback_on_streams(rt: HostRuntime) -> Result<(), Fail> {
         (42, true),
         (43, true),
         (42, true),
+        (42, false),
         (42, false),
         (42, false),
         (42, false),
