@@ -1,9 +1,9 @@
 pub mod BitPattern
 pub mod Causes
 pub mod Ends
-pub mod History
 pub mod Memory
-pub mod Soonest
 pub mod Text
-pub mod Trip
-pub mod Wallclock
+pub use Rattle.media_units.specs.History
+pub use Rattle.media_units.specs.Soonest
+pub use Rattle.media_units.specs.Trip
+pub use Rattle.media_units.specs.Wallclock

@@ -1,35 +1,26 @@
-//! What every other crate stands on: bytes that contracts see as lists, moments, rates and sizes as
-//! numbers, and the source and the sink of a program.
+//! What every other crate stands on: bytes that contracts see as lists, the source and the sink of a
+//! program, and the moments and rates of `media_units`.
 #![tactic(auto)]
 
 mod bit_pattern;
 mod bytes;
-mod history;
 mod listed;
 mod memory;
-mod rate;
 mod sink;
-mod soonest;
 mod source;
 mod std_ends;
 #[cfg(test)]
 mod tests;
-mod time;
-mod trip;
-mod wallclock;
 
 pub use bit_pattern::BitPattern;
 pub use bytes::Bytes;
-pub use history::{Amount, ValueHistory};
 pub use listed::Listed;
+pub use media_units::{
+    Amount, Beginning, Bitrate, DataSize, Debt, Duration, Instant, InstantExt, SECONDS_1900,
+    Soonest, SystemTime, SystemTimeExt, ValueHistory, already_happened, calculate_rtt,
+    epoch_to_beginning, not_happening,
+};
 pub use memory::{MemSink, MemSource};
-pub use rate::{Bitrate, DataSize, Debt};
 pub use sink::{Sink, write_all};
-pub use soonest::Soonest;
 pub use source::{Failed, ReadError, Source, read_all};
 pub use std_ends::{ReaderSource, WriterSink};
-pub use time::{Duration, Instant, already_happened, not_happening};
-pub use trip::calculate_rtt;
-pub use wallclock::{
-    Beginning, InstantExt, SECONDS_1900, SystemTime, SystemTimeExt, epoch_to_beginning,
-};

@@ -6,7 +6,7 @@ use Rattle.std.specs.Option.{option_or}
 use Rattle.rtp_wire.specs.declared.extension.Extension.{Extension}
 use Rattle.rtp_wire.specs.declared.extension.Extension.TheVariants.{AudioLevel, AbsoluteSendTime, TransportSequenceNumber, RtpMid, RtpStreamId, RepairedRtpStreamId, VideoOrientation, AbsoluteCaptureTime, PlayoutDelay}
 use Rattle.rtp_wire.specs.declared.values.ExtensionValues.{ExtensionValues}
-use Rattle.rtp_wire.specs.Name.{name_of}
+use Rattle.rtp_base.specs.Name.{name_of}
 use Rattle.rtp_wire.specs.Reading.{transport_in, send_time_in, level_in, voice_in, turn_in, capture_in, least_delay_in, greatest_delay_in}
 use Rattle.rtp_wire.specs.Writing.{value_bytes, without, wire_values}
 

@@ -1,7 +1,7 @@
 -- The value of an extension, as its bytes hold it.
 use Rattle.std.specs.Prelude.{ℕ, ◌+◌, ◌*◌, ◌/◌, ◌%◌, ◌==◌, ℤ, pos, ◌-ℤ◌, Bool, ◌||◌, Option, Some, None, List, length, take, slice_index, if◌then◌else◌}
 use Rattle.std.specs.Int.{w64, from_be_bytes}
-use Rattle.rtp_wire.specs.declared.media_time.MediaTime.{MediaTime}
+use Rattle.rtp_base.specs.declared.media_time.MediaTime.{MediaTime}
 use Rattle.rtp_wire.specs.declared.values.VideoOrientation.{VideoOrientation as Turn}
 use Rattle.rtp_wire.specs.declared.values.VideoOrientation.TheVariants.{Deg0, Deg90, Deg180, Deg270}
 

@@ -2,13 +2,13 @@
 use Rattle.std.specs.Prelude.{ℕ, ◌+◌, ◌*◌, ◌/◌, ◌%◌, ◌^◌, min, ℤ, pos, negsuc, Bool, Option, Some, None, List, [], ◌∷◌, if◌then◌else◌}
 use Rattle.std.specs.Option.{option_map, option_and_then}
 use Rattle.std.specs.Int.{w16, w64, to_be_bytes}
-use Rattle.rtp_wire.specs.declared.media_time.MediaTime.{MediaTime}
+use Rattle.rtp_base.specs.declared.media_time.MediaTime.{MediaTime}
 use Rattle.rtp_wire.specs.declared.extension.Extension.{Extension}
 use Rattle.rtp_wire.specs.declared.extension.Extension.TheVariants.{AudioLevel, AbsoluteSendTime, TransportSequenceNumber, RtpMid, RtpStreamId, RepairedRtpStreamId, VideoOrientation, AbsoluteCaptureTime, PlayoutDelay}
 use Rattle.rtp_wire.specs.declared.values.ExtensionValues.{ExtensionValues}
 use Rattle.rtp_wire.specs.declared.values.VideoOrientation.{VideoOrientation as Turn}
 use Rattle.rtp_wire.specs.declared.values.VideoOrientation.TheVariants.{Deg0, Deg90, Deg180, Deg270}
-use Rattle.rtp_wire.specs.Name.{name_of}
+use Rattle.rtp_base.specs.Name.{name_of}
 use Rattle.rtp_wire.specs.Reading.{level_of, hundredths}
 
 -- the low 24 bits of a number

@@ -8,14 +8,14 @@ use native.Mathlib.Nat.{div-div-eq-div-mul}
 use Rattle.std.proofs.lemmas.Bool.Decides.{nat_tests}
 use Rattle.std.proofs.lemmas.Grind.{flat_map-append}
 use Rattle.std.proofs.lemmas.List.{take_at, drop_at}
-use Rattle.rtp_wire.specs.declared.media_time.MediaTime.{MediaTime}
+use Rattle.rtp_base.specs.declared.media_time.MediaTime.{MediaTime}
 use Rattle.rtp_wire.specs.declared.extension.Extension.{Extension}
 use Rattle.rtp_wire.specs.declared.extension.Extension.TheVariants.{AudioLevel, AbsoluteSendTime, TransportSequenceNumber, RtpMid, RtpStreamId, RepairedRtpStreamId, VideoOrientation, AbsoluteCaptureTime, PlayoutDelay}
 use Rattle.rtp_wire.specs.declared.extension.ExtensionMap.{ExtensionMap}
 use Rattle.rtp_wire.specs.declared.values.ExtensionValues.{ExtensionValues}
 use Rattle.rtp_wire.specs.declared.values.VideoOrientation.{VideoOrientation as Turn}
 use Rattle.rtp_wire.specs.declared.values.VideoOrientation.TheVariants.{Deg0, Deg90, Deg180, Deg270}
-use Rattle.rtp_wire.specs.Name.{is_name, name_of}
+use Rattle.rtp_base.specs.Name.{is_name, name_of}
 use Rattle.rtp_wire.specs.Reading.{u24_of, level_of, hundredths}
 use Rattle.rtp_wire.specs.Writing.{u24_bytes, minus_level, level_byte, quarter_turns, delay_steps, both, value_bytes, without, wire_values}
 use Rattle.rtp_wire.specs.Extensions.{named_by, is_at, no_values, one_byte_elements, with_value, with_elements, values_of, written_ids, bytes_at, left_after, element_at, written_elements, element_bytes, written_data, is_named, written_values}

@@ -2,15 +2,14 @@ ghost use Rattle.std.specs.Prelude.{◌≡◌, ℕ, ◌+◌, ◌-◌, ◌*◌, �
 ghost use Rattle.std.specs.List.{flat_map};
 ghost use Rattle.std.specs.Int.{w16, w32, to_be_bytes};
 ghost use Rattle.std.specs.Option.{option_map};
-ghost use Rattle.rtp_wire.specs.Widen.{widen16};
+ghost use Rattle.rtp_base.specs.Widen.{widen16};
 ghost use Rattle.rtp_wire.specs.Repairs.{original_of, blank_length, blank_payload};
 ghost use Rattle.rtp_wire.specs.Bytes.{u16_at, u32_at};
 ghost use Rattle.rtp_wire.specs.BytesLaws.{AreWords};
 
 use crate::extension::ExtensionMap;
-use crate::number::{Pt, SeqNo, Ssrc};
 use crate::values::ExtensionValues;
-use crate::widen as wide;
+use rtp_base::{Pt, SeqNo, Ssrc, widen16 as wide16};
 
 /// The header of an RTP packet (RFC 3550 section 5.1).
 #[derive(Clone, Copy, Debug, PartialEq, Eq)]
@@ -223,7 +222,7 @@ impl RtpHeader {
             Some(number) => Some(u64::from(number)),
             None => None,
         };
-        SeqNo::from(wide::widen16(last, self.sequence_number))
+        SeqNo::from(wide16(last, self.sequence_number))
     }
 
     /// The low 16 bits of the number of the packet that a repair repairs, and that packet's payload (RFC 4588 section 4).

@@ -1,31 +1,23 @@
-//! The RTP wire: numbers, headers and header extensions (RFC 3550 section 5.1, RFC 8285).
+//! The RTP wire: headers and header extensions (RFC 3550 section 5.1, RFC 8285), and what they are
+//! made of, the numbers and names of `rtp_base`.
 #![tactic(auto)]
 
 mod extension;
 mod header;
-mod ids;
 mod laws;
-mod media_time;
-mod name;
-mod number;
+#[cfg(test)]
+mod tests;
 mod values;
-mod widen;
-mod window;
 mod writing;
 
 pub use extension::{Extension, ExtensionMap};
 pub use header::RtpHeader;
-pub use ids::{Direction, MidRid, SessionId, TwccClusterId, TwccPacketId};
 pub use laws::{
     header_reads_own_bytes, headers_are_as_long, plain_header_is_read_again,
     written_header_is_read_again,
 };
-pub use media_time::{Frequency, MediaTime};
-pub use name::{Mid, Rid};
-pub use number::{Pt, SeqNo, Ssrc};
-pub use values::{AbsCaptureTime, AbsSendTime, ExtensionValues, VideoOrientation};
-pub use widen::{widen16, widen32, widens_to_itself};
-pub use window::SeqNoWindow;
-
-#[cfg(test)]
-mod tests;
+pub use rtp_base::{
+    AbsCaptureTime, AbsSendTime, Direction, Frequency, MediaTime, Mid, MidRid, Pt, Rid, SeqNo,
+    SeqNoWindow, SessionId, Ssrc, TwccClusterId, TwccPacketId, widen16, widen32, widens_to_itself,
+};
+pub use values::{ExtensionValues, VideoOrientation};

@@ -3,8 +3,8 @@ ghost use Rattle.std.specs.Option.{option_map};
 ghost use Rattle.rtp_wire.specs.Writing.{u24_bytes, level_byte, quarter_turns, delay_steps};
 
 use crate::extension::{Extension, ExtensionMap};
-use crate::media_time::{Frequency, MediaTime};
 use crate::values::{ExtensionValues, VideoOrientation};
+use rtp_base::{Frequency, MediaTime};
 
 // Writes a piece to the front of the bytes, and gives its length.
 fn put(bytes: &mut [u8], piece: &[u8]) -> usize

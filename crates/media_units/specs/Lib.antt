@@ -1,0 +1,4 @@
+pub mod History
+pub mod Soonest
+pub mod Trip
+pub mod Wallclock

@@ -1,0 +1,21 @@
+//! Moments, lengths of time and the calendar, rates and what is owed at a rate, and amounts that count for
+//! some time, all in whole numbers.
+#![tactic(auto)]
+
+mod history;
+mod rate;
+mod soonest;
+#[cfg(test)]
+mod tests;
+mod time;
+mod trip;
+mod wallclock;
+
+pub use history::{Amount, ValueHistory};
+pub use rate::{Bitrate, DataSize, Debt};
+pub use soonest::Soonest;
+pub use time::{Duration, Instant, already_happened, not_happening};
+pub use trip::calculate_rtt;
+pub use wallclock::{
+    Beginning, InstantExt, SECONDS_1900, SystemTime, SystemTimeExt, epoch_to_beginning,
+};

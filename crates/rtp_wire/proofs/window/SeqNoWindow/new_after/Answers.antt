@@ -1,5 +1,0 @@
-use Rattle.rtp_wire.proofs.WindowLaws.{after_stands}
-use Rattle.rtp_wire.proofs.window.SeqNoWindow.new_after.Goals as goal
-
-pub returns : goal.returns
-returns c = rw (← c.from-number.ensures) (after_stands c.from-number.result)
