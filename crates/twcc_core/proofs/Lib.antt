@@ -9,3 +9,4 @@ pub mod Telling
 pub mod Nothing
 pub mod Marking
 pub mod ComingBack
+pub mod RoundTrip

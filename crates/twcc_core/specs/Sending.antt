@@ -1,5 +1,5 @@
 -- Packets sent, and what reports say of them.
-use Rattle.std.specs.Prelude.{◌≡◌, ℕ, ◌+◌, ◌-◌, ◌^◌, ◌<◌, ◌≤◌, ◌&&◌, Bool, false, List, [], ◌∷◌, ◌++◌, length, drop, map, filter, reverse, find, slice_get, count_by, nat_lt, nat_le, is_some, is_none, unwrap_or, Option, Some, None, if◌then◌else◌}
+use Rattle.std.specs.Prelude.{◌≡◌, ℕ, ◌+◌, ◌-◌, ◌^◌, ◌<◌, ◌≤◌, ◌&&◌, Bool, true, false, All, Contains, List, [], ◌∷◌, ◌++◌, length, drop, map, filter, fold, slice_get, count_by, nat_lt, nat_le, is_some, is_none, unwrap_or, Option, Some, None, if◌then◌else◌}
 use Rattle.std.specs.List.{filter_map}
 use Rattle.std.specs.Option.{option_map, option_map_or}
 use Rattle.rtp_wire.specs.Widen.{widen16}
@@ -49,9 +49,32 @@ after_told first moments now r = unwrap_or (record_told first moments now r) r
 unfoldable pub told_by : Sending → ℕ → Twcc → List TwccSendRecord
 told_by s now t = filter_map (record_told (first_told s.records t) (moments_of t) now) s.records
 
--- from sending to the report, for the last of the packets that came
+-- the record of the greatest number; of two of one number, as where a number was sent twice, the one sent
+-- last
+abbrev pub greater_of : Option TwccSendRecord → TwccSendRecord → Option TwccSendRecord
+greater_of None r = Some r
+greater_of (Some best) r = if nat_lt r.id.seq best.id.seq then Some best else Some r
+
+abbrev pub greatest_sent : List TwccSendRecord → Option TwccSendRecord
+greatest_sent records = fold greater_of None records
+
+-- whether the last report of a packet says that it came
+abbrev pub came : TwccSendRecord → Bool
+came r = is_some r.received
+
+-- from sending to the report, for the packet of the greatest number among those that came
 abbrev pub trip_of : ℕ → List TwccSendRecord → Option ℕ
-trip_of now records = option_map (λ r. now - r.sent) (find (λ r. is_some r.received) (reverse records))
+trip_of now records = option_map (λ r. now - r.sent) (greatest_sent (filter came records))
+
+-- there is no round trip exactly where none of the packets came; and one is that of a packet that came,
+-- whose number is at least that of each other that came
+abbrev pub RoundTripIsOfTheGreatest : Type 0
+RoundTripIsOfTheGreatest =
+    (now : ℕ) (records : List TwccSendRecord)
+    → (trip_of now records ≡ None → All (λ r. r.received ≡ None) records)
+    × (All (λ r. r.received ≡ None) records → trip_of now records ≡ None)
+    × ((trip : ℕ) → trip_of now records ≡ Some trip
+    → (r : TwccSendRecord) × Contains records r × (came r ≡ true) × (trip ≡ now - r.sent) × All (λ other. came other ≡ true → other.id.seq ≤ r.id.seq) records)
 
 unfoldable pub after_applied : Sending → ℕ → Twcc → Sending
 after_applied s now t = record {

@@ -1,7 +1,7 @@
 //! Laws of what is read and written.
 ghost use Rattle.twcc_core.specs.Laws.{FeedbackReadsBack, FeedbackIsWhole};
 ghost use Rattle.twcc_core.specs.Times.{ReportsTellArrivals, ReportsAreNone};
-ghost use Rattle.twcc_core.specs.Sending.{ReportsComeBack};
+ghost use Rattle.twcc_core.specs.Sending.{RoundTripIsOfTheGreatest, ReportsComeBack};
 
 use rtp_wire::widens_to_itself;
 
@@ -25,6 +25,12 @@ pub fn reports_tell_arrivals()
 /// There is no report exactly where nothing is unreported or fewer than 24 bytes are left.
 pub fn reports_are_none()
     ensures { ReportsAreNone }
+{}
+
+/// There is no round trip exactly where none of the packets came; and one is that of a packet that came,
+/// whose number is at least that of each other that came.
+pub fn round_trip_is_of_the_greatest()
+    ensures { RoundTripIsOfTheGreatest }
 {}
 
 /// A report that was built, written, read again and taken in tells, of the packets sent, which came and

@@ -18,7 +18,7 @@ mod wire;
 pub use feedback::{Twcc, read_twcc, write_twcc};
 pub use laws::{
     feedback_is_whole, feedback_reads_back, reports_are_none, reports_come_back,
-    reports_tell_arrivals,
+    reports_tell_arrivals, round_trip_is_of_the_greatest,
 };
 pub use moments::arrivals;
 pub use receive::TwccRecvRegister;

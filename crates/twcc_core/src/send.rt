@@ -1,7 +1,7 @@
 //! Packets sent, and what reports say of them.
 ghost use Rattle.std.specs.Prelude.{◌≡◌, ◌-◌, ◌≤◌, [], List, length, map, count_by, IfOk, OnOk, OnErr};
 ghost use Rattle.std.specs.List.{filter_map};
-ghost use Rattle.twcc_core.specs.Sending.{last_number, first_told, moment_told, record_told, after_told, trip_of, is_told_from, is_missing_from, sent_loss};
+ghost use Rattle.twcc_core.specs.Sending.{last_number, first_told, moment_told, record_told, after_told, greater_of, trip_of, is_told_from, is_missing_from, sent_loss};
 
 use crate::{Share, Twcc, arrivals};
 use media_base::{DataSize, Duration, Instant, Listed};
@@ -76,15 +76,27 @@ fn mark(records: &mut [TwccSendRecord], first: u64, moments: &[Option<Instant>],
     }
 }
 
-// From sending to now, for the last of the packets that came.
+// The one of the greater number, of two of one number the second.
+fn greater(best: Option<TwccSendRecord>, later: &TwccSendRecord) -> Option<TwccSendRecord>
+    ensures { result ≡ greater_of best later.now }
+{
+    match best {
+        Some(best) if later.number() < best.number() => Some(best),
+        _ => Some(*later),
+    }
+}
+
+// From sending to now, for the packet of the greatest number among those that came.
 fn trip(records: &[TwccSendRecord], now: Instant) -> Option<Duration>
     ensures { result ≡ trip_of now records.now }
 {
-    match records
-        .iter()
-        .rev()
-        .find(|record| record.received.is_some())
-    {
+    let mut best = None;
+    for record in records {
+        if record.received.is_some() {
+            best = greater(best, record);
+        }
+    }
+    match best {
         Some(record) => Some(now.saturating_duration_since(record.sent)),
         None => None,
     }
@@ -229,8 +241,9 @@ impl TwccSendRegister {
             .count() as u64
     }
 
-    /// How long it took from sending the last of the packets that the last report says came, to that
-    /// report. None where it tells of none that came and is still held, and before any report.
+    /// How long it took from sending the packet of the greatest number among those that the last report
+    /// says came and that are still held, to that report. Of two sent with one number it is the later.
+    /// None where the report tells of none that came and is still held, and before any report.
     pub fn rtt(&self) -> Option<Duration>
         ensures { result ≡ self.now.trip }
     {

@@ -297,6 +297,26 @@ fn reported_at_the_wrap(rt: HostRuntime) -> Result<(), Fail> {
     Ok(())
 }
 
+// The number 3 was sent after the number 5, and the round trip is that of 5.
+#[test]
+fn round_trip_of_the_greatest_number(rt: HostRuntime) -> Result<(), Fail> {
+    let mut register = TwccSendRegister::new(rt.alloc());
+    for (number, nanos) in [(5, 1_000), (3, 2_000)] {
+        let id = TwccPacketId::new(SeqNo::from(number));
+        register.register_seq(id, DataSize::bytes(1_000), Instant::from_nanos(nanos))?;
+    }
+    let statuses = [
+        PacketStatus::Received(0),
+        PacketStatus::NotReceived,
+        PacketStatus::Received(1),
+    ];
+    let report = feedback(3, 0, rows(&rt, &statuses)?);
+    let records = register.apply_report(rt.alloc(), Instant::from_nanos(10_000), &report)?;
+    assert!(rt; records.as_slice().len() == 2);
+    assert!(rt; register.rtt() == Some(Duration::from_nanos(9_000)));
+    Ok(())
+}
+
 // Of 1,001 packets the first is let go, and a report of numbers that were let go tells nothing.
 #[test]
 fn reports_of_what_was_let_go(rt: HostRuntime) -> Result<(), Fail> {
