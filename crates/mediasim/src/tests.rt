@@ -48,14 +48,29 @@ fn lines_with(text: &[u8], start: &str) -> usize {
         .count()
 }
 
-// A write under a number, of so many bytes.
-fn write_of(alloc: Global, number: &str, bytes: u64) -> Result<String, Fail> {
-    let mut step = format!(in alloc; "write A 1 42 {number} 96 0 0 0 ")?;
+fn push_zeros(text: &mut String, bytes: u64) -> Result<(), Fail> {
     for _byte in 0..bytes {
-        step.push_str("00")?;
+        text.push_str("00")?;
     }
-    step.push('\n')?;
-    Ok(step)
+    Ok(())
+}
+
+// The steps, with 1,400 bytes for the word FULL and 1,401 for the word LONG at the end of a line.
+fn with_payloads(alloc: Global, steps: &str) -> Result<String, Fail> {
+    let mut text = String::new(alloc);
+    for line in steps.lines() {
+        if let Some(start) = line.strip_suffix("FULL") {
+            text.push_str(start)?;
+            push_zeros(&mut text, 1_400)?;
+        } else if let Some(start) = line.strip_suffix("LONG") {
+            text.push_str(start)?;
+            push_zeros(&mut text, 1_401)?;
+        } else {
+            text.push_str(line)?;
+        }
+        text.push('\n')?;
+    }
+    Ok(text)
 }
 
 #[test]
@@ -88,11 +103,12 @@ fn empty_script_and_empty_payload(rt: HostRuntime) -> Result<(), Fail> {
 
 #[test]
 fn payload_limit(rt: HostRuntime) -> Result<(), Fail> {
-    let step = write_of(rt.alloc(), "1", 1_400)?;
-    let (report, _) = ran(rt.alloc(), step.as_str())?;
+    let alloc = rt.alloc();
+    let steps = with_payloads(alloc, "write A 1 42 1 96 0 0 0 FULL\n")?;
+    let (report, _) = ran(alloc, steps.as_str())?;
     assert_eq!(rt; report.status, 0);
-    let step = write_of(rt.alloc(), "1", 1_401)?;
-    let (report, sink) = ran(rt.alloc(), step.as_str())?;
+    let steps = with_payloads(alloc, "write A 1 42 1 96 0 0 0 LONG\n")?;
+    let (report, sink) = ran(alloc, steps.as_str())?;
     assert_eq!(rt; report.status, 2);
     assert_eq!(rt; report.end, End::Step(1, StepFault::PayloadTooLong));
     assert_eq!(rt; sink.bytes(), b"fault step 1 PayloadTooLong\n".as_slice());
@@ -220,60 +236,106 @@ fn setup_script(alloc: Global, lines: &str) -> Result<Vec<u8>, Fail> {
     Ok(text.into_bytes())
 }
 
+// Setup lines, and the first rule that they break: each rule alone, and each with each later one.
+const SETUP_FAULTS: [(&str, &str); 26] = [
+    (SHORT_KEY, "KeyLength"),
+    (
+        "key 00\ntype 96 vp8 90000\ntype 96 vp9 90000\n",
+        "KeyLength",
+    ),
+    ("key 00\nmedia v video cam\nstream A v 0 - -\n", "KeyLength"),
+    ("key 00\nmedia v video cam\nstream A v 1 - -\n", "KeyLength"),
+    (
+        "key 00\nmedia v video cam\nmedia v audio mic\n",
+        "KeyLength",
+    ),
+    (
+        "key 00\nmedia v video cam\nstream A v 42 43 -\n",
+        "KeyLength",
+    ),
+    (
+        "key zero\ntype 96 vp8 90000\ntype 96 vp9 90000\n",
+        "TypeTwice",
+    ),
+    ("key zero\ntype 128 vp8 90000\n", "TypeTwice"),
+    (
+        "key zero\ntype 128 vp8 90000\nmedia v video cam\nstream A v 0 - -\n",
+        "TypeTwice",
+    ),
+    (
+        "key zero\ntype 96 vp8 90000\ntype 96 vp9 90000\nmedia v video cam\nstream A v 1 - -\n",
+        "TypeTwice",
+    ),
+    (
+        "key zero\ntype 128 vp8 90000\nmedia v video cam\nmedia v audio mic\n",
+        "TypeTwice",
+    ),
+    (
+        "key zero\ntype 96 vp8 90000\ntype 96 vp9 90000\nmedia v video cam\nstream A v 42 43 -\n",
+        "TypeTwice",
+    ),
+    (
+        "key zero\nmedia v video cam\nstream A v 0 - -\n",
+        "SsrcZero",
+    ),
+    (
+        "key zero\nmedia v video cam\nstream A v 0 - -\nstream B v 1 - -\n",
+        "SsrcZero",
+    ),
+    (
+        "key zero\nmedia v video cam\nstream A v 0 - -\nstream A v 42 - -\n",
+        "SsrcZero",
+    ),
+    (
+        "key zero\nmedia v video cam\nstream A v 42 0 -\n",
+        "SsrcZero",
+    ),
+    (
+        "key zero\nmedia v video cam\nstream A v 42 - -\nstream B v 42 - -\n",
+        "SsrcTwice",
+    ),
+    (
+        "key zero\nmedia v video cam\nstream A v 2 - -\n",
+        "SsrcTwice",
+    ),
+    (
+        "key zero\nmedia v video cam\nstream A v 42 - h\nstream A v 42 - h\n",
+        "SsrcTwice",
+    ),
+    (
+        "key zero\nmedia v video cam\nstream A v 42 42 -\n",
+        "SsrcTwice",
+    ),
+    (
+        "key zero\nmedia v video cam\nstream A v 42 42 -\nstream A v 44 - -\n",
+        "SsrcTwice",
+    ),
+    (
+        "key zero\nmedia v video cam\nmedia v audio mic\n",
+        "RidTwice",
+    ),
+    (
+        "key zero\nmedia v video cam\nstream A v 42 - h\nstream A v 43 - h\n",
+        "RidTwice",
+    ),
+    (
+        "key zero\nmedia v video cam\nmedia v audio mic\nstream A v 42 43 -\n",
+        "RidTwice",
+    ),
+    (
+        "key zero\nmedia v video cam\nstream A v 42 44 -\nstream A v 43 - h\n",
+        "RidTwice",
+    ),
+    (
+        "key zero\nmedia v video cam\nstream A v 42 43 -\n",
+        "RtxLater",
+    ),
+];
+
 #[test]
 fn setup_faults(rt: HostRuntime) -> Result<(), Fail> {
     let alloc = rt.alloc();
-    for (lines, fault) in [
-        (SHORT_KEY, "KeyLength"),
-        (
-            "key 00\ntype 96 vp8 90000\ntype 96 vp9 90000\n",
-            "KeyLength",
-        ),
-        (
-            "key zero\ntype 96 vp8 90000\ntype 96 vp9 90000\n",
-            "TypeTwice",
-        ),
-        (
-            "key zero\ntype 128 vp8 90000\nmedia v video cam\nstream A v 0 - -\n",
-            "TypeTwice",
-        ),
-        (
-            "key zero\nmedia v video cam\nstream A v 0 - -\n",
-            "SsrcZero",
-        ),
-        (
-            "key zero\nmedia v video cam\nstream A v 0 - -\nstream B v 1 - -\n",
-            "SsrcZero",
-        ),
-        (
-            "key zero\nmedia v video cam\nstream A v 42 - -\nstream B v 42 - -\n",
-            "SsrcTwice",
-        ),
-        (
-            "key zero\nmedia v video cam\nstream A v 2 - -\n",
-            "SsrcTwice",
-        ),
-        (
-            "key zero\nmedia v video cam\nstream A v 42 42 -\nstream A v 44 - -\n",
-            "SsrcTwice",
-        ),
-        (
-            "key zero\nmedia v video cam\nmedia v audio mic\n",
-            "RidTwice",
-        ),
-        (
-            "key zero\nmedia v video cam\nstream A v 42 - h\nstream A v 43 - h\n",
-            "RidTwice",
-        ),
-        (
-            "key zero\nmedia v video cam\nstream A v 42 44 -\nstream A v 43 - h\n",
-            "RidTwice",
-        ),
-        (
-            "key zero\nmedia v video cam\nstream A v 42 43 -\n",
-            "RtxLater",
-        ),
-    ] {
+    for (lines, fault) in SETUP_FAULTS {
         let (report, sink) = ran_on(alloc, setup_script(alloc, lines)?)?;
         let text = format!(in alloc; "fault setup {fault}\n")?;
         assert_eq!(rt; report.status, 1, "at {lines}");
@@ -282,54 +344,130 @@ fn setup_faults(rt: HostRuntime) -> Result<(), Fail> {
     Ok(())
 }
 
+// Steps, and which of them is the first to break a rule, with the first rule that it breaks: each rule
+// alone, and each with each later one that can come with it. FULL and LONG are read by
+// `with_payloads`.
+const STEP_FAULTS: [(&str, &str); 45] = [
+    ("tick A 0\n", "1 TimeZero"),
+    ("foreign B 0 rtp -\n", "1 TimeZero"),
+    ("tick A 2\ntick A 0\n", "2 TimeZero"),
+    ("write A 0 41 1 96 0 0 0 01\n", "1 TimeZero"),
+    ("deliver B 0 1\n", "1 TimeZero"),
+    ("write A 0 42 1 97 0 0 0 01\n", "1 TimeZero"),
+    ("write A 0 42 281474976710656 96 0 0 0 01\n", "1 TimeZero"),
+    (
+        "write A 1 42 1 96 0 0 0 01\nwrite A 0 42 1 96 0 0 0 02\n",
+        "2 TimeZero",
+    ),
+    ("write A 0 42 1 96 0 0 0 LONG\n", "1 TimeZero"),
+    ("tick A 2\ntick B 2\ntick B 1\n", "3 TimeBack"),
+    ("tick A 2\nforeign B 1 rtp -\n", "2 TimeBack"),
+    ("tick A 2\nwrite B 1 42 1 96 0 0 0 01\n", "2 TimeBack"),
+    ("tick A 2\ndeliver B 1 1\n", "2 TimeBack"),
+    ("tick A 2\nwrite A 1 42 1 97 0 0 0 01\n", "2 TimeBack"),
+    (
+        "tick A 2\nwrite A 1 42 281474976710656 96 0 0 0 01\n",
+        "2 TimeBack",
+    ),
+    (
+        "write A 2 42 1 96 0 0 0 01\nwrite A 1 42 1 96 0 0 0 02\n",
+        "2 TimeBack",
+    ),
+    ("tick A 2\nwrite A 1 42 1 96 0 0 0 LONG\n", "2 TimeBack"),
+    (
+        "tick A 10000000000000000\ntick A 10000000000000001\n",
+        "2 TimeBeyond",
+    ),
+    ("foreign B 10000000000000001 rtp -\n", "1 TimeBeyond"),
+    (
+        "write A 10000000000000001 41 1 96 0 0 0 01\n",
+        "1 TimeBeyond",
+    ),
+    ("deliver A 10000000000000001 1\n", "1 TimeBeyond"),
+    (
+        "write A 10000000000000001 42 1 97 0 0 0 01\n",
+        "1 TimeBeyond",
+    ),
+    (
+        "write A 10000000000000001 42 281474976710656 96 0 0 0 01\n",
+        "1 TimeBeyond",
+    ),
+    (
+        "write A 1 42 1 96 0 0 0 01\nwrite A 10000000000000001 42 1 96 0 0 0 02\n",
+        "2 TimeBeyond",
+    ),
+    (
+        "write A 10000000000000001 42 1 96 0 0 0 LONG\n",
+        "1 TimeBeyond",
+    ),
+    ("write A 1 41 1 96 0 0 0 01\n", "1 UnknownStream"),
+    (
+        "write A 1 42 1 96 0 0 0 01\nwrite B 1 42 1 96 0 0 0 02\n",
+        "2 UnknownStream",
+    ),
+    ("write A 1 41 1 97 0 0 0 01\n", "1 UnknownStream"),
+    (
+        "write A 1 41 281474976710656 96 0 0 0 01\n",
+        "1 UnknownStream",
+    ),
+    ("write A 1 41 1 96 0 0 0 LONG\n", "1 UnknownStream"),
+    ("deliver B 1 1\n", "1 UnknownDatagram"),
+    ("deliver B 1 0\n", "1 UnknownDatagram"),
+    (
+        "write A 1 42 1 96 0 0 0 01\ntick A 1\ndeliver B 1 2\n",
+        "3 UnknownDatagram",
+    ),
+    (
+        "write A 1 42 1 96 0 0 0 01\ntick A 1\ndeliver A 1 1\n",
+        "3 UnknownDatagram",
+    ),
+    ("write A 1 42 1 97 0 0 0 01\n", "1 UnknownType"),
+    (
+        "write A 1 42 281474976710656 97 0 0 0 01\n",
+        "1 UnknownType",
+    ),
+    (
+        "write A 1 42 1 96 0 0 0 01\nwrite A 1 42 1 97 0 0 0 02\n",
+        "2 UnknownType",
+    ),
+    ("write A 1 42 1 97 0 0 0 LONG\n", "1 UnknownType"),
+    (
+        "write A 1 42 281474976710655 96 0 0 0 01\nwrite A 1 42 281474976710656 96 0 0 0 01\n",
+        "2 NumberTooBig",
+    ),
+    (
+        "write A 1 42 281474976710656 96 0 0 0 LONG\n",
+        "1 NumberTooBig",
+    ),
+    (
+        "write A 1 42 1 96 0 0 0 01\nwrite A 1 42 1 96 0 0 0 02\n",
+        "2 NumberUsed",
+    ),
+    (
+        "write A 1 42 1 96 0 0 0 01\ntick A 1\nwrite A 1 42 1 96 0 0 0 02\n",
+        "3 NumberUsed",
+    ),
+    (
+        "write A 1 42 1 96 0 0 0 FULL\nwrite A 1 42 1 96 0 0 0 LONG\n",
+        "2 NumberUsed",
+    ),
+    ("write A 1 42 1 96 0 0 0 LONG\n", "1 PayloadTooLong"),
+    (
+        "write A 1 42 1 96 0 0 0 FULL\nwrite A 1 42 2 96 0 0 0 LONG\n",
+        "2 PayloadTooLong",
+    ),
+];
+
 #[test]
 fn step_faults(rt: HostRuntime) -> Result<(), Fail> {
     let alloc = rt.alloc();
-    for (steps, fault) in [
-        ("tick A 0\n", "fault step 1 TimeZero"),
-        ("foreign B 0 rtp -\n", "fault step 1 TimeZero"),
-        ("deliver B 0 1\n", "fault step 1 TimeZero"),
-        ("tick A 2\ntick B 1\n", "fault step 2 TimeBack"),
-        (
-            "tick A 2\nwrite B 1 42 1 96 0 0 0 01\n",
-            "fault step 2 TimeBack",
-        ),
-        ("tick A 10000000000000001\n", "fault step 1 TimeBeyond"),
-        ("deliver A 10000000000000001 1\n", "fault step 1 TimeBeyond"),
-        ("write B 1 42 1 96 0 0 0 01\n", "fault step 1 UnknownStream"),
-        ("write A 1 41 1 97 0 0 0 01\n", "fault step 1 UnknownStream"),
-        ("deliver B 1 1\n", "fault step 1 UnknownDatagram"),
-        ("deliver B 1 0\n", "fault step 1 UnknownDatagram"),
-        ("write A 1 42 1 97 0 0 0 01\n", "fault step 1 UnknownType"),
-        (
-            "write A 1 42 281474976710656 97 0 0 0 01\n",
-            "fault step 1 UnknownType",
-        ),
-        (
-            "write A 1 42 281474976710656 96 0 0 0 01\n",
-            "fault step 1 NumberTooBig",
-        ),
-        (
-            "write A 1 42 1 96 0 0 0 01\nwrite A 1 42 1 96 0 0 0 02\n",
-            "fault step 2 NumberUsed",
-        ),
-    ] {
-        let (report, sink) = ran(alloc, steps)?;
+    for (steps, fault) in STEP_FAULTS {
+        let (report, sink) = ran(alloc, with_payloads(alloc, steps)?.as_str())?;
+        let line = format!(in alloc; "fault step {fault}\n")?;
         assert_eq!(rt; report.status, 2, "at {steps}");
-        assert_eq!(rt; lines_with(sink.bytes(), fault), 1, "at {steps}");
+        assert_eq!(rt; lines_with(sink.bytes(), "fault"), 1, "at {steps}");
+        assert!(rt; sink.bytes().ends_with(line.as_bytes()), "at {steps}");
     }
-    Ok(())
-}
-
-#[test]
-fn long_payloads_of_wrong_numbers(rt: HostRuntime) -> Result<(), Fail> {
-    let alloc = rt.alloc();
-    let (_, sink) = ran(alloc, write_of(alloc, "281474976710656", 1_401)?.as_str())?;
-    assert_eq!(rt; sink.bytes(), b"fault step 1 NumberTooBig\n".as_slice());
-    let mut steps = write_of(alloc, "1", 1_400)?;
-    steps.push_str(write_of(alloc, "1", 1_401)?.as_str())?;
-    let (report, _) = ran(alloc, steps.as_str())?;
-    assert_eq!(rt; report.end, End::Step(2, StepFault::NumberUsed));
     Ok(())
 }
 
@@ -350,9 +488,7 @@ fn foreign_seal(rt: HostRuntime) -> Result<(), Fail> {
 // A datagram with SSRC 42 and number 6, whose payload is sealed to so many zeros.
 fn zeros(alloc: Global, bytes: u64) -> Result<String, Fail> {
     let mut step = "foreign B 1 rtp 80600006000000000000002a".to_string(alloc)?;
-    for _byte in 0..bytes {
-        step.push_str("00")?;
-    }
+    push_zeros(&mut step, bytes)?;
     step.push_str("804a0004002a00040000005100000001\n")?;
     Ok(step)
 }
