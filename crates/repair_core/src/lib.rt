@@ -1,5 +1,5 @@
 //! What repair stands on: the register of received numbers, which tells what is missing (RFC 4585
-//! section 6.2.1), and the buffer of sent packets, from which they are resent (RFC 4588).
+//! section 6.2.1), and the buffer of sent packets of `resend_core`, from which they are resent (RFC 4588).
 #![tactic(auto)]
 
 mod gap_window;
@@ -8,20 +8,13 @@ mod laws;
 mod missing;
 mod register;
 mod register_nack;
-mod resend_store;
-mod ring;
-mod rtx_cache;
-mod rtx_cache_buf;
-mod size_classes;
 mod slots;
 
 pub use gap_window::GapWindow;
 pub use laws::{remembered_is_not_fresh, rounds_name_the_due, taken_is_not_fresh};
 pub use register::{ReceiverRegister, expected, packets_lost};
 pub use register_nack::NackRegister;
-pub use resend_store::ResendStore;
-pub use rtx_cache::{Cached, RtxCache};
-pub use rtx_cache_buf::EvictingBuffer;
+pub use resend_core::{Cached, EvictingBuffer, ResendStore, RtxCache};
 
 #[cfg(test)]
 mod tests;

@@ -1,6 +1,0 @@
-use Rattle.std.proofs.Common.{◌≡◌, ◌++◌, map, take, drop}
-use Rattle.repair_core.specs.Ring.{kept_from}
-use Rattle.repair_core.proofs.ring.keep_from.Given as goal
-
-abbrev pub invariant-loop-slot : goal.invariant-loop-slot
-invariant-loop-slot g l = l.ring ≡ map (kept_from l.first) (take l.slot-index l.initial.ring) ++ drop l.slot-index l.initial.ring

@@ -1,7 +1,0 @@
-use Rattle.std.proofs.Common.{◌≡◌, ℕ, Some}
-use Rattle.repair_core.specs.declared.ring.Entry.{Entry}
-use Rattle.repair_core.specs.Ring.{IsIn}
-use Rattle.repair_core.proofs.ring.last_below.Given as goal
-
-abbrev pub invariant-loop-slot : goal.invariant-loop-slot
-invariant-loop-slot g l = (p : ℕ) → l.last ≡ Some p → (e : Entry g.row.T.Denot) × IsIn e l.ring × (e.position ≡ p)

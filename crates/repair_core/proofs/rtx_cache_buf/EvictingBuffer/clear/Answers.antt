@@ -1,7 +1,0 @@
-use Rattle.std.proofs.Common.{refl, None}
-use Rattle.repair_core.proofs.BufferLaws.{cleared_stands}
-use Rattle.repair_core.proofs.rtx_cache_buf.EvictingBuffer.clear.Goals as goal
-
-pub returns : goal.returns
-returns g c = λ past h.
-    cleared_stands c.args.self.now (record c.args.self.now { ring = c.drop_below.new.ring; last = None; mark = None; timeout = c.from_nanos-self.result }) past c.drop_below.ensures (rw c.from_nanos-self.ensures refl) h

@@ -1,9 +1,0 @@
-use Rattle.std.proofs.Common.{◌∙◌, sym}
-use Rattle.repair_core.proofs.BufferLaws.{shut_stands}
-use Rattle.repair_core.proofs.rtx_cache_buf.EvictingBuffer.push.Goals as goal
-
-pub returns-then-not-takes-clause-ok : goal.returns-then-not-takes-clause-ok
-returns-then-not-takes-clause-ok g c = λ past h. shut_stands c.args.self.now past c.args.position c.args.timestamp c.args.value (sym c.takes.ensures.exact ∙ c.if-not-takes.true) h
-
-pub returns-clause-ok : goal.returns-clause-ok
-returns-clause-ok g c = λ past h. c.place.ensures past (c.in_ok-make_room.ensures.stands past h) (c.in_ok-make_room.ensures.ready past h)

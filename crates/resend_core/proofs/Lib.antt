@@ -1,0 +1,6 @@
+pub mod BufferLaws
+pub mod CacheLaws
+pub mod CacheSteps
+pub mod EventLaws
+pub mod RevaluedLaws
+pub mod RingLaws

@@ -1,0 +1,175 @@
+-- What a buffer stands for in which a value was changed in its place.
+use Rattle.std.proofs.Common.{◌≡◌, ◌≢◌, ℕ, ◌+◌, ◌%◌, ◌<◌, ◌≤◌, Bool, true, false, cond, eqb, List, [], ◌∷◌, refl, sym, ap, ◌∙◌, subst, arith, length, map, max, inl, inr, ⊎_elim, ◌⊎◌, Option, Some, None}
+use Rattle.std.specs.Prelude.{option_map, slice_index_or}
+use Rattle.std.proofs.lemmas.Bool.Decides.{nat_tests}
+use Rattle.std.proofs.lemmas.Bool.{cases_eq}
+use Rattle.resend_core.specs.declared.ring.Entry.{Entry}
+use Rattle.resend_core.specs.declared.rtx_cache_buf.EvictingBuffer.{EvictingBuffer}
+use Rattle.resend_core.specs.Ring.{matching, slot_of, held, place_in, put_in}
+use Rattle.resend_core.specs.ResendStore.{Event, pushed, evicted, Past, revalued_event, revalued, size_of, latter, greatest_by, last_by, stored_under, last_under, stored_at, stored_position, greatest_stored, after_pushed, evicted_at, latest_eviction, RisesFrom, IsRising, MayGo}
+use Rattle.resend_core.specs.EvictingBuffer.{StandsFor, with_slot}
+use Rattle.resend_core.proofs.RingLaws.{held_slot, slot_held, held_put_same, held_put_other, held_put_from, in_place_put, length-put}
+
+-- the index of a position is that of its slot, where its entry stands
+pub placed : {T : Type 0} (ring : List (Option (Entry T))) (p i : ℕ) → place_in ring p ≡ Some i → (i ≡ p % length ring) × (held ring p ≡ slot_of ring p)
+placed {T} ring p i is = pick (slot_of ring p) is where
+  pick : (o : Option (Entry T)) → option_map (λ (e : Entry T). p % length ring) (matching p o) ≡ Some i → (i ≡ p % length ring) × (matching p o ≡ o)
+  pick None k = absurd (let not_so : None ≡ Some i = k in cc)
+  pick (Some e) k = choose (eqb e.position p) k where
+    choose : (b : Bool) → option_map (λ (e : Entry T). p % length ring) (cond b (Some e) None) ≡ Some i → (i ≡ p % length ring) × (cond b (Some e) None ≡ Some e)
+    choose true k = (cc, refl)
+    choose false k = absurd (let not_so : None ≡ Some i = k in cc)
+
+-- what the events give but for the values
+greatest_same : {T : Type 0} (f : Event T → ℕ) (p : ℕ) (w : T) (es : List (Event T)) → ((e : Event T) → f (revalued_event p w e) ≡ f e) → greatest_by f (map (revalued_event p w) es) ≡ greatest_by f es
+greatest_same f p w [] same = refl
+greatest_same f p w (e ∷ es) same = ap (λ (n : ℕ). max n (greatest_by f (map (revalued_event p w) es))) (same e) ∙ ap (λ (n : ℕ). max (f e) n) (greatest_same f p w es same)
+
+last_same : {T A : Type 0} (f : Event T → Option A) (p : ℕ) (w : T) (es : List (Event T)) → ((e : Event T) → f (revalued_event p w e) ≡ f e) → last_by f (map (revalued_event p w) es) ≡ last_by f es
+last_same f p w [] same = refl
+last_same {T} {A} f p w (e ∷ es) same = ap (λ (o : Option A). latter o (last_by f (map (revalued_event p w) es))) (same e) ∙ ap (λ (o : Option A). latter (f e) o) (last_same f p w es same)
+
+stored_position_same : {T : Type 0} (p : ℕ) (w : T) (e : Event T) → stored_position (revalued_event p w e) ≡ stored_position e
+stored_position_same p w (pushed q t v s) = refl
+stored_position_same p w (evicted t) = refl
+
+after_same : {T : Type 0} (p : ℕ) (w : T) (e : Event T) → after_pushed (revalued_event p w e) ≡ after_pushed e
+after_same p w (pushed q t v s) = refl
+after_same p w (evicted t) = refl
+
+evicted_same : {T : Type 0} (p : ℕ) (w : T) (e : Event T) → evicted_at (revalued_event p w e) ≡ evicted_at e
+evicted_same p w (pushed q t v s) = refl
+evicted_same p w (evicted t) = refl
+
+at_same : {T : Type 0} (p : ℕ) (w : T) (e : Event T) → stored_at (revalued_event p w e) ≡ stored_at e
+at_same p w (pushed q t v s) = refl
+at_same p w (evicted t) = refl
+
+rises_same : {T : Type 0} (p : ℕ) (w : T) (q t : ℕ) (es : List (Event T)) → RisesFrom q t (map (revalued_event p w) es) → RisesFrom q t es
+rises_same p w q t [] r = tt
+rises_same p w q t (pushed k u v s ∷ es) r = (r.0, r.1, rises_same p w q t es r.2)
+rises_same p w q t (evicted u ∷ es) r = rises_same p w q t es r
+
+rising_same : {T : Type 0} (p : ℕ) (w : T) (es : List (Event T)) → IsRising (map (revalued_event p w) es) → IsRising es
+rising_same p w [] r = tt
+rising_same p w (pushed k u v s ∷ es) r = (rises_same p w k u es r.0, rising_same p w es r.1)
+rising_same p w (evicted u ∷ es) r = rising_same p w es r
+
+-- under another position nothing changes
+under_far : {T : Type 0} (p : ℕ) (w : T) (q : ℕ) → q ≢ p → (e : Event T) → stored_under q (revalued_event p w e) ≡ stored_under q e
+under_far p w q ne (evicted t) = refl
+under_far {T} p w q ne (pushed k t v false) = refl
+under_far {T} p w q ne (pushed k t v true) =
+    ⊎_elim
+    (λ (is : k ≡ p). let other : eqb k q ≡ false = grind (arith, nat_tests) in ap (λ (b : Bool). cond b (Some (t, cond (eqb k p) w v)) None) other ∙ sym (ap (λ (b : Bool). cond b (Some (t, v)) None) other))
+    (λ (no_p : k ≢ p). let other : eqb k p ≡ false = grind (arith, nat_tests) in ap (λ (b : Bool). cond (eqb k q) (Some (t, cond b w v)) None) other)
+    (cases_eq k p)
+
+abbrev with_moment : {T : Type 0} → T → ℕ × T → ℕ × T
+with_moment w x = (x.0, w)
+
+under_here : {T : Type 0} (p : ℕ) (w : T) (e : Event T) → stored_under p (revalued_event p w e) ≡ option_map (with_moment w) (stored_under p e)
+under_here p w (evicted t) = refl
+under_here p w (pushed k t v false) = refl
+under_here {T} p w (pushed k t v true) = pick (eqb k p) where
+  pick : (b : Bool) → cond b (Some (t, cond b w v)) None ≡ option_map (with_moment w) (cond b (Some (t, v)) None)
+  pick true = refl
+  pick false = refl
+
+latter_map : {A : Type 0} (f : A → A) (a b : Option A) → option_map f (latter a b) ≡ latter (option_map f a) (option_map f b)
+latter_map f a None = refl
+latter_map f a (Some x) = refl
+
+under_all : {T : Type 0} (p : ℕ) (w : T) (es : List (Event T)) → last_under p (map (revalued_event p w) es) ≡ option_map (with_moment w) (last_under p es)
+under_all p w [] = refl
+under_all {T} p w (e ∷ es) =
+    ap (λ (o : Option (ℕ × T)). latter o (last_under p (map (revalued_event p w) es))) (under_here p w e)
+    ∙ ap (λ (o : Option (ℕ × T)). latter (option_map (with_moment w) (stored_under p e)) o) (under_all p w es)
+    ∙ sym (latter_map (with_moment w) (stored_under p e) (last_under p es))
+
+may_go_same : {T : Type 0} (past : Past T) (p : ℕ) (w : T) (q t : ℕ) → MayGo past q t → MayGo (revalued past p w) q t
+may_go_same past p w q t go =
+    ⊎_elim
+    (λ (old : t + past.age < latest_eviction past.events). inl (subst (λ (n : ℕ). t + past.age < n) (sym (greatest_same evicted_at p w past.events (evicted_same p w))) old))
+    (λ (far : q + size_of past ≤ greatest_stored past.events). inr (subst (λ (n : ℕ). q + size_of past ≤ n) (sym (greatest_same stored_position p w past.events (stored_position_same p w))) far))
+    go
+
+-- the value of an entry was changed
+pub revalued_stands : {T : Type 0} (b : EvictingBuffer T) (past : Past T) (e : Entry T) (w : T) → 0 < length b.ring.items → slot_of b.ring.items e.position ≡ Some e → StandsFor b past
+    → StandsFor (with_slot b (e.position % length b.ring.items) (Some e) w) (revalued past e.position w)
+revalued_stands {T} b past e w some slot h =
+    record {
+      ages = h.ages;
+      sized = h.sized;
+      roomy = λ r. rw (length-put b.ring.items new) (h.roomy r);
+      timed = h.timed ∙ sym (greatest_same evicted_at e.position w past.events (evicted_same e.position w));
+      in_place = in_place_put b.ring.items new some h.in_place;
+      true_to = λ q x is. true_at q x is;
+      keeps = λ q t v is. keeps_at q t v is;
+      newest = h.newest ∙ sym (last_same stored_at e.position w past.events (at_same e.position w));
+      marked = λ m is. subst (λ (n : ℕ). m ≤ n) (sym (greatest_same after_pushed e.position w past.events (after_same e.position w))) (h.marked m is);
+      young = λ r q x is. subst (λ (n : ℕ). n ≤ x.moment + past.age) (sym (greatest_same evicted_at e.position w past.events (evicted_same e.position w))) (young_at (rising_same e.position w past.events r) q x is);
+    } where
+      new : Entry T
+      new = record e { value = w }
+
+      mine : held b.ring.items e.position ≡ Some e
+      mine = slot_held b.ring.items e slot
+
+      was : last_under e.position past.events ≡ Some (e.moment, e.value)
+      was = h.true_to e.position e (slot_held b.ring.items e slot)
+
+      is_now : last_under e.position (map (revalued_event e.position w) past.events) ≡ Some (e.moment, w)
+      is_now = under_all e.position w past.events ∙ ap (λ (o : Option (ℕ × T)). option_map (with_moment w) o) (h.true_to e.position e (slot_held b.ring.items e slot))
+
+      true_at : (q : ℕ) (x : Entry T) → held (put_in b.ring.items (record e { value = w })) q ≡ Some x → last_under q (map (revalued_event e.position w) past.events) ≡ Some (x.moment, x.value)
+      true_at q x is =
+          ⊎_elim
+          (λ (at : q ≡ e.position).
+          let both : Some (record e { value = w }) ≡ Some x = sym (held_put_same b.ring.items (record e { value = w }) some) ∙ ap (λ (i : ℕ). held (put_in b.ring.items (record e { value = w })) i) (sym at) ∙ is in
+          let eq : record e { value = w } ≡ x = cc in
+          ap (λ (i : ℕ). last_under i (map (revalued_event e.position w) past.events)) at
+          ∙ (under_all e.position w past.events ∙ ap (λ (o : Option (ℕ × T)). option_map (with_moment w) o) (h.true_to e.position e (slot_held b.ring.items e slot)))
+          ∙ ap (λ (y : Entry T). Some (y.moment, y.value)) eq)
+          (λ (ne : q ≢ e.position).
+          last_same (stored_under q) e.position w past.events (under_far e.position w q ne)
+          ∙ h.true_to q x (older q x ne is))
+          (cases_eq q e.position) where
+            older : (q : ℕ) (x : Entry T) → q ≢ e.position → held (put_in b.ring.items (record e { value = w })) q ≡ Some x → held b.ring.items q ≡ Some x
+            older q x ne is = ⊎_elim (λ (k : (record e { value = w } ≡ x) × (e.position ≡ q)). absurd (ne (sym k.1))) (λ (k : held b.ring.items q ≡ Some x). k) (held_put_from b.ring.items (record e { value = w }) q x some is)
+
+      keeps_at : (q t : ℕ) (v : T) → last_under q (map (revalued_event e.position w) past.events) ≡ Some (t, v)
+          → (held (put_in b.ring.items (record e { value = w })) q ≡ Some (record { position = q; moment = t; value = v })) ⊎ MayGo (revalued past e.position w) q t
+      keeps_at q t v is =
+          ⊎_elim
+          (λ (at : q ≡ e.position).
+          let now_here : last_under e.position (map (revalued_event e.position w) past.events) ≡ Some (e.moment, w) =
+          under_all e.position w past.events ∙ ap (λ (o : Option (ℕ × T)). option_map (with_moment w) o) (h.true_to e.position e (slot_held b.ring.items e slot)) in
+          let pair : Some (e.moment, w) ≡ Some (t, v) = sym now_here ∙ ap (λ (i : ℕ). last_under i (map (revalued_event e.position w) past.events)) (sym at) ∙ is in
+          let inside : ◌≡◌ {A = ℕ × T} (e.moment, w) (t, v) = cc in
+          inl (ap (λ (i : ℕ). held (put_in b.ring.items (record e { value = w })) i) at ∙ held_put_same b.ring.items (record e { value = w }) some
+          ∙ ap (λ (y : Entry T). Some y) (same_entry q t v (sym at) (ap (λ (y : ℕ × T). y.0) inside) (ap (λ (y : ℕ × T). y.1) inside))))
+          (λ (ne : q ≢ e.position).
+          ⊎_elim
+          (λ (k : held b.ring.items q ≡ Some (record { position = q; moment = t; value = v })).
+          inl (held_put_other b.ring.items (record e { value = w }) q (apart q (record { position = q; moment = t; value = v }) ne k refl) ∙ k))
+          (λ (k : MayGo past q t). inr (may_go_same past e.position w q t k))
+          (h.keeps q t v (sym (last_same (stored_under q) e.position w past.events (under_far e.position w q ne)) ∙ is)))
+          (cases_eq q e.position) where
+            same_entry : (q t : ℕ) (v : T) → e.position ≡ q → e.moment ≡ t → w ≡ v → ◌≡◌ {A = Entry T} (record e { value = w }) (record { position = q; moment = t; value = v })
+            same_entry q t v i j k = rw (← i, ← j, ← k) refl
+
+            apart : (q : ℕ) (x : Entry T) → q ≢ e.position → held b.ring.items q ≡ Some x → x.position ≡ q → q % length b.ring.items ≢ e.position % length b.ring.items
+            apart q x ne k at same =
+                let there = held_slot b.ring.items q x k in
+                let both : Some x ≡ Some e = sym there.0 ∙ ap (λ (i : ℕ). slice_index_or b.ring.items i None) same ∙ slot in
+                let eq : x ≡ e = cc in
+                ne (sym at ∙ ap (λ (y : Entry T). y.position) eq)
+
+      young_at : IsRising past.events → (q : ℕ) (x : Entry T) → held (put_in b.ring.items (record e { value = w })) q ≡ Some x → latest_eviction past.events ≤ x.moment + past.age
+      young_at r q x is =
+          ⊎_elim
+          (λ (k : (record e { value = w } ≡ x) × (e.position ≡ q)).
+          subst (λ (y : Entry T). latest_eviction past.events ≤ y.moment + past.age) k.0 (h.young r e.position e (slot_held b.ring.items e slot)))
+          (λ (k : held b.ring.items q ≡ Some x). h.young r q x k)
+          (held_put_from b.ring.items (record e { value = w }) q x some is)

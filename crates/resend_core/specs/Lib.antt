@@ -1,0 +1,5 @@
+pub mod EvictingBuffer
+pub mod Lending
+pub mod ResendStore
+pub mod Ring
+pub mod RtxCache

@@ -1,0 +1,15 @@
+//! What was sent and is kept to be resent (RFC 4588): a ring of values under rising positions, each until it
+//! is too old or its room is needed, and the cache of sent packets, found by number and by size.
+#![tactic(auto)]
+
+mod resend_store;
+mod ring;
+mod rtx_cache;
+mod rtx_cache_buf;
+mod size_classes;
+#[cfg(test)]
+mod tests;
+
+pub use resend_store::ResendStore;
+pub use rtx_cache::{Cached, RtxCache};
+pub use rtx_cache_buf::EvictingBuffer;

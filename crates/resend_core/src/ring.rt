@@ -1,0 +1,257 @@
+ghost use Rattle.std.specs.Prelude.{◌≡◌, ℕ, ◌<◌, ◌≤◌, ◌⊎◌, ◌%◌, ◌∷◌, [], List, Option, Some, None, false, map, max, replicate, length, IfOk, IfSome, option_map, is_some};
+ghost use Rattle.std.specs.Option.{option_copied};
+ghost use Rattle.resend_core.specs.Ring.{slot_of, held, place_in, has_room, is_other, put_in, settled, settled_all, clashes, least_young, lower as lower_of, kept_from, raise, IsIn};
+
+use media_base::{Duration, Instant};
+use std::alloc::{AllocError, Global};
+
+/// A value under its position, and when it was stored.
+#[derive(Debug, Drop)]
+pub struct Entry<T> {
+    pub position: u64,
+    pub moment: Instant,
+    pub value: T,
+}
+
+/// The entry of a position, which stands in the slot of its remainder.
+pub fn entry_at<T>(ring: &[Option<Entry<T>>], position: u64) -> Option<&Entry<T>>
+    ensures { option_copied result ≡ held ring.now position }
+{
+    if ring.is_empty() {
+        return None;
+    }
+    match &ring[(position % ring.len() as u64) as usize] {
+        Some(entry) if entry.position == position => Some(entry),
+        _ => None,
+    }
+}
+
+/// The index of the slot of a position, where its entry stands there.
+pub fn place_of<T>(ring: &[Option<Entry<T>>], position: u64) -> Option<usize>
+    ensures place { result ≡ place_in ring.now position }
+    ensures within { IfSome result (λ i. i < length ring.now) }
+{
+    if ring.is_empty() {
+        return None;
+    }
+    let index = (position % ring.len() as u64) as usize;
+    match &ring[index] {
+        Some(entry) if entry.position == position => Some(index),
+        _ => None,
+    }
+}
+
+/// Whether the slot of a position has no entry of a greater one.
+pub fn is_free<T>(ring: &[Option<Entry<T>>], position: u64) -> bool
+    requires { 0 < length ring.now }
+    ensures { result ≡ has_room ring.now position }
+{
+    match &ring[(position % ring.len() as u64) as usize] {
+        Some(entry) => entry.position <= position,
+        None => true,
+    }
+}
+
+/// Whether an entry of another position stands in the slot of a position.
+pub fn is_occupied<T>(ring: &[Option<Entry<T>>], position: u64) -> bool
+    requires { 0 < length ring.now }
+    ensures { result ≡ is_other position (slot_of ring.now position) }
+{
+    match &ring[(position % ring.len() as u64) as usize] {
+        Some(entry) => entry.position != position,
+        None => false,
+    }
+}
+
+/// Puts an entry into the slot of its position.
+pub fn put<T: Drop>(ring: &mut [Option<Entry<T>>], entry: Entry<T>)
+    requires { 0 < length ring.old }
+    ensures { ring.new ≡ put_in ring.old entry }
+{
+    let index = (entry.position % ring.len() as u64) as usize;
+    ring[index] = Some(entry);
+}
+
+/// Puts an entry into the slot of its position, unless an entry stands there of a position that is
+/// no lower.
+pub fn settle<T: Drop>(ring: &mut [Option<Entry<T>>], entry: Entry<T>)
+    requires { 0 < length ring.old }
+    ensures { ring.new ≡ settled ring.old (Some entry) }
+{
+    let index = (entry.position % ring.len() as u64) as usize;
+    let free = match &ring[index] {
+        Some(other) => other.position < entry.position,
+        None => true,
+    };
+    if free {
+        ring[index] = Some(entry);
+    }
+}
+
+/// Moves all entries into another ring.
+pub fn move_all<T: Drop>(ring: &mut [Option<Entry<T>>], old: Vec<Option<Entry<T>>>)
+    requires { 0 < length ring.old }
+    ensures { ring.new ≡ settled_all ring.old old.items }
+{
+    for slot in old {
+        if let Some(entry) = slot {
+            settle(ring, entry);
+        }
+    }
+}
+
+/// A ring of so many slots with no entry.
+pub fn blank<T: Drop>(alloc: Global, size: usize) -> Result<Vec<Option<Entry<T>>>, AllocError>
+    ensures { IfOk result (λ r. r.items ≡ replicate size None) }
+{
+    let mut ring = Vec::with_capacity(alloc, size)?;
+    for _count in 0..size {
+        ring.push(None)?;
+    }
+    Ok(ring)
+}
+
+fn unmarked(alloc: Global, size: usize) -> Result<Vec<bool>, AllocError>
+    ensures { IfOk result (λ v. v.items ≡ replicate size false) }
+{
+    vec![in alloc; false; size]
+}
+
+/// Whether two of the entries and the position share a slot in a ring of so many slots.
+pub fn is_crowded<T>(
+    alloc: Global,
+    ring: &[Option<Entry<T>>],
+    position: u64,
+    size: usize,
+) -> Result<bool, AllocError>
+    requires { 0 < size }
+    ensures { IfOk result (λ b. b ≡ clashes size (position % size ∷ []) ring.now) }
+{
+    let mut used = unmarked(alloc, size)?;
+    used[(position % size as u64) as usize] = true;
+    for slot in ring {
+        match slot {
+            Some(entry) => {
+                let index = (entry.position % size as u64) as usize;
+                if used[index] {
+                    return Ok(true);
+                }
+                used[index] = true;
+            }
+            None => {}
+        }
+    }
+    Ok(false)
+}
+
+/// The first size above the ring's, each a third above the one before, in which no two of the
+/// entries and the position share a slot; else the greatest size.
+pub fn grown_size<T>(
+    alloc: Global,
+    ring: &[Option<Entry<T>>],
+    position: u64,
+    greatest: usize,
+) -> Result<usize, AllocError>
+    requires { length ring.now < greatest }
+    ensures above { IfOk result (λ s. length ring.now < s) }
+    ensures apart { IfOk result (λ s. (clashes s (position % s ∷ []) ring.now ≡ false) ⊎ (s ≡ greatest)) }
+{
+    let mut size = ring.len();
+    while size < greatest {
+        size = greatest.min((size.saturating_mul(133) / 100).max(size + 1));
+        if !is_crowded(alloc, ring, position, size)? {
+            return Ok(size);
+        }
+    }
+    Ok(size)
+}
+
+/// The lowest position of an entry that is not older than the age.
+pub fn first_young<T>(ring: &[Option<Entry<T>>], now: Instant, age: Duration) -> Option<u64>
+    ensures { result ≡ least_young now age None ring.now }
+{
+    let mut first = None;
+    for slot in ring {
+        if let Some(entry) = slot {
+            let passed = now.as_nanos().saturating_sub(entry.moment.as_nanos());
+            if passed <= age.as_nanos() {
+                first = lower(first, entry.position);
+            }
+        }
+    }
+    first
+}
+
+fn lower(first: Option<u64>, position: u64) -> Option<u64>
+    ensures { result ≡ lower_of first position }
+{
+    match first {
+        Some(other) if other <= position => first,
+        _ => Some(position),
+    }
+}
+
+/// What stays of a slot when the entries of positions below the first are dropped, all of them where
+/// there is none.
+fn kept<T: Drop>(slot: Option<Entry<T>>, first: Option<u64>) -> Option<Entry<T>>
+    ensures { result ≡ kept_from first slot }
+{
+    match slot {
+        Some(entry) => match first {
+            Some(first) if first <= entry.position => Some(entry),
+            _ => None,
+        },
+        None => None,
+    }
+}
+
+/// Drops the entries of positions below the first, all of them where there is none.
+fn keep_from<T: Drop>(ring: &mut [Option<Entry<T>>], first: Option<u64>)
+    ensures { ring.new ≡ map (kept_from first) ring.old }
+{
+    for slot in ring.iter_mut() {
+        let old = slot.take();
+        *slot = kept(old, first);
+    }
+}
+
+/// Drops the entries of positions below the first, all of them where there is none.
+pub fn drop_below<T: Drop>(ring: &mut Vec<Option<Entry<T>>>, first: Option<u64>)
+    ensures { ring.new.items ≡ map (kept_from first) ring.old.items }
+{
+    keep_from(ring, first);
+}
+
+/// The position of the slot's entry, if it is below the first, any where there is none, and above
+/// the last; else the last.
+fn raised<T>(last: Option<u64>, slot: &Option<Entry<T>>, first: Option<u64>) -> Option<u64>
+    ensures { result ≡ raise last slot.now first }
+{
+    let Some(entry) = slot else {
+        return last;
+    };
+    let below = match first {
+        Some(first) => entry.position < first,
+        None => true,
+    };
+    let above = match last {
+        Some(last) => last < entry.position,
+        None => true,
+    };
+    if below && above {
+        Some(entry.position)
+    } else {
+        last
+    }
+}
+
+/// The greatest position of an entry below the first, of any entry where there is none.
+pub fn last_below<T>(ring: &[Option<Entry<T>>], first: Option<u64>) -> Option<u64>
+    ensures { (p : ℕ) → result ≡ Some p → (e : Entry T) × IsIn e ring.now × (e.position ≡ p) }
+{
+    let mut last = None;
+    for slot in ring {
+        last = raised(last, slot, first);
+    }
+    last
+}

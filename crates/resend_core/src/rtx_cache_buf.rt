@@ -1,0 +1,305 @@
+ghost use Rattle.std.specs.Prelude.{◌≡◌, ℕ, ◌+◌, ◌<◌, ◌≤◌, ◌⊎◌, Bool, [], ◌∷◌, Option, Some, None, true, max, is_some, option_and_then, length, OnSome, OnOk, OnErr, IfOk};
+ghost use Rattle.std.specs.Option.{option_copied, option_copied_mut};
+ghost use Rattle.std.specs.Borrow.{sem};
+ghost use Rattle.std.specs.Bool.{OnTrue};
+ghost use Rattle.resend_core.specs.Ring.{held, has_room, settled_all};
+ghost use Rattle.resend_core.specs.ResendStore.{Event, pushed, evicted, Past, with_event, emptied, revalued, size_of, last_position, MustStore, HeldAs};
+ghost use Rattle.resend_core.specs.Lending.{LendsValue};
+ghost use Rattle.resend_core.specs.EvictingBuffer.{StandsFor, value_at, with_value, Grows, Places, Evicts, IsReady, IsPushed, takes_push};
+
+use crate::ring::{
+    Entry, blank, drop_below, entry_at, first_young, grown_size, is_free, is_occupied, last_below,
+    move_all, place_of, put,
+};
+use media_base::{Duration, Instant};
+use std::alloc::{AllocError, Global};
+use std::mem;
+
+/// Values under rising positions, each until it is too old or its room is needed: a ring in which a
+/// value stands in the slot of its position's remainder. It grows up to its greatest size.
+#[derive(Debug, Drop)]
+pub struct EvictingBuffer<T> {
+    alloc: Global,
+    ring: Vec<Option<Entry<T>>>,
+    age: Duration,
+    size: usize,
+    last: Option<u64>,
+    mark: Option<u64>,
+    timeout: Instant,
+}
+
+impl<T: Drop> EvictingBuffer<T> {
+    /// A buffer with so many slots, which holds no value longer than the age and grows up to the
+    /// greatest number of slots. With no slots or no age it stores nothing.
+    pub fn new(
+        alloc: Global,
+        initial_size: usize,
+        max_age: Duration,
+        max_size: usize,
+    ) -> Result<Self, AllocError>
+        ensures { IfOk result (λ b. StandsFor b (record { initial = initial_size; age = max_age; greatest = max_size; events = [] })) }
+    {
+        let ring = blank(alloc, initial_size)?;
+        Ok(EvictingBuffer {
+            alloc,
+            ring,
+            age: max_age,
+            size: initial_size.max(max_size),
+            last: None,
+            mark: None,
+            timeout: Instant::from_nanos(0),
+        })
+    }
+
+    /// Grows until no two entries and the position share a slot, or to the greatest size. Without
+    /// memory nothing changes.
+    fn grow(&mut self, position: u64) -> Result<(), AllocError>
+        requires { length self.old.ring.items < self.old.size }
+        ensures ok { OnOk result (Grows self.old self.new position) }
+        ensures err { OnErr result (self.new ≡ self.old) }
+    {
+        let size = grown_size(self.alloc, &self.ring, position, self.size)?;
+        let ring = blank(self.alloc, size)?;
+        let old = mem::replace(&mut self.ring, ring);
+        move_all(&mut self.ring, old);
+        Ok(())
+    }
+
+    fn make_room(&mut self, position: u64) -> Result<(), AllocError>
+        requires { 0 < length self.old.ring.items }
+        ensures stands { OnOk result ((past : Past T) → StandsFor self.old past → StandsFor self.new past) }
+        ensures ready { OnOk result ((past : Past T) → StandsFor self.old past → IsReady self.new position) }
+        ensures roomy { OnOk result (0 < length self.new.ring.items) }
+        ensures timeout { OnOk result (self.new.timeout ≡ self.old.timeout) }
+        ensures err { OnErr result (self.new ≡ self.old) }
+    {
+        if self.ring.len() < self.size && is_occupied(&self.ring, position) {
+            self.grow(position)?;
+        }
+        Ok(())
+    }
+
+    fn write(&mut self, entry: Entry<T>)
+        requires { 0 < length self.old.ring.items }
+        ensures { Places self.old self.new entry }
+    {
+        self.last = Some(entry.position);
+        self.mark = Some(self.mark.unwrap_or(entry.position));
+        put(&mut self.ring, entry);
+    }
+
+    fn place(&mut self, entry: Entry<T>)
+        requires roomy { 0 < length self.old.ring.items }
+        requires timely { self.old.timeout ≤ entry.moment }
+        ensures { (past : Past T) → StandsFor self.old past → IsReady self.old entry.position → IsPushed past entry.position entry.moment entry.value self.new }
+    {
+        if is_free(&self.ring, entry.position) {
+            self.write(entry);
+        }
+    }
+
+    fn takes(&self, position: u64, timestamp: Instant) -> bool
+        ensures exact { result ≡ takes_push self.now position timestamp }
+        ensures roomy { OnTrue result (0 < length self.now.ring.items) }
+        ensures timely { OnTrue result (self.now.timeout ≤ timestamp) }
+    {
+        if self.ring.is_empty() || self.age.as_nanos() == 0 || timestamp < self.timeout {
+            return false;
+        }
+        match self.mark {
+            Some(mark) => mark <= position,
+            None => true,
+        }
+    }
+
+    /// Stores a value under its position. A buffer without slots or without an age, a moment before
+    /// the last eviction and a position below the mark are passed over: the mark is the first
+    /// position pushed, then one above the greatest that was dropped for its age. Without memory
+    /// nothing changes.
+    pub fn push(&mut self, position: u64, timestamp: Instant, value: T) -> Result<(), AllocError>
+        ensures ok { OnOk result ((past : Past T) → StandsFor self.old past → IsPushed past position timestamp value self.new) }
+        ensures err { OnErr result (self.new ≡ self.old) }
+    {
+        if !self.takes(position, timestamp) {
+            return Ok(());
+        }
+        self.make_room(position)?;
+        self.place(Entry {
+            position,
+            moment: timestamp,
+            value,
+        });
+        Ok(())
+    }
+
+    fn drop_old(&mut self, now: Instant)
+        ensures { Evicts self.old self.new now }
+    {
+        let first = first_young(&self.ring, now, self.age);
+        let dropped = last_below(&self.ring, first);
+        drop_below(&mut self.ring, first);
+        self.mark = raised_mark(self.mark, dropped);
+        self.timeout = now;
+    }
+
+    /// Drops the values that are older than the age, from the lowest position on, up to the first
+    /// that is not. A moment before the last such call is passed over.
+    pub fn maybe_evict(&mut self, now: Instant)
+        ensures { (past : Past T) → StandsFor self.old past → StandsFor self.new (with_event past (evicted now)) }
+    {
+        if now.as_nanos() < self.timeout.as_nanos() {
+            return;
+        }
+        self.drop_old(now);
+    }
+
+    /// Drops all values, and makes the buffer as new, with the slots that it has.
+    pub fn clear(&mut self)
+        ensures { (past : Past T) → StandsFor self.old past → StandsFor self.new (emptied past) }
+    {
+        drop_below(&mut self.ring, None);
+        self.last = None;
+        self.mark = None;
+        self.timeout = Instant::from_nanos(0);
+    }
+
+    /// The value of a position, where it is held.
+    #[tactic(auto, unfolding(crate::specs::EvictingBuffer::value_at))]
+    pub fn get(&self, position: u64) -> Option<&T>
+        ensures value { option_copied result ≡ value_at self.now position }
+        ensures held { (past : Past T) → StandsFor self.now past → HeldAs past position (option_copied result) }
+    {
+        match entry_at(&self.ring, position) {
+            Some(entry) => Some(&entry.value),
+            None => None,
+        }
+    }
+
+    /// The value of a position, where it is held, to be changed in its place.
+    #[tactic(auto, unfolding(crate::specs::EvictingBuffer::value_at, crate::specs::EvictingBuffer::with_value))]
+    pub fn get_mut(&mut self, position: u64) -> Option<&mut T>
+        ensures* writes_back { sem 𝓛 (LendsValue T.row self.entry position result) }
+        ensures value { option_copied_mut result ≡ value_at self.old position }
+        ensures stands { OnSome result ((past : Past T) (w : T) → StandsFor self.old past → StandsFor (with_value self.old position w) (revalued past position w)) }
+    {
+        let index = place_of(&self.ring, position)?;
+        let entry = self.ring[index].as_mut()?;
+        Some(&mut entry.value)
+    }
+
+    /// Whether the value of a position is held.
+    #[tactic(auto, unfolding(crate::specs::EvictingBuffer::value_at))]
+    pub fn contains(&self, position: u64) -> bool
+        ensures { result ≡ is_some (value_at self.now position) }
+    {
+        entry_at(&self.ring, position).is_some()
+    }
+
+    /// The position that was stored last.
+    pub fn last_position(&self) -> Option<u64>
+        ensures { (past : Past T) → StandsFor self.now past → result ≡ last_position past.events }
+    {
+        self.last
+    }
+
+    /// The value of the position that was stored last, where it is held.
+    pub fn last(&self) -> Option<&T>
+        ensures { (past : Past T) → StandsFor self.now past → option_copied result ≡ option_and_then (value_at self.now) (last_position past.events) }
+    {
+        match self.last {
+            Some(position) => self.get(position),
+            None => None,
+        }
+    }
+}
+
+fn raised_mark(mark: Option<u64>, dropped: Option<u64>) -> Option<u64>
+    ensures { (m : ℕ) → result ≡ Some m → (mark ≡ Some m) ⊎ ((p : ℕ) × (dropped ≡ Some p) × (m ≤ p + 1)) }
+{
+    let Some(dropped) = dropped else {
+        return mark;
+    };
+    let next = dropped.saturating_add(1);
+    match mark {
+        Some(mark) if next <= mark => Some(mark),
+        _ => Some(next),
+    }
+}
+
+#[cfg(test)]
+mod tests {
+    use super::*;
+    use std::test::Fail;
+
+    fn second(count: u64) -> Instant
+        requires { count < 100 }
+    {
+        Instant::from_nanos(count * 1_000_000_000)
+    }
+
+    // It grows until each has a slot of its own.
+    #[test]
+    fn grows(rt: HostRuntime) -> Result<(), Fail> {
+        let mut buffer = EvictingBuffer::new(
+            rt.alloc(),
+            2,
+            Duration::from_nanos(10_000_000_000),
+            10,
+        )?;
+        buffer.push(2, second(0), 'A')?;
+        buffer.push(3, second(1), 'B')?;
+        buffer.push(4, second(2), 'C')?;
+        assert_eq!(rt; buffer.get(2).copied(), Some('A'));
+        assert_eq!(rt; buffer.get(3).copied(), Some('B'));
+        assert_eq!(rt; buffer.get(4).copied(), Some('C'));
+        assert_eq!(rt; buffer.last_position(), Some(4));
+        assert_eq!(rt; buffer.last().copied(), Some('C'));
+        buffer.clear();
+        assert_eq!(rt; buffer.last_position(), None);
+        assert!(rt; !buffer.contains(4));
+        Ok(())
+    }
+
+    // What is older than ten seconds goes.
+    #[test]
+    fn ages_out(rt: HostRuntime) -> Result<(), Fail> {
+        let mut buffer = EvictingBuffer::new(
+            rt.alloc(),
+            4,
+            Duration::from_nanos(10_000_000_000),
+            10,
+        )?;
+        buffer.push(5, second(0), 'A')?;
+        buffer.push(7, second(2), 'C')?;
+        buffer.push(8, second(3), 'D')?;
+        buffer.maybe_evict(second(13));
+        assert!(rt; !buffer.contains(5));
+        assert!(rt; !buffer.contains(7));
+        assert_eq!(rt; buffer.get(8).copied(), Some('D'));
+        buffer.push(7, second(14), 'E')?;
+        assert!(rt; !buffer.contains(7));
+        buffer.push(9, second(12), 'F')?;
+        assert!(rt; !buffer.contains(9));
+        Ok(())
+    }
+
+    // At the greatest size the greater position stays.
+    #[test]
+    fn full(rt: HostRuntime) -> Result<(), Fail> {
+        let mut buffer = EvictingBuffer::new(
+            rt.alloc(),
+            1,
+            Duration::from_nanos(10_000_000_000),
+            2,
+        )?;
+        buffer.push(1, second(0), 'A')?;
+        buffer.push(2, second(0), 'B')?;
+        buffer.push(3, second(0), 'C')?;
+        assert!(rt; !buffer.contains(1));
+        assert_eq!(rt; buffer.get(2).copied(), Some('B'));
+        assert_eq!(rt; buffer.get(3).copied(), Some('C'));
+        buffer.push(1, second(0), 'D')?;
+        assert_eq!(rt; buffer.get(3).copied(), Some('C'));
+        Ok(())
+    }
+}

@@ -1,0 +1,112 @@
+ghost use Rattle.std.specs.Prelude.{◌<◌};
+
+use crate::{Cached, EvictingBuffer, RtxCache};
+use media_base::{Duration, Instant};
+use rtp_base::SeqNo;
+use std::test::Fail;
+
+fn millis(count: u64) -> Instant
+    requires { count < 1000000 }
+{
+    Instant::from_nanos(count * 1_000_000)
+}
+
+#[derive(Debug, Drop)]
+struct Packet {
+    number: u64,
+    size: usize,
+}
+
+impl Cached for Packet {
+    ghost number = { λ p. p.number };
+
+    ghost size = { λ p. p.size };
+
+    fn seq_no(&self) -> SeqNo {
+        SeqNo::from(self.number)
+    }
+
+    fn payload_len(&self) -> usize {
+        self.size
+    }
+}
+
+fn number_of(packet: Option<&Packet>) -> Option<u64> {
+    match packet {
+        Some(packet) => Some(packet.number),
+        None => None,
+    }
+}
+
+#[test]
+fn cache_of_one(rt: HostRuntime) -> Result<(), Fail> {
+    let mut cache = RtxCache::new(rt.alloc(), 1, Duration::from_secs(3))?;
+    cache.cache_sent_packet(Packet { number: 1, size: 8 }, millis(1))?;
+    assert_eq!(rt;
+        number_of(cache.get_cached_packet_smaller_than(25)),
+        Some(1)
+    );
+    assert_eq!(rt; number_of(cache.get_cached_packet_smaller_than(24)), None);
+    Ok(())
+}
+
+// The greatest class below the size, of which the packet cached last is held.
+#[test]
+fn by_size(rt: HostRuntime) -> Result<(), Fail> {
+    let mut cache = RtxCache::new(rt.alloc(), 20, Duration::from_secs(3))?;
+    for (number, size) in [(1u64, 30usize), (2, 60), (3, 900), (4, 49), (5, 1_999)] {
+        cache.cache_sent_packet(
+            Packet {
+                number,
+                size: size % 2_000,
+            },
+            millis(number),
+        )?;
+    }
+    for (size, number) in [
+        (2_000usize, Some(5u64)),
+        (1_975, Some(3)),
+        (900, Some(2)),
+        (74, Some(4)),
+        (49, None),
+    ] {
+        assert_eq!(rt;
+            number_of(cache.get_cached_packet_smaller_than(size.min(2_000))),
+            number,
+            "{size}"
+        );
+    }
+    assert_eq!(rt; cache.last_cached_seq_no(), Some(SeqNo::from(5)));
+    assert_eq!(rt;
+        number_of(cache.get_cached_packet_by_seq_no(SeqNo::from(4))),
+        Some(4)
+    );
+    cache.cache_sent_packet(Packet { number: 6, size: 1 }, millis(4_000))?;
+    assert_eq!(rt;
+        number_of(cache.get_cached_packet_smaller_than(2_000)),
+        Some(6)
+    );
+    assert_eq!(rt; number_of(cache.last_packet()), Some(6));
+    cache.clear();
+    assert_eq!(rt; number_of(cache.last_packet()), None);
+    Ok(())
+}
+
+// Each call that takes memory answers with ample memory.
+#[test]
+fn surface_ample(rt: HostRuntime) -> Result<(), Fail> {
+    let mut buffer = EvictingBuffer::new(rt.alloc(), 1, Duration::from_secs(1), 1)?;
+    assert!(rt; buffer.push(1, millis(0), 'A').is_ok());
+    if let Some(value) = buffer.get_mut(1) {
+        *value = 'B';
+    }
+    assert_eq!(rt; buffer.get(1).copied(), Some('B'));
+    let mut cache = RtxCache::new(rt.alloc(), 2, Duration::from_secs(1))?;
+    assert!(rt;
+        cache
+            .cache_sent_packet(Packet { number: 9, size: 1 }, millis(0))
+            .is_ok()
+    );
+    assert_eq!(rt; cache.last_cached_seq_no(), Some(SeqNo::from(9)));
+    Ok(())
+}
