@@ -27,6 +27,9 @@ pub trait Sink {
 }
 
 /// Writes all the bytes, or some at the front of them.
+///
+/// # Errors
+/// `Failed` only where the sink failed.
 pub fn write_all<K: Sink>(sink: &mut K, bytes: &[u8]) -> Result<(), Failed>
     ensures all { OnOk result (Appends (K.written sink.old) (K.written sink.new) bytes.now) }
     ensures front { WritesFront (K.written sink.old) (K.written sink.new) bytes.now }

@@ -58,6 +58,9 @@ pub trait Source {
 }
 
 /// Reads to the end of input, at most `limit` bytes.
+///
+/// # Errors
+/// `TooLong` where there are more than `limit` bytes; `Failed` only where the source failed; `Memory`.
 pub fn read_all<S: Source>(
     alloc: Global,
     source: &mut S,

@@ -74,7 +74,9 @@ impl From<StepFault> for StepError {
 /// Why a run ended before its last step.
 #[derive(Clone, Copy, Debug, PartialEq, Eq)]
 pub enum RunError {
+    /// Memory ran out.
     Memory,
+    /// The first rule that the setup breaks.
     Setup(SetupFault),
     /// The step of this number, counted from 1, broke a rule.
     Step(u64, StepFault),
@@ -83,6 +85,8 @@ pub enum RunError {
 /// Why a run ended before its last step, and the transcript of the steps that were played.
 #[derive(Debug, Drop)]
 pub struct RunFault {
+    /// Why it ended.
     pub cause: RunError,
+    /// What the steps that were played brought.
     pub sofar: Transcript,
 }

@@ -33,6 +33,7 @@ pub enum End {
 pub struct Report {
     /// The exit status of the end.
     pub status: u8,
+    /// How the call ended.
     pub end: End,
     /// There exactly where the end is `Done` or `Step`.
     pub transcript: Option<Transcript>,

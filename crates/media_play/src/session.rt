@@ -31,9 +31,13 @@ const MAX_DATAGRAM_LEN: usize = 2000;
 /// What a datagram opened to, and the packet that it gives the application.
 #[derive(Drop)]
 pub struct Received {
+    /// The SSRC of the datagram's header.
     pub ssrc: Ssrc,
+    /// Its extended sequence number.
     pub number: SeqNo,
+    /// The datagram as it was before it was sealed.
     pub plain: Bytes,
+    /// None on SSRC 0, under which probes are sent.
     pub packet: Option<Packet>,
 }
 

@@ -26,7 +26,9 @@ impl Side {
 /// What a datagram carries.
 #[derive(Clone, Copy, Debug, PartialEq, Eq, PartialOrd, Ord, Hash)]
 pub enum Kind {
+    /// A packet of media (RFC 3550 section 5).
     Rtp,
+    /// Reports and feedback (RFC 3550 section 6).
     Rtcp,
 }
 
@@ -37,12 +39,15 @@ pub struct Write {
     pub ssrc: Ssrc,
     /// The extended sequence number.
     pub number: SeqNo,
+    /// What the payload carries.
     pub pt: Pt,
     /// In units of the stream's clock rate.
     pub rtp_time: u32,
+    /// The marker bit of the header.
     pub marker: bool,
     /// Whether it may be sent again when it is asked for.
     pub nackable: bool,
+    /// At most 1,400 bytes in a run.
     pub payload: Bytes,
 }
 
@@ -53,9 +58,11 @@ pub struct Packet {
     pub ssrc: Ssrc,
     /// The extended sequence number.
     pub number: SeqNo,
+    /// What the payload carries.
     pub pt: Pt,
     /// In units of the stream's clock rate.
     pub rtp_time: u32,
+    /// The marker bit of the header.
     pub marker: bool,
     /// The contributing sources.
     pub csrc: Listed<u32>,

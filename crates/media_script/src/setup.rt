@@ -42,7 +42,9 @@ pub enum Codec {
 /// A payload type that both sides know.
 #[derive(Clone, Copy, Debug, PartialEq, Eq)]
 pub struct PayloadType {
+    /// Its number, at most 127 in a run.
     pub pt: Pt,
+    /// What it carries.
     pub codec: Codec,
     /// Units of RTP time in a second.
     pub rate: u32,
@@ -51,7 +53,9 @@ pub struct PayloadType {
 /// What a media line carries.
 #[derive(Clone, Copy, Debug, PartialEq, Eq)]
 pub enum MediaKind {
+    /// Sound.
     Audio,
+    /// Pictures.
     Video,
 }
 
@@ -73,6 +77,7 @@ pub struct Stream {
 pub struct Media {
     /// Its name, in ASCII letters and digits.
     pub mid: Mid,
+    /// Sound or pictures.
     pub kind: MediaKind,
     /// The canonical name of its sources (RFC 3550 section 6.5.1).
     pub cname: Bytes,
@@ -83,10 +88,15 @@ pub struct Media {
 /// What both sides know before a run begins.
 #[derive(Debug, PartialEq, Eq, Drop)]
 pub struct Setup {
+    /// The cipher of both sides.
     pub cipher: CipherName,
+    /// The profile of both sides (RFC 5764 section 4.1.2, RFC 7714 section 14.2).
     pub profile: SrtpProfile,
+    /// The keying material of both sides.
     pub key: Key,
+    /// The payload types, in the order of their lines.
     pub types: Listed<PayloadType>,
+    /// The media sections, in the order of their lines.
     pub media: Listed<Media>,
 }
 

@@ -20,6 +20,7 @@ impl Model for Transcript {
 }
 
 impl Transcript {
+    /// A transcript without entries.
     pub fn new(alloc: Global) -> Self
         ensures { result ≡ [] }
     {

@@ -8,6 +8,7 @@ use std::marker::Model;
 /// The Unix time, in seconds, of the moment that all others are counted from.
 #[derive(Clone, Copy, Debug, PartialEq, Eq)]
 pub struct Beginning {
+    /// Seconds from the Unix epoch.
     pub unix_secs: u64,
 }
 

@@ -14,14 +14,18 @@ use std::alloc::{AllocError, Global};
 /// Blocks of reports of one sender (RFC 3611 section 2).
 #[derive(Debug, PartialEq, Eq, Drop)]
 pub struct ExtendedReport {
+    /// Who sends the report.
     pub ssrc: Ssrc,
+    /// Of those read the first 31.
     pub blocks: Listed<ReportBlock>,
 }
 
 /// A block of an extended report.
 #[derive(Debug, PartialEq, Eq, Drop)]
 pub enum ReportBlock {
+    /// The moment of a receiver.
     Rrtr(Rrtr),
+    /// How long ago the moments of receivers came in.
     Dlrr(Dlrr),
 }
 
@@ -35,6 +39,7 @@ pub struct Rrtr {
 /// How long ago the moments of receivers came in (RFC 3611 section 4.5).
 #[derive(Debug, PartialEq, Eq, Drop)]
 pub struct Dlrr {
+    /// One for each receiver.
     pub items: Listed<DlrrItem>,
 }
 

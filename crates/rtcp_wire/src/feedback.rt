@@ -12,7 +12,9 @@ use std::alloc::{AllocError, Global};
 /// Feedback of an application (RFC 4585 section 6.4), whose words are its own.
 #[derive(Debug, PartialEq, Eq, Drop)]
 pub struct AppSpecificFeedback {
+    /// Who sends the feedback.
     pub sender_ssrc: Ssrc,
+    /// The source that it is about.
     pub media_ssrc: Ssrc,
     /// Whole words of 4 bytes.
     pub payload: Bytes,

@@ -59,6 +59,7 @@ impl<T> ReportList<T> {
         self.all.len()
     }
 
+    /// Whether it has no values.
     pub fn is_empty(&self) -> bool
         ensures { result ≡ (length self.now == 0) }
     {
@@ -73,6 +74,7 @@ impl<T> ReportList<T> {
         self.all.is_full()
     }
 
+    /// The values in order, at most 31.
     pub fn as_slice(&self) -> &[T]
         ensures value { result.now ≡ self.now }
         ensures fits { length result.now ≤ 31 }

@@ -13,9 +13,11 @@ use rtp_wire::{SeqNo, Ssrc, widen16};
 /// Packets of a source that are missing (RFC 4585 section 6.2.1).
 #[derive(Debug, PartialEq, Eq, Drop)]
 pub struct Nack {
+    /// Who misses them.
     pub sender_ssrc: Ssrc,
     /// The source whose packets are missing.
     pub ssrc: Ssrc,
+    /// Which are missing.
     pub reports: ReportList<NackEntry>,
 }
 

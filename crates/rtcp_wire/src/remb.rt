@@ -14,9 +14,11 @@ const NAME: u32 = 0x5245_4d42;
 /// The greatest rate that the receiver of some sources asks for, over all of them.
 #[derive(Debug, PartialEq, Eq, Drop)]
 pub struct Remb {
+    /// Who asks for it.
     pub sender_ssrc: Ssrc,
     /// On the wire the upper 18 bits of it are told, rounded down.
     pub bitrate: Bitrate,
+    /// The sources, at most 255.
     pub ssrcs: Listed<Ssrc>,
 }
 

@@ -91,7 +91,9 @@ fn signed(bits: u32) -> i32
 /// How the sender receives others, where it sends nothing itself (RFC 3550 section 6.4.2).
 #[derive(Debug, PartialEq, Eq, Drop)]
 pub struct ReceiverReport {
+    /// Who sends the report.
     pub sender_ssrc: Ssrc,
+    /// How each other source is received.
     pub reports: ReportList<ReceptionReport>,
 }
 
@@ -122,6 +124,7 @@ pub(crate) fn write_receiver_report(report: &ReceiverReport, out: &mut [u8]) -> 
 /// What a sender says of itself (RFC 3550 section 6.4.1).
 #[derive(Clone, Copy, Debug, PartialEq, Eq)]
 pub struct SenderInfo {
+    /// The sender.
     pub ssrc: Ssrc,
     /// When the report was sent, held in nanoseconds; on the wire 64 bits of NTP.
     pub ntp_time: SystemTime,
@@ -136,7 +139,9 @@ pub struct SenderInfo {
 /// What a sender sent, and how it receives others (RFC 3550 section 6.4.1).
 #[derive(Debug, PartialEq, Eq, Drop)]
 pub struct SenderReport {
+    /// What it sent.
     pub sender_info: SenderInfo,
+    /// How each other source is received.
     pub reports: ReportList<ReceptionReport>,
 }
 

@@ -11,6 +11,7 @@ use rtp_wire::Ssrc;
 /// A picture was lost (RFC 4585 section 6.3.1).
 #[derive(Clone, Copy, Debug, PartialEq, Eq)]
 pub struct Pli {
+    /// Who lost it.
     pub sender_ssrc: Ssrc,
     /// The source of the picture.
     pub ssrc: Ssrc,
@@ -40,13 +41,16 @@ pub(crate) fn write_pli(pli: &Pli, out: &mut [u8]) -> Option<usize>
 /// Pictures that stand alone are asked for (RFC 5104 section 4.3.1).
 #[derive(Debug, PartialEq, Eq, Drop)]
 pub struct Fir {
+    /// Who asks for them.
     pub sender_ssrc: Ssrc,
+    /// The sources that are asked.
     pub reports: ReportList<FirEntry>,
 }
 
 /// A source that is asked for a picture.
 #[derive(Clone, Copy, Debug, Default, PartialEq, Eq)]
 pub struct FirEntry {
+    /// The source of the picture.
     pub ssrc: Ssrc,
     /// The number of the request, modulo 256. A repeated request has the number of the first.
     pub seq_no: u8,

@@ -43,6 +43,7 @@ impl Put for Ssrc {
 /// Sources that leave (RFC 3550 section 6.6). A reason is not kept.
 #[derive(Debug, PartialEq, Eq, Drop)]
 pub struct Goodbye {
+    /// The sources.
     pub reports: ReportList<Ssrc>,
 }
 
@@ -126,6 +127,7 @@ impl From<SdesType> for u8 {
 /// An item of a description (RFC 3550 section 6.5).
 #[derive(Debug, PartialEq, Eq, Drop)]
 pub struct SdesItem {
+    /// What the text tells.
     pub kind: SdesType,
     /// At most 255 bytes, of UTF-8 where the sender keeps to the standard.
     pub text: Bytes,
@@ -134,6 +136,7 @@ pub struct SdesItem {
 /// What a source tells of itself (RFC 3550 section 6.5).
 #[derive(Debug, PartialEq, Eq, Drop)]
 pub struct Sdes {
+    /// The source.
     pub ssrc: Ssrc,
     /// Of those read the first 31.
     pub values: Listed<SdesItem>,
@@ -142,6 +145,7 @@ pub struct Sdes {
 /// Sources that describe themselves (RFC 3550 section 6.5), at most 31.
 #[derive(Debug, PartialEq, Eq, Drop)]
 pub struct Descriptions {
+    /// What each tells.
     pub reports: Listed<Sdes>,
 }
 

@@ -76,7 +76,9 @@ impl From<TwccClusterId> for u64 {
 /// The number of a packet on its transport, and the cluster of probes that it belongs to, if it is a probe.
 #[derive(Clone, Copy, Debug, PartialEq, Eq, PartialOrd, Ord, Hash)]
 pub struct TwccPacketId {
+    /// Its number, which counts all packets of the transport.
     pub seq: SeqNo,
+    /// The cluster that it belongs to, None where it is no probe.
     pub cluster: Option<TwccClusterId>,
 }
 
@@ -117,19 +119,25 @@ impl MidRid {
 /// In which direction media goes (RFC 8866 section 6.7).
 #[derive(Clone, Copy, Debug, PartialEq, Eq, PartialOrd, Ord, Hash)]
 pub enum Direction {
+    /// Media is sent, and none received.
     SendOnly,
+    /// Media is received, and none sent.
     RecvOnly,
+    /// Media is sent and received.
     SendRecv,
+    /// Media is neither sent nor received.
     Inactive,
 }
 
 impl Direction {
+    /// Whether media is sent (RFC 8866 section 6.7).
     pub fn is_sending(self) -> bool
         ensures { result ≡ sends self }
     {
         matches!(self, Direction::SendOnly | Direction::SendRecv)
     }
 
+    /// Whether media is received (RFC 8866 section 6.7).
     pub fn is_receiving(self) -> bool
         ensures { result ≡ receives self }
     {

@@ -24,10 +24,13 @@ impl Frequency {
     /// Ticks of 10 ms.
     pub const HUNDREDTHS: Frequency = Frequency(100);
 
+    /// Ticks of 1 ms.
     pub const MILLIS: Frequency = Frequency(1_000);
 
+    /// Ticks of 1 us.
     pub const MICROS: Frequency = Frequency(1_000_000);
 
+    /// Ticks of 1 ns.
     pub const NANOS: Frequency = Frequency(1_000_000_000);
     /// The clock of G.711 (RFC 3551 section 4.5).
     pub const EIGHT_KHZ: Frequency = Frequency(8_000);
@@ -59,7 +62,9 @@ impl Frequency {
 /// A time in ticks of a clock: `numer` ticks of 1 / `frequency` seconds. Two times are equal where both fields are.
 #[derive(Clone, Copy, Debug, PartialEq, Eq, Hash)]
 pub struct MediaTime {
+    /// How many ticks.
     pub numer: u64,
+    /// How many ticks are a second.
     pub frequency: Frequency,
 }
 

@@ -16,11 +16,15 @@ use rtp_base::{Pt, SeqNo, Ssrc, widen16 as wide16};
 pub struct RtpHeader {
     /// Whether the payload ends in padding.
     pub has_padding: bool,
+    /// What it marks is for the payload's format to say.
     pub marker: bool,
+    /// What the payload carries, 7 bits on the wire.
     pub payload_type: Pt,
+    /// The low 16 bits of the packet's number.
     pub sequence_number: u16,
     /// The RTP time, in ticks of the payload's clock.
     pub timestamp: u32,
+    /// The source of the packet.
     pub ssrc: Ssrc,
     /// How many of the contributing sources there are, at most 15.
     pub csrc_count: usize,

@@ -7,9 +7,13 @@ use rtp_base::{AbsCaptureTime, AbsSendTime, Frequency, MediaTime, Mid, Rid};
 /// How the picture has to be turned to be shown upright, in degrees clockwise.
 #[derive(Clone, Copy, Debug, PartialEq, Eq)]
 pub enum VideoOrientation {
+    /// It is upright.
     Deg0,
+    /// By 90 degrees.
     Deg90,
+    /// By 180 degrees.
     Deg180,
+    /// By 270 degrees.
     Deg270,
 }
 

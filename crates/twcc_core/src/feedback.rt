@@ -15,6 +15,7 @@ use std::alloc::{AllocError, Global};
 /// Transport-wide feedback: what a receiver says of packets in a row (section 3.1).
 #[derive(Debug, PartialEq, Eq, Drop)]
 pub struct Twcc {
+    /// Who sends the feedback.
     pub sender_ssrc: Ssrc,
     /// The source that the feedback is about.
     pub ssrc: Ssrc,

@@ -13,8 +13,11 @@ use std::marker::Model;
 /// A packet sent, and what the last report of it said.
 #[derive(Clone, Copy, Debug, PartialEq, Eq)]
 pub struct TwccSendRecord {
+    /// The packet's number on the transport.
     pub id: TwccPacketId,
+    /// How long it is.
     pub size: DataSize,
+    /// When it was sent, by the sender's clock.
     pub sent: Instant,
     /// When the last report that tells it was taken in, None before any.
     pub reported: Option<Instant>,
