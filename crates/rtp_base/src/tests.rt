@@ -72,7 +72,7 @@ fn send_times_are_told_in_24_bits(rt: HostRuntime) {
     }
 }
 
-// No call of this crate takes memory: each is made once, and its answer compared.
+// No call of this crate takes memory: what the tests above do not call is called here.
 #[test]
 fn surface_ample(rt: HostRuntime) -> Result<(), Fail> {
     let mid = Mid::from_slice(b"v").ok_or("a name")?;
@@ -94,5 +94,15 @@ fn surface_ample(rt: HostRuntime) -> Result<(), Fail> {
     let long = MediaTime::new(u64::MAX, Frequency::SECONDS).rebase(Frequency::NANOS);
     assert_eq!(rt; long.numer(), u64::MAX);
     assert_eq!(rt; Frequency::new(0), None);
+    assert_eq!(rt; Frequency::MILLIS.get(), 1_000);
+    assert!(rt; Ssrc::from(0).is_probe() && !Ssrc::from(1).is_probe());
+    assert_eq!(rt; u8::from(Pt::from(96)), 96);
+    let mut number = SeqNo::from(65_535);
+    assert_eq!(rt; number.inc(), SeqNo::from(65_535));
+    assert_eq!(rt; number.roc(), 1);
+    assert_eq!(rt; AbsSendTime::from_units(0x100_0001).units(), 1);
+    assert_eq!(rt; AbsCaptureTime::from_ntp_64(7).as_ntp_64(), 7);
+    assert_eq!(rt; mid.as_slice(), b"v".as_slice());
+    assert_eq!(rt; rid.as_slice(), b"q".as_slice());
     Ok(())
 }

@@ -383,7 +383,8 @@ fn values_are_written_as_their_places_hold_them(rt: HostRuntime) {
     }
 }
 
-// No call of this crate takes memory: each is made once, and its answer compared.
+// No call of this crate takes memory, and the tests above make each of them but the laws: here with the
+// standard map.
 #[test]
 fn surface_ample(rt: HostRuntime) -> Result<(), Fail> {
     let exts = ExtensionMap::standard();
