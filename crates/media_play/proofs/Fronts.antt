@@ -3,16 +3,16 @@ use Rattle.std.proofs.Common.{◌≡◌, ◌⊎◌, inl, inr, ℕ, List, [], ◌
 use Rattle.std.specs.Prelude.{◌==◌}
 use Rattle.std.proofs.lemmas.List.{append-nil}
 use Rattle.std.proofs.lemmas.List.Concat.{flat_map-append}
-use Rattle.media_script.specs.declared.entry.Side.{Side}
-use Rattle.media_script.specs.declared.entry.Kind.{Kind}
-use Rattle.media_script.specs.declared.entry.Kind.TheVariants.{Rtp}
-use Rattle.media_script.specs.declared.entry.Packet.{Packet}
-use Rattle.media_script.specs.declared.entry.Entry.{Entry}
-use Rattle.media_script.specs.declared.entry.Entry.TheVariants.{Wrote, Ticked, Got, Sealed, Opened, Yielded}
-use Rattle.media_script.specs.declared.step.Step.{Step}
-use Rattle.media_script.specs.declared.setup.Setup.{Setup}
+use Rattle.media_model.specs.declared.entry.Side.{Side}
+use Rattle.media_model.specs.declared.entry.Kind.{Kind}
+use Rattle.media_model.specs.declared.entry.Kind.TheVariants.{Rtp}
+use Rattle.media_model.specs.declared.entry.Packet.{Packet}
+use Rattle.media_model.specs.declared.entry.Entry.{Entry}
+use Rattle.media_model.specs.declared.entry.Entry.TheVariants.{Wrote, Ticked, Got, Sealed, Opened, Yielded}
+use Rattle.media_model.specs.declared.step.Step.{Step}
+use Rattle.media_model.specs.declared.setup.Setup.{Setup}
 use Rattle.media_play.specs.Listing.{IsIn, NoRepeat, EachFrom}
-use Rattle.media_play.specs.Entries.{nonce_by, nonces, packet_by, packets}
+use Rattle.media_model.specs.Entries.{nonce_by, nonces, packet_by, packets}
 use Rattle.media_play.specs.Opening.{Sealing, Receives, opens, stays, yields, packet_from}
 use Rattle.media_play.specs.Play.{sealed_write, Outcome, wrote, ticked, got, Played, start, turn}
 use Rattle.media_play.specs.SetupFacts.{IsSound}

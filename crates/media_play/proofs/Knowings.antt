@@ -15,21 +15,21 @@ use Rattle.std.proofs.lemmas.List.Sums.{passes_at_first}
 use Rattle.rtp_wire.specs.declared.header.RtpHeader.{RtpHeader}
 use Rattle.repair_core.specs.Fresh.{is_fresh, with_number}
 use Rattle.repair_core.specs.NackRegister.{StandsFor}
-use Rattle.media_script.specs.declared.entry.Side.{Side}
-use Rattle.media_script.specs.declared.entry.Kind.{Kind}
-use Rattle.media_script.specs.declared.entry.Kind.TheVariants.{Rtp}
-use Rattle.media_script.specs.declared.entry.Write.{Write as Writing}
-use Rattle.media_script.specs.declared.entry.Entry.{Entry}
-use Rattle.media_script.specs.declared.entry.Entry.TheVariants.{Wrote, Ticked, Got, Opened}
-use Rattle.media_script.specs.declared.step.Step.{Step}
-use Rattle.media_script.specs.declared.setup.Setup.{Setup}
-use Rattle.media_script.specs.Sides.{same_side, peer_of}
-use Rattle.media_script.specs.Setup.{streams_of, types_of}
+use Rattle.media_model.specs.declared.entry.Side.{Side}
+use Rattle.media_model.specs.declared.entry.Kind.{Kind}
+use Rattle.media_model.specs.declared.entry.Kind.TheVariants.{Rtp}
+use Rattle.media_model.specs.declared.entry.Write.{Write as Writing}
+use Rattle.media_model.specs.declared.entry.Entry.{Entry}
+use Rattle.media_model.specs.declared.entry.Entry.TheVariants.{Wrote, Ticked, Got, Opened}
+use Rattle.media_model.specs.declared.step.Step.{Step}
+use Rattle.media_model.specs.declared.setup.Setup.{Setup}
+use Rattle.media_model.specs.Sides.{same_side, peer_of}
+use Rattle.media_model.specs.Setup.{streams_of, types_of}
 use Rattle.media_play.specs.declared.stream.Outgoing.{Outgoing}
 use Rattle.media_play.specs.declared.stream.Incoming.{Incoming}
 use Rattle.media_play.specs.declared.streams.Streams.{Streams}
 use Rattle.media_play.specs.declared.fault.StepFault.TheVariants.{UnknownStream, UnknownType, NumberTooBig, NumberUsed, PayloadTooLong}
-use Rattle.media_play.specs.Entries.{write_on, writes_on, sealed_number_on, sealed_numbers, is_sealed, queued, taken}
+use Rattle.media_model.specs.Entries.{write_on, writes_on, sealed_number_on, sealed_numbers, is_sealed, queued, taken}
 use Rattle.media_play.specs.Knowing.{SendsAs, TakesAs, ssrc_of, source_of, Knows, emptied, accepted}
 use Rattle.media_play.specs.Listing.{IsIn, NoRepeat}
 use Rattle.media_play.specs.Packets.{WaitingPacket, waiting_of}

@@ -2,19 +2,19 @@
 use Rattle.std.proofs.Common.{◌≡◌, ℕ, ◌<◌, ◌^◌, false, not, List, [], ◌∷◌, ◌++◌, Option, Some, None, Result, Ok, Err, refl, sym, ap, ◌∙◌, subst}
 use Rattle.std.specs.Prelude.{filter}
 use Rattle.std.specs.Result.{IsErrAnd}
-use Rattle.media_script.specs.declared.entry.Side.{Side}
-use Rattle.media_script.specs.declared.entry.Side.TheVariants.{A, B}
-use Rattle.media_script.specs.declared.entry.Write.{Write as Writing}
-use Rattle.media_script.specs.declared.entry.Entry.{Entry}
-use Rattle.media_script.specs.declared.entry.Entry.TheVariants.{Wrote}
-use Rattle.media_script.specs.declared.step.Step.{Step}
-use Rattle.media_script.specs.declared.step.Step.TheVariants.{Write}
-use Rattle.media_script.specs.declared.setup.Setup.{Setup}
-use Rattle.media_script.specs.Sides.{same_side}
+use Rattle.media_model.specs.declared.entry.Side.{Side}
+use Rattle.media_model.specs.declared.entry.Side.TheVariants.{A, B}
+use Rattle.media_model.specs.declared.entry.Write.{Write as Writing}
+use Rattle.media_model.specs.declared.entry.Entry.{Entry}
+use Rattle.media_model.specs.declared.entry.Entry.TheVariants.{Wrote}
+use Rattle.media_model.specs.declared.step.Step.{Step}
+use Rattle.media_model.specs.declared.step.Step.TheVariants.{Write}
+use Rattle.media_model.specs.declared.setup.Setup.{Setup}
+use Rattle.media_model.specs.Sides.{same_side}
 use Rattle.media_play.specs.declared.fault.StepFault.{StepFault}
 use Rattle.media_play.specs.declared.fault.StepError.{StepError}
 use Rattle.media_play.specs.declared.fault.StepError.TheVariants.{Rule}
-use Rattle.media_play.specs.Entries.{write_on, writes_on, sealed_numbers, is_sealed, queued, taken, last_time}
+use Rattle.media_model.specs.Entries.{write_on, writes_on, sealed_numbers, is_sealed, queued, taken, last_time}
 use Rattle.media_play.specs.Errors.{IsBroken}
 use Rattle.media_play.specs.Opening.{Sealing}
 use Rattle.media_play.specs.Play.{Played, turn, wrote}

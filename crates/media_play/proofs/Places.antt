@@ -4,12 +4,12 @@ use Rattle.std.specs.Prelude.{slice_get}
 use Rattle.std.specs.Option.{option_and_then}
 use Rattle.std.proofs.lemmas.List.{append-nil, length-append}
 use Rattle.std.specs.declared.alloc.AllocError.{AllocError}
-use Rattle.media_script.specs.declared.entry.Side.{Side}
-use Rattle.media_script.specs.declared.entry.Side.TheVariants.{A, B}
-use Rattle.media_script.specs.declared.entry.Entry.{Entry}
-use Rattle.media_script.specs.declared.entry.Entry.TheVariants.{Wrote, Ticked, Got, Sealed, Opened, Yielded}
-use Rattle.media_script.specs.Sides.{same_side}
-use Rattle.media_play.specs.Entries.{datagram_by, datagrams}
+use Rattle.media_model.specs.declared.entry.Side.{Side}
+use Rattle.media_model.specs.declared.entry.Side.TheVariants.{A, B}
+use Rattle.media_model.specs.declared.entry.Entry.{Entry}
+use Rattle.media_model.specs.declared.entry.Entry.TheVariants.{Wrote, Ticked, Got, Sealed, Opened, Yielded}
+use Rattle.media_model.specs.Sides.{same_side}
+use Rattle.media_model.specs.Entries.{datagram_by, datagrams}
 use Rattle.media_play.specs.Log.{seals, is_seal, places_from, places, bytes_of, sealed_at}
 
 -- an entry is no seal of the side, or the seal of one datagram

@@ -6,19 +6,19 @@ use Rattle.std.proofs.lemmas.List.{append-nil}
 use Rattle.std.proofs.lemmas.List.Concat.{flat_map-append}
 use Rattle.std.proofs.lemmas.Bool.{and_parts, and_from, eqb-true, eq-eqb}
 use Rattle.rtp_wire.specs.declared.header.RtpHeader.{RtpHeader}
-use Rattle.media_script.specs.declared.entry.Side.{Side}
-use Rattle.media_script.specs.declared.entry.Side.TheVariants.{A, B}
-use Rattle.media_script.specs.declared.entry.Kind.{Kind}
-use Rattle.media_script.specs.declared.entry.Kind.TheVariants.{Rtp, Rtcp}
-use Rattle.media_script.specs.declared.entry.Write.{Write as Writing}
-use Rattle.media_script.specs.declared.entry.Packet.{Packet}
-use Rattle.media_script.specs.declared.entry.Entry.{Entry}
-use Rattle.media_script.specs.declared.entry.Entry.TheVariants.{Wrote, Ticked, Got, Sealed, Opened, Yielded}
-use Rattle.media_script.specs.declared.setup.Setup.{Setup}
-use Rattle.media_script.specs.Sides.{same_side, same_kind, peer_of}
-use Rattle.media_script.specs.Setup.{streams_of}
+use Rattle.media_model.specs.declared.entry.Side.{Side}
+use Rattle.media_model.specs.declared.entry.Side.TheVariants.{A, B}
+use Rattle.media_model.specs.declared.entry.Kind.{Kind}
+use Rattle.media_model.specs.declared.entry.Kind.TheVariants.{Rtp, Rtcp}
+use Rattle.media_model.specs.declared.entry.Write.{Write as Writing}
+use Rattle.media_model.specs.declared.entry.Packet.{Packet}
+use Rattle.media_model.specs.declared.entry.Entry.{Entry}
+use Rattle.media_model.specs.declared.entry.Entry.TheVariants.{Wrote, Ticked, Got, Sealed, Opened, Yielded}
+use Rattle.media_model.specs.declared.setup.Setup.{Setup}
+use Rattle.media_model.specs.Sides.{same_side, same_kind, peer_of}
+use Rattle.media_model.specs.Setup.{streams_of}
 use Rattle.media_play.specs.Listing.{IsIn}
-use Rattle.media_play.specs.Entries.{write_on, writes_on, write_by, writes_by, sealed_number_on, sealed_numbers, is_sealed, queued}
+use Rattle.media_model.specs.Entries.{write_on, writes_on, write_by, writes_by, sealed_number_on, sealed_numbers, is_sealed, queued}
 use Rattle.media_play.specs.Opening.{Sealing, Receives, opens, stays, yields, packet_from}
 use Rattle.media_play.specs.Plain.{plain_of}
 use Rattle.media_play.specs.Play.{sealed_write, to_seal, sealed_at_tick}

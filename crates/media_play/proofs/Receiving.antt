@@ -14,20 +14,20 @@ use Rattle.srtp_core.specs.Contexts.{SrtpState, new_state}
 use Rattle.srtp_core.specs.Keys.{session_keys}
 use Rattle.srtp_core.specs.Laws.{RtpOpensOnce}
 use Rattle.srtp_core.specs.Seals.{sealed_rtp}
-use Rattle.media_script.specs.declared.entry.Side.{Side}
-use Rattle.media_script.specs.declared.entry.Kind.{Kind}
-use Rattle.media_script.specs.declared.entry.Kind.TheVariants.{Rtp}
-use Rattle.media_script.specs.declared.entry.Write.{Write as Writing}
-use Rattle.media_script.specs.declared.entry.Packet.{Packet}
-use Rattle.media_script.specs.declared.entry.Entry.{Entry}
-use Rattle.media_script.specs.declared.entry.Entry.TheVariants.{Got}
-use Rattle.media_script.specs.declared.setup.Setup.{Setup}
-use Rattle.media_script.specs.Setup.{material_of}
-use Rattle.media_script.specs.Sides.{peer_of}
+use Rattle.media_model.specs.declared.entry.Side.{Side}
+use Rattle.media_model.specs.declared.entry.Kind.{Kind}
+use Rattle.media_model.specs.declared.entry.Kind.TheVariants.{Rtp}
+use Rattle.media_model.specs.declared.entry.Write.{Write as Writing}
+use Rattle.media_model.specs.declared.entry.Packet.{Packet}
+use Rattle.media_model.specs.declared.entry.Entry.{Entry}
+use Rattle.media_model.specs.declared.entry.Entry.TheVariants.{Got}
+use Rattle.media_model.specs.declared.setup.Setup.{Setup}
+use Rattle.media_model.specs.Setup.{material_of}
+use Rattle.media_model.specs.Sides.{peer_of}
 use Rattle.media_play.specs.declared.stream.Outgoing.{Outgoing}
 use Rattle.media_play.specs.declared.stream.Incoming.{Incoming}
 use Rattle.media_play.specs.declared.streams.Streams.{Streams}
-use Rattle.media_play.specs.Entries.{write_on, writes_on, sealed_number_on, sealed_numbers, is_sealed, queued, taken_on, taken}
+use Rattle.media_model.specs.Entries.{write_on, writes_on, sealed_number_on, sealed_numbers, is_sealed, queued, taken_on, taken}
 use Rattle.media_play.specs.Knowing.{SendsAs, TakesAs, Knows, accepted}
 use Rattle.media_play.specs.Opening.{Sealing, Opens, Receives, stays, cut, packet_with, yields, is_known, fresh_number}
 use Rattle.media_play.specs.Packets.{waiting_of}

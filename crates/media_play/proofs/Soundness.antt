@@ -4,12 +4,13 @@ use Rattle.std.specs.Prelude.{◌==◌, nat_lt}
 use Rattle.std.specs.List.{flat_map, filter_map, list_any}
 use Rattle.std.proofs.lemmas.Bool.{eqb-true, eq-eqb, ltb-false, false≢true}
 use Rattle.std.proofs.lemmas.List.Elements.{filter_map-append}
-use Rattle.media_script.specs.declared.entry.Side.{Side}
-use Rattle.media_script.specs.declared.setup.Stream.{Stream}
-use Rattle.media_script.specs.declared.setup.Media.{Media}
-use Rattle.media_script.specs.declared.setup.Setup.{Setup}
-use Rattle.media_script.specs.Setup.{material_of, material_len, streams_of, streams_in, main_in, types_of}
-use Rattle.media_script.specs.Sides.{same_side}
+use Rattle.media_model.specs.declared.entry.Side.{Side}
+use Rattle.media_model.specs.declared.setup.Stream.{Stream}
+use Rattle.media_model.specs.declared.setup.Media.{Media}
+use Rattle.media_model.specs.declared.setup.Setup.{Setup}
+use Rattle.srtp_core.specs.Keys.{material_len}
+use Rattle.media_model.specs.Setup.{material_of, streams_of, streams_in, main_in, types_of}
+use Rattle.media_model.specs.Sides.{same_side}
 use Rattle.media_play.specs.declared.fault.SetupFault.{SetupFault}
 use Rattle.media_play.specs.declared.fault.SetupFault.TheVariants.{KeyLength, TypeTwice, SsrcZero, SsrcTwice}
 use Rattle.media_play.specs.Listing.{IsIn, NoRepeat}

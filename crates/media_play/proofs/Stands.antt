@@ -5,19 +5,19 @@ use Rattle.std.specs.List.{list_any}
 use Rattle.std.proofs.lemmas.List.{append-nil, map-append}
 use Rattle.std.proofs.lemmas.List.Concat.{flat_map-append}
 use Rattle.std.proofs.lemmas.Bool.{and_parts, eqb-true, eq-eqb, false≢true, not-false, leb-false, ltb-false}
-use Rattle.media_script.specs.declared.entry.Side.{Side}
-use Rattle.media_script.specs.declared.entry.Kind.{Kind}
-use Rattle.media_script.specs.declared.entry.Write.{Write as Writing}
-use Rattle.media_script.specs.declared.entry.Entry.{Entry}
-use Rattle.media_script.specs.declared.entry.Entry.TheVariants.{Wrote, Ticked, Got, Sealed}
-use Rattle.media_script.specs.declared.step.Step.{Step}
-use Rattle.media_script.specs.declared.step.Step.TheVariants.{Write}
-use Rattle.media_script.specs.declared.setup.Setup.{Setup}
-use Rattle.media_script.specs.Sides.{same_side}
-use Rattle.media_script.specs.Setup.{streams_of, types_of}
+use Rattle.media_model.specs.declared.entry.Side.{Side}
+use Rattle.media_model.specs.declared.entry.Kind.{Kind}
+use Rattle.media_model.specs.declared.entry.Write.{Write as Writing}
+use Rattle.media_model.specs.declared.entry.Entry.{Entry}
+use Rattle.media_model.specs.declared.entry.Entry.TheVariants.{Wrote, Ticked, Got, Sealed}
+use Rattle.media_model.specs.declared.step.Step.{Step}
+use Rattle.media_model.specs.declared.step.Step.TheVariants.{Write}
+use Rattle.media_model.specs.declared.setup.Setup.{Setup}
+use Rattle.media_model.specs.Sides.{same_side}
+use Rattle.media_model.specs.Setup.{streams_of, types_of}
 use Rattle.media_play.specs.declared.fault.StepFault.{StepFault}
 use Rattle.media_play.specs.Listing.{IsIn, NoRepeat}
-use Rattle.media_play.specs.Entries.{write_on, writes_on, queued}
+use Rattle.media_model.specs.Entries.{write_on, writes_on, queued}
 use Rattle.media_play.specs.Opening.{Sealing, Receives, opens, stays}
 use Rattle.media_play.specs.Rules.{has, or_else, time_fault, write_fault, step_fault}
 use Rattle.media_play.specs.Play.{sealed_write, sealed_at_tick, Outcome, wrote, ticked, got, Played, start, turn}

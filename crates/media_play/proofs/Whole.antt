@@ -5,9 +5,9 @@ use Rattle.std.specs.declared.alloc.AllocError.{AllocError}
 use Rattle.std.specs.declared.option.Option.{Option}
 use Rattle.std.specs.Io.KnownBytes.{Consumes, IsAtEnd}
 use Rattle.std.proofs.lemmas.List.{append-nil, length-append}
-use Rattle.media_script.specs.declared.entry.Entry.{Entry}
-use Rattle.media_script.specs.declared.setup.Setup.{Setup as Given}
-use Rattle.media_script.specs.declared.step.Step.{Step as Act}
+use Rattle.media_model.specs.declared.entry.Entry.{Entry}
+use Rattle.media_model.specs.declared.setup.Setup.{Setup as Given}
+use Rattle.media_model.specs.declared.step.Step.{Step as Act}
 use Rattle.media_script.specs.Spelling.{IsScript}
 use Rattle.media_play.specs.declared.top.Played.{Played}
 use Rattle.media_play.specs.declared.report.End.{End}

@@ -6,8 +6,8 @@ use Rattle.rtp_wire.specs.Extensions.{no_extensions}
 use Rattle.rtp_wire.specs.Header.{header_bytes}
 use Rattle.rtp_wire.specs.HeaderLaws.{ReadsOwnBytes, PlainIsReadAgain, PlainIsAsLong, IsPlainHeader, has_fixed_bytes}
 use Rattle.srtp_core.specs.Laws.{RtpSealsApart, RtpSealKeepsHeader}
-use Rattle.media_script.specs.declared.entry.Write.{Write as Writing}
-use Rattle.media_script.specs.declared.setup.Setup.{Setup}
+use Rattle.media_model.specs.declared.entry.Write.{Write as Writing}
+use Rattle.media_model.specs.declared.setup.Setup.{Setup}
 use Rattle.media_play.specs.Plain.{header_of_write, plain_of}
 use Rattle.media_play.specs.Sessions.{sealing_of}
 use Rattle.media_play.specs.WireLaws.{WireLaws, FitsHeader}

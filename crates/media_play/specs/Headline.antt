@@ -2,20 +2,20 @@
 use Rattle.std.specs.Prelude.{◌≡◌, ◌↔◌, ◌<◌, ◌^◌, ◌%◌, ℕ, false, true, List, [], ◌∷◌, ◌++◌, Some}
 use Rattle.rtp_wire.specs.declared.header.RtpHeader.{RtpHeader}
 use Rattle.rtp_wire.specs.Widen.{widen16}
-use Rattle.media_script.specs.declared.entry.Side.{Side}
-use Rattle.media_script.specs.declared.entry.Kind.{Kind}
-use Rattle.media_script.specs.declared.entry.Kind.TheVariants.{Rtp}
-use Rattle.media_script.specs.declared.entry.Write.{Write as Writing}
-use Rattle.media_script.specs.declared.entry.Entry.{Entry}
-use Rattle.media_script.specs.declared.entry.Entry.TheVariants.{Wrote, Ticked, Got, Sealed, Yielded}
-use Rattle.media_script.specs.declared.step.Step.{Step}
-use Rattle.media_script.specs.declared.step.Step.TheVariants.{Write, Tick}
-use Rattle.media_script.specs.declared.setup.Setup.{Setup}
-use Rattle.media_script.specs.Genuine.{IsGenuine}
-use Rattle.media_script.specs.Sides.{peer_of}
-use Rattle.media_script.specs.Setup.{streams_of}
+use Rattle.media_model.specs.declared.entry.Side.{Side}
+use Rattle.media_model.specs.declared.entry.Kind.{Kind}
+use Rattle.media_model.specs.declared.entry.Kind.TheVariants.{Rtp}
+use Rattle.media_model.specs.declared.entry.Write.{Write as Writing}
+use Rattle.media_model.specs.declared.entry.Entry.{Entry}
+use Rattle.media_model.specs.declared.entry.Entry.TheVariants.{Wrote, Ticked, Got, Sealed, Yielded}
+use Rattle.media_model.specs.declared.step.Step.{Step}
+use Rattle.media_model.specs.declared.step.Step.TheVariants.{Write, Tick}
+use Rattle.media_model.specs.declared.setup.Setup.{Setup}
+use Rattle.media_model.specs.Genuine.{IsGenuine}
+use Rattle.media_model.specs.Sides.{peer_of}
+use Rattle.media_model.specs.Setup.{streams_of}
 use Rattle.media_play.specs.Listing.{IsIn, NoRepeat, Each, EachStep}
-use Rattle.media_play.specs.Entries.{writes_by, writes_on, sealed_numbers, nonces, taken, packets}
+use Rattle.media_model.specs.Entries.{writes_by, writes_on, sealed_numbers, nonces, taken, packets}
 use Rattle.repair_core.specs.Fresh.{greatest_of, is_fresh}
 use Rattle.media_play.specs.Opening.{Sealing, Receives}
 use Rattle.media_play.specs.Plain.{read_header, plain_of, as_packet}

@@ -5,15 +5,15 @@ use Rattle.std.specs.BTreeSet.{contains}
 use Rattle.std.specs.Ordering.{nat_cmp}
 use Rattle.rtp_wire.specs.declared.header.RtpHeader.{RtpHeader}
 use Rattle.repair_core.specs.NackRegister.{StandsFor}
-use Rattle.media_script.specs.declared.entry.Side.{Side}
-use Rattle.media_script.specs.declared.entry.Entry.{Entry}
-use Rattle.media_script.specs.declared.setup.Setup.{Setup}
-use Rattle.media_script.specs.Sides.{peer_of}
-use Rattle.media_script.specs.Setup.{streams_of, types_of}
+use Rattle.media_model.specs.declared.entry.Side.{Side}
+use Rattle.media_model.specs.declared.entry.Entry.{Entry}
+use Rattle.media_model.specs.declared.setup.Setup.{Setup}
+use Rattle.media_model.specs.Sides.{peer_of}
+use Rattle.media_model.specs.Setup.{streams_of, types_of}
 use Rattle.media_play.specs.declared.stream.Outgoing.{Outgoing}
 use Rattle.media_play.specs.declared.stream.Incoming.{Incoming}
 use Rattle.media_play.specs.declared.streams.Streams.{Streams}
-use Rattle.media_play.specs.Entries.{queued, taken, writes_on}
+use Rattle.media_model.specs.Entries.{queued, taken, writes_on}
 use Rattle.media_play.specs.Opening.{is_known, fresh_number}
 use Rattle.media_play.specs.Packets.{waiting_of}
 

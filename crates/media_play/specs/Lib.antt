@@ -1,4 +1,3 @@
-pub mod Entries
 pub mod Listing
 pub mod Log
 pub mod Plain

@@ -1,7 +1,7 @@
 -- What stands in a list, and what holds along it.
 use Rattle.std.specs.Prelude.{◌≡◌, ◌⊎◌, true, if◌then◌else◌, List, [], ◌∷◌, ◌++◌}
-use Rattle.media_script.specs.declared.entry.Entry.{Entry}
-use Rattle.media_play.specs.Entries.{is_step}
+use Rattle.media_model.specs.declared.entry.Entry.{Entry}
+use Rattle.media_model.specs.Entries.{is_step}
 
 abbrev pub IsIn : {X : Type 0} → X → List X → Type 0
 IsIn x [] = ⊥

@@ -5,16 +5,16 @@ use Rattle.rtp_wire.specs.Header.{csrc_of}
 use Rattle.rtp_wire.specs.Widen.{widen16}
 use Rattle.rtp_wire.specs.Padding.{unpadded}
 use Rattle.media_play.specs.Plain.{read_header}
-use Rattle.media_script.specs.declared.entry.Side.{Side}
-use Rattle.media_script.specs.declared.entry.Kind.{Kind}
-use Rattle.media_script.specs.declared.entry.Kind.TheVariants.{Rtp}
-use Rattle.media_script.specs.declared.entry.Packet.{Packet}
-use Rattle.media_script.specs.declared.entry.Entry.{Entry}
-use Rattle.media_script.specs.declared.entry.Entry.TheVariants.{Opened, Yielded}
-use Rattle.media_script.specs.declared.setup.Setup.{Setup}
-use Rattle.media_script.specs.Sides.{peer_of}
-use Rattle.media_script.specs.Setup.{streams_of, types_of}
-use Rattle.media_play.specs.Entries.{taken}
+use Rattle.media_model.specs.declared.entry.Side.{Side}
+use Rattle.media_model.specs.declared.entry.Kind.{Kind}
+use Rattle.media_model.specs.declared.entry.Kind.TheVariants.{Rtp}
+use Rattle.media_model.specs.declared.entry.Packet.{Packet}
+use Rattle.media_model.specs.declared.entry.Entry.{Entry}
+use Rattle.media_model.specs.declared.entry.Entry.TheVariants.{Opened, Yielded}
+use Rattle.media_model.specs.declared.setup.Setup.{Setup}
+use Rattle.media_model.specs.Sides.{peer_of}
+use Rattle.media_model.specs.Setup.{streams_of, types_of}
+use Rattle.media_model.specs.Entries.{taken}
 use Rattle.repair_core.specs.Fresh.{greatest_of, is_fresh}
 use Rattle.media_play.specs.Rules.{has}
 

@@ -7,9 +7,9 @@ use Rattle.std.specs.Io.KnownBytes.{Consumes, IsAtEnd, Appends}
 use Rattle.media_base.specs.Causes.{WritesFront}
 use Rattle.srtp_core.specs.Streams.{counter_mode}
 use Rattle.srtp_core.specs.Toy.{toy_block, toy_aead}
-use Rattle.media_script.specs.declared.entry.Entry.{Entry}
-use Rattle.media_script.specs.declared.setup.Setup.{Setup as Given}
-use Rattle.media_script.specs.declared.step.Step.{Step as Act}
+use Rattle.media_model.specs.declared.entry.Entry.{Entry}
+use Rattle.media_model.specs.declared.setup.Setup.{Setup as Given}
+use Rattle.media_model.specs.declared.step.Step.{Step as Act}
 use Rattle.media_script.specs.Grammar.{script_of}
 use Rattle.media_script.specs.Spelling.{IsScript}
 use Rattle.media_script.specs.Text.{entries_text, text_of}

@@ -3,8 +3,8 @@ use Rattle.std.specs.Prelude.{ℕ, ◌%◌, false, Option, List, [], ◌++◌, r
 use Rattle.rtp_wire.specs.declared.header.RtpHeader.{RtpHeader}
 use Rattle.rtp_wire.specs.Extensions.{no_extensions, no_values}
 use Rattle.rtp_wire.specs.Header.{header_of, header_bytes}
-use Rattle.media_script.specs.declared.entry.Write.{Write as Writing}
-use Rattle.media_script.specs.declared.entry.Packet.{Packet}
+use Rattle.media_model.specs.declared.entry.Write.{Write as Writing}
+use Rattle.media_model.specs.declared.entry.Packet.{Packet}
 
 -- the header at the front of the bytes, if one stands there; no extension has an id
 abbrev pub read_header : List ℕ → Option RtpHeader

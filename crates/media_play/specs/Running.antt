@@ -1,14 +1,14 @@
 -- What a run knows of the steps that it played.
 use Rattle.std.specs.Prelude.{◌≡◌, ◌+◌, ◌≤◌, ℕ, List, [], length, take, slice_get, Some, None, Result, Ok, Err}
-use Rattle.media_script.specs.declared.entry.Side.TheVariants.{A, B}
-use Rattle.media_script.specs.declared.entry.Entry.{Entry}
-use Rattle.media_script.specs.declared.transcript.Transcript.{Transcript}
-use Rattle.media_script.specs.declared.step.Step.{Step}
-use Rattle.media_script.specs.declared.setup.Setup.{Setup}
+use Rattle.media_model.specs.declared.entry.Side.TheVariants.{A, B}
+use Rattle.media_model.specs.declared.entry.Entry.{Entry}
+use Rattle.media_model.specs.declared.transcript.Transcript.{Transcript}
+use Rattle.media_model.specs.declared.step.Step.{Step}
+use Rattle.media_model.specs.declared.setup.Setup.{Setup}
 use Rattle.media_play.specs.declared.fault.RunError.{RunError}
 use Rattle.media_play.specs.declared.fault.RunFault.{RunFault}
 use Rattle.media_play.specs.declared.fault.RunError.TheVariants as error
-use Rattle.media_play.specs.Entries.{last_time}
+use Rattle.media_model.specs.Entries.{last_time}
 use Rattle.media_play.specs.Opening.{Sealing}
 use Rattle.media_play.specs.Play.{Played}
 use Rattle.media_play.specs.Rules.{step_fault}

@@ -1,8 +1,8 @@
 -- What the laws of a run need of its setup.
 use Rattle.std.specs.Prelude.{◌≡◌, ◌<◌, ◌^◌, ℕ, true, false}
-use Rattle.media_script.specs.declared.entry.Side.{Side}
-use Rattle.media_script.specs.declared.setup.Setup.{Setup}
-use Rattle.media_script.specs.Setup.{streams_of, types_of}
+use Rattle.media_model.specs.declared.entry.Side.{Side}
+use Rattle.media_model.specs.declared.setup.Setup.{Setup}
+use Rattle.media_model.specs.Setup.{streams_of, types_of}
 use Rattle.media_play.specs.Listing.{NoRepeat}
 use Rattle.media_play.specs.Rules.{has}
 

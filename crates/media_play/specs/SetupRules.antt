@@ -2,11 +2,12 @@
 use Rattle.std.specs.Prelude.{ℕ, Bool, true, false, not, ◌||◌, ◌&&◌, ◌==◌, nat_lt, if◌then◌else◌, List, [], ◌∷◌, ◌++◌, length, option_to_list, Option, Some, None, is_some}
 use Rattle.std.specs.List.{flat_map, list_any}
 use Rattle.std.specs.Str.{bytes_eq}
-use Rattle.media_script.specs.declared.setup.Stream.{Stream}
-use Rattle.media_script.specs.declared.setup.Media.{Media}
-use Rattle.media_script.specs.declared.setup.Setup.{Setup}
-use Rattle.media_script.specs.Setup.{material_len, material_of, types_of}
-use Rattle.media_script.specs.Sides.{same_side}
+use Rattle.media_model.specs.declared.setup.Stream.{Stream}
+use Rattle.media_model.specs.declared.setup.Media.{Media}
+use Rattle.media_model.specs.declared.setup.Setup.{Setup}
+use Rattle.srtp_core.specs.Keys.{material_len}
+use Rattle.media_model.specs.Setup.{material_of, types_of}
+use Rattle.media_model.specs.Sides.{same_side}
 use Rattle.media_play.specs.declared.fault.SetupFault.{SetupFault}
 use Rattle.media_play.specs.declared.fault.SetupFault.TheVariants.{KeyLength, TypeTwice, SsrcZero, SsrcTwice, RidTwice, RtxLater}
 use Rattle.media_play.specs.Rules.{has}

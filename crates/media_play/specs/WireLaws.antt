@@ -1,8 +1,8 @@
 -- What the laws of a run need of sealing and of headers.
 use Rattle.std.specs.Prelude.{◌≡◌, ◌<◌, ◌≤◌, ◌+◌, ◌^◌, ℕ, List, ◌++◌, length, take, drop, Some}
 use Rattle.rtp_wire.specs.declared.header.RtpHeader.{RtpHeader}
-use Rattle.media_script.specs.declared.entry.Side.{Side}
-use Rattle.media_script.specs.declared.entry.Write.{Write as Writing}
+use Rattle.media_model.specs.declared.entry.Side.{Side}
+use Rattle.media_model.specs.declared.entry.Write.{Write as Writing}
 use Rattle.media_play.specs.Opening.{Sealing}
 use Rattle.media_play.specs.Plain.{read_header, header_of_write, plain_of}
 

@@ -1,4 +1,4 @@
-use media_script::Transcript;
+use media_model::Transcript;
 use std::alloc::AllocError;
 
 /// The first rule that a setup breaks, in this order.

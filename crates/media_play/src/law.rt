@@ -1,7 +1,7 @@
 ghost use Rattle.std.specs.Prelude.{◌++◌, List};
-ghost use Rattle.media_script.specs.declared.setup.Setup.{Setup};
-ghost use Rattle.media_script.specs.declared.step.Step.{Step};
-ghost use Rattle.media_script.specs.declared.entry.Entry.{Entry};
+ghost use Rattle.media_model.specs.declared.setup.Setup.{Setup};
+ghost use Rattle.media_model.specs.declared.step.Step.{Step};
+ghost use Rattle.media_model.specs.declared.entry.Entry.{Entry};
 ghost use Rattle.media_play.specs.Opening.{Sealing};
 ghost use Rattle.media_play.specs.Play.{Played};
 ghost use Rattle.media_play.specs.SetupFacts.{IsSound};

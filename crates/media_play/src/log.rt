@@ -1,12 +1,12 @@
 ghost use Rattle.std.specs.Prelude.{◌≡◌, ◌∷◌, ◌++◌, [], OnOk, OnErr, slice_get, length, false};
 ghost use Rattle.std.specs.Option.{option_copied};
-ghost use Rattle.media_script.specs.declared.entry.Kind.TheVariants.{Rtp};
-ghost use Rattle.media_script.specs.declared.entry.Entry.TheVariants.{Sealed};
-ghost use Rattle.media_play.specs.Entries.{datagrams};
+ghost use Rattle.media_model.specs.declared.entry.Kind.TheVariants.{Rtp};
+ghost use Rattle.media_model.specs.declared.entry.Entry.TheVariants.{Sealed};
+ghost use Rattle.media_model.specs.Entries.{datagrams};
 ghost use Rattle.media_play.specs.Log.{is_seal, places, sealed_at};
 
 use media_base::Bytes;
-use media_script::{Entry, Kind, Side, Transcript};
+use media_model::{Entry, Kind, Side, Transcript};
 use rtp_wire::{SeqNo, Ssrc};
 use std::alloc::{AllocError, Global};
 use std::marker::Model;
@@ -22,12 +22,12 @@ pub struct Log {
 
 impl Model for Log {
     ghost use Rattle.std.specs.Prelude.{List};
-    ghost use Rattle.media_script.specs.declared.entry.Entry.{Entry};
+    ghost use Rattle.media_model.specs.declared.entry.Entry.{Entry};
 
     ghost Value = { List Entry };
 
     ghost use Rattle.std.specs.Prelude.{◌≡◌};
-    ghost use Rattle.media_script.specs.declared.entry.Side.TheVariants.{A, B};
+    ghost use Rattle.media_model.specs.declared.entry.Side.TheVariants.{A, B};
     ghost use Rattle.media_play.specs.Log.{places};
 
     ghost view = { λ l. l.transcript };

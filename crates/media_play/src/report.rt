@@ -2,7 +2,7 @@ ghost use Rattle.std.specs.Prelude.{Some};
 ghost use Rattle.media_play.specs.FaultNames.{setup_fault_name, step_fault_name};
 
 use crate::fault::{SetupFault, StepFault};
-use media_script::Transcript;
+use media_model::Transcript;
 use std::fmt;
 
 /// How a call ended.

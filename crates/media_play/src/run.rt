@@ -1,11 +1,11 @@
 ghost use Rattle.std.specs.Prelude.{◌≡◌, ◌∷◌, ◌++◌, ◌+◌, ◌-◌, ◌<◌, ◌≤◌, ◌^◌, ℕ, List, [], length, take, slice_get, Some, None, IfOk, IfErr, OnOk, MatchResult};
-ghost use Rattle.media_script.specs.declared.entry.Entry.{Entry as Happening};
-ghost use Rattle.media_script.specs.declared.entry.Entry.TheVariants.{Wrote, Ticked};
-ghost use Rattle.media_script.specs.declared.step.Step.{Step as Act};
-ghost use Rattle.media_script.specs.declared.step.Step.TheVariants.{Write as WriteStep, Tick as TickStep, Deliver as DeliverStep, Foreign as ForeignStep};
-ghost use Rattle.media_script.specs.declared.setup.Setup.{Setup as Given};
-ghost use Rattle.media_script.specs.Sides.{peer_of};
-ghost use Rattle.media_play.specs.Entries.{datagrams};
+ghost use Rattle.media_model.specs.declared.entry.Entry.{Entry as Happening};
+ghost use Rattle.media_model.specs.declared.entry.Entry.TheVariants.{Wrote, Ticked};
+ghost use Rattle.media_model.specs.declared.step.Step.{Step as Act};
+ghost use Rattle.media_model.specs.declared.step.Step.TheVariants.{Write as WriteStep, Tick as TickStep, Deliver as DeliverStep, Foreign as ForeignStep};
+ghost use Rattle.media_model.specs.declared.setup.Setup.{Setup as Given};
+ghost use Rattle.media_model.specs.Sides.{peer_of};
+ghost use Rattle.media_model.specs.Entries.{datagrams};
 ghost use Rattle.media_play.specs.Errors.{IsBroken};
 ghost use Rattle.media_play.specs.Headline.{StepsAreAnswered, SealsAreRight, NoNonceTwice, SendsWrites, YieldsWrites, NoPacketTwice, FirstSendingsAreYielded};
 ghost use Rattle.media_play.specs.Opening.{Sealing};
@@ -21,7 +21,7 @@ use crate::log::Log;
 use crate::session::{Received, Session};
 use crate::setup_rules::check_setup;
 use media_base::{Bytes, Instant};
-use media_script::{Entry, Kind, Setup, Side, Step, Transcript, Write};
+use media_model::{Entry, Kind, Setup, Side, Step, Transcript, Write};
 use rtp_wire::{header_reads_own_bytes, headers_are_as_long, plain_header_is_read_again};
 use srtp_core::SrtpCipher;
 use srtp_core::laws::{rtp_seal_keeps_header, rtp_seals_apart};
@@ -50,8 +50,9 @@ impl<C: SrtpCipher> Model for Run<C> {
 
 impl<C: SrtpCipher> Run<C> {
     ghost use Rattle.std.specs.Result.{result_err};
-    ghost use Rattle.media_script.specs.Setup.{material_of, material_len};
-    ghost use Rattle.media_play.specs.Entries.{last_time};
+    ghost use Rattle.srtp_core.specs.Keys.{material_len};
+    ghost use Rattle.media_model.specs.Setup.{material_of};
+    ghost use Rattle.media_model.specs.Entries.{last_time};
     ghost use Rattle.media_play.specs.Rules.{time_fault, step_fault};
     ghost use Rattle.media_play.specs.Running.{Running};
 

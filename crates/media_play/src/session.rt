@@ -3,12 +3,13 @@ ghost use Rattle.std.specs.Result.{result_err};
 ghost use Rattle.rtp_wire.specs.Header.{csrc_of};
 ghost use Rattle.rtp_wire.specs.Padding.{unpadded};
 ghost use Rattle.srtp_core.specs.Contexts.{new_state};
-ghost use Rattle.media_script.specs.declared.entry.Side.{Side as Party};
-ghost use Rattle.media_script.specs.declared.entry.Entry.{Entry};
-ghost use Rattle.media_script.specs.declared.entry.Write.{Write as Writing};
-ghost use Rattle.media_script.specs.declared.setup.Setup.{Setup as Given};
-ghost use Rattle.media_script.specs.declared.step.Step.{Step};
-ghost use Rattle.media_script.specs.Setup.{material_len, material_of};
+ghost use Rattle.media_model.specs.declared.entry.Side.{Side as Party};
+ghost use Rattle.media_model.specs.declared.entry.Entry.{Entry};
+ghost use Rattle.media_model.specs.declared.entry.Write.{Write as Writing};
+ghost use Rattle.media_model.specs.declared.setup.Setup.{Setup as Given};
+ghost use Rattle.media_model.specs.declared.step.Step.{Step};
+ghost use Rattle.srtp_core.specs.Keys.{material_len};
+ghost use Rattle.media_model.specs.Setup.{material_of};
 ghost use Rattle.media_play.specs.Packets.{waiting_of, seal_in, sealed_packet};
 ghost use Rattle.media_play.specs.Opening.{cut, packet_with};
 ghost use Rattle.media_play.specs.Sessions.{is_left, OpensAs};
@@ -18,7 +19,7 @@ use crate::log::Log;
 use crate::streams::Streams;
 use crate::waiting::Waiting;
 use media_base::{Bytes, Listed};
-use media_script::{Kind, Packet, Setup, Side, Write};
+use media_model::{Kind, Packet, Setup, Side, Write};
 use rtp_wire::{ExtensionMap, RtpHeader, SeqNo, Ssrc};
 use srtp_core::laws::rtp_opens_once;
 use srtp_core::{KeyingMaterial, SrtpCipher, SrtpContext, SrtpError, SrtpProfile};
@@ -201,8 +202,8 @@ impl<C: SrtpCipher> Model for Session<C> {
 }
 
 impl<C: SrtpCipher> Session<C> {
-    ghost use Rattle.media_script.specs.declared.entry.Kind.TheVariants.{Rtp};
-    ghost use Rattle.media_script.specs.declared.entry.Entry.TheVariants.{Wrote, Ticked, Got};
+    ghost use Rattle.media_model.specs.declared.entry.Kind.TheVariants.{Rtp};
+    ghost use Rattle.media_model.specs.declared.entry.Entry.TheVariants.{Wrote, Ticked, Got};
     ghost use Rattle.media_play.specs.Opening.{Sealing, Receives};
     ghost use Rattle.media_play.specs.Play.{Played, sealed_at_tick};
     ghost use Rattle.media_play.specs.SetupFacts.{IsSound};

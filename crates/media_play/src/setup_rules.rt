@@ -1,12 +1,13 @@
 // The rules of a setup.
 ghost use Rattle.std.specs.Prelude.{◌≡◌, ◌||◌, ◌++◌, ◌==◌, bytes_eq, nat_lt, length, IfOk, OnOk};
 ghost use Rattle.std.specs.List.{list_any, flat_map};
-ghost use Rattle.media_script.specs.Setup.{material_of, material_len, types_of};
+ghost use Rattle.srtp_core.specs.Keys.{material_len};
+ghost use Rattle.media_model.specs.Setup.{material_of, types_of};
 ghost use Rattle.media_play.specs.Rules.{has};
 ghost use Rattle.media_play.specs.SetupRules.{repeats, both_of, stream_ssrcs, local_ssrcs, any_mid_again, rids_meet, meets, any_rid_again, has_rtx, media_fault, setup_fault};
 
 use crate::fault::SetupFault;
-use media_script::{Media, Setup, Stream};
+use media_model::{Media, Setup, Stream};
 use rtp_wire::{Mid, Pt, Rid};
 use std::alloc::{AllocError, Global};
 

@@ -9,7 +9,7 @@ ghost use Rattle.media_play.specs.Packets.{waiting_of};
 
 use crate::waiting::Waiting;
 use media_base::Listed;
-use media_script::Write;
+use media_model::Write;
 use repair_core::NackRegister;
 use rtp_wire::{SeqNo, Ssrc, widen16};
 use std::alloc::{AllocError, Global};

@@ -1,7 +1,7 @@
 ghost use Rattle.std.specs.Prelude.{◌≡◌, ◌++◌, ◌↔◌, List, ℕ, map, codes, string_bytes, IsTrue, IfOk, IfSome, Some, None};
 ghost use Rattle.media_base.specs.Causes.{Rose};
-ghost use Rattle.media_script.specs.declared.setup.Setup.{Setup as Given};
-ghost use Rattle.media_script.specs.declared.step.Step.{Step as Act};
+ghost use Rattle.media_model.specs.declared.setup.Setup.{Setup as Given};
+ghost use Rattle.media_model.specs.declared.step.Step.{Step as Act};
 ghost use Rattle.media_script.specs.Spelling.{IsScript};
 ghost use Rattle.media_script.specs.Text.{entries_text as lines_of, text_of};
 ghost use Rattle.media_play.specs.Headline.{HoldsAlways, StepsAreAnswered, SealsAreRight, NoNonceTwice, SendsWrites, YieldsWrites, NoPacketTwice, FirstSendingsAreYielded};
@@ -12,9 +12,8 @@ use crate::report::{End, Report};
 use crate::run::media_run;
 use crate::write::write_both;
 use media_base::{ReadError, Sink, Source, read_all};
-use media_script::{
-    ScriptError, Setup, Step, Transcript, entries_text, read_script, write_transcript,
-};
+use media_model::{Setup, Step, Transcript};
+use media_script::{ScriptError, entries_text, read_script, write_transcript};
 use srtp_core::ToyCipher;
 use std::alloc::{AllocError, Global};
 use std::fmt::Write;

@@ -3,7 +3,7 @@ ghost use Rattle.srtp_core.specs.Seals.{sealed_rtp};
 ghost use Rattle.media_play.specs.Plain.{header_of_write, plain_of};
 
 use media_base::Bytes;
-use media_script::Write;
+use media_model::Write;
 use rtp_wire::{ExtensionMap, ExtensionValues, RtpHeader, SeqNo, Ssrc};
 use srtp_core::{SrtpCipher, SrtpContext};
 use std::alloc::{AllocError, Global};

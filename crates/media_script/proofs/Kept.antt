@@ -7,7 +7,7 @@ use Rattle.media_script.specs.declared.draft.Draft.{Draft}
 use Rattle.media_script.specs.declared.reader.Reader.{Reader}
 use Rattle.media_script.specs.declared.reader.Reader.TheVariants.{InSetup, InSteps, Ended}
 use Rattle.media_script.specs.declared.setup_line.SetupLine.{SetupLine}
-use Rattle.media_script.specs.declared.step.Step.{Step}
+use Rattle.media_model.specs.declared.step.Step.{Step}
 use Rattle.media_script.specs.Grammar.{read_on, step_of, setup_line_of, with_line}
 use Rattle.media_script.specs.Spelling.{words_of, AreSetupLines, AreSteps}
 use Rattle.media_script.specs.Words.{◌>>=◌}

@@ -1,5 +1,3 @@
-pub mod FilterMap
-pub mod GenuineLaws
 pub mod Kept
 pub mod LineLaws
 pub mod MediaLaws
@@ -8,7 +6,6 @@ pub mod Numbers
 pub mod Pieces
 pub mod Reading
 pub mod ScriptLaws
-pub mod Seals
 pub mod SetupLaws
 pub mod StepLaws
 pub mod WordLaws

@@ -3,8 +3,8 @@ use Rattle.std.proofs.Common.{◌≡◌, ℕ, ◌^◌, lit≤, Bool, true, false
 use Rattle.std.specs.Prelude.{codes}
 use Rattle.std.specs.Fmt.{decimal}
 use Rattle.std.specs.Str.{bytes_eq}
-use Rattle.media_script.specs.declared.setup.PayloadType.{PayloadType}
-use Rattle.media_script.specs.declared.setup.Stream.{Stream}
+use Rattle.media_model.specs.declared.setup.PayloadType.{PayloadType}
+use Rattle.media_model.specs.declared.setup.Stream.{Stream}
 use Rattle.media_script.specs.declared.setup_line.SetupLine.{SetupLine}
 use Rattle.media_script.specs.declared.setup_line.SetupLine.TheVariants as line
 use Rattle.media_script.specs.Words.{narrow_of, side_of, cipher_of, profile_of, key_of, codec_of, media_kind_of, rate_of, name_of, optional}

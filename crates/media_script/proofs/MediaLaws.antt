@@ -3,8 +3,8 @@ use Rattle.std.proofs.Common.{◌≡◌, ℕ, suc, ◌+◌, Bool, true, false, c
 use Rattle.std.specs.List.{position, position_from}
 use Rattle.std.proofs.Math.ListN.{set}
 use Rattle.std.proofs.lemmas.Iterator.Adapters.{position_from-zero}
-use Rattle.media_script.specs.declared.setup.Media.{Media}
-use Rattle.media_script.specs.declared.setup.Stream.{Stream}
+use Rattle.media_model.specs.declared.setup.Media.{Media}
+use Rattle.media_model.specs.declared.setup.Stream.{Stream}
 use Rattle.media_script.specs.SetupLines.{is_of, has_mid, with_stream}
 
 abbrev pub more : Stream → Media → Media

@@ -3,8 +3,8 @@ use Rattle.std.proofs.Common.{◌≡◌, ◌≢◌, ℕ, ◌+◌, cond, eqb, Lis
 use Rattle.media_script.specs.declared.error.LineError.{LineError}
 use Rattle.media_script.specs.declared.error.LineError.TheVariants.{Memory, Outside}
 use Rattle.media_script.specs.declared.reader.Reader.{Reader}
-use Rattle.media_script.specs.declared.setup.Setup.{Setup}
-use Rattle.media_script.specs.declared.step.Step.{Step}
+use Rattle.media_model.specs.declared.setup.Setup.{Setup}
+use Rattle.media_model.specs.declared.step.Step.{Step}
 use Rattle.media_script.specs.Gives.{Fails, StopsAt, error_at}
 use Rattle.media_script.specs.Grammar.{pieces_of, read_from, read_then, line_taken, whole_of}
 use Rattle.media_script.proofs.Pieces.{first_piece, last_piece, some_piece}

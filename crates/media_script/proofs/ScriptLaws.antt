@@ -9,8 +9,8 @@ use Rattle.media_script.specs.declared.error.ScriptError.{ScriptError}
 use Rattle.media_script.specs.declared.draft.Draft.{Draft}
 use Rattle.media_script.specs.declared.reader.Reader.{Reader}
 use Rattle.media_script.specs.declared.reader.Reader.TheVariants.{Head, InSetup, InSteps, Ended}
-use Rattle.media_script.specs.declared.setup.Setup.{Setup}
-use Rattle.media_script.specs.declared.step.Step.{Step}
+use Rattle.media_model.specs.declared.setup.Setup.{Setup}
+use Rattle.media_model.specs.declared.step.Step.{Step}
 use Rattle.media_script.specs.Gives.{GivesScript}
 use Rattle.media_script.specs.Grammar.{pieces_of, read_from, read_then, script_of, line_taken, read_on, whole_of, whole_script, empty_draft, setup_of}
 use Rattle.media_script.specs.Spelling.{is_passed_over, AreSteps, AreParts, IsScript}

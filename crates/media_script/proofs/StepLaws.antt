@@ -3,9 +3,9 @@ use Rattle.std.proofs.Common.{◌≡◌, ℕ, ◌^◌, lit≤, Bool, true, false
 use Rattle.std.specs.Prelude.{codes}
 use Rattle.std.specs.Fmt.{decimal}
 use Rattle.std.specs.Str.{bytes_eq}
-use Rattle.media_script.specs.declared.entry.Write.{Write}
-use Rattle.media_script.specs.declared.step.Step.{Step}
-use Rattle.media_script.specs.declared.step.Step.TheVariants as step
+use Rattle.media_model.specs.declared.entry.Write.{Write}
+use Rattle.media_model.specs.declared.step.Step.{Step}
+use Rattle.media_model.specs.declared.step.Step.TheVariants as step
 use Rattle.media_script.specs.Words.{◌>>=◌, number_of, narrow_of, time_of, side_of, flag_of, hex_of, kind_of}
 use Rattle.media_script.specs.Grammar.{field, ended, tick_of, deliver_of, write_of, foreign_of, step_of}
 use Rattle.media_script.specs.Names.{side_text, kind_text, flag_text}

@@ -18,18 +18,18 @@ use Rattle.hex.specs.Hex.{decode_of, decode_pairs}
 use Rattle.srtp_core.specs.declared.profile.SrtpProfile.{SrtpProfile}
 use Rattle.srtp_core.specs.declared.profile.SrtpProfile.TheVariants.{AeadAes128Gcm}
 use Rattle.hex.specs.declared.error.FromHexError.{FromHexError}
-use Rattle.media_script.specs.declared.entry.Side.{Side}
-use Rattle.media_script.specs.declared.entry.Side.TheVariants.{A, B}
-use Rattle.media_script.specs.declared.entry.Kind.{Kind}
-use Rattle.media_script.specs.declared.entry.Kind.TheVariants.{Rtp}
-use Rattle.media_script.specs.declared.setup.CipherName.{CipherName}
-use Rattle.media_script.specs.declared.setup.CipherName.TheVariants.{Toy}
-use Rattle.media_script.specs.declared.setup.Codec.{Codec}
-use Rattle.media_script.specs.declared.setup.Codec.TheVariants.{Opus, Pcmu, Pcma, Telephone, Vp8, Vp9, H264, H265, H266, Av1}
-use Rattle.media_script.specs.declared.setup.Key.{Key}
-use Rattle.media_script.specs.declared.setup.Key.TheVariants.{Zero, Given}
-use Rattle.media_script.specs.declared.setup.MediaKind.{MediaKind}
-use Rattle.media_script.specs.declared.setup.MediaKind.TheVariants.{Audio, Video}
+use Rattle.media_model.specs.declared.entry.Side.{Side}
+use Rattle.media_model.specs.declared.entry.Side.TheVariants.{A, B}
+use Rattle.media_model.specs.declared.entry.Kind.{Kind}
+use Rattle.media_model.specs.declared.entry.Kind.TheVariants.{Rtp}
+use Rattle.media_model.specs.declared.setup.CipherName.{CipherName}
+use Rattle.media_model.specs.declared.setup.CipherName.TheVariants.{Toy}
+use Rattle.media_model.specs.declared.setup.Codec.{Codec}
+use Rattle.media_model.specs.declared.setup.Codec.TheVariants.{Opus, Pcmu, Pcma, Telephone, Vp8, Vp9, H264, H265, H266, Av1}
+use Rattle.media_model.specs.declared.setup.Key.{Key}
+use Rattle.media_model.specs.declared.setup.Key.TheVariants.{Zero, Given}
+use Rattle.media_model.specs.declared.setup.MediaKind.{MediaKind}
+use Rattle.media_model.specs.declared.setup.MediaKind.TheVariants.{Audio, Video}
 use Rattle.media_script.specs.Words.{◌>>=◌, below, plain_front, is_number, number_of, narrow_of, has_ms, time_of, side_of, flag_of, hex_of, kind_of, cipher_of, profile_of, key_of, one_of, codecs, codec_of, media_kind_of, rate_of, is_name, name_of, optional}
 use Rattle.media_script.specs.Names.{side_text, flag_text, kind_text, cipher_text, profile_text, codec_text, media_kind_text}
 use Rattle.media_script.specs.Spelling.{IsTime, IsHex, IsName, IsKey, IsOptional, IsSsrc, IsNamed}

@@ -8,17 +8,17 @@ use Rattle.srtp_core.specs.declared.profile.SrtpProfile.TheVariants.{AeadAes128G
 use Rattle.media_script.specs.declared.draft.Draft.{Draft}
 use Rattle.media_script.specs.declared.reader.Reader.{Reader}
 use Rattle.media_script.specs.declared.reader.Reader.TheVariants.{Head, InSetup, InSteps, Ended}
-use Rattle.media_script.specs.declared.setup.CipherName.{CipherName}
-use Rattle.media_script.specs.declared.setup.CipherName.TheVariants.{Toy}
-use Rattle.media_script.specs.declared.setup.Key.{Key}
-use Rattle.media_script.specs.declared.setup.PayloadType.{PayloadType}
-use Rattle.media_script.specs.declared.setup.Stream.{Stream}
-use Rattle.media_script.specs.declared.setup.Media.{Media}
-use Rattle.media_script.specs.declared.setup.Setup.{Setup}
+use Rattle.media_model.specs.declared.setup.CipherName.{CipherName}
+use Rattle.media_model.specs.declared.setup.CipherName.TheVariants.{Toy}
+use Rattle.media_model.specs.declared.setup.Key.{Key}
+use Rattle.media_model.specs.declared.setup.PayloadType.{PayloadType}
+use Rattle.media_model.specs.declared.setup.Stream.{Stream}
+use Rattle.media_model.specs.declared.setup.Media.{Media}
+use Rattle.media_model.specs.declared.setup.Setup.{Setup}
 use Rattle.media_script.specs.declared.setup_line.SetupLine.{SetupLine}
 use Rattle.media_script.specs.declared.setup_line.SetupLine.TheVariants as line
-use Rattle.media_script.specs.declared.step.Step.{Step}
-use Rattle.media_script.specs.declared.step.Step.TheVariants as step
+use Rattle.media_model.specs.declared.step.Step.{Step}
+use Rattle.media_model.specs.declared.step.Step.TheVariants as step
 use Rattle.media_script.specs.SetupLines.{has_mid, with_stream as added}
 use Rattle.media_script.specs.Spelling.{words_of, is_passed_over}
 use Rattle.media_script.specs.Words.{◌>>=◌, number_of, narrow_of, time_of, side_of, flag_of, hex_of, kind_of, cipher_of, profile_of, key_of, codec_of, media_kind_of, rate_of, name_of, optional}

@@ -1,11 +1,7 @@
-pub mod Genuine
 pub mod Gives
 pub mod Grammar
 pub mod Names
-pub mod Projections
-pub mod Setup
 pub mod SetupLines
-pub mod Sides
 pub mod Spelling
 pub mod Text
 pub mod Words

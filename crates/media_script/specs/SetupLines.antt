@@ -4,13 +4,13 @@ use Rattle.std.specs.List.{fold, filter_map, list_any}
 use Rattle.std.specs.Str.{bytes_eq}
 use Rattle.srtp_core.specs.declared.profile.SrtpProfile.{SrtpProfile}
 use Rattle.srtp_core.specs.declared.profile.SrtpProfile.TheVariants.{AeadAes128Gcm}
-use Rattle.media_script.specs.declared.setup.CipherName.{CipherName}
-use Rattle.media_script.specs.declared.setup.CipherName.TheVariants.{Toy}
-use Rattle.media_script.specs.declared.setup.Key.{Key}
-use Rattle.media_script.specs.declared.setup.PayloadType.{PayloadType}
-use Rattle.media_script.specs.declared.setup.Stream.{Stream}
-use Rattle.media_script.specs.declared.setup.Media.{Media}
-use Rattle.media_script.specs.declared.setup.Setup.{Setup}
+use Rattle.media_model.specs.declared.setup.CipherName.{CipherName}
+use Rattle.media_model.specs.declared.setup.CipherName.TheVariants.{Toy}
+use Rattle.media_model.specs.declared.setup.Key.{Key}
+use Rattle.media_model.specs.declared.setup.PayloadType.{PayloadType}
+use Rattle.media_model.specs.declared.setup.Stream.{Stream}
+use Rattle.media_model.specs.declared.setup.Media.{Media}
+use Rattle.media_model.specs.declared.setup.Setup.{Setup}
 use Rattle.media_script.specs.declared.setup_line.SetupLine.{SetupLine}
 use Rattle.media_script.specs.declared.setup_line.SetupLine.TheVariants as line
 

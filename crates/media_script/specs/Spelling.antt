@@ -5,15 +5,15 @@ use Rattle.std.specs.Fmt.{decimal}
 use Rattle.std.specs.List.{slice_split, flat_map, AllByRecursion, AllPass}
 use Rattle.hex.specs.Hex.{decode_of}
 use Rattle.srtp_core.specs.declared.profile.SrtpProfile.TheVariants.{AeadAes128Gcm}
-use Rattle.media_script.specs.declared.entry.Kind.TheVariants.{Rtp}
-use Rattle.media_script.specs.declared.entry.Write.{Write}
-use Rattle.media_script.specs.declared.setup.Key.{Key}
-use Rattle.media_script.specs.declared.setup.Key.TheVariants.{Zero, Given}
-use Rattle.media_script.specs.declared.setup.Setup.{Setup}
+use Rattle.media_model.specs.declared.entry.Kind.TheVariants.{Rtp}
+use Rattle.media_model.specs.declared.entry.Write.{Write}
+use Rattle.media_model.specs.declared.setup.Key.{Key}
+use Rattle.media_model.specs.declared.setup.Key.TheVariants.{Zero, Given}
+use Rattle.media_model.specs.declared.setup.Setup.{Setup}
 use Rattle.media_script.specs.declared.setup_line.SetupLine.{SetupLine}
 use Rattle.media_script.specs.declared.setup_line.SetupLine.TheVariants as line
-use Rattle.media_script.specs.declared.step.Step.{Step}
-use Rattle.media_script.specs.declared.step.Step.TheVariants as step
+use Rattle.media_model.specs.declared.step.Step.{Step}
+use Rattle.media_model.specs.declared.step.Step.TheVariants as step
 use Rattle.media_script.specs.Names.{side_text, kind_text, flag_text, cipher_text, profile_text, codec_text, media_kind_text}
 use Rattle.media_script.specs.SetupLines.{IsSetup}
 

@@ -8,18 +8,18 @@ use Rattle.std.specs.Result.{result_ok}
 use Rattle.hex.specs.Hex.{decode_of}
 use Rattle.srtp_core.specs.declared.profile.SrtpProfile.{SrtpProfile}
 use Rattle.srtp_core.specs.declared.profile.SrtpProfile.TheVariants.{AeadAes128Gcm}
-use Rattle.media_script.specs.declared.entry.Side.{Side}
-use Rattle.media_script.specs.declared.entry.Side.TheVariants.{A, B}
-use Rattle.media_script.specs.declared.entry.Kind.{Kind}
-use Rattle.media_script.specs.declared.entry.Kind.TheVariants.{Rtp}
-use Rattle.media_script.specs.declared.setup.CipherName.{CipherName}
-use Rattle.media_script.specs.declared.setup.CipherName.TheVariants.{Toy}
-use Rattle.media_script.specs.declared.setup.Codec.{Codec}
-use Rattle.media_script.specs.declared.setup.Codec.TheVariants.{Opus, Pcmu, Pcma, Telephone, Vp8, Vp9, H264, H265, H266, Av1}
-use Rattle.media_script.specs.declared.setup.Key.{Key}
-use Rattle.media_script.specs.declared.setup.Key.TheVariants.{Zero, Given}
-use Rattle.media_script.specs.declared.setup.MediaKind.{MediaKind}
-use Rattle.media_script.specs.declared.setup.MediaKind.TheVariants.{Audio, Video}
+use Rattle.media_model.specs.declared.entry.Side.{Side}
+use Rattle.media_model.specs.declared.entry.Side.TheVariants.{A, B}
+use Rattle.media_model.specs.declared.entry.Kind.{Kind}
+use Rattle.media_model.specs.declared.entry.Kind.TheVariants.{Rtp}
+use Rattle.media_model.specs.declared.setup.CipherName.{CipherName}
+use Rattle.media_model.specs.declared.setup.CipherName.TheVariants.{Toy}
+use Rattle.media_model.specs.declared.setup.Codec.{Codec}
+use Rattle.media_model.specs.declared.setup.Codec.TheVariants.{Opus, Pcmu, Pcma, Telephone, Vp8, Vp9, H264, H265, H266, Av1}
+use Rattle.media_model.specs.declared.setup.Key.{Key}
+use Rattle.media_model.specs.declared.setup.Key.TheVariants.{Zero, Given}
+use Rattle.media_model.specs.declared.setup.MediaKind.{MediaKind}
+use Rattle.media_model.specs.declared.setup.MediaKind.TheVariants.{Audio, Video}
 use Rattle.media_script.specs.Names.{codec_text, media_kind_text}
 
 infixl 10 ◌>>=◌

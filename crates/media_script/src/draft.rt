@@ -5,9 +5,9 @@ ghost use Rattle.media_script.specs.Grammar.{empty_draft, with_cipher, with_prof
 
 use crate::error::LineError;
 use crate::media_list::MediaList;
-use crate::setup::{CipherName, Key, Media, PayloadType, Setup, Stream};
 use crate::setup_line::SetupLine;
 use media_base::Listed;
+use media_model::{CipherName, Key, Media, PayloadType, Setup, Stream};
 use rtp_wire::Mid;
 use srtp_core::SrtpProfile;
 use std::alloc::Global;

@@ -6,11 +6,10 @@ ghost use Rattle.std.specs.List.{list_all};
 ghost use Rattle.media_script.specs.Words.{plain_front, number_of, narrow_of, time_of, side_of, flag_of, hex_of, kind_of, cipher_of, profile_of, key_of, codec_of, media_kind_of, rate_of, is_name, name_of, optional};
 ghost use Rattle.media_script.specs.Gives.{Gives};
 
-use crate::entry::{Kind, Side};
 use crate::error::LineError;
-use crate::setup::{CipherName, Codec, Key, MediaKind};
 use hex::FromHexError;
 use media_base::Bytes;
+use media_model::{CipherName, Codec, Key, Kind, MediaKind, Side};
 use rtp_wire::{Mid, Rid};
 use srtp_core::SrtpProfile;
 use std::alloc::Global;

@@ -5,13 +5,9 @@ ghost use Rattle.media_script.specs.Words.{number_of, narrow_of, time_of, side_o
 ghost use Rattle.media_script.specs.Grammar.{texts, field, ended};
 ghost use Rattle.media_script.specs.Gives.{Gives};
 
-use crate::entry::{Kind, Side};
 use crate::error::LineError;
-use crate::fields::{
-    cipher, codec, flag, hex, key, kind, media_kind, name, number, number_8, number_32,
-    optional_32, optional_name, profile, rate, side, time,
-};
-use crate::setup::{CipherName, Codec, Key, MediaKind};
+use crate::fields::{cipher, codec, flag, hex, key, kind, media_kind, name, number, number_32, number_8, optional_32, optional_name, profile, rate, side, time};
+use media_model::{CipherName, Codec, Key, Kind, MediaKind, Side};
 use srtp_core::SrtpProfile;
 use std::alloc::Global;
 

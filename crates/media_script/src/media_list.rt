@@ -3,8 +3,8 @@ ghost use Rattle.media_script.specs.Gives.{Gives};
 ghost use Rattle.media_script.specs.SetupLines.{is_of, has_mid, with_stream};
 
 use crate::error::LineError;
-use crate::setup::{Media, Stream};
 use media_base::Listed;
+use media_model::{Media, Stream};
 use rtp_wire::Mid;
 use std::alloc::{AllocError, Global};
 use std::marker::Model;
@@ -17,7 +17,7 @@ pub struct MediaList {
 
 impl Model for MediaList {
     ghost use Rattle.std.specs.Prelude.{List};
-    ghost use Rattle.media_script.specs.declared.setup.Media.{Media};
+    ghost use Rattle.media_model.specs.declared.setup.Media.{Media};
 
     ghost Value = { List Media };
 

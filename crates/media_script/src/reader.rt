@@ -3,17 +3,16 @@ ghost use Rattle.std.specs.Prelude.{◌≡◌, List, IfOk, Ok};
 ghost use Rattle.media_script.specs.Gives.{Gives, GivesScript, error_at};
 ghost use Rattle.media_script.specs.Grammar.{read_on, line_taken, whole_of, script_of};
 ghost use Rattle.media_script.specs.Spelling.{IsScript};
-ghost use Rattle.media_script.specs.declared.setup.Setup.{Setup};
-ghost use Rattle.media_script.specs.declared.step.Step.{Step};
+ghost use Rattle.media_model.specs.declared.setup.Setup.{Setup};
+ghost use Rattle.media_model.specs.declared.step.Step.{Step};
 
 use crate::draft::Draft;
 use crate::error::{LineError, ScriptError};
 use crate::lines::{first_line, is_passed_over};
-use crate::setup::Setup;
 use crate::setup_lines::setup_line;
-use crate::step::Step;
 use crate::steps::step;
 use media_base::Listed;
+use media_model::{Setup, Step};
 use std::alloc::Global;
 
 /// What was read so far.

@@ -1,5 +1,5 @@
-use crate::setup::{CipherName, Key, MediaKind, PayloadType, Stream};
 use media_base::Bytes;
+use media_model::{CipherName, Key, MediaKind, PayloadType, Stream};
 use rtp_wire::Mid;
 use srtp_core::SrtpProfile;
 

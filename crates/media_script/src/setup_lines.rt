@@ -6,14 +6,11 @@ ghost use Rattle.media_script.specs.Gives.{Gives};
 
 use crate::error::LineError;
 use crate::fields::{mid, rid};
-use crate::left::{
-    cipher_at, codec_at, end, key_at, media_kind_at, name_at, number_8_at, number_32_at,
-    optional_32_at, optional_name_at, profile_at, rate_at, side_at,
-};
+use crate::left::{cipher_at, codec_at, end, key_at, media_kind_at, name_at, number_32_at, number_8_at, optional_32_at, optional_name_at, profile_at, rate_at, side_at};
 use crate::lines::words;
-use crate::setup::{PayloadType, Stream};
 use crate::setup_line::SetupLine;
 use media_base::Bytes;
+use media_model::{PayloadType, Stream};
 use rtp_wire::{Pt, Ssrc};
 use std::alloc::Global;
 

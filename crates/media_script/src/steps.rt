@@ -4,14 +4,11 @@ ghost use Rattle.media_script.specs.Grammar.{texts, tick_of, deliver_of, write_o
 ghost use Rattle.media_script.specs.Spelling.{words_of};
 ghost use Rattle.media_script.specs.Gives.{Gives};
 
-use crate::entry::Write;
 use crate::error::LineError;
-use crate::left::{
-    end, flag_at, hex_at, kind_at, number_8_at, number_32_at, number_at, side_at, time_at,
-};
+use crate::left::{end, flag_at, hex_at, kind_at, number_32_at, number_8_at, number_at, side_at, time_at};
 use crate::lines::words;
-use crate::step::Step;
 use media_base::{Bytes, Instant};
+use media_model::{Step, Write};
 use rtp_wire::{Pt, SeqNo, Ssrc};
 use std::alloc::Global;
 

@@ -3,12 +3,10 @@ ghost use Rattle.std.specs.Prelude.{◌≡◌, ◌++◌, Some, IfOk, OnOk, strin
 ghost use Rattle.media_script.specs.Names.{side_text, kind_text, flag_text};
 ghost use Rattle.media_script.specs.Text.{byte_text, hex_text, answer_text, line_text, entries_text, end_text, text_of};
 
-use crate::entry::{Entry, Kind, Side};
-use crate::setup::Setup;
-use crate::transcript::Transcript;
+use media_model::{Entry, Kind, Setup, Side, Transcript};
 use std::alloc::{AllocError, Global};
-use std::fmt;
 use std::fmt::Write;
+use std::fmt;
 
 impl fmt::Display for Side {
     ghost output = { λ s. Some (side_text s) };

@@ -1,5 +1,5 @@
 use Rattle.std.proofs.Common.{◌≡◌, List, [], None, sym, ◌∙◌, subst, arith}
-use Rattle.media_script.specs.declared.entry.Entry.{Entry}
+use Rattle.media_model.specs.declared.entry.Entry.{Entry}
 use Rattle.media_play.specs.Play.{Played, start}
 use Rattle.media_play.specs.Sessions.{sealing_of}
 use Rattle.media_play.specs.SetupRules.{setup_fault}

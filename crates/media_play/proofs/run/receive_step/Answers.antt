@@ -1,6 +1,6 @@
 use Rattle.std.proofs.Common.{ℕ, List, [], ◌∷◌, ◌++◌, ap, sym, subst, ◌∙◌, append_assoc}
-use Rattle.media_script.specs.declared.entry.Entry.{Entry}
-use Rattle.media_script.specs.declared.entry.Entry.TheVariants.{Got}
+use Rattle.media_model.specs.declared.entry.Entry.{Entry}
+use Rattle.media_model.specs.declared.entry.Entry.TheVariants.{Got}
 use Rattle.media_play.specs.Opening.{Receives}
 use Rattle.media_play.specs.Sessions.{sealing_of, received_entries, Ready}
 use Rattle.media_play.proofs.run.receive_step.Goals as goal

@@ -1,6 +1,6 @@
 use Rattle.std.proofs.Common.{List, [], ◌∷◌, ◌++◌, ap, ◌∙◌, append_assoc}
-use Rattle.media_script.specs.declared.entry.Entry.{Entry}
-use Rattle.media_script.specs.declared.entry.Entry.TheVariants.{Ticked}
+use Rattle.media_model.specs.declared.entry.Entry.{Entry}
+use Rattle.media_model.specs.declared.entry.Entry.TheVariants.{Ticked}
 use Rattle.media_play.specs.Play.{sealed_at_tick}
 use Rattle.media_play.specs.Sessions.{sealing_of}
 use Rattle.media_play.proofs.run.tick_step.Goals as goal

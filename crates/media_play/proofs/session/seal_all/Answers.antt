@@ -3,7 +3,7 @@ use Rattle.std.proofs.lemmas.List.{append-nil, nil_from_length}
 use Rattle.std.specs.Iterator.{Yields}
 use Rattle.std.specs.Vec.Iter.{into_iter_items, into_iter_steps}
 use Rattle.std.specs.declared.vec.IntoIter.{IntoIter}
-use Rattle.media_script.specs.declared.entry.Entry.{Entry}
+use Rattle.media_model.specs.declared.entry.Entry.{Entry}
 use Rattle.media_play.specs.Packets.{WaitingPacket, waiting_of, seal_in, sealed_packet}
 use Rattle.media_play.proofs.session.seal_all.Goals as goal
 

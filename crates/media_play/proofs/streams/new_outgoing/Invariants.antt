@@ -1,6 +1,6 @@
 use Rattle.std.proofs.Common.{◌≡◌, [], map, take}
 use Rattle.std.specs.List.{AllByRecursion}
-use Rattle.media_script.specs.declared.entry.Side.{Side}
+use Rattle.media_model.specs.declared.entry.Side.{Side}
 use Rattle.media_play.specs.Knowing.{SendsAs, ssrc_of}
 use Rattle.media_play.proofs.streams.new_outgoing.Given as goal
 

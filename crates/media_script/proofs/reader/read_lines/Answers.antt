@@ -1,8 +1,8 @@
 use Rattle.std.proofs.Common.{ℕ, ◌∷◌, length, cond, Result, Err, List, sym, ap, ◌∙◌, arith, subst, length-append}
 use Rattle.std.specs.Prelude.{Vec}
 use Rattle.std.specs.declared.alloc.Global.{Global}
-use Rattle.media_script.specs.declared.setup.Setup.{Setup}
-use Rattle.media_script.specs.declared.step.Step.{Step}
+use Rattle.media_model.specs.declared.setup.Setup.{Setup}
+use Rattle.media_model.specs.declared.step.Step.{Step}
 use Rattle.media_script.specs.Gives.{GivesScript}
 use Rattle.media_script.specs.Grammar.{whole_of}
 use Rattle.media_script.proofs.Reading.{ends, goes_on, stops}

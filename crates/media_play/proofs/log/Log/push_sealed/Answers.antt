@@ -1,6 +1,6 @@
 use Rattle.std.proofs.Common.{ap, length}
-use Rattle.media_script.specs.declared.entry.Side.TheVariants.{A, B}
-use Rattle.media_script.specs.Sides.{same_side}
+use Rattle.media_model.specs.declared.entry.Side.TheVariants.{A, B}
+use Rattle.media_model.specs.Sides.{same_side}
 use Rattle.media_play.proofs.Places.{added_place}
 use Rattle.media_play.proofs.log.Log.push_sealed.Goals as goal
 

@@ -1,5 +1,5 @@
 use Rattle.std.proofs.Common.{Some, ap, sym, ◌∙◌}
-use Rattle.media_script.specs.declared.step.Step.TheVariants.{Deliver}
+use Rattle.media_model.specs.declared.step.Step.TheVariants.{Deliver}
 use Rattle.media_play.specs.Play.{delivered}
 use Rattle.media_play.proofs.OthersReceive.{no_fault}
 use Rattle.media_play.proofs.run.Run.deliver.Goals as goal

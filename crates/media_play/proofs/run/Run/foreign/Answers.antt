@@ -1,5 +1,5 @@
 use Rattle.std.proofs.Common.{List, ℕ, sym, subst, ◌∙◌}
-use Rattle.media_script.specs.declared.step.Step.TheVariants.{Foreign}
+use Rattle.media_model.specs.declared.step.Step.TheVariants.{Foreign}
 use Rattle.media_play.specs.Play.{Brings, foreign}
 use Rattle.media_play.proofs.run.Run.foreign.Goals as goal
 

@@ -1,6 +1,6 @@
 use Rattle.std.proofs.Common.{◌≡◌, ◌∙◌, [], sym, ap, subst}
-use Rattle.media_script.specs.declared.entry.Side.TheVariants.{A, B}
-use Rattle.media_play.specs.Entries.{last_time}
+use Rattle.media_model.specs.declared.entry.Side.TheVariants.{A, B}
+use Rattle.media_model.specs.Entries.{last_time}
 use Rattle.media_play.specs.Play.{Played, start}
 use Rattle.media_play.specs.Sessions.{Ready, sealing_of}
 use Rattle.media_play.proofs.run.Run.new.Goals as goal

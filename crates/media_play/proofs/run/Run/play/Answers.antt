@@ -1,5 +1,5 @@
 use Rattle.std.proofs.Common.{◌≡◌, sym, subst}
-use Rattle.media_script.specs.declared.step.Step.{Step}
+use Rattle.media_model.specs.declared.step.Step.{Step}
 use Rattle.media_play.specs.Errors.{IsBroken}
 use Rattle.media_play.specs.Rules.{step_fault}
 use Rattle.media_play.proofs.run.Run.play.Goals as goal

@@ -1,8 +1,8 @@
 use Rattle.std.proofs.Common.{◌≡◌, ◌∙◌, [], ◌∷◌, ◌++◌, None, Err, sym, ap, subst}
-use Rattle.media_script.specs.declared.entry.Side.{Side}
-use Rattle.media_script.specs.declared.entry.Side.TheVariants.{A, B}
-use Rattle.media_script.specs.declared.entry.Entry.TheVariants.{Wrote}
-use Rattle.media_script.specs.Sides.{same_side}
+use Rattle.media_model.specs.declared.entry.Side.{Side}
+use Rattle.media_model.specs.declared.entry.Side.TheVariants.{A, B}
+use Rattle.media_model.specs.declared.entry.Entry.TheVariants.{Wrote}
+use Rattle.media_model.specs.Sides.{same_side}
 use Rattle.media_play.specs.Errors.{IsBroken}
 use Rattle.media_play.specs.Rules.{or_else, time_fault, write_fault}
 use Rattle.media_play.specs.Running.{RunState, Running}

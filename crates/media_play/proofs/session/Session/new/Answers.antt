@@ -1,6 +1,6 @@
 use Rattle.std.proofs.Common.{Bool, List, ℕ, ap, ◌∙◌}
 use Rattle.srtp_core.specs.Contexts.{new_state}
-use Rattle.media_script.specs.Setup.{material_of}
+use Rattle.media_model.specs.Setup.{material_of}
 use Rattle.media_play.specs.Sessions.{is_left}
 use Rattle.media_play.proofs.session.Session.new.Goals as goal
 

@@ -1,6 +1,6 @@
 use Rattle.std.proofs.Common.{◌≡◌, [], ◌∷◌, ◌++◌, map, slice_get, Some, ap, sym, subst}
 use Rattle.std.proofs.lemmas.Result.{on_ok_weaker}
-use Rattle.media_script.specs.declared.entry.Entry.TheVariants.{Wrote}
+use Rattle.media_model.specs.declared.entry.Entry.TheVariants.{Wrote}
 use Rattle.media_play.specs.Knowing.{ssrc_of, Knows}
 use Rattle.media_play.specs.Sessions.{SessionState}
 use Rattle.media_play.proofs.Receiving.{ready_with}

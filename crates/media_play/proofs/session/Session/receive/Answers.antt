@@ -1,6 +1,6 @@
 use Rattle.std.proofs.Common.{◌≡◌, sym, ◌∙◌}
 use Rattle.std.proofs.lemmas.Result.{IfOk-weaker}
-use Rattle.media_script.specs.declared.entry.Kind.TheVariants.{Rtp, Rtcp}
+use Rattle.media_model.specs.declared.entry.Kind.TheVariants.{Rtp, Rtcp}
 use Rattle.media_play.proofs.Receiving.{nothing_received}
 use Rattle.media_play.proofs.session.Session.receive.Goals as goal
 

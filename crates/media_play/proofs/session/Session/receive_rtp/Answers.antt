@@ -3,9 +3,9 @@ use Rattle.std.specs.Prelude.{IsTrue, IsSome, IsNone}
 use Rattle.rtp_wire.specs.declared.extension.ExtensionMap.{ExtensionMap}
 use Rattle.rtp_wire.specs.Header.{header_of}
 use Rattle.rtp_wire.specs.Padding.{unpadded}
-use Rattle.media_script.specs.declared.entry.Entry.{Entry}
-use Rattle.media_script.specs.declared.entry.Entry.TheVariants.{Got, Opened}
-use Rattle.media_script.specs.declared.entry.Kind.TheVariants.{Rtp}
+use Rattle.media_model.specs.declared.entry.Entry.{Entry}
+use Rattle.media_model.specs.declared.entry.Entry.TheVariants.{Got, Opened}
+use Rattle.media_model.specs.declared.entry.Kind.TheVariants.{Rtp}
 use Rattle.media_play.specs.Knowing.{Knows, accepted}
 use Rattle.media_play.specs.Opening.{Receives, opens, cut, yields}
 use Rattle.media_play.specs.Plain.{read_header}

@@ -2,8 +2,8 @@ use Rattle.std.proofs.Common.{rules, List, [], ◌∷◌, ◌++◌, map, ap, sym
 use Rattle.std.proofs.lemmas.List.{append-nil}
 use Rattle.std.proofs.lemmas.Result.{on_ok_weaker}
 use Rattle.srtp_core.specs.Contexts.{SrtpState}
-use Rattle.media_script.specs.declared.entry.Entry.{Entry}
-use Rattle.media_script.specs.declared.entry.Entry.TheVariants.{Ticked}
+use Rattle.media_model.specs.declared.entry.Entry.{Entry}
+use Rattle.media_model.specs.declared.entry.Entry.TheVariants.{Ticked}
 use Rattle.media_play.specs.Knowing.{Knows}
 use Rattle.media_play.specs.Packets.{waiting_of, seal_in, sealed_packet}
 use Rattle.media_play.specs.Play.{to_seal, sealed_at_tick}

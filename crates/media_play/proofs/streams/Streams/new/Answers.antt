@@ -1,5 +1,5 @@
 use Rattle.std.proofs.Common.{ap, ◌∙◌, ◌∷◌}
-use Rattle.media_script.specs.Setup.{streams_of}
+use Rattle.media_model.specs.Setup.{streams_of}
 use Rattle.media_play.proofs.streams.Streams.new.Goals as goal
 
 pub returns : goal.returns

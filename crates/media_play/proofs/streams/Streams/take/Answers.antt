@@ -1,5 +1,5 @@
 use Rattle.std.proofs.Common.{sym, refl, ◌∙◌, subst}
-use Rattle.media_script.specs.Sides.{peer_of}
+use Rattle.media_model.specs.Sides.{peer_of}
 use Rattle.media_play.specs.Listing.{NoRepeat}
 use Rattle.media_play.specs.Knowing.{source_of}
 use Rattle.media_play.proofs.Knowings.{same_keys, key_at, distinct_sources, sends_opened, takes_opened}

@@ -1,7 +1,7 @@
 use Rattle.std.proofs.Common.{◌≡◌, List, Some, None, cond, sym, ap, ◌∙◌, subst}
 use Rattle.std.specs.List.{position}
 use Rattle.std.proofs.Math.ListN.{set}
-use Rattle.media_script.specs.declared.setup.Media.{Media}
+use Rattle.media_model.specs.declared.setup.Media.{Media}
 use Rattle.media_script.specs.SetupLines.{is_of, has_mid, with_stream}
 use Rattle.media_script.proofs.MediaLaws.{more, added_at, none_at}
 use Rattle.media_script.proofs.media_list.MediaList.with_stream.Goals as goal

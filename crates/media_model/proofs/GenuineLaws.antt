@@ -1,0 +1,158 @@
+-- The test of a genuine run tells what genuine means.
+use Rattle.std.proofs.Common.{◌≡◌, ℕ, Bool, true, false, ◌&&◌, ◌||◌, List, [], ◌∷◌, ◌++◌, Option, Some, None, Result, Ok, Err, not, refl, sym, ap, ◌∙◌, subst, append_assoc}
+use Rattle.std.specs.Prelude.{IsTrue, IfOk, ◌↔◌}
+use Rattle.std.specs.declared.alloc.AllocError.{AllocError}
+use Rattle.std.specs.List.{list_any}
+use Rattle.std.proofs.lemmas.Bool.{eqb-true, eq-eqb}
+use Rattle.std.proofs.lemmas.List.{append-nil}
+use Rattle.std.proofs.lemmas.List.Folds.{list_any-append}
+use Rattle.std.proofs.lemmas.Slice.Eq.{bytes_eq-Decides}
+use Rattle.media_model.specs.declared.entry.Side.{Side}
+use Rattle.media_model.specs.declared.entry.Side.TheVariants.{A, B}
+use Rattle.media_model.specs.declared.entry.Kind.{Kind}
+use Rattle.media_model.specs.declared.entry.Kind.TheVariants.{Rtp, Rtcp}
+use Rattle.media_model.specs.declared.entry.Entry.{Entry}
+use Rattle.media_model.specs.declared.entry.Entry.TheVariants.{Wrote, Ticked, Got, Sealed, Opened, Yielded}
+use Rattle.media_model.specs.declared.setup.Setup.{Setup}
+use Rattle.media_model.specs.Setup.{rtx_of}
+use Rattle.media_model.specs.Sides.{peer_of, same_side, same_kind}
+use Rattle.media_model.specs.Genuine.{last_got, IsPeersSeal, IsGenuine, seals, some_seals, is_genuine_after, genuine_from, is_genuine, is_repair, RepairsWiden, repairs_widen}
+
+both : (a b : Bool) → (a && b) ≡ true → (a ≡ true) × (b ≡ true)
+both true b e = (refl, e)
+both false b e = absurd cc
+
+record Found {X : Type 0} (test : X → Bool) (xs : List X) : Type 0 where
+  one : X
+  front : List X
+  rest : List X
+  split : xs ≡ front ++ one ∷ rest
+  passes : test one ≡ true
+
+found : {X : Type 0} (test : X → Bool) (xs : List X) → list_any test xs ≡ true → Found test xs
+found test [] e = absurd cc
+found test (x ∷ xs) e = go (λ h. found test xs h) (test x) refl e where
+  go : (list_any test xs ≡ true → Found test xs) → (b : Bool) → test x ≡ b → (b || list_any test xs) ≡ true → Found test (x ∷ xs)
+  go next true p e' = record { one = x; front = []; rest = xs; split = refl; passes = p }
+  go next false p e' = let f = next e' in record { one = f.one; front = x ∷ f.front; rest = f.rest; split = ap (λ ys. x ∷ ys) f.split; passes = f.passes }
+
+side_is : (a b : Side) → same_side a b ≡ true → a ≡ b
+side_is A A e = refl
+side_is A B e = absurd cc
+side_is B A e = absurd cc
+side_is B B e = refl
+
+kind_is : (a b : Kind) → same_kind a b ≡ true → a ≡ b
+kind_is Rtp Rtp e = refl
+kind_is Rtp Rtcp e = absurd cc
+kind_is Rtcp Rtp e = absurd cc
+kind_is Rtcp Rtcp e = refl
+
+same_side_refl : (a : Side) → same_side a a ≡ true
+same_side_refl A = refl
+same_side_refl B = refl
+
+same_kind_refl : (a : Kind) → same_kind a a ≡ true
+same_kind_refl Rtp = refl
+same_kind_refl Rtcp = refl
+
+-- an entry that passes is a seal
+sealed_is : (side : Side) (kind : Kind) (ssrc index : ℕ) (bytes : List ℕ) (e : Entry) → seals side kind ssrc index bytes e ≡ true → (plain : List ℕ) × (e ≡ Sealed side kind ssrc index plain bytes)
+sealed_is side kind ssrc index bytes (Sealed s k r i plain b) e =
+    let p = both _ _ e in
+    let q = both _ _ p.1 in
+    let t = both _ _ q.1 in
+    let u = both _ _ t.1 in
+    (plain, λ j. Sealed (side_is s side p.0 j) (kind_is k kind q.0 j) (eqb-true r ssrc t.0 j) (eqb-true i index u.0 j) plain ((bytes_eq-Decides b bytes).0 u.1 j))
+sealed_is side kind ssrc index bytes (Wrote s t w) e = absurd cc
+sealed_is side kind ssrc index bytes (Ticked s t) e = absurd cc
+sealed_is side kind ssrc index bytes (Got s t k b) e = absurd cc
+sealed_is side kind ssrc index bytes (Opened s k r i p) e = absurd cc
+sealed_is side kind ssrc index bytes (Yielded s p) e = absurd cc
+
+seals_itself : (side : Side) (kind : Kind) (ssrc index : ℕ) (plain bytes : List ℕ) → seals side kind ssrc index bytes (Sealed side kind ssrc index plain bytes) ≡ true
+seals_itself side kind ssrc index plain bytes =
+    rw (same_side_refl side, same_kind_refl kind, eq-eqb ssrc ssrc refl, eq-eqb index index refl) ((bytes_eq-Decides bytes bytes).1 refl)
+
+seal_told : (before : List Entry) (side : Side) (kind : Kind) (ssrc index : ℕ) → some_seals before (peer_of side) kind ssrc index (last_got before) ≡ true → IsPeersSeal before side kind ssrc index
+seal_told before side kind ssrc index e = go (last_got before) refl e where
+  go : (o : Option (List ℕ)) → last_got before ≡ o → some_seals before (peer_of side) kind ssrc index o ≡ true → IsPeersSeal before side kind ssrc index
+  go None p e' = absurd cc
+  go (Some bytes) p e' =
+      let f = found (seals (peer_of side) kind ssrc index bytes) before e' in
+      let s = sealed_is (peer_of side) kind ssrc index bytes f.one f.passes in
+      record { bytes = bytes; got = p; plain = s.0; front = f.front; rest = f.rest; sealed = f.split ∙ ap (λ x. f.front ++ x ∷ f.rest) s.1 }
+
+or_true : (a : Bool) → (a || true) ≡ true
+or_true true = refl
+or_true false = refl
+
+seal_passes : (before : List Entry) (side : Side) (kind : Kind) (ssrc index : ℕ) → IsPeersSeal before side kind ssrc index → some_seals before (peer_of side) kind ssrc index (last_got before) ≡ true
+seal_passes before side kind ssrc index s =
+    let test = seals (peer_of side) kind ssrc index s.bytes in
+    let one = Sealed (peer_of side) kind ssrc index s.plain s.bytes in
+    ap (some_seals before (peer_of side) kind ssrc index) s.got ∙ ap (list_any test) s.sealed ∙ list_any-append test s.front (one ∷ s.rest)
+    ∙ ap (λ b. list_any test s.front || (b || list_any test s.rest)) (seals_itself (peer_of side) kind ssrc index s.plain s.bytes) ∙ or_true (list_any test s.front)
+
+genuine_told : (entries before : List Entry) → genuine_from before entries ≡ true → (front after : List Entry) (side : Side) (kind : Kind) (ssrc index : ℕ) (plain : List ℕ)
+    → entries ≡ front ++ Opened side kind ssrc index plain ∷ after → IsPeersSeal (before ++ front) side kind ssrc index
+unfolding genuine_from
+genuine_told [] before e [] after side kind ssrc index plain split = absurd cc
+genuine_told [] before e (f ∷ front) after side kind ssrc index plain split = absurd cc
+genuine_told (x ∷ entries) before e [] after side kind ssrc index plain split =
+    let opened : x ≡ Opened side kind ssrc index plain = cc in
+    subst (λ b. IsPeersSeal b side kind ssrc index) (sym (append-nil before))
+    (seal_told before side kind ssrc index (sym (ap (is_genuine_after before) opened) ∙ (both _ _ e).0))
+genuine_told (x ∷ entries) before e (f ∷ front) after side kind ssrc index plain split =
+    let same : x ≡ f = cc in
+    let tail : entries ≡ front ++ Opened side kind ssrc index plain ∷ after = cc in
+    subst (λ b. IsPeersSeal b side kind ssrc index) (append_assoc before (x ∷ []) front ∙ ap (λ y. before ++ y ∷ front) same)
+    (genuine_told entries (before ++ x ∷ []) (both _ _ e).1 front after side kind ssrc index plain tail)
+
+genuine_passes : (entries before : List Entry) → ((front after : List Entry) (side : Side) (kind : Kind) (ssrc index : ℕ) (plain : List ℕ)
+    → entries ≡ front ++ Opened side kind ssrc index plain ∷ after → IsPeersSeal (before ++ front) side kind ssrc index) → genuine_from before entries ≡ true
+unfolding genuine_from
+genuine_passes [] before h = refl
+genuine_passes (x ∷ entries) before h =
+    ap (λ b. b && genuine_from (before ++ x ∷ []) entries) (here x refl)
+    ∙ genuine_passes entries (before ++ x ∷ []) (λ front after side kind ssrc index plain split.
+    subst (λ b. IsPeersSeal b side kind ssrc index) (sym (append_assoc before (x ∷ []) front)) (h (x ∷ front) after side kind ssrc index plain (ap (λ ys. x ∷ ys) split))) where
+      here : (y : Entry) → x ≡ y → is_genuine_after before x ≡ true
+      here (Opened side kind ssrc index plain) p =
+          ap (is_genuine_after before) p
+          ∙ seal_passes before side kind ssrc index (subst (λ b. IsPeersSeal b side kind ssrc index) (append-nil before) (h [] entries side kind ssrc index plain (ap (λ y. y ∷ entries) p)))
+      here (Wrote s t w) p = ap (is_genuine_after before) p
+      here (Ticked s t) p = ap (is_genuine_after before) p
+      here (Got s t k b) p = ap (is_genuine_after before) p
+      here (Sealed s k r i p' b) p = ap (is_genuine_after before) p
+      here (Yielded s q) p = ap (is_genuine_after before) p
+
+pub genuine_means : (entries : List Entry) (b : Bool) → b ≡ is_genuine entries → IsTrue b ↔ IsGenuine entries
+genuine_means entries b is = (
+  λ t. genuine_told entries [] (sym is ∙ t),
+  λ g. is ∙ genuine_passes entries [] g,
+)
+
+pub genuine_means_of : (entries : List Entry) (r : Result Bool AllocError) → IfOk r (λ b. b ≡ is_genuine entries) → IfOk r (λ b. IsTrue b ↔ IsGenuine entries)
+genuine_means_of entries (Ok b) is = genuine_means entries b is
+genuine_means_of entries (Err e) is = tt
+
+none_told : {X : Type 0} (test : X → Bool) (xs before after : List X) (x : X) → not (list_any test xs) ≡ true → xs ≡ before ++ x ∷ after → test x ≡ false
+none_told test xs before after x e split = go (test x) refl (list_any test before) refl where
+  go : (b : Bool) → test x ≡ b → (d : Bool) → list_any test before ≡ d → b ≡ false
+  go false p d q = refl
+  go true p d q =
+      let all : list_any test xs ≡ true = ap (list_any test) split ∙ list_any-append test before (x ∷ after) ∙ ap (λ b. list_any test before || (b || list_any test after)) p ∙ or_true (list_any test before) in
+      absurd (cc (ap not all, e))
+
+none_passes : {X : Type 0} (test : X → Bool) (xs : List X) → ((before after : List X) (x : X) → xs ≡ before ++ x ∷ after → test x ≡ false) → list_any test xs ≡ false
+none_passes test [] h = refl
+none_passes test (x ∷ xs) h =
+    ap (λ b. b || list_any test xs) (h [] xs x refl) ∙ none_passes test xs (λ before after y split. h (x ∷ before) after y (ap (λ l. x ∷ l) split))
+
+-- that no repair was opened
+pub repairs_mean : (setup : Setup) (entries : List Entry) (b : Bool) → b ≡ repairs_widen setup entries → IsTrue b ↔ RepairsWiden setup entries
+repairs_mean setup entries b is = (
+  λ t before after entry split. none_told (is_repair (rtx_of setup)) entries before after entry (sym is ∙ t) split,
+  λ h. is ∙ ap not (none_passes (is_repair (rtx_of setup)) entries h),
+)

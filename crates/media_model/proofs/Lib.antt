@@ -1,0 +1,3 @@
+pub mod FilterMap
+pub mod GenuineLaws
+pub mod Seals

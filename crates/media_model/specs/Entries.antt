@@ -1,0 +1,97 @@
+-- What is read off the entries of a run.
+use Rattle.std.specs.Prelude.{ℕ, Bool, true, false, cond, ◌&&◌, ◌==◌, not, filter, List, [], ◌∷◌}
+use Rattle.std.specs.List.{flat_map, list_any}
+use Rattle.media_model.specs.declared.entry.Side.{Side}
+use Rattle.media_model.specs.declared.entry.Kind.{Kind}
+use Rattle.media_model.specs.declared.entry.Kind.TheVariants.{Rtp}
+use Rattle.media_model.specs.declared.entry.Write.{Write}
+use Rattle.media_model.specs.declared.entry.Packet.{Packet}
+use Rattle.media_model.specs.declared.entry.Entry.{Entry}
+use Rattle.media_model.specs.declared.entry.Entry.TheVariants.{Wrote, Ticked, Got, Sealed, Opened, Yielded}
+use Rattle.media_model.specs.Sides.{same_side, same_kind}
+
+-- the writes of a side on an SSRC, in order
+abbrev pub write_on : Side → ℕ → Entry → List Write
+write_on side ssrc (Wrote s time write) = cond (same_side side s && (write.ssrc == ssrc)) (write ∷ []) []
+write_on side ssrc _ = []
+
+abbrev pub writes_on : Side → ℕ → List Entry → List Write
+writes_on side ssrc entries = flat_map (write_on side ssrc) entries
+
+-- the writes of a side, in order
+abbrev pub write_by : Side → Entry → List Write
+write_by side (Wrote s time write) = cond (same_side side s) (write ∷ []) []
+write_by side _ = []
+
+abbrev pub writes_by : Side → List Entry → List Write
+writes_by side entries = flat_map (write_by side) entries
+
+-- the numbers under which a side sealed RTP on an SSRC, in order
+abbrev pub sealed_number_on : Side → ℕ → Entry → List ℕ
+sealed_number_on side ssrc (Sealed s kind r index plain bytes) = cond (same_side side s && (same_kind Rtp kind && (r == ssrc))) (index ∷ []) []
+sealed_number_on side ssrc _ = []
+
+abbrev pub sealed_numbers : Side → ℕ → List Entry → List ℕ
+sealed_numbers side ssrc entries = flat_map (sealed_number_on side ssrc) entries
+
+-- the datagrams that a side sealed, of both kinds, in order
+abbrev pub datagram_by : Side → Entry → List (List ℕ)
+datagram_by side (Sealed s kind ssrc index plain bytes) = cond (same_side side s) (bytes ∷ []) []
+datagram_by side _ = []
+
+abbrev pub datagrams : Side → List Entry → List (List ℕ)
+datagrams side entries = flat_map (datagram_by side) entries
+
+-- kind, SSRC and index of what a side sealed, in order
+abbrev pub nonce_by : Side → Entry → List (Kind × ℕ × ℕ)
+nonce_by side (Sealed s kind ssrc index plain bytes) = cond (same_side side s) ((kind, ssrc, index) ∷ []) []
+nonce_by side _ = []
+
+abbrev pub nonces : Side → List Entry → List (Kind × ℕ × ℕ)
+nonces side entries = flat_map (nonce_by side) entries
+
+-- the numbers that a side took on an SSRC: those of the RTP datagrams that it opened, in order
+abbrev pub taken_on : Side → ℕ → Entry → List ℕ
+taken_on side ssrc (Opened s kind r index plain) = cond (same_side side s && (same_kind Rtp kind && (r == ssrc))) (index ∷ []) []
+taken_on side ssrc _ = []
+
+abbrev pub taken : Side → ℕ → List Entry → List ℕ
+taken side ssrc entries = flat_map (taken_on side ssrc) entries
+
+-- the packets that a side yielded, in order
+abbrev pub packet_by : Side → Entry → List Packet
+packet_by side (Yielded s packet) = cond (same_side side s) (packet ∷ []) []
+packet_by side _ = []
+
+abbrev pub packets : Side → List Entry → List Packet
+packets side entries = flat_map (packet_by side) entries
+
+-- the times of the steps, in order
+abbrev pub time_of : Entry → List ℕ
+time_of (Wrote side time write) = time ∷ []
+time_of (Ticked side time) = time ∷ []
+time_of (Got side time kind bytes) = time ∷ []
+time_of _ = []
+
+-- the time of the last step, 0 before any
+abbrev pub latest : List ℕ → ℕ
+latest [] = 0
+latest (t ∷ []) = t
+latest (t ∷ u ∷ ts) = latest (u ∷ ts)
+
+abbrev pub last_time : List Entry → ℕ
+last_time entries = latest (flat_map time_of entries)
+
+-- the writes on an SSRC that were not sealed yet, in order
+abbrev pub is_sealed : List ℕ → Write → Bool
+is_sealed numbers write = list_any (λ n. n == write.number) numbers
+
+abbrev pub queued : Side → ℕ → List Entry → List Write
+queued side ssrc entries = filter (λ w. not (is_sealed (sealed_numbers side ssrc entries) w)) (writes_on side ssrc entries)
+
+-- whether an entry is a step, and not what a step brings
+abbrev pub is_step : Entry → Bool
+is_step (Wrote side time write) = true
+is_step (Ticked side time) = true
+is_step (Got side time kind bytes) = true
+is_step _ = false

@@ -1,0 +1,4 @@
+pub mod Entries
+pub mod Genuine
+pub mod Setup
+pub mod Sides

@@ -1,0 +1,49 @@
+-- What a setup gives to a run.
+use Rattle.std.specs.Prelude.{ℕ, List, map, replicate, Option, Some, None, if◌then◌else◌}
+use Rattle.std.specs.List.{flat_map, filter_map}
+use Rattle.srtp_core.specs.declared.profile.SrtpProfile.{SrtpProfile}
+use Rattle.srtp_core.specs.Keys.{material_len}
+use Rattle.media_model.specs.declared.entry.Side.{Side}
+use Rattle.media_model.specs.declared.setup.Key.{Key}
+use Rattle.media_model.specs.declared.setup.Key.TheVariants.{Zero, Given}
+use Rattle.media_model.specs.declared.setup.PayloadType.{PayloadType}
+use Rattle.media_model.specs.declared.setup.Stream.{Stream}
+use Rattle.media_model.specs.declared.setup.Media.{Media}
+use Rattle.media_model.specs.declared.setup.Setup.{Setup}
+use Rattle.media_model.specs.Sides.{same_side}
+
+abbrev pub key_bytes : SrtpProfile → Key → List ℕ
+key_bytes profile Zero = replicate (material_len profile) 0
+key_bytes profile (Given bytes) = bytes
+
+-- the keying material
+abbrev pub material_of : Setup → List ℕ
+material_of setup = key_bytes setup.profile setup.key
+
+-- the main SSRC of a stream that this side sends
+abbrev pub main_in : Side → Stream → Option ℕ
+main_in side stream = if same_side stream.side side then Some stream.ssrc else None
+
+abbrev pub streams_in : Side → Media → List ℕ
+streams_in side media = filter_map (main_in side) media.streams
+
+-- the main SSRCs of the streams that this side sends, in order
+abbrev pub streams_of : Side → Setup → List ℕ
+streams_of side setup = flat_map (streams_in side) setup.media
+
+abbrev pub pt_in : PayloadType → ℕ
+pt_in t = t.pt
+
+-- the payload types that are claimed
+abbrev pub types_of : Setup → List ℕ
+types_of setup = map pt_in setup.types
+
+abbrev pub rtx_in : Stream → Option ℕ
+rtx_in stream = stream.rtx
+
+abbrev pub repairs_in : Media → List ℕ
+repairs_in media = filter_map rtx_in media.streams
+
+-- the SSRCs of repairs (RFC 4588 section 4)
+abbrev pub rtx_of : Setup → List ℕ
+rtx_of setup = flat_map repairs_in setup.media

@@ -1,0 +1,13 @@
+//! What runs of two media sessions speak of: setups, steps, and the entries of transcripts.
+#![tactic(auto)]
+
+mod entry;
+mod genuine;
+mod setup;
+mod step;
+mod transcript;
+
+pub use entry::{Entry, Kind, Packet, Side, Write};
+pub use setup::{CipherName, Codec, Key, Media, MediaKind, PayloadType, Setup, Stream};
+pub use step::Step;
+pub use transcript::Transcript;

@@ -1,0 +1,178 @@
+ghost use Rattle.std.specs.Prelude.{◌≡◌, ◌++◌, IfOk, OnOk};
+ghost use Rattle.std.specs.List.{filter_map};
+ghost use Rattle.media_model.specs.Setup.{material_of, streams_of, types_of, main_in, rtx_in, rtx_of};
+
+use crate::entry::Side;
+use media_base::{Bytes, Listed};
+use rtp_wire::{Mid, Pt, Rid, Ssrc};
+use srtp_core::SrtpProfile;
+use std::alloc::{AllocError, Global};
+
+/// The cipher that both sides use.
+#[derive(Clone, Copy, Debug, PartialEq, Eq)]
+pub enum CipherName {
+    /// XOR with the key, which is not secure.
+    Toy,
+}
+
+/// The keying material of a run: left key, right key, left salt, right salt (RFC 5764 section 4.2).
+#[derive(Debug, PartialEq, Eq, Drop)]
+pub enum Key {
+    /// Zeros, as many as the profile asks for.
+    Zero,
+    /// These bytes.
+    Given(Bytes),
+}
+
+/// What a payload type carries.
+#[derive(Clone, Copy, Debug, PartialEq, Eq)]
+pub enum Codec {
+    Opus,
+    Pcmu,
+    Pcma,
+    Telephone,
+    Vp8,
+    Vp9,
+    H264,
+    H265,
+    H266,
+    Av1,
+}
+
+/// A payload type that both sides know.
+#[derive(Clone, Copy, Debug, PartialEq, Eq)]
+pub struct PayloadType {
+    /// Its number, at most 127 in a run.
+    pub pt: Pt,
+    /// What it carries.
+    pub codec: Codec,
+    /// Units of RTP time in a second.
+    pub rate: u32,
+}
+
+/// What a media line carries.
+#[derive(Clone, Copy, Debug, PartialEq, Eq)]
+pub enum MediaKind {
+    /// Sound.
+    Audio,
+    /// Pictures.
+    Video,
+}
+
+/// A stream of packets, sent by one side and received by the other.
+#[derive(Clone, Copy, Debug, PartialEq, Eq)]
+pub struct Stream {
+    /// The side that sends it.
+    pub side: Side,
+    /// The main SSRC.
+    pub ssrc: Ssrc,
+    /// The SSRC of its repairs (RFC 4588 section 4).
+    pub rtx: Option<Ssrc>,
+    /// The name of its layer, in ASCII letters and digits.
+    pub rid: Option<Rid>,
+}
+
+/// A media section with its streams.
+#[derive(Debug, PartialEq, Eq, Drop)]
+pub struct Media {
+    /// Its name, in ASCII letters and digits.
+    pub mid: Mid,
+    /// Sound or pictures.
+    pub kind: MediaKind,
+    /// The canonical name of its sources (RFC 3550 section 6.5.1).
+    pub cname: Bytes,
+    /// In the order of their lines.
+    pub streams: Listed<Stream>,
+}
+
+/// What both sides know before a run begins.
+#[derive(Debug, PartialEq, Eq, Drop)]
+pub struct Setup {
+    /// The cipher of both sides.
+    pub cipher: CipherName,
+    /// The profile of both sides (RFC 5764 section 4.1.2, RFC 7714 section 14.2).
+    pub profile: SrtpProfile,
+    /// The keying material of both sides.
+    pub key: Key,
+    /// The payload types, in the order of their lines.
+    pub types: Listed<PayloadType>,
+    /// The media sections, in the order of their lines.
+    pub media: Listed<Media>,
+}
+
+impl Setup {
+    /// The keying material, which may have another length than the profile asks for.
+    pub fn material(&self, alloc: Global) -> Result<Vec<u8>, AllocError>
+        ensures { IfOk result (λ v. v.items ≡ material_of self.now) }
+    {
+        match &self.key {
+            Key::Zero => vec![in alloc; 0; self.profile.keying_material_len()],
+            Key::Given(bytes) => bytes.as_slice().to_vec(alloc),
+        }
+    }
+
+    /// The main SSRCs of the streams that a side sends, in order.
+    pub fn streams(&self, alloc: Global, side: Side) -> Result<Vec<Ssrc>, AllocError>
+        ensures { IfOk result (λ v. v.items ≡ streams_of side self.now) }
+    {
+        let mut ssrcs = Vec::new(alloc);
+        for media in self.media.as_slice() {
+            add_streams(&mut ssrcs, side, media.streams.as_slice())?;
+        }
+        Ok(ssrcs)
+    }
+
+    /// The SSRCs of repairs, in order.
+    pub fn repairs(&self, alloc: Global) -> Result<Vec<Ssrc>, AllocError>
+        ensures { IfOk result (λ v. v.items ≡ rtx_of self.now) }
+    {
+        let mut ssrcs = Vec::new(alloc);
+        for media in self.media.as_slice() {
+            add_repairs(&mut ssrcs, media.streams.as_slice())?;
+        }
+        Ok(ssrcs)
+    }
+
+    /// The payload types that are claimed, in order.
+    pub fn types(&self, alloc: Global) -> Result<Vec<Pt>, AllocError>
+        ensures { IfOk result (λ v. v.items ≡ types_of self.now) }
+    {
+        self.types.as_slice().iter().map(|t| t.pt).collect(alloc)
+    }
+}
+
+// Adds the SSRCs of the streams' repairs.
+fn add_repairs(ssrcs: &mut Vec<Ssrc>, streams: &[Stream]) -> Result<(), AllocError>
+    ensures { OnOk result (ssrcs.new.items ≡ ssrcs.old.items ++ filter_map rtx_in streams.now) }
+{
+    for stream in streams {
+        match stream.rtx {
+            Some(ssrc) => ssrcs.push(ssrc)?,
+            None => {}
+        }
+    }
+    Ok(())
+}
+
+// Adds the main SSRCs of the streams that a side sends.
+fn add_streams(ssrcs: &mut Vec<Ssrc>, of: Side, streams: &[Stream]) -> Result<(), AllocError>
+    ensures { OnOk result (ssrcs.new.items ≡ ssrcs.old.items ++ filter_map (main_in of) streams.now) }
+{
+    for stream in streams {
+        if let Some(ssrc) = main_of(stream, of) {
+            ssrcs.push(ssrc)?;
+        }
+    }
+    Ok(())
+}
+
+// The main SSRC, if the side sends the stream.
+fn main_of(stream: &Stream, side: Side) -> Option<Ssrc>
+    ensures { result ≡ main_in side stream.now }
+{
+    if stream.side == side {
+        Some(stream.ssrc)
+    } else {
+        None
+    }
+}

@@ -1,5 +1,0 @@
-use Rattle.media_script.proofs.Seals.{Knows}
-use Rattle.media_script.proofs.genuine.is_genuine.Given as goal
-
-abbrev pub invariant-loop-entry : goal.invariant-loop-entry
-invariant-loop-entry l = Knows l.entries l.entry-index l.sealed l.came l.latest

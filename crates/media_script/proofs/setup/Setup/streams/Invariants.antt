@@ -1,7 +1,0 @@
-use Rattle.std.proofs.Common.{◌≡◌, take}
-use Rattle.std.specs.List.{flat_map}
-use Rattle.media_script.specs.Setup.{streams_in}
-use Rattle.media_script.proofs.setup.Setup.streams.Given as goal
-
-abbrev pub invariant-loop-media : goal.invariant-loop-media
-invariant-loop-media l = l.ssrcs.items ≡ flat_map (streams_in l.side) (take l.media-index l.media-items)
