@@ -15,8 +15,8 @@ use Rattle.media_model.specs.declared.entry.Packet.{Packet}
 use Rattle.media_model.specs.declared.entry.Entry.{Entry}
 use Rattle.media_model.specs.declared.entry.Entry.TheVariants.{Wrote, Ticked, Got, Sealed, Opened, Yielded}
 use Rattle.media_model.specs.declared.genuine.Seal.{Seal}
-use Rattle.media_script.specs.contracts.entry.Side as side
-use Rattle.media_script.specs.contracts.entry.Kind as kind
+use Rattle.media_model.specs.contracts.entry.Side as side
+use Rattle.media_model.specs.contracts.entry.Kind as kind
 use Rattle.std.specs.Borrow.{Bor}
 use denote.Enum.Bare.{sameb}
 use Rattle.media_model.specs.Sides.{peer_of, same_side, same_kind}
