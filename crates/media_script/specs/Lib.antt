@@ -5,3 +5,4 @@ pub mod SetupLines
 pub mod Spelling
 pub mod Text
 pub mod Words
+pub mod Laws

@@ -4,6 +4,7 @@
 mod draft;
 mod error;
 mod fields;
+pub mod laws;
 mod left;
 mod lines;
 mod media_list;
@@ -12,10 +13,12 @@ mod setup_line;
 mod setup_lines;
 mod steps;
 mod text;
+mod text_lines;
 
 pub use error::ScriptError;
 pub use reader::read_script;
 pub use text::{entries_text, write_transcript};
+pub use text_lines::{end_line, put_line};
 
 #[cfg(test)]
 mod tests;

@@ -1,34 +1,12 @@
 // The text of a transcript.
 ghost use Rattle.std.specs.Prelude.{◌≡◌, ◌++◌, Some, IfOk, OnOk, string_bytes};
-ghost use Rattle.media_script.specs.Names.{side_text, kind_text, flag_text};
+ghost use Rattle.media_script.specs.Names.{flag_text};
 ghost use Rattle.media_script.specs.Text.{byte_text, hex_text, answer_text, line_text, entries_text, end_text, text_of};
 
-use media_model::{Entry, Kind, Setup, Side, Transcript};
+use media_model::{Entry, Setup, Transcript};
 use std::alloc::{AllocError, Global};
 use std::fmt::Write;
 use std::fmt;
-
-impl fmt::Display for Side {
-    ghost output = { λ s. Some (side_text s) };
-
-    fn fmt<W: fmt::Write>(&self, f: &mut fmt::Formatter<W>) -> fmt::Result {
-        match self {
-            Side::A => write!(f, "A"),
-            Side::B => write!(f, "B"),
-        }
-    }
-}
-
-impl fmt::Display for Kind {
-    ghost output = { λ k. Some (kind_text k) };
-
-    fn fmt<W: fmt::Write>(&self, f: &mut fmt::Formatter<W>) -> fmt::Result {
-        match self {
-            Kind::Rtp => write!(f, "rtp"),
-            Kind::Rtcp => write!(f, "rtcp"),
-        }
-    }
-}
 
 #[derive(Clone, Copy)]
 struct Byte(u8);
@@ -94,7 +72,7 @@ impl fmt::Display for Answer {
     }
 }
 
-fn put_entry(text: &mut String, entry: &Entry) -> Result<(), AllocError>
+pub fn put_entry(text: &mut String, entry: &Entry) -> Result<(), AllocError>
     ensures { OnOk result (string_bytes text.new ≡ string_bytes text.old ++ line_text entry.now) }
 {
     match entry {
@@ -157,7 +135,7 @@ pub fn entries_text(alloc: Global, entries: &[Entry]) -> Result<String, AllocErr
 }
 
 // Adds the last line.
-fn put_end(text: &mut String, genuine: bool, repairs: bool) -> Result<(), AllocError>
+pub fn put_end(text: &mut String, genuine: bool, repairs: bool) -> Result<(), AllocError>
     ensures { OnOk result (string_bytes text.new ≡ string_bytes text.old ++ end_text genuine repairs) }
 {
     let genuine = Answer(genuine);
