@@ -20,3 +20,4 @@ pub mod Others
 pub mod Soundness
 pub mod Playing
 pub mod Whole
+pub mod Ticks

@@ -4,7 +4,7 @@ ghost use Rattle.media_model.specs.declared.setup.Setup.{Setup as Given};
 ghost use Rattle.media_model.specs.declared.step.Step.{Step as Act};
 ghost use Rattle.media_script.specs.Spelling.{IsScript};
 ghost use Rattle.media_script.specs.Text.{entries_text as lines_of, text_of};
-ghost use Rattle.media_play.specs.Headline.{HoldsAlways, StepsAreAnswered, SealsAreRight, NoNonceTwice, SendsWrites, YieldsWrites, NoPacketTwice, FirstSendingsAreYielded};
+ghost use Rattle.media_play.specs.Headline.{HoldsAlways, StepsAreAnswered, SealsAreRight, NoNonceTwice, SendsInSome, YieldsWrites, NoPacketTwice, FirstSendingsAreYielded};
 ghost use Rattle.media_play.specs.Outcome.{status_of, toy_sealing, IsCommand, syntax_line, setup_line, step_line, RunEnds, Cause, IsOfScript, Plays, Answers, TellsScript, EndsInRun, IsInOrder, PlaysAll, PlaysToEnd};
 
 use crate::fault::{RunError, SetupFault, StepFault};
@@ -250,11 +250,11 @@ pub fn media_main<S: Source, K: Sink>(
         → IfSome result.transcript (SealsAreRight (toy_sealing setup) setup) }
     // A delivered first sending is yielded exactly where it widens to itself and is fresh.
     ensures exactly { (setup : Given) (acts : List Act) → TellsScript (S.left source.old) setup acts
-        → IfSome result.transcript (FirstSendingsAreYielded (toy_sealing setup)) }
+        → IfSome result.transcript FirstSendingsAreYielded }
     // No two datagrams of a direction share a nonce.
     ensures nonces { IfSome result.transcript NoNonceTwice }
     // Each sealed datagram is one earlier write of its side, none twice.
-    ensures sendings { IfSome result.transcript SendsWrites }
+    ensures sendings { IfSome result.transcript SendsInSome }
     // In a genuine run each packet yielded is a write of the other side; in every run none is yielded twice.
     ensures yields { IfSome result.transcript YieldsWrites }
     ensures once { IfSome result.transcript NoPacketTwice }

@@ -24,7 +24,7 @@ returns-in-Ok-clause-seals g c setup acts told =
 
 pub returns-in-Ok-clause-exactly : goal.returns-in-Ok-clause-exactly
 returns-in-Ok-clause-exactly g c setup acts told =
-    if_some_weaker c.play-played.result.transcript (HoldsOfRun (toy_sealing setup) setup) (FirstSendingsAreYielded (toy_sealing setup)) (λ entries h. h.exactly)
+    if_some_weaker c.play-played.result.transcript (HoldsOfRun (toy_sealing setup) setup) FirstSendingsAreYielded (λ entries h. h.exactly)
     (holds_of_run setup acts _ _ _ (c.play-played.ensures.script setup acts told))
 
 pub returns-in-Ok-clause-played : goal.returns-in-Ok-clause-played
