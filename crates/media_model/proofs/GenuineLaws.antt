@@ -11,12 +11,15 @@ use Rattle.media_model.specs.declared.entry.Side.{Side}
 use Rattle.media_model.specs.declared.entry.Side.TheVariants.{A, B}
 use Rattle.media_model.specs.declared.entry.Kind.{Kind}
 use Rattle.media_model.specs.declared.entry.Kind.TheVariants.{Rtp, Rtcp}
+use Rattle.media_model.specs.declared.entry.Sealed.{Sealed as SealedEntry}
+use Rattle.media_model.specs.declared.entry.Opened.{Opened as OpenedEntry}
 use Rattle.media_model.specs.declared.entry.Entry.{Entry}
 use Rattle.media_model.specs.declared.entry.Entry.TheVariants.{Wrote, Ticked, Got, Sealed, Opened, Yielded}
 use Rattle.media_model.specs.declared.setup.Setup.{Setup}
 use Rattle.media_model.specs.Setup.{rtx_of}
 use Rattle.media_model.specs.Sides.{peer_of, same_side, same_kind}
-use Rattle.media_model.specs.Genuine.{last_got, IsPeersSeal, IsGenuine, seals, some_seals, is_genuine_after, genuine_from, is_genuine, is_repair, RepairsWiden, repairs_widen}
+use Rattle.media_model.specs.Entries.{last_got}
+use Rattle.media_model.specs.Genuine.{IsPeersSeal, IsGenuine, seals, some_seals, is_genuine_after, genuine_from, is_genuine, is_repair, RepairsWiden, repairs_widen}
 
 both : (a b : Bool) → (a && b) ≡ true → (a ≡ true) × (b ≡ true)
 both true b e = (refl, e)
@@ -57,74 +60,84 @@ same_kind_refl Rtp = refl
 same_kind_refl Rtcp = refl
 
 -- an entry that passes is a seal
-sealed_is : (side : Side) (kind : Kind) (ssrc index : ℕ) (bytes : List ℕ) (e : Entry) → seals side kind ssrc index bytes e ≡ true → (plain : List ℕ) × (e ≡ Sealed side kind ssrc index plain bytes)
-sealed_is side kind ssrc index bytes (Sealed s k r i plain b) e =
+sealed_is : (o : OpenedEntry) (bytes : List ℕ) (e : Entry) → seals o bytes e ≡ true
+    → (s : SealedEntry) × (e ≡ Sealed s) × (s.side ≡ peer_of o.side) × (s.kind ≡ o.kind) × (s.ssrc ≡ o.ssrc) × (s.index ≡ o.index) × (s.bytes ≡ bytes)
+sealed_is o bytes (Sealed s) e =
     let p = both _ _ e in
     let q = both _ _ p.1 in
     let t = both _ _ q.1 in
     let u = both _ _ t.1 in
-    (plain, λ j. Sealed (side_is s side p.0 j) (kind_is k kind q.0 j) (eqb-true r ssrc t.0 j) (eqb-true i index u.0 j) plain ((bytes_eq-Decides b bytes).0 u.1 j))
-sealed_is side kind ssrc index bytes (Wrote s t w) e = absurd cc
-sealed_is side kind ssrc index bytes (Ticked s t) e = absurd cc
-sealed_is side kind ssrc index bytes (Got s t k b) e = absurd cc
-sealed_is side kind ssrc index bytes (Opened s k r i p) e = absurd cc
-sealed_is side kind ssrc index bytes (Yielded s p) e = absurd cc
+    (s, refl, side_is s.side (peer_of o.side) p.0, kind_is s.kind o.kind q.0, eqb-true s.ssrc o.ssrc t.0, eqb-true s.index o.index u.0, (bytes_eq-Decides s.bytes bytes).0 u.1)
+sealed_is o bytes (Wrote s t w) e = absurd cc
+sealed_is o bytes (Ticked s t) e = absurd cc
+sealed_is o bytes (Got g) e = absurd cc
+sealed_is o bytes (Opened p) e = absurd cc
+sealed_is o bytes (Yielded s p) e = absurd cc
 
-seals_itself : (side : Side) (kind : Kind) (ssrc index : ℕ) (plain bytes : List ℕ) → seals side kind ssrc index bytes (Sealed side kind ssrc index plain bytes) ≡ true
-seals_itself side kind ssrc index plain bytes =
-    rw (same_side_refl side, same_kind_refl kind, eq-eqb ssrc ssrc refl, eq-eqb index index refl) ((bytes_eq-Decides bytes bytes).1 refl)
+seals_it : (o : OpenedEntry) (s : SealedEntry) → s.side ≡ peer_of o.side → s.kind ≡ o.kind → s.ssrc ≡ o.ssrc → s.index ≡ o.index → seals o s.bytes (Sealed s) ≡ true
+seals_it o s a b c d =
+    rw (a, b, c, d, same_side_refl (peer_of o.side), same_kind_refl o.kind, eq-eqb o.ssrc o.ssrc refl, eq-eqb o.index o.index refl) ((bytes_eq-Decides s.bytes s.bytes).1 refl)
 
-seal_told : (before : List Entry) (side : Side) (kind : Kind) (ssrc index : ℕ) → some_seals before (peer_of side) kind ssrc index (last_got before) ≡ true → IsPeersSeal before side kind ssrc index
-seal_told before side kind ssrc index e = go (last_got before) refl e where
-  go : (o : Option (List ℕ)) → last_got before ≡ o → some_seals before (peer_of side) kind ssrc index o ≡ true → IsPeersSeal before side kind ssrc index
+seal_told : (before : List Entry) (o : OpenedEntry) → some_seals before o (last_got o.side before) ≡ true → IsPeersSeal before o
+seal_told before o e = go (last_got o.side before) refl e where
+  go : (l : Option (List ℕ)) → last_got o.side before ≡ l → some_seals before o l ≡ true → IsPeersSeal before o
   go None p e' = absurd cc
   go (Some bytes) p e' =
-      let f = found (seals (peer_of side) kind ssrc index bytes) before e' in
-      let s = sealed_is (peer_of side) kind ssrc index bytes f.one f.passes in
-      record { bytes = bytes; got = p; plain = s.0; front = f.front; rest = f.rest; sealed = f.split ∙ ap (λ x. f.front ++ x ∷ f.rest) s.1 }
+      let f = found (seals o bytes) before e' in
+      let s = sealed_is o bytes f.one f.passes in
+      record {
+        seal = s.0;
+        front = f.front;
+        rest = f.rest;
+        sealed = f.split ∙ ap (λ x. f.front ++ x ∷ f.rest) s.1;
+        side = s.2;
+        kind = s.3;
+        ssrc = s.4;
+        index = s.5;
+        came = p ∙ ap Some (sym s.6);
+      }
 
 or_true : (a : Bool) → (a || true) ≡ true
 or_true true = refl
 or_true false = refl
 
-seal_passes : (before : List Entry) (side : Side) (kind : Kind) (ssrc index : ℕ) → IsPeersSeal before side kind ssrc index → some_seals before (peer_of side) kind ssrc index (last_got before) ≡ true
-seal_passes before side kind ssrc index s =
-    let test = seals (peer_of side) kind ssrc index s.bytes in
-    let one = Sealed (peer_of side) kind ssrc index s.plain s.bytes in
-    ap (some_seals before (peer_of side) kind ssrc index) s.got ∙ ap (list_any test) s.sealed ∙ list_any-append test s.front (one ∷ s.rest)
-    ∙ ap (λ b. list_any test s.front || (b || list_any test s.rest)) (seals_itself (peer_of side) kind ssrc index s.plain s.bytes) ∙ or_true (list_any test s.front)
+seal_passes : (before : List Entry) (o : OpenedEntry) → IsPeersSeal before o → some_seals before o (last_got o.side before) ≡ true
+seal_passes before o s =
+    let test = seals o s.seal.bytes in
+    ap (some_seals before o) s.came ∙ ap (list_any test) s.sealed ∙ list_any-append test s.front (Sealed s.seal ∷ s.rest)
+    ∙ ap (λ b. list_any test s.front || (b || list_any test s.rest)) (seals_it o s.seal s.side s.kind s.ssrc s.index) ∙ or_true (list_any test s.front)
 
-genuine_told : (entries before : List Entry) → genuine_from before entries ≡ true → (front after : List Entry) (side : Side) (kind : Kind) (ssrc index : ℕ) (plain : List ℕ)
-    → entries ≡ front ++ Opened side kind ssrc index plain ∷ after → IsPeersSeal (before ++ front) side kind ssrc index
+genuine_told : (entries before : List Entry) → genuine_from before entries ≡ true → (front after : List Entry) (opened : OpenedEntry)
+    → entries ≡ front ++ Opened opened ∷ after → IsPeersSeal (before ++ front) opened
 unfolding genuine_from
-genuine_told [] before e [] after side kind ssrc index plain split = absurd cc
-genuine_told [] before e (f ∷ front) after side kind ssrc index plain split = absurd cc
-genuine_told (x ∷ entries) before e [] after side kind ssrc index plain split =
-    let opened : x ≡ Opened side kind ssrc index plain = cc in
-    subst (λ b. IsPeersSeal b side kind ssrc index) (sym (append-nil before))
-    (seal_told before side kind ssrc index (sym (ap (is_genuine_after before) opened) ∙ (both _ _ e).0))
-genuine_told (x ∷ entries) before e (f ∷ front) after side kind ssrc index plain split =
+genuine_told [] before e [] after opened split = absurd cc
+genuine_told [] before e (f ∷ front) after opened split = absurd cc
+genuine_told (x ∷ entries) before e [] after opened split =
+    let is : x ≡ Opened opened = cc in
+    subst (λ b. IsPeersSeal b opened) (sym (append-nil before))
+    (seal_told before opened (sym (ap (is_genuine_after before) is) ∙ (both _ _ e).0))
+genuine_told (x ∷ entries) before e (f ∷ front) after opened split =
     let same : x ≡ f = cc in
-    let tail : entries ≡ front ++ Opened side kind ssrc index plain ∷ after = cc in
-    subst (λ b. IsPeersSeal b side kind ssrc index) (append_assoc before (x ∷ []) front ∙ ap (λ y. before ++ y ∷ front) same)
-    (genuine_told entries (before ++ x ∷ []) (both _ _ e).1 front after side kind ssrc index plain tail)
+    let tail : entries ≡ front ++ Opened opened ∷ after = cc in
+    subst (λ b. IsPeersSeal b opened) (append_assoc before (x ∷ []) front ∙ ap (λ y. before ++ y ∷ front) same)
+    (genuine_told entries (before ++ x ∷ []) (both _ _ e).1 front after opened tail)
 
-genuine_passes : (entries before : List Entry) → ((front after : List Entry) (side : Side) (kind : Kind) (ssrc index : ℕ) (plain : List ℕ)
-    → entries ≡ front ++ Opened side kind ssrc index plain ∷ after → IsPeersSeal (before ++ front) side kind ssrc index) → genuine_from before entries ≡ true
+genuine_passes : (entries before : List Entry) → ((front after : List Entry) (opened : OpenedEntry)
+    → entries ≡ front ++ Opened opened ∷ after → IsPeersSeal (before ++ front) opened) → genuine_from before entries ≡ true
 unfolding genuine_from
 genuine_passes [] before h = refl
 genuine_passes (x ∷ entries) before h =
     ap (λ b. b && genuine_from (before ++ x ∷ []) entries) (here x refl)
-    ∙ genuine_passes entries (before ++ x ∷ []) (λ front after side kind ssrc index plain split.
-    subst (λ b. IsPeersSeal b side kind ssrc index) (sym (append_assoc before (x ∷ []) front)) (h (x ∷ front) after side kind ssrc index plain (ap (λ ys. x ∷ ys) split))) where
+    ∙ genuine_passes entries (before ++ x ∷ []) (λ front after opened split.
+    subst (λ b. IsPeersSeal b opened) (sym (append_assoc before (x ∷ []) front)) (h (x ∷ front) after opened (ap (λ ys. x ∷ ys) split))) where
       here : (y : Entry) → x ≡ y → is_genuine_after before x ≡ true
-      here (Opened side kind ssrc index plain) p =
+      here (Opened opened) p =
           ap (is_genuine_after before) p
-          ∙ seal_passes before side kind ssrc index (subst (λ b. IsPeersSeal b side kind ssrc index) (append-nil before) (h [] entries side kind ssrc index plain (ap (λ y. y ∷ entries) p)))
+          ∙ seal_passes before opened (subst (λ b. IsPeersSeal b opened) (append-nil before) (h [] entries opened (ap (λ y. y ∷ entries) p)))
       here (Wrote s t w) p = ap (is_genuine_after before) p
       here (Ticked s t) p = ap (is_genuine_after before) p
-      here (Got s t k b) p = ap (is_genuine_after before) p
-      here (Sealed s k r i p' b) p = ap (is_genuine_after before) p
+      here (Got g) p = ap (is_genuine_after before) p
+      here (Sealed s) p = ap (is_genuine_after before) p
       here (Yielded s q) p = ap (is_genuine_after before) p
 
 pub genuine_means : (entries : List Entry) (b : Bool) → b ≡ is_genuine entries → IsTrue b ↔ IsGenuine entries

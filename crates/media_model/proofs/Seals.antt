@@ -1,6 +1,8 @@
 -- Whether the datagrams that were opened are the other side's seals.
-use Rattle.std.proofs.Common.{◌≡◌, ℕ, ◌+◌, ◌<◌, ◌≤◌, Bool, true, false, cond, ◌&&◌, ◌||◌, eqb, List, [], ◌∷◌, ◌++◌, length, take, drop, get_or, Option, Some, None, refl, sym, ap, ◌∙◌, subst, add-one}
+use Rattle.std.proofs.Common.{◌≡◌, ℕ, ◌+◌, ◌<◌, ◌≤◌, Bool, true, false, cond, ◌&&◌, ◌||◌, List, [], ◌∷◌, ◌++◌, length, take, drop, get_or, Option, Some, None, refl, sym, ap, ◌∙◌, add-one}
+use Rattle.std.specs.Prelude.{◌==◌}
 use Rattle.std.specs.List.{fold, list_any}
+use Rattle.std.specs.Option.{option_copied}
 use Rattle.std.specs.Str.{bytes_eq}
 use Rattle.std.specs.HashSet.{HashSet, contains}
 use Rattle.std.proofs.Math.Seq.{drop-cons}
@@ -10,25 +12,27 @@ use Rattle.media_model.specs.declared.entry.Side.{Side}
 use Rattle.media_model.specs.declared.entry.Side.TheVariants.{A, B}
 use Rattle.media_model.specs.declared.entry.Kind.{Kind}
 use Rattle.media_model.specs.declared.entry.Kind.TheVariants.{Rtp, Rtcp}
-use Rattle.media_model.specs.declared.entry.Write.{Write}
-use Rattle.media_model.specs.declared.entry.Packet.{Packet}
+use Rattle.media_model.specs.declared.entry.Sealed.{Sealed as SealedEntry}
+use Rattle.media_model.specs.declared.entry.Opened.{Opened as OpenedEntry}
 use Rattle.media_model.specs.declared.entry.Entry.{Entry}
 use Rattle.media_model.specs.declared.entry.Entry.TheVariants.{Wrote, Ticked, Got, Sealed, Opened, Yielded}
 use Rattle.media_model.specs.declared.genuine.Seal.{Seal}
+use Rattle.media_model.specs.declared.genuine.Latest.{Latest}
 use Rattle.media_model.specs.contracts.entry.Side as side
 use Rattle.media_model.specs.contracts.entry.Kind as kind
-use Rattle.std.specs.Borrow.{Bor}
 use denote.Enum.Bare.{sameb}
+use Rattle.media_model.specs.Entries.{got_after, last_got}
+use Rattle.media_model.specs.Seals.{same_seal, is_seal, HasSeals, latest_of, HasLatest}
 use Rattle.media_model.specs.Sides.{peer_of, same_side, same_kind}
-use Rattle.media_model.specs.Genuine.{got_after, last_got, seals, some_seals, is_genuine_after, genuine_from, is_genuine}
+use Rattle.media_model.specs.Genuine.{seals, some_seals, is_genuine_after, genuine_from, is_genuine}
 
-both : (a b : Bool) → (a && b) ≡ true → (a ≡ true) × (b ≡ true)
-both true b e = (refl, e)
-both false b e = absurd cc
+fold_more : (side : Side) (last : Option (List ℕ)) (front : List Entry) (e : Entry) → fold (got_after side) last (front ++ e ∷ []) ≡ got_after side (fold (got_after side) last front) e
+fold_more side last [] e = refl
+fold_more side last (x ∷ front) e = fold_more side (got_after side last x) front e
 
-fold_more : (last : Option (List ℕ)) (front : List Entry) (e : Entry) → fold got_after last (front ++ e ∷ []) ≡ got_after (fold got_after last front) e
-fold_more last [] e = refl
-fold_more last (x ∷ front) e = fold_more (got_after last x) front e
+-- one entry more
+pub last_more : (side : Side) (before : List Entry) (e : Entry) → last_got side (before ++ e ∷ []) ≡ got_after side (last_got side before) e
+last_more side before e = fold_more side None before e
 
 or_false : (b : Bool) → (b || false) ≡ b
 or_false true = refl
@@ -45,10 +49,6 @@ any_more test (x ∷ front) e = go (any_more test front e) (test x) where
   go more true = refl
   go more false = more
 
--- two seals of one datagram
-abbrev pub same_seal : Seal → Seal → Bool
-same_seal a b = sameb side.the_type a.side b.side && (sameb kind.the_type a.kind b.kind && (eqb a.ssrc b.ssrc && (eqb a.index b.index && bytes_eq a.bytes.now b.bytes.now)))
-
 side_test : (a b : Side) → sameb side.the_type a b ≡ same_side a b
 side_test A A = refl
 side_test A B = refl
@@ -62,21 +62,76 @@ kind_test Rtcp Rtp = refl
 kind_test Rtcp Rtcp = refl
 
 -- a seal that is put in is found as its entry is
-pub seal_test : (a q : Seal) (plain : List ℕ) → same_seal a q ≡ seals q.side q.kind q.ssrc q.index q.bytes.now (Sealed a.side a.kind a.ssrc a.index plain a.bytes.now)
-seal_test a q plain =
-    ap (λ b. b && (sameb kind.the_type a.kind q.kind && (eqb a.ssrc q.ssrc && (eqb a.index q.index && bytes_eq a.bytes.now q.bytes.now)))) (side_test a.side q.side)
-    ∙ ap (λ b. same_side a.side q.side && (b && (eqb a.ssrc q.ssrc && (eqb a.index q.index && bytes_eq a.bytes.now q.bytes.now)))) (kind_test a.kind q.kind)
+seal_test : (a q : Seal) → same_seal a q ≡ (same_side a.side q.side && (same_kind a.kind q.kind && ((a.ssrc == q.ssrc) && ((a.index == q.index) && bytes_eq a.bytes.now q.bytes.now))))
+seal_test a q =
+    ap (λ b. b && (sameb kind.the_type a.kind q.kind && ((a.ssrc == q.ssrc) && ((a.index == q.index) && bytes_eq a.bytes.now q.bytes.now)))) (side_test a.side q.side)
+    ∙ ap (λ b. same_side a.side q.side && (b && ((a.ssrc == q.ssrc) && ((a.index == q.index) && bytes_eq a.bytes.now q.bytes.now)))) (kind_test a.kind q.kind)
 
--- one entry more
+cond_or : (a b : Bool) → cond a true b ≡ (b || a)
+cond_or true true = refl
+cond_or true false = refl
+cond_or false true = refl
+cond_or false false = refl
+
+-- an entry that is no seal adds none
+pub no_seal : {S : Type 0} (sealed : HashSet Seal S) (before : List Entry) (e : Entry) → ((q : Seal) → is_seal q e ≡ false) → HasSeals sealed before → HasSeals sealed (before ++ e ∷ [])
+no_seal sealed before e none has q =
+    has q ∙ sym (any_more (is_seal q) before e ∙ ap (λ b. list_any (is_seal q) before || b) (none q) ∙ or_false (list_any (is_seal q) before))
+
+-- a seal that was put in
+pub seal_more : {S : Type 0} (sealed more : HashSet Seal S) (before : List Entry) (e : Entry) (s : SealedEntry) (a : Seal) → e ≡ Sealed s
+    → a.side ≡ s.side → a.kind ≡ s.kind → a.ssrc ≡ s.ssrc → a.index ≡ s.index → a.bytes.now ≡ s.bytes
+    → ((q : Seal) → contains same_seal more q ≡ cond (same_seal a q) true (contains same_seal sealed q)) → HasSeals sealed before → HasSeals more (before ++ e ∷ [])
+seal_more sealed more before e s a is side kind ssrc index bytes updated has q =
+    updated q
+    ∙ ap (λ b. cond b true (contains same_seal sealed q)) (seal_test a q ∙ same ∙ sym (ap (is_seal q) is))
+    ∙ cond_or (is_seal q e) (contains same_seal sealed q)
+    ∙ ap (λ b. b || is_seal q e) (has q)
+    ∙ sym (any_more (is_seal q) before e)
+  where
+    same : (same_side a.side q.side && (same_kind a.kind q.kind && ((a.ssrc == q.ssrc) && ((a.index == q.index) && bytes_eq a.bytes.now q.bytes.now)))) ≡ is_seal q (Sealed s)
+    same = λ j. same_side (side j) q.side && (same_kind (kind j) q.kind && ((ssrc j == q.ssrc) && ((index j == q.index) && bytes_eq (bytes j) q.bytes.now)))
+
+-- what came last, after an entry more
+
+pub latest_same : (latest : Latest) (before : List Entry) (e : Entry) → ((side : Side) (last : Option (List ℕ)) → got_after side last e ≡ last) → HasLatest latest before → HasLatest latest (before ++ e ∷ [])
+latest_same latest before e same has side = has side ∙ sym (last_more side before e ∙ same side (last_got side before))
+
+pub latest_new : (latest new : Latest) (before : List Entry) (e : Entry) → ((side : Side) → latest_of side new ≡ got_after side (latest_of side latest) e) → HasLatest latest before
+    → HasLatest new (before ++ e ∷ [])
+latest_new latest new before e told has side = told side ∙ ap (λ l. got_after side l e) (has side) ∙ sym (last_more side before e)
+
+-- a datagram that was opened is looked for among the seals
+any_same : (f g : Entry → Bool) → ((e : Entry) → f e ≡ g e) → (es : List Entry) → list_any f es ≡ list_any g es
+any_same f g same [] = refl
+any_same f g same (e ∷ es) = λ j. same e j || any_same f g same es j
+
+pub looked_up : {S : Type 0} (sealed : HashSet Seal S) (latest : Latest) (before : List Entry) (e : Entry) (o : OpenedEntry) (bytes : List ℕ) (q : Seal) → e ≡ Opened o
+    → latest_of o.side latest ≡ Some bytes → q.side ≡ peer_of o.side → q.kind ≡ o.kind → q.ssrc ≡ o.ssrc → q.index ≡ o.index → q.bytes.now ≡ bytes
+    → HasSeals sealed before → HasLatest latest before → contains same_seal sealed q ≡ is_genuine_after before e
+looked_up sealed latest before e o bytes q is came side kind ssrc index same has last =
+    has q ∙ any_same (is_seal q) (seals o bytes) each before
+    ∙ ap (some_seals before o) (sym came ∙ last o.side) ∙ sym (ap (is_genuine_after before) is)
+  where
+    each : (x : Entry) → is_seal q x ≡ seals o bytes x
+    each (Sealed s) = λ j. same_side s.side (side j) && (same_kind s.kind (kind j) && ((s.ssrc == ssrc j) && ((s.index == index j) && bytes_eq s.bytes (same j))))
+    each (Wrote s t w) = refl
+    each (Ticked s t) = refl
+    each (Got g) = refl
+    each (Opened p) = refl
+    each (Yielded s p) = refl
+
+pub none_came : (latest : Latest) (before : List Entry) (e : Entry) (o : OpenedEntry) → e ≡ Opened o → latest_of o.side latest ≡ None → HasLatest latest before
+    → false ≡ is_genuine_after before e
+none_came latest before e o is none last = sym (ap (is_genuine_after before) is ∙ ap (some_seals before o) (sym (last o.side) ∙ none))
+
+-- the loop over the entries
 module _ (entries : List Entry) (i : ℕ) (lt : i < length entries) (e : Entry) (is : e ≡ get_or entries i e) where
   pub front_more : take (i + 1) entries ≡ take i entries ++ e ∷ []
   front_more = take_more entries i e lt ∙ ap (λ (x : Entry). take i entries ++ x ∷ []) (sym is)
 
   pub back : drop i entries ≡ e ∷ drop (i + 1) entries
   back = drop-cons entries i e lt ∙ (λ j. sym is j ∷ drop (sym (add-one i) j) entries)
-
-  pub last_more : last_got (take (i + 1) entries) ≡ got_after (last_got (take i entries)) e
-  last_more = ap last_got front_more ∙ fold_more None (take i entries) e
 
   pub any_at : (test : Entry → Bool) → list_any test (take (i + 1) entries) ≡ (list_any test (take i entries) || test e)
   any_at test = ap (list_any test) front_more ∙ any_more test (take i entries) e
@@ -97,92 +152,13 @@ module _ (entries : List Entry) (i : ℕ) (lt : i < length entries) (e : Entry) 
   unfolding genuine_from
   stops not_so whole so_far = sym (ap (genuine_from (take i entries)) back ∙ ap (λ b. b && genuine_from (take i entries ++ e ∷ []) (drop (i + 1) entries)) not_so) ∙ so_far
 
-abbrev alike : Seal → Entry → Bool
-alike q e = seals q.side q.kind q.ssrc q.index q.bytes.now e
-
 -- what is kept of the entries before index i
-pub record Knows {S : Type 0} (entries : List Entry) (i : ℕ) (sealed : HashSet Seal S) (came : Bool) (latest : List ℕ) : Type 0 where
+pub record Knows {S : Type 0} (entries : List Entry) (i : ℕ) (sealed : HashSet Seal S) (latest : Latest) : Type 0 where
   pub rest : genuine_from (take i entries) (drop i entries) ≡ is_genuine entries
-  pub got : cond came (Some latest) None ≡ last_got (take i entries)
-  pub found : (q : Seal) → contains same_seal sealed q ≡ list_any (seals q.side q.kind q.ssrc q.index q.bytes.now) (take i entries)
-
-pub knows_as : {S : Type 0} (entries : List Entry) (i : ℕ) (sealed sealed' : HashSet Seal S) (came came' : Bool) (latest latest' : Bor (List ℕ))
-    → sealed' ≡ sealed → came' ≡ came → latest' ≡ latest → Knows entries i sealed came latest.now → Knows entries i sealed' came' latest'.now
-knows_as {S} entries i sealed sealed' came came' latest latest' a b c k =
-    subst (λ (s : HashSet Seal S). Knows entries i s came' latest'.now) (sym a)
-    (subst (λ (x : Bool). Knows entries i sealed x latest'.now) (sym b) (subst (λ (l : Bor (List ℕ)). Knows entries i sealed came l.now) (sym c) k))
-
-module _ {S : Type 0} (entries : List Entry) (i : ℕ) (lt : i < length entries) (e : Entry) (is : e ≡ get_or entries i e)
-    (sealed : HashSet Seal S) (came : Bool) (latest : List ℕ) (knows : Knows entries i sealed came latest) where
-  -- an entry that is neither Got nor Sealed
-  pub passes : is_genuine_after (take i entries) e ≡ true → ((last : Option (List ℕ)) → got_after last e ≡ last) → ((q : Seal) → alike q e ≡ false) → Knows entries (i + 1) sealed came latest
-  passes ok same none = record {
-    rest = goes_on entries i lt e is ok (is_genuine entries) knows.rest;
-    got = knows.got ∙ sym (last_more entries i lt e is ∙ same (last_got (take i entries)));
-    found = λ q. knows.found q ∙ sym (any_at entries i lt e is (alike q) ∙ ap (λ b. list_any (alike q) (take i entries) || b) (none q) ∙ or_false (list_any (alike q) (take i entries)));
-  }
-
-  -- a datagram came
-  pub comes : (side : Side) (time : ℕ) (kind : Kind) (bytes : List ℕ) → e ≡ Got side time kind bytes → Knows entries (i + 1) sealed true bytes
-  comes side time kind bytes got = record {
-    rest = goes_on entries i lt e is (ap (is_genuine_after (take i entries)) got) (is_genuine entries) knows.rest;
-    got = sym (last_more entries i lt e is ∙ ap (got_after (last_got (take i entries))) got);
-    found = λ q. knows.found q ∙ sym (any_at entries i lt e is (alike q) ∙ ap (λ b. list_any (alike q) (take i entries) || b) (ap (alike q) got) ∙ or_false (list_any (alike q) (take i entries)));
-  }
-
-  cond_or : (a b : Bool) → cond a true b ≡ (b || a)
-  cond_or true true = refl
-  cond_or true false = refl
-  cond_or false true = refl
-  cond_or false false = refl
-
-  -- a datagram was sealed
-  pub adds : (a : Seal) (plain : List ℕ) → e ≡ Sealed a.side a.kind a.ssrc a.index plain a.bytes.now
-      → (more : HashSet Seal S) → ((q : Seal) → contains same_seal more q ≡ cond (same_seal a q) true (contains same_seal sealed q)) → Knows entries (i + 1) more came latest
-  adds a plain sealed_is more updated = record {
-    rest = goes_on entries i lt e is (ap (is_genuine_after (take i entries)) sealed_is) (is_genuine entries) knows.rest;
-    got = knows.got ∙ sym (last_more entries i lt e is ∙ ap (got_after (last_got (take i entries))) sealed_is);
-    found = λ q.
-        updated q ∙ ap (λ b. cond b true (contains same_seal sealed q)) (seal_test a q plain) ∙ cond_or _ (contains same_seal sealed q)
-        ∙ ap (λ b. b || alike q (Sealed a.side a.kind a.ssrc a.index plain a.bytes.now)) (knows.found q)
-        ∙ sym (any_at entries i lt e is (alike q) ∙ ap (λ b. list_any (alike q) (take i entries) || b) (ap (alike q) sealed_is));
-  }
-
-  -- a datagram was opened, where none had come
-  pub opens_none : (side : Side) (kind : Kind) (ssrc index : ℕ) (plain : List ℕ) → e ≡ Opened side kind ssrc index plain → came ≡ false → false ≡ is_genuine entries
-  opens_none side kind ssrc index plain opened none_came =
-      stops entries i lt e is
-      (ap (is_genuine_after (take i entries)) opened ∙ ap (some_seals (take i entries) (peer_of side) kind ssrc index) (sym knows.got ∙ ap (λ b. cond b (Some latest) None) none_came))
-      (is_genuine entries) knows.rest
-
-  -- a datagram was opened, as it is found among the seals
-  opens_as : (side : Side) (kind : Kind) (ssrc index : ℕ) (plain : List ℕ) → e ≡ Opened side kind ssrc index plain → came ≡ true
-      → (q : Seal) → q.side ≡ peer_of side → q.kind ≡ kind → q.ssrc ≡ ssrc → q.index ≡ index → q.bytes.now ≡ latest → is_genuine_after (take i entries) e ≡ contains same_seal sealed q
-  opens_as side kind ssrc index plain opened has_come q a b c d f =
-      ap (is_genuine_after (take i entries)) opened
-      ∙ ap (some_seals (take i entries) (peer_of side) kind ssrc index) (sym knows.got ∙ ap (λ b. cond b (Some latest) None) has_come)
-      ∙ (λ j. list_any (seals (sym a j) (sym b j) (sym c j) (sym d j) (sym f j)) (take i entries)) ∙ sym (knows.found q)
-
-  pub opens_other : (side : Side) (kind : Kind) (ssrc index : ℕ) (plain : List ℕ) → e ≡ Opened side kind ssrc index plain → came ≡ true
-      → (q : Seal) → q.side ≡ peer_of side → q.kind ≡ kind → q.ssrc ≡ ssrc → q.index ≡ index → q.bytes.now ≡ latest → contains same_seal sealed q ≡ false → false ≡ is_genuine entries
-  opens_other side kind ssrc index plain opened has_come q a b c d f out =
-      stops entries i lt e is (opens_as side kind ssrc index plain opened has_come q a b c d f ∙ out) (is_genuine entries) knows.rest
-
-  pub opens_seal : (side : Side) (kind : Kind) (ssrc index : ℕ) (plain : List ℕ) → e ≡ Opened side kind ssrc index plain → came ≡ true
-      → (q : Seal) → q.side ≡ peer_of side → q.kind ≡ kind → q.ssrc ≡ ssrc → q.index ≡ index → q.bytes.now ≡ latest → contains same_seal sealed q ≡ true → Knows entries (i + 1) sealed came latest
-  opens_seal side kind ssrc index plain opened has_come q a b c d f found =
-      passes (opens_as side kind ssrc index plain opened has_come q a b c d f ∙ found) (λ last. ap (got_after last) opened) (λ q'. ap (alike q') opened)
-
-  pub passes_wrote : (side : Side) (time : ℕ) (write : Write) → e ≡ Wrote side time write → Knows entries (i + 1) sealed came latest
-  passes_wrote side time write wrote = passes (ap (is_genuine_after (take i entries)) wrote) (λ last. ap (got_after last) wrote) (λ q. ap (alike q) wrote)
-
-  pub passes_ticked : (side : Side) (time : ℕ) → e ≡ Ticked side time → Knows entries (i + 1) sealed came latest
-  passes_ticked side time ticked = passes (ap (is_genuine_after (take i entries)) ticked) (λ last. ap (got_after last) ticked) (λ q. ap (alike q) ticked)
-
-  pub passes_yielded : (side : Side) (packet : Packet) → e ≡ Yielded side packet → Knows entries (i + 1) sealed came latest
-  passes_yielded side packet yielded = passes (ap (is_genuine_after (take i entries)) yielded) (λ last. ap (got_after last) yielded) (λ q. ap (alike q) yielded)
+  pub seals : HasSeals sealed (take i entries)
+  pub last : HasLatest latest (take i entries)
 
 -- all entries were looked at
-pub all_passed : {S : Type 0} (entries : List Entry) (i : ℕ) (sealed : HashSet Seal S) (came : Bool) (latest : List ℕ) → length entries ≤ i → Knows entries i sealed came latest → true ≡ is_genuine entries
+pub all_passed : {S : Type 0} (entries : List Entry) (i : ℕ) (sealed : HashSet Seal S) (latest : Latest) → length entries ≤ i → Knows entries i sealed latest → true ≡ is_genuine entries
 unfolding genuine_from
-all_passed entries i sealed came latest le knows = sym (ap (genuine_from (take i entries)) (drop_all i entries le)) ∙ knows.rest
+all_passed entries i sealed latest le knows = sym (ap (genuine_from (take i entries)) (drop_all i entries le)) ∙ knows.rest

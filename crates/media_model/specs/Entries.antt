@@ -1,11 +1,14 @@
 -- What is read off the entries of a run.
-use Rattle.std.specs.Prelude.{ℕ, Bool, true, false, cond, ◌&&◌, ◌==◌, not, filter, List, [], ◌∷◌}
-use Rattle.std.specs.List.{flat_map, list_any}
+use Rattle.std.specs.Prelude.{ℕ, Bool, true, false, cond, ◌&&◌, ◌==◌, not, filter, List, [], ◌∷◌, Option, Some, None, if◌then◌else◌}
+use Rattle.std.specs.List.{flat_map, fold, list_any}
 use Rattle.media_model.specs.declared.entry.Side.{Side}
 use Rattle.media_model.specs.declared.entry.Kind.{Kind}
 use Rattle.media_model.specs.declared.entry.Kind.TheVariants.{Rtp}
 use Rattle.media_model.specs.declared.entry.Write.{Write}
 use Rattle.media_model.specs.declared.entry.Packet.{Packet}
+use Rattle.media_model.specs.declared.entry.Got.{Got as GotEntry}
+use Rattle.media_model.specs.declared.entry.Sealed.{Sealed as SealedEntry}
+use Rattle.media_model.specs.declared.entry.Opened.{Opened as OpenedEntry}
 use Rattle.media_model.specs.declared.entry.Entry.{Entry}
 use Rattle.media_model.specs.declared.entry.Entry.TheVariants.{Wrote, Ticked, Got, Sealed, Opened, Yielded}
 use Rattle.media_model.specs.Sides.{same_side, same_kind}
@@ -28,7 +31,7 @@ writes_by side entries = flat_map (write_by side) entries
 
 -- the numbers under which a side sealed RTP on an SSRC, in order
 abbrev pub sealed_number_on : Side → ℕ → Entry → List ℕ
-sealed_number_on side ssrc (Sealed s kind r index plain bytes) = cond (same_side side s && (same_kind Rtp kind && (r == ssrc))) (index ∷ []) []
+sealed_number_on side ssrc (Sealed s) = cond (same_side side s.side && (same_kind Rtp s.kind && (s.ssrc == ssrc))) (s.index ∷ []) []
 sealed_number_on side ssrc _ = []
 
 abbrev pub sealed_numbers : Side → ℕ → List Entry → List ℕ
@@ -36,7 +39,7 @@ sealed_numbers side ssrc entries = flat_map (sealed_number_on side ssrc) entries
 
 -- the datagrams that a side sealed, of both kinds, in order
 abbrev pub datagram_by : Side → Entry → List (List ℕ)
-datagram_by side (Sealed s kind ssrc index plain bytes) = cond (same_side side s) (bytes ∷ []) []
+datagram_by side (Sealed s) = cond (same_side side s.side) (s.bytes ∷ []) []
 datagram_by side _ = []
 
 abbrev pub datagrams : Side → List Entry → List (List ℕ)
@@ -44,7 +47,7 @@ datagrams side entries = flat_map (datagram_by side) entries
 
 -- kind, SSRC and index of what a side sealed, in order
 abbrev pub nonce_by : Side → Entry → List (Kind × ℕ × ℕ)
-nonce_by side (Sealed s kind ssrc index plain bytes) = cond (same_side side s) ((kind, ssrc, index) ∷ []) []
+nonce_by side (Sealed s) = cond (same_side side s.side) ((s.kind, s.ssrc, s.index) ∷ []) []
 nonce_by side _ = []
 
 abbrev pub nonces : Side → List Entry → List (Kind × ℕ × ℕ)
@@ -52,11 +55,19 @@ nonces side entries = flat_map (nonce_by side) entries
 
 -- the numbers that a side took on an SSRC: those of the RTP datagrams that it opened, in order
 abbrev pub taken_on : Side → ℕ → Entry → List ℕ
-taken_on side ssrc (Opened s kind r index plain) = cond (same_side side s && (same_kind Rtp kind && (r == ssrc))) (index ∷ []) []
+taken_on side ssrc (Opened o) = cond (same_side side o.side && (same_kind Rtp o.kind && (o.ssrc == ssrc))) (o.index ∷ []) []
 taken_on side ssrc _ = []
 
 abbrev pub taken : Side → ℕ → List Entry → List ℕ
 taken side ssrc entries = flat_map (taken_on side ssrc) entries
+
+-- the datagram that came last to a side
+abbrev pub got_after : Side → Option (List ℕ) → Entry → Option (List ℕ)
+got_after side last (Got got) = if same_side side got.side then Some got.bytes else last
+got_after side last _ = last
+
+abbrev pub last_got : Side → List Entry → Option (List ℕ)
+last_got side entries = fold (got_after side) None entries
 
 -- the packets that a side yielded, in order
 abbrev pub packet_by : Side → Entry → List Packet
@@ -70,7 +81,7 @@ packets side entries = flat_map (packet_by side) entries
 abbrev pub time_of : Entry → List ℕ
 time_of (Wrote side time write) = time ∷ []
 time_of (Ticked side time) = time ∷ []
-time_of (Got side time kind bytes) = time ∷ []
+time_of (Got got) = got.time ∷ []
 time_of _ = []
 
 -- the time of the last step, 0 before any
@@ -93,5 +104,5 @@ queued side ssrc entries = filter (λ w. not (is_sealed (sealed_numbers side ssr
 abbrev pub is_step : Entry → Bool
 is_step (Wrote side time write) = true
 is_step (Ticked side time) = true
-is_step (Got side time kind bytes) = true
+is_step (Got got) = true
 is_step _ = false

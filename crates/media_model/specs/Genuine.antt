@@ -1,54 +1,54 @@
 -- Which runs are genuine: what a side opens, its peer sealed.
 use Rattle.std.specs.Prelude.{◌≡◌, ℕ, Bool, true, false, not, ◌&&◌, ◌==◌, List, [], ◌∷◌, ◌++◌, Option, Some, None}
-use Rattle.std.specs.List.{fold, list_any}
+use Rattle.std.specs.List.{list_any}
 use Rattle.std.specs.Str.{bytes_eq}
 use Rattle.media_model.specs.declared.entry.Side.{Side}
-use Rattle.media_model.specs.declared.entry.Kind.{Kind}
+use Rattle.media_model.specs.declared.entry.Side.TheVariants.{A, B}
 use Rattle.media_model.specs.declared.entry.Kind.TheVariants.{Rtp}
+use Rattle.media_model.specs.declared.entry.Sealed.{Sealed as SealedEntry}
+use Rattle.media_model.specs.declared.entry.Opened.{Opened as OpenedEntry}
 use Rattle.media_model.specs.declared.entry.Entry.{Entry}
-use Rattle.media_model.specs.declared.entry.Entry.TheVariants.{Got, Sealed, Opened}
+use Rattle.media_model.specs.declared.entry.Entry.TheVariants.{Sealed, Opened}
 use Rattle.media_model.specs.declared.setup.Setup.{Setup}
+use Rattle.media_model.specs.Entries.{last_got}
 use Rattle.media_model.specs.Setup.{rtx_of}
 use Rattle.media_model.specs.Sides.{peer_of, same_side, same_kind}
 
--- the datagram that came last
-abbrev pub got_after : Option (List ℕ) → Entry → Option (List ℕ)
-got_after last (Got side time kind bytes) = Some bytes
-got_after last _ = last
-
-abbrev pub last_got : List Entry → Option (List ℕ)
-last_got entries = fold got_after None entries
-
--- the last datagram among these entries is one that the other side sealed under this kind, SSRC and index
-pub record IsPeersSeal (before : List Entry) (side : Side) (kind : Kind) (ssrc index : ℕ) : Type 0 where
-  pub bytes : List ℕ
-  pub got : last_got before ≡ Some bytes
-  pub plain : List ℕ
+-- among these entries the other side sealed, under the kind, SSRC and index of what was opened, the bytes that came
+-- last to the side that opened it
+pub record IsPeersSeal (before : List Entry) (opened : OpenedEntry) : Type 0 where
+  pub seal : SealedEntry
   pub front : List Entry
   pub rest : List Entry
-  pub sealed : before ≡ front ++ Sealed (peer_of side) kind ssrc index plain bytes ∷ rest
+  pub sealed : before ≡ front ++ Sealed seal ∷ rest
+  pub side : seal.side ≡ peer_of opened.side
+  pub kind : seal.kind ≡ opened.kind
+  pub ssrc : seal.ssrc ≡ opened.ssrc
+  pub index : seal.index ≡ opened.index
+  pub came : last_got opened.side before ≡ Some seal.bytes
 
--- each datagram that was opened had been sealed by the other side, under the same kind, SSRC and index
+-- each datagram that was opened had been sealed by the other side, under the same kind, SSRC and index, and is the one
+-- that came last to the side that opened it
 abbrev pub IsGenuine : List Entry → Type 0
 IsGenuine entries =
-    (before after : List Entry) (side : Side) (kind : Kind) (ssrc index : ℕ) (plain : List ℕ)
-    → entries ≡ before ++ Opened side kind ssrc index plain ∷ after → IsPeersSeal before side kind ssrc index
+    (before after : List Entry) (opened : OpenedEntry) → entries ≡ before ++ Opened opened ∷ after → IsPeersSeal before opened
 
--- the entry seals these bytes under this kind, SSRC and index
-abbrev pub seals : Side → Kind → ℕ → ℕ → List ℕ → Entry → Bool
-seals side kind ssrc index bytes (Sealed s k r i plain b) =
-    same_side s side && (same_kind k kind && (r == ssrc && (i == index && bytes_eq b bytes)))
-seals side kind ssrc index bytes _ = false
+-- the entry is a seal of these bytes by the other side, under the kind, SSRC and index of what was opened
+abbrev pub seals : OpenedEntry → List ℕ → Entry → Bool
+seals o bytes (Sealed s) =
+    same_side s.side (peer_of o.side)
+    && (same_kind s.kind o.kind && (s.ssrc == o.ssrc && (s.index == o.index && bytes_eq s.bytes bytes)))
+seals o bytes _ = false
 
-abbrev pub some_seals : List Entry → Side → Kind → ℕ → ℕ → Option (List ℕ) → Bool
-some_seals before side kind ssrc index None = false
-some_seals before side kind ssrc index (Some bytes) = list_any (seals side kind ssrc index bytes) before
+abbrev pub some_seals : List Entry → OpenedEntry → Option (List ℕ) → Bool
+some_seals before opened None = false
+some_seals before opened (Some bytes) = list_any (seals opened bytes) before
 
+-- the same as a test of an entry with those before it
 abbrev pub is_genuine_after : List Entry → Entry → Bool
-is_genuine_after before (Opened side kind ssrc index plain) = some_seals before (peer_of side) kind ssrc index (last_got before)
+is_genuine_after before (Opened opened) = some_seals before opened (last_got opened.side before)
 is_genuine_after before _ = true
 
--- the same, as a test of entries with those before them
 unfoldable pub genuine_from : List Entry → List Entry → Bool
 genuine_from before [] = true
 genuine_from before (entry ∷ entries) = is_genuine_after before entry && genuine_from (before ++ entry ∷ []) entries
@@ -58,7 +58,7 @@ is_genuine entries = genuine_from [] entries
 
 -- an RTP datagram that was opened under an SSRC of repairs
 abbrev pub is_repair : List ℕ → Entry → Bool
-is_repair rtx (Opened side Rtp ssrc index plain) = list_any (λ r. r == ssrc) rtx
+is_repair rtx (Opened o) = same_kind Rtp o.kind && list_any (λ r. r == o.ssrc) rtx
 is_repair rtx _ = false
 
 -- No repair was opened. (What an opened repair has to restore is to be stated here once repairs are sent.)

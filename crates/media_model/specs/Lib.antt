@@ -1,4 +1,5 @@
 pub mod Entries
 pub mod Genuine
+pub mod Seals
 pub mod Setup
 pub mod Sides

@@ -93,33 +93,64 @@ pub struct Packet {
     pub payload: Bytes,
 }
 
-/// What happened at one moment of a run. A number that is called an index is an extended sequence
-/// number for RTP and an SRTCP index for RTCP.
+/// A datagram that came to a side.
+#[derive(Debug, PartialEq, Eq, Drop)]
+pub struct Got {
+    /// The side that it came to.
+    pub side: Side,
+    /// When it came.
+    pub time: Instant,
+    /// What it carries.
+    pub kind: Kind,
+    /// As it came.
+    pub bytes: Bytes,
+}
+
+/// A datagram that a side sealed.
+#[derive(Debug, PartialEq, Eq, Drop)]
+pub struct Sealed {
+    /// The side that sealed it.
+    pub side: Side,
+    /// What it carries.
+    pub kind: Kind,
+    /// The SSRC under which it was sealed.
+    pub ssrc: Ssrc,
+    /// For RTP the extended sequence number, for RTCP the SRTCP index.
+    pub index: SeqNo,
+    /// The datagram before it was sealed.
+    pub plain: Bytes,
+    /// The bytes that leave.
+    pub bytes: Bytes,
+}
+
+/// A datagram that a side opened.
+#[derive(Debug, PartialEq, Eq, Drop)]
+pub struct Opened {
+    /// The side that opened it.
+    pub side: Side,
+    /// What it carries.
+    pub kind: Kind,
+    /// The SSRC under which it was opened.
+    pub ssrc: Ssrc,
+    /// For RTP the extended sequence number, for RTCP the SRTCP index.
+    pub index: SeqNo,
+    /// The datagram before it was sealed.
+    pub plain: Bytes,
+}
+
+/// What happened at one moment of a run.
 #[derive(Debug, PartialEq, Eq, Drop)]
 pub enum Entry {
     /// A step: the side's application wrote a packet.
     Wrote(Side, Instant, Write),
     /// A step: the side's time went on.
     Ticked(Side, Instant),
-    /// A step: a datagram came to the side.
-    Got(Side, Instant, Kind, Bytes),
-    /// The side sealed a datagram: the plain packet, and the bytes that leave.
-    Sealed {
-        side: Side,
-        kind: Kind,
-        ssrc: Ssrc,
-        index: SeqNo,
-        plain: Bytes,
-        bytes: Bytes,
-    },
-    /// The side opened the datagram that came last: the plain packet.
-    Opened {
-        side: Side,
-        kind: Kind,
-        ssrc: Ssrc,
-        index: SeqNo,
-        plain: Bytes,
-    },
+    /// A step: a datagram came to a side.
+    Got(Got),
+    /// A side sealed a datagram.
+    Sealed(Sealed),
+    /// A side opened the datagram that came to it last.
+    Opened(Opened),
     /// The side's session gave its application a packet.
     Yielded(Side, Packet),
 }

@@ -1,7 +1,10 @@
 // Whether a run is genuine.
-ghost use Rattle.std.specs.Prelude.{◌≡◌, ◌↔◌, IfOk, IsTrue, not};
+ghost use Rattle.std.specs.Prelude.{◌≡◌, ◌↔◌, ◌∷◌, ◌++◌, [], List, IfOk, OnOk, IsTrue, not};
 ghost use Rattle.std.specs.List.{list_any};
-ghost use Rattle.media_model.specs.Genuine.{is_genuine, IsGenuine, is_repair, repairs_widen, RepairsWiden};
+ghost use Rattle.std.specs.Option.{option_copied};
+ghost use Rattle.media_model.specs.declared.entry.Entry.{Entry as Happening};
+ghost use Rattle.media_model.specs.Genuine.{is_genuine_after, is_genuine, IsGenuine, is_repair, repairs_widen, RepairsWiden};
+ghost use Rattle.media_model.specs.Seals.{HasSeals, latest_of, HasLatest};
 
 use crate::entry::{Entry, Kind, Side};
 use crate::setup::Setup;
@@ -22,7 +25,7 @@ struct Seal<'a> {
 
 impl Transcript {
     /// Whether each datagram that was opened had been sealed by the other side, under the same kind,
-    /// SSRC and index.
+    /// SSRC and index, and is the one that came last to the side that opened it.
     pub fn genuine(&self, alloc: Global) -> Result<bool, AllocError>
         ensures value { IfOk result (λ b. b ≡ is_genuine self.now) }
         ensures meaning { IfOk result (λ b. IsTrue b ↔ IsGenuine self.now) }
@@ -56,65 +59,91 @@ fn is_repair(repairs: &[Ssrc], entry: &Entry) -> bool
     ensures { result ≡ is_repair repairs.now entry.now }
 {
     match entry {
-        Entry::Opened {
-            kind: Kind::Rtp,
-            ssrc,
-            ..
-        } => repairs.contains(ssrc),
+        Entry::Opened(opened) => opened.kind == Kind::Rtp && repairs.contains(&opened.ssrc),
         _ => false,
     }
+}
+
+// The datagrams that came last to the two sides.
+#[derive(Clone, Copy)]
+struct Latest<'a> {
+    a: Option<&'a [u8]>,
+    b: Option<&'a [u8]>,
+}
+
+impl<'a> Latest<'a> {
+    fn of(&self, side: Side) -> Option<&'a [u8]>
+        ensures { option_copied result ≡ latest_of side self.now }
+    {
+        match side {
+            Side::A => self.a,
+            Side::B => self.b,
+        }
+    }
+
+    // What came last after one entry more.
+    fn after(self, entry: &'a Entry) -> Latest<'a>
+        ensures { (before : List Happening) → HasLatest self.entry before
+            → HasLatest result (before ++ entry.now ∷ []) }
+    {
+        match entry {
+            Entry::Got(got) => match got.side {
+                Side::A => Latest { a: Some(got.bytes.as_slice()), b: self.b },
+                Side::B => Latest { a: self.a, b: Some(got.bytes.as_slice()) },
+            },
+            _ => self,
+        }
+    }
+}
+
+// Adds the seal that an entry is.
+fn add_seal<'a>(sealed: &mut HashSet<Seal<'a>>, entry: &'a Entry) -> Result<(), AllocError>
+    ensures { OnOk result ((before : List Happening) → HasSeals sealed.old before
+        → HasSeals sealed.new (before ++ entry.now ∷ [])) }
+{
+    if let Entry::Sealed(seal) = entry {
+        sealed.insert(Seal {
+            side: seal.side,
+            kind: seal.kind,
+            ssrc: u32::from(seal.ssrc),
+            index: u64::from(seal.index),
+            bytes: seal.bytes.as_slice(),
+        })?;
+    }
+    Ok(())
+}
+
+// Whether an entry opens, if it opens anything, what the other side sealed and what came last.
+fn is_sealed(sealed: &HashSet<Seal<'_>>, latest: &Latest<'_>, entry: &Entry) -> bool
+    ensures { (before : List Happening) → HasSeals sealed.now before → HasLatest latest.now before
+        → result ≡ is_genuine_after before entry.now }
+{
+    let Entry::Opened(opened) = entry else {
+        return true;
+    };
+    let Some(bytes) = latest.of(opened.side) else {
+        return false;
+    };
+    sealed.contains(&Seal {
+        side: opened.side.peer(),
+        kind: opened.kind,
+        ssrc: u32::from(opened.ssrc),
+        index: u64::from(opened.index),
+        bytes,
+    })
 }
 
 fn is_genuine(alloc: Global, entries: &[Entry]) -> Result<bool, AllocError>
     ensures { IfOk result (λ b. b ≡ is_genuine entries.now) }
 {
     let mut sealed: HashSet<Seal<'_>> = HashSet::new(alloc);
-    let mut latest: &[u8] = &[];
-    let mut came = false;
+    let mut latest = Latest { a: None, b: None };
     for entry in entries {
-        match entry {
-            Entry::Got(_, _, _, bytes) => {
-                latest = bytes.as_slice();
-                came = true;
-            }
-            Entry::Sealed {
-                side,
-                kind,
-                ssrc,
-                index,
-                plain: _,
-                bytes,
-            } => {
-                sealed.insert(Seal {
-                    side: *side,
-                    kind: *kind,
-                    ssrc: u32::from(*ssrc),
-                    index: u64::from(*index),
-                    bytes: bytes.as_slice(),
-                })?;
-            }
-            Entry::Opened {
-                side,
-                kind,
-                ssrc,
-                index,
-                plain: _,
-            } => {
-                let seal = Seal {
-                    side: side.peer(),
-                    kind: *kind,
-                    ssrc: u32::from(*ssrc),
-                    index: u64::from(*index),
-                    bytes: latest,
-                };
-                if !came || !sealed.contains(&seal) {
-                    return Ok(false);
-                }
-            }
-            Entry::Wrote(_, _, _) => {}
-            Entry::Ticked(_, _) => {}
-            Entry::Yielded(_, _) => {}
+        if !is_sealed(&sealed, &latest, entry) {
+            return Ok(false);
         }
+        add_seal(&mut sealed, entry)?;
+        latest = latest.after(entry);
     }
     Ok(true)
 }

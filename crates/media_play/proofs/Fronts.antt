@@ -4,24 +4,22 @@ use Rattle.std.specs.Prelude.{◌==◌}
 use Rattle.std.proofs.lemmas.List.{append-nil}
 use Rattle.std.proofs.lemmas.List.Concat.{flat_map-append}
 use Rattle.media_model.specs.declared.entry.Side.{Side}
-use Rattle.media_model.specs.declared.entry.Kind.{Kind}
-use Rattle.media_model.specs.declared.entry.Kind.TheVariants.{Rtp}
+use Rattle.media_model.specs.declared.entry.Write.{Write as Writing}
 use Rattle.media_model.specs.declared.entry.Packet.{Packet}
+use Rattle.media_model.specs.declared.entry.Got.{Got as GotEntry}
 use Rattle.media_model.specs.declared.entry.Entry.{Entry}
 use Rattle.media_model.specs.declared.entry.Entry.TheVariants.{Wrote, Ticked, Got, Sealed, Opened, Yielded}
 use Rattle.media_model.specs.declared.step.Step.{Step}
 use Rattle.media_model.specs.declared.setup.Setup.{Setup}
 use Rattle.media_play.specs.Listing.{IsIn, NoRepeat, EachFrom}
 use Rattle.media_model.specs.Entries.{nonce_by, nonces, packet_by, packets}
-use Rattle.media_play.specs.Opening.{Sealing, Receives, opens, stays, yields, packet_from}
-use Rattle.media_play.specs.Play.{sealed_write, Outcome, wrote, ticked, got, Played, start, turn}
+use Rattle.media_play.specs.Opening.{Sealing, Receives, opens, stays, opened_as, yields, packet_from}
+use Rattle.media_play.specs.Play.{AreSealsOf, no_seals, seal_of, Outcome, wrote, ticked, got, Played, start, turn}
 use Rattle.media_play.specs.SetupFacts.{IsSound}
 use Rattle.media_play.specs.WireLaws.{WireLaws}
 use Rattle.media_play.specs.Headline.{IsRightSeal, SealsAreRight, NoNonceTwice, IsSentWrite, SendsWrites, NoPacketTwice, IsOwedTo, HoldsSoFar}
 use Rattle.media_play.proofs.Genuineness.{HasSeal, has_seals}
-use Rattle.media_play.proofs.Lists.{IsIn-left, IsIn-from_map, tested, EachFrom-append, EachFrom-left, EachFrom-right}
-use Rattle.media_play.specs.Play.{to_seal}
-use Rattle.media_play.proofs.Readings.{sealed_at_tick-map}
+use Rattle.media_play.proofs.Lists.{IsIn-left, tested, EachFrom-append, EachFrom-left, EachFrom-right}
 use Rattle.media_play.proofs.Stands.{Stands, stands}
 use Rattle.media_play.proofs.Seals.{sends_writes, seals_are_right, no_nonce_twice}
 use Rattle.media_play.proofs.Yields.{no_packet_twice}
@@ -31,8 +29,8 @@ NoRepeat-left : {X : Type 0} (xs ys : List X) → NoRepeat (xs ++ ys) → NoRepe
 NoRepeat-left [] ys h = tt
 NoRepeat-left (x ∷ xs) ys h = (λ i. h.0 (IsIn-left x xs ys i), NoRepeat-left xs ys h.1)
 
-pub sends_writes-front : (front rest : List Entry) → SendsWrites (front ++ rest) → SendsWrites front
-sends_writes-front front rest h = EachFrom-left IsSentWrite [] front rest h
+pub sends_writes-front : (setup : Setup) (front rest : List Entry) → SendsWrites setup (front ++ rest) → SendsWrites setup front
+sends_writes-front setup front rest h = EachFrom-left (IsSentWrite setup) [] front rest h
 
 pub seals_are_right-front : (seal : Sealing) (setup : Setup) (front rest : List Entry) → SealsAreRight seal setup (front ++ rest) → SealsAreRight seal setup front
 seals_are_right-front seal setup front rest h = EachFrom-left (λ past entry. IsRightSeal seal setup entry) [] front rest h
@@ -60,9 +58,9 @@ owes_nothing past [] none = tt
 owes_nothing past (Yielded s p ∷ entries) none = absurd (none s p (inl refl))
 owes_nothing past (Wrote s t w ∷ entries) none = (tt, owes_nothing (past ++ Wrote s t w ∷ []) entries (λ s p i. none s p (inr i)))
 owes_nothing past (Ticked s t ∷ entries) none = (tt, owes_nothing (past ++ Ticked s t ∷ []) entries (λ s p i. none s p (inr i)))
-owes_nothing past (Got s t k b ∷ entries) none = (tt, owes_nothing (past ++ Got s t k b ∷ []) entries (λ s p i. none s p (inr i)))
-owes_nothing past (Sealed s k r n p b ∷ entries) none = (tt, owes_nothing (past ++ Sealed s k r n p b ∷ []) entries (λ s p i. none s p (inr i)))
-owes_nothing past (Opened s k r n p ∷ entries) none = (tt, owes_nothing (past ++ Opened s k r n p ∷ []) entries (λ s p i. none s p (inr i)))
+owes_nothing past (Got g ∷ entries) none = (tt, owes_nothing (past ++ Got g ∷ []) entries (λ s p i. none s p (inr i)))
+owes_nothing past (Sealed x ∷ entries) none = (tt, owes_nothing (past ++ Sealed x ∷ []) entries (λ s p i. none s p (inr i)))
+owes_nothing past (Opened o ∷ entries) none = (tt, owes_nothing (past ++ Opened o ∷ []) entries (λ s p i. none s p (inr i)))
 
 -- a front of what owes nothing owes nothing
 front_owes_nothing : (past front rest whole : List Entry) → front ++ rest ≡ whole → ((s : Side) (p : Packet) → IsIn (Yielded s p) whole → ⊥) → EachFrom IsOwedTo past front
@@ -74,21 +72,29 @@ front_of_one past [] rest entry e owed = tt
 front_of_one past (x ∷ []) rest entry e owed = let is : x ≡ entry = cc e in (subst (IsOwedTo past) (sym is) owed, tt)
 front_of_one past (x ∷ y ∷ front) rest entry e owed = absurd (cc e)
 
-module _ {seal : Sealing} {setup : Setup} (wire : WireLaws seal) (sound : IsSound setup) where
-  front_received : {side : Side} {entries : List Entry} {kind : Kind} {bytes : List ℕ} {chunk : List Entry} (time : ℕ) → Stands seal setup entries → Receives seal setup side entries kind bytes chunk
-      → (front rest : List Entry) → front ++ rest ≡ Got side time kind bytes ∷ chunk → EachFrom HasSeal entries front → EachFrom IsOwedTo entries front
-  front_received {side} {entries} {kind} {bytes} time h (stays none) front rest e genuine =
-      front_owes_nothing entries front rest (Got side time kind bytes ∷ []) e (λ s p i. elim i [ inl is ↦ absurd (cc is) | inr other ↦ other ])
-  front_received {side} {entries} {kind} {bytes} time h (opens header number plain o) front rest e genuine =
-      elim (cut front rest heard (yields side header number plain) e) [
+seals_yield_none : {seal : Sealing} {setup : Setup} {side : Side} {ws : List Writing} {es : List Entry} → AreSealsOf seal setup side ws es → (s : Side) (p : Packet) → IsIn (Yielded s p) es → ⊥
+seals_yield_none no_seals s p i = i
+seals_yield_none (seal_of w t is rest) s p (inl e) = absurd (cc e)
+seals_yield_none (seal_of w t is rest) s p (inr i) = seals_yield_none rest s p i
+
+module _ {seal : Sealing} {setup : Setup} (wire : WireLaws seal setup) where
+  front_received : {entries : List Entry} {came : GotEntry} {chunk : List Entry} → Stands seal setup entries → Receives seal setup entries came chunk
+      → (front rest : List Entry) → front ++ rest ≡ Got came ∷ chunk → EachFrom HasSeal entries front → EachFrom IsOwedTo entries front
+  front_received {entries} {came} h (stays none) front rest e genuine =
+      front_owes_nothing entries front rest (Got came ∷ []) e (λ s p i. elim i [ inl is ↦ absurd (cc is) | inr other ↦ other ])
+  front_received {entries} {came} h (opens header number plain o) front rest e genuine =
+      elim (cut front rest heard (yields came.side header number plain) e) [
         | inl m ↦ front_owes_nothing entries front m.0 heard m.1 quiet
         | inr m ↦
             subst (EachFrom IsOwedTo entries) (sym m.1)
             (EachFrom-append IsOwedTo entries heard m.0 (owes_nothing entries heard quiet) (last m.0 m.2 (subst (EachFrom HasSeal entries) m.1 genuine)))
       ]
     where
+      opened : Entry
+      opened = Opened (opened_as came.side header number plain)
+
       heard : List Entry
-      heard = Got side time kind bytes ∷ Opened side Rtp header.ssrc number plain ∷ []
+      heard = Got came ∷ Opened (opened_as came.side header number plain) ∷ []
 
       quiet : (s : Side) (p : Packet) → IsIn (Yielded s p) heard → ⊥
       quiet s p (inl is) = absurd (cc is)
@@ -96,32 +102,24 @@ module _ {seal : Sealing} {setup : Setup} (wire : WireLaws seal) (sound : IsSoun
       quiet s p (inr (inr other)) = other
 
       after : List Entry
-      after = (entries ++ Got side time kind bytes ∷ []) ++ Opened side Rtp header.ssrc number plain ∷ []
+      after = (entries ++ Got came ∷ []) ++ Opened (opened_as came.side header number plain) ∷ []
 
-      last : (m : List Entry) → m ++ rest ≡ yields side header number plain → EachFrom HasSeal entries (heard ++ m) → EachFrom IsOwedTo (entries ++ heard) m
+      last : (m : List Entry) → m ++ rest ≡ yields came.side header number plain → EachFrom HasSeal entries (heard ++ m) → EachFrom IsOwedTo (entries ++ heard) m
       last m is g =
-          let owed = owed_yield time wire sound h o g.1.0 in
-          subst (λ past. EachFrom IsOwedTo past m) (append_assoc entries (Got side time kind bytes ∷ []) (Opened side Rtp header.ssrc number plain ∷ []))
+          let owed = owed_yield wire h o g.1.0 in
+          subst (λ past. EachFrom IsOwedTo past m) (append_assoc entries (Got came ∷ []) (Opened (opened_as came.side header number plain) ∷ []))
           (elim (tested (header.ssrc == 0)) [
             | inl t ↦ front_owes_nothing after m rest [] (rw t at is) (λ s p i. i)
-            | inr t ↦ front_of_one after m rest (Yielded side (packet_from header number plain)) (rw t at is) owed
+            | inr t ↦ front_of_one after m rest (Yielded came.side (packet_from header number plain)) (rw t at is) owed
           ])
 
   front_owed : {entries : List Entry} {step : Step} {new : List Entry} → Stands seal setup entries → Outcome seal setup entries step new → (front rest : List Entry) → front ++ rest ≡ new
       → EachFrom HasSeal entries front → EachFrom IsOwedTo entries front
   front_owed {entries} h (wrote side time w a b) front rest e genuine =
       front_owes_nothing entries front rest (Wrote side time w ∷ []) e (λ s p i. elim i [ inl is ↦ absurd (cc is) | inr other ↦ other ])
-  front_owed {entries} h (ticked side time) front rest e genuine =
-      front_owes_nothing entries front rest (Ticked side time ∷ map (sealed_write seal side) (to_seal setup side entries))
-      (e ∙ ap (λ es. Ticked side time ∷ es) (sealed_at_tick-map seal setup side entries))
-      (λ s p i. elim i [
-        | inl is ↦ absurd (cc is)
-        | inr j ↦
-            let w = IsIn-from_map (sealed_write seal side) (Yielded s p) (to_seal setup side entries) j in
-            let is : Yielded s p ≡ sealed_write seal side w.0 = w.2 in
-            absurd (cc is)
-      ])
-  front_owed {entries} h (got side time kind bytes chunk at received) front rest e genuine = front_received time h received front rest e genuine
+  front_owed {entries} h (ticked side time sealed all) front rest e genuine =
+      front_owes_nothing entries front rest (Ticked side time ∷ sealed) e (λ s p i. elim i [ inl is ↦ absurd (cc is) | inr j ↦ seals_yield_none all s p j ])
+  front_owed {entries} h (got came chunk at received) front rest e genuine = front_received h received front rest e genuine
 
   -- also where a run ended within a step, each packet that is yielded is a write of the other side
   pub yields_owed-front : {steps : List Step} {entries : List Entry} → Played seal setup steps entries → (front rest : List Entry) → front ++ rest ≡ entries → EachFrom HasSeal [] front → EachFrom IsOwedTo [] front
@@ -136,12 +134,12 @@ module _ {seal : Sealing} {setup : Setup} (wire : WireLaws seal) (sound : IsSoun
             (front_owed (stands h) o m.0 rest m.2 (EachFrom-right HasSeal [] entries m.0 g)))
       ]
 
-pub holds_so_far : {seal : Sealing} {setup : Setup} {steps : List Step} (front rest : List Entry) → WireLaws seal → IsSound setup → Played seal setup steps (front ++ rest)
+pub holds_so_far : {seal : Sealing} {setup : Setup} {steps : List Step} (front rest : List Entry) → WireLaws seal setup → IsSound setup → Played seal setup steps (front ++ rest)
     → HoldsSoFar seal setup front
 holds_so_far {seal} {setup} front rest wire sound h = record {
-  sends_writes = sends_writes-front front rest (sends_writes sound h);
-  seals_are_right = seals_are_right-front seal setup front rest (seals_are_right wire sound h);
+  sends_writes = sends_writes-front setup front rest (sends_writes sound h);
+  seals_are_right = seals_are_right-front seal setup front rest (seals_are_right h);
   no_nonce_twice = no_nonce_twice-front front rest (no_nonce_twice sound h);
   no_packet_twice = no_packet_twice-front front rest (no_packet_twice h);
-  yields_writes = λ genuine. yields_owed-front wire sound h front rest refl (has_seals front genuine);
+  yields_writes = λ genuine. yields_owed-front wire h front rest refl (has_seals front genuine);
 }

@@ -16,11 +16,10 @@ use Rattle.rtp_wire.specs.declared.header.RtpHeader.{RtpHeader}
 use Rattle.repair_core.specs.Fresh.{is_fresh, with_number}
 use Rattle.repair_core.specs.NackRegister.{StandsFor}
 use Rattle.media_model.specs.declared.entry.Side.{Side}
-use Rattle.media_model.specs.declared.entry.Kind.{Kind}
-use Rattle.media_model.specs.declared.entry.Kind.TheVariants.{Rtp}
 use Rattle.media_model.specs.declared.entry.Write.{Write as Writing}
+use Rattle.media_model.specs.declared.entry.Got.{Got as GotEntry}
 use Rattle.media_model.specs.declared.entry.Entry.{Entry}
-use Rattle.media_model.specs.declared.entry.Entry.TheVariants.{Wrote, Ticked, Got, Opened}
+use Rattle.media_model.specs.declared.entry.Entry.TheVariants.{Wrote, Ticked, Got}
 use Rattle.media_model.specs.declared.step.Step.{Step}
 use Rattle.media_model.specs.declared.setup.Setup.{Setup}
 use Rattle.media_model.specs.Sides.{same_side, peer_of}
@@ -36,11 +35,11 @@ use Rattle.media_play.specs.Packets.{WaitingPacket, waiting_of}
 use Rattle.media_play.specs.Rules.{has, write_fault}
 use Rattle.media_play.specs.SetupFacts.{IsSound}
 use Rattle.media_play.specs.Opening.{Sealing, yields, is_known, fresh_number}
-use Rattle.media_play.specs.Play.{Played, to_seal, sealed_at_tick}
+use Rattle.media_play.specs.Play.{Played, to_seal, Seals}
 use Rattle.media_play.proofs.Lists.{IsIn-map, tested, any-from_in, in-from_any, map-flat_map}
 use Rattle.media_play.proofs.Stands.{cond_none, writes_on-wrote, writes_on-ticked}
 use Rattle.media_play.proofs.Readings.{same_stream, same_reading, yields_none}
-use Rattle.media_play.proofs.Appends.{queued-wrote, queued-wrote_here, queued-ticked, taken-wrote, taken-ticked, taken-opens, taken-opens_here}
+use Rattle.media_play.proofs.Appends.{opening, queued-wrote, queued-wrote_here, queued-ticked, taken-wrote, taken-ticked, taken-opens, taken-opens_here}
 
 -- the place of a key
 
@@ -326,9 +325,12 @@ distinct_sources setup side sound = (
   sound.distinct side,
 )
 
-module _ (side : Side) (entries : List Entry) (time : ℕ) (kind : Kind) (bytes : List ℕ) (header : RtpHeader) (number : ℕ) (plain : List ℕ) where
+module _ (entries : List Entry) (came : GotEntry) (header : RtpHeader) (number : ℕ) (plain : List ℕ) where
+  abbrev side : Side
+  side = came.side
+
   abbrev opened : List Entry
-  opened = Got side time kind bytes ∷ Opened side Rtp header.ssrc number plain ∷ yields side header number plain
+  opened = opening came header number plain
 
   pub writes_on-opened : (s : Side) (r : ℕ) → writes_on s r (entries ++ opened) ≡ writes_on s r entries
   writes_on-opened s r = same_reading (write_on s r) entries opened (yields_none (write_on s r) (λ s p. refl) side header number plain)
@@ -350,7 +352,7 @@ module _ (side : Side) (entries : List Entry) (time : ℕ) (kind : Kind) (bytes 
   taken_elsewhere : (i : Incoming) → (i.ssrc ≡ header.ssrc → ⊥) → TakesAs side entries i → TakesAs side (entries ++ opened) i
   taken_elsewhere i other h =
       subst (StandsFor i.register)
-      (sym (taken-opens side i.ssrc entries side time kind bytes header number plain
+      (sym (taken-opens side i.ssrc entries came header number plain
       ∙ ap (λ b. taken side i.ssrc entries ++ cond b (number ∷ []) []) (other_stream side i.ssrc header.ssrc other) ∙ append-nil (taken side i.ssrc entries))) h
 
   pub takes_opened : (is : List Incoming) (at : ℕ) (i new : Incoming) → at < length is → i ≡ get_or is at i → NoRepeat (map source_of is)
@@ -364,7 +366,7 @@ module _ (side : Side) (entries : List Entry) (time : ℕ) (kind : Kind) (bytes 
       let added : with_number (taken side header.ssrc entries) number ≡ taken side header.ssrc entries ++ number ∷ [] = rw fresh refl in
       let now : TakesAs side (entries ++ opened) new =
       subst (StandsFor new.register)
-      (added ∙ sym (taken-opens_here entries side time kind bytes header number plain) ∙ ap (λ r. taken side r (entries ++ opened)) (sym (same ∙ here)))
+      (added ∙ sym (taken-opens_here entries came header number plain) ∙ ap (λ r. taken side r (entries ++ opened)) (sym (same ∙ here)))
       (taken_on (taken side header.ssrc entries) before) in
       one_changes source_of (TakesAs side entries) (TakesAs side (entries ++ opened)) header.ssrc taken_elsewhere new now is at distinct e h
 
@@ -387,17 +389,17 @@ same_emptied : (os : List Outgoing) → map ssrc_of (map emptied os) ≡ map ssr
 same_emptied [] = refl
 same_emptied (o ∷ os) = ap (λ ns. o.ssrc ∷ ns) (same_emptied os)
 
-module _ (seal : Sealing) (setup : Setup) (side : Side) (entries : List Entry) (time : ℕ) where
+module _ (seal : Sealing) (setup : Setup) (side : Side) (entries : List Entry) (time : ℕ) (sealed : List Entry) (all : Seals seal setup side entries sealed) where
   abbrev ticked : List Entry
-  ticked = Ticked side time ∷ sealed_at_tick seal setup side entries
+  ticked = Ticked side time ∷ sealed
 
   sends_ticked : (os : List Outgoing) → ((o : Outgoing) → IsIn o os → has (streams_of side setup) o.ssrc ≡ true)
       → AllByRecursion (SendsAs side entries) os → AllByRecursion (SendsAs side (entries ++ ticked)) (map emptied os)
   sends_ticked [] known h = tt
   sends_ticked (o ∷ os) known h = (
     record {
-      queue = ap (map waiting_of) (sym (queued-ticked seal setup o.ssrc entries side time (known o (inl refl))));
-      used = λ n. h.0.used n ∙ ap (list_any (λ (u : Writing). u.number == n)) (sym (writes_on-ticked seal setup side o.ssrc entries side time));
+      queue = ap (map waiting_of) (sym (queued-ticked o.ssrc entries side time sealed (known o (inl refl)) all));
+      used = λ n. h.0.used n ∙ ap (list_any (λ (u : Writing). u.number == n)) (sym (writes_on-ticked side o.ssrc entries side time sealed all));
     },
     sends_ticked os (λ z i. known z (inr i)) h.1,
   )
@@ -405,7 +407,7 @@ module _ (seal : Sealing) (setup : Setup) (side : Side) (entries : List Entry) (
   takes_ticked : (is : List Incoming) → AllByRecursion (TakesAs side entries) is → AllByRecursion (TakesAs side (entries ++ ticked)) is
   takes_ticked is h =
       all_weaker (TakesAs side entries) (TakesAs side (entries ++ ticked)) is
-      (λ i at k. subst (StandsFor i.register) (sym (taken-ticked seal setup side i.ssrc entries side time)) k) h
+      (λ i at k. subst (StandsFor i.register) (sym (taken-ticked side i.ssrc entries side time sealed all)) k) h
 
   pub knows_ticked : (old new : Streams) → new.outgoing.items ≡ map emptied old.outgoing.items → new.incoming.items ≡ old.incoming.items → new.types.items ≡ old.types.items
       → Knows setup side old entries → Knows setup side new (entries ++ ticked)

@@ -17,3 +17,4 @@ pub mod OthersReceive
 pub mod Others
 pub mod Soundness
 pub mod Playing
+pub mod Ticks

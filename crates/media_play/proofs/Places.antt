@@ -16,12 +16,12 @@ use Rattle.media_play.specs.Log.{seals, is_seal, places_from, places, bytes_of, 
 seal_cases : (side : Side) (e : Entry) → ((seals side e ≡ false) × (datagram_by side e ≡ [])) ⊎ ((b : List ℕ) × (seals side e ≡ true) × (datagram_by side e ≡ b ∷ []) × (bytes_of e ≡ Some b))
 seal_cases side (Wrote s t w) = inl (refl, refl)
 seal_cases side (Ticked s t) = inl (refl, refl)
-seal_cases side (Got s t k b) = inl (refl, refl)
-seal_cases side (Opened s k r i p) = inl (refl, refl)
+seal_cases side (Got g) = inl (refl, refl)
+seal_cases side (Opened o) = inl (refl, refl)
 seal_cases side (Yielded s p) = inl (refl, refl)
-seal_cases side (Sealed s k r i p b) =
-    elim (same_side side s) as (λ same. ((same ≡ false) × (cond same (b ∷ []) [] ≡ [])) ⊎ ((c : List ℕ) × (same ≡ true) × (cond same (b ∷ []) [] ≡ c ∷ []) × (bytes_of (Sealed s k r i p b) ≡ Some c))) [
-      | true ↦ inr (b, refl, refl, refl)
+seal_cases side (Sealed s) =
+    elim (same_side side s.side) as (λ same. ((same ≡ false) × (cond same (s.bytes ∷ []) [] ≡ [])) ⊎ ((c : List ℕ) × (same ≡ true) × (cond same (s.bytes ∷ []) [] ≡ c ∷ []) × (bytes_of (Sealed s) ≡ Some c))) [
+      | true ↦ inr (s.bytes, refl, refl, refl)
       | false ↦ inl (refl, refl)
     ]
 
@@ -48,10 +48,10 @@ places-push side xs e =
 pub places-other : (side : Side) (xs : List Entry) (e : Entry) → is_seal e ≡ false → places side (xs ++ e ∷ []) ≡ places side xs
 places-other side xs (Wrote s t w) h = places-push side xs (Wrote s t w)
 places-other side xs (Ticked s t) h = places-push side xs (Ticked s t)
-places-other side xs (Got s t k b) h = places-push side xs (Got s t k b)
-places-other side xs (Opened s k r i p) h = places-push side xs (Opened s k r i p)
+places-other side xs (Got g) h = places-push side xs (Got g)
+places-other side xs (Opened o) h = places-push side xs (Opened o)
 places-other side xs (Yielded s p) h = places-push side xs (Yielded s p)
-places-other side xs (Sealed s k r i p b) h = absurd cc
+places-other side xs (Sealed s) h = absurd cc
 
 length_from : (at : ℕ) (side : Side) (xs : List Entry) → length (places_from at side xs) ≡ length (datagrams side xs)
 length_from at side [] = refl

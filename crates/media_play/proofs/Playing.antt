@@ -15,7 +15,7 @@ use Rattle.media_play.specs.declared.fault.StepError.TheVariants.{Rule}
 use Rattle.media_play.specs.Errors.{IsBroken}
 use Rattle.media_play.specs.Opening.{Sealing}
 use Rattle.media_play.specs.Play.{Played}
-use Rattle.media_play.specs.Headline.{StepsAreAnswered, SealsAreRight, NoNonceTwice, SendsWrites, YieldsWrites, NoPacketTwice, FirstSendingsAreYielded}
+use Rattle.media_play.specs.Headline.{HoldsOfRun}
 use Rattle.media_play.specs.Rules.{step_fault}
 use Rattle.media_play.specs.Running.{HasCause, OfRun}
 use Rattle.media_play.specs.SetupFacts.{IsSound}
@@ -55,38 +55,28 @@ module _ (seal : Sealing) (setup : Setup) where
     ),
   )
 
--- what the laws say of the entries of a run
-pub record HoldsOf (seal : Sealing) (setup : Setup) (entries : List Entry) : Type 0 where
-  pub steps : StepsAreAnswered seal setup entries
-  pub seals : SealsAreRight seal setup entries
-  pub nonces : NoNonceTwice entries
-  pub sendings : SendsWrites entries
-  pub yields : YieldsWrites entries
-  pub once : NoPacketTwice entries
-  pub exactly : FirstSendingsAreYielded seal entries
-
-pub laws_of : {seal : Sealing} {setup : Setup} {steps : List Step} {entries : List Entry} → WireLaws seal → IsSound setup → Played seal setup steps entries → HoldsOf seal setup entries
+pub laws_of : {seal : Sealing} {setup : Setup} {steps : List Step} {entries : List Entry} → WireLaws seal setup → IsSound setup → Played seal setup steps entries → HoldsOfRun seal setup entries
 laws_of wire sound h = record {
   steps = steps_are_answered h;
-  seals = seals_are_right wire sound h;
+  seals = seals_are_right h;
   nonces = no_nonce_twice sound h;
   sendings = sends_writes sound h;
-  yields = yields_writes wire sound h;
+  yields = yields_writes wire h;
   once = no_packet_twice h;
   exactly = first_sendings_are_yielded wire sound h;
 }
 
-module _ (seal : Sealing) (setup : Setup) (wire : WireLaws seal) (fine : setup_fault setup ≡ None) where
+module _ (seal : Sealing) (setup : Setup) (wire : WireLaws seal setup) (fine : setup_fault setup ≡ None) where
   -- the laws hold wherever the steps of a right setup end
-  pub of_cause : (steps : List Step) (entries : List Entry) (cause : RunError) → HasCause seal setup steps entries cause → HoldsOf seal setup entries
+  pub of_cause : (steps : List Step) (entries : List Entry) (cause : RunError) → HasCause seal setup steps entries cause → HoldsOfRun seal setup entries
   of_cause steps entries (error.Setup fault) h = absurd (let e = sym fine ∙ h.0 in cc)
   of_cause steps entries (error.Step number fault) h = let r = h.1 in laws_of wire (sound_setup setup fine) r.4
   of_cause steps entries error.Memory h = laws_of wire (sound_setup setup fine) h.2
 
 -- a run whose setup is right
-pub of_run : (seal : Sealing) (setup : Setup) (steps : List Step) → WireLaws seal → setup_fault setup ≡ None → (result : Result Transcript RunFault)
+pub of_run : (seal : Sealing) (setup : Setup) (steps : List Step) → WireLaws seal setup → setup_fault setup ≡ None → (result : Result Transcript RunFault)
     → IfOk result (λ t. Played seal setup steps t) → IfErr result (λ f. HasCause seal setup steps f.sofar f.cause)
-    → OfRun result (HoldsOf seal setup)
+    → OfRun result (HoldsOfRun seal setup)
 of_run seal setup steps wire fine (Ok entries) played cause = laws_of wire (sound_setup setup fine) played
 of_run seal setup steps wire fine (Err fault) played cause = of_cause seal setup wire fine steps fault.sofar fault.cause cause
 

@@ -1,5 +1,5 @@
 -- What is read off the entries of a run and off what one step more brings.
-use Rattle.std.proofs.Common.{◌≡◌, inl, inr, ℕ, true, false, not, ◌&&◌, List, [], ◌∷◌, ◌++◌, map, refl, sym, ap, ◌∙◌, subst}
+use Rattle.std.proofs.Common.{◌≡◌, inl, inr, ℕ, true, false, not, ◌&&◌, List, [], ◌∷◌, ◌++◌, refl, sym, ap, ◌∙◌, subst}
 use Rattle.std.specs.Prelude.{◌==◌}
 use Rattle.std.specs.List.{flat_map}
 use Rattle.std.proofs.lemmas.List.{append-nil}
@@ -12,6 +12,9 @@ use Rattle.media_model.specs.declared.entry.Kind.{Kind}
 use Rattle.media_model.specs.declared.entry.Kind.TheVariants.{Rtp, Rtcp}
 use Rattle.media_model.specs.declared.entry.Write.{Write as Writing}
 use Rattle.media_model.specs.declared.entry.Packet.{Packet}
+use Rattle.media_model.specs.declared.entry.Got.{Got as GotEntry}
+use Rattle.media_model.specs.declared.entry.Sealed.{Sealed as SealedEntry}
+use Rattle.media_model.specs.declared.entry.Opened.{Opened as OpenedEntry}
 use Rattle.media_model.specs.declared.entry.Entry.{Entry}
 use Rattle.media_model.specs.declared.entry.Entry.TheVariants.{Wrote, Ticked, Got, Sealed, Opened, Yielded}
 use Rattle.media_model.specs.declared.setup.Setup.{Setup}
@@ -19,10 +22,9 @@ use Rattle.media_model.specs.Sides.{same_side, same_kind, peer_of}
 use Rattle.media_model.specs.Setup.{streams_of}
 use Rattle.media_play.specs.Listing.{IsIn}
 use Rattle.media_model.specs.Entries.{write_on, writes_on, write_by, writes_by, sealed_number_on, sealed_numbers, is_sealed, queued}
-use Rattle.media_play.specs.Opening.{Sealing, Receives, opens, stays, yields, packet_from}
-use Rattle.media_play.specs.Plain.{plain_of}
-use Rattle.media_play.specs.Play.{sealed_write, to_seal, sealed_at_tick}
-use Rattle.media_play.proofs.Lists.{IsIn-right, IsIn-flat_map, IsIn-from_flat_map, IsIn-from_filter, tested, any-from_in, map-flat_map}
+use Rattle.media_play.specs.Opening.{Sealing, Receives, opens, stays, opened_as, yields, packet_from}
+use Rattle.media_play.specs.Play.{IsSealOfWrite, AreSealsOf, no_seals, seal_of, to_seal}
+use Rattle.media_play.proofs.Lists.{IsIn-right, IsIn-flat_map, IsIn-from_flat_map, IsIn-from_filter, tested, any-from_in}
 
 pub same_side-true : (s t : Side) → same_side s t ≡ true → s ≡ t
 same_side-true A A e = refl
@@ -48,31 +50,23 @@ same_side-peer B = refl
 pub same_stream : (s : Side) (r : ℕ) → (same_side s s && (r == r)) ≡ true
 same_stream s r = and_from (same_side s s) (r == r) (same_side-refl s) (eq-eqb r r refl)
 
-pub sealed_at_tick-map : (seal : Sealing) (setup : Setup) (side : Side) (entries : List Entry)
-    → sealed_at_tick seal setup side entries ≡ map (sealed_write seal side) (to_seal setup side entries)
-sealed_at_tick-map seal setup side entries = map-flat_map (sealed_write seal side) (λ ssrc. queued side ssrc entries) (streams_of side setup)
-
 -- what nothing new has is as before
 pub same_reading : {Y : Type 0} (f : Entry → List Y) (xs ys : List Entry) → flat_map f ys ≡ [] → flat_map f (xs ++ ys) ≡ flat_map f xs
 same_reading f xs ys none = flat_map-append f xs ys ∙ ap (λ zs. flat_map f xs ++ zs) none ∙ append-nil (flat_map f xs)
 
-pub seals_none : {Y : Type 0} (seal : Sealing) (side : Side) (f : Entry → List Y) → ((s : Side) (k : Kind) (r i : ℕ) (p b : List ℕ) → f (Sealed s k r i p b) ≡ [])
-    → (ws : List Writing) → flat_map f (map (sealed_write seal side) ws) ≡ []
-seals_none seal side f none [] = refl
-seals_none seal side f none (w ∷ ws) = rw (none side Rtp w.ssrc w.number (plain_of w) (seal side w.ssrc w.number 12 (plain_of w))) (seals_none seal side f none ws)
-
-pub tick_none : {Y : Type 0} (seal : Sealing) (setup : Setup) (side : Side) (entries : List Entry) (f : Entry → List Y) → ((s : Side) (k : Kind) (r i : ℕ) (p b : List ℕ) → f (Sealed s k r i p b) ≡ [])
-    → flat_map f (sealed_at_tick seal setup side entries) ≡ []
-tick_none seal setup side entries f none = ap (flat_map f) (sealed_at_tick-map seal setup side entries) ∙ seals_none seal side f none (to_seal setup side entries)
+pub seals_none : {Y : Type 0} {seal : Sealing} {setup : Setup} {side : Side} {ws : List Writing} {es : List Entry} (f : Entry → List Y) → ((s : SealedEntry) → f (Sealed s) ≡ [])
+    → AreSealsOf seal setup side ws es → flat_map f es ≡ []
+seals_none f quiet no_seals = refl
+seals_none f quiet (seal_of w s is rest) = rw (quiet s) (seals_none f quiet rest)
 
 pub yields_none : {Y : Type 0} (f : Entry → List Y) → ((s : Side) (p : Packet) → f (Yielded s p) ≡ []) → (side : Side) (header : RtpHeader) (number : ℕ) (plain : List ℕ)
     → flat_map f (yields side header number plain) ≡ []
 yields_none f none side header number plain =
     elim (tested (header.ssrc == 0)) [ inl t ↦ rw t refl | inr t ↦ rw (t, none side (packet_from header number plain)) refl ]
 
-pub received_none : {Y : Type 0} (f : Entry → List Y) → ((s : Side) (k : Kind) (r i : ℕ) (p : List ℕ) → f (Opened s k r i p) ≡ []) → ((s : Side) (p : Packet) → f (Yielded s p) ≡ [])
-    → {seal : Sealing} {setup : Setup} {side : Side} {entries : List Entry} {kind : Kind} {bytes : List ℕ} {brought : List Entry} → Receives seal setup side entries kind bytes brought → flat_map f brought ≡ []
-received_none f opened yielded {side = side} (opens header number plain o) = rw (opened side Rtp header.ssrc number plain) (yields_none f yielded side header number plain)
+pub received_none : {Y : Type 0} (f : Entry → List Y) → ((o : OpenedEntry) → f (Opened o) ≡ []) → ((s : Side) (p : Packet) → f (Yielded s p) ≡ [])
+    → {seal : Sealing} {setup : Setup} {entries : List Entry} {got : GotEntry} {brought : List Entry} → Receives seal setup entries got brought → flat_map f brought ≡ []
+received_none f opened yielded {got = got} (opens header number plain o) = rw (opened (opened_as got.side header number plain)) (yields_none f yielded got.side header number plain)
 received_none f opened yielded (stays none) = refl
 
 -- writes
@@ -88,9 +82,9 @@ written_on s r (Wrote t time u ∷ entries) w h =
       | inr e ↦ written_on s r entries w (rw e at h)
     ]
 written_on s r (Ticked t time ∷ entries) w h = written_on s r entries w h
-written_on s r (Got t time k b ∷ entries) w h = written_on s r entries w h
-written_on s r (Sealed t k q i p b ∷ entries) w h = written_on s r entries w h
-written_on s r (Opened t k q i p ∷ entries) w h = written_on s r entries w h
+written_on s r (Got g ∷ entries) w h = written_on s r entries w h
+written_on s r (Sealed x ∷ entries) w h = written_on s r entries w h
+written_on s r (Opened o ∷ entries) w h = written_on s r entries w h
 written_on s r (Yielded t p ∷ entries) w h = written_on s r entries w h
 
 pub written_by : (s : Side) (r : ℕ) (entries : List Entry) (w : Writing) → IsIn w (writes_on s r entries) → IsIn w (writes_by s entries)
@@ -101,9 +95,9 @@ written_by s r (Wrote t time u ∷ entries) w h =
       | inr e ↦ IsIn-right w (write_by s (Wrote t time u)) (writes_by s entries) (written_by s r entries w (rw e at h))
     ]
 written_by s r (Ticked t time ∷ entries) w h = written_by s r entries w h
-written_by s r (Got t time k b ∷ entries) w h = written_by s r entries w h
-written_by s r (Sealed t k q i p b ∷ entries) w h = written_by s r entries w h
-written_by s r (Opened t k q i p ∷ entries) w h = written_by s r entries w h
+written_by s r (Got g ∷ entries) w h = written_by s r entries w h
+written_by s r (Sealed x ∷ entries) w h = written_by s r entries w h
+written_by s r (Opened o ∷ entries) w h = written_by s r entries w h
 written_by s r (Yielded t p ∷ entries) w h = written_by s r entries w h
 
 pub by_written : (s : Side) (entries : List Entry) (w : Writing) → IsIn w (writes_by s entries) → IsIn w (writes_on s w.ssrc entries)
@@ -117,45 +111,58 @@ by_written s (Wrote t time u ∷ entries) w h =
       | inr e ↦ IsIn-right w (write_on s w.ssrc (Wrote t time u)) (writes_on s w.ssrc entries) (by_written s entries w (rw e at h))
     ]
 by_written s (Ticked t time ∷ entries) w h = by_written s entries w h
-by_written s (Got t time k b ∷ entries) w h = by_written s entries w h
-by_written s (Sealed t k q i p b ∷ entries) w h = by_written s entries w h
-by_written s (Opened t k q i p ∷ entries) w h = by_written s entries w h
+by_written s (Got g ∷ entries) w h = by_written s entries w h
+by_written s (Sealed x ∷ entries) w h = by_written s entries w h
+by_written s (Opened o ∷ entries) w h = by_written s entries w h
 by_written s (Yielded t p ∷ entries) w h = by_written s entries w h
 
 -- seals
 
 pub sealed_in : (s : Side) (r : ℕ) (entries : List Entry) (n : ℕ) → IsIn n (sealed_numbers s r entries)
-    → (plain bytes : List ℕ) × IsIn (Sealed s Rtp r n plain bytes) entries
+    → (t : SealedEntry) × IsIn (Sealed t) entries × (t.side ≡ s) × (t.kind ≡ Rtp) × (t.ssrc ≡ r) × (t.index ≡ n)
 sealed_in s r entries n h =
     let got = IsIn-from_flat_map (sealed_number_on s r) n entries h in
     at got.0 got.1 got.2
   where
-    at : (e : Entry) → IsIn e entries → IsIn n (sealed_number_on s r e) → (plain bytes : List ℕ) × IsIn (Sealed s Rtp r n plain bytes) entries
-    at (Sealed t k q i p b) here there =
-        elim (tested (same_side s t && (same_kind Rtp k && (q == r)))) [
+    at : (e : Entry) → IsIn e entries → IsIn n (sealed_number_on s r e) → (t : SealedEntry) × IsIn (Sealed t) entries × (t.side ≡ s) × (t.kind ≡ Rtp) × (t.ssrc ≡ r) × (t.index ≡ n)
+    at (Sealed t) here there =
+        elim (tested (same_side s t.side && (same_kind Rtp t.kind && (t.ssrc == r)))) [
           | inl e ↦
-              let parts = and_parts (same_side s t) (same_kind Rtp k && (q == r)) e in
-              let more = and_parts (same_kind Rtp k) (q == r) parts.1 in
-              let is-s = same_side-true s t parts.0 in
-              let is-k = same_kind-true Rtp k more.0 in
-              let is-r = eqb-true q r more.1 in
+              let parts = and_parts (same_side s t.side) (same_kind Rtp t.kind && (t.ssrc == r)) e in
+              let more = and_parts (same_kind Rtp t.kind) (t.ssrc == r) parts.1 in
               elim (rw e at there) [
-                | inl is-n ↦
-                    let same : Sealed t k q i p b ≡ Sealed s Rtp r n p b = cc in
-                    (p, b, subst (λ x. IsIn x entries) same here)
+                | inl is-n ↦ (t, here, sym (same_side-true s t.side parts.0), sym (same_kind-true Rtp t.kind more.0), eqb-true t.ssrc r more.1, sym is-n)
                 | inr other ↦ absurd other
               ]
           | inr e ↦ absurd (rw e at there)
         ]
     at (Wrote t time u) here there = absurd there
     at (Ticked t time) here there = absurd there
-    at (Got t time k b) here there = absurd there
-    at (Opened t k q i p) here there = absurd there
+    at (Got g) here there = absurd there
+    at (Opened o) here there = absurd there
     at (Yielded t p) here there = absurd there
 
-pub seal_in : (s : Side) (r : ℕ) (entries : List Entry) (n : ℕ) (plain bytes : List ℕ) → IsIn (Sealed s Rtp r n plain bytes) entries → IsIn n (sealed_numbers s r entries)
-seal_in s r entries n plain bytes h =
-    IsIn-flat_map (sealed_number_on s r) (Sealed s Rtp r n plain bytes) n entries h (rw (same_side-refl s, eq-eqb r r refl) (inl refl))
+pub seal_in : (entries : List Entry) (t : SealedEntry) → t.kind ≡ Rtp → IsIn (Sealed t) entries → IsIn t.index (sealed_numbers t.side t.ssrc entries)
+seal_in entries t rtp h =
+    let passes : (same_side t.side t.side && (same_kind Rtp t.kind && (t.ssrc == t.ssrc))) ≡ true =
+    and_from _ _ (same_side-refl t.side) (and_from _ _ (ap (same_kind Rtp) rtp) (eq-eqb t.ssrc t.ssrc refl)) in
+    IsIn-flat_map (sealed_number_on t.side t.ssrc) (Sealed t) t.index entries h (rw passes (inl refl))
+
+-- the seals of writes, and the writes that they seal
+
+pub seals_from : {seal : Sealing} {setup : Setup} {side : Side} {ws : List Writing} {es : List Entry} → AreSealsOf seal setup side ws es → (s : SealedEntry) → IsIn (Sealed s) es
+    → (w : Writing) × IsIn w ws × IsSealOfWrite seal setup side w s
+seals_from no_seals s i = absurd i
+seals_from {seal} {setup} {side} (seal_of w t is rest) s (inl e) =
+    let same : s ≡ t = cc e in
+    (w, inl refl, subst (IsSealOfWrite seal setup side w) (sym same) is)
+seals_from (seal_of w t is rest) s (inr i) = let r = seals_from rest s i in (r.0, inr r.1, r.2)
+
+pub seals_there : {seal : Sealing} {setup : Setup} {side : Side} {ws : List Writing} {es : List Entry} → AreSealsOf seal setup side ws es → (w : Writing) → IsIn w ws
+    → (s : SealedEntry) × IsIn (Sealed s) es × IsSealOfWrite seal setup side w s
+seals_there no_seals w i = absurd i
+seals_there {seal} {setup} {side} (seal_of u t is rest) w (inl e) = (t, inl refl, subst (λ (v : Writing). IsSealOfWrite seal setup side v t) (sym e) is)
+seals_there (seal_of u t is rest) w (inr i) = let r = seals_there rest w i in (r.0, inr r.1, r.2)
 
 -- a write that waits
 pub queued_in : (s : Side) (r : ℕ) (entries : List Entry) (w : Writing) → IsIn w (queued s r entries)

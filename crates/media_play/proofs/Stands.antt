@@ -8,6 +8,9 @@ use Rattle.std.proofs.lemmas.Bool.{and_parts, eqb-true, eq-eqb, false≢true, no
 use Rattle.media_model.specs.declared.entry.Side.{Side}
 use Rattle.media_model.specs.declared.entry.Kind.{Kind}
 use Rattle.media_model.specs.declared.entry.Write.{Write as Writing}
+use Rattle.media_model.specs.declared.entry.Got.{Got as GotEntry}
+use Rattle.media_model.specs.declared.entry.Sealed.{Sealed as SealedEntry}
+use Rattle.media_model.specs.declared.entry.Opened.{Opened as OpenedEntry}
 use Rattle.media_model.specs.declared.entry.Entry.{Entry}
 use Rattle.media_model.specs.declared.entry.Entry.TheVariants.{Wrote, Ticked, Got, Sealed}
 use Rattle.media_model.specs.declared.step.Step.{Step}
@@ -17,13 +20,12 @@ use Rattle.media_model.specs.Sides.{same_side}
 use Rattle.media_model.specs.Setup.{streams_of, types_of}
 use Rattle.media_play.specs.declared.fault.StepFault.{StepFault}
 use Rattle.media_play.specs.Listing.{IsIn, NoRepeat}
-use Rattle.media_model.specs.Entries.{write_on, writes_on, queued}
+use Rattle.media_model.specs.Entries.{write_on, writes_on}
 use Rattle.media_play.specs.Opening.{Sealing, Receives, opens, stays}
 use Rattle.media_play.specs.Rules.{has, or_else, time_fault, write_fault, step_fault}
-use Rattle.media_play.specs.Play.{sealed_write, sealed_at_tick, Outcome, wrote, ticked, got, Played, start, turn}
-use Rattle.media_play.proofs.Lists.{IsIn-left, IsIn-append, IsIn-from_map, IsIn-from_flat_map, tested, any-from_in, NoRepeat-push}
-use Rattle.media_play.specs.Play.{to_seal}
-use Rattle.media_play.proofs.Readings.{same_side-true, sealed_at_tick-map, same_reading, tick_none, received_none, written_on, queued_in}
+use Rattle.media_play.specs.Play.{IsSealOfWrite, Seals, Outcome, wrote, ticked, got, Played, start, turn}
+use Rattle.media_play.proofs.Lists.{IsIn-left, IsIn-append, IsIn-from_map, tested, any-from_in, NoRepeat-push}
+use Rattle.media_play.proofs.Readings.{same_side-true, same_reading, seals_none, received_none, written_on, seals_from, to_seal_in}
 
 -- a write that breaks no rule
 pub record IsWriting (setup : Setup) (side : Side) (w : Writing) : Type 0 where
@@ -68,13 +70,13 @@ abbrev pub numbers : List Writing → List ℕ
 numbers ws = map (λ (w : Writing). w.number) ws
 
 -- the seal of a write of these entries
-abbrev pub IsOfWrite : Sealing → List Entry → Side → Kind → ℕ → ℕ → List ℕ → List ℕ → Type 0
-IsOfWrite seal entries s k r i p b = (w : Writing) × IsIn w (writes_on s r entries) × (Sealed s k r i p b ≡ sealed_write seal s w)
+abbrev pub IsOfWrite : Sealing → Setup → List Entry → SealedEntry → Type 0
+IsOfWrite seal setup entries s = (w : Writing) × IsIn w (writes_on s.side s.ssrc entries) × IsSealOfWrite seal setup s.side w s
 
 pub record Stands (seal : Sealing) (setup : Setup) (entries : List Entry) : Type 0 where
   pub fits : (s : Side) (r : ℕ) (w : Writing) → IsIn w (writes_on s r entries) → IsWriting setup s w
   pub distinct : (s : Side) (r : ℕ) → NoRepeat (numbers (writes_on s r entries))
-  pub sealed : (s : Side) (k : Kind) (r i : ℕ) (p b : List ℕ) → IsIn (Sealed s k r i p b) entries → IsOfWrite seal entries s k r i p b
+  pub sealed : (s : SealedEntry) → IsIn (Sealed s) entries → IsOfWrite seal setup entries s
 
 -- a write stays one
 stays_write : (s : Side) (r : ℕ) (entries new : List Entry) (w : Writing) → IsIn w (writes_on s r entries) → IsIn w (writes_on s r (entries ++ new))
@@ -85,43 +87,39 @@ pub writes_on-wrote : (s : Side) (r : ℕ) (entries : List Entry) (side : Side) 
 writes_on-wrote s r entries side time w =
     flat_map-append (write_on s r) entries (Wrote side time w ∷ []) ∙ ap (λ zs. writes_on s r entries ++ zs) (append-nil (write_on s r (Wrote side time w)))
 
-pub writes_on-ticked : (seal : Sealing) (setup : Setup) (s : Side) (r : ℕ) (entries : List Entry) (side : Side) (time : ℕ)
-    → writes_on s r (entries ++ Ticked side time ∷ sealed_at_tick seal setup side entries) ≡ writes_on s r entries
-writes_on-ticked seal setup s r entries side time =
-    same_reading (write_on s r) entries (Ticked side time ∷ sealed_at_tick seal setup side entries)
-    (tick_none seal setup side entries (write_on s r) (λ s k r i p b. refl))
+pub writes_on-ticked : {seal : Sealing} {setup : Setup} (s : Side) (r : ℕ) (entries : List Entry) (side : Side) (time : ℕ) (sealed : List Entry) → Seals seal setup side entries sealed
+    → writes_on s r (entries ++ Ticked side time ∷ sealed) ≡ writes_on s r entries
+writes_on-ticked s r entries side time sealed h = same_reading (write_on s r) entries (Ticked side time ∷ sealed) (seals_none (write_on s r) (λ s. refl) h)
 
-pub writes_on-got : {seal : Sealing} {setup : Setup} (s : Side) (r : ℕ) (entries : List Entry) (side : Side) (time : ℕ) (kind : Kind) (bytes : List ℕ) (brought : List Entry)
-    → Receives seal setup side entries kind bytes brought
-    → writes_on s r (entries ++ Got side time kind bytes ∷ brought) ≡ writes_on s r entries
-writes_on-got s r entries side time kind bytes brought h =
-    same_reading (write_on s r) entries (Got side time kind bytes ∷ brought) (received_none (write_on s r) (λ s k r i p. refl) (λ s p. refl) h)
+pub writes_on-got : {seal : Sealing} {setup : Setup} (s : Side) (r : ℕ) (entries : List Entry) (came : GotEntry) (brought : List Entry)
+    → Receives seal setup entries came brought → writes_on s r (entries ++ Got came ∷ brought) ≡ writes_on s r entries
+writes_on-got s r entries came brought h =
+    same_reading (write_on s r) entries (Got came ∷ brought) (received_none (write_on s r) (λ o. refl) (λ s p. refl) h)
 
-no_seal_received : {seal : Sealing} {setup : Setup} {side : Side} {entries : List Entry} {kind : Kind} {bytes : List ℕ} {brought : List Entry} → Receives seal setup side entries kind bytes brought
-    → (s : Side) (k : Kind) (r i : ℕ) (p b : List ℕ) → IsIn (Sealed s k r i p b) brought → ⊥
-no_seal_received {side = side} (opens header number plain o) s k r i p b (inl e) = absurd cc
-no_seal_received {side = side} (opens header number plain o) s k r i p b (inr h) =
+no_seal_received : {seal : Sealing} {setup : Setup} {entries : List Entry} {came : GotEntry} {brought : List Entry} → Receives seal setup entries came brought
+    → (s : SealedEntry) → IsIn (Sealed s) brought → ⊥
+no_seal_received (opens header number plain o) s (inl e) = absurd (cc e)
+no_seal_received (opens header number plain o) s (inr h) =
     elim (tested (header.ssrc == 0)) [
       | inl t ↦ rw t at h
       | inr t ↦ elim (rw t at h) [ inl e ↦ absurd (cc e) | inr other ↦ other ]
     ]
-no_seal_received (stays none) s k r i p b h = h
+no_seal_received (stays none) s h = h
 
-sealed_by_tick : (seal : Sealing) (setup : Setup) (entries : List Entry) (side : Side) (s : Side) (k : Kind) (r i : ℕ) (p b : List ℕ)
-    → IsIn (Sealed s k r i p b) (sealed_at_tick seal setup side entries) → IsOfWrite seal entries s k r i p b
-sealed_by_tick seal setup entries side s k r i p b h =
-    let got = IsIn-from_map (sealed_write seal side) (Sealed s k r i p b) (to_seal setup side entries) (subst (IsIn (Sealed s k r i p b)) (sealed_at_tick-map seal setup side entries) h) in
-    let w = got.0 in
-    let from = IsIn-from_flat_map (λ ssrc. queued side ssrc entries) w (streams_of side setup) got.1 in
-    let waits = (queued_in side from.0 entries w from.2).0 in
-    let is : Sealed s k r i p b ≡ sealed_write seal side w = got.2 in
-    let same-s : side ≡ s = cc is in
-    let same-r : w.ssrc ≡ r = cc is in
-    let there : IsIn w (writes_on side r entries) = subst (λ q. IsIn w (writes_on side q entries)) (sym (written_on side from.0 entries w waits) ∙ same-r) waits in
-    (w, subst (λ t. IsIn w (writes_on t r entries)) same-s there, is ∙ ap (λ t. sealed_write seal t w) same-s)
+sealed_by_tick : {seal : Sealing} {setup : Setup} (entries : List Entry) (side : Side) (sealed : List Entry) → Seals seal setup side entries sealed
+    → (s : SealedEntry) → IsIn (Sealed s) sealed → IsOfWrite seal setup entries s
+sealed_by_tick {seal} {setup} entries side sealed h s i =
+    let from = seals_from h s i in
+    let w = from.0 in
+    let is = from.2 in
+    let waits = (to_seal_in setup side entries w from.1).0 in (
+      w,
+      subst (λ t. IsIn w (writes_on t s.ssrc entries)) (sym is.side) (subst (λ q. IsIn w (writes_on side q entries)) (sym is.ssrc) waits),
+      subst (λ t. IsSealOfWrite seal setup t w s) (sym is.side) is,
+    )
 
-more : (seal : Sealing) (entries new : List Entry) (s : Side) (k : Kind) (r i : ℕ) (p b : List ℕ) → IsOfWrite seal entries s k r i p b → IsOfWrite seal (entries ++ new) s k r i p b
-more seal entries new s k r i p b h = (h.0, stays_write s r entries new h.0 h.1, h.2)
+more : (seal : Sealing) (setup : Setup) (entries new : List Entry) (s : SealedEntry) → IsOfWrite seal setup entries s → IsOfWrite seal setup (entries ++ new) s
+more seal setup entries new s h = (h.0, stays_write s.side s.ssrc entries new h.0 h.1, h.2)
 
 after_write : (seal : Sealing) (setup : Setup) (entries : List Entry) (side : Side) (time : ℕ) (w : Writing) → w.ssrc < 2 ^ 32 → w.rtp_time < 2 ^ 32
     → step_fault setup entries (Write side time w) ≡ None → Stands seal setup entries → Stands seal setup (entries ++ Wrote side time w ∷ [])
@@ -157,37 +155,37 @@ after_write seal setup entries side time w a b e h =
                 false≢true (sym unused ∙ used)))
             | inr t ↦ rw (writes_on-wrote s r entries side time w, t, append-nil (writes_on s r entries)) (h.distinct s r)
           ];
-      sealed = λ s k r i p b j.
-          elim (IsIn-append (Sealed s k r i p b) entries (Wrote side time w ∷ []) j) [
-            | inl l ↦ more seal entries (Wrote side time w ∷ []) s k r i p b (h.sealed s k r i p b l)
+      sealed = λ s j.
+          elim (IsIn-append (Sealed s) entries (Wrote side time w ∷ []) j) [
+            | inl l ↦ more seal setup entries (Wrote side time w ∷ []) s (h.sealed s l)
             | inr l ↦ elim l [ inl is ↦ absurd (cc is) | inr other ↦ absurd other ]
           ];
     }
 
 -- where no write is new, the seals alone are to be shown
 after_other : (seal : Sealing) (setup : Setup) (entries new : List Entry) → ((s : Side) (r : ℕ) → writes_on s r (entries ++ new) ≡ writes_on s r entries)
-    → ((s : Side) (k : Kind) (r i : ℕ) (p b : List ℕ) → IsIn (Sealed s k r i p b) new → IsOfWrite seal entries s k r i p b)
+    → ((s : SealedEntry) → IsIn (Sealed s) new → IsOfWrite seal setup entries s)
     → Stands seal setup entries → Stands seal setup (entries ++ new)
 after_other seal setup entries new same seals h = record {
   fits = λ s r w i. h.fits s r w (subst (IsIn w) (same s r) i);
   distinct = λ s r. subst (λ ws. NoRepeat (numbers ws)) (sym (same s r)) (h.distinct s r);
-  sealed = λ s k r i p b j.
-      elim (IsIn-append (Sealed s k r i p b) entries new j) [
-        | inl l ↦ more seal entries new s k r i p b (h.sealed s k r i p b l)
-        | inr l ↦ more seal entries new s k r i p b (seals s k r i p b l)
+  sealed = λ s j.
+      elim (IsIn-append (Sealed s) entries new j) [
+        | inl l ↦ more seal setup entries new s (h.sealed s l)
+        | inr l ↦ more seal setup entries new s (seals s l)
       ];
 }
 
 after_step : {seal : Sealing} {setup : Setup} {entries : List Entry} {step : Step} {new : List Entry} → Outcome seal setup entries step new → step_fault setup entries step ≡ None
     → Stands seal setup entries → Stands seal setup (entries ++ new)
 after_step {seal} {setup} {entries} (wrote side time w a b) e h = after_write seal setup entries side time w a b e h
-after_step {seal} {setup} {entries} (ticked side time) e h =
-    after_other seal setup entries (Ticked side time ∷ sealed_at_tick seal setup side entries) (λ s r. writes_on-ticked seal setup s r entries side time)
-    (λ s k r i p b j. elim j [ inl is ↦ absurd (cc is) | inr l ↦ sealed_by_tick seal setup entries side s k r i p b l ]) h
-after_step {seal} {setup} {entries} (got side time kind bytes brought at received) e h =
-    after_other seal setup entries (Got side time kind bytes ∷ brought) (λ s r. writes_on-got s r entries side time kind bytes brought received)
-    (λ s k r i p b j. elim j [ inl is ↦ absurd (cc is) | inr l ↦ absurd (no_seal_received received s k r i p b l) ]) h
+after_step {seal} {setup} {entries} (ticked side time sealed all) e h =
+    after_other seal setup entries (Ticked side time ∷ sealed) (λ s r. writes_on-ticked s r entries side time sealed all)
+    (λ s j. elim j [ inl is ↦ absurd (cc is) | inr l ↦ sealed_by_tick entries side sealed all s l ]) h
+after_step {seal} {setup} {entries} (got came brought at received) e h =
+    after_other seal setup entries (Got came ∷ brought) (λ s r. writes_on-got s r entries came brought received)
+    (λ s j. elim j [ inl is ↦ absurd (cc is) | inr l ↦ absurd (no_seal_received received s l) ]) h
 
 pub stands : {seal : Sealing} {setup : Setup} {steps : List Step} {entries : List Entry} → Played seal setup steps entries → Stands seal setup entries
-stands start = record { fits = λ s r w i. absurd i; distinct = λ s r. tt; sealed = λ s k r i p b j. absurd j }
+stands start = record { fits = λ s r w i. absurd i; distinct = λ s r. tt; sealed = λ s j. absurd j }
 stands (turn {steps} {entries} h step new e o) = after_step o e (stands h)

@@ -7,11 +7,10 @@ use Rattle.std.proofs.lemmas.List.Concat.{flat_map-append}
 use Rattle.std.proofs.lemmas.Bool.{and_parts, or_cases, ltb-true, eq-eqb, false≢true, not-true}
 use Rattle.rtp_wire.specs.declared.header.RtpHeader.{RtpHeader}
 use Rattle.media_model.specs.declared.entry.Side.{Side}
-use Rattle.media_model.specs.declared.entry.Kind.{Kind}
-use Rattle.media_model.specs.declared.entry.Kind.TheVariants.{Rtp}
 use Rattle.media_model.specs.declared.entry.Packet.{Packet}
+use Rattle.media_model.specs.declared.entry.Got.{Got as GotEntry}
 use Rattle.media_model.specs.declared.entry.Entry.{Entry}
-use Rattle.media_model.specs.declared.entry.Entry.TheVariants.{Wrote, Ticked, Got, Opened}
+use Rattle.media_model.specs.declared.entry.Entry.TheVariants.{Wrote, Ticked, Got}
 use Rattle.media_model.specs.declared.step.Step.{Step}
 use Rattle.media_model.specs.declared.setup.Setup.{Setup}
 use Rattle.media_model.specs.Sides.{same_side}
@@ -19,11 +18,11 @@ use Rattle.media_play.specs.Listing.{IsIn, NoRepeat}
 use Rattle.media_model.specs.Entries.{taken, packet_by, packets}
 use Rattle.repair_core.specs.Fresh.{greatest, is_fresh}
 use Rattle.media_play.specs.Opening.{Sealing, Opens, Receives, opens, stays, yields, packet_from}
-use Rattle.media_play.specs.Play.{sealed_at_tick, Outcome, wrote, ticked, got, Played, start, turn}
+use Rattle.media_play.specs.Play.{Outcome, wrote, ticked, got, Played, start, turn}
 use Rattle.media_play.specs.Headline.{NoPacketTwice}
 use Rattle.media_play.proofs.Lists.{IsIn-left, IsIn-right, IsIn-append, tested, any-from_in, NoRepeat-push}
-use Rattle.media_play.proofs.Readings.{same_side-true, same_reading, tick_none}
-use Rattle.media_play.proofs.Appends.{taken-wrote, taken-ticked, taken-stays, taken-opens}
+use Rattle.media_play.proofs.Readings.{same_side-true, same_reading, seals_none}
+use Rattle.media_play.proofs.Appends.{opening, taken-wrote, taken-ticked, taken-stays, taken-opens}
 
 in_greatest : (xs : List ℕ) (n : ℕ) → IsIn n xs → n ≤ greatest xs
 in_greatest [] n h = absurd h
@@ -50,49 +49,46 @@ same_apart s xs ys e f h = record {
   took = λ packet i. subst (IsIn packet.number) (sym (f packet.ssrc)) (h.took packet (subst (IsIn packet) e i));
 }
 
-packets-opens : (s : Side) (entries : List Entry) (side : Side) (time : ℕ) (kind : Kind) (bytes : List ℕ) (header : RtpHeader) (number : ℕ) (plain : List ℕ)
-    → packets s (entries ++ Got side time kind bytes ∷ Opened side Rtp header.ssrc number plain ∷ yields side header number plain)
-    ≡ packets s entries ++ packets s (yields side header number plain)
-packets-opens s entries side time kind bytes header number plain =
-    flat_map-append (packet_by s) entries (Got side time kind bytes ∷ Opened side Rtp header.ssrc number plain ∷ yields side header number plain)
+packets-opens : (s : Side) (entries : List Entry) (came : GotEntry) (header : RtpHeader) (number : ℕ) (plain : List ℕ)
+    → packets s (entries ++ opening came header number plain) ≡ packets s entries ++ packets s (yields came.side header number plain)
+packets-opens s entries came header number plain = flat_map-append (packet_by s) entries (opening came header number plain)
 
-apart_opens : {seal : Sealing} {setup : Setup} (s : Side) (entries : List Entry) (side : Side) (time : ℕ) (kind : Kind) (bytes : List ℕ) (header : RtpHeader) (number : ℕ) (plain : List ℕ)
-    → Opens seal setup side entries kind bytes header number plain → Apart s entries
-    → Apart s (entries ++ Got side time kind bytes ∷ Opened side Rtp header.ssrc number plain ∷ yields side header number plain)
-apart_opens s entries side time kind bytes header number plain o h =
-    elim (tested (same_side s side)) [
+apart_opens : {seal : Sealing} {setup : Setup} (s : Side) (entries : List Entry) (came : GotEntry) (header : RtpHeader) (number : ℕ) (plain : List ℕ)
+    → Opens seal setup entries came header number plain → Apart s entries → Apart s (entries ++ opening came header number plain)
+apart_opens s entries came header number plain o h =
+    elim (tested (same_side s came.side)) [
       | inl here ↦ yielded here
       | inr other ↦ unheard other
     ]
   where
     after : List Entry
-    after = entries ++ Got side time kind bytes ∷ Opened side Rtp header.ssrc number plain ∷ yields side header number plain
+    after = entries ++ opening came header number plain
 
     packet : Packet
     packet = packet_from header number plain
 
-    all : (r : ℕ) → taken s r after ≡ taken s r entries ++ cond (same_side s side && (header.ssrc == r)) (number ∷ []) []
-    all r = taken-opens s r entries side time kind bytes header number plain
+    all : (r : ℕ) → taken s r after ≡ taken s r entries ++ cond (same_side s came.side && (header.ssrc == r)) (number ∷ []) []
+    all r = taken-opens s r entries came header number plain
 
     old : (p : Packet) → IsIn p (packets s entries) → IsIn p.number (taken s p.ssrc after)
-    old p i = subst (IsIn p.number) (sym (all p.ssrc)) (IsIn-left p.number (taken s p.ssrc entries) (cond (same_side s side && (header.ssrc == p.ssrc)) (number ∷ []) []) (h.took p i))
+    old p i = subst (IsIn p.number) (sym (all p.ssrc)) (IsIn-left p.number (taken s p.ssrc entries) (cond (same_side s came.side && (header.ssrc == p.ssrc)) (number ∷ []) []) (h.took p i))
 
-    kept : packets s (yields side header number plain) ≡ [] → Apart s after
+    kept : packets s (yields came.side header number plain) ≡ [] → Apart s after
     kept none =
-        let same : packets s after ≡ packets s entries = packets-opens s entries side time kind bytes header number plain ∙ ap (λ zs. packets s entries ++ zs) none ∙ append-nil (packets s entries) in
+        let same : packets s after ≡ packets s entries = packets-opens s entries came header number plain ∙ ap (λ zs. packets s entries ++ zs) none ∙ append-nil (packets s entries) in
         record { once = subst NoRepeat (sym same) h.once; took = λ p i. old p (subst (IsIn p) same i) }
 
-    unheard : same_side s side ≡ false → Apart s after
+    unheard : same_side s came.side ≡ false → Apart s after
     unheard other = kept (elim (tested (header.ssrc == 0)) [ inl t ↦ rw t refl | inr t ↦ rw (t, other) refl ])
 
-    one_more : same_side s side ≡ true → packets s (yields side header number plain) ≡ packet ∷ [] → Apart s after
+    one_more : same_side s came.side ≡ true → packets s (yields came.side header number plain) ≡ packet ∷ [] → Apart s after
     one_more here one =
-        let more : packets s after ≡ packets s entries ++ packet ∷ [] = packets-opens s entries side time kind bytes header number plain ∙ ap (λ zs. packets s entries ++ zs) one in
-        let is : side ≡ s = sym (same_side-true s side here) in
+        let more : packets s after ≡ packets s entries ++ packet ∷ [] = packets-opens s entries came header number plain ∙ ap (λ zs. packets s entries ++ zs) one in
+        let is : came.side ≡ s = sym (same_side-true s came.side here) in
         let new : IsIn number (taken s header.ssrc entries) → ⊥ =
-        λ i. fresh_new (taken side header.ssrc entries) number o.fresh (subst (λ t. IsIn number (taken t header.ssrc entries)) (sym is) i) in
+        λ i. fresh_new (taken came.side header.ssrc entries) number o.fresh (subst (λ t. IsIn number (taken t header.ssrc entries)) (sym is) i) in
         let now : IsIn number (taken s header.ssrc after) =
-        subst (IsIn number) (sym (all header.ssrc)) (IsIn-right number (taken s header.ssrc entries) (cond (same_side s side && (header.ssrc == header.ssrc)) (number ∷ []) [])
+        subst (IsIn number) (sym (all header.ssrc)) (IsIn-right number (taken s header.ssrc entries) (cond (same_side s came.side && (header.ssrc == header.ssrc)) (number ∷ []) [])
         (rw (here, eq-eqb header.ssrc header.ssrc refl) (inl refl))) in
         record {
           once = subst NoRepeat (sym more) (NoRepeat-push (packets s entries) packet h.once (λ i. new (h.took packet i)));
@@ -103,7 +99,7 @@ apart_opens s entries side time kind bytes header number plain o h =
               ];
         }
 
-    yielded : same_side s side ≡ true → Apart s after
+    yielded : same_side s came.side ≡ true → Apart s after
     yielded here = elim (tested (header.ssrc == 0)) [ inl t ↦ kept (rw t refl) | inr t ↦ one_more here (rw (t, here) refl) ]
 
 apart : {seal : Sealing} {setup : Setup} {steps : List Step} {entries : List Entry} → Played seal setup steps entries → (s : Side) → Apart s entries
@@ -113,17 +109,15 @@ apart {seal} {setup} (turn {steps} {entries} h step new e o) s = go (apart h s) 
     go : Apart s entries → {step : Step} {new : List Entry} → Outcome seal setup entries step new → Apart s (entries ++ new)
     go a (wrote side time w x y) =
         same_apart s entries (entries ++ Wrote side time w ∷ []) (same_reading (packet_by s) entries (Wrote side time w ∷ []) refl) (λ r. taken-wrote s r entries side time w) a
-    go a (ticked side time) =
-        same_apart s entries (entries ++ Ticked side time ∷ sealed_at_tick seal setup side entries)
-        (same_reading (packet_by s) entries (Ticked side time ∷ sealed_at_tick seal setup side entries) (tick_none seal setup side entries (packet_by s) (λ s k r i p b. refl)))
-        (λ r. taken-ticked seal setup s r entries side time) a
-    go a (got side time kind bytes chunk at received) = heard chunk received
+    go a (ticked side time sealed all) =
+        same_apart s entries (entries ++ Ticked side time ∷ sealed)
+        (same_reading (packet_by s) entries (Ticked side time ∷ sealed) (seals_none (packet_by s) (λ s. refl) all)) (λ r. taken-ticked s r entries side time sealed all) a
+    go a (got came chunk at received) = heard chunk received
       where
-        heard : (chunk : List Entry) → Receives seal setup side entries kind bytes chunk → Apart s (entries ++ Got side time kind bytes ∷ chunk)
-        heard chunk (opens header number plain o) = apart_opens s entries side time kind bytes header number plain o a
+        heard : (chunk : List Entry) → Receives seal setup entries came chunk → Apart s (entries ++ Got came ∷ chunk)
+        heard chunk (opens header number plain o) = apart_opens s entries came header number plain o a
         heard chunk (stays none) =
-            same_apart s entries (entries ++ Got side time kind bytes ∷ []) (same_reading (packet_by s) entries (Got side time kind bytes ∷ []) refl)
-            (λ r. taken-stays s r entries side time kind bytes) a
+            same_apart s entries (entries ++ Got came ∷ []) (same_reading (packet_by s) entries (Got came ∷ []) refl) (λ r. taken-stays s r entries came) a
 
 pub no_packet_twice : {seal : Sealing} {setup : Setup} {steps : List Step} {entries : List Entry} → Played seal setup steps entries → NoPacketTwice entries
 no_packet_twice h s = (apart h s).once

@@ -8,11 +8,11 @@ use Rattle.media_model.specs.Sides.{same_side}
 
 -- whether a side sealed by this entry
 abbrev pub seals : Side → Entry → Bool
-seals side (Sealed s kind ssrc index plain bytes) = same_side side s
+seals side (Sealed s) = same_side side s.side
 seals side entry = false
 
 abbrev pub is_seal : Entry → Bool
-is_seal (Sealed s kind ssrc index plain bytes) = true
+is_seal (Sealed s) = true
 is_seal entry = false
 
 -- the places of the entries by which a side sealed, the first entry standing at this place
@@ -25,7 +25,7 @@ places side entries = places_from 0 side entries
 
 -- the bytes of a seal
 abbrev pub bytes_of : Entry → Option (List ℕ)
-bytes_of (Sealed s kind ssrc index plain bytes) = Some bytes
+bytes_of (Sealed s) = Some s.bytes
 bytes_of entry = None
 
 -- the bytes of the seal that stands at a place

@@ -9,6 +9,8 @@ use Rattle.media_model.specs.declared.entry.Side.{Side}
 use Rattle.media_model.specs.declared.entry.Kind.{Kind}
 use Rattle.media_model.specs.declared.entry.Kind.TheVariants.{Rtp}
 use Rattle.media_model.specs.declared.entry.Packet.{Packet}
+use Rattle.media_model.specs.declared.entry.Got.{Got as GotEntry}
+use Rattle.media_model.specs.declared.entry.Opened.{Opened as OpenedEntry}
 use Rattle.media_model.specs.declared.entry.Entry.{Entry}
 use Rattle.media_model.specs.declared.entry.Entry.TheVariants.{Opened, Yielded}
 use Rattle.media_model.specs.declared.setup.Setup.{Setup}
@@ -50,27 +52,34 @@ packet_from header number plain = packet_with header number (cut header (drop he
 abbrev pub yields : Side → RtpHeader → ℕ → List ℕ → List Entry
 yields side header number plain = if header.ssrc == 0 then [] else Yielded side (packet_from header number plain) ∷ []
 
--- the bytes that a side makes of a plain RTP datagram under an SSRC and an extended number, the length of its header
--- being given
+-- the bytes that a side makes of a plain datagram of a kind under an SSRC and an index
 abbrev pub Sealing : Type 0
-Sealing = Side → ℕ → ℕ → ℕ → List ℕ → List ℕ
+Sealing = Side → Kind → ℕ → ℕ → List ℕ → List ℕ
 
--- bytes that come to a side after these entries open under this number to this plain datagram; they are RTP, since no
--- RTCP opens yet
-pub record Opens (seal : Sealing) (setup : Setup) (side : Side) (entries : List Entry) (kind : Kind) (bytes : List ℕ) (header : RtpHeader) (number : ℕ) (plain : List ℕ) : Type 0 where
-  pub rtp : kind ≡ Rtp
-  pub short : length bytes ≤ 2000
-  pub reads : read_header bytes ≡ Some header
-  pub known : is_known setup side header ≡ true
-  pub widened : number ≡ widen16 (greatest_of (taken side header.ssrc entries)) header.sequence_number
-  pub fresh : is_fresh (taken side header.ssrc entries) number ≡ true
-  pub front : take header.header_len plain ≡ take header.header_len bytes
-  pub sealed : seal (peer_of side) header.ssrc number header.header_len plain ≡ bytes
+-- a datagram that came to a side
+abbrev pub got_as : Side → ℕ → Kind → List ℕ → GotEntry
+got_as side time kind bytes = record { side = side; time = time; kind = kind; bytes = bytes }
+
+-- the entry of RTP that a side opened under a header and a number
+abbrev pub opened_as : Side → RtpHeader → ℕ → List ℕ → OpenedEntry
+opened_as side header number plain = record { side = side; kind = Rtp; ssrc = header.ssrc; index = number; plain = plain }
+
+-- a datagram that comes to a side after these entries opens under this number to this plain datagram; it is RTP, since
+-- no RTCP opens yet
+pub record Opens (seal : Sealing) (setup : Setup) (entries : List Entry) (got : GotEntry) (header : RtpHeader) (number : ℕ) (plain : List ℕ) : Type 0 where
+  pub rtp : got.kind ≡ Rtp
+  pub short : length got.bytes ≤ 2000
+  pub reads : read_header setup got.bytes ≡ Some header
+  pub known : is_known setup got.side header ≡ true
+  pub widened : number ≡ widen16 (greatest_of (taken got.side header.ssrc entries)) header.sequence_number
+  pub fresh : is_fresh (taken got.side header.ssrc entries) number ≡ true
+  pub front : take header.header_len plain ≡ take header.header_len got.bytes
+  pub sealed : seal (peer_of got.side) Rtp header.ssrc number plain ≡ got.bytes
   pub unpads : IsTrue header.has_padding → IsSome (unpadded (drop header.header_len plain))
 
--- what bytes bring that come to a side after these entries: where they open, what they open to, and else nothing
-pub data Receives (seal : Sealing) (setup : Setup) (side : Side) (entries : List Entry) (kind : Kind) (bytes : List ℕ) : List Entry → Type 0 where
-  opens : (header : RtpHeader) (number : ℕ) (plain : List ℕ) → Opens seal setup side entries kind bytes header number plain
-      → Receives seal setup side entries kind bytes (Opened side Rtp header.ssrc number plain ∷ yields side header number plain)
-  stays : ((header : RtpHeader) (number : ℕ) (plain : List ℕ) → Opens seal setup side entries kind bytes header number plain → ⊥)
-      → Receives seal setup side entries kind bytes []
+-- what a datagram brings that comes to a side after these entries: where it opens, what it opens to, and else nothing
+pub data Receives (seal : Sealing) (setup : Setup) (entries : List Entry) (got : GotEntry) : List Entry → Type 0 where
+  opens : (header : RtpHeader) (number : ℕ) (plain : List ℕ) → Opens seal setup entries got header number plain
+      → Receives seal setup entries got (Opened (opened_as got.side header number plain) ∷ yields got.side header number plain)
+  stays : ((header : RtpHeader) (number : ℕ) (plain : List ℕ) → Opens seal setup entries got header number plain → ⊥)
+      → Receives seal setup entries got []

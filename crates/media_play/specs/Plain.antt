@@ -1,33 +1,41 @@
--- A write as a plain datagram and as a packet.
-use Rattle.std.specs.Prelude.{ℕ, ◌%◌, false, Option, List, [], ◌++◌, replicate}
+-- A write as a plain datagram carries it, and as a packet.
+use Rattle.std.specs.Prelude.{◌≡◌, ℕ, ◌%◌, false, Option, Some, None, List, [], ◌++◌, drop}
+use Rattle.rtp_wire.specs.declared.extension.ExtensionMap.{ExtensionMap}
 use Rattle.rtp_wire.specs.declared.header.RtpHeader.{RtpHeader}
-use Rattle.rtp_wire.specs.Extensions.{no_extensions, no_values}
+use Rattle.rtp_wire.specs.Extensions.{no_extensions}
 use Rattle.rtp_wire.specs.Header.{header_of, header_bytes}
+use Rattle.media_model.specs.declared.setup.Setup.{Setup}
 use Rattle.media_model.specs.declared.entry.Write.{Write as Writing}
 use Rattle.media_model.specs.declared.entry.Packet.{Packet}
 
--- the header at the front of the bytes, if one stands there; no extension has an id
-abbrev pub read_header : List ℕ → Option RtpHeader
-read_header bytes = header_of no_extensions bytes
+-- which id names which extension in a run of a setup: none so far
+unfoldable pub extensions_of : Setup → ExtensionMap
+extensions_of setup = no_extensions
 
--- the header of a write: no padding, no contributing source, no extension
-abbrev pub header_of_write : Writing → RtpHeader
-header_of_write w = record {
-  has_padding = false;
-  marker = w.marker;
-  payload_type = w.pt;
-  sequence_number = w.number % 65536;
-  timestamp = w.rtp_time;
-  ssrc = w.ssrc;
-  csrc_count = 0;
-  csrc = replicate 15 0;
-  ext_vals = no_values;
-  header_len = 12;
-}
+-- the header at the front of the bytes, if one stands there
+abbrev pub read_header : Setup → List ℕ → Option RtpHeader
+read_header setup bytes = header_of (extensions_of setup) bytes
 
--- a write as a plain datagram: its header and its payload
-unfoldable pub plain_of : Writing → List ℕ
-plain_of w = header_bytes no_extensions (header_of_write w) ++ w.payload
+-- the length of a header, 0 where there is none
+abbrev pub len_of : Option RtpHeader → ℕ
+len_of None = 0
+len_of (Some header) = header.header_len
+
+-- A plain datagram carries a write: under this map it reads with the write's SSRC, the low 16 bits of its number, its
+-- type, time and marker, without padding and contributing sources; it is written as that header is (RFC 3550 section
+-- 5.1), and behind it stands the write's payload.
+pub record Carries (exts : ExtensionMap) (plain : List ℕ) (w : Writing) : Type 0 where
+  pub header : RtpHeader
+  pub reads : header_of exts plain ≡ Some header
+  pub ssrc : header.ssrc ≡ w.ssrc
+  pub low : header.sequence_number ≡ w.number % 65536
+  pub type : header.payload_type ≡ w.pt
+  pub time : header.timestamp ≡ w.rtp_time
+  pub marker : header.marker ≡ w.marker
+  pub no_padding : header.has_padding ≡ false
+  pub no_sources : header.csrc_count ≡ 0
+  pub payload : drop header.header_len plain ≡ w.payload
+  pub written : plain ≡ header_bytes exts header ++ w.payload
 
 -- the packet that a write is
 abbrev pub as_packet : Writing → Packet

@@ -4,9 +4,10 @@ use Rattle.rtp_wire.specs.declared.header.RtpHeader.{RtpHeader}
 use Rattle.srtp_core.specs.Contexts.{SrtpState, new_state}
 use Rattle.srtp_core.specs.Keys.{session_keys}
 use Rattle.srtp_core.specs.Seals.{sealed_rtp, OpensTo}
+use Rattle.srtp_core.specs.RtcpSeals.{sealed_rtcp}
 use Rattle.media_model.specs.declared.entry.Side.{Side}
 use Rattle.media_model.specs.declared.entry.Side.TheVariants.{A, B}
-use Rattle.media_model.specs.declared.entry.Kind.TheVariants.{Rtp}
+use Rattle.media_model.specs.declared.entry.Kind.TheVariants.{Rtp, Rtcp}
 use Rattle.media_model.specs.declared.entry.Packet.{Packet}
 use Rattle.media_model.specs.declared.entry.Entry.{Entry}
 use Rattle.media_model.specs.declared.entry.Entry.TheVariants.{Opened, Yielded}
@@ -17,16 +18,21 @@ use Rattle.media_play.specs.declared.session.Received.{Received}
 use Rattle.media_play.specs.declared.streams.Streams.{Streams}
 use Rattle.media_play.specs.Knowing.{Knows}
 use Rattle.media_play.specs.Opening.{Sealing}
+use Rattle.media_play.specs.Plain.{len_of, read_header}
 
 -- side A is the left one
 abbrev pub is_left : Side → Bool
 is_left A = true
 is_left B = false
 
--- how the sides of a setup seal, with a cipher's key stream, authenticated encryption and block
+-- how the sides of a setup seal, with a cipher's key stream, authenticated encryption and block: RTP behind the header
+-- that it reads as, RTCP encrypted, so that the E bit is set
 abbrev pub sealing_of : (List ℕ → List ℕ → ℕ → ℕ) → (List ℕ → List ℕ → List ℕ → List ℕ → List ℕ) → (List ℕ → List ℕ → List ℕ) → Setup → Sealing
-sealing_of keystream aead block setup side ssrc index n plain =
-    sealed_rtp keystream aead setup.profile (session_keys block setup.profile (material_of setup) (is_left side)) ssrc index n plain
+sealing_of keystream aead block setup side Rtp ssrc index plain =
+    sealed_rtp keystream aead setup.profile (session_keys block setup.profile (material_of setup) (is_left side)) ssrc index
+    (len_of (read_header setup plain)) plain
+sealing_of keystream aead block setup side Rtcp ssrc index plain =
+    sealed_rtcp keystream aead setup.profile (session_keys block setup.profile (material_of setup) (is_left side)) true index plain
 
 -- the context that seals, the one that opens, and the streams
 pub record SessionState : Type 0 where
@@ -53,4 +59,5 @@ yielded side (Some packet) = Yielded side packet ∷ []
 -- what a datagram brought that came to a side
 abbrev pub received_entries : Side → Option Received → List Entry
 received_entries side None = []
-received_entries side (Some r) = Opened side Rtp r.ssrc r.number r.plain ∷ yielded side r.packet
+received_entries side (Some r) =
+    Opened (record { side = side; kind = Rtp; ssrc = r.ssrc; index = r.number; plain = r.plain }) ∷ yielded side r.packet

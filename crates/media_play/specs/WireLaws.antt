@@ -1,24 +1,22 @@
 -- What the laws of a run need of sealing and of headers.
-use Rattle.std.specs.Prelude.{◌≡◌, ◌<◌, ◌≤◌, ◌+◌, ◌^◌, ℕ, List, ◌++◌, length, take, drop, Some}
+use Rattle.std.specs.Prelude.{◌≡◌, ◌<◌, ◌≤◌, ◌+◌, ◌^◌, ℕ, List, ◌++◌, length, take, Some}
 use Rattle.rtp_wire.specs.declared.header.RtpHeader.{RtpHeader}
 use Rattle.media_model.specs.declared.entry.Side.{Side}
+use Rattle.media_model.specs.declared.entry.Kind.TheVariants.{Rtp}
 use Rattle.media_model.specs.declared.entry.Write.{Write as Writing}
+use Rattle.media_model.specs.declared.setup.Setup.{Setup}
 use Rattle.media_play.specs.Opening.{Sealing}
-use Rattle.media_play.specs.Plain.{read_header, header_of_write, plain_of}
+use Rattle.media_play.specs.Plain.{extensions_of, read_header, Carries}
 
--- a write whose fields fit the header's
-pub record FitsHeader (w : Writing) : Type 0 where
-  pub ssrc : w.ssrc < 2 ^ 32
-  pub time : w.rtp_time < 2 ^ 32
-  pub pt : w.pt < 2 ^ 7
-
-pub record WireLaws (seal : Sealing) : Type 0 where
-  pub within : (bytes : List ℕ) (h : RtpHeader) → read_header bytes ≡ Some h → h.header_len ≤ length bytes
-  pub by_front : (bytes rest : List ℕ) (h : RtpHeader) → read_header bytes ≡ Some h → read_header (take h.header_len bytes ++ rest) ≡ Some h
-  pub written : (w : Writing) → FitsHeader w → read_header (plain_of w) ≡ Some (header_of_write w)
-  pub payload : (w : Writing) → drop 12 (plain_of w) ≡ w.payload
-  pub long : (w : Writing) → length (plain_of w) ≡ 12 + length w.payload
-  pub front : (side : Side) (ssrc index n : ℕ) (plain : List ℕ) → n ≤ length plain → take n (seal side ssrc index n plain) ≡ take n plain
-  pub whole : (side : Side) (ssrc index n : ℕ) (plain : List ℕ) → n ≤ length plain → length plain ≤ length (seal side ssrc index n plain)
-  pub tag : (side : Side) (ssrc index n : ℕ) (plain : List ℕ) → n ≤ length plain → length (seal side ssrc index n plain) ≤ length plain + 16
-  pub apart : (side : Side) (ssrc index n : ℕ) (p q : List ℕ) → n ≤ length p → n ≤ length q → seal side ssrc index n p ≡ seal side ssrc index n q → p ≡ q
+-- a header is read off its own bytes; one of a write has at most 160 bytes; a seal begins with the header, is at most 16
+-- bytes longer than the plain datagram, and tells it
+pub record WireLaws (seal : Sealing) (setup : Setup) : Type 0 where
+  pub by_front : (bytes rest : List ℕ) (h : RtpHeader) → read_header setup bytes ≡ Some h → read_header setup (take h.header_len bytes ++ rest) ≡ Some h
+  pub within : (bytes : List ℕ) (h : RtpHeader) → read_header setup bytes ≡ Some h → h.header_len ≤ length bytes
+  pub long : (plain : List ℕ) (w : Writing) → Carries (extensions_of setup) plain w → length plain ≤ 160 + length w.payload
+  pub front : (side : Side) (ssrc index : ℕ) (plain : List ℕ) (h : RtpHeader) → read_header setup plain ≡ Some h
+      → take h.header_len (seal side Rtp ssrc index plain) ≡ take h.header_len plain
+  pub tag : (side : Side) (ssrc index : ℕ) (plain : List ℕ) (h : RtpHeader) → read_header setup plain ≡ Some h
+      → length (seal side Rtp ssrc index plain) ≤ length plain + 16
+  pub apart : (side : Side) (ssrc index : ℕ) (p q : List ℕ) (h : RtpHeader) → read_header setup p ≡ Some h → read_header setup q ≡ Some h
+      → seal side Rtp ssrc index p ≡ seal side Rtp ssrc index q → p ≡ q

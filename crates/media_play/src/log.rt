@@ -1,13 +1,10 @@
 ghost use Rattle.std.specs.Prelude.{◌≡◌, ◌∷◌, ◌++◌, [], OnOk, OnErr, slice_get, length, false};
 ghost use Rattle.std.specs.Option.{option_copied};
-ghost use Rattle.media_model.specs.declared.entry.Kind.TheVariants.{Rtp};
 ghost use Rattle.media_model.specs.declared.entry.Entry.TheVariants.{Sealed};
 ghost use Rattle.media_model.specs.Entries.{datagrams};
 ghost use Rattle.media_play.specs.Log.{is_seal, places, sealed_at};
 
-use media_base::Bytes;
-use media_model::{Entry, Kind, Side, Transcript};
-use rtp_wire::{SeqNo, Ssrc};
+use media_model::{Entry, Sealed, Side, Transcript};
 use std::alloc::{AllocError, Global};
 use std::marker::Model;
 
@@ -61,30 +58,25 @@ impl Log {
         self.transcript.push(entry)
     }
 
-    /// Adds the seal of an RTP datagram. Without memory nothing is added.
-    pub fn push_sealed(
-        &mut self,
-        side: Side,
-        ssrc: Ssrc,
-        index: SeqNo,
-        plain: Bytes,
-        bytes: Bytes,
-    ) -> Result<(), AllocError>
-        ensures ok { OnOk result (self.new ≡ self.old ++ Sealed side Rtp ssrc index plain bytes ∷ []) }
+    /// Adds a seal. Without memory nothing is added.
+    pub fn push_sealed(&mut self, sealed: Sealed) -> Result<(), AllocError>
+        ensures ok { OnOk result (self.new ≡ self.old ++ Sealed sealed ∷ []) }
         ensures err { OnErr result (self.new ≡ self.old) }
     {
         let place = self.transcript.entries().len();
-        let entry = Entry::Sealed {
-            side,
-            kind: Kind::Rtp,
-            ssrc,
-            index,
-            plain,
-            bytes,
-        };
-        match side {
-            Side::A => push_both(&mut self.transcript, &mut self.sealed_by_a, entry, place),
-            Side::B => push_both(&mut self.transcript, &mut self.sealed_by_b, entry, place),
+        match sealed.side {
+            Side::A => push_both(
+                &mut self.transcript,
+                &mut self.sealed_by_a,
+                Entry::Sealed(sealed),
+                place,
+            ),
+            Side::B => push_both(
+                &mut self.transcript,
+                &mut self.sealed_by_b,
+                Entry::Sealed(sealed),
+                place,
+            ),
         }
     }
 
@@ -153,7 +145,7 @@ fn sealed_bytes(entries: &[Entry], place: usize) -> Option<&[u8]>
     ensures { option_copied result ≡ sealed_at entries.now place }
 {
     match entries.get(place)? {
-        Entry::Sealed { bytes, .. } => Some(bytes.as_slice()),
+        Entry::Sealed(sealed) => Some(sealed.bytes.as_slice()),
         _ => None,
     }
 }

@@ -8,8 +8,8 @@ ghost use Rattle.media_model.specs.Sides.{peer_of};
 ghost use Rattle.media_model.specs.Entries.{datagrams};
 ghost use Rattle.media_play.specs.Errors.{IsBroken};
 ghost use Rattle.media_play.specs.Headline.{StepsAreAnswered, SealsAreRight, NoNonceTwice, SendsWrites, YieldsWrites, NoPacketTwice, FirstSendingsAreYielded};
-ghost use Rattle.media_play.specs.Opening.{Sealing};
-ghost use Rattle.media_play.specs.Play.{Brings, IsArrival, Played, sealed_at_tick};
+ghost use Rattle.media_play.specs.Opening.{Sealing, got_as};
+ghost use Rattle.media_play.specs.Play.{Brings, IsTick, IsArrival, Played};
 ghost use Rattle.media_play.specs.Running.{HasCause, OfRun};
 ghost use Rattle.media_play.specs.SetupRules.{setup_fault};
 ghost use Rattle.media_play.specs.Rules.{write_fault, deliver_fault};
@@ -21,8 +21,8 @@ use crate::log::Log;
 use crate::session::{Received, Session};
 use crate::setup_rules::check_setup;
 use media_base::{Bytes, Instant};
-use media_model::{Entry, Kind, Setup, Side, Step, Transcript, Write};
-use rtp_wire::{header_reads_own_bytes, headers_are_as_long, plain_header_is_read_again};
+use media_model::{Entry, Got, Kind, Opened, Setup, Side, Step, Transcript, Write};
+use rtp_wire::header_reads_own_bytes;
 use srtp_core::SrtpCipher;
 use srtp_core::laws::{rtp_seal_keeps_header, rtp_seals_apart};
 use std::alloc::{AllocError, Global};
@@ -153,7 +153,7 @@ impl<C: SrtpCipher> Run<C> {
     ) -> Result<(), AllocError>
         ensures done { OnOk result ((setup : Given) (steps : List Act) (step : Act) → IsSound setup
             → Running C.block (sealing_of C.keystream C.aead C.block setup) setup self.old steps
-            → Brings self.old.log side time kind bytes step → step_fault setup self.old.log step ≡ None
+            → Brings self.old.log (got_as side time kind bytes) step → step_fault setup self.old.log step ≡ None
             → Running C.block (sealing_of C.keystream C.aead C.block setup) setup self.new (steps ++ step ∷ [])) }
         ensures longer { (more : List Happening) × (self.new.log ≡ self.old.log ++ more) }
     {
@@ -298,17 +298,15 @@ pub fn media_run<C: SrtpCipher>(
     ensures seals { OfRun result (SealsAreRight (sealing_of C.keystream C.aead C.block setup.now) setup.now) }
     // No two datagrams of a direction share a nonce.
     ensures nonces { OfRun result NoNonceTwice }
-    // Each sealed datagram is one earlier write of its side, none twice.
-    ensures sendings { OfRun result SendsWrites }
+    // Each sealed datagram carries one earlier write of its side, none twice.
+    ensures sendings { OfRun result (SendsWrites setup.now) }
     // In a genuine run each packet yielded is a write of the other side; in every run none is yielded twice.
     ensures yields { OfRun result YieldsWrites }
     ensures once { OfRun result NoPacketTwice }
-    // A delivered first sending is yielded exactly where it widens to itself and is fresh.
-    ensures exactly { OfRun result (FirstSendingsAreYielded (sealing_of C.keystream C.aead C.block setup.now)) }
+    // The write of a delivered first sending is yielded exactly where its number widens to itself and is fresh.
+    ensures exactly { OfRun result FirstSendingsAreYielded }
 {
     header_reads_own_bytes();
-    plain_header_is_read_again();
-    headers_are_as_long();
     rtp_seals_apart::<C>();
     rtp_seal_keeps_header::<C>();
     match check_setup(alloc, setup) {
@@ -369,9 +367,9 @@ fn tick_step<C: SrtpCipher>(
     side: Side,
     time: Instant,
 ) -> Result<(), StepError>
-    ensures ready { OnOk result ((setup : Given) (entries : List Happening) → Ready C.block setup side session.old entries
-        → (log.new ≡ log.old ++ Ticked side time ∷ sealed_at_tick (sealing_of C.keystream C.aead C.block setup) setup side entries)
-        × Ready C.block setup side session.new (entries ++ Ticked side time ∷ sealed_at_tick (sealing_of C.keystream C.aead C.block setup) setup side entries)) }
+    ensures ready { OnOk result ((setup : Given) (steps : List Act) → IsSound setup
+        → Played (sealing_of C.keystream C.aead C.block setup) setup steps log.old → Ready C.block setup side session.old log.old
+        → IsTick (sealing_of C.keystream C.aead C.block setup) setup side time log.old log.new × Ready C.block setup side session.new log.new) }
     ensures memory { IfErr result (λ e. e ≡ StepError.Memory) }
     ensures longer { (more : List Happening) × (log.new ≡ log.old ++ more) }
 {
@@ -390,11 +388,17 @@ fn receive_step<C: SrtpCipher>(
     bytes: Bytes,
 ) -> Result<(), AllocError>
     ensures ready { OnOk result ((setup : Given) → IsSound setup → Ready C.block setup side session.old log.old
-        → IsArrival (sealing_of C.keystream C.aead C.block setup) setup side time kind bytes log.old log.new × Ready C.block setup side session.new log.new) }
+        → IsArrival (sealing_of C.keystream C.aead C.block setup) setup (got_as side time kind bytes) log.old log.new
+        × Ready C.block setup side session.new log.new) }
     ensures longer { (more : List Happening) × (log.new ≡ log.old ++ more) }
 {
     let received = session.receive(alloc, kind, bytes.as_slice())?;
-    log.push(Entry::Got(side, time, kind, bytes))?;
+    log.push(Entry::Got(Got {
+        side,
+        time,
+        kind,
+        bytes,
+    }))?;
     push_received(log, side, received)?;
     Ok(())
 }
@@ -406,13 +410,13 @@ fn push_received(log: &mut Log, side: Side, received: Option<Received>) -> Resul
     let Some(received) = received else {
         return Ok(());
     };
-    log.push(Entry::Opened {
+    log.push(Entry::Opened(Opened {
         side,
         kind: Kind::Rtp,
         ssrc: received.ssrc,
         index: received.number,
         plain: received.plain,
-    })?;
+    }))?;
     match received.packet {
         Some(packet) => log.push(Entry::Yielded(side, packet)),
         None => Ok(()),

@@ -5,6 +5,8 @@ ghost use Rattle.rtp_wire.specs.Padding.{unpadded};
 ghost use Rattle.srtp_core.specs.Contexts.{new_state};
 ghost use Rattle.media_model.specs.declared.entry.Side.{Side as Party};
 ghost use Rattle.media_model.specs.declared.entry.Entry.{Entry};
+ghost use Rattle.media_model.specs.declared.entry.Entry.TheVariants.{Sealed};
+ghost use Rattle.media_model.specs.declared.entry.Got.{Got as GotEntry};
 ghost use Rattle.media_model.specs.declared.entry.Write.{Write as Writing};
 ghost use Rattle.media_model.specs.declared.setup.Setup.{Setup as Given};
 ghost use Rattle.media_model.specs.declared.step.Step.{Step};
@@ -19,8 +21,11 @@ use crate::log::Log;
 use crate::streams::Streams;
 use crate::waiting::Waiting;
 use media_base::{Bytes, Listed};
-use media_model::{Kind, Packet, Setup, Side, Write};
-use rtp_wire::{ExtensionMap, RtpHeader, SeqNo, Ssrc};
+use media_model::{Kind, Packet, Sealed, Setup, Side, Write};
+use rtp_wire::{
+    ExtensionMap, RtpHeader, SeqNo, Ssrc, header_reads_own_bytes, headers_are_as_long,
+    plain_header_is_read_again,
+};
 use srtp_core::laws::rtp_opens_once;
 use srtp_core::{KeyingMaterial, SrtpCipher, SrtpContext, SrtpError, SrtpProfile};
 use std::alloc::{AllocError, Global};
@@ -84,7 +89,7 @@ fn seal_all<C: SrtpCipher>(
     log: &mut Log,
 ) -> Result<(), AllocError>
     ensures sealed { OnOk result ((writes : List Writing) → waiting.items ≡ map waiting_of writes
-        → log.new ≡ log.old ++ map (λ w. sealed_packet (seal_in C.keystream C.aead context.old) side (waiting_of w)) writes) }
+        → log.new ≡ log.old ++ map (λ w. Sealed (sealed_packet (seal_in C.keystream C.aead context.old) side (waiting_of w))) writes) }
     ensures longer { (more : List Entry) × (log.new ≡ log.old ++ more) }
     ensures same { context.new ≡ context.old }
 {
@@ -100,14 +105,21 @@ fn seal<C: SrtpCipher>(
     packet: Waiting,
     log: &mut Log,
 ) -> Result<(), AllocError>
-    ensures sealed { OnOk result (log.new ≡ log.old ++ sealed_packet (seal_in C.keystream C.aead context.old) side packet ∷ []) }
+    ensures sealed { OnOk result (log.new ≡ log.old ++ Sealed (sealed_packet (seal_in C.keystream C.aead context.old) side packet) ∷ []) }
     ensures longer { (more : List Entry) × (log.new ≡ log.old ++ more) }
     ensures same { context.new ≡ context.old }
 {
     let ssrc = packet.ssrc();
     let number = packet.number();
     let bytes = packet.sealed_by(context)?;
-    log.push_sealed(side, ssrc, number, packet.into_plain(), bytes)
+    log.push_sealed(Sealed {
+        side,
+        kind: Kind::Rtp,
+        ssrc,
+        index: number,
+        plain: packet.into_plain(),
+        bytes,
+    })
 }
 
 /// Opens RTP bytes under a number to the plain datagram.
@@ -205,7 +217,7 @@ impl<C: SrtpCipher> Session<C> {
     ghost use Rattle.media_model.specs.declared.entry.Kind.TheVariants.{Rtp};
     ghost use Rattle.media_model.specs.declared.entry.Entry.TheVariants.{Wrote, Ticked, Got};
     ghost use Rattle.media_play.specs.Opening.{Sealing, Receives};
-    ghost use Rattle.media_play.specs.Play.{Played, sealed_at_tick};
+    ghost use Rattle.media_play.specs.Play.{Played, Seals};
     ghost use Rattle.media_play.specs.SetupFacts.{IsSound};
     ghost use Rattle.media_play.specs.Knowing.{ssrc_of};
     ghost use Rattle.media_play.specs.Rules.{write_fault};
@@ -262,10 +274,10 @@ impl<C: SrtpCipher> Session<C> {
         kind: Kind,
         bytes: &[u8],
     ) -> Result<Option<Received>, AllocError>
-        ensures received { IfOk result (λ r. (setup : Given) (side : Party) (entries : List Entry) (time : ℕ) → IsSound setup
-            → Ready C.block setup side self.old entries
-            → Receives (sealing_of C.keystream C.aead C.block setup) setup side entries kind bytes.now (received_entries side r)
-            × Ready C.block setup side self.new (entries ++ Got side time kind bytes.now ∷ received_entries side r)) }
+        ensures received { IfOk result (λ r. (setup : Given) (entries : List Entry) (came : GotEntry) → IsSound setup
+            → came.kind ≡ kind → came.bytes ≡ bytes.now → Ready C.block setup came.side self.old entries
+            → Receives (sealing_of C.keystream C.aead C.block setup) setup entries came (received_entries came.side r)
+            × Ready C.block setup came.side self.new (entries ++ Got came ∷ received_entries came.side r)) }
         ensures unopened { IfOk result (λ r. IfNone r (self.new ≡ self.old)) }
         ensures err { OnErr result (self.new ≡ self.old) }
     {
@@ -277,13 +289,14 @@ impl<C: SrtpCipher> Session<C> {
     }
 
     fn receive_rtp(&mut self, alloc: Global, bytes: &[u8]) -> Result<Option<Received>, AllocError>
-        ensures received { IfOk result (λ r. (setup : Given) (side : Party) (entries : List Entry) (time : ℕ) → IsSound setup
-            → Ready C.block setup side self.old entries
-            → Receives (sealing_of C.keystream C.aead C.block setup) setup side entries Rtp bytes.now (received_entries side r)
-            × Ready C.block setup side self.new (entries ++ Got side time Rtp bytes.now ∷ received_entries side r)) }
+        ensures received { IfOk result (λ r. (setup : Given) (entries : List Entry) (came : GotEntry) → IsSound setup
+            → came.kind ≡ Rtp → came.bytes ≡ bytes.now → Ready C.block setup came.side self.old entries
+            → Receives (sealing_of C.keystream C.aead C.block setup) setup entries came (received_entries came.side r)
+            × Ready C.block setup came.side self.new (entries ++ Got came ∷ received_entries came.side r)) }
         ensures unopened { IfOk result (λ r. IfNone r (self.new ≡ self.old)) }
         ensures err { OnErr result (self.new ≡ self.old) }
     {
+        header_reads_own_bytes();
         rtp_opens_once::<C>();
         if bytes.len() > MAX_DATAGRAM_LEN {
             return Ok(None);
@@ -313,13 +326,14 @@ impl<C: SrtpCipher> Session<C> {
 
     /// Seals all packets that wait, stream by stream, into the log.
     pub fn tick(&mut self, alloc: Global, side: Side, log: &mut Log) -> Result<(), AllocError>
-        ensures sealed { OnOk result ((setup : Given) (entries : List Entry) (time : ℕ)
-            → Ready C.block setup side self.old entries
-            → (log.new ≡ log.old ++ sealed_at_tick (sealing_of C.keystream C.aead C.block setup) setup side entries)
-            × Ready C.block setup side self.new
-            (entries ++ Ticked side time ∷ sealed_at_tick (sealing_of C.keystream C.aead C.block setup) setup side entries)) }
+        ensures sealed { OnOk result ((setup : Given) (steps : List Step) (entries : List Entry) (time : ℕ) → IsSound setup
+            → Played (sealing_of C.keystream C.aead C.block setup) setup steps entries → Ready C.block setup side self.old entries
+            → (sealed : List Entry) × Seals (sealing_of C.keystream C.aead C.block setup) setup side entries sealed
+            × (log.new ≡ log.old ++ sealed) × Ready C.block setup side self.new (entries ++ Ticked side time ∷ sealed)) }
         ensures longer { (more : List Entry) × (log.new ≡ log.old ++ more) }
     {
+        plain_header_is_read_again();
+        headers_are_as_long();
         let waiting = self.streams.take_waiting(alloc)?;
         seal_all(&mut self.sealing, side, waiting, log)
     }

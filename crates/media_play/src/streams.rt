@@ -5,17 +5,16 @@ ghost use Rattle.std.specs.List.{flat_map, AllByRecursion};
 ghost use Rattle.repair_core.specs.Fresh.{is_fresh};
 ghost use Rattle.rtp_wire.specs.declared.header.RtpHeader.{RtpHeader as Header};
 ghost use Rattle.media_model.specs.declared.entry.Side.{Side as Party};
-ghost use Rattle.media_model.specs.declared.entry.Kind.{Kind};
-ghost use Rattle.media_model.specs.declared.entry.Kind.TheVariants.{Rtp};
+ghost use Rattle.media_model.specs.declared.entry.Got.{Got as GotEntry};
 ghost use Rattle.media_model.specs.declared.entry.Entry.{Entry};
 ghost use Rattle.media_model.specs.declared.entry.Entry.TheVariants.{Wrote, Ticked, Got, Opened};
 ghost use Rattle.media_model.specs.declared.setup.Setup.{Setup as Given};
 ghost use Rattle.media_model.specs.declared.step.Step.{Step};
 ghost use Rattle.media_model.specs.Entries.{taken};
 ghost use Rattle.media_play.specs.Knowing.{SendsAs, TakesAs, ssrc_of, source_of, Knows, emptied, accepted};
-ghost use Rattle.media_play.specs.Opening.{Sealing, yields};
+ghost use Rattle.media_play.specs.Opening.{Sealing, opened_as, yields};
 ghost use Rattle.media_play.specs.Packets.{waiting_of};
-ghost use Rattle.media_play.specs.Play.{to_seal, sealed_at_tick, Played};
+ghost use Rattle.media_play.specs.Play.{to_seal, Seals, Played};
 ghost use Rattle.media_play.specs.Rules.{has, write_fault};
 ghost use Rattle.media_play.specs.SetupFacts.{IsSound};
 
@@ -170,8 +169,9 @@ impl Streams {
     pub fn take_waiting(&mut self, alloc: Global) -> Result<Vec<Waiting>, AllocError>
         ensures waiting { IfOk result (λ all. (setup : Given) (side : Party) (entries : List Entry) → Knows setup side self.old entries
             → all.items ≡ map waiting_of (to_seal setup side entries)) }
-        ensures after { OnOk result ((seal : Sealing) (setup : Given) (side : Party) (entries : List Entry) (time : ℕ) → Knows setup side self.old entries
-            → Knows setup side self.new (entries ++ Ticked side time ∷ sealed_at_tick seal setup side entries)) }
+        ensures after { OnOk result ((seal : Sealing) (setup : Given) (side : Party) (entries : List Entry) (time : ℕ) (sealed : List Entry)
+            → Seals seal setup side entries sealed → Knows setup side self.old entries
+            → Knows setup side self.new (entries ++ Ticked side time ∷ sealed)) }
     {
         take_waiting(alloc, &mut self.outgoing)
     }
@@ -198,9 +198,12 @@ impl Streams {
     pub fn take(&mut self, at: usize, number: SeqNo)
         requires place { at < length self.old.incoming.items }
         requires number { number < 2 ^ 48 }
-        ensures { (setup : Given) (side : Party) (entries : List Entry) (time : ℕ) (kind : Kind) (bytes plain : List ℕ) (header : Header) → Knows setup side self.old entries → IsSound setup
-            → slice_get (map source_of self.old.incoming.items) at ≡ Some header.ssrc → is_fresh (taken side header.ssrc entries) number ≡ true
-            → Knows setup side self.new (entries ++ Got side time kind bytes ∷ Opened side Rtp header.ssrc number plain ∷ yields side header number plain) }
+        ensures { (setup : Given) (entries : List Entry) (came : GotEntry) (plain : List ℕ) (header : Header)
+            → Knows setup came.side self.old entries → IsSound setup
+            → slice_get (map source_of self.old.incoming.items) at ≡ Some header.ssrc
+            → is_fresh (taken came.side header.ssrc entries) number ≡ true
+            → Knows setup came.side self.new (entries ++ Got came ∷ Opened (opened_as came.side header number plain)
+            ∷ yields came.side header number plain) }
     {
         let stream = &mut self.incoming[at];
         stream.register.update(number);

@@ -1,6 +1,6 @@
 ghost use Rattle.std.specs.Prelude.{◌≡◌, ◌<◌, ◌≤◌, ◌^◌, length, IfOk};
 ghost use Rattle.srtp_core.specs.Seals.{sealed_rtp};
-ghost use Rattle.media_play.specs.Plain.{header_of_write, plain_of};
+ghost use Rattle.media_play.specs.Packets.{header_of_write, plain_of};
 
 use media_base::Bytes;
 use media_model::Write;
@@ -8,6 +8,9 @@ use rtp_wire::{ExtensionMap, ExtensionValues, RtpHeader, SeqNo, Ssrc};
 use srtp_core::{SrtpCipher, SrtpContext};
 use std::alloc::{AllocError, Global};
 use std::marker::Model;
+
+/// The bytes of a header without sources and extension (RFC 3550 section 5.1).
+const FIXED_LEN: usize = 12;
 
 /// A packet that waits to be sealed: its header, its extended number, and the plain datagram, which
 /// is the header and the payload.
@@ -43,12 +46,12 @@ fn header_of(write: &Write) -> RtpHeader
         csrc_count: 0,
         csrc: [0; 15],
         ext_vals: ExtensionValues::none(),
-        header_len: 12,
+        header_len: FIXED_LEN,
     }
 }
 
 /// The header and the payload of a write, copied into one piece.
-#[tactic(auto, unfolding(crate::specs::Plain::plain_of))]
+#[tactic(auto, unfolding(crate::specs::Packets::plain_of))]
 fn plain(alloc: Global, write: &Write) -> Result<Bytes, AllocError>
     requires { length write.now.payload ≤ 1400 }
     ensures { IfOk result (λ bytes. bytes ≡ plain_of write.now) }

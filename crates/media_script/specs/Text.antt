@@ -2,6 +2,11 @@
 use Rattle.std.specs.Prelude.{ℕ, List, [], ◌∷◌, ◌++◌, length, codes, Bool, true, false, ◌==◌, ◌/◌, ◌%◌, if◌then◌else◌}
 use Rattle.std.specs.List.{flat_map, join_with_byte}
 use Rattle.std.specs.Fmt.{decimal, digit_glyph}
+use Rattle.media_model.specs.declared.entry.Side.{Side}
+use Rattle.media_model.specs.declared.entry.Packet.{Packet}
+use Rattle.media_model.specs.declared.entry.Got.{Got as GotEntry}
+use Rattle.media_model.specs.declared.entry.Sealed.{Sealed as SealedEntry}
+use Rattle.media_model.specs.declared.entry.Opened.{Opened as OpenedEntry}
 use Rattle.media_model.specs.declared.entry.Entry.{Entry}
 use Rattle.media_model.specs.declared.entry.Entry.TheVariants.{Wrote, Ticked, Sealed, Got, Opened, Yielded}
 use Rattle.media_model.specs.declared.setup.Setup.{Setup}
@@ -20,17 +25,29 @@ hex_text bytes = if length bytes == 0 then codes "-" else flat_map byte_text byt
 abbrev pub words : List (List ℕ) → List ℕ
 words ws = join_with_byte 32 ws
 
+-- the lines of entries with fields of their own
+abbrev pub got_text : GotEntry → List ℕ
+got_text got = words (codes "got" ∷ side_text got.side ∷ kind_text got.kind ∷ decimal (length got.bytes) ∷ [])
+
+abbrev pub sealed_text : SealedEntry → List ℕ
+sealed_text s =
+    words (codes "sealed" ∷ side_text s.side ∷ kind_text s.kind ∷ decimal s.ssrc ∷ decimal s.index ∷ hex_text s.bytes ∷ [])
+
+abbrev pub opened_text : OpenedEntry → List ℕ
+opened_text o = words (codes "opened" ∷ side_text o.side ∷ kind_text o.kind ∷ decimal o.ssrc ∷ decimal o.index ∷ [])
+
+abbrev pub yielded_text : Side → Packet → List ℕ
+yielded_text side packet =
+    words (codes "yielded" ∷ side_text side ∷ decimal packet.ssrc ∷ decimal packet.number ∷ decimal packet.pt
+    ∷ flag_text packet.marker ∷ decimal packet.rtp_time ∷ hex_text packet.payload ∷ [])
+
 abbrev pub line_text : Entry → List ℕ
 line_text (Wrote side time write) = words (codes "wrote" ∷ side_text side ∷ decimal write.ssrc ∷ decimal write.number ∷ [])
 line_text (Ticked side time) = words (codes "ticked" ∷ side_text side ∷ decimal time ∷ [])
-line_text (Got side time kind bytes) = words (codes "got" ∷ side_text side ∷ kind_text kind ∷ decimal (length bytes) ∷ [])
-line_text (Sealed side kind ssrc index plain bytes) =
-    words (codes "sealed" ∷ side_text side ∷ kind_text kind ∷ decimal ssrc ∷ decimal index ∷ hex_text bytes ∷ [])
-line_text (Opened side kind ssrc index plain) =
-    words (codes "opened" ∷ side_text side ∷ kind_text kind ∷ decimal ssrc ∷ decimal index ∷ [])
-line_text (Yielded side packet) =
-    words (codes "yielded" ∷ side_text side ∷ decimal packet.ssrc ∷ decimal packet.number ∷ decimal packet.pt
-    ∷ flag_text packet.marker ∷ decimal packet.rtp_time ∷ hex_text packet.payload ∷ [])
+line_text (Got got) = got_text got
+line_text (Sealed sealed) = sealed_text sealed
+line_text (Opened opened) = opened_text opened
+line_text (Yielded side packet) = yielded_text side packet
 
 -- a line for each entry
 abbrev pub entries_text : List Entry → List ℕ

@@ -154,27 +154,27 @@ fn limits_of_media_and_streams(rt: HostRuntime) -> Result<(), Fail> {
 // One packet sealed by A, opened and yielded by B.
 fn one_opened(alloc: Global) -> Result<Transcript, Fail> {
     let mut transcript = Transcript::new(alloc);
-    transcript.push(Entry::Sealed {
+    transcript.push(Entry::Sealed(Sealed {
         side: Side::A,
         kind: Kind::Rtp,
         ssrc: Ssrc::from(42),
         index: SeqNo::from(1),
         plain: Bytes::from_slice(alloc, &[1])?,
         bytes: Bytes::from_slice(alloc, &[1, 2])?,
-    })?;
-    transcript.push(Entry::Got(
-        Side::B,
-        Instant::from_nanos(1),
-        Kind::Rtp,
-        Bytes::from_slice(alloc, &[1, 2])?,
-    ))?;
-    transcript.push(Entry::Opened {
+    }))?;
+    transcript.push(Entry::Got(Got {
+        side: Side::B,
+        time: Instant::from_nanos(1),
+        kind: Kind::Rtp,
+        bytes: Bytes::from_slice(alloc, &[1, 2])?,
+    }))?;
+    transcript.push(Entry::Opened(Opened {
         side: Side::B,
         kind: Kind::Rtp,
         ssrc: Ssrc::from(42),
         index: SeqNo::from(1),
         plain: Bytes::from_slice(alloc, &[1])?,
-    })?;
+    }))?;
     transcript.push(Entry::Yielded(
         Side::B,
         Packet {

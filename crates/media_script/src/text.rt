@@ -1,12 +1,42 @@
 // The text of a transcript.
 ghost use Rattle.std.specs.Prelude.{◌≡◌, ◌++◌, Some, IfOk, OnOk, string_bytes};
-ghost use Rattle.media_script.specs.Names.{flag_text};
-ghost use Rattle.media_script.specs.Text.{byte_text, hex_text, answer_text, line_text, entries_text, end_text, text_of};
+ghost use Rattle.media_script.specs.Names.{side_text, kind_text, flag_text};
+ghost use Rattle.media_script.specs.Text.{byte_text, hex_text, answer_text, got_text, sealed_text, opened_text, yielded_text, line_text, entries_text, end_text, text_of};
 
-use media_model::{Entry, Setup, Transcript};
+use media_model::{Entry, Got, Kind, Opened, Packet, Sealed, Setup, Side, Transcript};
 use std::alloc::{AllocError, Global};
 use std::fmt::Write;
 use std::fmt;
+
+// The word for a side.
+#[derive(Clone, Copy)]
+struct SideName(Side);
+
+impl fmt::Display for SideName {
+    ghost output = { λ s. Some (side_text s.0) };
+
+    fn fmt<W: fmt::Write>(&self, f: &mut fmt::Formatter<W>) -> fmt::Result {
+        match self.0 {
+            Side::A => write!(f, "A"),
+            Side::B => write!(f, "B"),
+        }
+    }
+}
+
+// The word for what a datagram carries.
+#[derive(Clone, Copy)]
+struct KindName(Kind);
+
+impl fmt::Display for KindName {
+    ghost output = { λ k. Some (kind_text k.0) };
+
+    fn fmt<W: fmt::Write>(&self, f: &mut fmt::Formatter<W>) -> fmt::Result {
+        match self.0 {
+            Kind::Rtp => write!(f, "rtp"),
+            Kind::Rtcp => write!(f, "rtcp"),
+        }
+    }
+}
 
 #[derive(Clone, Copy)]
 struct Byte(u8);
@@ -72,53 +102,71 @@ impl fmt::Display for Answer {
     }
 }
 
+fn put_got(text: &mut String, got: &Got) -> Result<(), AllocError>
+    ensures { OnOk result (string_bytes text.new ≡ string_bytes text.old ++ got_text got.now) }
+{
+    let side = SideName(got.side);
+    let kind = KindName(got.kind);
+    let length = got.bytes.len();
+    write!(text, "got {side} {kind} {length}")
+}
+
+fn put_sealed(text: &mut String, sealed: &Sealed) -> Result<(), AllocError>
+    ensures { OnOk result (string_bytes text.new ≡ string_bytes text.old ++ sealed_text sealed.now) }
+{
+    let side = SideName(sealed.side);
+    let kind = KindName(sealed.kind);
+    let ssrc = sealed.ssrc;
+    let index = sealed.index;
+    let bytes = Hex(sealed.bytes.as_slice());
+    write!(text, "sealed {side} {kind} {ssrc} {index} {bytes}")
+}
+
+fn put_opened(text: &mut String, opened: &Opened) -> Result<(), AllocError>
+    ensures { OnOk result (string_bytes text.new ≡ string_bytes text.old ++ opened_text opened.now) }
+{
+    let side = SideName(opened.side);
+    let kind = KindName(opened.kind);
+    let ssrc = opened.ssrc;
+    let index = opened.index;
+    write!(text, "opened {side} {kind} {ssrc} {index}")
+}
+
+fn put_yielded(text: &mut String, side: Side, packet: &Packet) -> Result<(), AllocError>
+    ensures { OnOk result (string_bytes text.new ≡ string_bytes text.old ++ yielded_text side packet.now) }
+{
+    let side = SideName(side);
+    let ssrc = packet.ssrc;
+    let number = packet.number;
+    let pt = packet.pt;
+    let marker = Flag(packet.marker);
+    let rtp_time = packet.rtp_time;
+    let payload = Hex(packet.payload.as_slice());
+    write!(
+        text,
+        "yielded {side} {ssrc} {number} {pt} {marker} {rtp_time} {payload}"
+    )
+}
+
 pub fn put_entry(text: &mut String, entry: &Entry) -> Result<(), AllocError>
     ensures { OnOk result (string_bytes text.new ≡ string_bytes text.old ++ line_text entry.now) }
 {
     match entry {
         Entry::Wrote(side, _, packet) => {
+            let side = SideName(*side);
             let ssrc = packet.ssrc;
             let number = packet.number;
             write!(text, "wrote {side} {ssrc} {number}")
         }
         Entry::Ticked(side, time) => {
+            let side = SideName(*side);
             let time = time.as_nanos();
             write!(text, "ticked {side} {time}")
         }
-        Entry::Got(side, _, kind, bytes) => {
-            let length = bytes.len();
-            write!(text, "got {side} {kind} {length}")
-        }
-        Entry::Sealed {
-            side,
-            kind,
-            ssrc,
-            index,
-            plain: _,
-            bytes,
-        } => {
-            let bytes = Hex(bytes.as_slice());
-            write!(text, "sealed {side} {kind} {ssrc} {index} {bytes}")
-        }
-        Entry::Opened {
-            side,
-            kind,
-            ssrc,
-            index,
-            plain: _,
-        } => write!(text, "opened {side} {kind} {ssrc} {index}"),
-        Entry::Yielded(side, packet) => {
-            let ssrc = packet.ssrc;
-            let number = packet.number;
-            let pt = packet.pt;
-            let marker = Flag(packet.marker);
-            let rtp_time = packet.rtp_time;
-            let payload = Hex(packet.payload.as_slice());
-            write!(
-                text,
-                "yielded {side} {ssrc} {number} {pt} {marker} {rtp_time} {payload}"
-            )
-        }
+        Entry::Got(got) => put_got(text, got),
+        Entry::Sealed(sealed) => put_sealed(text, sealed),
+        Entry::Opened(opened) => put_opened(text, opened),
+        Entry::Yielded(side, packet) => put_yielded(text, *side, packet),
     }
 }
 

@@ -8,7 +8,7 @@ use Rattle.std.proofs.lemmas.Nat.{pow-add}
 use Rattle.std.proofs.lemmas.List.{append-nil, map-append}
 use Rattle.std.proofs.lemmas.Bool.Decides.{nat_tests}
 use Rattle.std.proofs.lemmas.Bool.{cases_eq}
-use Rattle.rtcp_wire.specs.Named.{named_below}
+use Rattle.rtp_base.specs.NackEntry.{named_below}
 use Rattle.repair_core.specs.declared.missing.Missing.{Missing}
 use Rattle.repair_core.specs.Rounds.{taken, is_due, numbers_up, lowest}
 use Rattle.repair_core.specs.Fresh.{greatest}

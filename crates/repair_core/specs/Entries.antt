@@ -1,8 +1,8 @@
 -- Missing numbers in entries of a NACK (RFC 4585, section 6.2.1).
 use Rattle.std.specs.Prelude.{◌≡◌, ℕ, ◌+◌, ◌-◌, ◌*◌, ◌^◌, ◌%◌, ◌<◌, ◌≤◌, nat_le, if◌then◌else◌, map, List, [], ◌∷◌, Option, Some, None, bit_or}
 use Rattle.std.specs.List.{flat_map}
-use Rattle.rtcp_wire.specs.Named.{named_below}
-use Rattle.rtcp_wire.specs.declared.nack.NackEntry.{NackEntry}
+use Rattle.rtp_base.specs.NackEntry.{named_below}
+use Rattle.rtp_base.specs.declared.nack_entry.NackEntry.{NackEntry}
 use Rattle.repair_core.specs.declared.missing.Missing.{Missing}
 use Rattle.repair_core.specs.Rounds.{Heard, due}
 

@@ -1,6 +1,6 @@
 -- What is reported of a source, read off what came from it (RFC 3550, sections 6.4.1, A.3 and A.8).
 use Rattle.std.specs.Prelude.{ℕ, ◌+◌, ◌-◌, ◌*◌, ◌/◌, ◌%◌, ◌^◌, ◌==◌, ℤ, pos, ◌-ℤ◌, nat_le, min, unwrap_or, if◌then◌else◌, Option, Some, None}
-use Rattle.rtcp_wire.specs.declared.report.ReceptionReport.{ReceptionReport}
+use Rattle.rtp_base.specs.declared.reception_report.ReceptionReport.{ReceptionReport}
 use Rattle.repair_core.specs.declared.jitter.TimePoint.{TimePoint}
 use Rattle.repair_core.specs.Fresh.{is_fresh, greatest_of}
 use Rattle.repair_core.specs.Rounds.{Heard, started_at, came, round, taken}

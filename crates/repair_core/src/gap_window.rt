@@ -7,8 +7,7 @@ ghost use Rattle.repair_core.specs.Entries.{packed};
 
 use crate::register_nack::NackRegister;
 use media_base::{Duration, Instant};
-use rtcp_wire::{NackEntry, ReportList};
-use rtp_wire::SeqNo;
+use rtp_base::{NackEntry, ReportList, SeqNo};
 use std::alloc::{AllocError, Global};
 use std::ops::Range;
 

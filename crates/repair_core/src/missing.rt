@@ -2,7 +2,7 @@ ghost use Rattle.std.specs.Prelude.{◌≡◌, ℕ, ◌+◌, ◌<◌, ◌≤◌,
 ghost use Rattle.std.specs.Option.{ForSome};
 ghost use Rattle.repair_core.specs.Entries.{entry_of, alone, with_bit, packed, IsPacking};
 
-use rtcp_wire::{NackEntry, ReportList};
+use rtp_base::{NackEntry, ReportList};
 
 /// An entry of a NACK that is begun (RFC 4585 section 6.2.1): a missing number, and which of the
 /// next 16 are missing too.

@@ -1,6 +1,6 @@
 ghost use Rattle.std.specs.Prelude.{◌≡◌, ℕ, ◌+◌, ◌-◌, ◌<◌, ◌≤◌, ◌^◌, ◌++◌, None, IfOk, IfSome, length};
 ghost use Rattle.std.specs.Option.{ForSome};
-ghost use Rattle.rtcp_wire.specs.Laws.{IsSigned24};
+ghost use Rattle.rtp_base.specs.Fields.{IsSigned24};
 ghost use Rattle.repair_core.specs.Fresh.{is_fresh, greatest_of};
 ghost use Rattle.repair_core.specs.Rounds.{taken, due, is_pending, wait_of, deadline};
 ghost use Rattle.repair_core.specs.Entries.{packed};
@@ -9,8 +9,7 @@ ghost use Rattle.repair_core.specs.Reception.{Reception, begun_at, arrived, reco
 use crate::jitter::{Jitter, TimePoint};
 use crate::register_nack::NackRegister;
 use media_base::{Duration, Instant};
-use rtcp_wire::{NackEntry, ReceptionReport, ReportList};
-use rtp_wire::{SeqNo, Ssrc};
+use rtp_base::{NackEntry, ReceptionReport, ReportList, SeqNo, Ssrc};
 use std::alloc::{AllocError, Global};
 use std::ops::Range;
 

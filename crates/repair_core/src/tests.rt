@@ -4,7 +4,7 @@ ghost use Rattle.repair_core.specs.Fresh.{greatest, is_fresh};
 
 use crate::{NackRegister, ReceiverRegister, expected, packets_lost};
 use media_base::Instant;
-use rtp_wire::SeqNo;
+use rtp_base::SeqNo;
 use std::test::Fail;
 
 fn millis(count: u64) -> Instant

@@ -8,7 +8,8 @@ use Rattle.std.proofs.lemmas.List.{append-nil, take_at, drop_at}
 use Rattle.std.proofs.lemmas.Nat.{from_be_bytes-to_be_bytes_2, from_be_bytes-to_be_bytes_4, from_be_bytes-to_be_bytes_8}
 use Rattle.rtcp_wire.specs.Wire.{half_at, word_at, rows_of}
 use Rattle.rtcp_wire.specs.Frame.{item_len, frame_at}
-use Rattle.rtcp_wire.specs.Rows.{nack_entry_at, nack_entry_text, fir_entry_at, fir_entry_text, report_at, report_text, signed24, bits24}
+use Rattle.rtcp_wire.specs.Rows.{nack_entry_at, nack_entry_text, fir_entry_at, fir_entry_text, report_at, report_text}
+use Rattle.rtp_base.specs.Fields.{signed24, bits24, IsSigned24}
 use Rattle.rtcp_wire.specs.Feedback.{nack_of, nack_body, pli_of, pli_body, fir_of, fir_body, app_feedback_of, app_feedback_body}
 use Rattle.media_base.specs.Wallclock.{ntp_of_unix}
 use Rattle.rtcp_wire.specs.Remb.{is_remb, remb_of, remb_body, mantissa_of, exponent_of}
@@ -26,13 +27,13 @@ use Rattle.rtcp_wire.specs.declared.request.Fir.{Fir as FirItem}
 use Rattle.rtcp_wire.specs.declared.source.Goodbye.{Goodbye as GoodbyeItem}
 use Rattle.rtcp_wire.specs.declared.report.ReceiverReport.{ReceiverReport as ReceiverItem}
 use Rattle.rtcp_wire.specs.declared.feedback.AppSpecificFeedback.{AppSpecificFeedback as AppItem}
-use Rattle.rtcp_wire.specs.declared.nack.NackEntry.{NackEntry}
+use Rattle.rtp_base.specs.declared.nack_entry.NackEntry.{NackEntry}
 use Rattle.rtcp_wire.specs.declared.nack.Nack.{Nack as NackItem}
 use Rattle.rtcp_wire.specs.declared.request.FirEntry.{FirEntry}
 use Rattle.rtcp_wire.specs.declared.request.Pli.{Pli as PliItem}
-use Rattle.rtcp_wire.specs.declared.report.ReceptionReport.{ReceptionReport}
+use Rattle.rtp_base.specs.declared.reception_report.ReceptionReport.{ReceptionReport}
 use Rattle.twcc_core.specs.Laws.{FeedbackReadsBack}
-use Rattle.rtcp_wire.specs.Laws.{IsNackEntry, IsFirEntry, IsSigned24, IsReport, IsDlrrItem, IsBlock, IsHeld, held, held_block, held_info, held_rate}
+use Rattle.rtcp_wire.specs.Laws.{IsNackEntry, IsFirEntry, IsReport, IsDlrrItem, IsBlock, IsHeld, held, held_block, held_info, held_rate}
 use Rattle.std.specs.Option.{option_map, option_and_then}
 use Rattle.rtcp_wire.specs.Extended.{dlrr_item_at, dlrr_item_text, block_of, block_at, block_kind, block_content, block_text, kept, blocks_within, blocks_of, extended_report_of, extended_report_body}
 use Rattle.rtcp_wire.specs.declared.extended.DlrrItem.{DlrrItem}

@@ -3,9 +3,10 @@ use Rattle.std.specs.Prelude.{◌≡◌, ℕ, ℤ, pos, negsuc, ◌*◌, min, ma
 use Rattle.std.specs.List.{flat_map, AllByRecursion}
 use Rattle.rtcp_wire.specs.declared.packet.Rtcp.{Rtcp}
 use Rattle.rtcp_wire.specs.declared.packet.Rtcp.TheVariants.{SenderReport, ReceiverReport, SourceDescription, Goodbye, ExtendedReport, Nack, Pli, Fir, Twcc, Remb, AppSpecificFeedback}
-use Rattle.rtcp_wire.specs.declared.nack.NackEntry.{NackEntry}
+use Rattle.rtp_base.specs.Fields.{IsSigned24}
+use Rattle.rtp_base.specs.declared.nack_entry.NackEntry.{NackEntry}
 use Rattle.rtcp_wire.specs.declared.request.FirEntry.{FirEntry}
-use Rattle.rtcp_wire.specs.declared.report.ReceptionReport.{ReceptionReport}
+use Rattle.rtp_base.specs.declared.reception_report.ReceptionReport.{ReceptionReport}
 use Rattle.rtcp_wire.specs.declared.report.SenderInfo.{SenderInfo}
 use Rattle.rtcp_wire.specs.declared.extended.DlrrItem.{DlrrItem}
 use Rattle.rtcp_wire.specs.declared.extended.ReportBlock.{ReportBlock}
@@ -32,10 +33,6 @@ IsNackEntry e = (e.pid < 2 ^ 16) × (e.blp < 2 ^ 16)
 
 abbrev pub IsFirEntry : FirEntry → Type 0
 IsFirEntry e = e.ssrc < 2 ^ 32
-
-abbrev pub IsSigned24 : ℤ → Type 0
-IsSigned24 (pos n) = n < 8388608
-IsSigned24 (negsuc n) = n < 8388608
 
 pub record IsReport (r : ReceptionReport) : Type 0 where
   pub ssrc : r.ssrc < 2 ^ 32

@@ -5,9 +5,10 @@ pub mod Reports
 pub mod Descriptions
 pub mod Feedback
 pub mod Remb
-pub mod Named
 pub mod Extended
 pub mod Items
 pub mod Streams
 pub mod Texts
 pub mod Laws
+pub use Rattle.rtp_base.specs.Fields
+pub use Rattle.rtp_base.specs.NackEntry

@@ -1,17 +1,11 @@
 -- The rows of fields that items are made of.
-use Rattle.std.specs.Prelude.{ℕ, ℤ, pos, ◌+◌, ◌*◌, ◌/◌, ◌%◌, ◌-ℤ◌, List, [], ◌∷◌, ◌++◌, slice_index, nat_lt, if◌then◌else◌}
-use Rattle.std.specs.Int.{w16, w32, to_be_bytes, cast_unsigned}
+use Rattle.std.specs.Prelude.{ℕ, ◌+◌, ◌*◌, ◌/◌, ◌%◌, List, [], ◌∷◌, ◌++◌, slice_index}
+use Rattle.std.specs.Int.{w16, w32, to_be_bytes}
 use Rattle.rtcp_wire.specs.Wire.{half_at, word_at, words}
-use Rattle.rtcp_wire.specs.declared.report.ReceptionReport.{ReceptionReport}
-use Rattle.rtcp_wire.specs.declared.nack.NackEntry.{NackEntry}
+use Rattle.rtp_base.specs.Fields.{signed24, bits24}
+use Rattle.rtp_base.specs.declared.reception_report.ReceptionReport.{ReceptionReport}
+use Rattle.rtp_base.specs.declared.nack_entry.NackEntry.{NackEntry}
 use Rattle.rtcp_wire.specs.declared.request.FirEntry.{FirEntry}
-
--- 24 bits as a signed number, and the 24 bits of one (RFC 3550 section 6.4.1)
-abbrev pub signed24 : ℕ → ℤ
-signed24 n = if nat_lt n 8388608 then pos n else (pos n -ℤ pos 16777216)
-
-abbrev pub bits24 : ℤ → ℕ
-bits24 z = cast_unsigned w32 z % 16777216
 
 -- a reception block: SSRC, fraction lost and packets lost, greatest number, jitter, last SR, delay
 -- (RFC 3550 section 6.4.1)

@@ -8,7 +8,7 @@ ghost use Rattle.rtcp_wire.specs.Extended.{with_blocks, kept, block_of, block_at
 use crate::row::{Put, Row, read_many, write_rows};
 use crate::wire::{double, half, put, word};
 use media_base::{Listed, SystemTime, SystemTimeExt};
-use rtp_wire::Ssrc;
+use rtp_base::Ssrc;
 use std::alloc::{AllocError, Global};
 
 /// Blocks of reports of one sender (RFC 3611 section 2).

@@ -6,7 +6,7 @@ ghost use Rattle.rtcp_wire.specs.Feedback.{app_feedback_of, app_feedback_body};
 use crate::row::write_rows;
 use crate::wire::{put, word};
 use media_base::Bytes;
-use rtp_wire::Ssrc;
+use rtp_base::Ssrc;
 use std::alloc::{AllocError, Global};
 
 /// Feedback of an application (RFC 4585 section 6.4), whose words are its own.

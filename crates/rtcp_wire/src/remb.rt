@@ -6,7 +6,7 @@ ghost use Rattle.rtcp_wire.specs.Remb.{is_remb, remb_of, remb_body, exponent_of,
 use crate::row::{read_many, write_rows};
 use crate::wire::word;
 use media_base::{Bitrate, Listed};
-use rtp_wire::Ssrc;
+use rtp_base::Ssrc;
 use std::alloc::{AllocError, Global};
 
 const NAME: u32 = 0x5245_4d42;

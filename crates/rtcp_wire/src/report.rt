@@ -1,33 +1,13 @@
 //! Reports on what was sent and received (RFC 3550 section 6.4).
 ghost use Rattle.std.specs.Prelude.{◌≡◌, ◌<◌, ◌≤◌, length};
-ghost use Rattle.rtcp_wire.specs.Rows.{signed24};
+ghost use Rattle.rtp_base.specs.Fields.{signed24};
 ghost use Rattle.rtcp_wire.specs.Wire.{Puts};
 ghost use Rattle.rtcp_wire.specs.Reports.{receiver_report_of, receiver_report_body, sender_info_at, sender_info_text, sender_report_of, sender_report_body};
 
-use crate::ReportList;
 use crate::row::{Put, Row, read_rows, write_rows};
 use crate::wire::{double, put, word};
 use media_base::{SystemTime, SystemTimeExt};
-use rtp_wire::Ssrc;
-
-/// A reception block (RFC 3550 section 6.4.1): how a source is received.
-#[derive(Clone, Copy, Debug, Default, PartialEq, Eq)]
-pub struct ReceptionReport {
-    /// The source that it speaks of.
-    pub ssrc: Ssrc,
-    /// The share lost since the report before, in 256ths.
-    pub fraction_lost: u8,
-    /// The packets lost since the beginning, 24 bits signed on the wire.
-    pub packets_lost: i32,
-    /// The greatest extended sequence number received.
-    pub max_seq: u32,
-    /// The jitter, in units of the RTP time.
-    pub jitter: u32,
-    /// The middle 32 bits of the NTP time of the last sender report, or 0.
-    pub last_sr_time: u32,
-    /// The time since that report, in 65,536ths of a second, or 0.
-    pub last_sr_delay: u32,
-}
+use rtp_base::{ReceptionReport, ReportList, Ssrc};
 
 impl Row for ReceptionReport {
     ghost use Rattle.rtcp_wire.specs.Rows.{report_at, report_text};

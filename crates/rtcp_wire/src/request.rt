@@ -3,10 +3,9 @@ ghost use Rattle.std.specs.Prelude.{◌≡◌};
 ghost use Rattle.rtcp_wire.specs.Wire.{Puts};
 ghost use Rattle.rtcp_wire.specs.Feedback.{pli_of, pli_body, fir_of, fir_body};
 
-use crate::ReportList;
 use crate::row::{Put, Row, read_rows, write_rows};
 use crate::wire::{put, word};
-use rtp_wire::Ssrc;
+use rtp_base::{ReportList, Ssrc};
 
 /// A picture was lost (RFC 4585 section 6.3.1).
 #[derive(Clone, Copy, Debug, PartialEq, Eq)]

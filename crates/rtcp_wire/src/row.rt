@@ -3,8 +3,9 @@ ghost use Rattle.std.specs.Prelude.{◌≡◌, ◌+◌, ◌*◌, ◌≤◌, List
 ghost use Rattle.std.specs.List.{flat_map};
 ghost use Rattle.rtcp_wire.specs.Wire.{rows_of, Puts};
 
-use crate::{ReportList, wire};
+use crate::wire;
 use media_base::Listed;
+use rtp_base::ReportList;
 use std::alloc::{AllocError, Global};
 
 // What is put in bytes.

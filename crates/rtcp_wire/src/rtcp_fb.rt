@@ -4,14 +4,12 @@ ghost use Rattle.std.specs.List.{flat_map};
 
 use crate::extended::{DlrrItem, ReportBlock, Rrtr};
 use crate::feedback::AppSpecificFeedback;
-use crate::list::ReportList;
-use crate::nack::NackEntry;
 use crate::packet::Rtcp;
-use crate::report::{ReceptionReport, SenderInfo};
+use crate::report::SenderInfo;
 use crate::request::{FirEntry, Pli};
 use crate::source::Sdes;
 use media_base::Bitrate;
-use rtp_wire::Ssrc;
+use rtp_base::{NackEntry, ReceptionReport, ReportList, Ssrc};
 use std::alloc::{AllocError, Global};
 use std::collections::VecDeque;
 use twcc_core::Twcc;

@@ -5,11 +5,10 @@ ghost use Rattle.rtcp_wire.specs.Wire.{Puts};
 ghost use Rattle.rtcp_wire.specs.Reports.{goodbye_of, goodbye_body};
 ghost use Rattle.rtcp_wire.specs.Descriptions.{sdes_item_at, with_item, first_31, sdes_items_of, sdes_at, descriptions_of, descriptions_body};
 
-use crate::ReportList;
 use crate::row::{Put, Row, read_rows, write_rows};
 use crate::wire::{put, word};
 use media_base::{Bytes, Listed};
-use rtp_wire::Ssrc;
+use rtp_base::{ReportList, Ssrc};
 use std::alloc::{AllocError, Global};
 
 impl Row for Ssrc {

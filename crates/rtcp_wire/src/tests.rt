@@ -3,7 +3,7 @@ ghost use Rattle.rtcp_wire.specs.Texts.{IsWritable};
 
 use super::*;
 use media_base::{Bitrate, Bytes, Listed, SystemTime};
-use rtp_wire::{SeqNo, Ssrc};
+use rtp_base::{SeqNo, Ssrc};
 use std::alloc::Global;
 use std::collections::VecDeque;
 use std::process::Abort;

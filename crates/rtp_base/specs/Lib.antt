@@ -1,5 +1,7 @@
+pub mod Fields
 pub mod Ids
-pub mod Moments
+pub mod Kind
+pub mod NackEntry
 pub mod Name
 pub mod NameLaws
 pub mod Widen

@@ -1,21 +1,28 @@
 //! What RTP counts and names: sequence numbers, sources and other identifiers, times in ticks of a clock,
-//! the widening of numbers cut to 16 or 32 bits, and the window of repairs (RFC 3550, RFC 3711).
+//! the widening of numbers cut to 16 or 32 bits, and the window of repairs (RFC 3550, RFC 3711); and the
+//! rows of RTCP that registers make, in lists of at most 31 (RFC 3550 section 6.4.1, RFC 4585 section 6.2.1).
 #![tactic(auto)]
 
-mod abs_time;
 mod ids;
+mod kind;
 mod media_time;
+mod nack_entry;
 mod name;
 mod number;
+mod reception_report;
+mod report_list;
 #[cfg(test)]
 mod tests;
 mod widen;
 mod window;
 
-pub use abs_time::{AbsCaptureTime, AbsSendTime};
 pub use ids::{Direction, MidRid, SessionId, TwccClusterId, TwccPacketId};
+pub use kind::Kind;
 pub use media_time::{Frequency, MediaTime};
+pub use nack_entry::NackEntry;
 pub use name::{Mid, Rid};
 pub use number::{Pt, SeqNo, Ssrc};
+pub use reception_report::ReceptionReport;
+pub use report_list::ReportList;
 pub use widen::{widen16, widen32, widens_to_itself};
 pub use window::SeqNoWindow;

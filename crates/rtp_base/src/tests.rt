@@ -1,5 +1,4 @@
 use super::*;
-use media_base::{Beginning, Instant};
 use std::test::Fail;
 
 // The edges of 16 bits: after no number, 0, 32767, 32768, 65535, 65536 and 2^47 (RFC 3711 appendix A).
@@ -50,28 +49,6 @@ fn windows_of_repairs(rt: HostRuntime) {
     assert!(rt; after.accepts(SeqNo::from(55)));
 }
 
-// NTP seconds begin at a multiple of 64 s with the Unix epoch, and 2^24 units are 64 s.
-#[test]
-fn send_times_are_told_in_24_bits(rt: HostRuntime) {
-    let beginning = Beginning { unix_secs: 0 };
-    let at = |millis: u64| Instant::from_nanos(millis * 1_000_000);
-    assert_eq!(rt; AbsSendTime::new(at(0), &beginning).units(), 0);
-    assert_eq!(rt; AbsSendTime::new(at(1_500), &beginning).units(), 0x06_0000);
-    assert_eq!(rt; AbsSendTime::new(at(63_999), &beginning).units(), 0xff_fef9);
-    let sent = AbsSendTime::new(at(64_000 + 1_500), &beginning);
-    assert_eq!(rt; sent.units(), 0x06_0000);
-    let rows = [
-        (1_499, 0),
-        (1_500, 1_500),
-        (65_499, 1_500),
-        (65_500, 65_500),
-        (129_499, 65_500),
-    ];
-    for (now, moment) in rows {
-        assert_eq!(rt; sent.moment(at(now), &beginning), at(moment), "at {now}");
-    }
-}
-
 // No call of this crate takes memory: what the tests above do not call is called here.
 #[test]
 fn surface_ample(rt: HostRuntime) -> Result<(), Fail> {
@@ -100,8 +77,6 @@ fn surface_ample(rt: HostRuntime) -> Result<(), Fail> {
     let mut number = SeqNo::from(65_535);
     assert_eq!(rt; number.inc(), SeqNo::from(65_535));
     assert_eq!(rt; number.roc(), 1);
-    assert_eq!(rt; AbsSendTime::from_units(0x100_0001).units(), 1);
-    assert_eq!(rt; AbsCaptureTime::from_ntp_64(7).as_ntp_64(), 7);
     assert_eq!(rt; mid.as_slice(), b"v".as_slice());
     assert_eq!(rt; rid.as_slice(), b"q".as_slice());
     Ok(())

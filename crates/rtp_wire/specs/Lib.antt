@@ -1,3 +1,4 @@
+pub mod AbsTime
 pub mod Bytes
 pub mod BytesLaws
 pub mod ElementsLaws
@@ -9,8 +10,11 @@ pub mod Reading
 pub mod Repairs
 pub mod Writing
 pub mod WritingLaws
+pub use Rattle.media_units.specs.Wallclock
+pub use Rattle.rtp_base.specs.Fields
 pub use Rattle.rtp_base.specs.Ids
-pub use Rattle.rtp_base.specs.Moments
+pub use Rattle.rtp_base.specs.Kind
+pub use Rattle.rtp_base.specs.NackEntry
 pub use Rattle.rtp_base.specs.Name
 pub use Rattle.rtp_base.specs.Widen
 pub use Rattle.rtp_base.specs.Window

@@ -2,6 +2,7 @@
 //! made of, the numbers and names of `rtp_base`.
 #![tactic(auto)]
 
+mod abs_time;
 mod extension;
 mod header;
 mod laws;
@@ -10,6 +11,7 @@ mod tests;
 mod values;
 mod writing;
 
+pub use abs_time::{AbsCaptureTime, AbsSendTime};
 pub use extension::{Extension, ExtensionMap};
 pub use header::RtpHeader;
 pub use laws::{
@@ -17,7 +19,8 @@ pub use laws::{
     written_header_is_read_again,
 };
 pub use rtp_base::{
-    AbsCaptureTime, AbsSendTime, Direction, Frequency, MediaTime, Mid, MidRid, Pt, Rid, SeqNo,
-    SeqNoWindow, SessionId, Ssrc, TwccClusterId, TwccPacketId, widen16, widen32, widens_to_itself,
+    Direction, Frequency, Kind, MediaTime, Mid, MidRid, NackEntry, Pt, ReceptionReport, ReportList,
+    Rid, SeqNo, SeqNoWindow, SessionId, Ssrc, TwccClusterId, TwccPacketId, widen16, widen32,
+    widens_to_itself,
 };
 pub use values::{ExtensionValues, VideoOrientation};

@@ -1,4 +1,5 @@
 use super::*;
+use media_units::{Beginning, Instant};
 use std::test::Fail;
 
 const PLAIN: [u8; 14] = [0x80, 0x60, 0, 1, 0, 0, 0, 0, 0, 0, 0, 0x2a, 1, 2];
@@ -395,4 +396,28 @@ fn surface_ample(rt: HostRuntime) -> Result<(), Fail> {
         SeqNo::from(65_537)
     );
     Ok(())
+}
+
+// NTP seconds begin at a multiple of 64 s with the Unix epoch, and 2^24 units are 64 s.
+#[test]
+fn send_times_are_told_in_24_bits(rt: HostRuntime) {
+    let beginning = Beginning { unix_secs: 0 };
+    let at = |millis: u64| Instant::from_nanos(millis * 1_000_000);
+    assert_eq!(rt; AbsSendTime::new(at(0), &beginning).units(), 0);
+    assert_eq!(rt; AbsSendTime::new(at(1_500), &beginning).units(), 0x06_0000);
+    assert_eq!(rt; AbsSendTime::new(at(63_999), &beginning).units(), 0xff_fef9);
+    let sent = AbsSendTime::new(at(64_000 + 1_500), &beginning);
+    assert_eq!(rt; sent.units(), 0x06_0000);
+    let rows = [
+        (1_499, 0),
+        (1_500, 1_500),
+        (65_499, 1_500),
+        (65_500, 65_500),
+        (129_499, 65_500),
+    ];
+    for (now, moment) in rows {
+        assert_eq!(rt; sent.moment(at(now), &beginning), at(moment), "at {now}");
+    }
+    assert_eq!(rt; AbsSendTime::from_units(0x100_0001).units(), 1);
+    assert_eq!(rt; AbsCaptureTime::from_ntp_64(7).as_ntp_64(), 7);
 }

@@ -2,7 +2,8 @@ ghost use Rattle.std.specs.Prelude.{◌≡◌, ◌%◌, ◌<◌, ◌≤◌, ◌^
 ghost use Rattle.rtp_wire.specs.Reading.{u24_of, transport_in, send_time_in, level_in, voice_in, turn_in, capture_in, least_delay_in, greatest_delay_in};
 
 use crate::extension::{Extension, ExtensionMap};
-use rtp_base::{AbsCaptureTime, AbsSendTime, Frequency, MediaTime, Mid, Rid};
+use crate::{AbsCaptureTime, AbsSendTime};
+use rtp_base::{Frequency, MediaTime, Mid, Rid};
 
 /// How the picture has to be turned to be shown upright, in degrees clockwise.
 #[derive(Clone, Copy, Debug, PartialEq, Eq)]

@@ -5,6 +5,7 @@ use Rattle.std.specs.Int.{w32, to_be_bytes, from_be_bytes}
 use Rattle.std.proofs.lemmas.List.{take_at, drop_at, length-take, length-drop, length-append, take-append-drop, take-append-le, get_or_append_left}
 use Rattle.std.proofs.lemmas.Bool.{le-leb}
 use Rattle.std.proofs.lemmas.Bool.Decides.{nat_tests}
+use Rattle.srtp_core.specs.Cipher.{CipherMeaning}
 use Rattle.srtp_core.specs.Streams.{streamed}
 use Rattle.srtp_core.specs.StreamLaws.{streamed-streamed, length-streamed}
 use Rattle.srtp_core.specs.Hmac.{hmac_of}
@@ -22,24 +23,24 @@ rtp_text bytes n m h k =
     let front : take n bytes ≡ take n (take m bytes) = ap (take n) (sym (take-append-drop m bytes)) ∙ take-append-le n (take m bytes) (drop m bytes) size in
     ap (λ w. w ++ drop n (take m bytes)) front ∙ take-append-drop n (take m bytes)
 
-pub rtp_opens : (keystream : List ℕ → List ℕ → ℕ → ℕ) (key authentication salt : List ℕ) (ssrc index n : ℕ) (bytes text tag out : List ℕ)
+pub rtp_opens : (cipher : CipherMeaning) (key authentication salt : List ℕ) (ssrc index n : ℕ) (bytes text tag out : List ℕ)
     → n + 10 ≤ length bytes → text ≡ take (length bytes - 10) bytes → tag ≡ drop (length bytes - 10) bytes
-    → tag ≡ cm_rtp_tag authentication index text → out ≡ streamed (keystream key (cm_iv salt ssrc index)) (drop n text)
-    → cm_sealed_rtp keystream key authentication salt ssrc index (take n bytes) out ≡ bytes
-rtp_opens keystream key authentication salt ssrc index n bytes text tag out room front back code made =
-    let stream = keystream key (cm_iv salt ssrc index) in
+    → tag ≡ cm_rtp_tag authentication index text → out ≡ streamed (cipher.keystream key (cm_iv salt ssrc index)) (drop n text)
+    → cm_sealed_rtp cipher key authentication salt ssrc index (take n bytes) out ≡ bytes
+rtp_opens cipher key authentication salt ssrc index n bytes text tag out room front back code made =
+    let stream = cipher.keystream key (cm_iv salt ssrc index) in
     let again : streamed stream out ≡ drop n text = ap (streamed stream) made ∙ streamed-streamed stream (drop n text) in
     let all : take n bytes ++ streamed stream out ≡ text =
     ap (λ w. take n bytes ++ w) again ∙ ap (λ w. take n bytes ++ drop n w) front ∙ rtp_text bytes n (length bytes - 10) (omega arith) (omega arith) ∙ sym front in
     ap (λ w. w ++ cm_rtp_tag authentication index w) all ∙ ap (λ w. text ++ w) (sym code)
     ∙ ap (λ w. w ++ tag) front ∙ ap (λ w. take (length bytes - 10) bytes ++ w) back ∙ take-append-drop (length bytes - 10) bytes
 
-pub rtp_code : (keystream : List ℕ → List ℕ → ℕ → ℕ) (key authentication salt : List ℕ) (ssrc index n : ℕ) (bytes text tag payload : List ℕ)
+pub rtp_code : (cipher : CipherMeaning) (key authentication salt : List ℕ) (ssrc index n : ℕ) (bytes text tag payload : List ℕ)
     → 10 ≤ length bytes → text ≡ take (length bytes - 10) bytes → tag ≡ drop (length bytes - 10) bytes
-    → cm_sealed_rtp keystream key authentication salt ssrc index (take n bytes) payload ≡ bytes
+    → cm_sealed_rtp cipher key authentication salt ssrc index (take n bytes) payload ≡ bytes
     → tag ≡ cm_rtp_tag authentication index text
-rtp_code keystream key authentication salt ssrc index n bytes text tag payload room front back seal =
-    let stream = keystream key (cm_iv salt ssrc index) in
+rtp_code cipher key authentication salt ssrc index n bytes text tag payload room front back seal =
+    let stream = cipher.keystream key (cm_iv salt ssrc index) in
     let other = take n bytes ++ streamed stream payload in
     let code = cm_rtp_tag authentication index other in
     let whole : text ++ tag ≡ bytes = ap (λ w. w ++ tag) front ∙ ap (λ w. take (length bytes - 10) bytes ++ w) back ∙ take-append-drop (length bytes - 10) bytes in
@@ -48,11 +49,11 @@ rtp_code keystream key authentication salt ssrc index n bytes text tag payload r
     let same : other ≡ text = front_of other text code tag size all in
     sym (back_of other text code tag size all) ∙ ap (cm_rtp_tag authentication index) same
 
-pub rtp_short : (keystream : List ℕ → List ℕ → ℕ → ℕ) (key authentication salt : List ℕ) (ssrc index n : ℕ) (bytes payload : List ℕ)
-    → n ≤ length bytes → length bytes - n < 10 → cm_sealed_rtp keystream key authentication salt ssrc index (take n bytes) payload ≡ bytes → ⊥
-rtp_short keystream key authentication salt ssrc index n bytes payload h short seal =
-    let text = take n bytes ++ streamed (keystream key (cm_iv salt ssrc index)) payload in
-    omega (arith, ap length seal, length-append text (cm_rtp_tag authentication index text), length-append (take n bytes) (streamed (keystream key (cm_iv salt ssrc index)) payload), length-take n bytes, length-tag authentication (text ++ to_be_bytes w32 (index / 65536)))
+pub rtp_short : (cipher : CipherMeaning) (key authentication salt : List ℕ) (ssrc index n : ℕ) (bytes payload : List ℕ)
+    → n ≤ length bytes → length bytes - n < 10 → cm_sealed_rtp cipher key authentication salt ssrc index (take n bytes) payload ≡ bytes → ⊥
+rtp_short cipher key authentication salt ssrc index n bytes payload h short seal =
+    let text = take n bytes ++ streamed (cipher.keystream key (cm_iv salt ssrc index)) payload in
+    omega (arith, ap length seal, length-append text (cm_rtp_tag authentication index text), length-append (take n bytes) (streamed (cipher.keystream key (cm_iv salt ssrc index)) payload), length-take n bytes, length-tag authentication (text ++ to_be_bytes w32 (index / 65536)))
 
 -- RTCP: the facts of a datagram of at least 22 bytes, split before its tag, and before its word
 pub record Split (bytes text tag packet word : List ℕ) (w : ℕ) : Type 0 where
@@ -106,56 +107,56 @@ word_low : (bytes text tag packet word : List ℕ) (w : ℕ) → Split bytes tex
 word_low bytes text tag packet word w s h = word_false word w (word_len bytes text tag packet word w s) (small_word bytes text tag packet word w s) s.is h
 
 -- the seal under what is stated is that under these
-under : (keystream : List ℕ → List ℕ → ℕ → ℕ) (key authentication salt bytes text tag packet word plain : List ℕ) (w : ℕ) (bit : Bool) → Split bytes text tag packet word w → nat_le (2 ^ 31) w ≡ bit
-    → (let x = from_be_bytes w32 (drop (length bytes - 14) bytes) in cm_sealed_rtcp keystream key authentication salt (nat_le (2 ^ 31) x) (x % 2 ^ 31) (take 8 plain) (drop 8 plain)) ≡ cm_sealed_rtcp keystream key authentication salt bit (w % 2 ^ 31) (take 8 plain) (drop 8 plain)
-under keystream key authentication salt bytes text tag packet word plain w bit s e =
-    ap (λ x. cm_sealed_rtcp keystream key authentication salt (nat_le (2 ^ 31) x) (x % 2 ^ 31) (take 8 plain) (drop 8 plain)) (stated bytes text tag packet word w s)
-    ∙ ap (λ b. cm_sealed_rtcp keystream key authentication salt b (w % 2 ^ 31) (take 8 plain) (drop 8 plain)) e
+under : (cipher : CipherMeaning) (key authentication salt bytes text tag packet word plain : List ℕ) (w : ℕ) (bit : Bool) → Split bytes text tag packet word w → nat_le (2 ^ 31) w ≡ bit
+    → (let x = from_be_bytes w32 (drop (length bytes - 14) bytes) in cm_sealed_rtcp cipher key authentication salt (nat_le (2 ^ 31) x) (x % 2 ^ 31) (take 8 plain) (drop 8 plain)) ≡ cm_sealed_rtcp cipher key authentication salt bit (w % 2 ^ 31) (take 8 plain) (drop 8 plain)
+under cipher key authentication salt bytes text tag packet word plain w bit s e =
+    ap (λ x. cm_sealed_rtcp cipher key authentication salt (nat_le (2 ^ 31) x) (x % 2 ^ 31) (take 8 plain) (drop 8 plain)) (stated bytes text tag packet word w s)
+    ∙ ap (λ b. cm_sealed_rtcp cipher key authentication salt b (w % 2 ^ 31) (take 8 plain) (drop 8 plain)) e
 
-pub encrypted_opens : (keystream : List ℕ → List ℕ → ℕ → ℕ) (key authentication salt bytes text tag packet word plain : List ℕ) (w : ℕ)
+pub encrypted_opens : (cipher : CipherMeaning) (key authentication salt bytes text tag packet word plain : List ℕ) (w : ℕ)
     → Split bytes text tag packet word w → tag ≡ take 10 (hmac_of authentication text) → 2 ^ 31 ≤ w
-    → plain ≡ take 8 packet ++ streamed (keystream key (cm_iv salt (sender_of (take 8 packet)) (w % 2 ^ 31))) (drop 8 packet)
-    → CmRtcpOpens keystream key authentication salt bytes plain
-encrypted_opens keystream key authentication salt bytes text tag packet word plain w s code h made =
-    let stream = keystream key (cm_iv salt (sender_of (take 8 packet)) (w % 2 ^ 31)) in
+    → plain ≡ take 8 packet ++ streamed (cipher.keystream key (cm_iv salt (sender_of (take 8 packet)) (w % 2 ^ 31))) (drop 8 packet)
+    → CmRtcpOpens cipher key authentication salt bytes plain
+encrypted_opens cipher key authentication salt bytes text tag packet word plain w s code h made =
+    let stream = cipher.keystream key (cm_iv salt (sender_of (take 8 packet)) (w % 2 ^ 31)) in
     let size : length (take 8 packet) ≡ 8 = omega (arith, length-take 8 packet, packet_len bytes text tag packet word w s, s.size) in
     let front : take 8 plain ≡ take 8 packet = ap (take 8) made ∙ take_at (take 8 packet) (streamed stream (drop 8 packet)) 8 size in
     let back : drop 8 plain ≡ streamed stream (drop 8 packet) = ap (drop 8) made ∙ drop_at (take 8 packet) (streamed stream (drop 8 packet)) 8 size in
-    let rest : cm_rest keystream key salt true (w % 2 ^ 31) (take 8 plain) (drop 8 plain) ≡ drop 8 packet =
-    ap (λ x. streamed (keystream key (cm_iv salt (sender_of x) (w % 2 ^ 31))) (drop 8 plain)) front ∙ ap (streamed stream) back ∙ streamed-streamed stream (drop 8 packet) in
-    let all : take 8 plain ++ cm_rest keystream key salt true (w % 2 ^ 31) (take 8 plain) (drop 8 plain) ++ e_and_index true (w % 2 ^ 31) ≡ text =
-    ap (λ x. x ++ cm_rest keystream key salt true (w % 2 ^ 31) (take 8 plain) (drop 8 plain) ++ e_and_index true (w % 2 ^ 31)) front
+    let rest : cm_rest cipher key salt true (w % 2 ^ 31) (take 8 plain) (drop 8 plain) ≡ drop 8 packet =
+    ap (λ x. streamed (cipher.keystream key (cm_iv salt (sender_of x) (w % 2 ^ 31))) (drop 8 plain)) front ∙ ap (streamed stream) back ∙ streamed-streamed stream (drop 8 packet) in
+    let all : take 8 plain ++ cm_rest cipher key salt true (w % 2 ^ 31) (take 8 plain) (drop 8 plain) ++ e_and_index true (w % 2 ^ 31) ≡ text =
+    ap (λ x. x ++ cm_rest cipher key salt true (w % 2 ^ 31) (take 8 plain) (drop 8 plain) ++ e_and_index true (w % 2 ^ 31)) front
     ∙ ap (λ x. take 8 packet ++ x ++ e_and_index true (w % 2 ^ 31)) rest
     ∙ ap (λ x. x ++ e_and_index true (w % 2 ^ 31)) (take-append-drop 8 packet) ∙ ap (λ x. packet ++ x) (word_high bytes text tag packet word w s h) ∙ text_parts bytes text tag packet word w s in
     record {
       header = omega (arith, ap length made, length-append (take 8 packet) (streamed stream (drop 8 packet)), size);
-      seal = under keystream key authentication salt bytes text tag packet word plain w true s (le-leb (2 ^ 31) w h)
+      seal = under cipher key authentication salt bytes text tag packet word plain w true s (le-leb (2 ^ 31) w h)
           ∙ ap (λ x. x ++ take 10 (hmac_of authentication x)) all ∙ ap (λ x. text ++ x) (sym code) ∙ whole bytes text tag packet word w s;
     }
 
 not_high : (w : ℕ) → w < 2 ^ 31 → nat_le (2 ^ 31) w ≡ false
 not_high w h = grind (arith, nat_tests)
 
-pub clear_opens : (keystream : List ℕ → List ℕ → ℕ → ℕ) (key authentication salt bytes text tag packet word plain : List ℕ) (w : ℕ)
+pub clear_opens : (cipher : CipherMeaning) (key authentication salt bytes text tag packet word plain : List ℕ) (w : ℕ)
     → Split bytes text tag packet word w → tag ≡ take 10 (hmac_of authentication text) → w < 2 ^ 31 → plain ≡ packet
-    → CmRtcpOpens keystream key authentication salt bytes plain
-clear_opens keystream key authentication salt bytes text tag packet word plain w s code h made =
+    → CmRtcpOpens cipher key authentication salt bytes plain
+clear_opens cipher key authentication salt bytes text tag packet word plain w s code h made =
     let all : take 8 plain ++ drop 8 plain ++ e_and_index false (w % 2 ^ 31) ≡ text =
     ap (λ x. x ++ e_and_index false (w % 2 ^ 31)) (take-append-drop 8 plain ∙ made) ∙ ap (λ x. packet ++ x) (word_low bytes text tag packet word w s h) ∙ text_parts bytes text tag packet word w s in
     record {
       header = omega (arith, ap length made, packet_len bytes text tag packet word w s, s.size);
-      seal = under keystream key authentication salt bytes text tag packet word plain w false s (not_high w h)
+      seal = under cipher key authentication salt bytes text tag packet word plain w false s (not_high w h)
           ∙ ap (λ x. x ++ take 10 (hmac_of authentication x)) all ∙ ap (λ x. text ++ x) (sym code) ∙ whole bytes text tag packet word w s;
     }
 
 -- whatever opens has its tag at the end
-pub rtcp_code : (keystream : List ℕ → List ℕ → ℕ → ℕ) (key authentication salt bytes text tag plain : List ℕ)
+pub rtcp_code : (cipher : CipherMeaning) (key authentication salt bytes text tag plain : List ℕ)
     → 10 ≤ length bytes → text ≡ take (length bytes - 10) bytes → tag ≡ drop (length bytes - 10) bytes
-    → CmRtcpOpens keystream key authentication salt bytes plain → tag ≡ take 10 (hmac_of authentication text)
-rtcp_code keystream key authentication salt bytes text tag plain room front back o =
+    → CmRtcpOpens cipher key authentication salt bytes plain → tag ≡ take 10 (hmac_of authentication text)
+rtcp_code cipher key authentication salt bytes text tag plain room front back o =
     let x = from_be_bytes w32 (drop (length bytes - 14) bytes) in
     let bit = nat_le (2 ^ 31) x in
-    let other = take 8 plain ++ cm_rest keystream key salt bit (x % 2 ^ 31) (take 8 plain) (drop 8 plain) ++ e_and_index bit (x % 2 ^ 31) in
+    let other = take 8 plain ++ cm_rest cipher key salt bit (x % 2 ^ 31) (take 8 plain) (drop 8 plain) ++ e_and_index bit (x % 2 ^ 31) in
     let code = take 10 (hmac_of authentication other) in
     let all_of : text ++ tag ≡ bytes = ap (λ w. w ++ tag) front ∙ ap (λ w. take (length bytes - 10) bytes ++ w) back ∙ take-append-drop (length bytes - 10) bytes in
     let size : length code ≡ length tag = length-tag authentication other ∙ sym (ap length back ∙ omega (arith, length-drop (length bytes - 10) bytes)) in
@@ -163,18 +164,18 @@ rtcp_code keystream key authentication salt bytes text tag plain room front back
     let same : other ≡ text = front_of other text code tag size all in
     sym (back_of other text code tag size all) ∙ ap (λ w. take 10 (hmac_of authentication w)) same
 
-pub rest_len : (keystream : List ℕ → List ℕ → ℕ → ℕ) (key salt header rest : List ℕ) (bit : Bool) (index : ℕ) → length (cm_rest keystream key salt bit index header rest) ≡ length rest
-rest_len keystream key salt header rest true index = length-streamed (keystream key (cm_iv salt (sender_of header) index)) rest
-rest_len keystream key salt header rest false index = refl
+pub rest_len : (cipher : CipherMeaning) (key salt header rest : List ℕ) (bit : Bool) (index : ℕ) → length (cm_rest cipher key salt bit index header rest) ≡ length rest
+rest_len cipher key salt header rest true index = length-streamed (cipher.keystream key (cm_iv salt (sender_of header) index)) rest
+rest_len cipher key salt header rest false index = refl
 
 pub four : (bit : Bool) (index : ℕ) → length (e_and_index bit index) ≡ 4
 four true index = refl
 four false index = refl
 
-pub rtcp_short : (keystream : List ℕ → List ℕ → ℕ → ℕ) (key authentication salt bytes plain : List ℕ) → length bytes < 22 → CmRtcpOpens keystream key authentication salt bytes plain → ⊥
-rtcp_short keystream key authentication salt bytes plain h o =
+pub rtcp_short : (cipher : CipherMeaning) (key authentication salt bytes plain : List ℕ) → length bytes < 22 → CmRtcpOpens cipher key authentication salt bytes plain → ⊥
+rtcp_short cipher key authentication salt bytes plain h o =
     let x = from_be_bytes w32 (drop (length bytes - 14) bytes) in
     let bit = nat_le (2 ^ 31) x in
-    let rest = cm_rest keystream key salt bit (x % 2 ^ 31) (take 8 plain) (drop 8 plain) in
+    let rest = cm_rest cipher key salt bit (x % 2 ^ 31) (take 8 plain) (drop 8 plain) in
     let other = take 8 plain ++ rest ++ e_and_index bit (x % 2 ^ 31) in
     omega (arith, ap length o.seal, o.header, length-append other (take 10 (hmac_of authentication other)), length-tag authentication other, length-append (take 8 plain ++ rest) (e_and_index bit (x % 2 ^ 31)), four bit (x % 2 ^ 31), length-append (take 8 plain) rest, length-take 8 plain)

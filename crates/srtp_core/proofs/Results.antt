@@ -1,6 +1,7 @@
 -- What is known of the values inside a result.
 use Rattle.std.proofs.Common.{ℕ, List}
 use Rattle.std.specs.Prelude.{Option, Some, None, Result, Ok, Err, IfOk, IfSome, IfNone}
+use Rattle.srtp_core.specs.Cipher.{CipherMeaning}
 use Rattle.srtp_core.specs.Keys.{SessionKeys}
 use Rattle.srtp_core.specs.RtcpSeals.{sealed_rtcp, stated_word, RtcpOpensTo, GcmRtcpOpens}
 use Rattle.srtp_core.specs.CmSeals.{CmRtcpOpens}
@@ -16,26 +17,26 @@ none_along A B (Err e) f h = h
 none_along A B (Ok None) f h = f h
 none_along A B (Ok (Some v)) f h = h
 
-pub opens_128 : (keystream : List ℕ → List ℕ → ℕ → ℕ) (aead : List ℕ → List ℕ → List ℕ → List ℕ → List ℕ) (keys : SessionKeys) (bytes plain : List ℕ) → GcmRtcpOpens aead keys.rtcp_key keys.rtcp_salt bytes plain → RtcpOpensTo keystream aead AeadAes128Gcm keys bytes plain
+pub opens_128 : (cipher : CipherMeaning) (keys : SessionKeys) (bytes plain : List ℕ) → GcmRtcpOpens cipher keys.rtcp_key keys.rtcp_salt bytes plain → RtcpOpensTo cipher AeadAes128Gcm keys bytes plain
 unfolding sealed_rtcp stated_word
-opens_128 keystream aead keys bytes plain o = record { header = o.header; seal = o.seal }
+opens_128 cipher keys bytes plain o = record { header = o.header; seal = o.seal }
 
-pub of_128 : (keystream : List ℕ → List ℕ → ℕ → ℕ) (aead : List ℕ → List ℕ → List ℕ → List ℕ → List ℕ) (keys : SessionKeys) (bytes plain : List ℕ) → RtcpOpensTo keystream aead AeadAes128Gcm keys bytes plain → GcmRtcpOpens aead keys.rtcp_key keys.rtcp_salt bytes plain
+pub of_128 : (cipher : CipherMeaning) (keys : SessionKeys) (bytes plain : List ℕ) → RtcpOpensTo cipher AeadAes128Gcm keys bytes plain → GcmRtcpOpens cipher keys.rtcp_key keys.rtcp_salt bytes plain
 unfolding sealed_rtcp stated_word
-of_128 keystream aead keys bytes plain o = record { header = o.header; seal = o.seal }
+of_128 cipher keys bytes plain o = record { header = o.header; seal = o.seal }
 
-pub opens_256 : (keystream : List ℕ → List ℕ → ℕ → ℕ) (aead : List ℕ → List ℕ → List ℕ → List ℕ → List ℕ) (keys : SessionKeys) (bytes plain : List ℕ) → GcmRtcpOpens aead keys.rtcp_key keys.rtcp_salt bytes plain → RtcpOpensTo keystream aead AeadAes256Gcm keys bytes plain
+pub opens_256 : (cipher : CipherMeaning) (keys : SessionKeys) (bytes plain : List ℕ) → GcmRtcpOpens cipher keys.rtcp_key keys.rtcp_salt bytes plain → RtcpOpensTo cipher AeadAes256Gcm keys bytes plain
 unfolding sealed_rtcp stated_word
-opens_256 keystream aead keys bytes plain o = record { header = o.header; seal = o.seal }
+opens_256 cipher keys bytes plain o = record { header = o.header; seal = o.seal }
 
-pub of_256 : (keystream : List ℕ → List ℕ → ℕ → ℕ) (aead : List ℕ → List ℕ → List ℕ → List ℕ → List ℕ) (keys : SessionKeys) (bytes plain : List ℕ) → RtcpOpensTo keystream aead AeadAes256Gcm keys bytes plain → GcmRtcpOpens aead keys.rtcp_key keys.rtcp_salt bytes plain
+pub of_256 : (cipher : CipherMeaning) (keys : SessionKeys) (bytes plain : List ℕ) → RtcpOpensTo cipher AeadAes256Gcm keys bytes plain → GcmRtcpOpens cipher keys.rtcp_key keys.rtcp_salt bytes plain
 unfolding sealed_rtcp stated_word
-of_256 keystream aead keys bytes plain o = record { header = o.header; seal = o.seal }
+of_256 cipher keys bytes plain o = record { header = o.header; seal = o.seal }
 
-pub opens_cm : (keystream : List ℕ → List ℕ → ℕ → ℕ) (aead : List ℕ → List ℕ → List ℕ → List ℕ → List ℕ) (keys : SessionKeys) (bytes plain : List ℕ) → CmRtcpOpens keystream keys.rtcp_key keys.rtcp_authentication keys.rtcp_salt bytes plain → RtcpOpensTo keystream aead Aes128CmSha1_80 keys bytes plain
+pub opens_cm : (cipher : CipherMeaning) (keys : SessionKeys) (bytes plain : List ℕ) → CmRtcpOpens cipher keys.rtcp_key keys.rtcp_authentication keys.rtcp_salt bytes plain → RtcpOpensTo cipher Aes128CmSha1_80 keys bytes plain
 unfolding sealed_rtcp stated_word
-opens_cm keystream aead keys bytes plain o = record { header = o.header; seal = o.seal }
+opens_cm cipher keys bytes plain o = record { header = o.header; seal = o.seal }
 
-pub of_cm : (keystream : List ℕ → List ℕ → ℕ → ℕ) (aead : List ℕ → List ℕ → List ℕ → List ℕ → List ℕ) (keys : SessionKeys) (bytes plain : List ℕ) → RtcpOpensTo keystream aead Aes128CmSha1_80 keys bytes plain → CmRtcpOpens keystream keys.rtcp_key keys.rtcp_authentication keys.rtcp_salt bytes plain
+pub of_cm : (cipher : CipherMeaning) (keys : SessionKeys) (bytes plain : List ℕ) → RtcpOpensTo cipher Aes128CmSha1_80 keys bytes plain → CmRtcpOpens cipher keys.rtcp_key keys.rtcp_authentication keys.rtcp_salt bytes plain
 unfolding sealed_rtcp stated_word
-of_cm keystream aead keys bytes plain o = record { header = o.header; seal = o.seal }
+of_cm cipher keys bytes plain o = record { header = o.header; seal = o.seal }

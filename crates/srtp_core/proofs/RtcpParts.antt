@@ -7,6 +7,7 @@ use Rattle.std.proofs.lemmas.Bool.{le-leb}
 use Rattle.std.proofs.lemmas.Bool.Decides.{nat_tests}
 use Rattle.std.proofs.lemmas.List.{take_at, length-take, length-drop, length-append, take-append-drop, get_or-drop}
 use Rattle.std.proofs.lemmas.Grind.{common_steps}
+use Rattle.srtp_core.specs.Cipher.{CipherMeaning}
 use Rattle.srtp_core.specs.Seals.{gcm_rtcp_iv}
 use Rattle.srtp_core.specs.RtcpSeals.{e_and_index, sender_of, gcm_sealed_rtcp, GcmRtcpOpens}
 use Rattle.srtp_core.proofs.Lists.{front_same, back_same, front_of, back_of}
@@ -19,21 +20,21 @@ pub word_false : (bytes : List ℕ) (w : ℕ) → length bytes ≡ 4 → ((i : �
 word_false bytes w long small is low = ap (to_be_bytes w32) (omega arith) ∙ be_bytes_4 bytes w long small is
 
 -- encrypted: what opens
-pub encrypted_some : (aead : List ℕ → List ℕ → List ℕ → List ℕ → List ℕ) (key salt header body word v bytes : List ℕ) (index : ℕ)
+pub encrypted_some : (cipher : CipherMeaning) (key salt header body word v bytes : List ℕ) (index : ℕ)
     → length header ≡ 8 → e_and_index true index ≡ word → header ++ body ++ word ≡ bytes → v ≡ header ++ drop 8 v
-    → aead key (gcm_rtcp_iv salt (sender_of header) index) (header ++ word) (drop 8 v) ≡ body
-    → gcm_sealed_rtcp aead key salt true index (take 8 v) (drop 8 v) ≡ bytes
-encrypted_some aead key salt header body word v bytes index long is parts made opened =
+    → cipher.aead key (gcm_rtcp_iv salt (sender_of header) index) (header ++ word) (drop 8 v) ≡ body
+    → gcm_sealed_rtcp cipher key salt true index (take 8 v) (drop 8 v) ≡ bytes
+encrypted_some cipher key salt header body word v bytes index long is parts made opened =
     let front : take 8 v ≡ header = ap (take 8) made ∙ take_at header (drop 8 v) 8 long in
     rw (front, is, opened, parts) refl
 
 -- encrypted: what has to open
-pub encrypted_none : (aead : List ℕ → List ℕ → List ℕ → List ℕ → List ℕ) (key salt header body word bytes plain : List ℕ) (index : ℕ)
+pub encrypted_none : (cipher : CipherMeaning) (key salt header body word bytes plain : List ℕ) (index : ℕ)
     → length header ≡ 8 → e_and_index true index ≡ word → header ++ body ++ word ≡ bytes → 8 ≤ length plain
-    → gcm_sealed_rtcp aead key salt true index (take 8 plain) (drop 8 plain) ≡ bytes
-    → aead key (gcm_rtcp_iv salt (sender_of header) index) (header ++ word) (drop 8 plain) ≡ body
-encrypted_none aead key salt header body word bytes plain index long is parts size seal =
-    let text = aead key (gcm_rtcp_iv salt (sender_of (take 8 plain)) index) (take 8 plain ++ e_and_index true index) (drop 8 plain) in
+    → gcm_sealed_rtcp cipher key salt true index (take 8 plain) (drop 8 plain) ≡ bytes
+    → cipher.aead key (gcm_rtcp_iv salt (sender_of header) index) (header ++ word) (drop 8 plain) ≡ body
+encrypted_none cipher key salt header body word bytes plain index long is parts size seal =
+    let text = cipher.aead key (gcm_rtcp_iv salt (sender_of (take 8 plain)) index) (take 8 plain ++ e_and_index true index) (drop 8 plain) in
     let all : take 8 plain ++ text ++ e_and_index true index ≡ header ++ body ++ word = seal ∙ sym parts in
     let same : take 8 plain ++ text ≡ header ++ body = front_of (take 8 plain ++ text) (header ++ body) (e_and_index true index) word (ap length is) all in
     let short : length (take 8 plain) ≡ length header = omega (arith, length-take 8 plain) in
@@ -42,22 +43,22 @@ encrypted_none aead key salt header body word bytes plain index long is parts si
     rw (← front, ← is, back) refl
 
 -- not encrypted: what opens
-pub clear_some : (aead : List ℕ → List ℕ → List ℕ → List ℕ → List ℕ) (key salt plain tag word bytes : List ℕ) (index : ℕ)
+pub clear_some : (cipher : CipherMeaning) (key salt plain tag word bytes : List ℕ) (index : ℕ)
     → e_and_index false index ≡ word → plain ++ tag ++ word ≡ bytes
-    → aead key (gcm_rtcp_iv salt (sender_of (take 8 plain)) index) (plain ++ word) [] ≡ tag
-    → gcm_sealed_rtcp aead key salt false index (take 8 plain) (drop 8 plain) ≡ bytes
-clear_some aead key salt plain tag word bytes index is parts opened =
+    → cipher.aead key (gcm_rtcp_iv salt (sender_of (take 8 plain)) index) (plain ++ word) [] ≡ tag
+    → gcm_sealed_rtcp cipher key salt false index (take 8 plain) (drop 8 plain) ≡ bytes
+clear_some cipher key salt plain tag word bytes index is parts opened =
     rw (take-append-drop 8 plain, is, opened, parts) refl
 
 -- not encrypted: what has to open
-pub clear_none : (aead : List ℕ → List ℕ → List ℕ → List ℕ → List ℕ) → ((key iv aad p : List ℕ) → length (aead key iv aad p) ≡ length p + 16)
+pub clear_none : (cipher : CipherMeaning) → ((key iv aad p : List ℕ) → length (cipher.aead key iv aad p) ≡ length p + 16)
     → (key salt plain tag word bytes other : List ℕ) (index : ℕ)
     → length tag ≡ 16 → e_and_index false index ≡ word → plain ++ tag ++ word ≡ bytes
-    → gcm_sealed_rtcp aead key salt false index (take 8 other) (drop 8 other) ≡ bytes
-    → (other ≡ plain) × (aead key (gcm_rtcp_iv salt (sender_of (take 8 plain)) index) (plain ++ word) [] ≡ tag)
-clear_none aead longer key salt plain tag word bytes other index long is parts seal =
-    let code = aead key (gcm_rtcp_iv salt (sender_of (take 8 other)) index) (other ++ e_and_index false index) [] in
-    let whole : gcm_sealed_rtcp aead key salt false index (take 8 other) (drop 8 other) ≡ other ++ code ++ e_and_index false index =
+    → gcm_sealed_rtcp cipher key salt false index (take 8 other) (drop 8 other) ≡ bytes
+    → (other ≡ plain) × (cipher.aead key (gcm_rtcp_iv salt (sender_of (take 8 plain)) index) (plain ++ word) [] ≡ tag)
+clear_none cipher longer key salt plain tag word bytes other index long is parts seal =
+    let code = cipher.aead key (gcm_rtcp_iv salt (sender_of (take 8 other)) index) (other ++ e_and_index false index) [] in
+    let whole : gcm_sealed_rtcp cipher key salt false index (take 8 other) (drop 8 other) ≡ other ++ code ++ e_and_index false index =
     rw (take-append-drop 8 other) refl in
     let all : other ++ code ++ e_and_index false index ≡ plain ++ tag ++ word = sym whole ∙ seal ∙ sym parts in
     let same : other ++ code ≡ plain ++ tag = front_of (other ++ code) (plain ++ tag) (e_and_index false index) word (ap length is) all in
@@ -67,18 +68,18 @@ clear_none aead longer key salt plain tag word bytes other index long is parts s
     (front, rw (← front, ← is, back) refl)
 
 -- a sealed packet is 20 bytes longer
-pub gcm_rtcp_longer : (aead : List ℕ → List ℕ → List ℕ → List ℕ → List ℕ) → ((key iv aad p : List ℕ) → length (aead key iv aad p) ≡ length p + 16)
-    → (key salt plain : List ℕ) (encrypted : Bool) (index : ℕ) → length (gcm_sealed_rtcp aead key salt encrypted index (take 8 plain) (drop 8 plain)) ≡ length plain + 20
-gcm_rtcp_longer aead longer key salt plain true index =
+pub gcm_rtcp_longer : (cipher : CipherMeaning) → ((key iv aad p : List ℕ) → length (cipher.aead key iv aad p) ≡ length p + 16)
+    → (key salt plain : List ℕ) (encrypted : Bool) (index : ℕ) → length (gcm_sealed_rtcp cipher key salt encrypted index (take 8 plain) (drop 8 plain)) ≡ length plain + 20
+gcm_rtcp_longer cipher longer key salt plain true index =
     let iv = gcm_rtcp_iv salt (sender_of (take 8 plain)) index in
     let word = e_and_index true index in
     let aad = take 8 plain ++ word in
-    omega (arith, length-append (take 8 plain ++ aead key iv aad (drop 8 plain)) word, length-append (take 8 plain) (aead key iv aad (drop 8 plain)), longer key iv aad (drop 8 plain), length-append (take 8 plain) (drop 8 plain), ap length (take-append-drop 8 plain))
-gcm_rtcp_longer aead longer key salt plain false index =
+    omega (arith, length-append (take 8 plain ++ cipher.aead key iv aad (drop 8 plain)) word, length-append (take 8 plain) (cipher.aead key iv aad (drop 8 plain)), longer key iv aad (drop 8 plain), length-append (take 8 plain) (drop 8 plain), ap length (take-append-drop 8 plain))
+gcm_rtcp_longer cipher longer key salt plain false index =
     let iv = gcm_rtcp_iv salt (sender_of (take 8 plain)) index in
     let word = e_and_index false index in
     let aad = take 8 plain ++ drop 8 plain ++ word in
-    omega (arith, length-append (take 8 plain ++ drop 8 plain ++ aead key iv aad []) word, length-append (take 8 plain ++ drop 8 plain) (aead key iv aad []), longer key iv aad [], ap length (take-append-drop 8 plain))
+    omega (arith, length-append (take 8 plain ++ drop 8 plain ++ cipher.aead key iv aad []) word, length-append (take 8 plain ++ drop 8 plain) (cipher.aead key iv aad []), longer key iv aad [], ap length (take-append-drop 8 plain))
 
 -- the facts of a datagram of at least 28 bytes, split before its last 4
 pub record Split (bytes sealed word : List ℕ) (w : ℕ) : Type 0 where
@@ -110,11 +111,11 @@ whole bytes sealed word a b w n s p q =
     ∙ ap (λ x. x ++ word) s.front ∙ ap (λ x. take (length bytes - 4) bytes ++ x) s.back ∙ take-append-drop (length bytes - 4) bytes
 
 -- the seal under what is stated is that under these
-under : (aead : List ℕ → List ℕ → List ℕ → List ℕ → List ℕ) (key salt bytes sealed word plain : List ℕ) (w : ℕ) (bit : Bool) → Split bytes sealed word w → nat_le (2 ^ 31) w ≡ bit
-    → (let x = from_be_bytes w32 (drop (length bytes - 4) bytes) in gcm_sealed_rtcp aead key salt (nat_le (2 ^ 31) x) (x % 2 ^ 31) (take 8 plain) (drop 8 plain)) ≡ gcm_sealed_rtcp aead key salt bit (w % 2 ^ 31) (take 8 plain) (drop 8 plain)
-under aead key salt bytes sealed word plain w bit s e =
-    ap (λ x. gcm_sealed_rtcp aead key salt (nat_le (2 ^ 31) x) (x % 2 ^ 31) (take 8 plain) (drop 8 plain)) (stated bytes sealed word w s)
-    ∙ ap (λ b. gcm_sealed_rtcp aead key salt b (w % 2 ^ 31) (take 8 plain) (drop 8 plain)) e
+under : (cipher : CipherMeaning) (key salt bytes sealed word plain : List ℕ) (w : ℕ) (bit : Bool) → Split bytes sealed word w → nat_le (2 ^ 31) w ≡ bit
+    → (let x = from_be_bytes w32 (drop (length bytes - 4) bytes) in gcm_sealed_rtcp cipher key salt (nat_le (2 ^ 31) x) (x % 2 ^ 31) (take 8 plain) (drop 8 plain)) ≡ gcm_sealed_rtcp cipher key salt bit (w % 2 ^ 31) (take 8 plain) (drop 8 plain)
+under cipher key salt bytes sealed word plain w bit s e =
+    ap (λ x. gcm_sealed_rtcp cipher key salt (nat_le (2 ^ 31) x) (x % 2 ^ 31) (take 8 plain) (drop 8 plain)) (stated bytes sealed word w s)
+    ∙ ap (λ b. gcm_sealed_rtcp cipher key salt b (w % 2 ^ 31) (take 8 plain) (drop 8 plain)) e
 
 word_high : (bytes sealed word : List ℕ) (w : ℕ) → Split bytes sealed word w → 2 ^ 31 ≤ w → e_and_index true (w % 2 ^ 31) ≡ word
 word_high bytes sealed word w s h = word_true word w (word_len bytes sealed word w s) s.small s.is s.fits h
@@ -125,62 +126,62 @@ word_low bytes sealed word w s h = word_false word w (word_len bytes sealed word
 header_len : (bytes sealed word header : List ℕ) (w : ℕ) → Split bytes sealed word w → header ≡ take 8 sealed → length header ≡ 8
 header_len bytes sealed word header w s p = omega (arith, ap length p, length-take 8 sealed, ap length s.front, length-take (length bytes - 4) bytes, s.size)
 
-pub encrypted_opens : {V E : Type 0} (items : V → List ℕ) (aead : List ℕ → List ℕ → List ℕ → List ℕ → List ℕ) (key salt bytes sealed word header body : List ℕ) (w : ℕ) (r : Result (Option V) E)
+pub encrypted_opens : {V E : Type 0} (items : V → List ℕ) (cipher : CipherMeaning) (key salt bytes sealed word header body : List ℕ) (w : ℕ) (r : Result (Option V) E)
     → Split bytes sealed word w → header ≡ take 8 sealed → body ≡ drop 8 sealed → 2 ^ 31 ≤ w
     → IfOk r (λ o. IfSome o (λ v. items v ≡ header ++ drop 8 (items v)))
-    → IfOk r (λ o. IfSome o (λ v. aead key (gcm_rtcp_iv salt (sender_of header) (w % 2 ^ 31)) (header ++ word) (drop 8 (items v)) ≡ body))
-    → IfOk r (λ o. IfSome o (λ v. GcmRtcpOpens aead key salt bytes (items v)))
-encrypted_opens items aead key salt bytes sealed word header body w (Err e) s p q h a b = a
-encrypted_opens items aead key salt bytes sealed word header body w (Ok None) s p q h a b = a
-encrypted_opens items aead key salt bytes sealed word header body w (Ok (Some v)) s p q h a b =
+    → IfOk r (λ o. IfSome o (λ v. cipher.aead key (gcm_rtcp_iv salt (sender_of header) (w % 2 ^ 31)) (header ++ word) (drop 8 (items v)) ≡ body))
+    → IfOk r (λ o. IfSome o (λ v. GcmRtcpOpens cipher key salt bytes (items v)))
+encrypted_opens items cipher key salt bytes sealed word header body w (Err e) s p q h a b = a
+encrypted_opens items cipher key salt bytes sealed word header body w (Ok None) s p q h a b = a
+encrypted_opens items cipher key salt bytes sealed word header body w (Ok (Some v)) s p q h a b =
     let long : length header ≡ 8 = header_len bytes sealed word header w s p in
     record {
       header = omega (arith, ap length a, length-append header (drop 8 (items v)), long);
-      seal = under aead key salt bytes sealed word (items v) w true s (le-leb (2 ^ 31) w h)
-          ∙ encrypted_some aead key salt header body word (items v) bytes (w % 2 ^ 31) long (word_high bytes sealed word w s h) (whole bytes sealed word header body w 8 s p q) a b;
+      seal = under cipher key salt bytes sealed word (items v) w true s (le-leb (2 ^ 31) w h)
+          ∙ encrypted_some cipher key salt header body word (items v) bytes (w % 2 ^ 31) long (word_high bytes sealed word w s h) (whole bytes sealed word header body w 8 s p q) a b;
     }
 
-pub encrypted_opens_not : {V E : Type 0} (aead : List ℕ → List ℕ → List ℕ → List ℕ → List ℕ) (key salt bytes sealed word header body : List ℕ) (w : ℕ) (r : Result (Option V) E)
+pub encrypted_opens_not : {V E : Type 0} (cipher : CipherMeaning) (key salt bytes sealed word header body : List ℕ) (w : ℕ) (r : Result (Option V) E)
     → Split bytes sealed word w → header ≡ take 8 sealed → body ≡ drop 8 sealed → 2 ^ 31 ≤ w
-    → IfOk r (λ o. IfNone o ((rest : List ℕ) → aead key (gcm_rtcp_iv salt (sender_of header) (w % 2 ^ 31)) (header ++ word) rest ≡ body → ⊥))
-    → IfOk r (λ o. IfNone o ((x : List ℕ) → GcmRtcpOpens aead key salt bytes x → ⊥))
-encrypted_opens_not aead key salt bytes sealed word header body w (Err e) s p q h a = a
-encrypted_opens_not aead key salt bytes sealed word header body w (Ok None) s p q h a =
-    λ x o. a (drop 8 x) (encrypted_none aead key salt header body word bytes x (w % 2 ^ 31) (header_len bytes sealed word header w s p) (word_high bytes sealed word w s h) (whole bytes sealed word header body w 8 s p q) o.header
-    (sym (under aead key salt bytes sealed word x w true s (le-leb (2 ^ 31) w h)) ∙ o.seal))
-encrypted_opens_not aead key salt bytes sealed word header body w (Ok (Some v)) s p q h a = a
+    → IfOk r (λ o. IfNone o ((rest : List ℕ) → cipher.aead key (gcm_rtcp_iv salt (sender_of header) (w % 2 ^ 31)) (header ++ word) rest ≡ body → ⊥))
+    → IfOk r (λ o. IfNone o ((x : List ℕ) → GcmRtcpOpens cipher key salt bytes x → ⊥))
+encrypted_opens_not cipher key salt bytes sealed word header body w (Err e) s p q h a = a
+encrypted_opens_not cipher key salt bytes sealed word header body w (Ok None) s p q h a =
+    λ x o. a (drop 8 x) (encrypted_none cipher key salt header body word bytes x (w % 2 ^ 31) (header_len bytes sealed word header w s p) (word_high bytes sealed word w s h) (whole bytes sealed word header body w 8 s p q) o.header
+    (sym (under cipher key salt bytes sealed word x w true s (le-leb (2 ^ 31) w h)) ∙ o.seal))
+encrypted_opens_not cipher key salt bytes sealed word header body w (Ok (Some v)) s p q h a = a
 
 not_high : (w : ℕ) → w < 2 ^ 31 → nat_le (2 ^ 31) w ≡ false
 not_high w h = grind (arith, nat_tests)
 
-pub clear_opens : {V E : Type 0} (items : V → List ℕ) (aead : List ℕ → List ℕ → List ℕ → List ℕ → List ℕ) (key salt bytes sealed word plain tag : List ℕ) (w n : ℕ) (r : Result (Option V) E)
+pub clear_opens : {V E : Type 0} (items : V → List ℕ) (cipher : CipherMeaning) (key salt bytes sealed word plain tag : List ℕ) (w n : ℕ) (r : Result (Option V) E)
     → Split bytes sealed word w → plain ≡ take n sealed → tag ≡ drop n sealed → 8 ≤ length plain → w < 2 ^ 31
     → IfOk r (λ o. IfSome o (λ v. items v ≡ plain))
-    → IfOk r (λ o. IfSome o (λ _. aead key (gcm_rtcp_iv salt (sender_of (take 8 plain)) (w % 2 ^ 31)) (plain ++ word) [] ≡ tag))
-    → IfOk r (λ o. IfSome o (λ v. GcmRtcpOpens aead key salt bytes (items v)))
-clear_opens items aead key salt bytes sealed word plain tag w n (Err e) s p q long h a b = a
-clear_opens items aead key salt bytes sealed word plain tag w n (Ok None) s p q long h a b = a
-clear_opens items aead key salt bytes sealed word plain tag w n (Ok (Some v)) s p q long h a b =
+    → IfOk r (λ o. IfSome o (λ _. cipher.aead key (gcm_rtcp_iv salt (sender_of (take 8 plain)) (w % 2 ^ 31)) (plain ++ word) [] ≡ tag))
+    → IfOk r (λ o. IfSome o (λ v. GcmRtcpOpens cipher key salt bytes (items v)))
+clear_opens items cipher key salt bytes sealed word plain tag w n (Err e) s p q long h a b = a
+clear_opens items cipher key salt bytes sealed word plain tag w n (Ok None) s p q long h a b = a
+clear_opens items cipher key salt bytes sealed word plain tag w n (Ok (Some v)) s p q long h a b =
     record {
       header = omega (arith, ap length a);
-      seal = under aead key salt bytes sealed word (items v) w false s (not_high w h)
-          ∙ ap (λ x. gcm_sealed_rtcp aead key salt false (w % 2 ^ 31) (take 8 x) (drop 8 x)) a
-          ∙ clear_some aead key salt plain tag word bytes (w % 2 ^ 31) (word_low bytes sealed word w s h) (whole bytes sealed word plain tag w n s p q) b;
+      seal = under cipher key salt bytes sealed word (items v) w false s (not_high w h)
+          ∙ ap (λ x. gcm_sealed_rtcp cipher key salt false (w % 2 ^ 31) (take 8 x) (drop 8 x)) a
+          ∙ clear_some cipher key salt plain tag word bytes (w % 2 ^ 31) (word_low bytes sealed word w s h) (whole bytes sealed word plain tag w n s p q) b;
     }
 
-pub clear_opens_not : {V E : Type 0} (aead : List ℕ → List ℕ → List ℕ → List ℕ → List ℕ) → ((key iv aad p : List ℕ) → length (aead key iv aad p) ≡ length p + 16)
+pub clear_opens_not : {V E : Type 0} (cipher : CipherMeaning) → ((key iv aad p : List ℕ) → length (cipher.aead key iv aad p) ≡ length p + 16)
     → (key salt bytes sealed word plain tag : List ℕ) (w n : ℕ) (r : Result (Option V) E)
     → Split bytes sealed word w → plain ≡ take n sealed → tag ≡ drop n sealed → length tag ≡ 16 → w < 2 ^ 31
-    → IfOk r (λ o. IfNone o (aead key (gcm_rtcp_iv salt (sender_of (take 8 plain)) (w % 2 ^ 31)) (plain ++ word) [] ≡ tag → ⊥))
-    → IfOk r (λ o. IfNone o ((x : List ℕ) → GcmRtcpOpens aead key salt bytes x → ⊥))
-clear_opens_not aead longer key salt bytes sealed word plain tag w n (Err e) s p q long h a = a
-clear_opens_not aead longer key salt bytes sealed word plain tag w n (Ok None) s p q long h a =
-    λ x o. a ((clear_none aead longer key salt plain tag word bytes x (w % 2 ^ 31) long (word_low bytes sealed word w s h) (whole bytes sealed word plain tag w n s p q)
-    (sym (under aead key salt bytes sealed word x w false s (not_high w h)) ∙ o.seal)).1)
-clear_opens_not aead longer key salt bytes sealed word plain tag w n (Ok (Some v)) s p q long h a = a
+    → IfOk r (λ o. IfNone o (cipher.aead key (gcm_rtcp_iv salt (sender_of (take 8 plain)) (w % 2 ^ 31)) (plain ++ word) [] ≡ tag → ⊥))
+    → IfOk r (λ o. IfNone o ((x : List ℕ) → GcmRtcpOpens cipher key salt bytes x → ⊥))
+clear_opens_not cipher longer key salt bytes sealed word plain tag w n (Err e) s p q long h a = a
+clear_opens_not cipher longer key salt bytes sealed word plain tag w n (Ok None) s p q long h a =
+    λ x o. a ((clear_none cipher longer key salt plain tag word bytes x (w % 2 ^ 31) long (word_low bytes sealed word w s h) (whole bytes sealed word plain tag w n s p q)
+    (sym (under cipher key salt bytes sealed word x w false s (not_high w h)) ∙ o.seal)).1)
+clear_opens_not cipher longer key salt bytes sealed word plain tag w n (Ok (Some v)) s p q long h a = a
 
-pub short_opens_not : (aead : List ℕ → List ℕ → List ℕ → List ℕ → List ℕ) → ((key iv aad p : List ℕ) → length (aead key iv aad p) ≡ length p + 16)
-    → (key salt bytes : List ℕ) → length bytes < 28 → (x : List ℕ) → GcmRtcpOpens aead key salt bytes x → ⊥
-short_opens_not aead longer key salt bytes h x o =
+pub short_opens_not : (cipher : CipherMeaning) → ((key iv aad p : List ℕ) → length (cipher.aead key iv aad p) ≡ length p + 16)
+    → (key salt bytes : List ℕ) → length bytes < 28 → (x : List ℕ) → GcmRtcpOpens cipher key salt bytes x → ⊥
+short_opens_not cipher longer key salt bytes h x o =
     let w = from_be_bytes w32 (drop (length bytes - 4) bytes) in
-    omega (arith, gcm_rtcp_longer aead longer key salt x (nat_le (2 ^ 31) w) (w % 2 ^ 31), ap length o.seal, o.header)
+    omega (arith, gcm_rtcp_longer cipher longer key salt x (nat_le (2 ^ 31) w) (w % 2 ^ 31), ap length o.seal, o.header)

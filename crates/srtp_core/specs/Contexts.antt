@@ -1,5 +1,6 @@
 -- What is seen of a context.
 use Rattle.std.specs.Prelude.{ℕ, Bool, List}
+use Rattle.srtp_core.specs.Cipher.{CipherMeaning}
 use Rattle.srtp_core.specs.Keys.{SessionKeys, session_keys}
 use Rattle.srtp_core.specs.declared.profile.SrtpProfile.{SrtpProfile}
 
@@ -10,9 +11,9 @@ pub record SrtpState : Type 0 where
   pub srtcp_index : ℕ
 
 -- of keying material: the direction in which the left side seals, or the other one
-abbrev pub new_state : (List ℕ → List ℕ → List ℕ) → SrtpProfile → List ℕ → Bool → ℕ → SrtpState
-new_state block profile material left index = record {
+abbrev pub new_state : CipherMeaning → SrtpProfile → List ℕ → Bool → ℕ → SrtpState
+new_state cipher profile material left index = record {
   profile = profile;
-  keys = session_keys block profile material left;
+  keys = session_keys cipher profile material left;
   srtcp_index = index;
 }

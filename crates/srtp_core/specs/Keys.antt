@@ -1,6 +1,7 @@
 -- Keying material, and the session keys derived from it (RFC 3711, 4.3; RFC 7714, 11).
 use Rattle.std.specs.Prelude.{ℕ, ◌+◌, ◌*◌, ◌-◌, Bool, if◌then◌else◌, List, ◌++◌, length, take, drop, replicate, slice_index, slice_set, bit_xor}
 use Rattle.std.specs.Int.{w16, to_be_bytes}
+use Rattle.srtp_core.specs.Cipher.{CipherMeaning}
 use Rattle.media_base.specs.Text.{bytes_by}
 use Rattle.srtp_core.specs.Streams.{blocks_at}
 use Rattle.srtp_core.specs.declared.profile.SrtpProfile.{SrtpProfile}
@@ -59,17 +60,17 @@ pub record SessionKeys : Type 0 where
   pub rtcp_salt : List ℕ
 
 -- from a master key and its salt, with the labels 0 to 5
-abbrev pub keys_of : (List ℕ → List ℕ → List ℕ) → SrtpProfile → List ℕ → List ℕ → SessionKeys
-keys_of block profile key salt = record {
-  rtp_key = derived (block key) salt 0 (key_len profile);
-  rtp_authentication = derived (block key) salt 1 (authentication_len profile);
-  rtp_salt = derived (block key) salt 2 (salt_len profile);
-  rtcp_key = derived (block key) salt 3 (key_len profile);
-  rtcp_authentication = derived (block key) salt 4 (authentication_len profile);
-  rtcp_salt = derived (block key) salt 5 (salt_len profile);
+abbrev pub keys_of : CipherMeaning → SrtpProfile → List ℕ → List ℕ → SessionKeys
+keys_of cipher profile key salt = record {
+  rtp_key = derived (cipher.block key) salt 0 (key_len profile);
+  rtp_authentication = derived (cipher.block key) salt 1 (authentication_len profile);
+  rtp_salt = derived (cipher.block key) salt 2 (salt_len profile);
+  rtcp_key = derived (cipher.block key) salt 3 (key_len profile);
+  rtcp_authentication = derived (cipher.block key) salt 4 (authentication_len profile);
+  rtcp_salt = derived (cipher.block key) salt 5 (salt_len profile);
 }
 
 -- the keys under which the left side, or the right side, seals
-abbrev pub session_keys : (List ℕ → List ℕ → List ℕ) → SrtpProfile → List ℕ → Bool → SessionKeys
-session_keys block profile material left =
-    keys_of block profile (master_key (key_len profile) material left) (master_salt (key_len profile) (salt_len profile) material left)
+abbrev pub session_keys : CipherMeaning → SrtpProfile → List ℕ → Bool → SessionKeys
+session_keys cipher profile material left =
+    keys_of cipher profile (master_key (key_len profile) material left) (master_salt (key_len profile) (salt_len profile) material left)

@@ -1,5 +1,6 @@
 -- Laws of sealed datagrams and of initial values.
 use Rattle.std.specs.Prelude.{ℕ, ◌≡◌, ◌≤◌, ◌<◌, ◌+◌, ◌^◌, Bool, List, length, take, drop}
+use Rattle.srtp_core.specs.Cipher.{CipherMeaning}
 use Rattle.srtp_core.specs.Keys.{SessionKeys, tag_len}
 use Rattle.srtp_core.specs.Seals.{rtp_iv, rtcp_iv, sealed_rtp, OpensTo}
 use Rattle.srtp_core.specs.RtcpSeals.{sealed_rtcp, stated_bit, stated_index, RtcpOpensTo}
@@ -17,59 +18,59 @@ RtcpIvsApart =
     → rtcp_iv profile salt s i ≡ rtcp_iv profile salt t j → (s ≡ t) × (i ≡ j)
 
 -- under one key, SSRC and index no two datagrams are sealed alike
-abbrev pub RtpSealsApart : (List ℕ → List ℕ → ℕ → ℕ) → (List ℕ → List ℕ → List ℕ → List ℕ → List ℕ) → Type 0
-RtpSealsApart keystream aead =
+abbrev pub RtpSealsApart : CipherMeaning → Type 0
+RtpSealsApart cipher =
     (profile : SrtpProfile) (keys : SessionKeys) (ssrc index n : ℕ) (p q : List ℕ) → n ≤ length p → n ≤ length q
-    → sealed_rtp keystream aead profile keys ssrc index n p ≡ sealed_rtp keystream aead profile keys ssrc index n q → p ≡ q
+    → sealed_rtp cipher profile keys ssrc index n p ≡ sealed_rtp cipher profile keys ssrc index n q → p ≡ q
 
 -- a sealed datagram is longer than the plain one by its tag
-abbrev pub RtpSealIsLonger : (List ℕ → List ℕ → ℕ → ℕ) → (List ℕ → List ℕ → List ℕ → List ℕ → List ℕ) → Type 0
-RtpSealIsLonger keystream aead =
+abbrev pub RtpSealIsLonger : CipherMeaning → Type 0
+RtpSealIsLonger cipher =
     (profile : SrtpProfile) (keys : SessionKeys) (ssrc index n : ℕ) (plain : List ℕ) → n ≤ length plain
-    → length (sealed_rtp keystream aead profile keys ssrc index n plain) ≡ length plain + tag_len profile
+    → length (sealed_rtp cipher profile keys ssrc index n plain) ≡ length plain + tag_len profile
 
 -- a datagram opens to one payload at most
-abbrev pub RtpOpensOnce : (List ℕ → List ℕ → ℕ → ℕ) → (List ℕ → List ℕ → List ℕ → List ℕ → List ℕ) → Type 0
-RtpOpensOnce keystream aead =
+abbrev pub RtpOpensOnce : CipherMeaning → Type 0
+RtpOpensOnce cipher =
     (profile : SrtpProfile) (keys : SessionKeys) (ssrc index n : ℕ) (bytes p q : List ℕ)
-    → OpensTo keystream aead profile keys ssrc index n bytes p → OpensTo keystream aead profile keys ssrc index n bytes q → p ≡ q
+    → OpensTo cipher profile keys ssrc index n bytes p → OpensTo cipher profile keys ssrc index n bytes q → p ≡ q
 
 -- what was sealed opens to its payload
-abbrev pub RtpOpensSealed : (List ℕ → List ℕ → ℕ → ℕ) → (List ℕ → List ℕ → List ℕ → List ℕ → List ℕ) → Type 0
-RtpOpensSealed keystream aead =
+abbrev pub RtpOpensSealed : CipherMeaning → Type 0
+RtpOpensSealed cipher =
     (profile : SrtpProfile) (keys : SessionKeys) (ssrc index n : ℕ) (plain : List ℕ) → n ≤ length plain
-    → let bytes = sealed_rtp keystream aead profile keys ssrc index n plain in
-    length bytes ≤ 2000 → OpensTo keystream aead profile keys ssrc index n bytes (drop n plain)
+    → let bytes = sealed_rtp cipher profile keys ssrc index n plain in
+    length bytes ≤ 2000 → OpensTo cipher profile keys ssrc index n bytes (drop n plain)
 
 -- a sealed datagram begins with its header, is no shorter than the plain one, and at most 16 bytes longer
-abbrev pub RtpSealKeepsHeader : (List ℕ → List ℕ → ℕ → ℕ) → (List ℕ → List ℕ → List ℕ → List ℕ → List ℕ) → Type 0
-RtpSealKeepsHeader keystream aead =
+abbrev pub RtpSealKeepsHeader : CipherMeaning → Type 0
+RtpSealKeepsHeader cipher =
     (profile : SrtpProfile) (keys : SessionKeys) (ssrc index n : ℕ) (plain : List ℕ) → n ≤ length plain
-    → let bytes = sealed_rtp keystream aead profile keys ssrc index n plain in
+    → let bytes = sealed_rtp cipher profile keys ssrc index n plain in
     (take n bytes ≡ take n plain) × (length plain ≤ length bytes) × (length bytes ≤ length plain + 16)
 
 -- an SRTCP datagram opens to one packet at most
-abbrev pub RtcpOpensOnce : (List ℕ → List ℕ → ℕ → ℕ) → (List ℕ → List ℕ → List ℕ → List ℕ → List ℕ) → Type 0
-RtcpOpensOnce keystream aead =
+abbrev pub RtcpOpensOnce : CipherMeaning → Type 0
+RtcpOpensOnce cipher =
     (profile : SrtpProfile) (keys : SessionKeys) (bytes p q : List ℕ)
-    → RtcpOpensTo keystream aead profile keys bytes p → RtcpOpensTo keystream aead profile keys bytes q → p ≡ q
+    → RtcpOpensTo cipher profile keys bytes p → RtcpOpensTo cipher profile keys bytes q → p ≡ q
 
 -- an SRTCP datagram that was sealed states its E bit and its index
-abbrev pub RtcpStates : (List ℕ → List ℕ → ℕ → ℕ) → (List ℕ → List ℕ → List ℕ → List ℕ → List ℕ) → Type 0
-RtcpStates keystream aead =
+abbrev pub RtcpStates : CipherMeaning → Type 0
+RtcpStates cipher =
     (profile : SrtpProfile) (keys : SessionKeys) (bit : Bool) (index : ℕ) (plain : List ℕ) → index < 2 ^ 31
-    → let bytes = sealed_rtcp keystream aead profile keys bit index plain in
+    → let bytes = sealed_rtcp cipher profile keys bit index plain in
     (stated_bit profile bytes ≡ bit) × (stated_index profile bytes ≡ index)
 
 -- and opens to its packet
-abbrev pub RtcpOpensSealed : (List ℕ → List ℕ → ℕ → ℕ) → (List ℕ → List ℕ → List ℕ → List ℕ → List ℕ) → Type 0
-RtcpOpensSealed keystream aead =
+abbrev pub RtcpOpensSealed : CipherMeaning → Type 0
+RtcpOpensSealed cipher =
     (profile : SrtpProfile) (keys : SessionKeys) (bit : Bool) (index : ℕ) (plain : List ℕ) → index < 2 ^ 31 → 8 ≤ length plain
-    → RtcpOpensTo keystream aead profile keys (sealed_rtcp keystream aead profile keys bit index plain) plain
+    → RtcpOpensTo cipher profile keys (sealed_rtcp cipher profile keys bit index plain) plain
 
 -- a sealed SRTCP datagram begins with the first 8 bytes of its packet, and is longer by its word and its tag
-abbrev pub RtcpSealKeepsHeader : (List ℕ → List ℕ → ℕ → ℕ) → (List ℕ → List ℕ → List ℕ → List ℕ → List ℕ) → Type 0
-RtcpSealKeepsHeader keystream aead =
+abbrev pub RtcpSealKeepsHeader : CipherMeaning → Type 0
+RtcpSealKeepsHeader cipher =
     (profile : SrtpProfile) (keys : SessionKeys) (bit : Bool) (index : ℕ) (plain : List ℕ) → 8 ≤ length plain
-    → let bytes = sealed_rtcp keystream aead profile keys bit index plain in
+    → let bytes = sealed_rtcp cipher profile keys bit index plain in
     (take 8 bytes ≡ take 8 plain) × (length bytes ≡ length plain + 4 + tag_len profile)

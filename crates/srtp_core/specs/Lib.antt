@@ -1,3 +1,4 @@
+pub mod Cipher
 pub mod Streams
 pub mod StreamLaws
 pub mod Toy

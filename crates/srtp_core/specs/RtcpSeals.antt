@@ -1,6 +1,7 @@
 -- Sealed RTCP packets (RFC 3711, 3.4; RFC 7714, 9 and 17).
 use Rattle.std.specs.Prelude.{ℕ, ◌≡◌, ◌≤◌, ◌+◌, ◌-◌, ◌%◌, ◌^◌, Bool, true, false, nat_le, List, [], ◌++◌, length, take, drop}
 use Rattle.std.specs.Int.{w32, to_be_bytes, from_be_bytes}
+use Rattle.srtp_core.specs.Cipher.{CipherMeaning}
 use Rattle.srtp_core.specs.Streams.{streamed}
 use Rattle.srtp_core.specs.Hmac.{hmac_of}
 use Rattle.srtp_core.specs.Keys.{SessionKeys}
@@ -19,31 +20,31 @@ sender_of header = from_be_bytes w32 (drop 4 header)
 
 -- RFC 7714, 9.2 and 9.3. Encrypted: the first 8 bytes, the rest sealed with these 8 bytes and the word as associated
 -- data, the word. Else: the packet, the tag over packet and word, the word
-abbrev pub gcm_sealed_rtcp : (List ℕ → List ℕ → List ℕ → List ℕ → List ℕ) → List ℕ → List ℕ → Bool → ℕ → List ℕ → List ℕ → List ℕ
-gcm_sealed_rtcp aead key salt true index header rest =
-    header ++ aead key (gcm_rtcp_iv salt (sender_of header) index) (header ++ e_and_index true index) rest ++ e_and_index true index
-gcm_sealed_rtcp aead key salt false index header rest =
-    header ++ rest ++ aead key (gcm_rtcp_iv salt (sender_of header) index) (header ++ rest ++ e_and_index false index) [] ++ e_and_index false index
+abbrev pub gcm_sealed_rtcp : CipherMeaning → List ℕ → List ℕ → Bool → ℕ → List ℕ → List ℕ → List ℕ
+gcm_sealed_rtcp cipher key salt true index header rest =
+    header ++ cipher.aead key (gcm_rtcp_iv salt (sender_of header) index) (header ++ e_and_index true index) rest ++ e_and_index true index
+gcm_sealed_rtcp cipher key salt false index header rest =
+    header ++ rest ++ cipher.aead key (gcm_rtcp_iv salt (sender_of header) index) (header ++ rest ++ e_and_index false index) [] ++ e_and_index false index
 
 -- the rest of a packet as it is sent
-abbrev pub cm_rest : (List ℕ → List ℕ → ℕ → ℕ) → List ℕ → List ℕ → Bool → ℕ → List ℕ → List ℕ → List ℕ
-cm_rest keystream key salt true index header rest = streamed (keystream key (cm_iv salt (sender_of header) index)) rest
-cm_rest keystream key salt false index header rest = rest
+abbrev pub cm_rest : CipherMeaning → List ℕ → List ℕ → Bool → ℕ → List ℕ → List ℕ → List ℕ
+cm_rest cipher key salt true index header rest = streamed (cipher.keystream key (cm_iv salt (sender_of header) index)) rest
+cm_rest cipher key salt false index header rest = rest
 
 -- RFC 3711, 3.4 and 4.2: the first 8 bytes, the rest, the word, and the first 10 bytes of the code over all of these
-abbrev pub cm_sealed_rtcp : (List ℕ → List ℕ → ℕ → ℕ) → List ℕ → List ℕ → List ℕ → Bool → ℕ → List ℕ → List ℕ → List ℕ
-cm_sealed_rtcp keystream key authentication salt encrypted index header rest =
-    let text = header ++ cm_rest keystream key salt encrypted index header rest ++ e_and_index encrypted index in
+abbrev pub cm_sealed_rtcp : CipherMeaning → List ℕ → List ℕ → List ℕ → Bool → ℕ → List ℕ → List ℕ → List ℕ
+cm_sealed_rtcp cipher key authentication salt encrypted index header rest =
+    let text = header ++ cm_rest cipher key salt encrypted index header rest ++ e_and_index encrypted index in
     text ++ take 10 (hmac_of authentication text)
 
-abbrev pub rtcp_seal : (List ℕ → List ℕ → ℕ → ℕ) → (List ℕ → List ℕ → List ℕ → List ℕ → List ℕ) → SrtpProfile → SessionKeys → Bool → ℕ → List ℕ → List ℕ → List ℕ
-rtcp_seal keystream aead Aes128CmSha1_80 keys encrypted index header rest = cm_sealed_rtcp keystream keys.rtcp_key keys.rtcp_authentication keys.rtcp_salt encrypted index header rest
-rtcp_seal keystream aead AeadAes128Gcm keys encrypted index header rest = gcm_sealed_rtcp aead keys.rtcp_key keys.rtcp_salt encrypted index header rest
-rtcp_seal keystream aead AeadAes256Gcm keys encrypted index header rest = gcm_sealed_rtcp aead keys.rtcp_key keys.rtcp_salt encrypted index header rest
+abbrev pub rtcp_seal : CipherMeaning → SrtpProfile → SessionKeys → Bool → ℕ → List ℕ → List ℕ → List ℕ
+rtcp_seal cipher Aes128CmSha1_80 keys encrypted index header rest = cm_sealed_rtcp cipher keys.rtcp_key keys.rtcp_authentication keys.rtcp_salt encrypted index header rest
+rtcp_seal cipher AeadAes128Gcm keys encrypted index header rest = gcm_sealed_rtcp cipher keys.rtcp_key keys.rtcp_salt encrypted index header rest
+rtcp_seal cipher AeadAes256Gcm keys encrypted index header rest = gcm_sealed_rtcp cipher keys.rtcp_key keys.rtcp_salt encrypted index header rest
 
 -- a packet of at least 8 bytes, sealed under its index
-unfoldable pub sealed_rtcp : (List ℕ → List ℕ → ℕ → ℕ) → (List ℕ → List ℕ → List ℕ → List ℕ → List ℕ) → SrtpProfile → SessionKeys → Bool → ℕ → List ℕ → List ℕ
-sealed_rtcp keystream aead profile keys encrypted index plain = rtcp_seal keystream aead profile keys encrypted index (take 8 plain) (drop 8 plain)
+unfoldable pub sealed_rtcp : CipherMeaning → SrtpProfile → SessionKeys → Bool → ℕ → List ℕ → List ℕ
+sealed_rtcp cipher profile keys encrypted index plain = rtcp_seal cipher profile keys encrypted index (take 8 plain) (drop 8 plain)
 
 -- how far before the end the word stands: under counter mode the tag stands behind it
 abbrev pub word_place : SrtpProfile → ℕ
@@ -62,12 +63,12 @@ abbrev pub stated_index : SrtpProfile → List ℕ → ℕ
 stated_index profile bytes = stated_word profile bytes % 2 ^ 31
 
 -- a datagram is the seal of this packet under the E bit and the index that it states
-pub record RtcpOpensTo (keystream : List ℕ → List ℕ → ℕ → ℕ) (aead : List ℕ → List ℕ → List ℕ → List ℕ → List ℕ) (profile : SrtpProfile) (keys : SessionKeys) (bytes plain : List ℕ) : Type 0 where
+pub record RtcpOpensTo (cipher : CipherMeaning) (profile : SrtpProfile) (keys : SessionKeys) (bytes plain : List ℕ) : Type 0 where
   pub header : 8 ≤ length plain
-  pub seal : sealed_rtcp keystream aead profile keys (stated_bit profile bytes) (stated_index profile bytes) plain ≡ bytes
+  pub seal : sealed_rtcp cipher profile keys (stated_bit profile bytes) (stated_index profile bytes) plain ≡ bytes
 
 -- the same with the authenticated encryption alone: the word is the last 4 bytes
-pub record GcmRtcpOpens (aead : List ℕ → List ℕ → List ℕ → List ℕ → List ℕ) (key salt bytes plain : List ℕ) : Type 0 where
+pub record GcmRtcpOpens (cipher : CipherMeaning) (key salt bytes plain : List ℕ) : Type 0 where
   pub header : 8 ≤ length plain
   pub seal : let word = from_be_bytes w32 (drop (length bytes - 4) bytes) in
-      gcm_sealed_rtcp aead key salt (nat_le (2 ^ 31) word) (word % 2 ^ 31) (take 8 plain) (drop 8 plain) ≡ bytes
+      gcm_sealed_rtcp cipher key salt (nat_le (2 ^ 31) word) (word % 2 ^ 31) (take 8 plain) (drop 8 plain) ≡ bytes

@@ -1,6 +1,7 @@
 -- Initial values, and sealed datagrams (RFC 3711, 3.1, 3.4, 4.1.1 and 4.2; RFC 7714, 8 and 9).
 use Rattle.std.specs.Prelude.{ℕ, ◌≡◌, ◌≤◌, ◌/◌, ◌%◌, List, ◌∷◌, ◌++◌, length, take, drop, replicate}
 use Rattle.std.specs.Int.{w16, w32, w64, to_be_bytes}
+use Rattle.srtp_core.specs.Cipher.{CipherMeaning}
 use Rattle.media_base.specs.Text.{xored}
 use Rattle.srtp_core.specs.Streams.{streamed}
 use Rattle.srtp_core.specs.Hmac.{hmac_of}
@@ -43,28 +44,28 @@ abbrev pub cm_rtp_tag : List ℕ → ℕ → List ℕ → List ℕ
 cm_rtp_tag key index text = take 10 (hmac_of key (text ++ to_be_bytes w32 (index / 65536)))
 
 -- RFC 3711, 3.1: the header, the payload XOR the key stream, the tag of both
-abbrev pub cm_sealed_rtp : (List ℕ → List ℕ → ℕ → ℕ) → List ℕ → List ℕ → List ℕ → ℕ → ℕ → List ℕ → List ℕ → List ℕ
-cm_sealed_rtp keystream key authentication salt ssrc index header payload =
-    let text = header ++ streamed (keystream key (cm_iv salt ssrc index)) payload in
+abbrev pub cm_sealed_rtp : CipherMeaning → List ℕ → List ℕ → List ℕ → ℕ → ℕ → List ℕ → List ℕ → List ℕ
+cm_sealed_rtp cipher key authentication salt ssrc index header payload =
+    let text = header ++ streamed (cipher.keystream key (cm_iv salt ssrc index)) payload in
     text ++ cm_rtp_tag authentication index text
 
 -- RFC 7714, 8.2: the header, and the payload sealed with the header as associated data
-abbrev pub gcm_sealed_rtp : (List ℕ → List ℕ → List ℕ → List ℕ → List ℕ) → List ℕ → List ℕ → ℕ → ℕ → List ℕ → List ℕ → List ℕ
-gcm_sealed_rtp aead key salt ssrc index header payload =
-    header ++ aead key (gcm_rtp_iv salt ssrc (index / 65536) (index % 65536)) header payload
+abbrev pub gcm_sealed_rtp : CipherMeaning → List ℕ → List ℕ → ℕ → ℕ → List ℕ → List ℕ → List ℕ
+gcm_sealed_rtp cipher key salt ssrc index header payload =
+    header ++ cipher.aead key (gcm_rtp_iv salt ssrc (index / 65536) (index % 65536)) header payload
 
 -- a header and a payload under the index, which is 65,536 times the rollover count plus the sequence number
-abbrev pub rtp_seal : (List ℕ → List ℕ → ℕ → ℕ) → (List ℕ → List ℕ → List ℕ → List ℕ → List ℕ) → SrtpProfile → SessionKeys → ℕ → ℕ → List ℕ → List ℕ → List ℕ
-rtp_seal keystream aead Aes128CmSha1_80 keys ssrc index header payload = cm_sealed_rtp keystream keys.rtp_key keys.rtp_authentication keys.rtp_salt ssrc index header payload
-rtp_seal keystream aead AeadAes128Gcm keys ssrc index header payload = gcm_sealed_rtp aead keys.rtp_key keys.rtp_salt ssrc index header payload
-rtp_seal keystream aead AeadAes256Gcm keys ssrc index header payload = gcm_sealed_rtp aead keys.rtp_key keys.rtp_salt ssrc index header payload
+abbrev pub rtp_seal : CipherMeaning → SrtpProfile → SessionKeys → ℕ → ℕ → List ℕ → List ℕ → List ℕ
+rtp_seal cipher Aes128CmSha1_80 keys ssrc index header payload = cm_sealed_rtp cipher keys.rtp_key keys.rtp_authentication keys.rtp_salt ssrc index header payload
+rtp_seal cipher AeadAes128Gcm keys ssrc index header payload = gcm_sealed_rtp cipher keys.rtp_key keys.rtp_salt ssrc index header payload
+rtp_seal cipher AeadAes256Gcm keys ssrc index header payload = gcm_sealed_rtp cipher keys.rtp_key keys.rtp_salt ssrc index header payload
 
 -- a datagram whose header is its first n bytes, sealed
-unfoldable pub sealed_rtp : (List ℕ → List ℕ → ℕ → ℕ) → (List ℕ → List ℕ → List ℕ → List ℕ → List ℕ) → SrtpProfile → SessionKeys → ℕ → ℕ → ℕ → List ℕ → List ℕ
-sealed_rtp keystream aead profile keys ssrc index n plain = rtp_seal keystream aead profile keys ssrc index (take n plain) (drop n plain)
+unfoldable pub sealed_rtp : CipherMeaning → SrtpProfile → SessionKeys → ℕ → ℕ → ℕ → List ℕ → List ℕ
+sealed_rtp cipher profile keys ssrc index n plain = rtp_seal cipher profile keys ssrc index (take n plain) (drop n plain)
 
 -- a datagram of at most 2,000 bytes whose header is its first n is the seal of that header and this payload
-pub record OpensTo (keystream : List ℕ → List ℕ → ℕ → ℕ) (aead : List ℕ → List ℕ → List ℕ → List ℕ → List ℕ) (profile : SrtpProfile) (keys : SessionKeys) (ssrc index n : ℕ) (bytes payload : List ℕ) : Type 0 where
+pub record OpensTo (cipher : CipherMeaning) (profile : SrtpProfile) (keys : SessionKeys) (ssrc index n : ℕ) (bytes payload : List ℕ) : Type 0 where
   pub within : length bytes ≤ 2000
   pub header : n ≤ length bytes
-  pub seal : sealed_rtp keystream aead profile keys ssrc index n (take n bytes ++ payload) ≡ bytes
+  pub seal : sealed_rtp cipher profile keys ssrc index n (take n bytes ++ payload) ≡ bytes

@@ -2,7 +2,8 @@
 use Rattle.std.specs.Prelude.{ℕ, ◌+◌, ◌%◌, ◌^◌, ◌==◌, if◌then◌else◌, List, [], ◌∷◌, ◌++◌, slice_index, bit_xor}
 use Rattle.std.specs.Int.{w32, to_be_bytes}
 use Rattle.media_base.specs.Text.{bytes_by}
-use Rattle.srtp_core.specs.Streams.{blocks_at, streamed}
+use Rattle.srtp_core.specs.Cipher.{CipherMeaning}
+use Rattle.srtp_core.specs.Streams.{blocks_at, streamed, counter_mode}
 
 -- a block XOR the key: of a key of 32 bytes XOR both halves. Past the end of a key of 16 bytes there is nothing to add
 abbrev pub toy_block_byte : List ℕ → List ℕ → ℕ → ℕ
@@ -27,3 +28,10 @@ toy_tag k iv m = bytes_by (λ j. bit_xor (slice_index (toy_block k (iv ++ to_be_
 -- the text XOR the stream, and the tag of the associated data with the text behind it
 unfoldable pub toy_aead : List ℕ → List ℕ → List ℕ → List ℕ → List ℕ
 toy_aead k iv aad p = streamed (toy_stream k iv) p ++ toy_tag k iv (aad ++ p)
+
+abbrev pub toy_meaning : CipherMeaning
+toy_meaning = record {
+  block = toy_block;
+  keystream = λ k. counter_mode (toy_block k);
+  aead = toy_aead;
+}

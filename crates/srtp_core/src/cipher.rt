@@ -1,4 +1,5 @@
 ghost use Rattle.std.specs.Prelude.{◌≡◌, ℕ, ◌+◌, List, ◌++◌, length, IsTrue};
+ghost use Rattle.srtp_core.specs.Cipher.{CipherMeaning};
 ghost use Rattle.srtp_core.specs.Streams.{streamed, counter_mode};
 
 /// What SRTP needs of a cipher: its blocks and its counter mode (RFC 3711 section 4.1.1), and its
@@ -19,14 +20,8 @@ pub trait SrtpCipher: Copy {
     /// The bytes of a key of 32 bytes.
     ghost bytes_256: { Self.Key256 → List ℕ };
 
-    /// The bytes of a key, and a block: the block enciphered.
-    ghost block: { List ℕ → List ℕ → List ℕ };
-
-    /// The bytes of a key, and an initial value: byte i of the key stream.
-    ghost keystream: { List ℕ → List ℕ → ℕ → ℕ };
-
-    /// The bytes of a key, the nonce, the associated data and the plain text: the sealed text.
-    ghost aead: { List ℕ → List ℕ → List ℕ → List ℕ → List ℕ };
+    /// What the cipher means: its blocks, its key stream and its authenticated encryption.
+    ghost meaning: { CipherMeaning };
 
     /// The key of these bytes.
     fn key_128(&self, key: &[u8; 16]) -> Self::Key128
@@ -38,16 +33,16 @@ pub trait SrtpCipher: Copy {
 
     /// One block enciphered.
     fn block_128(&self, key: &Self::Key128, input: &[u8; 16]) -> [u8; 16]
-        ensures { result ≡ block (bytes_128 key.now) input.now };
+        ensures { result ≡ meaning.block (bytes_128 key.now) input.now };
 
     /// One block enciphered.
     fn block_256(&self, key: &Self::Key256, input: &[u8; 16]) -> [u8; 16]
-        ensures { result ≡ block (bytes_256 key.now) input.now };
+        ensures { result ≡ meaning.block (bytes_256 key.now) input.now };
 
     /// The input XOR the key stream, which enciphers and deciphers.
     fn ctr(&self, key: &Self::Key128, iv: &[u8; 16], input: &[u8], output: &mut [u8])
         requires { length output.old ≡ length input.now }
-        ensures { output.new ≡ streamed (keystream (bytes_128 key.now) iv.now) input.now };
+        ensures { output.new ≡ streamed (meaning.keystream (bytes_128 key.now) iv.now) input.now };
 
     /// Seals the input; `aad1` and `aad2`, one after the other, are the associated data.
     fn seal_128(
@@ -60,7 +55,7 @@ pub trait SrtpCipher: Copy {
         output: &mut [u8],
     )
         requires { length output.old ≡ length input.now + 16 }
-        ensures { output.new ≡ aead (bytes_128 key.now) iv.now (aad1.now ++ aad2.now) input.now };
+        ensures { output.new ≡ meaning.aead (bytes_128 key.now) iv.now (aad1.now ++ aad2.now) input.now };
 
     /// Opens the input, and tells whether it is a sealed text. After `false` what stands in
     /// `output` is not said.
@@ -74,8 +69,8 @@ pub trait SrtpCipher: Copy {
         output: &mut [u8],
     ) -> bool
         requires { length input.now ≡ length output.old + 16 }
-        ensures opens { IsTrue result → aead (bytes_128 key.now) iv.now (aad1.now ++ aad2.now) output.new ≡ input.now }
-        ensures only { (plain : List ℕ) → aead (bytes_128 key.now) iv.now (aad1.now ++ aad2.now) plain ≡ input.now → IsTrue result };
+        ensures opens { IsTrue result → meaning.aead (bytes_128 key.now) iv.now (aad1.now ++ aad2.now) output.new ≡ input.now }
+        ensures only { (plain : List ℕ) → meaning.aead (bytes_128 key.now) iv.now (aad1.now ++ aad2.now) plain ≡ input.now → IsTrue result };
 
     /// Seals the input; `aad1` and `aad2`, one after the other, are the associated data.
     fn seal_256(
@@ -88,7 +83,7 @@ pub trait SrtpCipher: Copy {
         output: &mut [u8],
     )
         requires { length output.old ≡ length input.now + 16 }
-        ensures { output.new ≡ aead (bytes_256 key.now) iv.now (aad1.now ++ aad2.now) input.now };
+        ensures { output.new ≡ meaning.aead (bytes_256 key.now) iv.now (aad1.now ++ aad2.now) input.now };
 
     /// Opens the input, and tells whether it is a sealed text. After `false` what stands in
     /// `output` is not said.
@@ -102,15 +97,15 @@ pub trait SrtpCipher: Copy {
         output: &mut [u8],
     ) -> bool
         requires { length input.now ≡ length output.old + 16 }
-        ensures opens { IsTrue result → aead (bytes_256 key.now) iv.now (aad1.now ++ aad2.now) output.new ≡ input.now }
-        ensures only { (plain : List ℕ) → aead (bytes_256 key.now) iv.now (aad1.now ++ aad2.now) plain ≡ input.now → IsTrue result };
+        ensures opens { IsTrue result → meaning.aead (bytes_256 key.now) iv.now (aad1.now ++ aad2.now) output.new ≡ input.now }
+        ensures only { (plain : List ℕ) → meaning.aead (bytes_256 key.now) iv.now (aad1.now ++ aad2.now) plain ≡ input.now → IsTrue result };
 
     /// A sealed text is 16 bytes longer.
-    ghost longer: { (key iv aad plain : List ℕ) → length (aead key iv aad plain) ≡ length plain + 16 };
+    ghost longer: { (key iv aad plain : List ℕ) → length (meaning.aead key iv aad plain) ≡ length plain + 16 };
 
     /// No two plain texts are sealed alike.
-    ghost apart: { (key iv aad p q : List ℕ) → aead key iv aad p ≡ aead key iv aad q → p ≡ q };
+    ghost apart: { (key iv aad p q : List ℕ) → meaning.aead key iv aad p ≡ meaning.aead key iv aad q → p ≡ q };
 
     /// The key stream is the counter mode of the blocks.
-    ghost counts: { (key iv : List ℕ) (i : ℕ) → keystream key iv i ≡ counter_mode (block key) iv i };
+    ghost counts: { (key iv : List ℕ) (i : ℕ) → meaning.keystream key iv i ≡ counter_mode (meaning.block key) iv i };
 }

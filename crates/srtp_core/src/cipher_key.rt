@@ -46,7 +46,7 @@ impl<C: SrtpCipher> CipherKey<C> {
     }
 
     pub(crate) fn block(&self, cipher: C, input: &[u8; 16]) -> [u8; 16]
-        ensures { result ≡ C.block self.now input.now }
+        ensures { result ≡ C.meaning.block self.now input.now }
     {
         match &self.key {
             ByLength::Short(key) => cipher.block_128(key, input),
@@ -64,7 +64,7 @@ impl<C: SrtpCipher> CipherKey<C> {
         output: &mut [u8],
     )
         requires { length output.old ≡ length input.now + 16 }
-        ensures { output.new ≡ C.aead self.now iv.now (aad1.now ++ aad2.now) input.now }
+        ensures { output.new ≡ C.meaning.aead self.now iv.now (aad1.now ++ aad2.now) input.now }
     {
         match &self.key {
             ByLength::Short(key) => cipher.seal_128(key, iv, aad1, aad2, input, output),
@@ -82,8 +82,8 @@ impl<C: SrtpCipher> CipherKey<C> {
         output: &mut [u8],
     ) -> bool
         requires { length input.now ≡ length output.old + 16 }
-        ensures opens { IsTrue result → C.aead self.now iv.now (aad1.now ++ aad2.now) output.new ≡ input.now }
-        ensures only { (plain : List ℕ) → C.aead self.now iv.now (aad1.now ++ aad2.now) plain ≡ input.now → IsTrue result }
+        ensures opens { IsTrue result → C.meaning.aead self.now iv.now (aad1.now ++ aad2.now) output.new ≡ input.now }
+        ensures only { (plain : List ℕ) → C.meaning.aead self.now iv.now (aad1.now ++ aad2.now) plain ≡ input.now → IsTrue result }
     {
         match &self.key {
             ByLength::Short(key) => cipher.open_128(key, iv, aad1, aad2, input, output),

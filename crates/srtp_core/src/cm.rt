@@ -28,9 +28,9 @@ pub(crate) struct CmDirection<C: SrtpCipher> {
 
 fn cm_keys<C: SrtpCipher>(cipher: C, master: &SrtpKey<16, 14>, first_label: u8) -> CmKeys<C>
     requires { first_label ≤ 3 }
-    ensures key { C.bytes_128 result.key ≡ derived (C.block master.now.master) master.now.salt first_label 16 }
-    ensures authentication { result.authentication ≡ derived (C.block master.now.master) master.now.salt (first_label + 1) 20 }
-    ensures salt { result.salt ≡ derived (C.block master.now.master) master.now.salt (first_label + 2) 14 }
+    ensures key { C.bytes_128 result.key ≡ derived (C.meaning.block master.now.master) master.now.salt first_label 16 }
+    ensures authentication { result.authentication ≡ derived (C.meaning.block master.now.master) master.now.salt (first_label + 1) 20 }
+    ensures salt { result.salt ≡ derived (C.meaning.block master.now.master) master.now.salt (first_label + 2) 14 }
 {
     let mut key = [0; 16];
     master.derive(cipher, first_label, &mut key);
@@ -47,12 +47,12 @@ fn cm_keys<C: SrtpCipher>(cipher: C, master: &SrtpKey<16, 14>, first_label: u8) 
 
 /// The keys of a direction, of its master key.
 pub(crate) fn cm_direction<C: SrtpCipher>(cipher: C, master: &SrtpKey<16, 14>) -> CmDirection<C>
-    ensures rtp_key { C.bytes_128 result.rtp.key ≡ derived (C.block master.now.master) master.now.salt 0 16 }
-    ensures rtp_authentication { result.rtp.authentication ≡ derived (C.block master.now.master) master.now.salt 1 20 }
-    ensures rtp_salt { result.rtp.salt ≡ derived (C.block master.now.master) master.now.salt 2 14 }
-    ensures rtcp_key { C.bytes_128 result.rtcp.key ≡ derived (C.block master.now.master) master.now.salt 3 16 }
-    ensures rtcp_authentication { result.rtcp.authentication ≡ derived (C.block master.now.master) master.now.salt 4 20 }
-    ensures rtcp_salt { result.rtcp.salt ≡ derived (C.block master.now.master) master.now.salt 5 14 }
+    ensures rtp_key { C.bytes_128 result.rtp.key ≡ derived (C.meaning.block master.now.master) master.now.salt 0 16 }
+    ensures rtp_authentication { result.rtp.authentication ≡ derived (C.meaning.block master.now.master) master.now.salt 1 20 }
+    ensures rtp_salt { result.rtp.salt ≡ derived (C.meaning.block master.now.master) master.now.salt 2 14 }
+    ensures rtcp_key { C.bytes_128 result.rtcp.key ≡ derived (C.meaning.block master.now.master) master.now.salt 3 16 }
+    ensures rtcp_authentication { result.rtcp.authentication ≡ derived (C.meaning.block master.now.master) master.now.salt 4 20 }
+    ensures rtcp_salt { result.rtcp.salt ≡ derived (C.meaning.block master.now.master) master.now.salt 5 14 }
 {
     CmDirection {
         rtp: cm_keys(cipher, master, 0),
@@ -73,7 +73,7 @@ pub(crate) fn seal_rtp<C: SrtpCipher>(
     requires header { header_len ≤ length buf.now }
     requires index { index < 2 ^ 48 }
     ensures { IfOk result (λ v. v.items
-        ≡ cm_sealed_rtp C.keystream (C.bytes_128 keys.now.key) keys.now.authentication keys.now.salt ssrc index (take header_len buf.now) (drop header_len buf.now)) }
+        ≡ cm_sealed_rtp C.meaning (C.bytes_128 keys.now.key) keys.now.authentication keys.now.salt ssrc index (take header_len buf.now) (drop header_len buf.now)) }
 {
     let mut sealed = vec![in alloc; 0; buf.len() + HMAC_TAG_LEN]?;
     let (header, payload) = buf.split_at(header_len);
@@ -102,9 +102,9 @@ pub(crate) fn open_rtp<C: SrtpCipher>(
     ensures same { length output.new ≡ length output.old }
     ensures len { IfSome result (λ n. n ≤ length output.new) }
     ensures opens { IfSome result (λ n.
-        cm_sealed_rtp C.keystream (C.bytes_128 keys.now.key) keys.now.authentication keys.now.salt ssrc index (take header_len buf.now) (take n output.new) ≡ buf.now) }
+        cm_sealed_rtp C.meaning (C.bytes_128 keys.now.key) keys.now.authentication keys.now.salt ssrc index (take header_len buf.now) (take n output.new) ≡ buf.now) }
     ensures none { IfNone result ((payload : List ℕ)
-        → cm_sealed_rtp C.keystream (C.bytes_128 keys.now.key) keys.now.authentication keys.now.salt ssrc index (take header_len buf.now) payload ≡ buf.now → ⊥) }
+        → cm_sealed_rtp C.meaning (C.bytes_128 keys.now.key) keys.now.authentication keys.now.salt ssrc index (take header_len buf.now) payload ≡ buf.now → ⊥) }
 {
     if buf.len() - header_len < HMAC_TAG_LEN {
         return None;
@@ -130,7 +130,7 @@ pub(crate) fn seal_rtcp<C: SrtpCipher>(
     requires header { 8 ≤ length buf.now }
     requires index { index < 2 ^ 31 }
     ensures { IfOk result (λ v. v.items
-        ≡ cm_sealed_rtcp C.keystream (C.bytes_128 keys.now.key) keys.now.authentication keys.now.salt true index (take 8 buf.now) (drop 8 buf.now)) }
+        ≡ cm_sealed_rtcp C.meaning (C.bytes_128 keys.now.key) keys.now.authentication keys.now.salt true index (take 8 buf.now) (drop 8 buf.now)) }
 {
     let mut sealed = vec![in alloc; 0; buf.len() + 4 + HMAC_TAG_LEN]?;
     let (header, rest) = buf.split_at(8);
@@ -155,7 +155,7 @@ fn deciphered<C: SrtpCipher>(
 ) -> Result<Vec<u8>, AllocError>
     requires { 8 ≤ length packet.now }
     ensures { IfOk result (λ v. v.items ≡ take 8 packet.now
-        ++ streamed (C.keystream (C.bytes_128 keys.now.key) (cm_iv keys.now.salt (sender_of (take 8 packet.now)) index)) (drop 8 packet.now)) }
+        ++ streamed (C.meaning.keystream (C.bytes_128 keys.now.key) (cm_iv keys.now.salt (sender_of (take 8 packet.now)) index)) (drop 8 packet.now)) }
 {
     let mut plain = vec![in alloc; 0; packet.len()]?;
     let (header, rest) = packet.split_at(8);
@@ -180,9 +180,9 @@ pub(crate) fn open_rtcp<C: SrtpCipher>(
     buf: &[u8],
 ) -> Result<Option<Vec<u8>>, AllocError>
     ensures some { IfOk result (λ r. IfSome r (λ v.
-        CmRtcpOpens C.keystream (C.bytes_128 keys.now.key) keys.now.authentication keys.now.salt buf.now v.items)) }
+        CmRtcpOpens C.meaning (C.bytes_128 keys.now.key) keys.now.authentication keys.now.salt buf.now v.items)) }
     ensures none { IfOk result (λ r. IfNone r ((p : List ℕ)
-        → CmRtcpOpens C.keystream (C.bytes_128 keys.now.key) keys.now.authentication keys.now.salt buf.now p → ⊥)) }
+        → CmRtcpOpens C.meaning (C.bytes_128 keys.now.key) keys.now.authentication keys.now.salt buf.now p → ⊥)) }
 {
     if buf.len() < 22 {
         return Ok(None);

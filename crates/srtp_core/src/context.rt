@@ -70,7 +70,7 @@ impl<C: SrtpCipher> SrtpContext<C> {
         mat: &KeyingMaterial,
         left: bool,
     ) -> Result<Self, SrtpError>
-        ensures made { IfOk result (λ c. c ≡ new_state C.block profile mat.now left 0) }
+        ensures made { IfOk result (λ c. c ≡ new_state C.meaning profile mat.now left 0) }
         ensures key_length { length mat.now ≢ material_len profile → IsErrOf result SrtpError.KeyLength }
         ensures memory { length mat.now ≡ material_len profile → IfErr result (λ e. e ≡ SrtpError.Memory) }
     {
@@ -91,7 +91,7 @@ impl<C: SrtpCipher> SrtpContext<C> {
         srtcp_index: u64,
     ) -> Result<Self, SrtpError>
         requires { srtcp_index ≤ 2 ^ 31 }
-        ensures made { IfOk result (λ c. c ≡ new_state C.block profile mat.now left srtcp_index) }
+        ensures made { IfOk result (λ c. c ≡ new_state C.meaning profile mat.now left srtcp_index) }
         ensures key_length { length mat.now ≢ material_len profile → IsErrOf result SrtpError.KeyLength }
         ensures memory { length mat.now ≡ material_len profile → IfErr result (λ e. e ≡ SrtpError.Memory) }
     {
@@ -125,7 +125,7 @@ impl<C: SrtpCipher> SrtpContext<C> {
         requires index { index < 2 ^ 48 }
         requires low { index % 65536 ≡ header.now.sequence_number }
         ensures sealed { IfOk result (λ v. v.items
-            ≡ sealed_rtp C.keystream C.aead self.old.profile self.old.keys header.now.ssrc index header.now.header_len buf.now) }
+            ≡ sealed_rtp C.meaning self.old.profile self.old.keys header.now.ssrc index header.now.header_len buf.now) }
         ensures same { self.new ≡ self.old }
     {
         let ssrc = u32::from(header.ssrc);
@@ -150,9 +150,9 @@ impl<C: SrtpCipher> SrtpContext<C> {
         requires index { index < 2 ^ 48 }
         requires low { index % 65536 ≡ header.now.sequence_number }
         ensures some { IfSome result (λ p.
-            OpensTo C.keystream C.aead self.old.profile self.old.keys header.now.ssrc index header.now.header_len buf.now p.now) }
+            OpensTo C.meaning self.old.profile self.old.keys header.now.ssrc index header.now.header_len buf.now p.now) }
         ensures none { IfNone result ((p : List ℕ)
-            → OpensTo C.keystream C.aead self.old.profile self.old.keys header.now.ssrc index header.now.header_len buf.now p → ⊥) }
+            → OpensTo C.meaning self.old.profile self.old.keys header.now.ssrc index header.now.header_len buf.now p → ⊥) }
         ensures* after { sem 𝓛 (IsUnchangedAfter (the_row C.row C.Key128.row C.Key256.row C.SrtpCipher) self.entry) }
     {
         let len = header.header_len;
@@ -181,7 +181,7 @@ impl<C: SrtpCipher> SrtpContext<C> {
     pub fn protect_rtcp(&mut self, buf: &[u8]) -> Result<Vec<u8>, SrtpError>
         requires { 8 ≤ length buf.now }
         ensures sealed { IfOk result (λ v. v.items
-            ≡ sealed_rtcp C.keystream C.aead self.old.profile self.old.keys true self.old.srtcp_index buf.now) }
+            ≡ sealed_rtcp C.meaning self.old.profile self.old.keys true self.old.srtcp_index buf.now) }
         ensures next { OnOk result (self.new ≡ record self.old { srtcp_index = self.old.srtcp_index + 1 }) }
         ensures refused { OnErr result (self.new ≡ self.old) }
         ensures exhausted { self.old.srtcp_index ≡ 2 ^ 31 → IsErrOf result SrtpError.KeyExhausted }
@@ -204,8 +204,8 @@ impl<C: SrtpCipher> SrtpContext<C> {
     /// # Errors
     /// Where there is no memory.
     pub fn unprotect_rtcp(&mut self, buf: &[u8]) -> Result<Option<Vec<u8>>, AllocError>
-        ensures some { IfOk result (λ r. IfSome r (λ v. RtcpOpensTo C.keystream C.aead self.old.profile self.old.keys buf.now v.items)) }
-        ensures none { IfOk result (λ r. IfNone r ((p : List ℕ) → RtcpOpensTo C.keystream C.aead self.old.profile self.old.keys buf.now p → ⊥)) }
+        ensures some { IfOk result (λ r. IfSome r (λ v. RtcpOpensTo C.meaning self.old.profile self.old.keys buf.now v.items)) }
+        ensures none { IfOk result (λ r. IfNone r ((p : List ℕ) → RtcpOpensTo C.meaning self.old.profile self.old.keys buf.now p → ⊥)) }
         ensures same { self.new ≡ self.old }
     {
         open_packet(self.alloc, self.cipher, &self.keys, buf)
@@ -222,7 +222,7 @@ fn keys_of<C: SrtpCipher>(
 ) -> Keys<C>
     requires { length mat.now ≡ material_len profile }
     ensures profile { profile_of result ≡ profile }
-    ensures keys { session_of C.bytes_128 result ≡ session_keys C.block profile mat.now left }
+    ensures keys { session_of C.bytes_128 result ≡ session_keys C.meaning profile mat.now left }
 {
     match profile {
         SrtpProfile::Aes128CmSha1_80 => {
@@ -253,8 +253,8 @@ fn open_front<C: SrtpCipher>(
     requires index { index < 2 ^ 48 }
     ensures same { length output.new ≡ length output.old }
     ensures len { IfSome result (λ n. n ≤ length output.new) }
-    ensures opens { IfSome result (λ n. OpensTo C.keystream C.aead (profile_of keys.now) (session_of C.bytes_128 keys.now) ssrc index header_len buf.now (take n output.new)) }
-    ensures none { IfNone result ((p : List ℕ) → OpensTo C.keystream C.aead (profile_of keys.now) (session_of C.bytes_128 keys.now) ssrc index header_len buf.now p → ⊥) }
+    ensures opens { IfSome result (λ n. OpensTo C.meaning (profile_of keys.now) (session_of C.bytes_128 keys.now) ssrc index header_len buf.now (take n output.new)) }
+    ensures none { IfNone result ((p : List ℕ) → OpensTo C.meaning (profile_of keys.now) (session_of C.bytes_128 keys.now) ssrc index header_len buf.now p → ⊥) }
 {
     match keys {
         Keys::Cm(direction) => cm::open_rtp(
@@ -297,7 +297,7 @@ fn seal_packet<C: SrtpCipher>(
 ) -> Result<Vec<u8>, AllocError>
     requires header { 8 ≤ length buf.now }
     requires index { index < 2 ^ 31 }
-    ensures { IfOk result (λ v. v.items ≡ sealed_rtcp C.keystream C.aead (profile_of keys.now) (session_of C.bytes_128 keys.now) true index buf.now) }
+    ensures { IfOk result (λ v. v.items ≡ sealed_rtcp C.meaning (profile_of keys.now) (session_of C.bytes_128 keys.now) true index buf.now) }
 {
     match keys {
         Keys::Cm(direction) => cm::seal_rtcp(alloc, cipher, &direction.rtcp, buf, index),
@@ -312,8 +312,8 @@ fn open_packet<C: SrtpCipher>(
     keys: &Keys<C>,
     buf: &[u8],
 ) -> Result<Option<Vec<u8>>, AllocError>
-    ensures some { IfOk result (λ r. IfSome r (λ v. RtcpOpensTo C.keystream C.aead (profile_of keys.now) (session_of C.bytes_128 keys.now) buf.now v.items)) }
-    ensures none { IfOk result (λ r. IfNone r ((p : List ℕ) → RtcpOpensTo C.keystream C.aead (profile_of keys.now) (session_of C.bytes_128 keys.now) buf.now p → ⊥)) }
+    ensures some { IfOk result (λ r. IfSome r (λ v. RtcpOpensTo C.meaning (profile_of keys.now) (session_of C.bytes_128 keys.now) buf.now v.items)) }
+    ensures none { IfOk result (λ r. IfNone r ((p : List ℕ) → RtcpOpensTo C.meaning (profile_of keys.now) (session_of C.bytes_128 keys.now) buf.now p → ⊥)) }
 {
     match keys {
         Keys::Cm(direction) => cm::open_rtcp(alloc, cipher, &direction.rtcp, buf),

@@ -70,8 +70,8 @@ fn gcm_keys<C: SrtpCipher, const ML: usize>(
     salt_label: u8,
 ) -> GcmKeys<C>
     requires { (ML ≡ 16) ⊎ (ML ≡ 32) }
-    ensures key { result.key ≡ derived (C.block master.now.master) master.now.salt key_label ML }
-    ensures salt { result.salt ≡ derived (C.block master.now.master) master.now.salt salt_label 12 }
+    ensures key { result.key ≡ derived (C.meaning.block master.now.master) master.now.salt key_label ML }
+    ensures salt { result.salt ≡ derived (C.meaning.block master.now.master) master.now.salt salt_label 12 }
 {
     let mut key = [0; ML];
     master.derive(cipher, key_label, &mut key);
@@ -89,10 +89,10 @@ pub(crate) fn gcm_direction<C: SrtpCipher, const ML: usize>(
     master: &SrtpKey<ML, 12>,
 ) -> GcmDirection<C>
     requires { (ML ≡ 16) ⊎ (ML ≡ 32) }
-    ensures rtp_key { result.rtp.key ≡ derived (C.block master.now.master) master.now.salt 0 ML }
-    ensures rtp_salt { result.rtp.salt ≡ derived (C.block master.now.master) master.now.salt 2 12 }
-    ensures rtcp_key { result.rtcp.key ≡ derived (C.block master.now.master) master.now.salt 3 ML }
-    ensures rtcp_salt { result.rtcp.salt ≡ derived (C.block master.now.master) master.now.salt 5 12 }
+    ensures rtp_key { result.rtp.key ≡ derived (C.meaning.block master.now.master) master.now.salt 0 ML }
+    ensures rtp_salt { result.rtp.salt ≡ derived (C.meaning.block master.now.master) master.now.salt 2 12 }
+    ensures rtcp_key { result.rtcp.key ≡ derived (C.meaning.block master.now.master) master.now.salt 3 ML }
+    ensures rtcp_salt { result.rtcp.salt ≡ derived (C.meaning.block master.now.master) master.now.salt 5 12 }
 {
     GcmDirection {
         rtp: gcm_keys(cipher, master, 0, 2),
@@ -112,7 +112,7 @@ pub(crate) fn seal_rtp<C: SrtpCipher>(
 ) -> Result<Vec<u8>, AllocError>
     requires header { header_len ≤ length buf.now }
     requires index { index < 2 ^ 48 }
-    ensures { IfOk result (λ v. v.items ≡ gcm_sealed_rtp C.aead keys.now.key keys.now.salt ssrc index (take header_len buf.now) (drop header_len buf.now)) }
+    ensures { IfOk result (λ v. v.items ≡ gcm_sealed_rtp C.meaning keys.now.key keys.now.salt ssrc index (take header_len buf.now) (drop header_len buf.now)) }
 {
     let mut sealed = vec![in alloc; 0; buf.len() + 16]?;
     let (header, payload) = buf.split_at(header_len);
@@ -145,9 +145,9 @@ pub(crate) fn open_rtp<C: SrtpCipher>(
     ensures same { length output.new ≡ length output.old }
     ensures len { IfSome result (λ n. n ≤ length output.new) }
     ensures opens { IfSome result (λ n.
-        gcm_sealed_rtp C.aead keys.now.key keys.now.salt ssrc index (take header_len buf.now) (take n output.new) ≡ buf.now) }
+        gcm_sealed_rtp C.meaning keys.now.key keys.now.salt ssrc index (take header_len buf.now) (take n output.new) ≡ buf.now) }
     ensures none { IfNone result ((payload : List ℕ)
-        → gcm_sealed_rtp C.aead keys.now.key keys.now.salt ssrc index (take header_len buf.now) payload ≡ buf.now → ⊥) }
+        → gcm_sealed_rtp C.meaning keys.now.key keys.now.salt ssrc index (take header_len buf.now) payload ≡ buf.now → ⊥) }
 {
     let (header, sealed) = buf.split_at(header_len);
     if sealed.len() < 16 {

@@ -37,7 +37,7 @@ pub(crate) fn seal_rtcp<C: SrtpCipher>(
 ) -> Result<Vec<u8>, AllocError>
     requires header { 8 ≤ length buf.now }
     requires index { index < 2 ^ 31 }
-    ensures { IfOk result (λ v. v.items ≡ gcm_sealed_rtcp C.aead keys.now.key keys.now.salt true index (take 8 buf.now) (drop 8 buf.now)) }
+    ensures { IfOk result (λ v. v.items ≡ gcm_sealed_rtcp C.meaning keys.now.key keys.now.salt true index (take 8 buf.now) (drop 8 buf.now)) }
 {
     let mut sealed = vec![in alloc; 0; buf.len() + 20]?;
     let (header, rest) = buf.split_at(8);
@@ -65,9 +65,9 @@ fn open_encrypted<C: SrtpCipher>(
     requires body { 16 ≤ length body.now }
     ensures opened { IfOk result (λ r. IfSome r (λ v. v.items ≡ header.now ++ drop 8 v.items)) }
     ensures some { IfOk result (λ r. IfSome r (λ v.
-        C.aead keys.now.key (gcm_rtcp_iv keys.now.salt (sender_of header.now) index) (header.now ++ word.now) (drop 8 v.items) ≡ body.now)) }
+        C.meaning.aead keys.now.key (gcm_rtcp_iv keys.now.salt (sender_of header.now) index) (header.now ++ word.now) (drop 8 v.items) ≡ body.now)) }
     ensures none { IfOk result (λ r. IfNone r ((rest : List ℕ)
-        → C.aead keys.now.key (gcm_rtcp_iv keys.now.salt (sender_of header.now) index) (header.now ++ word.now) rest ≡ body.now → ⊥)) }
+        → C.meaning.aead keys.now.key (gcm_rtcp_iv keys.now.salt (sender_of header.now) index) (header.now ++ word.now) rest ≡ body.now → ⊥)) }
 {
     let mut plain = vec![in alloc; 0; body.len() - 16 + 8]?;
     let (front, rest) = plain.split_at_mut(8);
@@ -94,9 +94,9 @@ fn open_clear<C: SrtpCipher>(
     requires tag { length tag.now ≡ 16 }
     ensures opened { IfOk result (λ r. IfSome r (λ v. v.items ≡ plain.now)) }
     ensures some { IfOk result (λ r. IfSome r (λ _.
-        C.aead keys.now.key (gcm_rtcp_iv keys.now.salt (sender_of (take 8 plain.now)) index) (plain.now ++ word.now) [] ≡ tag.now)) }
+        C.meaning.aead keys.now.key (gcm_rtcp_iv keys.now.salt (sender_of (take 8 plain.now)) index) (plain.now ++ word.now) [] ≡ tag.now)) }
     ensures none { IfOk result (λ r. IfNone r (
-        C.aead keys.now.key (gcm_rtcp_iv keys.now.salt (sender_of (take 8 plain.now)) index) (plain.now ++ word.now) [] ≡ tag.now → ⊥)) }
+        C.meaning.aead keys.now.key (gcm_rtcp_iv keys.now.salt (sender_of (take 8 plain.now)) index) (plain.now ++ word.now) [] ≡ tag.now → ⊥)) }
 {
     let (header, _) = plain.split_at(8);
     let iv = rtcp_iv(keys.salt, sender(header), index);
@@ -114,8 +114,8 @@ pub(crate) fn open_rtcp<C: SrtpCipher>(
     keys: &GcmKeys<C>,
     buf: &[u8],
 ) -> Result<Option<Vec<u8>>, AllocError>
-    ensures some { IfOk result (λ r. IfSome r (λ v. GcmRtcpOpens C.aead keys.now.key keys.now.salt buf.now v.items)) }
-    ensures none { IfOk result (λ r. IfNone r ((p : List ℕ) → GcmRtcpOpens C.aead keys.now.key keys.now.salt buf.now p → ⊥)) }
+    ensures some { IfOk result (λ r. IfSome r (λ v. GcmRtcpOpens C.meaning keys.now.key keys.now.salt buf.now v.items)) }
+    ensures none { IfOk result (λ r. IfNone r ((p : List ℕ) → GcmRtcpOpens C.meaning keys.now.key keys.now.salt buf.now p → ⊥)) }
 {
     if buf.len() < 28 {
         return Ok(None);

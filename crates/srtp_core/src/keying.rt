@@ -75,7 +75,7 @@ impl<const ML: usize, const SL: usize> SrtpKey<ML, SL> {
         requires key { (ML ≡ 16) ⊎ (ML ≡ 32) }
         requires salt { SL ≤ 14 }
         requires output { length output.old ≤ 1048576 }
-        ensures { output.new ≡ derived (C.block self.now.master) self.now.salt label (length output.old) }
+        ensures { output.new ≡ derived (C.meaning.block self.now.master) self.now.salt label (length output.old) }
     {
         let key = CipherKey::new(cipher, &self.master);
         let mut block = [0; 16];

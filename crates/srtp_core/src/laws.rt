@@ -17,47 +17,47 @@ pub fn rtcp_ivs_apart()
 
 /// Under one key, SSRC and index no two datagrams are sealed alike.
 pub fn rtp_seals_apart<C: SrtpCipher>()
-    ensures { RtpSealsApart C.keystream C.aead }
+    ensures { RtpSealsApart C.meaning }
 {}
 
 /// A datagram opens to one payload at most.
 pub fn rtp_opens_once<C: SrtpCipher>()
-    ensures { RtpOpensOnce C.keystream C.aead }
+    ensures { RtpOpensOnce C.meaning }
 {}
 
 /// A datagram that was sealed opens to its payload.
 pub fn rtp_opens_sealed<C: SrtpCipher>()
-    ensures { RtpOpensSealed C.keystream C.aead }
+    ensures { RtpOpensSealed C.meaning }
 {}
 
 /// A sealed datagram begins with its header, is no shorter than the plain one, and at most 16 bytes
 /// longer.
 pub fn rtp_seal_keeps_header<C: SrtpCipher>()
-    ensures { RtpSealKeepsHeader C.keystream C.aead }
+    ensures { RtpSealKeepsHeader C.meaning }
 {}
 
 /// An SRTCP datagram opens to one packet at most.
 pub fn rtcp_opens_once<C: SrtpCipher>()
-    ensures { RtcpOpensOnce C.keystream C.aead }
+    ensures { RtcpOpensOnce C.meaning }
 {}
 
 /// An SRTCP datagram that was sealed states its E bit and its index.
 pub fn rtcp_states<C: SrtpCipher>()
-    ensures { RtcpStates C.keystream C.aead }
+    ensures { RtcpStates C.meaning }
 {}
 
 /// An SRTCP datagram that was sealed opens to its packet.
 pub fn rtcp_opens_sealed<C: SrtpCipher>()
-    ensures { RtcpOpensSealed C.keystream C.aead }
+    ensures { RtcpOpensSealed C.meaning }
 {}
 
 /// A sealed SRTCP datagram begins with the first 8 bytes of its packet, and is longer by its word of
 /// 4 bytes and its tag.
 pub fn rtcp_seal_keeps_header<C: SrtpCipher>()
-    ensures { RtcpSealKeepsHeader C.keystream C.aead }
+    ensures { RtcpSealKeepsHeader C.meaning }
 {}
 
 /// A sealed RTP datagram is longer than the plain one by its tag: 10 or 16 bytes.
 pub fn rtp_seal_is_longer<C: SrtpCipher>()
-    ensures { RtpSealIsLonger C.keystream C.aead }
+    ensures { RtpSealIsLonger C.meaning }
 {}

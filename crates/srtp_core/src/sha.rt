@@ -1,6 +1,5 @@
 ghost use Rattle.std.specs.Prelude.{◌≡◌, ℕ, ◌+◌, List, ◌++◌, length, take, IsTrue, refl};
-ghost use Rattle.srtp_core.specs.Streams.{counter_mode};
-ghost use Rattle.srtp_core.specs.Sha.{sha_block, sha_tag, sha_aead};
+ghost use Rattle.srtp_core.specs.Sha.{sha_block, sha_tag, sha_aead, sha_meaning};
 ghost use Rattle.srtp_core.specs.ShaLaws.{length-sha_aead, sha_aead_apart};
 
 use crate::cipher::SrtpCipher;
@@ -97,11 +96,7 @@ impl SrtpCipher for ShaCipher {
 
     ghost bytes_256 = { λ k. k.bytes };
 
-    ghost block = { sha_block };
-
-    ghost keystream = { λ k. counter_mode (sha_block k) };
-
-    ghost aead = { sha_aead };
+    ghost meaning = { sha_meaning };
 
     fn key_128(&self, key: &[u8; 16]) -> ShaKey128 {
         ShaKey128 { bytes: *key }

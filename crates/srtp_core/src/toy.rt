@@ -1,6 +1,5 @@
 ghost use Rattle.std.specs.Prelude.{◌≡◌, ℕ, ◌+◌, ◌<◌, List, ◌++◌, length, IsTrue, slice_index, bit_xor, refl};
-ghost use Rattle.srtp_core.specs.Streams.{counter_mode};
-ghost use Rattle.srtp_core.specs.Toy.{toy_block, toy_stream, column, toy_tag, toy_aead};
+ghost use Rattle.srtp_core.specs.Toy.{toy_block, toy_stream, column, toy_tag, toy_aead, toy_meaning};
 ghost use Rattle.srtp_core.specs.ToyLaws.{length-toy_aead, toy_aead_apart};
 
 use crate::cipher::SrtpCipher;
@@ -101,11 +100,7 @@ impl SrtpCipher for ToyCipher {
 
     ghost bytes_256 = { λ k. k.bytes };
 
-    ghost block = { toy_block };
-
-    ghost keystream = { λ k. counter_mode (toy_block k) };
-
-    ghost aead = { toy_aead };
+    ghost meaning = { toy_meaning };
 
     fn key_128(&self, key: &[u8; 16]) -> ToyKey128 {
         ToyKey128 { bytes: *key }

@@ -4,7 +4,7 @@ use Rattle.std.specs.Prelude.{slice_get}
 use Rattle.std.specs.List.{cons_option, filter_map}
 use Rattle.std.specs.Option.{option_map}
 use Rattle.std.proofs.lemmas.Bool.{le-ltb, lt-ltb, leb-true, leb-false, ltb-true, ltb-false}
-use Rattle.rtp_wire.specs.Widen.{widen16, WidensToItself}
+use Rattle.rtp_base.specs.Widen.{widen16, WidensToItself}
 use Rattle.twcc_core.specs.declared.feedback.Twcc.{Twcc}
 use Rattle.twcc_core.specs.declared.send.TwccSendRecord.{TwccSendRecord}
 use Rattle.twcc_core.specs.Reports.{arrival_of, report_rows}

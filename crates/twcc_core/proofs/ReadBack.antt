@@ -15,8 +15,10 @@ use Rattle.twcc_core.specs.declared.feedback.Twcc.{Twcc}
 use Rattle.twcc_core.specs.Wire.{half_at, word_at, halves, words}
 use Rattle.twcc_core.specs.Statuses.{symbol_of, delta_text, status_at, statuses_of}
 use Rattle.twcc_core.specs.Chunks.{two_bit_symbols, chunk_symbols, with_symbols, symbols_within, symbols_of, symbol_at, run_of, vector_of, chunk_of, told_by, chunks_within, chunks_of}
-use Rattle.twcc_core.specs.Feedback.{signed24, bits24, with_rows, twcc_of, twcc_fields, fill_of, twcc_bytes}
-use Rattle.twcc_core.specs.Laws.{IsStatus, IsSigned24, IsFeedback}
+use Rattle.twcc_core.specs.Feedback.{with_rows, twcc_of, twcc_fields, fill_of, twcc_bytes}
+use Rattle.rtp_base.specs.Fields.{signed24, bits24}
+use Rattle.twcc_core.specs.Laws.{IsStatus, IsFeedback}
+use Rattle.rtp_base.specs.Fields.{IsSigned24}
 use Rattle.twcc_core.proofs.Symbols.{some_left, none_left}
 
 -- ---- symbols and deltas

@@ -1,20 +1,13 @@
 -- Transport-wide feedback in bytes (draft-holmer-rmcat-transport-wide-cc-extensions-01 section 3.1).
-use Rattle.std.specs.Prelude.{ℕ, ℤ, pos, ◌+◌, ◌-◌, ◌*◌, ◌/◌, ◌%◌, ◌-ℤ◌, List, [], ◌∷◌, ◌++◌, length, drop, replicate, nat_lt, Option, None, if◌then◌else◌}
+use Rattle.std.specs.Prelude.{ℕ, ◌+◌, ◌-◌, ◌*◌, ◌/◌, ◌%◌, List, [], ◌∷◌, ◌++◌, length, drop, replicate, nat_lt, Option, None, if◌then◌else◌}
 use Rattle.std.specs.List.{flat_map}
-use Rattle.std.specs.Int.{w32, cast_unsigned}
 use Rattle.std.specs.Option.{option_map, option_and_then}
+use Rattle.rtp_base.specs.Fields.{signed24, bits24}
 use Rattle.twcc_core.specs.Wire.{half_at, word_at, halves, words}
 use Rattle.twcc_core.specs.Statuses.{statuses_of, delta_text}
 use Rattle.twcc_core.specs.Chunks.{symbols_of, chunks_of}
 use Rattle.twcc_core.specs.declared.status.PacketStatus.{PacketStatus}
 use Rattle.twcc_core.specs.declared.feedback.Twcc.{Twcc}
-
--- 24 bits as a signed number, and the 24 bits of one
-abbrev pub signed24 : ℕ → ℤ
-signed24 n = if nat_lt n 8388608 then pos n else (pos n -ℤ pos 16777216)
-
-abbrev pub bits24 : ℤ → ℕ
-bits24 z = cast_unsigned w32 z % 16777216
 
 -- feedback of such rows: the SSRCs of the sender and of the media, the base, the reference and the
 -- count of feedback

@@ -1,7 +1,8 @@
 -- What the definitions of reading and writing owe each other.
-use Rattle.std.specs.Prelude.{◌≡◌, ℤ, pos, negsuc, ◌%◌, ◌^◌, ◌<◌, length, Some, FitsSigned}
+use Rattle.std.specs.Prelude.{◌≡◌, ◌%◌, ◌^◌, ◌<◌, length, Some, FitsSigned}
 use Rattle.std.specs.Int.{w16}
 use Rattle.std.specs.List.{AllByRecursion}
+use Rattle.rtp_base.specs.Fields.{IsSigned24}
 use Rattle.twcc_core.specs.declared.status.PacketStatus.{PacketStatus}
 use Rattle.twcc_core.specs.declared.status.PacketStatus.TheVariants.{NotReceived, Received}
 use Rattle.twcc_core.specs.declared.feedback.Twcc.{Twcc}
@@ -11,10 +12,6 @@ use Rattle.twcc_core.specs.Feedback.{twcc_of, twcc_bytes}
 abbrev pub IsStatus : PacketStatus → Type 0
 IsStatus NotReceived = Unit {0}
 IsStatus (Received delta) = FitsSigned w16 delta
-
-abbrev pub IsSigned24 : ℤ → Type 0
-IsSigned24 (pos n) = n < 8388608
-IsSigned24 (negsuc n) = n < 8388608
 
 pub record IsFeedback (t : Twcc) : Type 0 where
   pub sender : t.sender_ssrc < 2 ^ 32

@@ -7,3 +7,4 @@ pub mod Reports
 pub mod Sizes
 pub mod Times
 pub mod Sending
+pub use Rattle.rtp_base.specs.Fields

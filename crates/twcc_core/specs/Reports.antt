@@ -11,7 +11,8 @@ use Rattle.twcc_core.specs.declared.feedback.Twcc.{Twcc}
 use Rattle.twcc_core.specs.declared.share.Share.{Share}
 use Rattle.twcc_core.specs.Statuses.{delta_text}
 use Rattle.twcc_core.specs.Chunks.{chunks_of}
-use Rattle.twcc_core.specs.Feedback.{signed24, fill_of}
+use Rattle.twcc_core.specs.Feedback.{fill_of}
+use Rattle.rtp_base.specs.Fields.{signed24}
 
 -- the packets received: each number with the moment of its first arrival, in order of numbers; the
 -- number from which on they are to be reported; and how many reports were made, modulo 256

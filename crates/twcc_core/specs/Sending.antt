@@ -2,7 +2,7 @@
 use Rattle.std.specs.Prelude.{◌≡◌, ℕ, ◌+◌, ◌-◌, ◌^◌, ◌<◌, ◌≤◌, ◌&&◌, Bool, true, false, All, Contains, List, [], ◌∷◌, ◌++◌, length, drop, map, filter, fold, slice_get, count_by, nat_lt, nat_le, is_some, is_none, unwrap_or, Option, Some, None, if◌then◌else◌}
 use Rattle.std.specs.List.{filter_map}
 use Rattle.std.specs.Option.{option_map, option_map_or}
-use Rattle.rtp_wire.specs.Widen.{widen16}
+use Rattle.rtp_base.specs.Widen.{widen16}
 use Rattle.twcc_core.specs.declared.feedback.Twcc.{Twcc}
 use Rattle.twcc_core.specs.declared.share.Share.{Share}
 use Rattle.twcc_core.specs.declared.send.TwccSendRecord.{TwccSendRecord}

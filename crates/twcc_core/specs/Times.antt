@@ -4,7 +4,8 @@ use Rattle.std.specs.Option.{option_map}
 use Rattle.twcc_core.specs.declared.status.PacketStatus.{PacketStatus}
 use Rattle.twcc_core.specs.declared.status.PacketStatus.TheVariants.{NotReceived, Received}
 use Rattle.twcc_core.specs.declared.feedback.Twcc.{Twcc}
-use Rattle.twcc_core.specs.Feedback.{bits24, twcc_of, twcc_bytes}
+use Rattle.twcc_core.specs.Feedback.{twcc_of, twcc_bytes}
+use Rattle.rtp_base.specs.Fields.{bits24}
 use Rattle.twcc_core.specs.Reports.{Receiving, unreported, arrival_of, reference_of, report_of}
 
 -- so many steps of 250 us after a moment, or before it

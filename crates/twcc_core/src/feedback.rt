@@ -2,14 +2,15 @@
 ghost use Rattle.std.specs.Prelude.{◌≡◌, ◌+◌, ◌*◌, ◌<◌, IfOk, length};
 ghost use Rattle.std.specs.Option.{option_map};
 ghost use Rattle.twcc_core.specs.Wire.{words, Puts};
-ghost use Rattle.twcc_core.specs.Feedback.{signed24, bits24, twcc_of, twcc_bytes};
+ghost use Rattle.twcc_core.specs.Feedback.{twcc_of, twcc_bytes};
+ghost use Rattle.rtp_base.specs.Fields.{signed24, bits24};
 
 use crate::PacketStatus;
 use crate::chunk::{read_symbols, write_chunks};
 use crate::status::{read_statuses, write_deltas};
 use crate::wire::{half, put, word};
 use media_base::Listed;
-use rtp_wire::Ssrc;
+use rtp_base::Ssrc;
 use std::alloc::{AllocError, Global};
 
 /// Transport-wide feedback: what a receiver says of packets in a row (section 3.1).

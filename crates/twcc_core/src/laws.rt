@@ -3,7 +3,7 @@ ghost use Rattle.twcc_core.specs.Laws.{FeedbackReadsBack, FeedbackIsWhole};
 ghost use Rattle.twcc_core.specs.Times.{ReportsTellArrivals, ReportsAreNone};
 ghost use Rattle.twcc_core.specs.Sending.{RoundTripIsOfTheGreatest, ReportsComeBack};
 
-use rtp_wire::widens_to_itself;
+use rtp_base::widens_to_itself;
 
 /// Written feedback is read again as it was.
 #[tactic(auto, using(crate::proofs::ReadBack::twcc_again))]

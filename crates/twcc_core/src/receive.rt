@@ -7,7 +7,7 @@ use crate::feedback::signed;
 use crate::size::Size;
 use crate::{PacketStatus, Share, Twcc};
 use media_base::{Instant, Listed};
-use rtp_wire::{SeqNo, Ssrc};
+use rtp_base::{SeqNo, Ssrc};
 use std::alloc::{AllocError, Global};
 use std::collections::BTreeMap;
 use std::marker::Model;

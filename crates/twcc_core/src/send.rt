@@ -5,7 +5,7 @@ ghost use Rattle.twcc_core.specs.Sending.{last_number, first_told, moment_told, 
 
 use crate::{Share, Twcc, arrivals};
 use media_base::{DataSize, Duration, Instant, Listed};
-use rtp_wire::{TwccPacketId, widen16};
+use rtp_base::{TwccPacketId, widen16};
 use std::alloc::{AllocError, Global};
 use std::collections::VecDeque;
 use std::marker::Model;

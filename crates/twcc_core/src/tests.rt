@@ -1,6 +1,6 @@
 use super::*;
 use media_base::{DataSize, Duration, Instant, Listed};
-use rtp_wire::{SeqNo, Ssrc, TwccPacketId};
+use rtp_base::{SeqNo, Ssrc, TwccPacketId};
 use std::ops::Range;
 use std::process::Abort;
 use std::test::Fail;

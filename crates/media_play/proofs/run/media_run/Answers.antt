@@ -1,10 +1,12 @@
 use Rattle.std.proofs.Common.{◌≡◌, List, [], None, sym, ◌∙◌, subst, arith}
 use Rattle.media_model.specs.declared.entry.Entry.{Entry}
+use Rattle.media_play.specs.Headline.{HoldsOfRun}
 use Rattle.media_play.specs.Play.{Played, start}
+use Rattle.media_play.specs.Running.{OfRun}
 use Rattle.media_play.specs.Sessions.{sealing_of}
 use Rattle.media_play.specs.SetupRules.{setup_fault}
 use Rattle.media_play.proofs.Wire.{wire_laws}
-use Rattle.media_play.proofs.Playing.{HoldsOf, of_run, each_of}
+use Rattle.media_play.proofs.Playing.{of_run, each_of}
 use Rattle.media_play.proofs.run.media_run.Goals as goal
 
 pub returns-in-Err-clause-cause : goal.returns-in-Err-clause-cause
@@ -14,84 +16,70 @@ returns-in-Err-clause-cause g c =
 
 pub returns-in-Ok-None-clause-steps : goal.returns-in-Ok-None-clause-steps
 returns-in-Ok-None-clause-steps g c =
-    let block = g.C.SrtpCipher.block in
-    let keystream = g.C.SrtpCipher.keystream in
-    let aead = g.C.SrtpCipher.aead in
+    let K = g.C.SrtpCipher in
     let setup = c.args.setup.now in
+    let seal = sealing_of K.keystream K.aead K.block setup in
     let fine : setup_fault setup ≡ None = sym c.in-Ok-None.ensures ∙ c.in-Ok-None.field-0-is in
-    let wire = wire_laws block keystream aead setup c.header_reads_own_bytes.ensures c.plain_header_is_read_again.ensures c.headers_are_as_long.ensures.plain
-    c.rtp_seals_apart.ensures c.rtp_seal_keeps_header.ensures in
-    let laws = of_run (sealing_of keystream aead block setup) setup c.args.steps.now wire fine c.play_all.result c.play_all.ensures.played c.play_all.ensures.cause in
-    each_of {P = HoldsOf (sealing_of keystream aead block setup) setup} c.play_all.result (λ (es : List Entry) h. h.steps) laws
+    let wire = wire_laws K.block K.keystream K.aead setup c.header_reads_own_bytes.ensures c.rtp_seals_apart.ensures c.rtp_seal_keeps_header.ensures in
+    each_of {P = HoldsOfRun seal setup} c.play_all.result (λ (es : List Entry) h. h.steps)
+    (of_run seal setup c.args.steps.now wire fine c.play_all.result c.play_all.ensures.played c.play_all.ensures.cause)
 
 pub returns-in-Ok-None-clause-seals : goal.returns-in-Ok-None-clause-seals
 returns-in-Ok-None-clause-seals g c =
-    let block = g.C.SrtpCipher.block in
-    let keystream = g.C.SrtpCipher.keystream in
-    let aead = g.C.SrtpCipher.aead in
+    let K = g.C.SrtpCipher in
     let setup = c.args.setup.now in
+    let seal = sealing_of K.keystream K.aead K.block setup in
     let fine : setup_fault setup ≡ None = sym c.in-Ok-None.ensures ∙ c.in-Ok-None.field-0-is in
-    let wire = wire_laws block keystream aead setup c.header_reads_own_bytes.ensures c.plain_header_is_read_again.ensures c.headers_are_as_long.ensures.plain
-    c.rtp_seals_apart.ensures c.rtp_seal_keeps_header.ensures in
-    let laws = of_run (sealing_of keystream aead block setup) setup c.args.steps.now wire fine c.play_all.result c.play_all.ensures.played c.play_all.ensures.cause in
-    each_of {P = HoldsOf (sealing_of keystream aead block setup) setup} c.play_all.result (λ (es : List Entry) h. h.seals) laws
+    let wire = wire_laws K.block K.keystream K.aead setup c.header_reads_own_bytes.ensures c.rtp_seals_apart.ensures c.rtp_seal_keeps_header.ensures in
+    each_of {P = HoldsOfRun seal setup} c.play_all.result (λ (es : List Entry) h. h.seals)
+    (of_run seal setup c.args.steps.now wire fine c.play_all.result c.play_all.ensures.played c.play_all.ensures.cause)
 
 pub returns-in-Ok-None-clause-nonces : goal.returns-in-Ok-None-clause-nonces
 returns-in-Ok-None-clause-nonces g c =
-    let block = g.C.SrtpCipher.block in
-    let keystream = g.C.SrtpCipher.keystream in
-    let aead = g.C.SrtpCipher.aead in
+    let K = g.C.SrtpCipher in
     let setup = c.args.setup.now in
+    let seal = sealing_of K.keystream K.aead K.block setup in
     let fine : setup_fault setup ≡ None = sym c.in-Ok-None.ensures ∙ c.in-Ok-None.field-0-is in
-    let wire = wire_laws block keystream aead setup c.header_reads_own_bytes.ensures c.plain_header_is_read_again.ensures c.headers_are_as_long.ensures.plain
-    c.rtp_seals_apart.ensures c.rtp_seal_keeps_header.ensures in
-    let laws = of_run (sealing_of keystream aead block setup) setup c.args.steps.now wire fine c.play_all.result c.play_all.ensures.played c.play_all.ensures.cause in
-    each_of {P = HoldsOf (sealing_of keystream aead block setup) setup} c.play_all.result (λ (es : List Entry) h. h.nonces) laws
+    let wire = wire_laws K.block K.keystream K.aead setup c.header_reads_own_bytes.ensures c.rtp_seals_apart.ensures c.rtp_seal_keeps_header.ensures in
+    each_of {P = HoldsOfRun seal setup} c.play_all.result (λ (es : List Entry) h. h.nonces)
+    (of_run seal setup c.args.steps.now wire fine c.play_all.result c.play_all.ensures.played c.play_all.ensures.cause)
 
 pub returns-in-Ok-None-clause-sendings : goal.returns-in-Ok-None-clause-sendings
 returns-in-Ok-None-clause-sendings g c =
-    let block = g.C.SrtpCipher.block in
-    let keystream = g.C.SrtpCipher.keystream in
-    let aead = g.C.SrtpCipher.aead in
+    let K = g.C.SrtpCipher in
     let setup = c.args.setup.now in
+    let seal = sealing_of K.keystream K.aead K.block setup in
     let fine : setup_fault setup ≡ None = sym c.in-Ok-None.ensures ∙ c.in-Ok-None.field-0-is in
-    let wire = wire_laws block keystream aead setup c.header_reads_own_bytes.ensures c.plain_header_is_read_again.ensures c.headers_are_as_long.ensures.plain
-    c.rtp_seals_apart.ensures c.rtp_seal_keeps_header.ensures in
-    let laws = of_run (sealing_of keystream aead block setup) setup c.args.steps.now wire fine c.play_all.result c.play_all.ensures.played c.play_all.ensures.cause in
-    each_of {P = HoldsOf (sealing_of keystream aead block setup) setup} c.play_all.result (λ (es : List Entry) h. h.sendings) laws
+    let wire = wire_laws K.block K.keystream K.aead setup c.header_reads_own_bytes.ensures c.rtp_seals_apart.ensures c.rtp_seal_keeps_header.ensures in
+    each_of {P = HoldsOfRun seal setup} c.play_all.result (λ (es : List Entry) h. h.sendings)
+    (of_run seal setup c.args.steps.now wire fine c.play_all.result c.play_all.ensures.played c.play_all.ensures.cause)
 
 pub returns-in-Ok-None-clause-yields : goal.returns-in-Ok-None-clause-yields
 returns-in-Ok-None-clause-yields g c =
-    let block = g.C.SrtpCipher.block in
-    let keystream = g.C.SrtpCipher.keystream in
-    let aead = g.C.SrtpCipher.aead in
+    let K = g.C.SrtpCipher in
     let setup = c.args.setup.now in
+    let seal = sealing_of K.keystream K.aead K.block setup in
     let fine : setup_fault setup ≡ None = sym c.in-Ok-None.ensures ∙ c.in-Ok-None.field-0-is in
-    let wire = wire_laws block keystream aead setup c.header_reads_own_bytes.ensures c.plain_header_is_read_again.ensures c.headers_are_as_long.ensures.plain
-    c.rtp_seals_apart.ensures c.rtp_seal_keeps_header.ensures in
-    let laws = of_run (sealing_of keystream aead block setup) setup c.args.steps.now wire fine c.play_all.result c.play_all.ensures.played c.play_all.ensures.cause in
-    each_of {P = HoldsOf (sealing_of keystream aead block setup) setup} c.play_all.result (λ (es : List Entry) h. h.yields) laws
+    let wire = wire_laws K.block K.keystream K.aead setup c.header_reads_own_bytes.ensures c.rtp_seals_apart.ensures c.rtp_seal_keeps_header.ensures in
+    each_of {P = HoldsOfRun seal setup} c.play_all.result (λ (es : List Entry) h. h.yields)
+    (of_run seal setup c.args.steps.now wire fine c.play_all.result c.play_all.ensures.played c.play_all.ensures.cause)
 
 pub returns-in-Ok-None-clause-once : goal.returns-in-Ok-None-clause-once
 returns-in-Ok-None-clause-once g c =
-    let block = g.C.SrtpCipher.block in
-    let keystream = g.C.SrtpCipher.keystream in
-    let aead = g.C.SrtpCipher.aead in
+    let K = g.C.SrtpCipher in
     let setup = c.args.setup.now in
+    let seal = sealing_of K.keystream K.aead K.block setup in
     let fine : setup_fault setup ≡ None = sym c.in-Ok-None.ensures ∙ c.in-Ok-None.field-0-is in
-    let wire = wire_laws block keystream aead setup c.header_reads_own_bytes.ensures c.plain_header_is_read_again.ensures c.headers_are_as_long.ensures.plain
-    c.rtp_seals_apart.ensures c.rtp_seal_keeps_header.ensures in
-    let laws = of_run (sealing_of keystream aead block setup) setup c.args.steps.now wire fine c.play_all.result c.play_all.ensures.played c.play_all.ensures.cause in
-    each_of {P = HoldsOf (sealing_of keystream aead block setup) setup} c.play_all.result (λ (es : List Entry) h. h.once) laws
+    let wire = wire_laws K.block K.keystream K.aead setup c.header_reads_own_bytes.ensures c.rtp_seals_apart.ensures c.rtp_seal_keeps_header.ensures in
+    each_of {P = HoldsOfRun seal setup} c.play_all.result (λ (es : List Entry) h. h.once)
+    (of_run seal setup c.args.steps.now wire fine c.play_all.result c.play_all.ensures.played c.play_all.ensures.cause)
 
 pub returns-in-Ok-None-clause-exactly : goal.returns-in-Ok-None-clause-exactly
 returns-in-Ok-None-clause-exactly g c =
-    let block = g.C.SrtpCipher.block in
-    let keystream = g.C.SrtpCipher.keystream in
-    let aead = g.C.SrtpCipher.aead in
+    let K = g.C.SrtpCipher in
     let setup = c.args.setup.now in
+    let seal = sealing_of K.keystream K.aead K.block setup in
     let fine : setup_fault setup ≡ None = sym c.in-Ok-None.ensures ∙ c.in-Ok-None.field-0-is in
-    let wire = wire_laws block keystream aead setup c.header_reads_own_bytes.ensures c.plain_header_is_read_again.ensures c.headers_are_as_long.ensures.plain
-    c.rtp_seals_apart.ensures c.rtp_seal_keeps_header.ensures in
-    let laws = of_run (sealing_of keystream aead block setup) setup c.args.steps.now wire fine c.play_all.result c.play_all.ensures.played c.play_all.ensures.cause in
-    each_of {P = HoldsOf (sealing_of keystream aead block setup) setup} c.play_all.result (λ (es : List Entry) h. h.exactly) laws
+    let wire = wire_laws K.block K.keystream K.aead setup c.header_reads_own_bytes.ensures c.rtp_seals_apart.ensures c.rtp_seal_keeps_header.ensures in
+    each_of {P = HoldsOfRun seal setup} c.play_all.result (λ (es : List Entry) h. h.exactly)
+    (of_run seal setup c.args.steps.now wire fine c.play_all.result c.play_all.ensures.played c.play_all.ensures.cause)

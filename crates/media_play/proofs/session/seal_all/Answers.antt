@@ -4,6 +4,7 @@ use Rattle.std.specs.Iterator.{Yields}
 use Rattle.std.specs.Vec.Iter.{into_iter_items, into_iter_steps}
 use Rattle.std.specs.declared.vec.IntoIter.{IntoIter}
 use Rattle.media_model.specs.declared.entry.Entry.{Entry}
+use Rattle.media_model.specs.declared.entry.Entry.TheVariants.{Sealed}
 use Rattle.media_play.specs.Packets.{WaitingPacket, waiting_of, seal_in, sealed_packet}
 use Rattle.media_play.proofs.session.seal_all.Goals as goal
 
@@ -18,7 +19,7 @@ map_map g f (x ∷ xs) = ap (λ ys. g (f x) ∷ ys) (map_map g f xs)
 
 pub returns-clause-sealed : goal.returns-clause-sealed
 returns-clause-sealed g c writes e =
-    let seal = sealed_packet (seal_in g.C.SrtpCipher.keystream g.C.SrtpCipher.aead c.args.context.now) c.args.side in
+    let seal : WaitingPacket → Entry = λ w. Sealed (sealed_packet (seal_in g.C.SrtpCipher.keystream g.C.SrtpCipher.aead c.args.context.now) c.args.side w) in
     let xs = c.loop-packet.yielded in
     let t = c.loop-packet.packet-iterator in
     let none : into_iter_items t ≡ [] = nil_from_length (into_iter_items t) (sym t.rest.ok.0 ∙ c.in-None.ensures.steps.0) in

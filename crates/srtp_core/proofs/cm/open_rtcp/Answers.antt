@@ -3,12 +3,12 @@ use Rattle.srtp_core.proofs.CmParts.{Split, encrypted_opens, clear_opens, rtcp_c
 use Rattle.srtp_core.proofs.cm.open_rtcp.Goals as goal
 
 pub returns-then-buf-lt22-clause-none : goal.returns-then-buf-lt22-clause-none
-returns-then-buf-lt22-clause-none g c = λ p o. rtcp_short g.C.SrtpCipher.keystream (g.C.SrtpCipher.bytes_128 c.args.keys.now.key) c.args.keys.now.authentication c.args.keys.now.salt c.args.buf.now p c.if-buf-lt22.true o
+returns-then-buf-lt22-clause-none g c = λ p o. rtcp_short g.C.SrtpCipher.meaning (g.C.SrtpCipher.bytes_128 c.args.keys.now.key) c.args.keys.now.authentication c.args.keys.now.salt c.args.buf.now p c.if-buf-lt22.true o
 
 pub returns-then-not-rtcp_verify-clause-none : goal.returns-then-not-rtcp_verify-clause-none
 returns-then-not-rtcp_verify-clause-none g c =
     λ p o.
-    let yes : c.rtcp_verify.result ≡ true = c.rtcp_verify.ensures.1 (rtcp_code g.C.SrtpCipher.keystream (g.C.SrtpCipher.bytes_128 c.args.keys.now.key) c.args.keys.now.authentication c.args.keys.now.salt c.args.buf.now c.split_at.result.0.now c.split_at.result.1.now p (omega arith) c.split_at.ensures.front c.split_at.ensures.back o) in
+    let yes : c.rtcp_verify.result ≡ true = c.rtcp_verify.ensures.1 (rtcp_code g.C.SrtpCipher.meaning (g.C.SrtpCipher.bytes_128 c.args.keys.now.key) c.args.keys.now.authentication c.args.keys.now.salt c.args.buf.now c.split_at.result.0.now c.split_at.result.1.now p (omega arith) c.split_at.ensures.front c.split_at.ensures.back o) in
     cc
 
 pub returns-in_ok-deciphered-clause-some : goal.returns-in_ok-deciphered-clause-some
@@ -24,7 +24,7 @@ returns-in_ok-deciphered-clause-some g c =
       is = c.number_of-number.ensures;
       fits = omega arith;
     } in
-    encrypted_opens g.C.SrtpCipher.keystream (g.C.SrtpCipher.bytes_128 c.args.keys.now.key) c.args.keys.now.authentication c.args.keys.now.salt c.args.buf.now c.split_at.result.0.now c.split_at.result.1.now c.split_at-2.result.0.now c.split_at-2.result.1.now c.in_ok-deciphered.field-0.items c.number_of-number.result s (c.rtcp_verify.ensures.0 c.if-not-rtcp_verify.false) (omega arith) c.in_ok-deciphered.ensures
+    encrypted_opens g.C.SrtpCipher.meaning (g.C.SrtpCipher.bytes_128 c.args.keys.now.key) c.args.keys.now.authentication c.args.keys.now.salt c.args.buf.now c.split_at.result.0.now c.split_at.result.1.now c.split_at-2.result.0.now c.split_at-2.result.1.now c.in_ok-deciphered.field-0.items c.number_of-number.result s (c.rtcp_verify.ensures.0 c.if-not-rtcp_verify.false) (omega arith) c.in_ok-deciphered.ensures
 
 pub returns-in_ok-copied-clause-some : goal.returns-in_ok-copied-clause-some
 returns-in_ok-copied-clause-some g c =
@@ -39,4 +39,4 @@ returns-in_ok-copied-clause-some g c =
       is = c.number_of-number.ensures;
       fits = omega arith;
     } in
-    clear_opens g.C.SrtpCipher.keystream (g.C.SrtpCipher.bytes_128 c.args.keys.now.key) c.args.keys.now.authentication c.args.keys.now.salt c.args.buf.now c.split_at.result.0.now c.split_at.result.1.now c.split_at-2.result.0.now c.split_at-2.result.1.now c.in_ok-copied.field-0.items c.number_of-number.result s (c.rtcp_verify.ensures.0 c.if-not-rtcp_verify.false) (omega arith) c.in_ok-copied.ensures
+    clear_opens g.C.SrtpCipher.meaning (g.C.SrtpCipher.bytes_128 c.args.keys.now.key) c.args.keys.now.authentication c.args.keys.now.salt c.args.buf.now c.split_at.result.0.now c.split_at.result.1.now c.split_at-2.result.0.now c.split_at-2.result.1.now c.in_ok-copied.field-0.items c.number_of-number.result s (c.rtcp_verify.ensures.0 c.if-not-rtcp_verify.false) (omega arith) c.in_ok-copied.ensures

@@ -2,4 +2,4 @@ use Rattle.srtp_core.proofs.RtcpSealing.{states}
 use Rattle.srtp_core.proofs.laws.rtcp_states.Goals as goal
 
 pub returns : goal.returns
-returns g c = states g.C.SrtpCipher.keystream g.C.SrtpCipher.aead
+returns g c = states g.C.SrtpCipher.meaning

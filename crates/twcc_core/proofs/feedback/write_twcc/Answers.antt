@@ -4,7 +4,8 @@ use Rattle.std.specs.List.{flat_map}
 use Rattle.twcc_core.specs.Wire.{halves, words, Puts}
 use Rattle.twcc_core.specs.Statuses.{delta_text}
 use Rattle.twcc_core.specs.Chunks.{chunks_of}
-use Rattle.twcc_core.specs.Feedback.{bits24, fill_of, twcc_fields, twcc_bytes}
+use Rattle.twcc_core.specs.Feedback.{fill_of, twcc_fields, twcc_bytes}
+use Rattle.rtp_base.specs.Fields.{bits24}
 use Rattle.twcc_core.specs.declared.feedback.Twcc.{Twcc}
 use Rattle.twcc_core.proofs.Rows.{puts_on, zeros_are}
 use Rattle.twcc_core.proofs.feedback.write_twcc.Goals as goal

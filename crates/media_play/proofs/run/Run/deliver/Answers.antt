@@ -8,5 +8,5 @@ pub returns-clause-done : goal.returns-clause-done
 returns-clause-done g c setup steps sound running =
     let known = c.in_ok-datagram_for.ensures in
     c.in_ok-receive.ensures.done setup steps (Deliver c.args.side c.args.time c.args.datagram) sound running
-    (delivered c.args.datagram c.in_ok-bytes.bytes known.1 (known.2 ∙ ap Some (sym c.in_ok-bytes.ensures)))
+    (delivered c.args.side c.args.time c.args.datagram c.in_ok-bytes.bytes known.1 (known.2 ∙ ap Some (sym c.in_ok-bytes.ensures)))
     (no_fault _ _ (c.in_ok-check_time.ensures c.args.self.now.log running.time) known.0)

@@ -1,5 +1,6 @@
 use Rattle.std.proofs.Common.{List, ℕ, sym, subst, ◌∙◌}
 use Rattle.media_model.specs.declared.step.Step.TheVariants.{Foreign}
+use Rattle.media_play.specs.Opening.{got_as}
 use Rattle.media_play.specs.Play.{Brings, foreign}
 use Rattle.media_play.proofs.run.Run.foreign.Goals as goal
 
@@ -11,5 +12,5 @@ returns-clause-done g c setup steps sound running =
     let bytes = c.args.bytes.now in
     let log = c.args.self.now.log in
     c.in_ok-receive.ensures.done setup steps (Foreign side time kind bytes) sound running
-    (subst (λ (l : List ℕ). Brings log side time kind l (Foreign side time kind bytes)) (sym (c.in_ok-bytes.ensures ∙ c.as_slice.ensures)) (foreign kind bytes))
+    (subst (λ (l : List ℕ). Brings log (got_as side time kind l) (Foreign side time kind bytes)) (sym (c.in_ok-bytes.ensures ∙ c.as_slice.ensures)) (foreign (got_as side time kind bytes)))
     (c.in_ok-check_time.ensures log running.time)

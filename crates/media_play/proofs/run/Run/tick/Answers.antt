@@ -19,8 +19,8 @@ returns-clause-done g c setup steps sound running =
     elim c.match-side.branch [
       | in-A+in_ok-tick_step-in-A w ↦
           rw w.self-inside-is
-          (ticks_a K.block seal setup run steps before side time fault w.tick_step.new.log w.in-A.is w.tick_step.new.session (w.in_ok-tick_step-in-A.ensures.ready setup run.log))
+          (ticks_a K.block seal setup run steps before side time fault w.tick_step.new.log w.in-A.is w.tick_step.new.session (w.in_ok-tick_step-in-A.ensures.ready setup steps sound before.played))
       | in-B+in_ok-tick_step-in-B w ↦
           rw w.self-inside-is
-          (ticks_b K.block seal setup run steps before side time fault w.tick_step-in-B.new.log w.in-B.is w.tick_step-in-B.new.session (w.in_ok-tick_step-in-B.ensures.ready setup run.log))
+          (ticks_b K.block seal setup run steps before side time fault w.tick_step-in-B.new.log w.in-B.is w.tick_step-in-B.new.session (w.in_ok-tick_step-in-B.ensures.ready setup steps sound before.played))
     ]

@@ -13,5 +13,5 @@ returns-clause-waiting c =
 pub returns-clause-after : goal.returns-clause-after
 returns-clause-after c =
     on_ok_weaker c.take_waiting.result
-    (λ e seal setup side entries time h. knows_ticked seal setup side entries time c.args.self.now _ (all_written emptied c.args.self.now.outgoing.items c.take_waiting.new.outgoing c.deref_mut.result.now _ c.args.self.now.outgoing.ok.0 e c.deref_mut.ensures.value) refl refl h)
+    (λ e seal setup side entries time sealed all h. knows_ticked seal setup side entries time sealed all c.args.self.now _ (all_written emptied c.args.self.now.outgoing.items c.take_waiting.new.outgoing c.deref_mut.result.now _ c.args.self.now.outgoing.ok.0 e c.deref_mut.ensures.value) refl refl h)
     c.take_waiting.ensures.emptied

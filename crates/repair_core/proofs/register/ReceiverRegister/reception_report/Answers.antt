@@ -1,8 +1,8 @@
 use Rattle.std.proofs.Common.{◌≡◌, ◌∙◌, ℕ, ℤ, pos, negsuc, to_z, of_z, w32, arith, Option, Some, ap, sym}
 use Rattle.std.proofs.lemmas.Int.{to_z-of_z}
 use Rattle.std.specs.Prelude.{FitsSigned}
-use Rattle.rtcp_wire.specs.Laws.{IsSigned24}
-use Rattle.rtcp_wire.specs.declared.report.ReceptionReport.{ReceptionReport}
+use Rattle.rtp_base.specs.Fields.{IsSigned24}
+use Rattle.rtp_base.specs.declared.reception_report.ReceptionReport.{ReceptionReport}
 use Rattle.repair_core.specs.Fresh.{greatest_of}
 use Rattle.repair_core.specs.Rounds.{taken}
 use Rattle.repair_core.specs.Reception.{reported, heard, first_in, received, last_counts, jitter_in, expected_of, fraction_of, lost_of, block_of, report_from}

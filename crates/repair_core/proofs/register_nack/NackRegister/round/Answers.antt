@@ -1,5 +1,5 @@
 use Rattle.std.proofs.Common.{◌≡◌, ◌∙◌, ◌+◌, ◌-◌, ◌++◌, ◌∷◌, ℕ, Bool, cond, List, Option, Some, ap, sym, subst, arith, length}
-use Rattle.rtcp_wire.specs.declared.nack.NackEntry.{NackEntry}
+use Rattle.rtp_base.specs.declared.nack_entry.NackEntry.{NackEntry}
 use Rattle.repair_core.specs.declared.missing.Missing.{Missing}
 use Rattle.repair_core.specs.declared.slots.Slot.{Slot}
 use Rattle.repair_core.specs.declared.register_nack.NackRegister.{NackRegister}

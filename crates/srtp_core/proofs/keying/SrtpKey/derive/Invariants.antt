@@ -5,7 +5,7 @@ use Rattle.srtp_core.proofs.keying.SrtpKey.derive.Given as goal
 
 abbrev pub invariant-loop-i : goal.invariant-loop-i
 invariant-loop-i g l =
-    let block = g.C.SrtpCipher.block l.self.master in
+    let block = g.C.SrtpCipher.meaning.block l.self.master in
     record {
       key : l.key ≡ l.self.master;
       long : length l.block ≡ 16;

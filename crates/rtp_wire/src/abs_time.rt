@@ -1,9 +1,9 @@
 // Moments as header extensions tell them.
 ghost use Rattle.std.specs.Prelude.{◌≡◌, ◌%◌, ◌<◌, ◌≤◌, ◌^◌};
-ghost use Rattle.media_base.specs.Wallclock.{ntp_nanos};
-ghost use Rattle.rtp_base.specs.Moments.{send_units, sent_at};
+ghost use Rattle.media_units.specs.Wallclock.{ntp_nanos};
+ghost use Rattle.rtp_wire.specs.AbsTime.{send_units, sent_at};
 
-use media_base::{Beginning, Duration, Instant, InstantExt, already_happened};
+use media_units::{Beginning, Duration, Instant, InstantExt, already_happened};
 use std::marker::Model;
 
 /// When a packet was sent: NTP seconds in units of 2^-18 s, modulo 2^24. Contracts see the number.

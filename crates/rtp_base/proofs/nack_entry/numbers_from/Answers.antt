@@ -1,5 +1,5 @@
 use Rattle.std.proofs.Common.{◌≡◌, ◌∙◌, arith}
-use Rattle.rtcp_wire.proofs.nack.numbers_from.Goals as goal
+use Rattle.rtp_base.proofs.nack_entry.numbers_from.Goals as goal
 
 pub returns : goal.returns
 returns c =

@@ -1,6 +1,6 @@
 use Rattle.std.proofs.Common.{◌≡◌, ◌≤◌, ◌+◌, length, ◌∷◌}
-use Rattle.rtcp_wire.specs.Named.{named_below}
-use Rattle.rtcp_wire.proofs.nack.numbers_from.Given as goal
+use Rattle.rtp_base.specs.NackEntry.{named_below}
+use Rattle.rtp_base.proofs.nack_entry.numbers_from.Given as goal
 
 abbrev pub invariant-loop-i : goal.invariant-loop-i
 invariant-loop-i l = record {

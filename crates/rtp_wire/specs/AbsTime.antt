@@ -1,6 +1,6 @@
 -- The moment that the 24 bits of an absolute send time tell.
 use Rattle.std.specs.Prelude.{ℕ, ◌+◌, ◌-◌, ◌*◌, ◌/◌, ◌%◌, ◌^◌}
-use Rattle.media_base.specs.Wallclock.{ntp_nanos}
+use Rattle.media_units.specs.Wallclock.{ntp_nanos}
 
 -- nanoseconds in units of 2 ^ -18 s, rounded down
 abbrev pub send_units : ℕ → ℕ

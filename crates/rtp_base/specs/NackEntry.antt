@@ -1,7 +1,7 @@
 -- The numbers that an entry of a NACK names (RFC 4585 section 6.2.1).
 use Rattle.std.specs.Prelude.{ℕ, zero, suc, ◌+◌, ◌/◌, ◌%◌, ◌^◌, ◌==◌, List, [], ◌∷◌, ◌++◌, Option, if◌then◌else◌}
-use Rattle.rtp_wire.specs.Widen.{widen16}
-use Rattle.rtcp_wire.specs.declared.nack.NackEntry.{NackEntry}
+use Rattle.rtp_base.specs.Widen.{widen16}
+use Rattle.rtp_base.specs.declared.nack_entry.NackEntry.{NackEntry}
 
 -- what the lowest n bits name: bit i names the first number + i + 1
 unfoldable pub named_below : ℕ → ℕ → ℕ → List ℕ
