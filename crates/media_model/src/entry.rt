@@ -1,8 +1,9 @@
 ghost use Rattle.std.specs.Prelude.{◌≡◌, Some};
-ghost use Rattle.media_model.specs.Sides.{peer_of};
+ghost use Rattle.media_model.specs.Sides.{peer_of, side_text, kind_text};
 
 use media_base::{Bytes, Instant, Listed};
 use rtp_wire::{Pt, SeqNo, Ssrc};
+use std::fmt;
 
 /// One of the two sessions of a run.
 #[derive(Clone, Copy, Debug, PartialEq, Eq, PartialOrd, Ord, Hash)]
@@ -23,6 +24,17 @@ impl Side {
     }
 }
 
+impl fmt::Display for Side {
+    ghost output = { λ s. Some (side_text s) };
+
+    fn fmt<W: fmt::Write>(&self, f: &mut fmt::Formatter<W>) -> fmt::Result {
+        match self {
+            Side::A => write!(f, "A"),
+            Side::B => write!(f, "B"),
+        }
+    }
+}
+
 /// What a datagram carries.
 #[derive(Clone, Copy, Debug, PartialEq, Eq, PartialOrd, Ord, Hash)]
 pub enum Kind {
@@ -30,6 +42,17 @@ pub enum Kind {
     Rtp,
     /// Reports and feedback (RFC 3550 section 6).
     Rtcp,
+}
+
+impl fmt::Display for Kind {
+    ghost output = { λ k. Some (kind_text k) };
+
+    fn fmt<W: fmt::Write>(&self, f: &mut fmt::Formatter<W>) -> fmt::Result {
+        match self {
+            Kind::Rtp => write!(f, "rtp"),
+            Kind::Rtcp => write!(f, "rtcp"),
+        }
+    }
 }
 
 /// A packet that an application gives to its session to be sent.

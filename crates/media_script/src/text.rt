@@ -1,34 +1,12 @@
 // The text of a transcript.
 ghost use Rattle.std.specs.Prelude.{◌≡◌, ◌++◌, Some, IfOk, OnOk, string_bytes};
-ghost use Rattle.media_script.specs.Names.{side_text, kind_text, flag_text};
+ghost use Rattle.media_script.specs.Names.{flag_text};
 ghost use Rattle.media_script.specs.Text.{byte_text, hex_text, answer_text, line_text, entries_text, end_text, text_of};
 
-use media_model::{Entry, Kind, Setup, Side, Transcript};
+use media_model::{Entry, Setup, Transcript};
 use std::alloc::{AllocError, Global};
-use std::fmt::Write;
 use std::fmt;
-
-impl fmt::Display for Side {
-    ghost output = { λ s. Some (side_text s) };
-
-    fn fmt<W: fmt::Write>(&self, f: &mut fmt::Formatter<W>) -> fmt::Result {
-        match self {
-            Side::A => write!(f, "A"),
-            Side::B => write!(f, "B"),
-        }
-    }
-}
-
-impl fmt::Display for Kind {
-    ghost output = { λ k. Some (kind_text k) };
-
-    fn fmt<W: fmt::Write>(&self, f: &mut fmt::Formatter<W>) -> fmt::Result {
-        match self {
-            Kind::Rtp => write!(f, "rtp"),
-            Kind::Rtcp => write!(f, "rtcp"),
-        }
-    }
-}
+use std::fmt::Write;
 
 #[derive(Clone, Copy)]
 struct Byte(u8);

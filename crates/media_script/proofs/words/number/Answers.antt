@@ -2,7 +2,7 @@ use Rattle.std.proofs.Common.{◌≡◌, ◌+◌, take, ap, arith, below_more, s
 use Rattle.std.specs.Str.Parse.{digits_value}
 use Rattle.std.proofs.lemmas.List.{take_all}
 use Rattle.media_script.proofs.Numbers.{stops_at_byte, stops_at_limit, value_more, ends}
-use Rattle.media_script.proofs.fields.number.Goals as goal
+use Rattle.media_script.proofs.words.number.Goals as goal
 
 pub returns-then-not-is_ascii_digit : goal.returns-then-not-is_ascii_digit
 returns-then-not-is_ascii_digit c = stops_at_byte c.args.word.now c.loop-b.b-index c.loop-b-test.true (sym c.if-not-is_ascii_digit.ensures.value)

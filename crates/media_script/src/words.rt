@@ -3,13 +3,13 @@ ghost use Rattle.std.specs.Prelude.{◌≡◌, ◌^◌, IsTrue, IfOk};
 ghost use Rattle.std.specs.Option.{ForSome, option_copied};
 ghost use Rattle.std.specs.Char.{is_ascii_alphanumeric};
 ghost use Rattle.std.specs.List.{list_all};
-ghost use Rattle.media_script.specs.Words.{plain_front, number_of, narrow_of, time_of, side_of, flag_of, hex_of, kind_of, cipher_of, profile_of, key_of, codec_of, media_kind_of, rate_of, is_name, name_of, optional};
+ghost use Rattle.media_script.specs.Words.{plain_front, number_of, narrow_of, time_of, side_of, flag_of, hex_of, kind_of, profile_of, key_of, codec_of, media_kind_of, rate_of, is_name, name_of, optional};
 ghost use Rattle.media_script.specs.Gives.{Gives};
 
 use crate::error::LineError;
 use hex::FromHexError;
 use media_base::Bytes;
-use media_model::{CipherName, Codec, Key, Kind, MediaKind, Side};
+use media_model::{Codec, Key, Kind, MediaKind, Side};
 use rtp_wire::{Mid, Rid};
 use srtp_core::SrtpProfile;
 use std::alloc::Global;
@@ -136,17 +136,6 @@ pub fn kind(word: &[u8]) -> Result<Kind, LineError>
 {
     if word == b"rtp".as_slice() {
         Ok(Kind::Rtp)
-    } else {
-        Err(LineError::Outside)
-    }
-}
-
-#[tactic(auto, unfolding(crate::specs::Words::cipher_of))]
-pub fn cipher(word: &[u8]) -> Result<CipherName, LineError>
-    ensures { Gives (λ c. c) result (cipher_of word.now) }
-{
-    if word == b"toy".as_slice() {
-        Ok(CipherName::Toy)
     } else {
         Err(LineError::Outside)
     }
