@@ -1,6 +1,6 @@
 -- What a ring holds after an entry was put in, after it grew and after entries were dropped.
 use Rattle.std.proofs.Common.{◌≡◌, ◌≢◌, ℕ, zero, suc, ◌+◌, ◌-◌, ◌%◌, ◌<◌, ◌≤◌, Bool, true, false, cond, eqb, leb, List, [], ◌∷◌, refl, sym, ap, ◌∙◌, subst, arith, length, replicate, map, drop, inl, inr, add-one, ⊎_elim, ◌⊎◌, Option, Some, None}
-use Rattle.std.specs.Prelude.{◌||◌, ◌&&◌, nat_eq, slice_index_or, slice_set}
+use Rattle.std.specs.Prelude.{◌||◌, nat_eq, slice_index_or, slice_set}
 use Rattle.std.specs.List.{list_any}
 use Rattle.std.proofs.lemmas.Bool.Decides.{nat_tests}
 use Rattle.std.proofs.lemmas.List.{get_or-set_other, get_or-set_same, get_or-replicate, get_or_past, length-set, length-replicate, length-map}
@@ -8,7 +8,7 @@ use Rattle.std.proofs.Math.Seq.{drop-cons}
 use Rattle.std.proofs.Math.ListN.{get_or-map}
 use Rattle.std.proofs.lemmas.Bool.{cases_eq, cases_lt}
 use Rattle.resend_core.specs.declared.ring.Entry.{Entry}
-use Rattle.resend_core.specs.Ring.{matching, slot_of, held, yields_below, put_in, settled, settled_all, clashes, lower, least_young, is_below, is_above, raise, kept_from, IsIn, IsInPlace}
+use Rattle.resend_core.specs.Ring.{matching, slot_of, held, yields_below, put_in, settled, settled_all, clashes, lower, least_young, is_below, kept_from, IsIn, IsInPlace}
 
 pub in_at : {T : Type 0} (ring : List (Option (Entry T))) (i : ℕ) (e : Entry T) → slice_index_or ring i None ≡ Some e → IsIn e ring
 in_at [] i e h = absurd (let no : None ≡ Some e = h in cc)
@@ -416,10 +416,3 @@ least_le {T} now age first (Some f ∷ slots) e (inl h) y =
     (r.0, ap (λ (b : Bool). least_young now age (cond b (lower first f.position) first) slots) test ∙ ap (λ (o : Option ℕ). least_young now age o slots) w.1 ∙ r.1, below r.0 w.0 f.position e.position r.2 w.2 at) where
       below : (a b c d : ℕ) → a ≤ b → b ≤ c → c ≡ d → a ≤ d
       below a b c d x y z = omega arith
-
-pub raise_from : {T : Type 0} (last : Option ℕ) (slot : Option (Entry T)) (first : Option ℕ) (p : ℕ) → raise last slot first ≡ Some p → (last ≡ Some p) ⊎ ((e : Entry T) × (slot ≡ Some e) × (e.position ≡ p))
-raise_from last None first p h = inl h
-raise_from {T} last (Some e) first p h = pick (is_below first e.position && is_above last e.position) h where
-  pick : (b : Bool) → cond b (Some e.position) last ≡ Some p → (last ≡ Some p) ⊎ ((f : Entry T) × (Some e ≡ Some f) × (f.position ≡ p))
-  pick true k = inr (e, refl, cc)
-  pick false k = inl k
