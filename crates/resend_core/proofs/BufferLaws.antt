@@ -9,7 +9,7 @@ use Rattle.std.proofs.Math.Nat.{mul-le-mul_left}
 use Rattle.resend_core.specs.declared.ring.Entry.{Entry}
 use Rattle.resend_core.specs.declared.rtx_cache_buf.EvictingBuffer.{EvictingBuffer}
 use Rattle.resend_core.specs.Ring.{slot_of, held, yields_to, has_room, is_other, put_in, settled_all, clashes, kept_from, IsIn, IsInPlace}
-use Rattle.resend_core.specs.ResendStore.{Event, pushed, evicted, Past, with_event, emptied, size_of, greatest_by, last_under, stored_at, stored_position, greatest_stored, after_pushed, next_position, evicted_at, latest_eviction, IsRising, MustStore, MayGo, HeldAs, mark_above, IsMarked, is_under, IsPassedOver, MarksPush}
+use Rattle.resend_core.specs.ResendStore.{Event, pushed, evicted, Past, with_event, emptied, size_of, greatest_by, last_under, stored_at, stored_position, greatest_stored, after_pushed, next_position, evicted_at, latest_eviction, IsRising, MustStore, MayGo, HeldAs, mark_above, IsMarked, is_under, IsAtLeast, IsPassedOver, MarksPush}
 use Rattle.resend_core.specs.EvictingBuffer.{StandsFor, IsReady, Grows, Places, lowered, IsBounded, Drops, IsDone, IsPushed, takes_push}
 use Rattle.resend_core.proofs.RingLaws.{held_slot, held_in, in_held, slot_held, held_put_same, held_put_other, held_put_from, in_place_put, length-put, all_length, IsOutdone, no_use, no_clash, grown, grown_from, grown_in_place, dropped_in_place, dropped_from}
 use Rattle.resend_core.proofs.EventLaws.{greatest_by-push, greatest_by_grows, last_by-push, under_same, under_other, under_ignored, under_evicted, rising_front, under_stored, under_next, rising_order}
@@ -352,11 +352,22 @@ shut_stands b past p t v shut h = (false, λ m. sym shut ∙ must_take b past p 
 pub blocked_stands : {T : Type 0} (b : EvictingBuffer T) (past : Past T) (e : Entry T) → has_room b.ring.items e.position ≡ false → StandsFor b past → IsPushed past e.position e.moment e.value b
 blocked_stands b past e full h = (false, λ m. sym full ∙ must_room b past e.position e.moment h m, ignored_stands b past e.position e.moment e.value h)
 
-pub put_marks : {T : Type 0} (past : Past T) (p t : ℕ) (o : Option ℕ) → MarksPush past p t o (Some (unwrap_or o p))
-put_marks past p t o = record { either = inr refl; first = λ m. refl }
+-- the mark after a push
+pub put_marks : {T : Type 0} (was is : ℕ → Option T) (past : Past T) (p t : ℕ) (o : Option ℕ) → MarksPush was is past p t o (Some (unwrap_or o p))
+put_marks was is past p t o = record { either = inr (inl refl); first = λ m. (unwrap_or o p, refl, omega arith); rises = λ m k. at m k } where
+  at : (m : ℕ) → o ≡ Some m → IsAtLeast (Some (unwrap_or o p)) m
+  at m k = (m, ap (λ (x : Option ℕ). Some (unwrap_or x p)) k, omega arith)
 
-pub blocked_marks : {T : Type 0} (b : EvictingBuffer T) (past : Past T) (p t : ℕ) → has_room b.ring.items p ≡ false → StandsFor b past → MarksPush past p t b.mark b.mark
-blocked_marks b past p t full h = record { either = inl refl; first = λ m. absurd (let not_so : true ≡ false = sym (must_room b past p t h m) ∙ full in cc) }
+pub blocked_marks : {T : Type 0} (was is : ℕ → Option T) (b : EvictingBuffer T) (past : Past T) (p t : ℕ) → has_room b.ring.items p ≡ false → StandsFor b past → MarksPush was is past p t b.mark b.mark
+blocked_marks was is b past p t full h = record {
+  either = inl refl;
+  first = λ m. absurd (let not_so : true ≡ false = sym (must_room b past p t h m) ∙ full in cc);
+  rises = λ m k. (m, k, omega arith);
+}
+
+-- what the mark says does not hang on what was held, where no position went
+pub same_marks : {T : Type 0} (was was' is : ℕ → Option T) (past : Past T) (p t : ℕ) (o n : Option ℕ) → ((n ≡ o) ⊎ (n ≡ Some (unwrap_or o p))) → MarksPush was is past p t o n → MarksPush was' is past p t o n
+same_marks was was' is past p t o n e m = record { either = ⊎_elim (λ (k : n ≡ o). inl k) (λ (k : n ≡ Some (unwrap_or o p)). inr (inl k)) e; first = m.first; rises = m.rises }
 
 pub put_stands : {T : Type 0} (b b' : EvictingBuffer T) (past : Past T) (e : Entry T) → Places b b' e → has_room b.ring.items e.position ≡ true → IsReady b e.position → 0 < length b.ring.items → b.timeout ≤ e.moment → StandsFor b past → IsPushed past e.position e.moment e.value b'
 put_stands b b' past e w room ready some timely h = (true, λ m. refl, placed_stands b b' past e w room ready some timely h)
@@ -487,15 +498,3 @@ cleared_stands {T} b b' past items rest h = record {
   high = λ q x is. absurd (none_kept b.ring.items q x (ap (λ (r : List (Option (Entry T))). held r q) (sym items) ∙ is));
   young = λ r q x is. omega arith;
 }
-
--- what is held under a position
-pub held_as : {T : Type 0} (b : EvictingBuffer T) (past : Past T) (p : ℕ) → StandsFor b past → HeldAs past p (option_map (λ e. e.value) (held b.ring.items p))
-held_as {T} b past p h = pick (held b.ring.items p) refl where
-  pick : (o : Option (Entry T)) → held b.ring.items p ≡ o → HeldAs past p (option_map (λ e. e.value) o)
-  pick None is = λ t v last. ⊎_elim
-      (λ (k : held b.ring.items p ≡ Some (record { position = p; moment = t; value = v })). absurd (none_some (record { position = p; moment = t; value = v }) (sym is ∙ k)))
-      (λ (k : MayGo past p t). k)
-      (h.keeps p t v last) where
-        none_some : (e : Entry T) → None ≡ Some e → ⊥
-        none_some e k = cc
-  pick (Some e) is = (e.moment, h.true_to p e is, λ r. h.young r p e is)

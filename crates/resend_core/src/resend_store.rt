@@ -38,7 +38,7 @@ pub trait ResendStore<T: Drop>: Drop {
     fn push(&mut self, position: u64, timestamp: Instant, value: T) -> Result<(), AllocError>
         ensures ok { OnOk result ((past : Past T) → stands_for self.old past → IsPushedInto stands_for past position timestamp value self.new) }
         ensures passed { (past : Past T) → stands_for self.old past → IsPassedOver (mark self.old) past position timestamp → (self.new ≡ self.old) × IsOk result }
-        ensures marked { OnOk result ((past : Past T) → stands_for self.old past → MarksPush past position timestamp (mark self.old) (mark self.new)) }
+        ensures marked { OnOk result ((past : Past T) → stands_for self.old past → MarksPush (value_at self.old) (value_at self.new) past position timestamp (mark self.old) (mark self.new)) }
         ensures err { OnErr result (self.new ≡ self.old) };
 
     /// Drops values that are older than the age.
@@ -73,10 +73,20 @@ pub trait ResendStore<T: Drop>: Drop {
     /// The value of the position that was stored last, where it is held.
     fn last(&self) -> Option<&T>
         ensures { (past : Past T) → stands_for self.now past → option_copied result ≡ option_and_then (value_at self.now) (last_position past.events) };
+
+    /// What is held under a position is what the past lets be held.
+    ghost holds: { (s : Self) (past : Past T) (p : ℕ) → stands_for s past → HeldAs past p (value_at s p) };
+
+    /// Another value under a position where one is held is held there.
+    ghost value_here: { (s : Self) (p : ℕ) (v w : T) → value_at s p ≡ Some v → value_at (with_value s p w) p ≡ Some w };
+
+    /// Under other positions it changes nothing.
+    ghost value_other: { (s : Self) (p q : ℕ) (v w : T) → value_at s p ≡ Some v → (q ≡ p → ⊥) → value_at (with_value s p w) q ≡ value_at s q };
 }
 
 impl<T: Drop> ResendStore<T> for EvictingBuffer<T> {
     ghost use Rattle.resend_core.specs.EvictingBuffer.{StandsFor, value_at as value_of, with_value as with_value_at};
+    ghost use Rattle.resend_core.specs.HeldLaws.{held_as, value_here as here, value_other as other};
 
     ghost stands_for = { StandsFor };
 
@@ -85,6 +95,12 @@ impl<T: Drop> ResendStore<T> for EvictingBuffer<T> {
     ghost with_value = { with_value_at };
 
     ghost mark = { λ b. b.mark };
+
+    ghost holds = { held_as };
+
+    ghost value_here = { here };
+
+    ghost value_other = { other };
 
     fn new(
         alloc: Global,

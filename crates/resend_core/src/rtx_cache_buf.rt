@@ -1,4 +1,4 @@
-ghost use Rattle.std.specs.Prelude.{◌≡◌, ℕ, ◌-◌, ◌<◌, ◌≤◌, Bool, Option, Some, None, true, nat_le, is_some, option_and_then, length, OnSome, OnOk, OnErr, IfOk, IsOk};
+ghost use Rattle.std.specs.Prelude.{◌≡◌, ℕ, ◌-◌, ◌<◌, ◌≤◌, ◌⊎◌, unwrap_or, Bool, Option, Some, None, true, nat_le, is_some, option_and_then, length, OnSome, OnOk, OnErr, IfOk, IsOk};
 ghost use Rattle.std.specs.Option.{option_copied, option_copied_mut};
 ghost use Rattle.std.specs.Borrow.{sem};
 ghost use Rattle.std.specs.Bool.{OnTrue};
@@ -110,7 +110,8 @@ impl<T: Drop> EvictingBuffer<T> {
         requires roomy { 0 < length self.old.ring.items }
         requires timely { self.old.timeout ≤ entry.moment }
         ensures pushed { (past : Past T) → StandsFor self.old past → IsReady self.old entry.position → IsPushed past entry.position entry.moment entry.value self.new }
-        ensures marked { (past : Past T) → StandsFor self.old past → MarksPush past entry.position entry.moment self.old.mark self.new.mark }
+        ensures simple { (self.new.mark ≡ self.old.mark) ⊎ (self.new.mark ≡ Some (unwrap_or self.old.mark entry.position)) }
+        ensures marked { (past : Past T) → StandsFor self.old past → MarksPush (value_at self.old) (value_at self.new) past entry.position entry.moment self.old.mark self.new.mark }
     {
         if is_free(&self.ring, entry.position) {
             self.write(entry);
@@ -139,7 +140,7 @@ impl<T: Drop> EvictingBuffer<T> {
         ensures ok { OnOk result ((past : Past T) → StandsFor self.old past → IsPushed past position timestamp value self.new) }
         ensures inert { (past : Past T) → StandsFor self.old past → past.initial ≡ 0 → (self.new ≡ self.old) × IsOk result }
         ensures passed { (past : Past T) → StandsFor self.old past → IsPassedOver self.old.mark past position timestamp → (self.new ≡ self.old) × IsOk result }
-        ensures marked { OnOk result ((past : Past T) → StandsFor self.old past → MarksPush past position timestamp self.old.mark self.new.mark) }
+        ensures marked { OnOk result ((past : Past T) → StandsFor self.old past → MarksPush (value_at self.old) (value_at self.new) past position timestamp self.old.mark self.new.mark) }
         ensures err { OnErr result (self.new ≡ self.old) }
     {
         if !self.takes(position, timestamp) {
