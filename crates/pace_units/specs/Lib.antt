@@ -1,0 +1,5 @@
+pub mod Cluster
+pub mod Control
+pub mod Moments
+pub mod Probe
+pub mod Queue
