@@ -3,3 +3,4 @@ pub mod Control
 pub mod Moments
 pub mod Probe
 pub mod Queue
+pub mod Script

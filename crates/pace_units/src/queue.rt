@@ -87,7 +87,7 @@ fn first_of_priorities(one: QueuePriority, other: QueuePriority) -> QueuePriorit
 }
 
 // The earlier of two moments that may be there.
-fn earlier_of(one: Option<Instant>, other: Option<Instant>) -> Option<Instant>
+pub(crate) fn earlier_of(one: Option<Instant>, other: Option<Instant>) -> Option<Instant>
     ensures { result ≡ earlier_of one other }
 {
     match (one, other) {
