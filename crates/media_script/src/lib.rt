@@ -1,19 +1,20 @@
-//! Scripts of two media sessions and the transcripts of their runs, with their grammar and text.
+//! Scripts of two media sessions and the text of their transcripts: grammar, reading, writing.
 #![tactic(auto)]
 
 mod draft;
 mod error;
-mod fields;
 pub mod laws;
-mod left;
 mod lines;
 mod media_list;
+mod order;
 mod reader;
+mod said;
 mod setup_line;
 mod setup_lines;
 mod steps;
 mod text;
 mod text_lines;
+mod words;
 
 pub use error::ScriptError;
 pub use reader::read_script;

@@ -40,7 +40,7 @@ fn number_of(packet: Option<&Packet>) -> Option<u64> {
 
 #[test]
 fn cache_of_one(rt: HostRuntime) -> Result<(), Fail> {
-    let mut cache = RtxCache::new(rt.alloc(), 1, Duration::from_secs(3))?;
+    let mut cache: RtxCache<Packet> = RtxCache::new(rt.alloc(), 1, Duration::from_secs(3))?;
     cache.cache_sent_packet(Packet { number: 1, size: 8 }, millis(1))?;
     assert_eq!(rt;
         number_of(cache.get_cached_packet_smaller_than(25)),
@@ -53,7 +53,7 @@ fn cache_of_one(rt: HostRuntime) -> Result<(), Fail> {
 // The greatest class below the size, of which the packet cached last is held.
 #[test]
 fn by_size(rt: HostRuntime) -> Result<(), Fail> {
-    let mut cache = RtxCache::new(rt.alloc(), 20, Duration::from_secs(3))?;
+    let mut cache: RtxCache<Packet> = RtxCache::new(rt.alloc(), 20, Duration::from_secs(3))?;
     for (number, size) in [(1u64, 30usize), (2, 60), (3, 900), (4, 49), (5, 1_999)] {
         cache.cache_sent_packet(
             Packet {
@@ -101,7 +101,7 @@ fn surface_ample(rt: HostRuntime) -> Result<(), Fail> {
         *value = 'B';
     }
     assert_eq!(rt; buffer.get(1).copied(), Some('B'));
-    let mut cache = RtxCache::new(rt.alloc(), 2, Duration::from_secs(1))?;
+    let mut cache: RtxCache<Packet> = RtxCache::new(rt.alloc(), 2, Duration::from_secs(1))?;
     assert!(rt;
         cache
             .cache_sent_packet(Packet { number: 9, size: 1 }, millis(0))

@@ -1,0 +1,4 @@
+pub mod RedCount
+pub mod RedBlocks
+pub mod RedAgain
+pub mod Specs
