@@ -8,4 +8,3 @@ pub mod Order
 pub mod Spelling
 pub mod Text
 pub mod Words
-pub mod Laws

@@ -7,7 +7,7 @@ use Rattle.std.proofs.lemmas.List.{take_all}
 use Rattle.media_model.specs.declared.entry.Entry.{Entry}
 use Rattle.media_model.specs.declared.setup.Setup.{Setup as Given}
 use Rattle.media_model.specs.declared.step.Step.{Step as Act}
-use Rattle.media_script.specs.Grammar.{script_of}
+use Rattle.media_script.specs.FirstWrong.{IsFirstWrong}
 use Rattle.media_script.specs.Spelling.{IsScript}
 use Rattle.media_script.specs.Text.{entries_text}
 use Rattle.media_play.specs.declared.fault.StepFault.{StepFault}
@@ -69,7 +69,7 @@ no_fronts read entries count none =
 -- bytes that are no script
 pub syntax_makes : {X : Type 0} (view : X → List ℕ) (read : List ℕ) (number : ℕ) (entries : List Entry) (line : Result X AllocError) (ended : End) (last : List ℕ)
     → IsLastLine view (Syntax number) line ended last → IfOk line (λ text. view text ≡ syntax_line number) → entries ≡ []
-    → script_of read ≡ Err number → IsNoScript read
+    → IsFirstWrong read number → IsNoScript read
     → RunMakes read ended (reported ended entries) (entries_text entries ++ last)
 syntax_makes view read number entries (Ok text) ended last is said none wrong not_script =
     subst (λ (es : List Entry). RunMakes read ended (reported ended es) (entries_text es ++ last)) (sym none)

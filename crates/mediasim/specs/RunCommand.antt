@@ -1,14 +1,13 @@
 -- What the command run makes of a whole input.
-use Rattle.std.specs.Prelude.{ℕ, ◌≡◌, ◌⊎◌, ◌+◌, List, [], ◌++◌, take, codes, Err}
+use Rattle.std.specs.Prelude.{ℕ, ◌≡◌, ◌⊎◌, ◌+◌, List, [], ◌++◌, take, codes}
 use Rattle.std.specs.Fmt.{decimal}
 use Rattle.std.specs.declared.option.Option.{Option}
 use Rattle.std.specs.declared.option.Option.TheVariants.{Some, None}
-use Rattle.srtp_core.specs.Streams.{counter_mode}
-use Rattle.srtp_core.specs.Toy.{toy_block, toy_aead}
+use Rattle.srtp_core.specs.Toy.{toy_meaning}
 use Rattle.media_model.specs.declared.entry.Entry.{Entry}
 use Rattle.media_model.specs.declared.setup.Setup.{Setup as Given}
 use Rattle.media_model.specs.declared.step.Step.{Step as Act}
-use Rattle.media_script.specs.Grammar.{script_of}
+use Rattle.media_script.specs.FirstWrong.{IsFirstWrong}
 use Rattle.media_script.specs.Spelling.{IsScript}
 use Rattle.media_script.specs.Text.{entries_text, text_of}
 use Rattle.media_play.specs.declared.fault.SetupFault.{SetupFault}
@@ -28,7 +27,7 @@ use Rattle.mediasim.specs.declared.ends.End.TheVariants.{Done, Setup, Step, Read
 
 -- how the sides of a setup seal with the toy cipher
 abbrev pub toy_sealing : Given → Sealing
-toy_sealing setup = sealing_of (λ k. counter_mode (toy_block k)) toy_aead toy_block setup
+toy_sealing setup = sealing_of toy_meaning setup
 
 -- the fault lines that name a line, a rule of setups, or a step and a rule of steps
 abbrev pub syntax_line : ℕ → List ℕ
@@ -78,7 +77,7 @@ abbrev pub RunMakes : List ℕ → End → Option (List Entry) → List ℕ → 
 RunMakes read Done transcript text = ScriptEnds read Done transcript text
 RunMakes read (Setup fault) transcript text = ScriptEnds read (Setup fault) transcript text
 RunMakes read (Step number fault) transcript text = ScriptEnds read (Step number fault) transcript text
-RunMakes read (Syntax line) None text = (script_of read ≡ Err line) × IsNoScript read × (text ≡ syntax_line line)
+RunMakes read (Syntax line) None text = IsFirstWrong read line × IsNoScript read × (text ≡ syntax_line line)
 RunMakes read Memory None text = (text ≡ memory_line) ⊎ ScriptEnds read Memory None text
 RunMakes read end transcript text = ⊥
 
