@@ -17,11 +17,7 @@ pub fn put_line(text: &mut String, entry: &Entry) -> Result<(), AllocError>
 }
 
 /// The last line of the text of a run that was played to its end, with its line feed.
-pub fn end_line(
-    alloc: Global,
-    setup: &Setup,
-    transcript: &Transcript,
-) -> Result<String, AllocError>
+pub fn end_line(alloc: Global, setup: &Setup, transcript: &Transcript) -> Result<String, AllocError>
     ensures { IfOk result (λ text. string_bytes text
         ≡ end_text (is_genuine transcript.now) (repairs_widen setup.now transcript.now)) }
 {

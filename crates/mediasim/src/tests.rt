@@ -317,10 +317,7 @@ const STEP_FAULTS: [(&str, &str); 13] = [
         "3 NumberUsed",
     ),
     ("write A 1 42 1 96 0 0 0 LONG\n", "1 PayloadTooLong"),
-    (
-        "write A 0 41 281474976710656 97 0 0 0 LONG\n",
-        "1 TimeZero",
-    ),
+    ("write A 0 41 281474976710656 97 0 0 0 LONG\n", "1 TimeZero"),
 ];
 
 #[test]
