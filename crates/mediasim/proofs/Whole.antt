@@ -1,5 +1,5 @@
 -- What the bytes that a source tells come to.
-use Rattle.std.proofs.Common.{◌≡◌, inl, inr, ℕ, ◌<◌, ◌≤◌, List, [], ◌++◌, length, take, Some, None, refl, sym, ap, ◌∙◌, subst, arith}
+use Rattle.std.proofs.Common.{◌≡◌, inl, inr, ℕ, ◌<◌, ◌≤◌, List, ◌++◌, length, take, Some, None, refl, sym, ap, ◌∙◌, subst, arith}
 use Rattle.std.specs.Prelude.{IfSome}
 use Rattle.std.specs.declared.option.Option.{Option}
 use Rattle.std.specs.Io.KnownBytes.{Consumes, IsAtEnd, Appends}
@@ -10,7 +10,6 @@ use Rattle.media_model.specs.declared.setup.Setup.{Setup as Given}
 use Rattle.media_model.specs.declared.step.Step.{Step as Act}
 use Rattle.media_script.specs.Laws.{SpellsOne}
 use Rattle.media_script.specs.Spelling.{IsScript}
-use Rattle.media_script.specs.Text.{entries_text}
 use Rattle.media_play.specs.Headline.{HoldsOfRun, PlaysSteps}
 use Rattle.media_play.specs.Opening.{Sealing}
 use Rattle.media_play.specs.Play.{Played}
@@ -21,8 +20,8 @@ use Rattle.mediasim.specs.declared.ends.End.TheVariants.{Done, Setup, Step, Read
 use Rattle.mediasim.specs.Command.{IsCommand, Makes, Carries}
 use Rattle.mediasim.specs.Ends.{Tells}
 use Rattle.mediasim.specs.Lines.{memory_line}
-use Rattle.mediasim.specs.MediaMain.{IsMade, Cause, Answers, TellsScript, AnswersScript, IsInOrder}
-use Rattle.mediasim.specs.RunCommand.{toy_sealing, RunEnds, RunMakes, EndsInRun, PlaysToEnd, PlaysAll}
+use Rattle.mediasim.specs.MediaMain.{Cause, Answers, TellsScript, AnswersScript, IsInOrder}
+use Rattle.mediasim.specs.RunCommand.{toy_sealing, RunEnds, EndsInRun, PlaysToEnd, PlaysAll}
 use Rattle.mediasim.proofs.Texts.{front_of_second}
 
 -- what is read to the end of input is all that the source tells

@@ -1,5 +1,5 @@
 -- What the command run makes of a whole input.
-use Rattle.std.specs.Prelude.{ℕ, ◌≡◌, ◌⊎◌, ◌+◌, List, [], ◌++◌, take, codes}
+use Rattle.std.specs.Prelude.{ℕ, ◌≡◌, ◌⊎◌, ◌+◌, List, ◌++◌, take, codes}
 use Rattle.std.specs.Fmt.{decimal}
 use Rattle.std.specs.declared.option.Option.{Option}
 use Rattle.std.specs.declared.option.Option.TheVariants.{Some, None}
@@ -23,7 +23,7 @@ use Rattle.media_play.specs.Sessions.{sealing_of}
 use Rattle.media_play.specs.SetupRules.{setup_fault}
 use Rattle.mediasim.specs.Lines.{memory_line}
 use Rattle.mediasim.specs.declared.ends.End.{End}
-use Rattle.mediasim.specs.declared.ends.End.TheVariants.{Done, Setup, Step, ReadFault, WriteFault, Memory, Syntax, TooLong, Usage}
+use Rattle.mediasim.specs.declared.ends.End.TheVariants.{Done, Setup, Step, ReadFault, Memory, Syntax, TooLong, Usage}
 
 -- how the sides of a setup seal with the toy cipher
 abbrev pub toy_sealing : Given → Sealing

@@ -1,4 +1,4 @@
-use Rattle.std.proofs.Common.{◌≡◌, ℕ, ◌+◌, List, string_bytes, sym, subst, arith}
+use Rattle.std.proofs.Common.{ℕ, ◌+◌, List, string_bytes, subst, arith}
 use Rattle.std.specs.Io.KnownBytes.{Appends}
 use Rattle.std.proofs.KnownBytes.{Appends-trans}
 use Rattle.media_base.specs.Causes.{WritesFront}
