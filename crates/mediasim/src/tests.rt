@@ -4,6 +4,7 @@ use crate::media_main::media_main;
 use media_base::{MemSink, MemSource};
 use media_play::StepFault;
 use std::alloc::Global;
+use std::fmt::Write;
 use std::test::Fail;
 
 const HEAD: &str =
@@ -114,6 +115,22 @@ fn payload_limit(rt: HostRuntime) -> Result<(), Fail> {
     assert_eq!(rt; report.status, 2);
     assert_eq!(rt; report.end, End::Step(1, StepFault::PayloadTooLong));
     assert_eq!(rt; sink.bytes(), b"fault step 1 PayloadTooLong\n".as_slice());
+    Ok(())
+}
+
+#[test]
+fn text_in_pieces(rt: HostRuntime) -> Result<(), Fail> {
+    let alloc = rt.alloc();
+    let mut steps = String::new(alloc);
+    for number in 1u64..13 {
+        writeln!(steps, "write A 1 42 {number} 96 0 0 0 FULL")?;
+    }
+    steps.push_str("tick A 1\n")?;
+    let (report, sink) = ran(alloc, with_payloads(alloc, steps.as_str())?.as_str())?;
+    assert_eq!(rt; report.end, End::Done);
+    assert!(rt; sink.bytes().len() > 32_768);
+    assert_eq!(rt; lines_with(sink.bytes(), "sealed A rtp 42"), 12);
+    assert!(rt; sink.bytes().ends_with(b"end genuine=yes repairs=yes\n"));
     Ok(())
 }
 
