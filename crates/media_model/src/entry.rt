@@ -2,7 +2,7 @@ ghost use Rattle.std.specs.Prelude.{◌≡◌, Some};
 ghost use Rattle.media_model.specs.Sides.{peer_of};
 
 use media_base::{Bytes, Instant, Listed};
-use rtp_wire::{Pt, SeqNo, Ssrc};
+use rtp_wire::{Kind, Pt, SeqNo, Ssrc};
 
 /// One of the two sessions of a run.
 #[derive(Clone, Copy, Debug, PartialEq, Eq, PartialOrd, Ord, Hash)]
@@ -21,15 +21,6 @@ impl Side {
             Side::B => Side::A,
         }
     }
-}
-
-/// What a datagram carries.
-#[derive(Clone, Copy, Debug, PartialEq, Eq, PartialOrd, Ord, Hash)]
-pub enum Kind {
-    /// A packet of media (RFC 3550 section 5).
-    Rtp,
-    /// Reports and feedback (RFC 3550 section 6).
-    Rtcp,
 }
 
 /// A packet that an application gives to its session to be sent.

@@ -5,8 +5,7 @@ use Rattle.std.specs.declared.option.Option.{Option}
 use Rattle.std.specs.declared.option.Option.TheVariants.{Some, None}
 use Rattle.std.specs.Io.KnownBytes.{Consumes, IsAtEnd, Appends}
 use Rattle.media_base.specs.Causes.{WritesFront}
-use Rattle.srtp_core.specs.Streams.{counter_mode}
-use Rattle.srtp_core.specs.Toy.{toy_block, toy_aead}
+use Rattle.srtp_core.specs.Toy.{toy_meaning}
 use Rattle.media_model.specs.declared.entry.Entry.{Entry}
 use Rattle.media_model.specs.declared.setup.Setup.{Setup as Given}
 use Rattle.media_model.specs.declared.step.Step.{Step as Act}
@@ -43,7 +42,7 @@ IsCommand words = words ≡ codes "run" ∷ []
 
 -- how the sides of a setup seal with the toy cipher
 abbrev pub toy_sealing : Given → Sealing
-toy_sealing setup = sealing_of (λ k. counter_mode (toy_block k)) toy_aead toy_block setup
+toy_sealing setup = sealing_of toy_meaning setup
 
 -- the fault lines that name a line, a rule of setups, or a step and a rule of steps
 abbrev pub syntax_line : ℕ → List ℕ
