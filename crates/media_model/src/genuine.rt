@@ -88,8 +88,14 @@ impl<'a> Latest<'a> {
     {
         match entry {
             Entry::Got(got) => match got.side {
-                Side::A => Latest { a: Some(got.bytes.as_slice()), b: self.b },
-                Side::B => Latest { a: self.a, b: Some(got.bytes.as_slice()) },
+                Side::A => Latest {
+                    a: Some(got.bytes.as_slice()),
+                    b: self.b,
+                },
+                Side::B => Latest {
+                    a: self.a,
+                    b: Some(got.bytes.as_slice()),
+                },
             },
             _ => self,
         }

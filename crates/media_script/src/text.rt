@@ -5,8 +5,8 @@ ghost use Rattle.media_script.specs.Text.{byte_text, hex_text, answer_text, got_
 
 use media_model::{Entry, Got, Kind, Opened, Packet, Sealed, Setup, Side, Transcript};
 use std::alloc::{AllocError, Global};
-use std::fmt::Write;
 use std::fmt;
+use std::fmt::Write;
 
 // The word for a side.
 #[derive(Clone, Copy)]
