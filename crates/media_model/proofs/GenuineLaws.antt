@@ -9,15 +9,16 @@ use Rattle.std.proofs.lemmas.List.Folds.{list_any-append}
 use Rattle.std.proofs.lemmas.Slice.Eq.{bytes_eq-Decides}
 use Rattle.media_model.specs.declared.entry.Side.{Side}
 use Rattle.media_model.specs.declared.entry.Side.TheVariants.{A, B}
-use Rattle.media_model.specs.declared.entry.Kind.{Kind}
-use Rattle.media_model.specs.declared.entry.Kind.TheVariants.{Rtp, Rtcp}
+use Rattle.rtp_base.specs.declared.kind.Kind.{Kind}
+use Rattle.rtp_base.specs.declared.kind.Kind.TheVariants.{Rtp, Rtcp}
 use Rattle.media_model.specs.declared.entry.Sealed.{Sealed as SealedEntry}
 use Rattle.media_model.specs.declared.entry.Opened.{Opened as OpenedEntry}
 use Rattle.media_model.specs.declared.entry.Entry.{Entry}
 use Rattle.media_model.specs.declared.entry.Entry.TheVariants.{Wrote, Ticked, Got, Sealed, Opened, Yielded}
 use Rattle.media_model.specs.declared.setup.Setup.{Setup}
 use Rattle.media_model.specs.Setup.{rtx_of}
-use Rattle.media_model.specs.Sides.{peer_of, same_side, same_kind}
+use Rattle.rtp_base.specs.Kind.{same_kind}
+use Rattle.media_model.specs.Sides.{peer_of, same_side}
 use Rattle.media_model.specs.Entries.{last_got}
 use Rattle.media_model.specs.Genuine.{IsPeersSeal, IsGenuine, seals, some_seals, is_genuine_after, genuine_from, is_genuine, is_repair, RepairsWiden, repairs_widen}
 

@@ -10,8 +10,8 @@ use Rattle.std.proofs.lemmas.List.{take_more, drop_all, take-append-drop}
 use Rattle.std.proofs.lemmas.List.Folds.{list_any-append}
 use Rattle.media_model.specs.declared.entry.Side.{Side}
 use Rattle.media_model.specs.declared.entry.Side.TheVariants.{A, B}
-use Rattle.media_model.specs.declared.entry.Kind.{Kind}
-use Rattle.media_model.specs.declared.entry.Kind.TheVariants.{Rtp, Rtcp}
+use Rattle.rtp_base.specs.declared.kind.Kind.{Kind}
+use Rattle.rtp_base.specs.declared.kind.Kind.TheVariants.{Rtp, Rtcp}
 use Rattle.media_model.specs.declared.entry.Sealed.{Sealed as SealedEntry}
 use Rattle.media_model.specs.declared.entry.Opened.{Opened as OpenedEntry}
 use Rattle.media_model.specs.declared.entry.Entry.{Entry}
@@ -19,11 +19,12 @@ use Rattle.media_model.specs.declared.entry.Entry.TheVariants.{Wrote, Ticked, Go
 use Rattle.media_model.specs.declared.genuine.Seal.{Seal}
 use Rattle.media_model.specs.declared.genuine.Latest.{Latest}
 use Rattle.media_model.specs.contracts.entry.Side as side
-use Rattle.media_model.specs.contracts.entry.Kind as kind
+use Rattle.rtp_base.specs.contracts.kind.Kind as kind
 use denote.Enum.Bare.{sameb}
 use Rattle.media_model.specs.Entries.{got_after, last_got}
 use Rattle.media_model.specs.Seals.{same_seal, is_seal, HasSeals, latest_of, HasLatest}
-use Rattle.media_model.specs.Sides.{peer_of, same_side, same_kind}
+use Rattle.rtp_base.specs.Kind.{same_kind}
+use Rattle.media_model.specs.Sides.{peer_of, same_side}
 use Rattle.media_model.specs.Genuine.{seals, some_seals, is_genuine_after, genuine_from, is_genuine}
 
 fold_more : (side : Side) (last : Option (List ℕ)) (front : List Entry) (e : Entry) → fold (got_after side) last (front ++ e ∷ []) ≡ got_after side (fold (got_after side) last front) e

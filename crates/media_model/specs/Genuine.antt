@@ -4,7 +4,7 @@ use Rattle.std.specs.List.{list_any}
 use Rattle.std.specs.Str.{bytes_eq}
 use Rattle.media_model.specs.declared.entry.Side.{Side}
 use Rattle.media_model.specs.declared.entry.Side.TheVariants.{A, B}
-use Rattle.media_model.specs.declared.entry.Kind.TheVariants.{Rtp}
+use Rattle.rtp_base.specs.declared.kind.Kind.TheVariants.{Rtp}
 use Rattle.media_model.specs.declared.entry.Sealed.{Sealed as SealedEntry}
 use Rattle.media_model.specs.declared.entry.Opened.{Opened as OpenedEntry}
 use Rattle.media_model.specs.declared.entry.Entry.{Entry}
@@ -12,7 +12,8 @@ use Rattle.media_model.specs.declared.entry.Entry.TheVariants.{Sealed, Opened}
 use Rattle.media_model.specs.declared.setup.Setup.{Setup}
 use Rattle.media_model.specs.Entries.{last_got}
 use Rattle.media_model.specs.Setup.{rtx_of}
-use Rattle.media_model.specs.Sides.{peer_of, same_side, same_kind}
+use Rattle.rtp_base.specs.Kind.{same_kind}
+use Rattle.media_model.specs.Sides.{peer_of, same_side}
 
 -- among these entries the other side sealed, under the kind, SSRC and index of what was opened, the bytes that came
 -- last to the side that opened it

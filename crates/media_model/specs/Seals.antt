@@ -6,7 +6,7 @@ use Rattle.std.specs.Str.{bytes_eq}
 use Rattle.std.specs.HashSet.{HashSet, contains}
 use denote.Enum.Bare.{sameb}
 use Rattle.media_model.specs.contracts.entry.Side as side
-use Rattle.media_model.specs.contracts.entry.Kind as kind
+use Rattle.rtp_base.specs.contracts.kind.Kind as kind
 use Rattle.media_model.specs.declared.entry.Side.{Side}
 use Rattle.media_model.specs.declared.entry.Side.TheVariants.{A, B}
 use Rattle.media_model.specs.declared.entry.Entry.{Entry}
@@ -14,7 +14,8 @@ use Rattle.media_model.specs.declared.entry.Entry.TheVariants.{Sealed}
 use Rattle.media_model.specs.declared.genuine.Seal.{Seal}
 use Rattle.media_model.specs.declared.genuine.Latest.{Latest}
 use Rattle.media_model.specs.Entries.{last_got}
-use Rattle.media_model.specs.Sides.{same_side, same_kind}
+use Rattle.rtp_base.specs.Kind.{same_kind}
+use Rattle.media_model.specs.Sides.{same_side}
 
 -- two seals of one datagram
 abbrev pub same_seal : Seal → Seal → Bool

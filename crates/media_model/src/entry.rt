@@ -1,9 +1,8 @@
 ghost use Rattle.std.specs.Prelude.{◌≡◌, Some};
-ghost use Rattle.media_model.specs.Sides.{peer_of, side_text, kind_text};
+ghost use Rattle.media_model.specs.Sides.{peer_of};
 
 use media_base::{Bytes, Instant, Listed};
-use rtp_wire::{Pt, SeqNo, Ssrc};
-use std::fmt;
+use rtp_wire::{Kind, Pt, SeqNo, Ssrc};
 
 /// One of the two sessions of a run.
 #[derive(Clone, Copy, Debug, PartialEq, Eq, PartialOrd, Ord, Hash)]
@@ -20,37 +19,6 @@ impl Side {
         match self {
             Side::A => Side::B,
             Side::B => Side::A,
-        }
-    }
-}
-
-impl fmt::Display for Side {
-    ghost output = { λ s. Some (side_text s) };
-
-    fn fmt<W: fmt::Write>(&self, f: &mut fmt::Formatter<W>) -> fmt::Result {
-        match self {
-            Side::A => write!(f, "A"),
-            Side::B => write!(f, "B"),
-        }
-    }
-}
-
-/// What a datagram carries.
-#[derive(Clone, Copy, Debug, PartialEq, Eq, PartialOrd, Ord, Hash)]
-pub enum Kind {
-    /// A packet of media (RFC 3550 section 5).
-    Rtp,
-    /// Reports and feedback (RFC 3550 section 6).
-    Rtcp,
-}
-
-impl fmt::Display for Kind {
-    ghost output = { λ k. Some (kind_text k) };
-
-    fn fmt<W: fmt::Write>(&self, f: &mut fmt::Formatter<W>) -> fmt::Result {
-        match self {
-            Kind::Rtp => write!(f, "rtp"),
-            Kind::Rtcp => write!(f, "rtcp"),
         }
     }
 }

@@ -6,10 +6,10 @@ ghost use Rattle.media_model.specs.declared.entry.Entry.{Entry as Happening};
 ghost use Rattle.media_model.specs.Genuine.{is_genuine_after, is_genuine, IsGenuine, is_repair, repairs_widen, RepairsWiden};
 ghost use Rattle.media_model.specs.Seals.{HasSeals, latest_of, HasLatest};
 
-use crate::entry::{Entry, Kind, Side};
+use crate::entry::{Entry, Side};
 use crate::setup::Setup;
 use crate::transcript::Transcript;
-use rtp_wire::Ssrc;
+use rtp_wire::{Kind, Ssrc};
 use std::alloc::{AllocError, Global};
 use std::collections::HashSet;
 
@@ -88,8 +88,14 @@ impl<'a> Latest<'a> {
     {
         match entry {
             Entry::Got(got) => match got.side {
-                Side::A => Latest { a: Some(got.bytes.as_slice()), b: self.b },
-                Side::B => Latest { a: self.a, b: Some(got.bytes.as_slice()) },
+                Side::A => Latest {
+                    a: Some(got.bytes.as_slice()),
+                    b: self.b,
+                },
+                Side::B => Latest {
+                    a: self.a,
+                    b: Some(got.bytes.as_slice()),
+                },
             },
             _ => self,
         }

@@ -7,7 +7,8 @@ mod setup;
 mod step;
 mod transcript;
 
-pub use entry::{Entry, Got, Kind, Opened, Packet, Sealed, Side, Write};
+pub use entry::{Entry, Got, Opened, Packet, Sealed, Side, Write};
+pub use rtp_wire::Kind;
 pub use setup::{CipherName, Codec, Key, Media, MediaKind, PayloadType, Setup, Stream};
 pub use step::Step;
 pub use transcript::Transcript;

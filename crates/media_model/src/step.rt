@@ -1,5 +1,6 @@
-use crate::entry::{Kind, Side, Write};
+use crate::entry::{Side, Write};
 use media_base::{Bytes, Instant};
+use rtp_wire::Kind;
 
 /// What a script has one side do.
 #[derive(Debug, PartialEq, Eq, Drop)]

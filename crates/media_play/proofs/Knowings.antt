@@ -326,49 +326,46 @@ distinct_sources setup side sound = (
 )
 
 module _ (entries : List Entry) (came : GotEntry) (header : RtpHeader) (number : ℕ) (plain : List ℕ) where
-  abbrev side : Side
-  side = came.side
-
   abbrev opened : List Entry
   opened = opening came header number plain
 
   pub writes_on-opened : (s : Side) (r : ℕ) → writes_on s r (entries ++ opened) ≡ writes_on s r entries
-  writes_on-opened s r = same_reading (write_on s r) entries opened (yields_none (write_on s r) (λ s p. refl) side header number plain)
+  writes_on-opened s r = same_reading (write_on s r) entries opened (yields_none (write_on s r) (λ s p. refl) came.side header number plain)
 
   pub queued-opened : (s : Side) (r : ℕ) → queued s r (entries ++ opened) ≡ queued s r entries
   queued-opened s r =
       ap (λ ns. filter (λ w. not (is_sealed ns w)) (writes_on s r (entries ++ opened)))
-      (same_reading (sealed_number_on s r) entries opened (yields_none (sealed_number_on s r) (λ s p. refl) side header number plain))
+      (same_reading (sealed_number_on s r) entries opened (yields_none (sealed_number_on s r) (λ s p. refl) came.side header number plain))
       ∙ ap (λ ws. filter (λ w. not (is_sealed (sealed_numbers s r entries) w)) ws) (writes_on-opened s r)
 
-  pub sends_opened : (os : List Outgoing) → AllByRecursion (SendsAs side entries) os → AllByRecursion (SendsAs side (entries ++ opened)) os
+  pub sends_opened : (os : List Outgoing) → AllByRecursion (SendsAs came.side entries) os → AllByRecursion (SendsAs came.side (entries ++ opened)) os
   sends_opened os h =
-      all_weaker (SendsAs side entries) (SendsAs side (entries ++ opened)) os
+      all_weaker (SendsAs came.side entries) (SendsAs came.side (entries ++ opened)) os
       (λ o i k. record {
-        queue = k.queue ∙ ap (map waiting_of) (sym (queued-opened side o.ssrc));
-        used = λ n. k.used n ∙ ap (list_any (λ (u : Writing). u.number == n)) (sym (writes_on-opened side o.ssrc));
+        queue = k.queue ∙ ap (map waiting_of) (sym (queued-opened came.side o.ssrc));
+        used = λ n. k.used n ∙ ap (list_any (λ (u : Writing). u.number == n)) (sym (writes_on-opened came.side o.ssrc));
       }) h
 
-  taken_elsewhere : (i : Incoming) → (i.ssrc ≡ header.ssrc → ⊥) → TakesAs side entries i → TakesAs side (entries ++ opened) i
+  taken_elsewhere : (i : Incoming) → (i.ssrc ≡ header.ssrc → ⊥) → TakesAs came.side entries i → TakesAs came.side (entries ++ opened) i
   taken_elsewhere i other h =
       subst (StandsFor i.register)
-      (sym (taken-opens side i.ssrc entries came header number plain
-      ∙ ap (λ b. taken side i.ssrc entries ++ cond b (number ∷ []) []) (other_stream side i.ssrc header.ssrc other) ∙ append-nil (taken side i.ssrc entries))) h
+      (sym (taken-opens came.side i.ssrc entries came header number plain
+      ∙ ap (λ b. taken came.side i.ssrc entries ++ cond b (number ∷ []) []) (other_stream came.side i.ssrc header.ssrc other) ∙ append-nil (taken came.side i.ssrc entries))) h
 
   pub takes_opened : (is : List Incoming) (at : ℕ) (i new : Incoming) → at < length is → i ≡ get_or is at i → NoRepeat (map source_of is)
-      → slice_get (map source_of is) at ≡ Some header.ssrc → is_fresh (taken side header.ssrc entries) number ≡ true → new.ssrc ≡ i.ssrc
+      → slice_get (map source_of is) at ≡ Some header.ssrc → is_fresh (taken came.side header.ssrc entries) number ≡ true → new.ssrc ≡ i.ssrc
       → ((l : List ℕ) → StandsFor i.register l → StandsFor new.register (with_number l number))
-      → AllByRecursion (TakesAs side entries) is → AllByRecursion (TakesAs side (entries ++ opened)) (set is at new)
+      → AllByRecursion (TakesAs came.side entries) is → AllByRecursion (TakesAs came.side (entries ++ opened)) (set is at new)
   takes_opened is at i new within read distinct e fresh same taken_on h =
       let here : i.ssrc ≡ header.ssrc = key_at source_of is at i header.ssrc within read e in
-      let before : StandsFor i.register (taken side header.ssrc entries) =
-      subst (λ r. StandsFor i.register (taken side r entries)) here (all_at (TakesAs side entries) is at i within read h) in
-      let added : with_number (taken side header.ssrc entries) number ≡ taken side header.ssrc entries ++ number ∷ [] = rw fresh refl in
-      let now : TakesAs side (entries ++ opened) new =
+      let before : StandsFor i.register (taken came.side header.ssrc entries) =
+      subst (λ r. StandsFor i.register (taken came.side r entries)) here (all_at (TakesAs came.side entries) is at i within read h) in
+      let added : with_number (taken came.side header.ssrc entries) number ≡ taken came.side header.ssrc entries ++ number ∷ [] = rw fresh refl in
+      let now : TakesAs came.side (entries ++ opened) new =
       subst (StandsFor new.register)
-      (added ∙ sym (taken-opens_here entries came header number plain) ∙ ap (λ r. taken side r (entries ++ opened)) (sym (same ∙ here)))
-      (taken_on (taken side header.ssrc entries) before) in
-      one_changes source_of (TakesAs side entries) (TakesAs side (entries ++ opened)) header.ssrc taken_elsewhere new now is at distinct e h
+      (added ∙ sym (taken-opens_here entries came header number plain) ∙ ap (λ r. taken came.side r (entries ++ opened)) (sym (same ∙ here)))
+      (taken_on (taken came.side header.ssrc entries) before) in
+      one_changes source_of (TakesAs came.side entries) (TakesAs came.side (entries ++ opened)) header.ssrc taken_elsewhere new now is at distinct e h
 
 -- what a tick takes out
 

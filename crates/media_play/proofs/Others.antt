@@ -2,6 +2,7 @@
 use Rattle.std.proofs.Common.{◌≡◌, ℕ, ◌<◌, ◌^◌, false, not, List, [], ◌∷◌, ◌++◌, Option, Some, None, Result, Ok, Err, refl, sym, ap, ◌∙◌, subst}
 use Rattle.std.specs.Prelude.{filter}
 use Rattle.std.specs.Result.{IsErrAnd}
+use Rattle.srtp_core.specs.Cipher.{CipherMeaning}
 use Rattle.media_model.specs.declared.entry.Side.{Side}
 use Rattle.media_model.specs.declared.entry.Side.TheVariants.{A, B}
 use Rattle.media_model.specs.declared.entry.Write.{Write as Writing}
@@ -26,17 +27,17 @@ use Rattle.media_play.proofs.Readings.{same_reading}
 use Rattle.media_play.proofs.Receiving.{knows_still}
 
 -- a session stays ready when the entries tell nothing new of its streams
-pub ready_still : (block : List ℕ → List ℕ → List ℕ) (setup : Setup) (side : Side) (session : SessionState) (old new : List Entry)
+pub ready_still : (cipher : CipherMeaning) (setup : Setup) (side : Side) (session : SessionState) (old new : List Entry)
     → ((r : ℕ) → queued side r new ≡ queued side r old) → ((r : ℕ) → writes_on side r new ≡ writes_on side r old) → ((r : ℕ) → taken side r new ≡ taken side r old)
-    → Ready block setup side session old → Ready block setup side session new
-ready_still block setup side session old new waits writes took h =
+    → Ready cipher setup side session old → Ready cipher setup side session new
+ready_still cipher setup side session old new waits writes took h =
     record { seals = h.seals; opens = h.opens; knows = knows_still setup side old new waits writes took session.streams h.knows }
 
 -- a write tells nothing of the other side
-pub ready_wrote_other : (block : List ℕ → List ℕ → List ℕ) (setup : Setup) (other side : Side) (session : SessionState) (entries : List Entry) (time : ℕ) (w : Writing)
-    → same_side other side ≡ false → Ready block setup other session entries → Ready block setup other session (entries ++ Wrote side time w ∷ [])
-ready_wrote_other block setup other side session entries time w apart =
-    ready_still block setup other session entries (entries ++ Wrote side time w ∷ [])
+pub ready_wrote_other : (cipher : CipherMeaning) (setup : Setup) (other side : Side) (session : SessionState) (entries : List Entry) (time : ℕ) (w : Writing)
+    → same_side other side ≡ false → Ready cipher setup other session entries → Ready cipher setup other session (entries ++ Wrote side time w ∷ [])
+ready_wrote_other cipher setup other side session entries time w apart =
+    ready_still cipher setup other session entries (entries ++ Wrote side time w ∷ [])
     (λ r. ap (λ (ns : List ℕ). filter (λ u. not (is_sealed ns u)) (writes_on other r (entries ++ Wrote side time w ∷ []))) (sealed_numbers-wrote other r entries side time w)
     ∙ ap (λ (ws : List Writing). filter (λ u. not (is_sealed (sealed_numbers other r entries) u)) ws) (writes r))
     writes
@@ -65,17 +66,17 @@ same_broken (Ok x) e o Unchanged is h = absurd is
 same_broken {X} (Err d) e o Unchanged is h = subst (λ (q : StepError). IsBroken {X = X} (Err q) o Unchanged) (sym is) h
 
 -- a run after a write that breaks no rule
-pub running_wrote : (block : List ℕ → List ℕ → List ℕ) (seal : Sealing) (setup : Setup) (run : RunState) (steps : List Step) (side : Side) (time : ℕ) (w : Writing)
+pub running_wrote : (cipher : CipherMeaning) (seal : Sealing) (setup : Setup) (run : RunState) (steps : List Step) (side : Side) (time : ℕ) (w : Writing)
     (a b : SessionState) (log : List Entry)
-    → Running block seal setup run steps → log ≡ run.log ++ Wrote side time w ∷ [] → time_fault run.log time ≡ None → write_fault setup run.log side w ≡ None
+    → Running cipher seal setup run steps → log ≡ run.log ++ Wrote side time w ∷ [] → time_fault run.log time ≡ None → write_fault setup run.log side w ≡ None
     → w.ssrc < 2 ^ 32 → w.rtp_time < 2 ^ 32
-    → Ready block setup A a (run.log ++ Wrote side time w ∷ []) → Ready block setup B b (run.log ++ Wrote side time w ∷ [])
-    → Running block seal setup (record { a = a; b = b; log = log; latest = time }) (steps ++ Write side time w ∷ [])
-running_wrote block seal setup run steps side time w a b log h is in_time no_fault small_ssrc small_time a_knows b_knows =
+    → Ready cipher setup A a (run.log ++ Wrote side time w ∷ []) → Ready cipher setup B b (run.log ++ Wrote side time w ∷ [])
+    → Running cipher seal setup (record { a = a; b = b; log = log; latest = time }) (steps ++ Write side time w ∷ [])
+running_wrote cipher seal setup run steps side time w a b log h is in_time no_fault small_ssrc small_time a_knows b_knows =
     let new = run.log ++ Wrote side time w ∷ [] in
     record {
-      a_knows = subst (Ready block setup A a) (sym is) a_knows;
-      b_knows = subst (Ready block setup B b) (sym is) b_knows;
+      a_knows = subst (Ready cipher setup A a) (sym is) a_knows;
+      b_knows = subst (Ready cipher setup B b) (sym is) b_knows;
       time = sym (ap last_time is ∙ last_time-wrote run.log side time w);
       played = subst (Played seal setup (steps ++ Write side time w ∷ [])) (sym is)
           (turn h.played (Write side time w) (Wrote side time w ∷ []) (or_else_first (time_fault run.log time) (write_fault setup run.log side w) in_time ∙ no_fault)

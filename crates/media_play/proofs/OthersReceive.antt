@@ -2,6 +2,7 @@
 use Rattle.std.proofs.Common.{◌≡◌, ℕ, false, cond, List, [], ◌∷◌, ◌++◌, None, sym, ap, ◌∙◌, subst}
 use Rattle.std.specs.Prelude.{◌==◌, ◌&&◌, Option}
 use Rattle.std.proofs.lemmas.List.{append-nil}
+use Rattle.srtp_core.specs.Cipher.{CipherMeaning}
 use Rattle.media_model.specs.declared.entry.Side.{Side}
 use Rattle.media_model.specs.declared.entry.Side.TheVariants.{A, B}
 use Rattle.media_model.specs.declared.entry.Got.{Got as GotEntry}
@@ -29,10 +30,10 @@ taken-got_other s r entries came brought other (opens header number plain o) =
     ∙ ap (λ b. taken s r entries ++ cond (b && (header.ssrc == r)) (number ∷ []) []) other ∙ append-nil (taken s r entries)
 taken-got_other s r entries came brought other (stays none) = taken-stays s r entries came
 
-pub ready_ticked_other : (block : List ℕ → List ℕ → List ℕ) {seal : Sealing} {setup : Setup} (s side : Side) (session : SessionState) (entries : List Entry) (time : ℕ) (sealed : List Entry)
-    → same_side s side ≡ false → Seals seal setup side entries sealed → Ready block setup s session entries
-    → Ready block setup s session (entries ++ Ticked side time ∷ sealed)
-ready_ticked_other block {seal} {setup} s side session entries time sealed other all h = record {
+pub ready_ticked_other : (cipher : CipherMeaning) {seal : Sealing} {setup : Setup} (s side : Side) (session : SessionState) (entries : List Entry) (time : ℕ) (sealed : List Entry)
+    → same_side s side ≡ false → Seals seal setup side entries sealed → Ready cipher setup s session entries
+    → Ready cipher setup s session (entries ++ Ticked side time ∷ sealed)
+ready_ticked_other cipher {seal} {setup} s side session entries time sealed other all h = record {
   seals = h.seals;
   opens = h.opens;
   knows = knows_still setup s entries (entries ++ Ticked side time ∷ sealed)
@@ -40,10 +41,10 @@ ready_ticked_other block {seal} {setup} s side session entries time sealed other
       (λ r. taken-ticked s r entries side time sealed all) session.streams h.knows;
 }
 
-pub ready_got_other : (block : List ℕ → List ℕ → List ℕ) {seal : Sealing} {setup : Setup} (s : Side) (session : SessionState) (entries : List Entry) (came : GotEntry) (brought : List Entry)
-    → same_side s came.side ≡ false → Receives seal setup entries came brought → Ready block setup s session entries
-    → Ready block setup s session (entries ++ Got came ∷ brought)
-ready_got_other block {seal} {setup} s session entries came brought other received h = record {
+pub ready_got_other : (cipher : CipherMeaning) {seal : Sealing} {setup : Setup} (s : Side) (session : SessionState) (entries : List Entry) (came : GotEntry) (brought : List Entry)
+    → same_side s came.side ≡ false → Receives seal setup entries came brought → Ready cipher setup s session entries
+    → Ready cipher setup s session (entries ++ Got came ∷ brought)
+ready_got_other cipher {seal} {setup} s session entries came brought other received h = record {
   seals = h.seals;
   opens = h.opens;
   knows = knows_still setup s entries (entries ++ Got came ∷ brought)
@@ -52,13 +53,13 @@ ready_got_other block {seal} {setup} s session entries came brought other receiv
 }
 
 -- a run after one step more
-pub runs_on : (block : List ℕ → List ℕ → List ℕ) (seal : Sealing) (setup : Setup) (run : RunState) (steps : List Step) → Running block seal setup run steps
+pub runs_on : (cipher : CipherMeaning) (seal : Sealing) (setup : Setup) (run : RunState) (steps : List Step) → Running cipher seal setup run steps
     → (step : Step) (new : List Entry) (a b : SessionState) (log : List Entry) (time : ℕ) → step_fault setup run.log step ≡ None → Outcome seal setup run.log step new
-    → Ready block setup A a (run.log ++ new) → Ready block setup B b (run.log ++ new) → last_time (run.log ++ new) ≡ time → log ≡ run.log ++ new
-    → Running block seal setup (record { a = a; b = b; log = log; latest = time }) (steps ++ step ∷ [])
-runs_on block seal setup run steps h step new a b log time fault outcome a_knows b_knows at is = record {
-  a_knows = subst (Ready block setup A a) (sym is) a_knows;
-  b_knows = subst (Ready block setup B b) (sym is) b_knows;
+    → Ready cipher setup A a (run.log ++ new) → Ready cipher setup B b (run.log ++ new) → last_time (run.log ++ new) ≡ time → log ≡ run.log ++ new
+    → Running cipher seal setup (record { a = a; b = b; log = log; latest = time }) (steps ++ step ∷ [])
+runs_on cipher seal setup run steps h step new a b log time fault outcome a_knows b_knows at is = record {
+  a_knows = subst (Ready cipher setup A a) (sym is) a_knows;
+  b_knows = subst (Ready cipher setup B b) (sym is) b_knows;
   time = sym at ∙ ap last_time (sym is);
   played = subst (Played seal setup (steps ++ step ∷ [])) (sym is) (turn h.played step new fault outcome);
 }
@@ -66,55 +67,55 @@ runs_on block seal setup run steps h step new a b log time fault outcome a_knows
 pub no_fault : (a b : Option StepFault) → a ≡ None → b ≡ None → or_else a b ≡ None
 no_fault a b e f = ap (λ x. or_else x b) e ∙ f
 
-module _ (block : List ℕ → List ℕ → List ℕ) (seal : Sealing) (setup : Setup) (run : RunState) (steps : List Step) (h : Running block seal setup run steps)
+module _ (cipher : CipherMeaning) (seal : Sealing) (setup : Setup) (run : RunState) (steps : List Step) (h : Running cipher seal setup run steps)
     (side : Side) (time : ℕ) (fault : time_fault run.log time ≡ None) (log : List Entry) where
   pub ticks_a : side ≡ A → (a : SessionState)
-      → (Ready block setup side run.a run.log → IsTick seal setup side time run.log log × Ready block setup side a log)
-      → Running block seal setup (record { a = a; b = run.b; log = log; latest = time }) (steps ++ Tick side time ∷ [])
+      → (Ready cipher setup side run.a run.log → IsTick seal setup side time run.log log × Ready cipher setup side a log)
+      → Running cipher seal setup (record { a = a; b = run.b; log = log; latest = time }) (steps ++ Tick side time ∷ [])
   ticks_a is a brings =
-      let after = brings (subst (λ s. Ready block setup s run.a run.log) (sym is) h.a_knows) in
+      let after = brings (subst (λ s. Ready cipher setup s run.a run.log) (sym is) h.a_knows) in
       let d = after.0 in
       let new = Ticked side time ∷ d.sealed in
-      let mine : Ready block setup A a (run.log ++ new) = subst (Ready block setup A a) d.added (subst (λ s. Ready block setup s a log) is after.1) in
-      let others : Ready block setup B run.b (run.log ++ new) = ready_ticked_other block B side run.b run.log time d.sealed (ap (same_side B) is) d.seals h.b_knows in
-      runs_on block seal setup run steps h (Tick side time) new a run.b log time fault (ticked side time d.sealed d.seals) mine others
+      let mine : Ready cipher setup A a (run.log ++ new) = subst (Ready cipher setup A a) d.added (subst (λ s. Ready cipher setup s a log) is after.1) in
+      let others : Ready cipher setup B run.b (run.log ++ new) = ready_ticked_other cipher B side run.b run.log time d.sealed (ap (same_side B) is) d.seals h.b_knows in
+      runs_on cipher seal setup run steps h (Tick side time) new a run.b log time fault (ticked side time d.sealed d.seals) mine others
       (last_time-ticked run.log side time d.sealed d.seals) d.added
 
   pub ticks_b : side ≡ B → (b : SessionState)
-      → (Ready block setup side run.b run.log → IsTick seal setup side time run.log log × Ready block setup side b log)
-      → Running block seal setup (record { a = run.a; b = b; log = log; latest = time }) (steps ++ Tick side time ∷ [])
+      → (Ready cipher setup side run.b run.log → IsTick seal setup side time run.log log × Ready cipher setup side b log)
+      → Running cipher seal setup (record { a = run.a; b = b; log = log; latest = time }) (steps ++ Tick side time ∷ [])
   ticks_b is b brings =
-      let after = brings (subst (λ s. Ready block setup s run.b run.log) (sym is) h.b_knows) in
+      let after = brings (subst (λ s. Ready cipher setup s run.b run.log) (sym is) h.b_knows) in
       let d = after.0 in
       let new = Ticked side time ∷ d.sealed in
-      let mine : Ready block setup B b (run.log ++ new) = subst (Ready block setup B b) d.added (subst (λ s. Ready block setup s b log) is after.1) in
-      let others : Ready block setup A run.a (run.log ++ new) = ready_ticked_other block A side run.a run.log time d.sealed (ap (same_side A) is) d.seals h.a_knows in
-      runs_on block seal setup run steps h (Tick side time) new run.a b log time fault (ticked side time d.sealed d.seals) others mine
+      let mine : Ready cipher setup B b (run.log ++ new) = subst (Ready cipher setup B b) d.added (subst (λ s. Ready cipher setup s b log) is after.1) in
+      let others : Ready cipher setup A run.a (run.log ++ new) = ready_ticked_other cipher A side run.a run.log time d.sealed (ap (same_side A) is) d.seals h.a_knows in
+      runs_on cipher seal setup run steps h (Tick side time) new run.a b log time fault (ticked side time d.sealed d.seals) others mine
       (last_time-ticked run.log side time d.sealed d.seals) d.added
 
 -- a run after a datagram that came to a side
-module _ (block : List ℕ → List ℕ → List ℕ) (seal : Sealing) (setup : Setup) (run : RunState) (steps : List Step) (h : Running block seal setup run steps)
+module _ (cipher : CipherMeaning) (seal : Sealing) (setup : Setup) (run : RunState) (steps : List Step) (h : Running cipher seal setup run steps)
     (came : GotEntry) (log : List Entry) (step : Step) (brings : Brings run.log came step) (fault : step_fault setup run.log step ≡ None) where
   pub arrives_a : came.side ≡ A → (a : SessionState)
-      → (Ready block setup came.side run.a run.log → IsArrival seal setup came run.log log × Ready block setup came.side a log)
-      → Running block seal setup (record { a = a; b = run.b; log = log; latest = came.time }) (steps ++ step ∷ [])
+      → (Ready cipher setup came.side run.a run.log → IsArrival seal setup came run.log log × Ready cipher setup came.side a log)
+      → Running cipher seal setup (record { a = a; b = run.b; log = log; latest = came.time }) (steps ++ step ∷ [])
   arrives_a is a comes =
-      let after = comes (subst (λ s. Ready block setup s run.a run.log) (sym is) h.a_knows) in
+      let after = comes (subst (λ s. Ready cipher setup s run.a run.log) (sym is) h.a_knows) in
       let d = after.0 in
       let new = Got came ∷ d.brought in
-      let mine : Ready block setup A a (run.log ++ new) = subst (Ready block setup A a) d.added (subst (λ s. Ready block setup s a log) is after.1) in
-      let others : Ready block setup B run.b (run.log ++ new) = ready_got_other block B run.b run.log came d.brought (ap (same_side B) is) d.received h.b_knows in
-      runs_on block seal setup run steps h step new a run.b log came.time fault (got came d.brought brings d.received) mine others
+      let mine : Ready cipher setup A a (run.log ++ new) = subst (Ready cipher setup A a) d.added (subst (λ s. Ready cipher setup s a log) is after.1) in
+      let others : Ready cipher setup B run.b (run.log ++ new) = ready_got_other cipher B run.b run.log came d.brought (ap (same_side B) is) d.received h.b_knows in
+      runs_on cipher seal setup run steps h step new a run.b log came.time fault (got came d.brought brings d.received) mine others
       (last_time-got run.log came d.brought d.received) d.added
 
   pub arrives_b : came.side ≡ B → (b : SessionState)
-      → (Ready block setup came.side run.b run.log → IsArrival seal setup came run.log log × Ready block setup came.side b log)
-      → Running block seal setup (record { a = run.a; b = b; log = log; latest = came.time }) (steps ++ step ∷ [])
+      → (Ready cipher setup came.side run.b run.log → IsArrival seal setup came run.log log × Ready cipher setup came.side b log)
+      → Running cipher seal setup (record { a = run.a; b = b; log = log; latest = came.time }) (steps ++ step ∷ [])
   arrives_b is b comes =
-      let after = comes (subst (λ s. Ready block setup s run.b run.log) (sym is) h.b_knows) in
+      let after = comes (subst (λ s. Ready cipher setup s run.b run.log) (sym is) h.b_knows) in
       let d = after.0 in
       let new = Got came ∷ d.brought in
-      let mine : Ready block setup B b (run.log ++ new) = subst (Ready block setup B b) d.added (subst (λ s. Ready block setup s b log) is after.1) in
-      let others : Ready block setup A run.a (run.log ++ new) = ready_got_other block A run.a run.log came d.brought (ap (same_side A) is) d.received h.a_knows in
-      runs_on block seal setup run steps h step new run.a b log came.time fault (got came d.brought brings d.received) others mine
+      let mine : Ready cipher setup B b (run.log ++ new) = subst (Ready cipher setup B b) d.added (subst (λ s. Ready cipher setup s b log) is after.1) in
+      let others : Ready cipher setup A run.a (run.log ++ new) = ready_got_other cipher A run.a run.log came d.brought (ap (same_side A) is) d.received h.a_knows in
+      runs_on cipher seal setup run steps h step new run.a b log came.time fault (got came d.brought brings d.received) others mine
       (last_time-got run.log came d.brought d.received) d.added

@@ -9,12 +9,13 @@ use Rattle.rtp_wire.specs.Padding.{unpadded}
 use Rattle.rtp_wire.specs.Widen.{widen16}
 use Rattle.repair_core.specs.Fresh.{greatest_of, is_fresh}
 use Rattle.repair_core.specs.NackRegister.{StandsFor}
+use Rattle.srtp_core.specs.Cipher.{CipherMeaning}
 use Rattle.srtp_core.specs.Contexts.{SrtpState, new_state}
 use Rattle.srtp_core.specs.Keys.{session_keys}
 use Rattle.srtp_core.specs.Laws.{RtpOpensOnce}
 use Rattle.srtp_core.specs.Seals.{sealed_rtp}
 use Rattle.media_model.specs.declared.entry.Side.{Side}
-use Rattle.media_model.specs.declared.entry.Kind.TheVariants.{Rtp}
+use Rattle.rtp_base.specs.declared.kind.Kind.TheVariants.{Rtp}
 use Rattle.media_model.specs.declared.entry.Write.{Write as Writing}
 use Rattle.media_model.specs.declared.entry.Packet.{Packet}
 use Rattle.media_model.specs.declared.entry.Got.{Got as GotEntry}
@@ -97,11 +98,8 @@ stays_unaccepted {setup = setup} {entries} {came} h reads none header number pla
     let same : header ≡ h = one_header (read_header setup came.bytes) header h o.reads reads in
     no_number (accepted setup came.side entries header) number (ap (accepted setup came.side entries) same ∙ none) (accepts_opens o)
 
-module _ (keystream : List ℕ → List ℕ → ℕ → ℕ) (aead : List ℕ → List ℕ → List ℕ → List ℕ → List ℕ) (block : List ℕ → List ℕ → List ℕ) (setup : Setup) (came : GotEntry) (own : ReadsOwnBytes)
-    (state : SrtpState) (is : state ≡ new_state block setup.profile (material_of setup) (is_left (peer_of came.side)) 0) where
-  abbrev side : Side
-  side = came.side
-
+module _ (cipher : CipherMeaning) (setup : Setup) (came : GotEntry) (own : ReadsOwnBytes)
+    (state : SrtpState) (is : state ≡ new_state cipher setup.profile (material_of setup) (is_left (peer_of came.side)) 0) where
   abbrev bytes : List ℕ
   bytes = came.bytes
 
@@ -115,30 +113,30 @@ module _ (keystream : List ℕ → List ℕ → ℕ → ℕ) (aead : List ℕ �
       ap len_of (ap (read_header setup) (sym (back header.header_len plain front)) ∙ (own (extensions_of setup) bytes (drop header.header_len plain) header reads).0)
 
   pub opens_as : (entries : List Entry) (header : RtpHeader) (number : ℕ) (plain : List ℕ)
-      → Opens (sealing_of keystream aead block setup) setup entries came header number plain → OpensAs keystream aead state header number bytes plain
+      → Opens (sealing_of cipher setup) setup entries came header number plain → OpensAs cipher state header number bytes plain
   opens_as entries header number plain o =
       let n = header.header_len in
-      let keys = session_keys block setup.profile (material_of setup) (is_left (peer_of side)) in
-      subst (λ (s : SrtpState). OpensAs keystream aead s header number bytes plain) (sym is) (
+      let keys = session_keys cipher setup.profile (material_of setup) (is_left (peer_of came.side)) in
+      subst (λ (s : SrtpState). OpensAs cipher s header number bytes plain) (sym is) (
         o.front,
         record {
           within = o.short;
           header = (own (extensions_of setup) bytes [] header o.reads).2;
-          seal = ap (λ (l : List ℕ). sealed_rtp keystream aead setup.profile keys header.ssrc number n l) (back n plain o.front)
-              ∙ ap (λ (m : ℕ). sealed_rtp keystream aead setup.profile keys header.ssrc number m plain) (sym (len_is header plain o.reads o.front)) ∙ o.sealed;
+          seal = ap (λ (l : List ℕ). sealed_rtp cipher setup.profile keys header.ssrc number n l) (back n plain o.front)
+              ∙ ap (λ (m : ℕ). sealed_rtp cipher setup.profile keys header.ssrc number m plain) (sym (len_is header plain o.reads o.front)) ∙ o.sealed;
         },
       )
 
   pub opens_to : came.kind ≡ Rtp → (entries : List Entry) (header : RtpHeader) (number : ℕ) (plain : List ℕ) → read_header setup bytes ≡ Some header
-      → accepted setup side entries header ≡ Some number → OpensAs keystream aead state header number bytes plain
+      → accepted setup came.side entries header ≡ Some number → OpensAs cipher state header number bytes plain
       → (IsTrue header.has_padding → IsSome (unpadded (drop header.header_len plain)))
-      → Opens (sealing_of keystream aead block setup) setup entries came header number plain
+      → Opens (sealing_of cipher setup) setup entries came header number plain
   opens_to rtp entries header number plain reads accepts opened unpads =
       let n = header.header_len in
-      let keys = session_keys block setup.profile (material_of setup) (is_left (peer_of side)) in
-      let parts = accepted_parts setup side entries header number accepts in
-      let here : OpensAs keystream aead (new_state block setup.profile (material_of setup) (is_left (peer_of side)) 0) header number bytes plain =
-      subst (λ (s : SrtpState). OpensAs keystream aead s header number bytes plain) is opened in record {
+      let keys = session_keys cipher setup.profile (material_of setup) (is_left (peer_of came.side)) in
+      let parts = accepted_parts setup came.side entries header number accepts in
+      let here : OpensAs cipher (new_state cipher setup.profile (material_of setup) (is_left (peer_of came.side)) 0) header number bytes plain =
+      subst (λ (s : SrtpState). OpensAs cipher s header number bytes plain) is opened in record {
         rtp = rtp;
         short = here.1.within;
         reads = reads;
@@ -146,24 +144,24 @@ module _ (keystream : List ℕ → List ℕ → ℕ → ℕ) (aead : List ℕ �
         widened = parts.widened;
         fresh = parts.fresh;
         front = here.0;
-        sealed = ap (λ (m : ℕ). sealed_rtp keystream aead setup.profile keys header.ssrc number m plain) (len_is header plain reads here.0)
-            ∙ ap (λ (l : List ℕ). sealed_rtp keystream aead setup.profile keys header.ssrc number n l) (sym (back n plain here.0)) ∙ here.1.seal;
+        sealed = ap (λ (m : ℕ). sealed_rtp cipher setup.profile keys header.ssrc number m plain) (len_is header plain reads here.0)
+            ∙ ap (λ (l : List ℕ). sealed_rtp cipher setup.profile keys header.ssrc number n l) (sym (back n plain here.0)) ∙ here.1.seal;
         unpads = unpads;
       }
 
   -- bytes that open do so under the header that stands there and under its number
-  only_so : (entries : List Entry) (h : RtpHeader) (n : ℕ) → read_header setup bytes ≡ Some h → accepted setup side entries h ≡ Some n
-      → (header : RtpHeader) (number : ℕ) (plain : List ℕ) → Opens (sealing_of keystream aead block setup) setup entries came header number plain
-      → Opens (sealing_of keystream aead block setup) setup entries came h n plain
+  only_so : (entries : List Entry) (h : RtpHeader) (n : ℕ) → read_header setup bytes ≡ Some h → accepted setup came.side entries h ≡ Some n
+      → (header : RtpHeader) (number : ℕ) (plain : List ℕ) → Opens (sealing_of cipher setup) setup entries came header number plain
+      → Opens (sealing_of cipher setup) setup entries came h n plain
   only_so entries h n reads accepts header number plain o =
-      let seal = sealing_of keystream aead block setup in
+      let seal = sealing_of cipher setup in
       let same : header ≡ h = one_header (read_header setup bytes) header h o.reads reads in
-      let also : number ≡ n = one_number (accepted setup side entries h) number n (ap (accepted setup side entries) (sym same) ∙ accepts_opens o) accepts in
+      let also : number ≡ n = one_number (accepted setup came.side entries h) number n (ap (accepted setup came.side entries) (sym same) ∙ accepts_opens o) accepts in
       subst (λ (m : ℕ). Opens seal setup entries came h m plain) also (subst (λ (g : RtpHeader). Opens seal setup entries came g number plain) same o)
 
-  pub stays_sealed : (entries : List Entry) (h : RtpHeader) (n : ℕ) → read_header setup bytes ≡ Some h → accepted setup side entries h ≡ Some n
-      → ((plain : List ℕ) → OpensAs keystream aead state h n bytes plain → ⊥)
-      → (header : RtpHeader) (number : ℕ) (plain : List ℕ) → Opens (sealing_of keystream aead block setup) setup entries came header number plain → ⊥
+  pub stays_sealed : (entries : List Entry) (h : RtpHeader) (n : ℕ) → read_header setup bytes ≡ Some h → accepted setup came.side entries h ≡ Some n
+      → ((plain : List ℕ) → OpensAs cipher state h n bytes plain → ⊥)
+      → (header : RtpHeader) (number : ℕ) (plain : List ℕ) → Opens (sealing_of cipher setup) setup entries came header number plain → ⊥
   stays_sealed entries h n reads accepts none header number plain o =
       none plain (opens_as entries h n plain (only_so entries h n reads accepts header number plain o))
 
@@ -174,9 +172,9 @@ module _ (keystream : List ℕ → List ℕ → ℕ → ℕ) (aead : List ℕ �
       differ None a b = absurd (cc)
       differ (Some x) a b = absurd (cc)
 
-  pub stays_padded : RtpOpensOnce keystream aead → (entries : List Entry) (h : RtpHeader) (n : ℕ) (p : List ℕ) → read_header setup bytes ≡ Some h
-      → accepted setup side entries h ≡ Some n → OpensAs keystream aead state h n bytes p → IsTrue h.has_padding → IsNone (unpadded (drop h.header_len p))
-      → (header : RtpHeader) (number : ℕ) (plain : List ℕ) → Opens (sealing_of keystream aead block setup) setup entries came header number plain → ⊥
+  pub stays_padded : RtpOpensOnce cipher → (entries : List Entry) (h : RtpHeader) (n : ℕ) (p : List ℕ) → read_header setup bytes ≡ Some h
+      → accepted setup came.side entries h ≡ Some n → OpensAs cipher state h n bytes p → IsTrue h.has_padding → IsNone (unpadded (drop h.header_len p))
+      → (header : RtpHeader) (number : ℕ) (plain : List ℕ) → Opens (sealing_of cipher setup) setup entries came header number plain → ⊥
   stays_padded once entries h n p reads accepts opened padded none header number plain o =
       let here = only_so entries h n reads accepts header number plain o in
       let same : drop h.header_len plain ≡ drop h.header_len p =
@@ -217,10 +215,10 @@ module _ (setup : Setup) (side : Side) (old new : List Entry)
   }
 
 -- a session of which only the streams changed
-pub ready_with : (block : List ℕ → List ℕ → List ℕ) (setup : Setup) (side : Side) (session : SessionState) (entries more : List Entry) (sealing opening : SrtpState) (streams : Streams)
-    → Ready block setup side session entries → sealing ≡ session.sealing → opening ≡ session.opening → Knows setup side streams more
-    → Ready block setup side (record { sealing = sealing; opening = opening; streams = streams }) more
-ready_with block setup side session entries more sealing opening streams ready s o k = record { seals = s ∙ ready.seals; opens = o ∙ ready.opens; knows = k }
+pub ready_with : (cipher : CipherMeaning) (setup : Setup) (side : Side) (session : SessionState) (entries more : List Entry) (sealing opening : SrtpState) (streams : Streams)
+    → Ready cipher setup side session entries → sealing ≡ session.sealing → opening ≡ session.opening → Knows setup side streams more
+    → Ready cipher setup side (record { sealing = sealing; opening = opening; streams = streams }) more
+ready_with cipher setup side session entries more sealing opening streams ready s o k = record { seals = s ∙ ready.seals; opens = o ∙ ready.opens; knows = k }
 
 pub knows_got : (setup : Setup) (side : Side) (entries : List Entry) (came : GotEntry) (streams : Streams) → Knows setup side streams entries
     → Knows setup side streams (entries ++ Got came ∷ [])
@@ -232,8 +230,8 @@ knows_got setup side entries came =
     (λ r. same_reading (write_on side r) entries got refl)
     (λ r. same_reading (taken_on side r) entries got refl)
 
-pub nothing_received : (block : List ℕ → List ℕ → List ℕ) (seal : Sealing) (setup : Setup) (session : SessionState) (entries : List Entry) (came : GotEntry)
-    → Ready block setup came.side session entries → ((header : RtpHeader) (number : ℕ) (plain : List ℕ) → Opens seal setup entries came header number plain → ⊥)
-    → Receives seal setup entries came [] × Ready block setup came.side session (entries ++ Got came ∷ [])
-nothing_received block seal setup session entries came ready none =
+pub nothing_received : (cipher : CipherMeaning) (seal : Sealing) (setup : Setup) (session : SessionState) (entries : List Entry) (came : GotEntry)
+    → Ready cipher setup came.side session entries → ((header : RtpHeader) (number : ℕ) (plain : List ℕ) → Opens seal setup entries came header number plain → ⊥)
+    → Receives seal setup entries came [] × Ready cipher setup came.side session (entries ++ Got came ∷ [])
+nothing_received cipher seal setup session entries came ready none =
     (stays none, record { seals = ready.seals; opens = ready.opens; knows = knows_got setup came.side entries came session.streams ready.knows })

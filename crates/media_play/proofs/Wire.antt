@@ -3,9 +3,10 @@ use Rattle.std.proofs.Common.{◌≡◌, ℕ, zero, suc, ◌+◌, ◌<◌, ◌�
 use Rattle.std.proofs.lemmas.List.{length-append, drop_at}
 use Rattle.rtp_wire.specs.declared.header.RtpHeader.{RtpHeader}
 use Rattle.rtp_wire.specs.BytesLaws.{AreWords}
-use Rattle.rtp_wire.specs.Extensions.{no_extensions, extension_bytes}
+use Rattle.rtp_wire.specs.Extensions.{no_extensions, written_data, extension_bytes}
 use Rattle.rtp_wire.specs.Header.{header_of, header_bytes}
 use Rattle.rtp_wire.specs.HeaderLaws.{ReadsOwnBytes, PlainIsReadAgain, PlainIsAsLong, HasFixedBytes, IsPlainHeader}
+use Rattle.srtp_core.specs.Cipher.{CipherMeaning}
 use Rattle.srtp_core.specs.Keys.{session_keys}
 use Rattle.srtp_core.specs.Laws.{RtpSealsApart, RtpSealKeepsHeader}
 use Rattle.srtp_core.specs.Seals.{sealed_rtp}
@@ -64,7 +65,7 @@ carries_write setup again long w f = record {
 
 -- under a map without names no extension is written
 no_extension : (h : RtpHeader) → extension_bytes no_extensions h.ext_vals ≡ []
-unfolding extension_bytes
+unfolding extension_bytes written_data
 no_extension h = refl
 
 header_is_short : (h : RtpHeader) → h.csrc_count ≡ 0 → length (header_bytes no_extensions h) ≤ 160
@@ -77,11 +78,11 @@ is_short setup plain w c =
     let all : length plain ≡ length (header_bytes no_extensions c.header) + length w.payload = ap length c.written ∙ length-append (header_bytes no_extensions c.header) w.payload in
     omega (arith, all, header_is_short c.header c.no_sources)
 
-module _ (block : List ℕ → List ℕ → List ℕ) (keystream : List ℕ → List ℕ → ℕ → ℕ) (aead : List ℕ → List ℕ → List ℕ → List ℕ → List ℕ) (setup : Setup) where
+module _ (cipher : CipherMeaning) (setup : Setup) where
   abbrev sealing_with : Side → ℕ → ℕ → ℕ → List ℕ → List ℕ
-  sealing_with side ssrc index n plain = sealed_rtp keystream aead setup.profile (session_keys block setup.profile (material_of setup) (is_left side)) ssrc index n plain
+  sealing_with side ssrc index n plain = sealed_rtp cipher setup.profile (session_keys cipher setup.profile (material_of setup) (is_left side)) ssrc index n plain
 
-  pub wire_laws : ReadsOwnBytes → RtpSealsApart keystream aead → RtpSealKeepsHeader keystream aead → WireLaws (sealing_of keystream aead block setup) setup
+  pub wire_laws : ReadsOwnBytes → RtpSealsApart cipher → RtpSealKeepsHeader cipher → WireLaws (sealing_of cipher setup) setup
   wire_laws own apart keeps = record {
     by_front = λ bytes rest h e. (own (extensions_of setup) bytes rest h e).0;
     within = λ bytes h e. (own (extensions_of setup) bytes [] h e).2;

@@ -6,8 +6,8 @@ use Rattle.rtp_wire.specs.Widen.{widen16}
 use Rattle.rtp_wire.specs.Padding.{unpadded}
 use Rattle.media_play.specs.Plain.{read_header}
 use Rattle.media_model.specs.declared.entry.Side.{Side}
-use Rattle.media_model.specs.declared.entry.Kind.{Kind}
-use Rattle.media_model.specs.declared.entry.Kind.TheVariants.{Rtp}
+use Rattle.rtp_base.specs.declared.kind.Kind.{Kind}
+use Rattle.rtp_base.specs.declared.kind.Kind.TheVariants.{Rtp}
 use Rattle.media_model.specs.declared.entry.Packet.{Packet}
 use Rattle.media_model.specs.declared.entry.Got.{Got as GotEntry}
 use Rattle.media_model.specs.declared.entry.Opened.{Opened as OpenedEntry}

@@ -3,10 +3,11 @@ use Rattle.std.specs.Prelude.{ℕ, ◌%◌, ◌<◌, ◌^◌, false, List, ◌++
 use Rattle.rtp_wire.specs.declared.header.RtpHeader.{RtpHeader}
 use Rattle.rtp_wire.specs.Extensions.{no_extensions, no_values}
 use Rattle.rtp_wire.specs.Header.{header_bytes}
+use Rattle.srtp_core.specs.Cipher.{CipherMeaning}
 use Rattle.srtp_core.specs.Contexts.{SrtpState}
 use Rattle.srtp_core.specs.Seals.{sealed_rtp}
 use Rattle.media_model.specs.declared.entry.Side.{Side}
-use Rattle.media_model.specs.declared.entry.Kind.TheVariants.{Rtp}
+use Rattle.rtp_base.specs.declared.kind.Kind.TheVariants.{Rtp}
 use Rattle.media_model.specs.declared.entry.Write.{Write as Writing}
 use Rattle.media_model.specs.declared.entry.Sealed.{Sealed as SealedEntry}
 
@@ -49,8 +50,8 @@ abbrev pub waiting_of : Writing → WaitingPacket
 waiting_of w = record { header = header_of_write w; number = w.number; plain = plain_of w }
 
 -- how a context seals
-abbrev pub seal_in : (List ℕ → List ℕ → ℕ → ℕ) → (List ℕ → List ℕ → List ℕ → List ℕ → List ℕ) → SrtpState → ℕ → ℕ → ℕ → List ℕ → List ℕ
-seal_in keystream aead state ssrc index n plain = sealed_rtp keystream aead state.profile state.keys ssrc index n plain
+abbrev pub seal_in : CipherMeaning → SrtpState → ℕ → ℕ → ℕ → List ℕ → List ℕ
+seal_in cipher state ssrc index n plain = sealed_rtp cipher state.profile state.keys ssrc index n plain
 
 -- the seal of a packet that waited
 abbrev pub sealed_packet : (ℕ → ℕ → ℕ → List ℕ → List ℕ) → Side → WaitingPacket → SealedEntry

@@ -2,7 +2,7 @@
 use Rattle.std.specs.Prelude.{◌≡◌, ◌<◌, ◌≤◌, ◌-◌, ◌^◌, ℕ, List, [], ◌∷◌, ◌++◌, slice_get, Some, None}
 use Rattle.std.specs.List.{flat_map}
 use Rattle.media_model.specs.declared.entry.Side.{Side}
-use Rattle.media_model.specs.declared.entry.Kind.TheVariants.{Rtp}
+use Rattle.rtp_base.specs.declared.kind.Kind.TheVariants.{Rtp}
 use Rattle.media_model.specs.declared.entry.Write.{Write as Writing}
 use Rattle.media_model.specs.declared.entry.Got.{Got as GotEntry}
 use Rattle.media_model.specs.declared.entry.Sealed.{Sealed as SealedEntry}

@@ -1,5 +1,6 @@
 -- What a run knows of the steps that it played.
 use Rattle.std.specs.Prelude.{◌≡◌, ◌+◌, ◌≤◌, ℕ, List, [], length, take, slice_get, Some, None, Result, Ok, Err}
+use Rattle.srtp_core.specs.Cipher.{CipherMeaning}
 use Rattle.media_model.specs.declared.entry.Side.TheVariants.{A, B}
 use Rattle.media_model.specs.declared.entry.Entry.{Entry}
 use Rattle.media_model.specs.declared.transcript.Transcript.{Transcript}
@@ -23,9 +24,9 @@ pub record RunState : Type 0 where
   pub latest : ℕ
 
 -- the entries are those that these steps brought, and each part knows them
-pub record Running (block : List ℕ → List ℕ → List ℕ) (seal : Sealing) (setup : Setup) (run : RunState) (steps : List Step) : Type 0 where
-  pub a_knows : Ready block setup A run.a run.log
-  pub b_knows : Ready block setup B run.b run.log
+pub record Running (cipher : CipherMeaning) (seal : Sealing) (setup : Setup) (run : RunState) (steps : List Step) : Type 0 where
+  pub a_knows : Ready cipher setup A run.a run.log
+  pub b_knows : Ready cipher setup B run.b run.log
   pub time : run.latest ≡ last_time run.log
   pub played : Played seal setup steps run.log
 

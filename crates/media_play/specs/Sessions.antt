@@ -1,13 +1,14 @@
 -- What a session knows of the entries so far.
 use Rattle.std.specs.Prelude.{◌≡◌, ℕ, Bool, true, false, List, [], ◌∷◌, take, drop, Option, Some, None}
 use Rattle.rtp_wire.specs.declared.header.RtpHeader.{RtpHeader}
+use Rattle.srtp_core.specs.Cipher.{CipherMeaning}
 use Rattle.srtp_core.specs.Contexts.{SrtpState, new_state}
 use Rattle.srtp_core.specs.Keys.{session_keys}
 use Rattle.srtp_core.specs.Seals.{sealed_rtp, OpensTo}
 use Rattle.srtp_core.specs.RtcpSeals.{sealed_rtcp}
 use Rattle.media_model.specs.declared.entry.Side.{Side}
 use Rattle.media_model.specs.declared.entry.Side.TheVariants.{A, B}
-use Rattle.media_model.specs.declared.entry.Kind.TheVariants.{Rtp, Rtcp}
+use Rattle.rtp_base.specs.declared.kind.Kind.TheVariants.{Rtp, Rtcp}
 use Rattle.media_model.specs.declared.entry.Packet.{Packet}
 use Rattle.media_model.specs.declared.entry.Entry.{Entry}
 use Rattle.media_model.specs.declared.entry.Entry.TheVariants.{Opened, Yielded}
@@ -25,14 +26,14 @@ abbrev pub is_left : Side → Bool
 is_left A = true
 is_left B = false
 
--- how the sides of a setup seal, with a cipher's key stream, authenticated encryption and block: RTP behind the header
+-- how the sides of a setup seal, with what a cipher means: RTP behind the header
 -- that it reads as, RTCP encrypted, so that the E bit is set
-abbrev pub sealing_of : (List ℕ → List ℕ → ℕ → ℕ) → (List ℕ → List ℕ → List ℕ → List ℕ → List ℕ) → (List ℕ → List ℕ → List ℕ) → Setup → Sealing
-sealing_of keystream aead block setup side Rtp ssrc index plain =
-    sealed_rtp keystream aead setup.profile (session_keys block setup.profile (material_of setup) (is_left side)) ssrc index
+abbrev pub sealing_of : CipherMeaning → Setup → Sealing
+sealing_of cipher setup side Rtp ssrc index plain =
+    sealed_rtp cipher setup.profile (session_keys cipher setup.profile (material_of setup) (is_left side)) ssrc index
     (len_of (read_header setup plain)) plain
-sealing_of keystream aead block setup side Rtcp ssrc index plain =
-    sealed_rtcp keystream aead setup.profile (session_keys block setup.profile (material_of setup) (is_left side)) true index plain
+sealing_of cipher setup side Rtcp ssrc index plain =
+    sealed_rtcp cipher setup.profile (session_keys cipher setup.profile (material_of setup) (is_left side)) true index plain
 
 -- the context that seals, the one that opens, and the streams
 pub record SessionState : Type 0 where
@@ -41,16 +42,16 @@ pub record SessionState : Type 0 where
   pub streams : Streams
 
 -- the session seals with its side's keys and opens with its peer's, and its streams know the entries
-pub record Ready (block : List ℕ → List ℕ → List ℕ) (setup : Setup) (side : Side) (session : SessionState) (entries : List Entry) : Type 0 where
-  pub seals : session.sealing ≡ new_state block setup.profile (material_of setup) (is_left side) 0
-  pub opens : session.opening ≡ new_state block setup.profile (material_of setup) (is_left (peer_of side)) 0
+pub record Ready (cipher : CipherMeaning) (setup : Setup) (side : Side) (session : SessionState) (entries : List Entry) : Type 0 where
+  pub seals : session.sealing ≡ new_state cipher setup.profile (material_of setup) (is_left side) 0
+  pub opens : session.opening ≡ new_state cipher setup.profile (material_of setup) (is_left (peer_of side)) 0
   pub knows : Knows setup side session.streams entries
 
 -- the bytes open in this context to this plain datagram, whose header is that of the bytes
-abbrev pub OpensAs : (List ℕ → List ℕ → ℕ → ℕ) → (List ℕ → List ℕ → List ℕ → List ℕ → List ℕ) → SrtpState → RtpHeader → ℕ → List ℕ → List ℕ → Type 0
-OpensAs keystream aead state header number bytes plain =
+abbrev pub OpensAs : CipherMeaning → SrtpState → RtpHeader → ℕ → List ℕ → List ℕ → Type 0
+OpensAs cipher state header number bytes plain =
     (take header.header_len plain ≡ take header.header_len bytes)
-    × OpensTo keystream aead state.profile state.keys header.ssrc number header.header_len bytes (drop header.header_len plain)
+    × OpensTo cipher state.profile state.keys header.ssrc number header.header_len bytes (drop header.header_len plain)
 
 abbrev pub yielded : Side → Option Packet → List Entry
 yielded side None = []

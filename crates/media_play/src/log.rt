@@ -1,6 +1,6 @@
 ghost use Rattle.std.specs.Prelude.{◌≡◌, ◌∷◌, ◌++◌, [], OnOk, OnErr, slice_get, length, false};
 ghost use Rattle.std.specs.Option.{option_copied};
-ghost use Rattle.media_model.specs.declared.entry.Entry.TheVariants.{Sealed};
+ghost use Rattle.media_model.specs.declared.entry.Entry.TheVariants as happening;
 ghost use Rattle.media_model.specs.Entries.{datagrams};
 ghost use Rattle.media_play.specs.Log.{is_seal, places, sealed_at};
 
@@ -60,7 +60,7 @@ impl Log {
 
     /// Adds a seal. Without memory nothing is added.
     pub fn push_sealed(&mut self, sealed: Sealed) -> Result<(), AllocError>
-        ensures ok { OnOk result (self.new ≡ self.old ++ Sealed sealed ∷ []) }
+        ensures ok { OnOk result (self.new ≡ self.old ++ happening.Sealed sealed ∷ []) }
         ensures err { OnErr result (self.new ≡ self.old) }
     {
         let place = self.transcript.entries().len();

@@ -58,7 +58,7 @@ impl<C: SrtpCipher> Run<C> {
 
     fn new(alloc: Global, cipher: C, setup: &Setup) -> Result<Self, AllocError>
         requires { length (material_of setup.now) ≡ material_len setup.now.profile }
-        ensures { IfOk result (λ r. Running C.block (sealing_of C.keystream C.aead C.block setup.now) setup.now r []) }
+        ensures { IfOk result (λ r. Running C.meaning (sealing_of C.meaning setup.now) setup.now r []) }
     {
         Ok(Run {
             a: Session::new(alloc, cipher, setup, Side::A)?,
@@ -110,9 +110,9 @@ impl<C: SrtpCipher> Run<C> {
         write: &Write,
     ) -> Result<(), StepError>
         ensures done { OnOk result ((setup : Given) (steps : List Act) → IsSound setup
-            → Running C.block (sealing_of C.keystream C.aead C.block setup) setup self.old steps
-            → Running C.block (sealing_of C.keystream C.aead C.block setup) setup self.new (steps ++ WriteStep side time write.now ∷ [])) }
-        ensures broken { (setup : Given) (steps : List Act) → Running C.block (sealing_of C.keystream C.aead C.block setup) setup self.old steps
+            → Running C.meaning (sealing_of C.meaning setup) setup self.old steps
+            → Running C.meaning (sealing_of C.meaning setup) setup self.new (steps ++ WriteStep side time write.now ∷ [])) }
+        ensures broken { (setup : Given) (steps : List Act) → Running C.meaning (sealing_of C.meaning setup) setup self.old steps
             → IsBroken result (step_fault setup self.old.log (WriteStep side time write.now)) (self.new.log ≡ self.old.log) }
         ensures longer { (more : List Happening) × (self.new.log ≡ self.old.log ++ more) }
     {
@@ -127,9 +127,9 @@ impl<C: SrtpCipher> Run<C> {
 
     fn tick(&mut self, alloc: Global, side: Side, time: Instant) -> Result<(), StepError>
         ensures done { OnOk result ((setup : Given) (steps : List Act) → IsSound setup
-            → Running C.block (sealing_of C.keystream C.aead C.block setup) setup self.old steps
-            → Running C.block (sealing_of C.keystream C.aead C.block setup) setup self.new (steps ++ TickStep side time ∷ [])) }
-        ensures broken { (setup : Given) (steps : List Act) → Running C.block (sealing_of C.keystream C.aead C.block setup) setup self.old steps
+            → Running C.meaning (sealing_of C.meaning setup) setup self.old steps
+            → Running C.meaning (sealing_of C.meaning setup) setup self.new (steps ++ TickStep side time ∷ [])) }
+        ensures broken { (setup : Given) (steps : List Act) → Running C.meaning (sealing_of C.meaning setup) setup self.old steps
             → IsBroken result (step_fault setup self.old.log (TickStep side time)) (self.new.log ≡ self.old.log) }
         ensures longer { (more : List Happening) × (self.new.log ≡ self.old.log ++ more) }
     {
@@ -152,9 +152,9 @@ impl<C: SrtpCipher> Run<C> {
         bytes: Bytes,
     ) -> Result<(), AllocError>
         ensures done { OnOk result ((setup : Given) (steps : List Act) (step : Act) → IsSound setup
-            → Running C.block (sealing_of C.keystream C.aead C.block setup) setup self.old steps
+            → Running C.meaning (sealing_of C.meaning setup) setup self.old steps
             → Brings self.old.log (got_as side time kind bytes) step → step_fault setup self.old.log step ≡ None
-            → Running C.block (sealing_of C.keystream C.aead C.block setup) setup self.new (steps ++ step ∷ [])) }
+            → Running C.meaning (sealing_of C.meaning setup) setup self.new (steps ++ step ∷ [])) }
         ensures longer { (more : List Happening) × (self.new.log ≡ self.old.log ++ more) }
     {
         match side {
@@ -173,9 +173,9 @@ impl<C: SrtpCipher> Run<C> {
         datagram: u64,
     ) -> Result<(), StepError>
         ensures done { OnOk result ((setup : Given) (steps : List Act) → IsSound setup
-            → Running C.block (sealing_of C.keystream C.aead C.block setup) setup self.old steps
-            → Running C.block (sealing_of C.keystream C.aead C.block setup) setup self.new (steps ++ DeliverStep side time datagram ∷ [])) }
-        ensures broken { (setup : Given) (steps : List Act) → Running C.block (sealing_of C.keystream C.aead C.block setup) setup self.old steps
+            → Running C.meaning (sealing_of C.meaning setup) setup self.old steps
+            → Running C.meaning (sealing_of C.meaning setup) setup self.new (steps ++ DeliverStep side time datagram ∷ [])) }
+        ensures broken { (setup : Given) (steps : List Act) → Running C.meaning (sealing_of C.meaning setup) setup self.old steps
             → IsBroken result (step_fault setup self.old.log (DeliverStep side time datagram)) (self.new.log ≡ self.old.log) }
         ensures longer { (more : List Happening) × (self.new.log ≡ self.old.log ++ more) }
     {
@@ -194,9 +194,9 @@ impl<C: SrtpCipher> Run<C> {
         bytes: &Bytes,
     ) -> Result<(), StepError>
         ensures done { OnOk result ((setup : Given) (steps : List Act) → IsSound setup
-            → Running C.block (sealing_of C.keystream C.aead C.block setup) setup self.old steps
-            → Running C.block (sealing_of C.keystream C.aead C.block setup) setup self.new (steps ++ ForeignStep side time kind bytes.now ∷ [])) }
-        ensures broken { (setup : Given) (steps : List Act) → Running C.block (sealing_of C.keystream C.aead C.block setup) setup self.old steps
+            → Running C.meaning (sealing_of C.meaning setup) setup self.old steps
+            → Running C.meaning (sealing_of C.meaning setup) setup self.new (steps ++ ForeignStep side time kind bytes.now ∷ [])) }
+        ensures broken { (setup : Given) (steps : List Act) → Running C.meaning (sealing_of C.meaning setup) setup self.old steps
             → IsBroken result (step_fault setup self.old.log (ForeignStep side time kind bytes.now)) (self.new.log ≡ self.old.log) }
         ensures longer { (more : List Happening) × (self.new.log ≡ self.old.log ++ more) }
     {
@@ -209,9 +209,9 @@ impl<C: SrtpCipher> Run<C> {
     /// Plays one step.
     fn play(&mut self, alloc: Global, step: &Step) -> Result<(), StepError>
         ensures done { OnOk result ((setup : Given) (steps : List Act) → IsSound setup
-            → Running C.block (sealing_of C.keystream C.aead C.block setup) setup self.old steps
-            → Running C.block (sealing_of C.keystream C.aead C.block setup) setup self.new (steps ++ step.now ∷ [])) }
-        ensures broken { (setup : Given) (steps : List Act) → Running C.block (sealing_of C.keystream C.aead C.block setup) setup self.old steps
+            → Running C.meaning (sealing_of C.meaning setup) setup self.old steps
+            → Running C.meaning (sealing_of C.meaning setup) setup self.new (steps ++ step.now ∷ [])) }
+        ensures broken { (setup : Given) (steps : List Act) → Running C.meaning (sealing_of C.meaning setup) setup self.old steps
             → IsBroken result (step_fault setup self.old.log step.now) (self.new.log ≡ self.old.log) }
         ensures longer { (more : List Happening) × (self.new.log ≡ self.old.log ++ more) }
     {
@@ -241,8 +241,8 @@ fn play_all<C: SrtpCipher>(
     steps: &[Step],
 ) -> Result<Transcript, RunFault>
     requires { setup_fault setup.now ≡ None }
-    ensures played { IfOk result (λ t. Played (sealing_of C.keystream C.aead C.block setup.now) setup.now steps.now t) }
-    ensures cause { IfErr result (λ f. HasCause (sealing_of C.keystream C.aead C.block setup.now) setup.now steps.now f.sofar f.cause) }
+    ensures played { IfOk result (λ t. Played (sealing_of C.meaning setup.now) setup.now steps.now t) }
+    ensures cause { IfErr result (λ f. HasCause (sealing_of C.meaning setup.now) setup.now steps.now f.sofar f.cause) }
 {
     let Ok(mut run) = Run::new(alloc, cipher, setup) else {
         return Err(RunFault {
@@ -288,14 +288,14 @@ pub fn media_run<C: SrtpCipher>(
     steps: &[Step],
 ) -> Result<Transcript, RunFault>
     // Each step brings what it has to bring, and all steps are played.
-    ensures played { IfOk result (λ t. (setup_fault setup.now ≡ None) × Played (sealing_of C.keystream C.aead C.block setup.now) setup.now steps.now t) }
-    ensures cause { IfErr result (λ f. HasCause (sealing_of C.keystream C.aead C.block setup.now) setup.now steps.now f.sofar f.cause) }
+    ensures played { IfOk result (λ t. (setup_fault setup.now ≡ None) × Played (sealing_of C.meaning setup.now) setup.now steps.now t) }
+    ensures cause { IfErr result (λ f. HasCause (sealing_of C.meaning setup.now) setup.now steps.now f.sofar f.cause) }
 
     // A write brings nothing. A tick seals all queued writes, stream by stream. What comes is opened
     // exactly where it opens, and its packet yielded.
-    ensures steps { OfRun result (StepsAreAnswered (sealing_of C.keystream C.aead C.block setup.now) setup.now) }
+    ensures steps { OfRun result (StepsAreAnswered (sealing_of C.meaning setup.now) setup.now) }
     // Each sealed datagram is a seal under its side's keys.
-    ensures seals { OfRun result (SealsAreRight (sealing_of C.keystream C.aead C.block setup.now) setup.now) }
+    ensures seals { OfRun result (SealsAreRight (sealing_of C.meaning setup.now) setup.now) }
     // No two datagrams of a direction share a nonce.
     ensures nonces { OfRun result NoNonceTwice }
     // Each sealed datagram carries one earlier write of its side, none twice.
@@ -345,8 +345,8 @@ fn write_step<C: SrtpCipher>(
     write: &Write,
 ) -> Result<(), StepError>
     ensures ready { OnOk result ((seal : Sealing) (setup : Given) (steps : List Act) (entries : List Happening) → Played seal setup steps entries
-        → IsSound setup → Ready C.block setup side session.old entries → Ready C.block setup side session.new (entries ++ Wrote side time write.now ∷ [])) }
-    ensures rule { (setup : Given) (entries : List Happening) → Ready C.block setup side session.old entries
+        → IsSound setup → Ready C.meaning setup side session.old entries → Ready C.meaning setup side session.new (entries ++ Wrote side time write.now ∷ [])) }
+    ensures rule { (setup : Given) (entries : List Happening) → Ready C.meaning setup side session.old entries
         → IsBroken result (write_fault setup entries side write.now) (log.new ≡ log.old) }
     ensures wrote { OnOk result (log.new ≡ log.old ++ Wrote side time write.now ∷ []) }
     ensures fits { OnOk result ((write.now.ssrc < 2 ^ 32) × (write.now.rtp_time < 2 ^ 32)) }
@@ -368,8 +368,8 @@ fn tick_step<C: SrtpCipher>(
     time: Instant,
 ) -> Result<(), StepError>
     ensures ready { OnOk result ((setup : Given) (steps : List Act) → IsSound setup
-        → Played (sealing_of C.keystream C.aead C.block setup) setup steps log.old → Ready C.block setup side session.old log.old
-        → IsTick (sealing_of C.keystream C.aead C.block setup) setup side time log.old log.new × Ready C.block setup side session.new log.new) }
+        → Played (sealing_of C.meaning setup) setup steps log.old → Ready C.meaning setup side session.old log.old
+        → IsTick (sealing_of C.meaning setup) setup side time log.old log.new × Ready C.meaning setup side session.new log.new) }
     ensures memory { IfErr result (λ e. e ≡ StepError.Memory) }
     ensures longer { (more : List Happening) × (log.new ≡ log.old ++ more) }
 {
@@ -387,9 +387,9 @@ fn receive_step<C: SrtpCipher>(
     kind: Kind,
     bytes: Bytes,
 ) -> Result<(), AllocError>
-    ensures ready { OnOk result ((setup : Given) → IsSound setup → Ready C.block setup side session.old log.old
-        → IsArrival (sealing_of C.keystream C.aead C.block setup) setup (got_as side time kind bytes) log.old log.new
-        × Ready C.block setup side session.new log.new) }
+    ensures ready { OnOk result ((setup : Given) → IsSound setup → Ready C.meaning setup side session.old log.old
+        → IsArrival (sealing_of C.meaning setup) setup (got_as side time kind bytes) log.old log.new
+        × Ready C.meaning setup side session.new log.new) }
     ensures longer { (more : List Happening) × (log.new ≡ log.old ++ more) }
 {
     let received = session.receive(alloc, kind, bytes.as_slice())?;

@@ -5,7 +5,7 @@ ghost use Rattle.rtp_wire.specs.Padding.{unpadded};
 ghost use Rattle.srtp_core.specs.Contexts.{new_state};
 ghost use Rattle.media_model.specs.declared.entry.Side.{Side as Party};
 ghost use Rattle.media_model.specs.declared.entry.Entry.{Entry};
-ghost use Rattle.media_model.specs.declared.entry.Entry.TheVariants.{Sealed};
+ghost use Rattle.media_model.specs.declared.entry.Entry.TheVariants as happening;
 ghost use Rattle.media_model.specs.declared.entry.Got.{Got as GotEntry};
 ghost use Rattle.media_model.specs.declared.entry.Write.{Write as Writing};
 ghost use Rattle.media_model.specs.declared.setup.Setup.{Setup as Given};
@@ -73,7 +73,7 @@ fn context<C: SrtpCipher>(
     left: bool,
 ) -> Result<SrtpContext<C>, AllocError>
     requires { length material.now ≡ material_len profile }
-    ensures { IfOk result (λ c. c ≡ new_state C.block profile material.now left 0) }
+    ensures { IfOk result (λ c. c ≡ new_state C.meaning profile material.now left 0) }
 {
     match SrtpContext::new(alloc, cipher, profile, material, left) {
         Ok(context) => Ok(context),
@@ -89,7 +89,7 @@ fn seal_all<C: SrtpCipher>(
     log: &mut Log,
 ) -> Result<(), AllocError>
     ensures sealed { OnOk result ((writes : List Writing) → waiting.items ≡ map waiting_of writes
-        → log.new ≡ log.old ++ map (λ w. Sealed (sealed_packet (seal_in C.keystream C.aead context.old) side (waiting_of w))) writes) }
+        → log.new ≡ log.old ++ map (λ w. happening.Sealed (sealed_packet (seal_in C.meaning context.old) side (waiting_of w))) writes) }
     ensures longer { (more : List Entry) × (log.new ≡ log.old ++ more) }
     ensures same { context.new ≡ context.old }
 {
@@ -105,7 +105,7 @@ fn seal<C: SrtpCipher>(
     packet: Waiting,
     log: &mut Log,
 ) -> Result<(), AllocError>
-    ensures sealed { OnOk result (log.new ≡ log.old ++ Sealed (sealed_packet (seal_in C.keystream C.aead context.old) side packet) ∷ []) }
+    ensures sealed { OnOk result (log.new ≡ log.old ++ happening.Sealed (sealed_packet (seal_in C.meaning context.old) side packet) ∷ []) }
     ensures longer { (more : List Entry) × (log.new ≡ log.old ++ more) }
     ensures same { context.new ≡ context.old }
 {
@@ -132,8 +132,8 @@ fn open<C: SrtpCipher>(
 ) -> Result<Option<Bytes>, AllocError>
     requires index { number < 2 ^ 48 }
     requires low { number % 65536 ≡ header.now.sequence_number }
-    ensures opened { IfOk result (λ r. IfSome r (λ plain. OpensAs C.keystream C.aead context.old header.now number bytes.now plain)) }
-    ensures none { IfOk result (λ r. IfNone r ((plain : List ℕ) → OpensAs C.keystream C.aead context.old header.now number bytes.now plain → ⊥)) }
+    ensures opened { IfOk result (λ r. IfSome r (λ plain. OpensAs C.meaning context.old header.now number bytes.now plain)) }
+    ensures none { IfOk result (λ r. IfNone r ((plain : List ℕ) → OpensAs C.meaning context.old header.now number bytes.now plain → ⊥)) }
     ensures same { context.new ≡ context.old }
 {
     let front = header.header_len;
@@ -214,7 +214,7 @@ impl<C: SrtpCipher> Model for Session<C> {
 }
 
 impl<C: SrtpCipher> Session<C> {
-    ghost use Rattle.media_model.specs.declared.entry.Kind.TheVariants.{Rtp};
+    ghost use Rattle.rtp_base.specs.declared.kind.Kind.TheVariants.{Rtp};
     ghost use Rattle.media_model.specs.declared.entry.Entry.TheVariants.{Wrote, Ticked, Got};
     ghost use Rattle.media_play.specs.Opening.{Sealing, Receives};
     ghost use Rattle.media_play.specs.Play.{Played, Seals};
@@ -227,7 +227,7 @@ impl<C: SrtpCipher> Session<C> {
     /// profile's length.
     pub fn new(alloc: Global, cipher: C, setup: &Setup, side: Side) -> Result<Self, AllocError>
         requires { length (material_of setup.now) ≡ material_len setup.now.profile }
-        ensures { IfOk result (λ s. Ready C.block setup.now side s []) }
+        ensures { IfOk result (λ s. Ready C.meaning setup.now side s []) }
     {
         let material = material(alloc, setup)?;
         Ok(Session {
@@ -248,7 +248,7 @@ impl<C: SrtpCipher> Session<C> {
         ensures place { IfOk result (λ at. (at < length self.now.streams.outgoing.items) × (slice_get (map ssrc_of self.now.streams.outgoing.items) at ≡ Some write.now.ssrc)) }
         ensures number { IfOk result (λ at. write.now.number < 2 ^ 48) }
         ensures payload { IfOk result (λ at. length write.now.payload ≤ 1400) }
-        ensures rule { (setup : Given) (side : Party) (entries : List Entry) → Ready C.block setup side self.now entries
+        ensures rule { (setup : Given) (side : Party) (entries : List Entry) → Ready C.meaning setup side self.now entries
             → write_fault setup entries side write.now ≡ result_err result }
     {
         self.streams.check_write(write)
@@ -260,9 +260,9 @@ impl<C: SrtpCipher> Session<C> {
         requires payload { length write.now.payload ≤ 1400 }
         requires number { write.now.number < 2 ^ 48 }
         ensures { OnOk result ((seal : Sealing) (setup : Given) (steps : List Step) (side : Party) (entries : List Entry) (time : ℕ)
-            → Played seal setup steps entries → Ready C.block setup side self.old entries → IsSound setup
+            → Played seal setup steps entries → Ready C.meaning setup side self.old entries → IsSound setup
             → slice_get (map ssrc_of self.old.streams.outgoing.items) at ≡ Some write.now.ssrc → write_fault setup entries side write.now ≡ None
-            → Ready C.block setup side self.new (entries ++ Wrote side time write.now ∷ [])) }
+            → Ready C.meaning setup side self.new (entries ++ Wrote side time write.now ∷ [])) }
     {
         self.streams.put(alloc, at, write)
     }
@@ -275,9 +275,9 @@ impl<C: SrtpCipher> Session<C> {
         bytes: &[u8],
     ) -> Result<Option<Received>, AllocError>
         ensures received { IfOk result (λ r. (setup : Given) (entries : List Entry) (came : GotEntry) → IsSound setup
-            → came.kind ≡ kind → came.bytes ≡ bytes.now → Ready C.block setup came.side self.old entries
-            → Receives (sealing_of C.keystream C.aead C.block setup) setup entries came (received_entries came.side r)
-            × Ready C.block setup came.side self.new (entries ++ Got came ∷ received_entries came.side r)) }
+            → came.kind ≡ kind → came.bytes ≡ bytes.now → Ready C.meaning setup came.side self.old entries
+            → Receives (sealing_of C.meaning setup) setup entries came (received_entries came.side r)
+            × Ready C.meaning setup came.side self.new (entries ++ Got came ∷ received_entries came.side r)) }
         ensures unopened { IfOk result (λ r. IfNone r (self.new ≡ self.old)) }
         ensures err { OnErr result (self.new ≡ self.old) }
     {
@@ -290,9 +290,9 @@ impl<C: SrtpCipher> Session<C> {
 
     fn receive_rtp(&mut self, alloc: Global, bytes: &[u8]) -> Result<Option<Received>, AllocError>
         ensures received { IfOk result (λ r. (setup : Given) (entries : List Entry) (came : GotEntry) → IsSound setup
-            → came.kind ≡ Rtp → came.bytes ≡ bytes.now → Ready C.block setup came.side self.old entries
-            → Receives (sealing_of C.keystream C.aead C.block setup) setup entries came (received_entries came.side r)
-            × Ready C.block setup came.side self.new (entries ++ Got came ∷ received_entries came.side r)) }
+            → came.kind ≡ Rtp → came.bytes ≡ bytes.now → Ready C.meaning setup came.side self.old entries
+            → Receives (sealing_of C.meaning setup) setup entries came (received_entries came.side r)
+            × Ready C.meaning setup came.side self.new (entries ++ Got came ∷ received_entries came.side r)) }
         ensures unopened { IfOk result (λ r. IfNone r (self.new ≡ self.old)) }
         ensures err { OnErr result (self.new ≡ self.old) }
     {
@@ -327,9 +327,9 @@ impl<C: SrtpCipher> Session<C> {
     /// Seals all packets that wait, stream by stream, into the log.
     pub fn tick(&mut self, alloc: Global, side: Side, log: &mut Log) -> Result<(), AllocError>
         ensures sealed { OnOk result ((setup : Given) (steps : List Step) (entries : List Entry) (time : ℕ) → IsSound setup
-            → Played (sealing_of C.keystream C.aead C.block setup) setup steps entries → Ready C.block setup side self.old entries
-            → (sealed : List Entry) × Seals (sealing_of C.keystream C.aead C.block setup) setup side entries sealed
-            × (log.new ≡ log.old ++ sealed) × Ready C.block setup side self.new (entries ++ Ticked side time ∷ sealed)) }
+            → Played (sealing_of C.meaning setup) setup steps entries → Ready C.meaning setup side self.old entries
+            → (sealed : List Entry) × Seals (sealing_of C.meaning setup) setup side entries sealed
+            × (log.new ≡ log.old ++ sealed) × Ready C.meaning setup side self.new (entries ++ Ticked side time ∷ sealed)) }
         ensures longer { (more : List Entry) × (log.new ≡ log.old ++ more) }
     {
         plain_header_is_read_again();

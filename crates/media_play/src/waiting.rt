@@ -4,7 +4,7 @@ ghost use Rattle.media_play.specs.Packets.{header_of_write, plain_of};
 
 use media_base::Bytes;
 use media_model::Write;
-use rtp_wire::{ExtensionMap, ExtensionValues, RtpHeader, SeqNo, Ssrc};
+use rtp_wire::{ExtensionMap, ExtensionValues, RtpHeader, SeqNo, Ssrc, headers_are_as_long};
 use srtp_core::{SrtpCipher, SrtpContext};
 use std::alloc::{AllocError, Global};
 use std::marker::Model;
@@ -74,6 +74,7 @@ impl Waiting {
         requires number { write.now.number < 2 ^ 48 }
         ensures { IfOk result (λ w. w ≡ waiting_of write.now) }
     {
+        headers_are_as_long();
         let plain = plain(alloc, write)?;
         Ok(Waiting {
             header: header_of(write),
@@ -108,7 +109,7 @@ impl Waiting {
         &self,
         context: &mut SrtpContext<C>,
     ) -> Result<Bytes, AllocError>
-        ensures sealed { IfOk result (λ bytes. bytes ≡ sealed_rtp C.keystream C.aead context.old.profile context.old.keys self.now.header.ssrc self.now.number self.now.header.header_len self.now.plain) }
+        ensures sealed { IfOk result (λ bytes. bytes ≡ sealed_rtp C.meaning context.old.profile context.old.keys self.now.header.ssrc self.now.number self.now.header.header_len self.now.plain) }
         ensures same { context.new ≡ context.old }
     {
         let bytes = context.protect_rtp(

@@ -2,13 +2,24 @@
 use Rattle.std.specs.Prelude.{ℕ, List, codes, Bool, true, false}
 use Rattle.srtp_core.specs.declared.profile.SrtpProfile.{SrtpProfile}
 use Rattle.srtp_core.specs.declared.profile.SrtpProfile.TheVariants.{Aes128CmSha1_80, AeadAes128Gcm, AeadAes256Gcm}
-pub use Rattle.media_model.specs.Sides.{side_text, kind_text}
+use Rattle.media_model.specs.declared.entry.Side.{Side}
+use Rattle.media_model.specs.declared.entry.Side.TheVariants.{A, B}
+use Rattle.rtp_base.specs.declared.kind.Kind.{Kind}
+use Rattle.rtp_base.specs.declared.kind.Kind.TheVariants.{Rtp, Rtcp}
 use Rattle.media_model.specs.declared.setup.CipherName.{CipherName}
 use Rattle.media_model.specs.declared.setup.CipherName.TheVariants.{Toy}
 use Rattle.media_model.specs.declared.setup.Codec.{Codec}
 use Rattle.media_model.specs.declared.setup.Codec.TheVariants.{Opus, Pcmu, Pcma, Telephone, Vp8, Vp9, H264, H265, H266, Av1}
 use Rattle.media_model.specs.declared.setup.MediaKind.{MediaKind}
 use Rattle.media_model.specs.declared.setup.MediaKind.TheVariants.{Audio, Video}
+
+abbrev pub side_text : Side → List ℕ
+side_text A = codes "A"
+side_text B = codes "B"
+
+abbrev pub kind_text : Kind → List ℕ
+kind_text Rtp = codes "rtp"
+kind_text Rtcp = codes "rtcp"
 
 abbrev pub flag_text : Bool → List ℕ
 flag_text false = codes "0"

@@ -11,14 +11,14 @@ use Rattle.media_play.proofs.run.play_all.Goals as goal
 
 pub returns-in_default-clause-cause : goal.returns-in_default-clause-cause
 returns-in_default-clause-cause g c =
-    let seal = sealing_of g.C.SrtpCipher.keystream g.C.SrtpCipher.aead g.C.SrtpCipher.block c.args.setup.now in
+    let seal = sealing_of g.C.SrtpCipher.meaning c.args.setup.now in
     (0, omega arith, subst (Played seal c.args.setup.now []) (sym c.new-in_default.ensures) start)
 
 pub returns-in-Err-Rule-clause-cause : goal.returns-in-Err-Rule-clause-cause
 returns-in-Err-Rule-clause-cause g c =
-    let seal = sealing_of g.C.SrtpCipher.keystream g.C.SrtpCipher.aead g.C.SrtpCipher.block c.args.setup.now in
+    let seal = sealing_of g.C.SrtpCipher.meaning c.args.setup.now in
     let within : c.loop-i.i < length c.args.steps.now = omega arith in
-    let run : Running g.C.SrtpCipher.block seal c.args.setup.now c.loop-i.run (take c.loop-i.i c.args.steps.now) = c.loop-i.invariant in
+    let run : Running g.C.SrtpCipher.meaning seal c.args.setup.now c.loop-i.run (take c.loop-i.i c.args.steps.now) = c.loop-i.invariant in
     let broken = broken_by c.in-Err-Rule.field-0 c.in-Err-Rule.fault (step_fault c.args.setup.now c.loop-i.run.log c.index-steps-i.result) (c.play.new.self.log ≡ c.loop-i.run.log)
     c.in-Err-Rule.field-0-is (c.in-Err-Rule.ensures.broken c.args.setup.now (take c.loop-i.i c.args.steps.now) run) in
     let same : c.into_transcript.result ≡ c.play.new.self.log = search rules in
@@ -28,8 +28,8 @@ returns-in-Err-Rule-clause-cause g c =
 
 pub loop-i-preserved : goal.loop-i-preserved
 loop-i-preserved g c =
-    let seal = sealing_of g.C.SrtpCipher.keystream g.C.SrtpCipher.aead g.C.SrtpCipher.block c.args.setup.now in
+    let seal = sealing_of g.C.SrtpCipher.meaning c.args.setup.now in
     let within : c.loop-i.i < length c.args.steps.now = omega arith in
-    subst (Running g.C.SrtpCipher.block seal c.args.setup.now c.play.new.self)
+    subst (Running g.C.SrtpCipher.meaning seal c.args.setup.now c.play.new.self)
     (steps_more c.args.steps.now c.loop-i.i c.index-steps-i.result within c.index-steps-i.is)
     (c.in-Ok-play.ensures.done c.args.setup.now (take c.loop-i.i c.args.steps.now) (sound_setup c.args.setup.now c.requires) c.loop-i.invariant)

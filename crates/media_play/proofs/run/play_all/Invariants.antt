@@ -5,4 +5,4 @@ use Rattle.media_play.proofs.run.play_all.Given as goal
 
 abbrev pub invariant-loop-i : goal.invariant-loop-i
 invariant-loop-i g l =
-    Running g.C.SrtpCipher.block (sealing_of g.C.SrtpCipher.keystream g.C.SrtpCipher.aead g.C.SrtpCipher.block l.setup) l.setup l.run (take l.i l.steps)
+    Running g.C.SrtpCipher.meaning (sealing_of g.C.SrtpCipher.meaning l.setup) l.setup l.run (take l.i l.steps)

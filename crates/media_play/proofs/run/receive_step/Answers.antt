@@ -17,5 +17,5 @@ returns-clause-ready g c setup sound ready =
     let added = c.in_ok-push_received.ensures.done ∙ ap (λ (l : List Entry). l ++ brought) c.in_ok-push.ensures.ok
     ∙ append_assoc log (Got came ∷ []) brought in (
       record { brought = brought; received = h.0; added = added },
-      subst (λ (l : List Entry). Ready K.block setup side session l) (sym added) h.1,
+      subst (λ (l : List Entry). Ready K.meaning setup side session l) (sym added) h.1,
     )

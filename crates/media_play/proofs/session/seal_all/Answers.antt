@@ -19,7 +19,7 @@ map_map g f (x ∷ xs) = ap (λ ys. g (f x) ∷ ys) (map_map g f xs)
 
 pub returns-clause-sealed : goal.returns-clause-sealed
 returns-clause-sealed g c writes e =
-    let seal : WaitingPacket → Entry = λ w. Sealed (sealed_packet (seal_in g.C.SrtpCipher.keystream g.C.SrtpCipher.aead c.args.context.now) c.args.side w) in
+    let seal : WaitingPacket → Entry = λ w. Sealed (sealed_packet (seal_in g.C.SrtpCipher.meaning c.args.context.now) c.args.side w) in
     let xs = c.loop-packet.yielded in
     let t = c.loop-packet.packet-iterator in
     let none : into_iter_items t ≡ [] = nil_from_length (into_iter_items t) (sym t.rest.ok.0 ∙ c.in-None.ensures.steps.0) in

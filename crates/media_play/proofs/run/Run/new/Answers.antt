@@ -11,8 +11,8 @@ returns g c =
     let setup = c.args.setup.now in
     let none : c.new-3.result ≡ [] = c.new-3.ensures in
     record {
-      a_knows = subst (Ready K.block setup A c.in_ok-new.field-0) (sym none) c.in_ok-new.ensures;
-      b_knows = subst (Ready K.block setup B c.in_ok-new-2.field-0) (sym none) c.in_ok-new-2.ensures;
+      a_knows = subst (Ready K.meaning setup A c.in_ok-new.field-0) (sym none) c.in_ok-new.ensures;
+      b_knows = subst (Ready K.meaning setup B c.in_ok-new-2.field-0) (sym none) c.in_ok-new-2.ensures;
       time = c.from_nanos.ensures ∙ ap last_time (sym none);
-      played = subst (Played (sealing_of K.keystream K.aead K.block setup) setup []) (sym none) start;
+      played = subst (Played (sealing_of K.meaning setup) setup []) (sym none) start;
     }

@@ -13,6 +13,6 @@ returns g c =
     (λ h seal setup steps side entries time played ready sound at fault.
     let knows = subst (λ (s : SessionState). Knows setup side s.streams entries) (sym view) ready.knows in
     let at_inside = subst (λ (s : SessionState). slice_get (map ssrc_of s.streams.outgoing.items) c.args.at ≡ Some c.args.write.now.ssrc) (sym view) at in
-    ready_with g.C.SrtpCipher.block setup side c.args.self.now entries (entries ++ Wrote side time c.args.write.now ∷ []) c.self.inside.sealing c.self.inside.opening c.put.new.self ready
+    ready_with g.C.SrtpCipher.meaning setup side c.args.self.now entries (entries ++ Wrote side time c.args.write.now ∷ []) c.self.inside.sealing c.self.inside.opening c.put.new.self ready
     (ap (λ (s : SessionState). s.sealing) view) (ap (λ (s : SessionState). s.opening) view) (h seal setup steps side entries time played knows sound at_inside fault))
     c.put.ensures

@@ -1,6 +1,6 @@
 use Rattle.std.proofs.Common.{◌≡◌, sym, ◌∙◌}
 use Rattle.std.proofs.lemmas.Result.{IfOk-weaker}
-use Rattle.media_model.specs.declared.entry.Kind.TheVariants.{Rtp, Rtcp}
+use Rattle.rtp_base.specs.declared.kind.Kind.TheVariants.{Rtp, Rtcp}
 use Rattle.media_play.proofs.Receiving.{nothing_received}
 use Rattle.media_play.proofs.session.Session.receive.Goals as goal
 
@@ -10,5 +10,5 @@ returns-in-Rtp-clause-received g c =
 
 pub returns-in-Rtcp-clause-received : goal.returns-in-Rtcp-clause-received
 returns-in-Rtcp-clause-received g c setup entries came sound kind bytes ready =
-    nothing_received g.C.SrtpCipher.block _ setup c.args.self.now entries came ready
+    nothing_received g.C.SrtpCipher.meaning _ setup c.args.self.now entries came ready
     (λ header number plain o. let other : Rtcp ≡ Rtp = sym c.in-Rtcp.is ∙ sym kind ∙ o.rtp in absurd cc)

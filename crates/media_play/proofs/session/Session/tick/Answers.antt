@@ -19,16 +19,16 @@ returns-clause-sealed g c =
     let side = c.args.side in
     on_ok_weaker c.seal_all.result
     (λ h setup steps entries time sound played ready.
-    let seal = sealing_of K.keystream K.aead K.block setup in
+    let seal = sealing_of K.meaning setup in
     let ws = to_seal setup side entries in
     let knows = subst (λ (s : SessionState). Knows setup side s.streams entries) (sym view) ready.knows in
     let is = ap (λ (s : SessionState). s.sealing) view ∙ ready.seals in
-    let sealed : List Entry = map (λ w. Sealed (sealed_packet (seal_in K.keystream K.aead c.self.inside.sealing) side (waiting_of w))) ws in
-    let all = tick_seals K.keystream K.aead K.block setup side c.self.inside.sealing is c.plain_header_is_read_again.ensures c.headers_are_as_long.ensures.plain played sound in (
+    let sealed : List Entry = map (λ w. Sealed (sealed_packet (seal_in K.meaning c.self.inside.sealing) side (waiting_of w))) ws in
+    let all = tick_seals K.meaning setup side c.self.inside.sealing is c.plain_header_is_read_again.ensures c.headers_are_as_long.ensures.plain played sound in (
       sealed,
       all,
       h ws (c.in_ok-waiting.ensures.waiting setup side entries knows),
-      ready_with K.block setup side c.args.self.now entries (entries ++ Ticked side time ∷ sealed)
+      ready_with K.meaning setup side c.args.self.now entries (entries ++ Ticked side time ∷ sealed)
           c.seal_all.new.context c.self.inside.opening c.take_waiting.new.self ready
           (c.seal_all.ensures.same ∙ ap (λ (s : SessionState). s.sealing) view) (ap (λ (s : SessionState). s.opening) view)
           (c.in_ok-waiting.ensures.after seal setup side entries time sealed all knows),
