@@ -1,8 +1,8 @@
 use Rattle.std.proofs.Common.{ℕ, ◌∙◌, ◌+◌, ◌%◌, ap, arith, length}
 use Rattle.std.specs.Prelude.{bit_xor, slice_index}
 use Rattle.srtp_core.specs.Toy.{column}
-use Rattle.srtp_core.specs.ToyLaws.{three_mixed}
-use Rattle.srtp_core.proofs.toy.tag.Goals as goal
+use Rattle.srtp_core.proofs.Columns.{three_mixed}
+use Rattle.srtp_core.proofs.toy.ToyCipherSimulated.tag.Goals as goal
 
 pub returns : goal.returns
 returns c =

@@ -1,11 +1,15 @@
--- What is true of texts XORed with a stream, and of a tag behind them.
+-- The laws of the simulated ciphers. An impl takes the proofs of its laws from specs/ alone.
 use Rattle.std.proofs.Common.{◌≡◌, ℕ, ◌+◌, ◌<◌, List, ◌++◌, length, get_or, take, drop, refl, sym, ap, ◌∙◌, arith}
 use Rattle.std.specs.Prelude.{slice_index, bit_xor}
 use Rattle.std.specs.Int.Bits.{xor_assoc, xor_self, xor_zero_r}
-use Rattle.std.proofs.lemmas.List.{take_at, drop_at, length-append, take-append-drop}
+use Rattle.std.proofs.lemmas.List.{take_at, drop_at, length-append, length-take}
 use Rattle.std.proofs.lemmas.List.FromFn.{fill_by_all, length-map-range_with_len, get_or-map-range_with_len}
 use Rattle.media_base.specs.Text.{bytes_by}
+use Rattle.sha1.specs.Sha1.{sha1, digest_bytes}
 use Rattle.srtp_core.specs.Streams.{streamed}
+use Rattle.srtp_core.specs.Simulated.{nonce_stream, sealed_text}
+use Rattle.srtp_core.specs.Toy.{toy_tag}
+use Rattle.srtp_core.specs.Sha.{sha_tag}
 
 -- n bytes of which byte k is f k
 pub made : (f : ℕ → ℕ) (xs : List ℕ) (n : ℕ) → length xs ≡ n → ((k : ℕ) → k < n → get_or xs k 0 ≡ f k) → xs ≡ bytes_by f n
@@ -52,14 +56,31 @@ tagged_apart stream p q s t h e =
     ∙ ap (streamed stream) (sym (take-tagged stream p s (length p) refl) ∙ ap (take (length p)) e ∙ take-tagged stream q t (length p) long)
     ∙ streamed-streamed stream q
 
--- what opens: the text of a front, where the tag of that text stands behind it
-pub opened : (stream : ℕ → ℕ) (input p t : List ℕ) (n : ℕ) → p ≡ streamed stream (take n input) → drop n input ≡ t → streamed stream p ++ t ≡ input
-opened stream input p t n e f =
-    ap (λ q. q ++ t) (ap (streamed stream) e ∙ streamed-streamed stream (take n input))
-    ∙ ap (λ q. take n input ++ q) (sym f) ∙ take-append-drop n input
+module _ (block : List ℕ → List ℕ → List ℕ) (tag : List ℕ → List ℕ → List ℕ → List ℕ → List ℕ) (tag_len : (key iv aad text : List ℕ) → length (tag key iv aad text) ≡ 16) where
+  pub length-sealed_text : (key iv aad text : List ℕ) → length (sealed_text block tag key iv aad text) ≡ length text + 16
+  unfolding sealed_text
+  length-sealed_text key iv aad text = length-tagged (nonce_stream block key iv) text (tag key iv aad text) 16 (tag_len key iv aad text)
 
--- what has to open: of a tagged text the front gives the text again, and behind it stands its tag
-pub opens : (stream : ℕ → ℕ) (tag : List ℕ → List ℕ) (input p plain : List ℕ) (n : ℕ) → length plain ≡ n → p ≡ streamed stream (take n input) → streamed stream plain ++ tag plain ≡ input → drop n input ≡ tag p
-opens stream tag input p plain n size e g =
-    let same : p ≡ plain = e ∙ ap (λ w. streamed stream (take n w)) (sym g) ∙ ap (streamed stream) (take-tagged stream plain (tag plain) n size) ∙ streamed-streamed stream plain in
-    ap (drop n) (sym g) ∙ drop-tagged stream plain (tag plain) n size ∙ ap tag (sym same)
+  pub sealed_text_apart : (key iv aad p q : List ℕ) → sealed_text block tag key iv aad p ≡ sealed_text block tag key iv aad q → p ≡ q
+  unfolding sealed_text
+  sealed_text_apart key iv aad p q e =
+      tagged_apart (nonce_stream block key iv) p q (tag key iv aad p) (tag key iv aad q) (tag_len key iv aad p ∙ sym (tag_len key iv aad q)) e
+
+pub length-toy_tag : (k iv aad p : List ℕ) → length (toy_tag k iv aad p) ≡ 16
+unfolding toy_tag
+length-toy_tag k iv aad p = refl
+
+length-digest_bytes : (h : List ℕ) → length (digest_bytes h 5) ≡ 20
+unfolding digest_bytes
+length-digest_bytes h = refl
+
+pub length-sha1 : (m : List ℕ) → length (sha1 m) ≡ 20
+unfolding sha1
+length-sha1 m = length-digest_bytes _
+
+length-front_of : (m : List ℕ) → length (take 16 (sha1 m)) ≡ 16
+length-front_of m = omega (arith, length-take 16 (sha1 m), length-sha1 m)
+
+pub length-sha_tag : (k iv aad p : List ℕ) → length (sha_tag k iv aad p) ≡ 16
+unfolding sha_tag
+length-sha_tag k iv aad p = length-front_of _

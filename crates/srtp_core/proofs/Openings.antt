@@ -1,14 +1,12 @@
--- What is true of sealed datagrams.
-use Rattle.std.proofs.Common.{◌≡◌, ℕ, ◌≤◌, List, ◌++◌, length, take, arith, refl, sym, ◌∙◌}
+-- What a datagram opens to, of its seal.
+use Rattle.std.proofs.Common.{◌≡◌, ℕ, ◌≤◌, List, ◌++◌, length, take, refl, sym, ◌∙◌}
 use Rattle.std.specs.Prelude.{Option, Some, None, IfSome, IfNone}
-use Rattle.std.proofs.lemmas.List.{take_at, drop_at, length-take}
+use Rattle.std.proofs.lemmas.List.{take_at, drop_at}
 use Rattle.srtp_core.specs.Cipher.{CipherMeaning}
 use Rattle.srtp_core.specs.Keys.{SessionKeys}
 use Rattle.srtp_core.specs.Seals.{rtp_seal, sealed_rtp, OpensTo}
+use Rattle.srtp_core.proofs.Lists.{length-front}
 use Rattle.srtp_core.specs.declared.profile.SrtpProfile.{SrtpProfile}
-
-length-front : (n : ℕ) (bytes : List ℕ) → n ≤ length bytes → length (take n bytes) ≡ n
-length-front n bytes h = omega (arith, length-take n bytes)
 
 -- of a header that is the front of other bytes, and a payload
 pub sealed_rtp_is : (cipher : CipherMeaning) (profile : SrtpProfile) (keys : SessionKeys) (ssrc index n : ℕ) (bytes payload : List ℕ) → n ≤ length bytes
