@@ -1,6 +1,6 @@
 //! Telephone events (RFC 4733): the tones of keys, told instead of heard.
 ghost use Rattle.std.specs.Prelude.{◌≡◌, ◌≤◌};
-ghost use Rattle.payload_core.specs.Telephone.{units_of, duration_of};
+ghost use Rattle.payload_core.specs.Telephone.{units_of, duration_of, EventReadsBack, UnitsComeBack};
 
 use media_base::Duration;
 use rtp_wire::Frequency;
@@ -67,3 +67,15 @@ impl TelephoneEvent {
         Some([self.event, end + self.volume, high, low])
     }
 }
+
+/// A telephone event in bytes is read again, of its duration the whole ticks.
+#[tactic(auto, using(crate::proofs::Tones::events_again))]
+pub fn telephone_events_are_read_again()
+    ensures { EventReadsBack }
+{}
+
+/// Ticks of a clock of at most 10^9 in a second are the same again when their duration is counted.
+#[tactic(auto, using(crate::proofs::Tones::units_again))]
+pub fn units_come_back()
+    ensures { UnitsComeBack }
+{}

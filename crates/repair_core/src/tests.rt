@@ -159,7 +159,7 @@ fn forty_cases_started(rt: HostRuntime) -> Result<(), Fail> {
 
 #[test]
 fn losses(rt: HostRuntime) -> Result<(), Fail> {
-    let mut register = ReceiverRegister::new(rt.alloc(), None)?;
+    let mut register: ReceiverRegister = ReceiverRegister::new(rt.alloc(), None)?;
     assert!(rt; register.reception_report().is_none());
     for number in [10u64, 11, 12, 13, 19] {
         assert!(rt; register.update(SeqNo::from(number), millis(7), 0, 90_000));
@@ -179,7 +179,7 @@ fn losses(rt: HostRuntime) -> Result<(), Fail> {
 
 #[test]
 fn jitter(rt: HostRuntime) -> Result<(), Fail> {
-    let mut register = ReceiverRegister::new(rt.alloc(), None)?;
+    let mut register: ReceiverRegister = ReceiverRegister::new(rt.alloc(), None)?;
     register.update(SeqNo::from(1), millis(0), 1, 8_000);
     register.update(SeqNo::from(2), millis(50), 161, 8_000);
     register.update(SeqNo::from(3), millis(100), 321, 8_000);
@@ -189,7 +189,7 @@ fn jitter(rt: HostRuntime) -> Result<(), Fail> {
 
 #[test]
 fn fractions(rt: HostRuntime) -> Result<(), Fail> {
-    let mut register = ReceiverRegister::new(rt.alloc(), None)?;
+    let mut register: ReceiverRegister = ReceiverRegister::new(rt.alloc(), None)?;
     assert_eq!(rt; register.fraction_lost(120, 118), 4);
     assert_eq!(rt; register.fraction_lost(240, 240), 0);
     register.clear(None);
@@ -205,6 +205,7 @@ fn fractions(rt: HostRuntime) -> Result<(), Fail> {
 #[test]
 fn surface_ample(rt: HostRuntime) -> Result<(), Fail> {
     assert!(rt; !NackRegister::new(rt.alloc(), Some(SeqNo::from(3)))?.accepts(SeqNo::from(3)));
-    assert!(rt; ReceiverRegister::new(rt.alloc(), None)?.accepts(SeqNo::from(3)));
+    let register: ReceiverRegister = ReceiverRegister::new(rt.alloc(), None)?;
+    assert!(rt; register.accepts(SeqNo::from(3)));
     Ok(())
 }

@@ -8,6 +8,8 @@ mod rtx_cache;
 mod rtx_cache_buf;
 mod size_classes;
 #[cfg(test)]
+mod store_tests;
+#[cfg(test)]
 mod tests;
 
 pub use resend_store::ResendStore;

@@ -213,7 +213,7 @@ impl<C: SrtpCipher> SrtpContext<C> {
 }
 
 /// The keys of a direction.
-#[tactic(auto, using(crate::specs::KeyLaws::derived_nothing))]
+#[tactic(auto, using(crate::proofs::Derived::derived_nothing))]
 fn keys_of<C: SrtpCipher>(
     cipher: C,
     profile: SrtpProfile,
