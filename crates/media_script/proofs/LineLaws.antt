@@ -1,7 +1,6 @@
 -- What a setup line says is how it is spelled, and the other way round.
-use Rattle.std.proofs.Common.{◌≡◌, ℕ, ◌^◌, lit≤, List, [], ◌∷◌, Option, Some, refl, ap, ◌∙◌}
+use Rattle.std.proofs.Common.{◌≡◌, ℕ, ◌^◌, lit≤, List, [], ◌∷◌, Some, refl, ap, ◌∙◌}
 use Rattle.std.specs.Prelude.{codes}
-use Rattle.std.specs.List.{AllByRecursion}
 use Rattle.media_model.specs.declared.setup.CipherName.{CipherName}
 use Rattle.media_model.specs.declared.setup.CipherName.TheVariants.{Toy}
 use Rattle.media_script.specs.declared.setup_line.SetupLine.{SetupLine}
@@ -11,7 +10,7 @@ use Rattle.media_script.specs.Names.{cipher_text}
 use Rattle.media_script.specs.Spelling.{IsSetupLine}
 use Rattle.media_script.specs.Words.{one_of}
 use Rattle.media_script.proofs.WordLaws.{one_spelled, narrow_spelled, narrow_again, side_spelled, side_again, profile_spelled, profile_again, key_spelled, key_again, codec_spelled, codec_again, media_kind_spelled, media_kind_again, rate_spelled, rate_again, name_spelled, name_again, rtx_spelled, rtx_again, rid_spelled, rid_again}
-use Rattle.media_script.proofs.KindLaws.{Tells, TellsBehind, done_tells, then_tells, look_up_tells, none_tells}
+use Rattle.media_script.proofs.KindLaws.{Tells, done_tells, then_tells, look_up_tells, none_tells}
 
 -- the words behind this first word
 abbrev Behind : List ℕ → List (List ℕ) → SetupLine → Type 0

@@ -1,11 +1,11 @@
 -- Lines that are taken one by one fit one behind the other.
-use Rattle.std.proofs.Common.{◌≡◌, Bool, true, false, ◌&&◌, List, [], ◌∷◌, ◌++◌, Option, Some, refl, sym, ap, ◌∙◌, subst}
+use Rattle.std.proofs.Common.{◌≡◌, Bool, true, false, ◌&&◌, List, [], ◌∷◌, ◌++◌, Option, Some, refl, ap, ◌∙◌, subst}
 use Rattle.std.specs.List.{fold}
 use Rattle.media_script.specs.declared.said.Said.{Said}
 use Rattle.media_script.specs.declared.setup_line.SetupLine.{SetupLine}
 use Rattle.media_script.specs.Order.{slot, needs, gives, is_free, is_met, has_room, none_said, after, said_by, fits, with_line, AreInOrder}
 use Rattle.media_script.specs.Words.{◌>>=◌}
-use Rattle.media_script.proofs.WordLaws.{bind_some, if_some, both}
+use Rattle.media_script.proofs.WordLaws.{bind_some, if_some}
 
 -- these lines, one after the other
 abbrev pub takes : Said → List SetupLine → Option Said

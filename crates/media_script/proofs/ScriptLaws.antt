@@ -15,9 +15,9 @@ use Rattle.media_model.specs.declared.step.Step.{Step}
 use Rattle.media_script.specs.Gives.{GivesScript}
 use Rattle.media_script.specs.Grammar.{pieces_of, read_from, read_then, script_of, line_taken, read_on, whole_of, whole_script}
 use Rattle.media_script.specs.Draft.{setup_of}
-use Rattle.media_script.specs.Order.{none_said, said_by, AreInOrder}
+use Rattle.media_script.specs.Order.{none_said, said_by}
 use Rattle.media_script.specs.Laws.{SpellsOne}
-use Rattle.media_script.specs.Spelling.{is_passed_over, AreLines, IsSetupLine, IsStep, AreParts, IsScript}
+use Rattle.media_script.specs.Spelling.{is_passed_over, AreLines, IsStep, AreParts, IsScript}
 use Rattle.media_script.specs.Words.{◌>>=◌}
 use Rattle.media_script.proofs.WordLaws.{bind_some, equal}
 use Rattle.media_script.proofs.Pieces.{some_more, pieces_lines, bytes_of_pieces, pieces_plain, lines_plain}

@@ -1,13 +1,12 @@
 -- What the line of a step says is how it is spelled, and the other way round.
-use Rattle.std.proofs.Common.{◌≡◌, ℕ, ◌^◌, lit≤, List, [], ◌∷◌, Option, Some, refl, ap, ◌∙◌}
+use Rattle.std.proofs.Common.{◌≡◌, ℕ, ◌^◌, lit≤, List, [], ◌∷◌, Some, refl, ap, ◌∙◌}
 use Rattle.std.specs.Prelude.{codes}
-use Rattle.std.specs.List.{AllByRecursion}
 use Rattle.media_model.specs.declared.step.Step.{Step}
 use Rattle.media_model.specs.declared.step.Step.TheVariants as step
 use Rattle.media_script.specs.Grammar.{packet_step, write_step, tick_step, deliver_step, foreign_step, no_other, step_kinds, step_of, in_few}
 use Rattle.media_script.specs.Spelling.{IsStep}
 use Rattle.media_script.proofs.WordLaws.{number_spelled, number_again, narrow_spelled, narrow_again, time_spelled, time_again, side_spelled, side_again, kind_spelled, kind_again, flag_spelled, flag_again, hex_spelled, hex_again}
-use Rattle.media_script.proofs.KindLaws.{Tells, TellsBehind, done_tells, then_tells, look_up_tells, none_tells}
+use Rattle.media_script.proofs.KindLaws.{Tells, done_tells, then_tells, look_up_tells, none_tells}
 
 -- the words behind this first word
 abbrev Behind : List ℕ → List (List ℕ) → Step → Type 0

@@ -31,7 +31,8 @@ told draft (line.Cipher cipher) = record draft { cipher = cipher }
 told draft (line.Profile profile) = record draft { profile = profile }
 told draft (line.Key key) = record draft { key = Some key }
 told draft (line.Type payload_type) = record draft { types = draft.types ++ payload_type ∷ [] }
-told draft (line.Media mid kind cname) = record draft { media = draft.media ++ record { mid = mid; kind = kind; cname = cname; streams = [] } ∷ [] }
+told draft (line.Media mid kind cname) =
+    record draft { media = draft.media ++ record { mid = mid; kind = kind; cname = cname; streams = [] } ∷ [] }
 told draft (line.Stream mid stream) = record draft { media = with_stream mid stream draft.media }
 
 -- the setup, if the key stands

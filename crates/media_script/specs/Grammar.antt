@@ -40,10 +40,12 @@ done l [] = Some l
 done l (word ∷ words) = None
 
 -- what the reader of the first word reads, or the other reader where it is none of these
-abbrev pub look_up : {L : Type 0} → (List (List ℕ) → Option L) → List (List ℕ × (List (List ℕ) → Option L)) → List (List ℕ) → Option L
+abbrev pub look_up :
+    {L : Type 0} → (List (List ℕ) → Option L) → List (List ℕ × (List (List ℕ) → Option L)) → List (List ℕ) → Option L
 look_up other kinds [] = None
 look_up other [] (kind ∷ words) = other (kind ∷ words)
-look_up other (k ∷ kinds) (kind ∷ words) = if bytes_eq kind k.0 then k.1 words else look_up other kinds (kind ∷ words)
+look_up other (k ∷ kinds) (kind ∷ words) =
+    if bytes_eq kind k.0 then k.1 words else look_up other kinds (kind ∷ words)
 
 abbrev pub no_other : {L : Type 0} → List (List ℕ) → Option L
 no_other words = None
@@ -61,15 +63,25 @@ key_line = and_then key_of (λ key. done (line.Key key))
 
 abbrev pub type_line : List (List ℕ) → Option SetupLine
 type_line =
-    and_then (narrow_of (2 ^ 8)) (λ pt. and_then codec_of (λ codec. and_then rate_of (λ rate. done (line.Type (record { pt = pt; codec = codec; rate = rate })))))
+    and_then (narrow_of (2 ^ 8)) (λ pt.
+    and_then codec_of (λ codec.
+    and_then rate_of (λ rate.
+    done (line.Type (record { pt = pt; codec = codec; rate = rate })))))
 
 abbrev pub media_line : List (List ℕ) → Option SetupLine
-media_line = and_then (name_of 16) (λ mid. and_then media_kind_of (λ kind. and_then (name_of 255) (λ cname. done (line.Media mid kind cname))))
+media_line =
+    and_then (name_of 16) (λ mid.
+    and_then media_kind_of (λ kind.
+    and_then (name_of 255) (λ cname.
+    done (line.Media mid kind cname))))
 
 abbrev pub stream_line : List (List ℕ) → Option SetupLine
 stream_line =
-    and_then side_of (λ side. and_then (name_of 16) (λ mid. and_then (narrow_of (2 ^ 32)) (λ ssrc.
-    and_then (optional (narrow_of (2 ^ 32))) (λ rtx. and_then (optional (name_of 16)) (λ rid.
+    and_then side_of (λ side.
+    and_then (name_of 16) (λ mid.
+    and_then (narrow_of (2 ^ 32)) (λ ssrc.
+    and_then (optional (narrow_of (2 ^ 32))) (λ rtx.
+    and_then (optional (name_of 16)) (λ rid.
     done (line.Stream mid (record { side = side; ssrc = ssrc; rtx = rtx; rid = rid })))))))
 
 abbrev pub named_kinds : List (List ℕ × (List (List ℕ) → Option SetupLine))
@@ -96,8 +108,13 @@ setup_line_of words = look_up named_line_of setup_kinds words
 -- behind the side and the time
 unfoldable pub packet_step : Side → ℕ → List (List ℕ) → Option Step
 packet_step side time =
-    and_then (narrow_of (2 ^ 32)) (λ ssrc. and_then number_of (λ number. and_then (narrow_of (2 ^ 8)) (λ pt. and_then (narrow_of (2 ^ 32)) (λ rtp_time.
-    and_then flag_of (λ marker. and_then flag_of (λ nackable. and_then hex_of (λ payload.
+    and_then (narrow_of (2 ^ 32)) (λ ssrc.
+    and_then number_of (λ number.
+    and_then (narrow_of (2 ^ 8)) (λ pt.
+    and_then (narrow_of (2 ^ 32)) (λ rtp_time.
+    and_then flag_of (λ marker.
+    and_then flag_of (λ nackable.
+    and_then hex_of (λ payload.
     done (step.Write side time (record {
       ssrc = ssrc;
       number = number;
@@ -109,16 +126,31 @@ packet_step side time =
     })))))))))
 
 abbrev pub write_step : List (List ℕ) → Option Step
-write_step = and_then side_of (λ side. and_then time_of (λ time. packet_step side time))
+write_step =
+    and_then side_of (λ side.
+    and_then time_of (λ time.
+    packet_step side time))
 
 abbrev pub tick_step : List (List ℕ) → Option Step
-tick_step = and_then side_of (λ side. and_then time_of (λ time. done (step.Tick side time)))
+tick_step =
+    and_then side_of (λ side.
+    and_then time_of (λ time.
+    done (step.Tick side time)))
 
 abbrev pub deliver_step : List (List ℕ) → Option Step
-deliver_step = and_then side_of (λ side. and_then time_of (λ time. and_then number_of (λ k. done (step.Deliver side time k))))
+deliver_step =
+    and_then side_of (λ side.
+    and_then time_of (λ time.
+    and_then number_of (λ k.
+    done (step.Deliver side time k))))
 
 abbrev pub foreign_step : List (List ℕ) → Option Step
-foreign_step = and_then side_of (λ side. and_then time_of (λ time. and_then kind_of (λ kind. and_then hex_of (λ bytes. done (step.Foreign side time kind bytes)))))
+foreign_step =
+    and_then side_of (λ side.
+    and_then time_of (λ time.
+    and_then kind_of (λ kind.
+    and_then hex_of (λ bytes.
+    done (step.Foreign side time kind bytes)))))
 
 abbrev pub step_kinds : List (List ℕ × (List (List ℕ) → Option Step))
 step_kinds =

@@ -110,13 +110,20 @@ said_by lines = fold after none_said lines
 
 -- a line may stand behind these
 abbrev pub fits : Said → SetupLine → Bool
-fits said l = is_free said.taken (slot l) && (is_met said.known (needs l) && has_room said.known (gives l))
+fits said l =
+    is_free said.taken (slot l) && (is_met said.known (needs l) && has_room said.known (gives l))
 
 abbrev pub with_line : Said → SetupLine → Option Said
 with_line said l = if fits said l then Some (after said l) else None
 
 -- no two lines share a slot, each stands behind what it needs, and there are not too many of a sort
 pub record AreInOrder (lines : List SetupLine) : Type 0 where
-  pub apart : (before behind : List SetupLine) (l : SetupLine) → lines ≡ before ++ l ∷ behind → is_free (said_by before).taken (slot l) ≡ true
-  pub placed : (before behind : List SetupLine) (l : SetupLine) → lines ≡ before ++ l ∷ behind → is_met (said_by before).known (needs l) ≡ true
-  pub few : (before behind : List SetupLine) (l : SetupLine) → lines ≡ before ++ l ∷ behind → has_room (said_by before).known (gives l) ≡ true
+  pub apart :
+      (before behind : List SetupLine) (l : SetupLine) → lines ≡ before ++ l ∷ behind
+      → is_free (said_by before).taken (slot l) ≡ true
+  pub placed :
+      (before behind : List SetupLine) (l : SetupLine) → lines ≡ before ++ l ∷ behind
+      → is_met (said_by before).known (needs l) ≡ true
+  pub few :
+      (before behind : List SetupLine) (l : SetupLine) → lines ≡ before ++ l ∷ behind
+      → has_room (said_by before).known (gives l) ≡ true

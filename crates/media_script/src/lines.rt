@@ -5,6 +5,9 @@ ghost use Rattle.media_script.specs.Spelling.{words_of, is_passed_over};
 
 use std::alloc::{AllocError, Global};
 
+// More than the words of a line of any kind.
+const MOST_WORDS: usize = 16;
+
 // The first line, and what stands behind its end.
 pub fn first_line(bytes: &[u8]) -> Option<(&[u8], &[u8])>
     ensures { MatchOption result (All (λ b. b ≢ 10) bytes.now)
@@ -24,7 +27,7 @@ fn spaces(line: &[u8]) -> usize
 pub fn is_long(line: &[u8]) -> bool
     ensures { result ≡ is_long (words_of line.now) }
 {
-    spaces(line) >= 16
+    spaces(line) >= MOST_WORDS
 }
 
 // The words between single spaces.

@@ -5,6 +5,12 @@ ghost use Rattle.media_script.specs.Order.{same_per, same_slot, is_free, same_na
 
 use crate::setup_line::{Name, Per, Slot};
 
+// How many media lines a script may have.
+const MOST_MEDIA: usize = 64;
+
+// How many stream lines a script may have.
+const MOST_STREAMS: usize = 256;
+
 fn is_same_per(a: &Per, b: &Per) -> bool
     ensures { result ≡ same_per a.now b.now }
 {
@@ -84,8 +90,8 @@ fn most(name: &Name) -> usize
     ensures { result ≡ most name.now }
 {
     match name {
-        Name::Media(_) => 64,
-        Name::Stream(_) => 256,
+        Name::Media(_) => MOST_MEDIA,
+        Name::Stream(_) => MOST_STREAMS,
     }
 }
 
