@@ -25,6 +25,3 @@ pub use setup::{CipherName, Codec, Key, Media, MediaKind, PayloadType, Setup, St
 pub use step::Step;
 pub use text::{entries_text, write_transcript};
 pub use transcript::Transcript;
-
-#[cfg(test)]
-mod tests;

@@ -1,5 +1,8 @@
-use super::*;
 use media_base::{Bytes, Instant, Listed};
+use media_script::{
+    CipherName, Codec, Entry, Key, Kind, MediaKind, Packet, PayloadType, ScriptError, Side, Step,
+    Transcript, entries_text, read_script, write_transcript,
+};
 use rtp_wire::{Pt, SeqNo, Ssrc};
 use srtp_core::SrtpProfile;
 use std::alloc::Global;

