@@ -20,6 +20,3 @@ pub use error::ScriptError;
 pub use reader::read_script;
 pub use text::{entries_text, write_transcript};
 pub use text_lines::{end_line, put_line};
-
-#[cfg(test)]
-mod tests;

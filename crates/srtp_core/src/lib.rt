@@ -36,6 +36,3 @@ pub const SRTP_BLOCK_SIZE: usize = 16;
 pub const SRTCP_OVERHEAD: usize = 20;
 /// The most by which a sealed RTP datagram is longer than the datagram, in bytes.
 pub const SRTP_OVERHEAD: usize = 16;
-
-#[cfg(test)]
-mod tests;

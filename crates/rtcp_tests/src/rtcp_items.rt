@@ -1,8 +1,13 @@
 ghost use Rattle.std.specs.Prelude.{◌<◌, length};
 ghost use Rattle.rtcp_wire.specs.Texts.{IsWritable};
 
-use super::*;
 use media_base::{Bitrate, Bytes, Listed, SystemTime};
+use rtcp_wire::{
+    AppSpecificFeedback, Descriptions, Dlrr, DlrrItem, ExtendedReport, Fir, FirEntry, Goodbye,
+    Nack, NackEntry, PacketStatus, Pli, ReceiverReport, ReceptionReport, Remb, ReportBlock,
+    ReportList, Rrtr, Rtcp, RtcpFb, Sdes, SdesItem, SdesType, SenderInfo, SenderReport, Twcc,
+    items_fit_by_lengths,
+};
 use rtp_base::{SeqNo, Ssrc};
 use std::alloc::Global;
 use std::collections::VecDeque;
@@ -86,7 +91,7 @@ fn both_ways(rt: &impl Abort, alloc: Global, bytes: &[u8], item: Rtcp) -> Result
 }
 
 #[test]
-#[tactic(auto, unfolding(crate::specs::Reports::sender_report_body, crate::specs::Reports::sender_info_text, crate::specs::Rows::report_text))]
+#[tactic(auto, unfolding(rtcp_wire::specs::Reports::sender_report_body, rtcp_wire::specs::Reports::sender_info_text, rtcp_wire::specs::Rows::report_text))]
 fn sender_report(rt: HostRuntime) -> Result<(), Fail> {
     let mut reports = ReportList::new();
     reports.push(ReceptionReport {
@@ -112,7 +117,7 @@ fn sender_report(rt: HostRuntime) -> Result<(), Fail> {
 }
 
 #[test]
-#[tactic(auto, unfolding(crate::specs::Reports::receiver_report_body, crate::specs::Reports::goodbye_body))]
+#[tactic(auto, unfolding(rtcp_wire::specs::Reports::receiver_report_body, rtcp_wire::specs::Reports::goodbye_body))]
 fn receiver_report_and_goodbye(rt: HostRuntime) -> Result<(), Fail> {
     let item = Rtcp::ReceiverReport(ReceiverReport {
         sender_ssrc: Ssrc::from(1),
@@ -126,7 +131,7 @@ fn receiver_report_and_goodbye(rt: HostRuntime) -> Result<(), Fail> {
 }
 
 #[test]
-#[tactic(auto, unfolding(crate::specs::Descriptions::descriptions_body, crate::specs::Descriptions::sdes_text, crate::specs::Descriptions::sdes_item_text))]
+#[tactic(auto, unfolding(rtcp_wire::specs::Descriptions::descriptions_body, rtcp_wire::specs::Descriptions::sdes_text, rtcp_wire::specs::Descriptions::sdes_item_text))]
 fn descriptions(rt: HostRuntime) -> Result<(), Fail> {
     let mut values = Listed::new(rt.alloc());
     values.push(SdesItem {
@@ -148,7 +153,7 @@ fn descriptions(rt: HostRuntime) -> Result<(), Fail> {
 }
 
 #[test]
-#[tactic(auto, unfolding(crate::specs::Feedback::nack_body, crate::specs::Feedback::pli_body, crate::specs::Feedback::fir_body, crate::specs::Rows::nack_entry_text, crate::specs::Rows::fir_entry_text))]
+#[tactic(auto, unfolding(rtcp_wire::specs::Feedback::nack_body, rtcp_wire::specs::Feedback::pli_body, rtcp_wire::specs::Feedback::fir_body, rtcp_wire::specs::Rows::nack_entry_text, rtcp_wire::specs::Rows::fir_entry_text))]
 fn requests(rt: HostRuntime) -> Result<(), Fail> {
     for (bytes, sender, pid, blp) in [(&LOST, 2, 2, 0), (&NACK, 1, 10, 5)] {
         let mut reports = ReportList::new();
@@ -203,7 +208,7 @@ fn writable(twcc: Twcc) -> Rtcp
 }
 
 // An item between an empty report and a goodbye is written as the bytes.
-#[tactic(auto, unfolding(crate::specs::Reports::receiver_report_body, crate::specs::Reports::goodbye_body))]
+#[tactic(auto, unfolding(rtcp_wire::specs::Reports::receiver_report_body, rtcp_wire::specs::Reports::goodbye_body))]
 fn written_between(rt: &impl Abort, alloc: Global, item: Rtcp, bytes: &[u8]) -> Result<(), Fail>
     requires { IsWritable item }
 {
@@ -237,7 +242,7 @@ fn transport_feedback_between(rt: HostRuntime) -> Result<(), Fail> {
 }
 
 #[test]
-#[tactic(auto, unfolding(crate::specs::Feedback::app_feedback_body, crate::specs::Remb::remb_body))]
+#[tactic(auto, unfolding(rtcp_wire::specs::Feedback::app_feedback_body, rtcp_wire::specs::Remb::remb_body))]
 fn application_feedback(rt: HostRuntime) -> Result<(), Fail> {
     let item = Rtcp::AppSpecificFeedback(AppSpecificFeedback {
         sender_ssrc: Ssrc::from(1),
@@ -257,7 +262,7 @@ fn application_feedback(rt: HostRuntime) -> Result<(), Fail> {
 }
 
 #[test]
-#[tactic(auto, unfolding(crate::specs::Extended::extended_report_body, crate::specs::Extended::block_text, crate::specs::Extended::block_content, crate::specs::Extended::dlrr_item_text))]
+#[tactic(auto, unfolding(rtcp_wire::specs::Extended::extended_report_body, rtcp_wire::specs::Extended::block_text, rtcp_wire::specs::Extended::block_content, rtcp_wire::specs::Extended::dlrr_item_text))]
 fn extended_report(rt: HostRuntime) -> Result<(), Fail> {
     let mut blocks = Listed::new(rt.alloc());
     let ntp_time = SystemTime::from_unix_nanos(MOMENT);

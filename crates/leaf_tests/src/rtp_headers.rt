@@ -1,5 +1,8 @@
-use super::*;
 use media_units::{Beginning, Instant};
+use rtp_wire::{
+    AbsCaptureTime, AbsSendTime, Extension, ExtensionMap, ExtensionValues, Frequency, MediaTime,
+    Mid, Rid, RtpHeader, SeqNo, VideoOrientation,
+};
 use std::test::Fail;
 
 const PLAIN: [u8; 14] = [0x80, 0x60, 0, 1, 0, 0, 0, 0, 0, 0, 0, 0x2a, 1, 2];

@@ -1,4 +1,7 @@
-use super::*;
+use rtp_base::{
+    Direction, Frequency, MediaTime, Mid, MidRid, Pt, Rid, SeqNo, SeqNoWindow, SessionId, Ssrc,
+    TwccClusterId, TwccPacketId, widen16, widen32,
+};
 use std::test::Fail;
 
 // The edges of 16 bits: after no number, 0, 32767, 32768, 65535, 65536 and 2^47 (RFC 3711 appendix A).

@@ -1,7 +1,7 @@
 ghost use Rattle.std.specs.Prelude.{◌<◌};
 
-use crate::{Cached, EvictingBuffer, RtxCache};
 use media_base::{Duration, Instant};
+use resend_core::{Cached, EvictingBuffer, RtxCache};
 use rtp_base::SeqNo;
 use std::test::Fail;
 
@@ -108,5 +108,62 @@ fn surface_ample(rt: HostRuntime) -> Result<(), Fail> {
             .is_ok()
     );
     assert_eq!(rt; cache.last_cached_seq_no(), Some(SeqNo::from(9)));
+    Ok(())
+}
+
+fn second(count: u64) -> Instant
+    requires { count < 100 }
+{
+    Instant::from_nanos(count * 1_000_000_000)
+}
+
+// It grows until each has a slot of its own.
+#[test]
+fn grows(rt: HostRuntime) -> Result<(), Fail> {
+    let mut buffer = EvictingBuffer::new(rt.alloc(), 2, Duration::from_nanos(10_000_000_000), 10)?;
+    buffer.push(2, second(0), 'A')?;
+    buffer.push(3, second(1), 'B')?;
+    buffer.push(4, second(2), 'C')?;
+    assert_eq!(rt; buffer.get(2).copied(), Some('A'));
+    assert_eq!(rt; buffer.get(3).copied(), Some('B'));
+    assert_eq!(rt; buffer.get(4).copied(), Some('C'));
+    assert_eq!(rt; buffer.last_position(), Some(4));
+    assert_eq!(rt; buffer.last().copied(), Some('C'));
+    buffer.clear();
+    assert_eq!(rt; buffer.last_position(), None);
+    assert!(rt; !buffer.contains(4));
+    Ok(())
+}
+
+// What is older than ten seconds goes.
+#[test]
+fn ages_out(rt: HostRuntime) -> Result<(), Fail> {
+    let mut buffer = EvictingBuffer::new(rt.alloc(), 4, Duration::from_nanos(10_000_000_000), 10)?;
+    buffer.push(5, second(0), 'A')?;
+    buffer.push(7, second(2), 'C')?;
+    buffer.push(8, second(3), 'D')?;
+    buffer.maybe_evict(second(13));
+    assert!(rt; !buffer.contains(5));
+    assert!(rt; !buffer.contains(7));
+    assert_eq!(rt; buffer.get(8).copied(), Some('D'));
+    buffer.push(7, second(14), 'E')?;
+    assert!(rt; !buffer.contains(7));
+    buffer.push(9, second(12), 'F')?;
+    assert!(rt; !buffer.contains(9));
+    Ok(())
+}
+
+// At the greatest size the greater position stays.
+#[test]
+fn full(rt: HostRuntime) -> Result<(), Fail> {
+    let mut buffer = EvictingBuffer::new(rt.alloc(), 1, Duration::from_nanos(10_000_000_000), 2)?;
+    buffer.push(1, second(0), 'A')?;
+    buffer.push(2, second(0), 'B')?;
+    buffer.push(3, second(0), 'C')?;
+    assert!(rt; !buffer.contains(1));
+    assert_eq!(rt; buffer.get(2).copied(), Some('B'));
+    assert_eq!(rt; buffer.get(3).copied(), Some('C'));
+    buffer.push(1, second(0), 'D')?;
+    assert_eq!(rt; buffer.get(3).copied(), Some('C'));
     Ok(())
 }

@@ -1,9 +1,12 @@
-use super::*;
 use media_base::{DataSize, Duration, Instant, Listed};
 use rtp_base::{SeqNo, Ssrc, TwccPacketId};
 use std::ops::Range;
 use std::process::Abort;
 use std::test::Fail;
+use twcc_core::{
+    PacketStatus, Share, Twcc, TwccRecvRegister, TwccSendRecord, TwccSendRegister, arrivals,
+    read_twcc, twcc_len, write_twcc,
+};
 
 // Seven packets 1 ms after one another, one that is missing and one 250 us before the last, from the
 // number 65,535 on: a run, a vector, deltas and fill.

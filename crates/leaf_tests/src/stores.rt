@@ -1,7 +1,7 @@
 ghost use Rattle.std.specs.Prelude.{◌<◌};
 
-use crate::EvictingBuffer;
 use media_base::{Duration, Instant};
+use resend_core::EvictingBuffer;
 use std::test::Fail;
 
 fn millis(count: u64) -> Instant

@@ -1,6 +1,7 @@
-use crate::{
-    Bitrate, DataSize, Debt, Duration, Instant, Soonest, ValueHistory, already_happened,
-    calculate_rtt, not_happening,
+use media_units::{
+    Beginning, Bitrate, DataSize, Debt, Duration, Instant, InstantExt, Soonest, SystemTime,
+    SystemTimeExt, ValueHistory, already_happened, calculate_rtt, epoch_to_beginning,
+    not_happening,
 };
 use std::test::Fail;
 
@@ -98,4 +99,59 @@ fn old_values_count_no_longer(rt: HostRuntime) -> Result<(), Fail> {
     history.purge_old(at(5_501));
     assert_eq!(rt; history.sum(), 11);
     Ok(())
+}
+
+#[test]
+fn reads_ntp(rt: HostRuntime) {
+    let cases = [
+        (0, 0),
+        (2_208_988_800 << 32, 0),
+        ((2_208_988_800 << 32) + 1, 0),
+        ((2_208_988_800 << 32) + 5, 1),
+        // 10 November 1995, 11:33:25.125, of RFC 3550, section 6.4.1
+        (0xb44d_b705_2000_0000, 816_003_205_125_000_000),
+        (
+            (3_971_792_775 << 32) + 4_184_015_405,
+            1_762_803_975_974_166_999,
+        ),
+        (u64::MAX, 2_085_978_495_999_999_999),
+    ];
+    for (bits, nanos) in cases {
+        let read = SystemTime::from_ntp_64(bits);
+        assert_eq!(rt; read.as_unix_nanos(), nanos, "at {bits}");
+    }
+}
+
+#[test]
+fn writes_ntp(rt: HostRuntime) {
+    let cases = [
+        (0, 2_208_988_800 << 32),
+        (1, (2_208_988_800 << 32) + 4),
+        (816_003_205_125_000_000, 0xb44d_b705_2000_0000),
+        (2_085_978_495_999_999_999, u64::MAX - 4),
+        (2_085_978_496_000_000_000, u64::MAX),
+        (u64::MAX, u64::MAX),
+    ];
+    for (nanos, bits) in cases {
+        let moment = SystemTime::from_unix_nanos(nanos);
+        assert_eq!(rt; moment.as_ntp_64(), bits, "at {nanos}");
+    }
+}
+
+#[test]
+fn tells_moments_by_the_calendar(rt: HostRuntime) {
+    let beginning = Beginning {
+        unix_secs: 816_003_205,
+    };
+    let moment = Instant::from_nanos(125_000_000);
+    let unix = moment.to_unix_duration(&beginning);
+    let ntp = moment.to_ntp_duration(&beginning);
+    let time = moment.to_system_time(&beginning);
+    assert_eq!(rt;
+        epoch_to_beginning(&beginning),
+        Duration::from_secs(816_003_205)
+    );
+    assert_eq!(rt; unix.as_nanos(), 816_003_205_125_000_000);
+    assert_eq!(rt; ntp.as_nanos(), 3_024_992_005_125_000_000);
+    assert_eq!(rt; time.as_ntp_64(), 0xb44d_b705_2000_0000);
 }

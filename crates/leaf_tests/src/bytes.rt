@@ -1,4 +1,4 @@
-use crate::{
+use media_base::{
     BitPattern, Bytes, Failed, Listed, MemSink, MemSource, ReadError, ReaderSource, Sink, Source,
     WriterSink, read_all, write_all,
 };

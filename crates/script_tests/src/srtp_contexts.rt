@@ -1,8 +1,12 @@
 ghost use Rattle.std.specs.Prelude.{◌<◌, length};
 
-use super::*;
 use rtp_wire::{ExtensionMap, RtpHeader};
 use sha1::Sha1;
+use srtp_core::{
+    KeyingMaterial, SRTCP_OVERHEAD, SRTP_BLOCK_SIZE, SRTP_OVERHEAD, ShaCipher, SrtpCipher,
+    SrtpContext, SrtpError, SrtpProfile, ToyCipher, aead_aes_128_gcm, aead_aes_256_gcm,
+    aes_128_cm_sha1_80, sha1_hmac,
+};
 use std::alloc::AllocError;
 use std::process::Abort;
 use std::test::Fail;

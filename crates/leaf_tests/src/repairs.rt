@@ -2,9 +2,9 @@ ghost use Rattle.std.specs.Prelude.{◌≡◌, ℕ, ◌+◌, ◌<◌, ◌≤◌,
 ghost use Rattle.std.specs.List.{list_any};
 ghost use Rattle.repair_core.specs.Fresh.{greatest, is_fresh};
 
-use crate::{NackRegister, ReceiverRegister, expected, packets_lost};
 use media_base::Instant;
-use rtp_base::SeqNo;
+use repair_core::{NackRegister, ReceiverRegister, expected, packets_lost};
+use rtp_base::{NackEntry, ReportList, SeqNo};
 use std::test::Fail;
 
 fn millis(count: u64) -> Instant
@@ -207,5 +207,78 @@ fn surface_ample(rt: HostRuntime) -> Result<(), Fail> {
     assert!(rt; !NackRegister::new(rt.alloc(), Some(SeqNo::from(3)))?.accepts(SeqNo::from(3)));
     let register: ReceiverRegister = ReceiverRegister::new(rt.alloc(), None)?;
     assert!(rt; register.accepts(SeqNo::from(3)));
+    Ok(())
+}
+
+// Numbers far apart, and the ends of the window.
+#[test]
+fn window_ends(rt: HostRuntime) -> Result<(), Fail> {
+    let mut register = NackRegister::new(rt.alloc(), None)?;
+    assert_eq!(rt; register.max_seq(), None);
+    assert!(rt; register.update(SeqNo::from(1000)));
+    assert!(rt; register.update(SeqNo::from(1100)));
+    assert!(rt; !register.update(SeqNo::from(1000)));
+    assert!(rt; !register.update(SeqNo::from(999)));
+    assert!(rt; register.update(SeqNo::from(1001)));
+    assert!(rt; register.update(SeqNo::from(1302)));
+    assert!(rt; !register.accepts(SeqNo::from(1201)));
+    assert!(rt; register.accepts(SeqNo::from(1202)));
+    assert_eq!(rt; register.max_seq(), Some(SeqNo::from(1302)));
+    register.clear(Some(SeqNo::from(7)));
+    assert!(rt; !register.accepts(SeqNo::from(7)));
+    assert!(rt; !register.accepts(SeqNo::from(6)));
+    assert!(rt; register.accepts(SeqNo::from(8)));
+    Ok(())
+}
+
+// Five rounds ask for 11, and later ones for nothing.
+#[test]
+fn five_asks(rt: HostRuntime) -> Result<(), Fail> {
+    let mut register = NackRegister::new(rt.alloc(), None)?;
+    assert!(rt; register.update(SeqNo::from(10)));
+    assert!(rt; register.update(SeqNo::from(12)));
+    for round in 0..7u64 {
+        let mut reports = ReportList::new();
+        let range = SeqNo::from(10)..SeqNo::from(12);
+        let deadline = register.recovery_deadline(range, Instant::from_nanos(1), None);
+        assert_eq!(rt; deadline.is_some(), 5 <= round);
+        register.nack_reports(Instant::from_nanos(round * 105_000_000), None, &mut reports);
+        if round < 5 {
+            assert_eq!(rt;
+                reports.as_slice(),
+                [NackEntry { pid: 11, blp: 0 }].as_slice()
+            );
+        } else {
+            assert!(rt; reports.is_empty());
+        }
+    }
+    let received = Instant::from_nanos(1);
+    let range = SeqNo::from(10)..SeqNo::from(12);
+    assert_eq!(rt;
+        register.recovery_deadline(range, received, None),
+        Some(Instant::from_nanos(720_000_000))
+    );
+    let range = SeqNo::from(0)..SeqNo::from(11);
+    assert_eq!(rt;
+        register.recovery_deadline(range, received, None),
+        Some(Instant::from_nanos(300_000_001))
+    );
+    Ok(())
+}
+
+// An entry names a number and which of the next 16 are missing too, modulo 65,536.
+#[test]
+fn entries_pack(rt: HostRuntime) -> Result<(), Fail> {
+    let mut register = NackRegister::new(rt.alloc(), Some(SeqNo::from(65_535)))?;
+    assert!(rt; register.update(SeqNo::from(65_538)));
+    assert!(rt; register.update(SeqNo::from(65_560)));
+    let mut reports = ReportList::new();
+    register.nack_reports(Instant::from_nanos(1_000_000), None, &mut reports);
+    let entries = reports.as_slice();
+    assert_eq!(rt; entries.len(), 2);
+    assert_eq!(rt; entries[0].pid, 0);
+    assert_eq!(rt; entries[0].blp, 0xfffd);
+    assert_eq!(rt; entries[1].pid, 17);
+    assert_eq!(rt; entries[1].blp, 0x3f);
     Ok(())
 }

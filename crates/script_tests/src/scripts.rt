@@ -1,6 +1,6 @@
-use super::*;
 use media_base::{Bytes, Instant, Listed};
 use media_model::*;
+use media_script::{ScriptError, entries_text, read_script, write_transcript};
 use rtp_wire::{Pt, SeqNo, Ssrc};
 use srtp_core::SrtpProfile;
 use std::alloc::Global;
