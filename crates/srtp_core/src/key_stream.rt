@@ -43,7 +43,8 @@ fn xor_block(input: &[u8], at: usize, block: &[u8; 16], output: &mut [u8])
     ensures len { length output.new ≡ length output.old }
     ensures before { (k : ℕ) → k < at → slice_index output.new k ≡ slice_index output.old k }
     ensures here { (k : ℕ) → k < 16 → at + k < length input.now
-        → slice_index output.new (at + k) ≡ bit_xor (slice_index input.now (at + k)) (slice_index block.now k) }
+        → slice_index output.new (at + k)
+        ≡ bit_xor (slice_index input.now (at + k)) (slice_index block.now k) }
 {
     if input.len() - at < SRTP_BLOCK_SIZE {
         for i in at..input.len() {

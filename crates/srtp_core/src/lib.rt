@@ -18,6 +18,7 @@ pub mod laws;
 mod profile;
 mod sha;
 mod simulated;
+mod srtcp;
 mod toy;
 
 pub use cipher::SrtpCipher;

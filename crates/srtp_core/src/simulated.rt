@@ -65,9 +65,11 @@ fn open<S: Simulated>(
     requires key { (length key.now ≡ 16) ⊎ (length key.now ≡ 32) }
     requires input { length input.now ≡ length output.old + 16 }
     ensures opens { IsTrue result
-        → sealed_text S.block_of S.tag_of key.now iv.now (aad1.now ++ aad2.now) output.new ≡ input.now }
+        → sealed_text S.block_of S.tag_of key.now iv.now (aad1.now ++ aad2.now) output.new
+        ≡ input.now }
     ensures only { (plain : List ℕ)
-        → sealed_text S.block_of S.tag_of key.now iv.now (aad1.now ++ aad2.now) plain ≡ input.now → IsTrue result }
+        → sealed_text S.block_of S.tag_of key.now iv.now (aad1.now ++ aad2.now) plain ≡ input.now
+        → IsTrue result }
 {
     let (text, end) = input.split_at(output.len());
     xor_stream(cipher, key, &Counter::Word(*iv), text, output);

@@ -16,7 +16,8 @@ pub struct ToyCipher;
 fn mix_bytes(tag: &mut [u8; 16], at: usize, bytes: &[u8])
     requires { at < 16 }
     ensures long { length tag.new ≡ 16 }
-    ensures columns { (j : ℕ) → j < 16 → slice_index tag.new j ≡ bit_xor (slice_index tag.old j) (column j at bytes.now) }
+    ensures columns { (j : ℕ) → j < 16 → slice_index tag.new j
+        ≡ bit_xor (slice_index tag.old j) (column j at bytes.now) }
 {
     for (i, byte) in bytes.iter().enumerate() {
         tag[(at + i % 16) % 16] ^= *byte;
@@ -27,7 +28,8 @@ fn mix_bytes(tag: &mut [u8; 16], at: usize, bytes: &[u8])
 fn mix_blocks(tag: &mut [u8; 16], blocks: &[u8])
     requires { length blocks.now % 16 ≡ 0 }
     ensures long { length tag.new ≡ 16 }
-    ensures columns { (j : ℕ) → j < 16 → slice_index tag.new j ≡ bit_xor (slice_index tag.old j) (column j 0 blocks.now) }
+    ensures columns { (j : ℕ) → j < 16 → slice_index tag.new j
+        ≡ bit_xor (slice_index tag.old j) (column j 0 blocks.now) }
 {
     let mut lanes = u8x16::from_array(*tag);
     for n in 0..blocks.len() / SRTP_BLOCK_SIZE {
@@ -40,7 +42,8 @@ fn mix_blocks(tag: &mut [u8; 16], blocks: &[u8])
 fn mix(tag: &mut [u8; 16], at: usize, bytes: &[u8])
     requires { at < 16 }
     ensures long { length tag.new ≡ 16 }
-    ensures columns { (j : ℕ) → j < 16 → slice_index tag.new j ≡ bit_xor (slice_index tag.old j) (column j at bytes.now) }
+    ensures columns { (j : ℕ) → j < 16 → slice_index tag.new j
+        ≡ bit_xor (slice_index tag.old j) (column j at bytes.now) }
 {
     let (first, rest) = bytes.split_at(bytes.len().min((16 - at) % 16));
     let (blocks, last) = rest.split_at(rest.len() / 16 * 16);

@@ -1,5 +1,5 @@
-use Rattle.std.proofs.Common.{ℕ, ◌≡◌, ◌+◌, ◌*◌, ◌/◌, ◌%◌, ◌⊎◌, length, arith}
-use Rattle.std.specs.Prelude.{slice_index, bit_xor}
+use Rattle.std.proofs.Common.{◌≡◌, ◌+◌, ◌*◌, ◌/◌, ◌%◌, ◌⊎◌, length, arith}
+use Rattle.std.specs.Prelude.{slice_index}
 use Rattle.srtp_core.specs.Toy.{column}
 use Rattle.srtp_core.proofs.Columns.{column-parts, three_parts}
 use Rattle.srtp_core.proofs.toy.mix.Goals as goal
