@@ -130,7 +130,7 @@ fn digests_of_the_standard(rt: HostRuntime) {
     assert!(rt;
         reads(
             &Sha1::digest(b"abcdbcdecdefdefgefghfghighijhijkijkljklmklmnlmnomnopnopq"),
-            "84983e441c3bd26ebaae4aa1f95129e54670e5f1"
+            "84983e441c3bd26ebaae4aa1f95129e5e54670f1"
         )
     );
 }
