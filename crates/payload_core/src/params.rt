@@ -103,7 +103,7 @@ fn is_tele_type(params: &PayloadParams, pt: Pt) -> bool
 }
 
 impl CodecConfig {
-    ghost use Rattle.payload_core.specs.Params.{is_type, tele_event_max, IsFirstWith, NoneWith};
+    ghost use Rattle.payload_core.specs.Params.{is_type, tele_event_max, IsFirstWith, NoneWith, left_of, for_kind};
 
     /// These payload types, in this order, and RED that repeats the frame before.
     pub fn new(alloc: Global, params: Vec<PayloadParams>) -> Result<Self, AllocError>
@@ -160,8 +160,7 @@ impl CodecConfig {
 
     /// The payload types for a kind of media, in order.
     pub fn all_for_kind(&self, kind: MediaKind) -> ParamsOfKind<'_>
-        ensures types { result.rest.now ≡ self.now.params }
-        ensures kind { result.kind ≡ kind }
+        ensures { left_of result ≡ for_kind kind self.now.params }
     {
         ParamsOfKind {
             rest: self.all.as_slice(),
