@@ -9,8 +9,6 @@ mod memory;
 mod sink;
 mod source;
 mod std_ends;
-#[cfg(test)]
-mod tests;
 
 pub use bit_pattern::BitPattern;
 pub use bytes::Bytes;

@@ -11,13 +11,10 @@ pub mod Sendings
 pub mod Fronts
 pub mod Steps
 pub mod Wire
-pub mod FrontWrites
-pub mod Single
 pub mod Receiving
 pub mod Knowings
 pub mod OthersReceive
 pub mod Others
 pub mod Soundness
 pub mod Playing
-pub mod Whole
 pub mod Ticks

@@ -14,4 +14,3 @@ pub mod Sessions
 pub mod Running
 pub mod Errors
 pub mod FaultNames
-pub mod Outcome

@@ -1,5 +1,5 @@
--- The first rule that a step breaks, after these entries.
-use Rattle.std.specs.Prelude.{ℕ, ◌^◌, Bool, not, ◌||◌, ◌==◌, nat_lt, nat_le, if◌then◌else◌, List, length, Option, Some, None}
+-- The rules of a step after these entries, and the first one that it breaks.
+use Rattle.std.specs.Prelude.{ℕ, ◌^◌, Bool, not, ◌||◌, ◌==◌, nat_lt, nat_le, if◌then◌else◌, List, [], ◌∷◌, length, Option, Some, None}
 use Rattle.std.specs.List.{list_any}
 use Rattle.media_model.specs.declared.entry.Side.{Side}
 use Rattle.media_model.specs.declared.entry.Write.{Write as Writing}
@@ -16,31 +16,47 @@ use Rattle.media_model.specs.Entries.{last_time, writes_on, datagrams}
 abbrev pub has : List ℕ → ℕ → Bool
 has xs n = list_any (λ x. x == n) xs
 
+-- the fault of the first rule of a list that is broken
+abbrev pub first_fault : {F : Type 0} → List (Bool × F) → Option F
+first_fault [] = None
+first_fault (rule ∷ rules) = if rule.0 then Some rule.1 else first_fault rules
+
 -- the first fault, where there is one, else what the rules after it say
-abbrev pub or_else : Option StepFault → Option StepFault → Option StepFault
+abbrev pub or_else : {F : Type 0} → Option F → Option F → Option F
 or_else (Some fault) later = Some fault
 or_else None later = later
 
 -- 1 to 10^16 ns, and no time falls
-abbrev pub time_fault : List Entry → ℕ → Option StepFault
-time_fault entries time =
-    if time == 0 then Some TimeZero
-    else (if nat_lt time (last_time entries) then Some TimeBack
-    else (if nat_lt (10 ^ 16) time then Some TimeBeyond else None))
+abbrev pub time_rules : List Entry → ℕ → List (Bool × StepFault)
+time_rules entries time =
+    (time == 0, TimeZero)
+    ∷ (nat_lt time (last_time entries), TimeBack)
+    ∷ (nat_lt (10 ^ 16) time, TimeBeyond) ∷ []
 
-abbrev pub write_fault : Setup → List Entry → Side → Writing → Option StepFault
-write_fault setup entries side w =
-    if not (has (streams_of side setup) w.ssrc) then Some UnknownStream
-    else (if not (has (types_of setup) w.pt) then Some UnknownType
-    else (if nat_le (2 ^ 48) w.number then Some NumberTooBig
-    else (if list_any (λ u. u.number == w.number) (writes_on side w.ssrc entries) then Some NumberUsed
-    else (if nat_lt 1400 (length w.payload) then Some PayloadTooLong else None))))
+abbrev pub write_rules : Setup → List Entry → Side → Writing → List (Bool × StepFault)
+write_rules setup entries side w =
+    (not (has (streams_of side setup) w.ssrc), UnknownStream)
+    ∷ (not (has (types_of setup) w.pt), UnknownType)
+    ∷ (nat_le (2 ^ 48) w.number, NumberTooBig)
+    ∷ (list_any (λ u. u.number == w.number) (writes_on side w.ssrc entries), NumberUsed)
+    ∷ (nat_lt 1400 (length w.payload), PayloadTooLong) ∷ []
 
 -- a datagram that the other side sealed, counted from 1
-abbrev pub deliver_fault : List Entry → Side → ℕ → Option StepFault
-deliver_fault entries side k =
-    if (k == 0) || nat_lt (length (datagrams (peer_of side) entries)) k then Some UnknownDatagram else None
+abbrev pub deliver_rules : List Entry → Side → ℕ → List (Bool × StepFault)
+deliver_rules entries side k =
+    ((k == 0) || nat_lt (length (datagrams (peer_of side) entries)) k, UnknownDatagram) ∷ []
 
+-- the first of them that is broken
+abbrev pub time_fault : List Entry → ℕ → Option StepFault
+time_fault entries time = first_fault (time_rules entries time)
+
+abbrev pub write_fault : Setup → List Entry → Side → Writing → Option StepFault
+write_fault setup entries side w = first_fault (write_rules setup entries side w)
+
+abbrev pub deliver_fault : List Entry → Side → ℕ → Option StepFault
+deliver_fault entries side k = first_fault (deliver_rules entries side k)
+
+-- the rules of times stand before all others
 abbrev pub step_fault : Setup → List Entry → Step → Option StepFault
 step_fault setup entries (Write side time write) = or_else (time_fault entries time) (write_fault setup entries side write)
 step_fault setup entries (Tick side time) = time_fault entries time

@@ -1,5 +1,5 @@
--- The first rule that a setup breaks.
-use Rattle.std.specs.Prelude.{ℕ, Bool, true, false, not, ◌||◌, ◌&&◌, ◌==◌, nat_lt, if◌then◌else◌, List, [], ◌∷◌, ◌++◌, length, option_to_list, Option, Some, None, is_some}
+-- The rules of a setup, and the first one that it breaks.
+use Rattle.std.specs.Prelude.{ℕ, Bool, true, false, not, ◌||◌, ◌&&◌, ◌==◌, nat_lt, List, [], ◌∷◌, ◌++◌, length, option_to_list, Option, Some, None, is_some}
 use Rattle.std.specs.List.{flat_map, list_any}
 use Rattle.std.specs.Str.{bytes_eq}
 use Rattle.media_model.specs.declared.setup.Stream.{Stream}
@@ -10,7 +10,7 @@ use Rattle.media_model.specs.Setup.{material_of, types_of}
 use Rattle.media_model.specs.Sides.{same_side}
 use Rattle.media_play.specs.declared.fault.SetupFault.{SetupFault}
 use Rattle.media_play.specs.declared.fault.SetupFault.TheVariants.{KeyLength, TypeTwice, SsrcZero, SsrcTwice, RidTwice, RtxLater}
-use Rattle.media_play.specs.Rules.{has}
+use Rattle.media_play.specs.Rules.{has, first_fault}
 
 -- a number stands twice
 abbrev pub repeats : List ℕ → Bool
@@ -53,15 +53,22 @@ abbrev pub has_rtx : Stream → Bool
 has_rtx stream = is_some stream.rtx
 
 -- the rules of media and their streams
+abbrev pub media_rules : List Media → List (Bool × SetupFault)
+media_rules media =
+    (any_mid_again media || list_any (λ (m : Media). any_rid_again m.streams) media, RidTwice)
+    ∷ (list_any (λ (m : Media). list_any has_rtx m.streams) media, RtxLater) ∷ []
+
+-- the rules of a setup, in their order
+abbrev pub setup_rules : Setup → List (Bool × SetupFault)
+setup_rules setup =
+    (not (length (material_of setup) == material_len setup.profile), KeyLength)
+    ∷ (list_any (nat_lt 127) (types_of setup) || repeats (types_of setup), TypeTwice)
+    ∷ (has (stream_ssrcs setup) 0, SsrcZero)
+    ∷ (repeats (local_ssrcs ++ stream_ssrcs setup), SsrcTwice)
+    ∷ media_rules setup.media
+
 abbrev pub media_fault : List Media → Option SetupFault
-media_fault media =
-    if any_mid_again media || list_any (λ (m : Media). any_rid_again m.streams) media then Some RidTwice
-    else (if list_any (λ (m : Media). list_any has_rtx m.streams) media then Some RtxLater else None)
+media_fault media = first_fault (media_rules media)
 
 abbrev pub setup_fault : Setup → Option SetupFault
-setup_fault setup =
-    if not (length (material_of setup) == material_len setup.profile) then Some KeyLength
-    else (if list_any (nat_lt 127) (types_of setup) || repeats (types_of setup) then Some TypeTwice
-    else (if has (stream_ssrcs setup) 0 then Some SsrcZero
-    else (if repeats (local_ssrcs ++ stream_ssrcs setup) then Some SsrcTwice
-    else media_fault setup.media)))
+setup_fault setup = first_fault (setup_rules setup)

@@ -1,5 +1,9 @@
+ghost use Rattle.std.specs.Prelude.{Some};
+ghost use Rattle.media_play.specs.FaultNames.{setup_fault_name, step_fault_name};
+
 use media_model::Transcript;
 use std::alloc::AllocError;
+use std::fmt;
 
 /// The first rule that a setup breaks, in this order.
 #[derive(Clone, Copy, Debug, PartialEq, Eq)]
@@ -40,6 +44,39 @@ pub enum StepFault {
     NumberUsed,
     /// The payload has more than 1,400 bytes.
     PayloadTooLong,
+}
+
+impl fmt::Display for SetupFault {
+    ghost output = { λ f. Some (setup_fault_name f) };
+
+    fn fmt<W: fmt::Write>(&self, f: &mut fmt::Formatter<W>) -> fmt::Result {
+        match self {
+            SetupFault::KeyLength => write!(f, "KeyLength"),
+            SetupFault::TypeTwice => write!(f, "TypeTwice"),
+            SetupFault::SsrcZero => write!(f, "SsrcZero"),
+            SetupFault::SsrcTwice => write!(f, "SsrcTwice"),
+            SetupFault::RidTwice => write!(f, "RidTwice"),
+            SetupFault::RtxLater => write!(f, "RtxLater"),
+        }
+    }
+}
+
+impl fmt::Display for StepFault {
+    ghost output = { λ f. Some (step_fault_name f) };
+
+    fn fmt<W: fmt::Write>(&self, f: &mut fmt::Formatter<W>) -> fmt::Result {
+        match self {
+            StepFault::TimeZero => write!(f, "TimeZero"),
+            StepFault::TimeBack => write!(f, "TimeBack"),
+            StepFault::TimeBeyond => write!(f, "TimeBeyond"),
+            StepFault::UnknownStream => write!(f, "UnknownStream"),
+            StepFault::UnknownDatagram => write!(f, "UnknownDatagram"),
+            StepFault::UnknownType => write!(f, "UnknownType"),
+            StepFault::NumberTooBig => write!(f, "NumberTooBig"),
+            StepFault::NumberUsed => write!(f, "NumberUsed"),
+            StepFault::PayloadTooLong => write!(f, "PayloadTooLong"),
+        }
+    }
 }
 
 /// Why a step was not played.

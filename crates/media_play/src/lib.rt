@@ -2,19 +2,14 @@
 #![tactic(auto)]
 
 mod fault;
-mod law;
+pub mod laws;
 mod log;
-mod report;
 mod run;
 mod session;
 mod setup_rules;
 mod stream;
 mod streams;
-mod top;
 mod waiting;
-mod write;
 
 pub use fault::{RunError, RunFault, SetupFault, StepFault};
-pub use report::{End, Report};
 pub use run::media_run;
-pub use top::{LIMIT, media_main};

@@ -1,11 +1,13 @@
 pub mod Kept
+pub mod KindLaws
 pub mod LineLaws
 pub mod MediaLaws
 pub mod Names
 pub mod Numbers
+pub mod OrderLaws
 pub mod Pieces
 pub mod Reading
 pub mod ScriptLaws
-pub mod SetupLaws
 pub mod StepLaws
 pub mod WordLaws
+pub mod WrongLaws

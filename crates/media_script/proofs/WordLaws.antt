@@ -22,16 +22,14 @@ use Rattle.media_model.specs.declared.entry.Side.{Side}
 use Rattle.media_model.specs.declared.entry.Side.TheVariants.{A, B}
 use Rattle.rtp_base.specs.declared.kind.Kind.{Kind}
 use Rattle.rtp_base.specs.declared.kind.Kind.TheVariants.{Rtp}
-use Rattle.media_model.specs.declared.setup.CipherName.{CipherName}
-use Rattle.media_model.specs.declared.setup.CipherName.TheVariants.{Toy}
 use Rattle.media_model.specs.declared.setup.Codec.{Codec}
 use Rattle.media_model.specs.declared.setup.Codec.TheVariants.{Opus, Pcmu, Pcma, Telephone, Vp8, Vp9, H264, H265, H266, Av1}
 use Rattle.media_model.specs.declared.setup.Key.{Key}
 use Rattle.media_model.specs.declared.setup.Key.TheVariants.{Zero, Given}
 use Rattle.media_model.specs.declared.setup.MediaKind.{MediaKind}
 use Rattle.media_model.specs.declared.setup.MediaKind.TheVariants.{Audio, Video}
-use Rattle.media_script.specs.Words.{◌>>=◌, below, plain_front, is_number, number_of, narrow_of, has_ms, time_of, side_of, flag_of, hex_of, kind_of, cipher_of, profile_of, key_of, one_of, codecs, codec_of, media_kind_of, rate_of, is_name, name_of, optional}
-use Rattle.media_script.specs.Names.{side_text, flag_text, kind_text, cipher_text, profile_text, codec_text, media_kind_text}
+use Rattle.media_script.specs.Words.{◌>>=◌, below, plain_front, is_number, number_of, narrow_of, has_ms, time_of, side_of, flag_of, hex_of, kind_of, profile_of, key_of, one_of, codecs, codec_of, media_kind_of, rate_of, is_name, name_of, optional}
+use Rattle.media_script.specs.Names.{side_text, flag_text, kind_text, profile_text, codec_text, media_kind_text}
 use Rattle.media_script.specs.Spelling.{IsTime, IsHex, IsName, IsKey, IsOptional, IsSsrc, IsNamed}
 
 own : IsNumeralModel (λ ds. all_ascii_digits ds ≡ true) (digits_value 10)
@@ -41,7 +39,7 @@ both : (a b : Bool) → (a && b) ≡ true → (a ≡ true) × (b ≡ true)
 both true b e = (refl, e)
 both false b e = absurd cc
 
-if_some : {X : Type 0} (b : Bool) (x y : X) → cond b (Some x) None ≡ Some y → (b ≡ true) × (x ≡ y)
+pub if_some : {X : Type 0} (b : Bool) (x y : X) → cond b (Some x) None ≡ Some y → (b ≡ true) × (x ≡ y)
 if_some true x y e = (refl, cc)
 if_some false x y e = absurd cc
 
@@ -202,16 +200,6 @@ pub kind_again : (kind : Kind) → kind ≡ Rtp → kind_of (kind_text kind) ≡
 unfolding kind_of
 kind_again kind is = let P : Kind → Type 0 = λ k. kind_of (kind_text k) ≡ Some k in subst P (sym is) refl
 
-pub cipher_spelled : (word : List ℕ) (cipher : CipherName) → cipher_of word ≡ Some cipher → word ≡ cipher_text cipher
-unfolding cipher_of
-cipher_spelled word cipher e =
-    let a = if_some (bytes_eq word (codes "toy")) Toy cipher e in
-    equal word (codes "toy") a.0 ∙ ap cipher_text a.1
-
-pub cipher_again : (cipher : CipherName) → cipher_of (cipher_text cipher) ≡ Some cipher
-unfolding cipher_of
-cipher_again Toy = refl
-
 pub profile_spelled : (word : List ℕ) (profile : SrtpProfile) → profile_of word ≡ Some profile → (word ≡ profile_text profile) × (profile ≡ AeadAes128Gcm)
 unfolding profile_of
 profile_spelled word profile e =
@@ -245,7 +233,7 @@ key_again word (Given bytes) is = go (bytes_eq word (codes "zero")) refl where
   go false p = rw (hex_again word bytes is) refl
 
 -- one of several words
-one_spelled : {X : Type 0} (text : X → List ℕ) (xs : List X) (word : List ℕ) (x : X) → one_of text xs word ≡ Some x → word ≡ text x
+pub one_spelled : {X : Type 0} (text : X → List ℕ) (xs : List X) (word : List ℕ) (x : X) → one_of text xs word ≡ Some x → word ≡ text x
 one_spelled text [] word x e = absurd cc
 one_spelled {X} text (y ∷ xs) word x e = go (one_spelled text xs word x) (bytes_eq word (text y)) refl e where
   go : (one_of text xs word ≡ Some x → word ≡ text x) → (b : Bool) → bytes_eq word (text y) ≡ b → cond b (Some y) (one_of text xs word) ≡ Some x → word ≡ text x

@@ -1,206 +1,179 @@
 -- What is read of a script, and the first line outside the grammar.
-use Rattle.std.specs.Prelude.{ℕ, map, ◌+◌, ◌^◌, List, [], ◌∷◌, ◌++◌, length, ◌==◌, if◌then◌else◌, nat_le, Option, Some, None, is_some, unwrap_or, Result, Ok, Err, codes}
+use Rattle.std.specs.Prelude.{ℕ, map, ◌+◌, ◌^◌, List, [], ◌∷◌, ◌++◌, length, Bool, nat_lt, ◌==◌, if◌then◌else◌, Option, Some, None, Result, Ok, Err, codes}
 use Rattle.std.specs.Borrow.{Bor}
 use Rattle.std.specs.List.{slice_split}
 use Rattle.std.specs.Str.{bytes_eq}
-use Rattle.srtp_core.specs.declared.profile.SrtpProfile.{SrtpProfile}
-use Rattle.srtp_core.specs.declared.profile.SrtpProfile.TheVariants.{AeadAes128Gcm}
-use Rattle.media_script.specs.declared.draft.Draft.{Draft}
 use Rattle.media_script.specs.declared.reader.Reader.{Reader}
 use Rattle.media_script.specs.declared.reader.Reader.TheVariants.{Head, InSetup, InSteps, Ended}
-use Rattle.media_model.specs.declared.setup.CipherName.{CipherName}
-use Rattle.media_model.specs.declared.setup.CipherName.TheVariants.{Toy}
-use Rattle.media_model.specs.declared.setup.Key.{Key}
-use Rattle.media_model.specs.declared.setup.PayloadType.{PayloadType}
-use Rattle.media_model.specs.declared.setup.Stream.{Stream}
-use Rattle.media_model.specs.declared.setup.Media.{Media}
+use Rattle.media_model.specs.declared.entry.Side.{Side}
 use Rattle.media_model.specs.declared.setup.Setup.{Setup}
 use Rattle.media_script.specs.declared.setup_line.SetupLine.{SetupLine}
 use Rattle.media_script.specs.declared.setup_line.SetupLine.TheVariants as line
 use Rattle.media_model.specs.declared.step.Step.{Step}
 use Rattle.media_model.specs.declared.step.Step.TheVariants as step
-use Rattle.media_script.specs.SetupLines.{has_mid, with_stream as added}
+use Rattle.media_model.specs.declared.setup.CipherName.TheVariants.{Toy}
+use Rattle.media_script.specs.Draft.{setup_of}
+use Rattle.media_script.specs.Names.{cipher_text}
+use Rattle.media_script.specs.Order.{none_said, with_line}
 use Rattle.media_script.specs.Spelling.{words_of, is_passed_over}
-use Rattle.media_script.specs.Words.{◌>>=◌, number_of, narrow_of, time_of, side_of, flag_of, hex_of, kind_of, cipher_of, profile_of, key_of, codec_of, media_kind_of, rate_of, name_of, optional}
-
--- a field is what the first word says, and the words after it
-abbrev pub field : {X : Type 0} → (List ℕ → Option X) → List (List ℕ) → Option (X × List (List ℕ))
-field read [] = None
-field read (word ∷ words) = read word >>= λ x. Some (x, words)
-
--- no word is left
-abbrev pub ended : List (List ℕ) → Option (Unit {0})
-ended [] = Some tt
-ended (word ∷ words) = None
+use Rattle.media_script.specs.Words.{◌>>=◌, number_of, narrow_of, time_of, side_of, flag_of, hex_of, kind_of, one_of, profile_of, key_of, codec_of, media_kind_of, rate_of, name_of, optional}
 
 -- the words without where they lie in memory
 abbrev pub texts : List (Bor (List ℕ)) → List (List ℕ)
 texts words = map (λ w. w.now) words
 
-unfoldable pub tick_of : List (List ℕ) → Option Step
-tick_of words = do
-  side ← field side_of words
-  time ← field time_of side.1
-  _ ← ended time.1
-  Some (step.Tick side.0 time.0)
+-- a line has fewer words
+abbrev pub is_long : List (List ℕ) → Bool
+is_long words = nat_lt 16 (length words)
 
-unfoldable pub deliver_of : List (List ℕ) → Option Step
-deliver_of words = do
-  side ← field side_of words
-  time ← field time_of side.1
-  k ← field number_of time.1
-  _ ← ended k.1
-  Some (step.Deliver side.0 time.0 k.0)
+abbrev pub in_few : {L : Type 0} → (List (List ℕ) → Option L) → List (List ℕ) → Option L
+in_few read words = if is_long words then None else read words
 
-unfoldable pub write_of : List (List ℕ) → Option Step
-write_of words = do
-  side ← field side_of words
-  time ← field time_of side.1
-  ssrc ← field (narrow_of (2 ^ 32)) time.1
-  number ← field number_of ssrc.1
-  pt ← field (narrow_of (2 ^ 8)) number.1
-  rtp_time ← field (narrow_of (2 ^ 32)) pt.1
-  marker ← field flag_of rtp_time.1
-  nackable ← field flag_of marker.1
-  payload ← field hex_of nackable.1
-  _ ← ended payload.1
-  Some (step.Write side.0 time.0 (record {
-    ssrc = ssrc.0;
-    number = number.0;
-    pt = pt.0;
-    rtp_time = rtp_time.0;
-    marker = marker.0;
-    nackable = nackable.0;
-    payload = payload.0;
-  }))
+-- what the first word says, and then what the words after it say
+abbrev pub and_then : {A L : Type 0} → (List ℕ → Option A) → (A → List (List ℕ) → Option L) → List (List ℕ) → Option L
+and_then read more [] = None
+and_then read more (word ∷ words) = read word >>= λ x. more x words
 
-unfoldable pub foreign_of : List (List ℕ) → Option Step
-foreign_of words = do
-  side ← field side_of words
-  time ← field time_of side.1
-  kind ← field kind_of time.1
-  bytes ← field hex_of kind.1
-  _ ← ended bytes.1
-  Some (step.Foreign side.0 time.0 kind.0 bytes.0)
+-- no word is left
+abbrev pub done : {L : Type 0} → L → List (List ℕ) → Option L
+done l [] = Some l
+done l (word ∷ words) = None
 
--- the step of a line, by its first word
-unfoldable pub step_of : List (List ℕ) → Option Step
-step_of [] = None
-step_of (kind ∷ words) =
-    if bytes_eq kind (codes "write") then write_of words
-    else (if bytes_eq kind (codes "tick") then tick_of words
-    else (if bytes_eq kind (codes "deliver") then deliver_of words
-    else (if bytes_eq kind (codes "foreign") then foreign_of words else None)))
+-- what the reader of the first word reads, or the other reader where it is none of these
+abbrev pub look_up :
+    {L : Type 0} → (List (List ℕ) → Option L) → List (List ℕ × (List (List ℕ) → Option L)) → List (List ℕ) → Option L
+look_up other kinds [] = None
+look_up other [] (kind ∷ words) = other (kind ∷ words)
+look_up other (k ∷ kinds) (kind ∷ words) =
+    if bytes_eq kind k.0 then k.1 words else look_up other kinds (kind ∷ words)
 
-unfoldable pub cipher_line_of : List (List ℕ) → Option SetupLine
-cipher_line_of words = do
-  cipher ← field cipher_of words
-  _ ← ended cipher.1
-  Some (line.Cipher cipher.0)
+abbrev pub no_other : {L : Type 0} → List (List ℕ) → Option L
+no_other words = None
 
-unfoldable pub profile_line_of : List (List ℕ) → Option SetupLine
-profile_line_of words = do
-  profile ← field profile_of words
-  _ ← ended profile.1
-  Some (line.Profile profile.0)
+-- ---- setup lines, without their first word
 
-unfoldable pub key_line_of : List (List ℕ) → Option SetupLine
-key_line_of words = do
-  key ← field key_of words
-  _ ← ended key.1
-  Some (line.Key key.0)
+abbrev pub cipher_line : List (List ℕ) → Option SetupLine
+cipher_line = and_then (one_of cipher_text (Toy ∷ [])) (λ cipher. done (line.Cipher cipher))
 
-unfoldable pub type_line_of : List (List ℕ) → Option SetupLine
-type_line_of words = do
-  pt ← field (narrow_of (2 ^ 8)) words
-  codec ← field codec_of pt.1
-  rate ← field rate_of codec.1
-  _ ← ended rate.1
-  Some (line.Type (record { pt = pt.0; codec = codec.0; rate = rate.0 }))
+abbrev pub profile_line : List (List ℕ) → Option SetupLine
+profile_line = and_then profile_of (λ profile. done (line.Profile profile))
 
-unfoldable pub media_line_of : List (List ℕ) → Option SetupLine
-media_line_of words = do
-  mid ← field (name_of 16) words
-  kind ← field media_kind_of mid.1
-  cname ← field (name_of 255) kind.1
-  _ ← ended cname.1
-  Some (line.Media mid.0 kind.0 cname.0)
+abbrev pub key_line : List (List ℕ) → Option SetupLine
+key_line = and_then key_of (λ key. done (line.Key key))
 
-unfoldable pub stream_line_of : List (List ℕ) → Option SetupLine
-stream_line_of words = do
-  side ← field side_of words
-  mid ← field (name_of 16) side.1
-  ssrc ← field (narrow_of (2 ^ 32)) mid.1
-  rtx ← field (optional (narrow_of (2 ^ 32))) ssrc.1
-  rid ← field (optional (name_of 16)) rtx.1
-  _ ← ended rid.1
-  Some (line.Stream mid.0 (record { side = side.0; ssrc = ssrc.0; rtx = rtx.0; rid = rid.0 }))
+abbrev pub type_line : List (List ℕ) → Option SetupLine
+type_line =
+    and_then (narrow_of (2 ^ 8)) (λ pt.
+    and_then codec_of (λ codec.
+    and_then rate_of (λ rate.
+    done (line.Type (record { pt = pt; codec = codec; rate = rate })))))
 
--- what a setup line says, by its first word
+abbrev pub media_line : List (List ℕ) → Option SetupLine
+media_line =
+    and_then (name_of 16) (λ mid.
+    and_then media_kind_of (λ kind.
+    and_then (name_of 255) (λ cname.
+    done (line.Media mid kind cname))))
+
+abbrev pub stream_line : List (List ℕ) → Option SetupLine
+stream_line =
+    and_then side_of (λ side.
+    and_then (name_of 16) (λ mid.
+    and_then (narrow_of (2 ^ 32)) (λ ssrc.
+    and_then (optional (narrow_of (2 ^ 32))) (λ rtx.
+    and_then (optional (name_of 16)) (λ rid.
+    done (line.Stream mid (record { side = side; ssrc = ssrc; rtx = rtx; rid = rid })))))))
+
+abbrev pub named_kinds : List (List ℕ × (List (List ℕ) → Option SetupLine))
+named_kinds = (codes "media", media_line) ∷ (codes "stream", stream_line) ∷ []
+
+-- what the lines of media and streams say
+unfoldable pub named_line_of : List (List ℕ) → Option SetupLine
+named_line_of words = look_up no_other named_kinds words
+
+abbrev pub setup_kinds : List (List ℕ × (List (List ℕ) → Option SetupLine))
+setup_kinds =
+    (codes "cipher", cipher_line)
+    ∷ (codes "profile", profile_line)
+    ∷ (codes "key", key_line)
+    ∷ (codes "type", type_line)
+    ∷ []
+
+-- what a setup line says
 unfoldable pub setup_line_of : List (List ℕ) → Option SetupLine
-setup_line_of [] = None
-setup_line_of (kind ∷ words) =
-    if bytes_eq kind (codes "cipher") then cipher_line_of words
-    else (if bytes_eq kind (codes "profile") then profile_line_of words
-    else (if bytes_eq kind (codes "key") then key_line_of words
-    else (if bytes_eq kind (codes "type") then type_line_of words
-    else (if bytes_eq kind (codes "media") then media_line_of words
-    else (if bytes_eq kind (codes "stream") then stream_line_of words else None)))))
+setup_line_of words = look_up named_line_of setup_kinds words
 
--- no setup line
-abbrev pub empty_draft : Draft
-empty_draft = record { cipher = None; profile = None; key = None; types = []; media = []; streams = 0 }
+-- ---- steps, without their first word
 
--- the setup lines so far, and one more
-abbrev pub with_cipher : Draft → CipherName → Option Draft
-with_cipher draft cipher = if is_some draft.cipher then None else Some (record draft { cipher = Some cipher })
+-- behind the side and the time
+unfoldable pub packet_step : Side → ℕ → List (List ℕ) → Option Step
+packet_step side time =
+    and_then (narrow_of (2 ^ 32)) (λ ssrc.
+    and_then number_of (λ number.
+    and_then (narrow_of (2 ^ 8)) (λ pt.
+    and_then (narrow_of (2 ^ 32)) (λ rtp_time.
+    and_then flag_of (λ marker.
+    and_then flag_of (λ nackable.
+    and_then hex_of (λ payload.
+    done (step.Write side time (record {
+      ssrc = ssrc;
+      number = number;
+      pt = pt;
+      rtp_time = rtp_time;
+      marker = marker;
+      nackable = nackable;
+      payload = payload;
+    })))))))))
 
-abbrev pub with_profile : Draft → SrtpProfile → Option Draft
-with_profile draft profile = if is_some draft.profile then None else Some (record draft { profile = Some profile })
+abbrev pub write_step : List (List ℕ) → Option Step
+write_step =
+    and_then side_of (λ side.
+    and_then time_of (λ time.
+    packet_step side time))
 
-abbrev pub with_key : Draft → Key → Option Draft
-with_key draft key = if is_some draft.key then None else Some (record draft { key = Some key })
+abbrev pub tick_step : List (List ℕ) → Option Step
+tick_step =
+    and_then side_of (λ side.
+    and_then time_of (λ time.
+    done (step.Tick side time)))
 
-abbrev pub with_type : Draft → PayloadType → Option Draft
-with_type draft payload_type = Some (record draft { types = draft.types ++ payload_type ∷ [] })
+abbrev pub deliver_step : List (List ℕ) → Option Step
+deliver_step =
+    and_then side_of (λ side.
+    and_then time_of (λ time.
+    and_then number_of (λ k.
+    done (step.Deliver side time k))))
 
-abbrev pub with_media : Draft → Media → Option Draft
-with_media draft media = if nat_le 64 (length draft.media) then None else Some (record draft { media = draft.media ++ media ∷ [] })
+abbrev pub foreign_step : List (List ℕ) → Option Step
+foreign_step =
+    and_then side_of (λ side.
+    and_then time_of (λ time.
+    and_then kind_of (λ kind.
+    and_then hex_of (λ bytes.
+    done (step.Foreign side time kind bytes)))))
 
-abbrev pub with_stream : Draft → List ℕ → Stream → Option Draft
-with_stream draft mid stream =
-    if nat_le 256 draft.streams then None
-    else (if has_mid mid draft.media
-    then Some (record draft { media = added mid stream draft.media; streams = draft.streams + 1 }) else None)
+abbrev pub step_kinds : List (List ℕ × (List (List ℕ) → Option Step))
+step_kinds =
+    (codes "write", write_step)
+    ∷ (codes "tick", tick_step)
+    ∷ (codes "deliver", deliver_step)
+    ∷ (codes "foreign", foreign_step)
+    ∷ []
 
-abbrev pub with_line : Draft → SetupLine → Option Draft
-with_line draft (line.Cipher cipher) = with_cipher draft cipher
-with_line draft (line.Profile profile) = with_profile draft profile
-with_line draft (line.Key key) = with_key draft key
-with_line draft (line.Type payload_type) = with_type draft payload_type
-with_line draft (line.Media mid kind cname) = with_media draft (record { mid = mid; kind = kind; cname = cname; streams = [] })
-with_line draft (line.Stream mid stream) = with_stream draft mid stream
-
--- the setup of all lines, if none is missing
-abbrev pub setup_of : Draft → Option Setup
-setup_of draft = draft.key >>= λ key. Some (record {
-  cipher = unwrap_or draft.cipher Toy;
-  profile = unwrap_or draft.profile AeadAes128Gcm;
-  key = key;
-  types = draft.types;
-  media = draft.media;
-})
+-- the step of a line
+unfoldable pub step_of : List (List ℕ) → Option Step
+step_of words = look_up no_other step_kinds words
 
 -- what was read so far, and one more line that is not passed over
 unfoldable pub read_on : Reader → List ℕ → Option Reader
-read_on Head line = if bytes_eq line (codes "str0m-media 1") then Some (InSetup empty_draft) else None
-read_on (InSetup draft) line =
-    if bytes_eq line (codes "begin") then Some (InSteps draft [])
-    else (setup_line_of (words_of line) >>= λ said. with_line draft said >>= λ more. Some (InSetup more))
-read_on (InSteps draft steps) line =
-    if bytes_eq line (codes "end") then Some (Ended draft steps)
-    else (step_of (words_of line) >>= λ s. Some (InSteps draft (steps ++ s ∷ [])))
-read_on (Ended draft steps) line = None
+read_on Head line = if bytes_eq line (codes "str0m-media 1") then Some (InSetup none_said) else None
+read_on (InSetup said) line =
+    if bytes_eq line (codes "begin") then Some (InSteps said [])
+    else (in_few setup_line_of (words_of line) >>= λ l. with_line said l >>= λ more. Some (InSetup more))
+read_on (InSteps said steps) line =
+    if bytes_eq line (codes "end") then Some (Ended said steps)
+    else (in_few step_of (words_of line) >>= λ s. Some (InSteps said (steps ++ s ∷ [])))
+read_on (Ended said steps) line = None
 
 unfoldable pub line_taken : Reader → List ℕ → Option Reader
 line_taken reader line = if is_passed_over line then Some reader else read_on reader line
@@ -212,7 +185,7 @@ whole_script n (Some setup) steps = Ok (setup, steps)
 
 -- the setup and the steps, after the line end
 unfoldable pub whole_of : ℕ → Reader → Result (Setup × List Step) ℕ
-whole_of n (Ended draft steps) = whole_script n (setup_of draft) steps
+whole_of n (Ended said steps) = whole_script n (setup_of said.draft) steps
 whole_of n reader = Err n
 
 abbrev pub read_then : ℕ → Option Reader → (Reader → Result (Setup × List Step) ℕ) → Result (Setup × List Step) ℕ

@@ -1,7 +1,10 @@
+pub mod Draft
+pub mod FirstWrong
 pub mod Gives
 pub mod Grammar
+pub mod Laws
 pub mod Names
-pub mod SetupLines
+pub mod Order
 pub mod Spelling
 pub mod Text
 pub mod Words

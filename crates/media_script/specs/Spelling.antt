@@ -15,7 +15,8 @@ use Rattle.media_script.specs.declared.setup_line.SetupLine.TheVariants as line
 use Rattle.media_model.specs.declared.step.Step.{Step}
 use Rattle.media_model.specs.declared.step.Step.TheVariants as step
 use Rattle.media_script.specs.Names.{side_text, kind_text, flag_text, cipher_text, profile_text, codec_text, media_kind_text}
-use Rattle.media_script.specs.SetupLines.{IsSetup}
+use Rattle.media_script.specs.Draft.{setup_of}
+use Rattle.media_script.specs.Order.{AreInOrder, said_by}
 
 -- a time in nanoseconds, or in milliseconds with ms behind it
 pub record IsTime (word : List ℕ) (time : ℕ) : Type 0 where
@@ -85,37 +86,35 @@ IsStep words (step.Foreign side time kind bytes) =
 abbrev pub words_of : List ℕ → List (List ℕ)
 words_of line = slice_split (λ b. b == 32) line
 
--- a step a line
-abbrev pub AreSteps : List (List ℕ) → List Step → Type 0
-AreSteps [] [] = Unit {0}
-AreSteps [] (s ∷ steps) = ⊥
-AreSteps (line ∷ lines) [] = ⊥
-AreSteps (line ∷ lines) (s ∷ steps) = IsStep (words_of line) s × AreSteps lines steps
-
--- what the setup lines say, line by line
-abbrev pub AreSetupLines : List (List ℕ) → List SetupLine → Type 0
-AreSetupLines [] [] = Unit {0}
-AreSetupLines [] (s ∷ said) = ⊥
-AreSetupLines (line ∷ lines) [] = ⊥
-AreSetupLines (line ∷ lines) (s ∷ said) = IsSetupLine (words_of line) s × AreSetupLines lines said
+-- each line says its value
+abbrev pub AreLines : {X : Type 0} → (List (List ℕ) → X → Type 0) → List (List ℕ) → List X → Type 0
+AreLines Is [] [] = Unit {0}
+AreLines Is [] (x ∷ xs) = ⊥
+AreLines Is (line ∷ lines) [] = ⊥
+AreLines Is (line ∷ lines) (x ∷ xs) = Is (words_of line) x × AreLines Is lines xs
 
 -- an empty line, and one that begins with #
 abbrev pub is_passed_over : List ℕ → Bool
 is_passed_over line = (length line == 0) || (slice_index line 0 == 35)
 
--- the first line, the setup, and the steps
-pub record AreParts (lines : List (List ℕ)) (setup : Setup) (steps : List Step) : Type 0 where
+-- the first line, the setup lines, and the steps
+pub record AreParts (lines : List (List ℕ)) (said : List SetupLine) (steps : List Step) : Type 0 where
   pub setup_lines : List (List ℕ)
-  pub said : List SetupLine
   pub step_lines : List (List ℕ)
   pub parts : lines ≡ codes "str0m-media 1" ∷ (setup_lines ++ (codes "begin" ∷ (step_lines ++ (codes "end" ∷ []))))
-  pub lines_are : AreSetupLines setup_lines said
-  pub setup_is : IsSetup said setup
-  pub steps_are : AreSteps step_lines steps
+  pub lines_are : AreLines IsSetupLine setup_lines said
+  pub in_order : AreInOrder said
+  pub steps_are : AreLines IsStep step_lines steps
 
 -- each line ends with a line feed; empty lines and lines that begin with # are passed over
-pub record IsScript (bytes : List ℕ) (setup : Setup) (steps : List Step) : Type 0 where
+pub record IsForm (bytes : List ℕ) (said : List SetupLine) (steps : List Step) : Type 0 where
   pub lines : List (List ℕ)
   pub split : bytes ≡ flat_map (λ line. line ++ 10 ∷ []) lines
   pub plain : AllByRecursion (λ line. All (λ b. b ≢ 10) line) lines
-  pub parts : AreParts (filter (λ line. not (is_passed_over line)) lines) setup steps
+  pub parts : AreParts (filter (λ line. not (is_passed_over line)) lines) said steps
+
+-- and the setup lines say this setup, of which the key is required
+pub record IsScript (bytes : List ℕ) (setup : Setup) (steps : List Step) : Type 0 where
+  pub said : List SetupLine
+  pub form : IsForm bytes said steps
+  pub whole : setup_of (said_by said).draft ≡ Some setup

@@ -12,8 +12,6 @@ use Rattle.media_model.specs.declared.entry.Side.{Side}
 use Rattle.media_model.specs.declared.entry.Side.TheVariants.{A, B}
 use Rattle.rtp_base.specs.declared.kind.Kind.{Kind}
 use Rattle.rtp_base.specs.declared.kind.Kind.TheVariants.{Rtp}
-use Rattle.media_model.specs.declared.setup.CipherName.{CipherName}
-use Rattle.media_model.specs.declared.setup.CipherName.TheVariants.{Toy}
 use Rattle.media_model.specs.declared.setup.Codec.{Codec}
 use Rattle.media_model.specs.declared.setup.Codec.TheVariants.{Opus, Pcmu, Pcma, Telephone, Vp8, Vp9, H264, H265, H266, Av1}
 use Rattle.media_model.specs.declared.setup.Key.{Key}
@@ -73,9 +71,6 @@ hex_of word =
 -- the kinds of datagrams that a script may hand in
 unfoldable pub kind_of : List ℕ → Option Kind
 kind_of word = if bytes_eq word (codes "rtp") then Some Rtp else None
-
-unfoldable pub cipher_of : List ℕ → Option CipherName
-cipher_of word = if bytes_eq word (codes "toy") then Some Toy else None
 
 unfoldable pub profile_of : List ℕ → Option SrtpProfile
 profile_of word = if bytes_eq word (codes "gcm128") then Some AeadAes128Gcm else None

@@ -1,21 +1,22 @@
-//! Scripts of two media sessions and the transcripts of their runs, with their grammar and text.
+//! Scripts of two media sessions and the text of their transcripts: grammar, reading, writing.
 #![tactic(auto)]
 
 mod draft;
 mod error;
-mod fields;
-mod left;
+pub mod laws;
 mod lines;
 mod media_list;
+mod order;
 mod reader;
+mod said;
 mod setup_line;
 mod setup_lines;
 mod steps;
 mod text;
+mod text_lines;
+mod words;
 
 pub use error::ScriptError;
 pub use reader::read_script;
 pub use text::{entries_text, write_transcript};
-
-#[cfg(test)]
-mod tests;
+pub use text_lines::{end_line, put_line};

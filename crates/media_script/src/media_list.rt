@@ -1,8 +1,6 @@
-ghost use Rattle.std.specs.Prelude.{◌≡◌, ◌∷◌, ◌++◌, [], length, position, OnOk, if◌then◌else◌};
-ghost use Rattle.media_script.specs.Gives.{Gives};
-ghost use Rattle.media_script.specs.SetupLines.{is_of, has_mid, with_stream};
+ghost use Rattle.std.specs.Prelude.{◌≡◌, ◌∷◌, ◌++◌, [], position, OnOk};
+ghost use Rattle.media_script.specs.Draft.{is_of, with_stream};
 
-use crate::error::LineError;
 use media_base::Listed;
 use media_model::{Media, Stream};
 use rtp_wire::Mid;
@@ -25,6 +23,7 @@ impl Model for MediaList {
 }
 
 impl MediaList {
+    /// No media.
     pub fn new(alloc: Global) -> Self
         ensures { result ≡ [] }
     {
@@ -33,30 +32,24 @@ impl MediaList {
         }
     }
 
-    pub fn len(&self) -> usize
-        ensures { result ≡ length self.now }
-    {
-        self.all.len()
-    }
-
-    // The media are these and one more.
-    pub fn with_media(mut self, media: Media) -> Result<MediaList, LineError>
-        ensures { Gives (λ m. m) result (Some (self ++ media ∷ [])) }
+    /// One media more.
+    pub fn push(&mut self, media: Media) -> Result<(), AllocError>
+        ensures { OnOk result (self.new ≡ self.old ++ media ∷ []) }
     {
         self.all.push(media)?;
-        Ok(self)
+        Ok(())
     }
 
-    // The first media of this mid has one stream more.
-    pub fn with_stream(mut self, mid: Mid, stream: Stream) -> Result<MediaList, LineError>
-        ensures { Gives (λ m. m) result (if has_mid mid self then Some (with_stream mid stream self) else None) }
+    /// The first media of this mid, if there is one, has one stream more.
+    pub fn push_stream(&mut self, mid: Mid, stream: Stream) -> Result<(), AllocError>
+        ensures { OnOk result (self.new ≡ with_stream mid stream self.old) }
     {
         match self.position(mid) {
             Some(at) => {
                 add_stream(&mut self.all[at], stream)?;
-                Ok(self)
+                Ok(())
             }
-            None => Err(LineError::Outside),
+            None => Ok(()),
         }
     }
 
@@ -66,6 +59,7 @@ impl MediaList {
         self.all.iter().position(|media| media.mid == mid)
     }
 
+    /// The media in a row, which are not copied.
     pub fn into_listed(self) -> Listed<Media>
         ensures { result ≡ self }
     {

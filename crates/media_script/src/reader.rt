@@ -1,14 +1,15 @@
 // Reading a script, line by line.
 ghost use Rattle.std.specs.Prelude.{◌≡◌, List, IfOk, Ok};
+ghost use Rattle.media_script.specs.FirstWrong.{StopsRightly};
 ghost use Rattle.media_script.specs.Gives.{Gives, GivesScript, error_at};
 ghost use Rattle.media_script.specs.Grammar.{read_on, line_taken, whole_of, script_of};
 ghost use Rattle.media_script.specs.Spelling.{IsScript};
 ghost use Rattle.media_model.specs.declared.setup.Setup.{Setup};
 ghost use Rattle.media_model.specs.declared.step.Step.{Step};
 
-use crate::draft::Draft;
 use crate::error::{LineError, ScriptError};
 use crate::lines::{first_line, is_passed_over};
+use crate::said::Said;
 use crate::setup_lines::setup_line;
 use crate::steps::step;
 use media_base::Listed;
@@ -19,9 +20,9 @@ use std::alloc::Global;
 #[derive(Debug, Drop)]
 pub enum Reader {
     Head,
-    InSetup(Draft),
-    InSteps(Draft, Listed<Step>),
-    Ended(Draft, Listed<Step>),
+    InSetup(Said),
+    InSteps(Said, Listed<Step>),
+    Ended(Said, Listed<Step>),
 }
 
 impl Reader {
@@ -44,21 +45,21 @@ impl Reader {
                 if line != b"str0m-media 1".as_slice() {
                     return Err(LineError::Outside);
                 }
-                Ok(Reader::InSetup(Draft::new(alloc)))
+                Ok(Reader::InSetup(Said::new(alloc)))
             }
-            Reader::InSetup(draft) => {
+            Reader::InSetup(said) => {
                 if line == b"begin".as_slice() {
-                    return Ok(Reader::InSteps(draft, Listed::new(alloc)));
+                    return Ok(Reader::InSteps(said, Listed::new(alloc)));
                 }
-                let said = setup_line(alloc, line)?;
-                Ok(Reader::InSetup(draft.with_line(alloc, said)?))
+                let more = setup_line(alloc, line)?;
+                Ok(Reader::InSetup(said.with_line(alloc, more)?))
             }
-            Reader::InSteps(draft, mut steps) => {
+            Reader::InSteps(said, mut steps) => {
                 if line == b"end".as_slice() {
-                    return Ok(Reader::Ended(draft, steps));
+                    return Ok(Reader::Ended(said, steps));
                 }
                 steps.push(step(alloc, line)?)?;
-                Ok(Reader::InSteps(draft, steps))
+                Ok(Reader::InSteps(said, steps))
             }
             Reader::Ended(_, _) => Err(LineError::Outside),
         }
@@ -70,7 +71,7 @@ impl Reader {
         ensures { GivesScript (λ x. (x.0, x.1.items)) result (whole_of line self) }
     {
         match self {
-            Reader::Ended(draft, steps) => match draft.finish() {
+            Reader::Ended(said, steps) => match said.draft.finish() {
                 Some(setup) => Ok((setup, steps.into_vec())),
                 None => Err(ScriptError::Syntax(line)),
             },
@@ -95,7 +96,9 @@ pub fn read_script(alloc: Global, bytes: &[u8]) -> Result<(Setup, Vec<Step>), Sc
     // What is spelled so is read, unless memory runs out.
     ensures only { (setup : Setup) (steps : List Step) → IsScript bytes.now setup steps
         → (let script : Setup × List Step = (setup, steps) in GivesScript (λ x. (x.0, x.1.items)) result (Ok script)) }
-    // Which line is the first outside the grammar.
+    // The line of a Syntax is the first one that is wrong.
+    ensures first { StopsRightly result bytes.now }
+    // Which line that is, as a computation.
     ensures exact { GivesScript (λ x. (x.0, x.1.items)) result (script_of bytes.now) }
 {
     read_lines(alloc, bytes)

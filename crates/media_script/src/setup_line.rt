@@ -1,10 +1,14 @@
+ghost use Rattle.std.specs.Prelude.{◌≡◌};
+ghost use Rattle.media_script.specs.Order.{word, per, slot, needs, gives};
+
 use media_base::Bytes;
-use media_model::{CipherName, Key, MediaKind, PayloadType, Stream};
-use rtp_wire::Mid;
+use media_model::{CipherName, Key, MediaKind, PayloadType, Side, Stream};
+use rtp_wire::{Mid, Ssrc};
 use srtp_core::SrtpProfile;
+use std::marker::Model;
 
 /// What one setup line says.
-#[derive(Debug, PartialEq, Eq, Drop)]
+#[derive(Debug, Drop)]
 pub enum SetupLine {
     Cipher(CipherName),
     Profile(SrtpProfile),
@@ -19,4 +23,98 @@ pub enum SetupLine {
         mid: Mid,
         stream: Stream,
     },
+}
+
+/// For what a line may stand once.
+#[derive(Clone, Copy, Debug)]
+pub enum Per {
+    Script,
+    Side(Side),
+    Ssrc(Ssrc),
+}
+
+/// What two lines may not share: a first word, and what the line stands for once. Contracts see
+/// the two.
+#[derive(Debug, Drop)]
+pub struct Slot {
+    pub word: &'static [u8],
+    pub per: Per,
+}
+
+impl Model for Slot {
+    ghost use Rattle.std.specs.Prelude.{ℕ, List};
+    ghost use Rattle.media_script.specs.declared.setup_line.Per.{Per};
+
+    ghost Value = { List ℕ × Per };
+
+    ghost view = { λ s. (s.word.now, s.per) };
+}
+
+/// What a line brings, and later lines may need.
+#[derive(Clone, Copy, Debug)]
+pub enum Name {
+    /// A media section.
+    Media(Mid),
+    /// A stream, by its main SSRC.
+    Stream(Ssrc),
+}
+
+impl SetupLine {
+    // Its first word.
+    fn word(&self) -> &'static [u8]
+        ensures { result.now ≡ word self.now }
+    {
+        match self {
+            SetupLine::Cipher(_) => b"cipher",
+            SetupLine::Profile(_) => b"profile",
+            SetupLine::Key(_) => b"key",
+            SetupLine::Type(_) => b"type",
+            SetupLine::Media { .. } => b"media",
+            SetupLine::Stream { .. } => b"stream",
+        }
+    }
+
+    // For what it may stand once, or None: any number of times.
+    fn per(&self) -> Option<Per>
+        ensures { result ≡ per self.now }
+    {
+        match self {
+            SetupLine::Type(_) | SetupLine::Media { .. } | SetupLine::Stream { .. } => None,
+            _ => Some(Per::Script),
+        }
+    }
+
+    /// The slot that it takes.
+    pub fn slot(&self) -> Option<Slot>
+        ensures { result ≡ slot self.now }
+    {
+        match self.per() {
+            Some(per) => Some(Slot {
+                word: self.word(),
+                per,
+            }),
+            None => None,
+        }
+    }
+
+    /// What has to stand before it.
+    pub fn needs(&self) -> Option<Name>
+        ensures { result ≡ needs self.now }
+    {
+        match self {
+            SetupLine::Stream { mid, .. } => Some(Name::Media(*mid)),
+            _ => None,
+        }
+    }
+
+    /// What it brings.
+    pub fn gives(&self) -> Option<Name>
+        ensures { result ≡ gives self.now }
+    {
+        match self {
+            SetupLine::Media { mid, .. } => Some(Name::Media(*mid)),
+            SetupLine::Stream { stream, .. } => Some(Name::Stream(stream.ssrc)),
+            _ => None,
+        }
+    }
 }

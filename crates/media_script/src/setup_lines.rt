@@ -1,95 +1,111 @@
 // The words of a setup line.
 ghost use Rattle.std.specs.Prelude.{◌≡◌};
-ghost use Rattle.media_script.specs.Grammar.{texts, cipher_line_of, profile_line_of, key_line_of, type_line_of, media_line_of, stream_line_of, setup_line_of};
-ghost use Rattle.media_script.specs.Spelling.{words_of};
 ghost use Rattle.media_script.specs.Gives.{Gives};
+ghost use Rattle.media_script.specs.Grammar.{texts, cipher_line, profile_line, key_line, type_line, media_line, stream_line, named_line_of, setup_line_of, in_few};
+ghost use Rattle.media_script.specs.Spelling.{words_of};
 
 use crate::error::LineError;
-use crate::fields::{mid, rid};
-use crate::left::{cipher_at, codec_at, end, key_at, media_kind_at, name_at, number_32_at, number_8_at, optional_32_at, optional_name_at, profile_at, rate_at, side_at};
-use crate::lines::words;
+use crate::lines::{is_long, words};
 use crate::setup_line::SetupLine;
+use crate::words::{
+    codec, key as key_word, media_kind, mid, name, number_8, number_32, optional_32, optional_name,
+    profile as profile_word, rate, rid, side,
+};
 use media_base::Bytes;
-use media_model::{PayloadType, Stream};
+use media_model::{CipherName, PayloadType, Stream};
 use rtp_wire::{Pt, Ssrc};
 use std::alloc::Global;
 
-#[tactic(auto, unfolding(crate::specs::Grammar::cipher_line_of))]
 fn cipher(words: &[&[u8]]) -> Result<SetupLine, LineError>
-    ensures { Gives (λ l. l) result (cipher_line_of (texts words.now)) }
+    ensures { Gives (λ l. l) result (cipher_line (texts words.now)) }
 {
-    let (cipher, rest) = cipher_at(words)?;
-    end(rest)?;
-    Ok(SetupLine::Cipher(cipher))
+    match words {
+        [word] if *word == b"toy".as_slice() => Ok(SetupLine::Cipher(CipherName::Toy)),
+        _ => Err(LineError::Outside),
+    }
 }
 
-#[tactic(auto, unfolding(crate::specs::Grammar::profile_line_of))]
 fn profile(words: &[&[u8]]) -> Result<SetupLine, LineError>
-    ensures { Gives (λ l. l) result (profile_line_of (texts words.now)) }
+    ensures { Gives (λ l. l) result (profile_line (texts words.now)) }
 {
-    let (profile, rest) = profile_at(words)?;
-    end(rest)?;
-    Ok(SetupLine::Profile(profile))
+    match words {
+        [profile] => Ok(SetupLine::Profile(profile_word(profile)?)),
+        _ => Err(LineError::Outside),
+    }
 }
 
-#[tactic(auto, unfolding(crate::specs::Grammar::key_line_of))]
 fn key(alloc: Global, words: &[&[u8]]) -> Result<SetupLine, LineError>
-    ensures { Gives (λ l. l) result (key_line_of (texts words.now)) }
+    ensures { Gives (λ l. l) result (key_line (texts words.now)) }
 {
-    let (key, rest) = key_at(alloc, words)?;
-    end(rest)?;
-    Ok(SetupLine::Key(key))
+    match words {
+        [key] => Ok(SetupLine::Key(key_word(alloc, key)?)),
+        _ => Err(LineError::Outside),
+    }
 }
 
-#[tactic(auto, unfolding(crate::specs::Grammar::type_line_of))]
 fn payload_type(words: &[&[u8]]) -> Result<SetupLine, LineError>
-    ensures { Gives (λ l. l) result (type_line_of (texts words.now)) }
+    ensures { Gives (λ l. l) result (type_line (texts words.now)) }
 {
-    let (pt, rest) = number_8_at(words)?;
-    let (codec, rest) = codec_at(rest)?;
-    let (rate, rest) = rate_at(rest)?;
-    end(rest)?;
-    Ok(SetupLine::Type(PayloadType {
-        pt: Pt::from(pt),
-        codec,
-        rate,
-    }))
+    match words {
+        [pt, name, per_second] => Ok(SetupLine::Type(PayloadType {
+            pt: Pt::from(number_8(pt)?),
+            codec: codec(name)?,
+            rate: rate(per_second)?,
+        })),
+        _ => Err(LineError::Outside),
+    }
 }
 
-#[tactic(auto, unfolding(crate::specs::Grammar::media_line_of))]
 fn media(alloc: Global, words: &[&[u8]]) -> Result<SetupLine, LineError>
-    ensures { Gives (λ l. l) result (media_line_of (texts words.now)) }
+    ensures { Gives (λ l. l) result (media_line (texts words.now)) }
 {
-    let (name, rest) = name_at(words, 16)?;
-    let (kind, rest) = media_kind_at(rest)?;
-    let (cname, rest) = name_at(rest, 255)?;
-    end(rest)?;
-    Ok(SetupLine::Media {
-        mid: mid(name),
-        kind,
-        cname: Bytes::from_slice(alloc, cname)?,
-    })
+    match words {
+        [of, kind, cname] => Ok(SetupLine::Media {
+            mid: mid(name(of, 16)?),
+            kind: media_kind(kind)?,
+            cname: Bytes::from_slice(alloc, name(cname, 255)?)?,
+        }),
+        _ => Err(LineError::Outside),
+    }
 }
 
-#[tactic(auto, unfolding(crate::specs::Grammar::stream_line_of))]
 fn stream(words: &[&[u8]]) -> Result<SetupLine, LineError>
-    ensures { Gives (λ l. l) result (stream_line_of (texts words.now)) }
+    ensures { Gives (λ l. l) result (stream_line (texts words.now)) }
 {
-    let (side, rest) = side_at(words)?;
-    let (name, rest) = name_at(rest, 16)?;
-    let (ssrc, rest) = number_32_at(rest)?;
-    let (rtx, rest) = optional_32_at(rest)?;
-    let (layer, rest) = optional_name_at(rest)?;
-    end(rest)?;
-    Ok(SetupLine::Stream {
-        mid: mid(name),
-        stream: Stream {
-            side,
-            ssrc: Ssrc::from(ssrc),
-            rtx: rtx.map(Ssrc::from),
-            rid: rid(layer),
-        },
-    })
+    match words {
+        [from, of, ssrc, rtx, layer] => {
+            let side = side(from)?;
+            let mid = mid(name(of, 16)?);
+            Ok(SetupLine::Stream {
+                mid,
+                stream: Stream {
+                    side,
+                    ssrc: Ssrc::from(number_32(ssrc)?),
+                    rtx: optional_32(rtx)?.map(Ssrc::from),
+                    rid: rid(optional_name(layer)?),
+                },
+            })
+        }
+        _ => Err(LineError::Outside),
+    }
+}
+
+#[tactic(auto, unfolding(crate::specs::Grammar::named_line_of))]
+fn named_line(alloc: Global, words: &[&[u8]]) -> Result<SetupLine, LineError>
+    ensures { Gives (λ l. l) result (named_line_of (texts words.now)) }
+{
+    match words {
+        [] => Err(LineError::Outside),
+        [kind, rest @ ..] => {
+            if *kind == b"media".as_slice() {
+                media(alloc, rest)
+            } else if *kind == b"stream".as_slice() {
+                stream(rest)
+            } else {
+                Err(LineError::Outside)
+            }
+        }
+    }
 }
 
 #[tactic(auto, unfolding(crate::specs::Grammar::setup_line_of))]
@@ -107,12 +123,8 @@ fn setup_line_in(alloc: Global, words: &[&[u8]]) -> Result<SetupLine, LineError>
                 key(alloc, rest)
             } else if *kind == b"type".as_slice() {
                 payload_type(rest)
-            } else if *kind == b"media".as_slice() {
-                media(alloc, rest)
-            } else if *kind == b"stream".as_slice() {
-                stream(rest)
             } else {
-                Err(LineError::Outside)
+                named_line(alloc, words)
             }
         }
     }
@@ -120,8 +132,11 @@ fn setup_line_in(alloc: Global, words: &[&[u8]]) -> Result<SetupLine, LineError>
 
 // What a setup line says.
 pub fn setup_line(alloc: Global, line: &[u8]) -> Result<SetupLine, LineError>
-    ensures { Gives (λ l. l) result (setup_line_of (words_of line.now)) }
+    ensures { Gives (λ l. l) result (in_few setup_line_of (words_of line.now)) }
 {
+    if is_long(line) {
+        return Err(LineError::Outside);
+    }
     let words = words(alloc, line)?;
     setup_line_in(alloc, words.as_slice())
 }

@@ -1,89 +1,85 @@
 // The words of a step.
 ghost use Rattle.std.specs.Prelude.{◌≡◌};
-ghost use Rattle.media_script.specs.Grammar.{texts, tick_of, deliver_of, write_of, foreign_of, step_of};
-ghost use Rattle.media_script.specs.Spelling.{words_of};
 ghost use Rattle.media_script.specs.Gives.{Gives};
+ghost use Rattle.media_script.specs.Grammar.{texts, packet_step, write_step, tick_step, deliver_step, foreign_step, step_of, in_few};
+ghost use Rattle.media_script.specs.Spelling.{words_of};
 
 use crate::error::LineError;
-use crate::left::{end, flag_at, hex_at, kind_at, number_32_at, number_8_at, number_at, side_at, time_at};
-use crate::lines::words;
+use crate::lines::{is_long, words};
+use crate::words::{flag, hex, kind as kind_word, number, number_8, number_32, side, time};
 use media_base::{Bytes, Instant};
-use media_model::{Step, Write};
+use media_model::{Side, Step, Write};
 use rtp_wire::{Pt, SeqNo, Ssrc};
 use std::alloc::Global;
 
-#[tactic(auto, unfolding(crate::specs::Grammar::tick_of))]
-fn tick(words: &[&[u8]]) -> Result<Step, LineError>
-    ensures { Gives (λ s. s) result (tick_of (texts words.now)) }
+#[tactic(auto, unfolding(crate::specs::Grammar::packet_step))]
+fn packet(alloc: Global, side: Side, at: u64, words: &[&[u8]]) -> Result<Step, LineError>
+    ensures { Gives (λ s. s) result (packet_step side at (texts words.now)) }
 {
-    let (side, rest) = side_at(words)?;
-    let (time, rest) = time_at(rest)?;
-    end(rest)?;
-    Ok(Step::Tick {
-        side,
-        time: Instant::from_nanos(time),
-    })
+    match words {
+        [ssrc, sequence, pt, rtp_time, marker, nackable, payload] => Ok(Step::Write {
+            side,
+            time: Instant::from_nanos(at),
+            write: Write {
+                ssrc: Ssrc::from(number_32(ssrc)?),
+                number: SeqNo::from(number(sequence)?),
+                pt: Pt::from(number_8(pt)?),
+                rtp_time: number_32(rtp_time)?,
+                marker: flag(marker)?,
+                nackable: flag(nackable)?,
+                payload: Bytes::from_vec(hex(alloc, payload)?),
+            },
+        }),
+        _ => Err(LineError::Outside),
+    }
 }
 
-#[tactic(auto, unfolding(crate::specs::Grammar::deliver_of))]
-fn deliver(words: &[&[u8]]) -> Result<Step, LineError>
-    ensures { Gives (λ s. s) result (deliver_of (texts words.now)) }
-{
-    let (side, rest) = side_at(words)?;
-    let (time, rest) = time_at(rest)?;
-    let (k, rest) = number_at(rest)?;
-    end(rest)?;
-    Ok(Step::Deliver {
-        side,
-        time: Instant::from_nanos(time),
-        datagram: k,
-    })
-}
-
-#[tactic(auto, unfolding(crate::specs::Grammar::write_of))]
 fn write(alloc: Global, words: &[&[u8]]) -> Result<Step, LineError>
-    ensures { Gives (λ s. s) result (write_of (texts words.now)) }
+    ensures { Gives (λ s. s) result (write_step (texts words.now)) }
 {
-    let (side, rest) = side_at(words)?;
-    let (time, rest) = time_at(rest)?;
-    let (ssrc, rest) = number_32_at(rest)?;
-    let (number, rest) = number_at(rest)?;
-    let (pt, rest) = number_8_at(rest)?;
-    let (rtp_time, rest) = number_32_at(rest)?;
-    let (marker, rest) = flag_at(rest)?;
-    let (nackable, rest) = flag_at(rest)?;
-    let (payload, rest) = hex_at(alloc, rest)?;
-    end(rest)?;
-    Ok(Step::Write {
-        side,
-        time: Instant::from_nanos(time),
-        write: Write {
-            ssrc: Ssrc::from(ssrc),
-            number: SeqNo::from(number),
-            pt: Pt::from(pt),
-            rtp_time,
-            marker,
-            nackable,
-            payload: Bytes::from_vec(payload),
-        },
-    })
+    match words {
+        [by, at, rest @ ..] => packet(alloc, side(by)?, time(at)?, rest),
+        _ => Err(LineError::Outside),
+    }
 }
 
-#[tactic(auto, unfolding(crate::specs::Grammar::foreign_of))]
-fn foreign(alloc: Global, words: &[&[u8]]) -> Result<Step, LineError>
-    ensures { Gives (λ s. s) result (foreign_of (texts words.now)) }
+fn tick(words: &[&[u8]]) -> Result<Step, LineError>
+    ensures { Gives (λ s. s) result (tick_step (texts words.now)) }
 {
-    let (side, rest) = side_at(words)?;
-    let (time, rest) = time_at(rest)?;
-    let (kind, rest) = kind_at(rest)?;
-    let (bytes, rest) = hex_at(alloc, rest)?;
-    end(rest)?;
-    Ok(Step::Foreign {
-        side,
-        time: Instant::from_nanos(time),
-        kind,
-        bytes: Bytes::from_vec(bytes),
-    })
+    match words {
+        [by, at] => Ok(Step::Tick {
+            side: side(by)?,
+            time: Instant::from_nanos(time(at)?),
+        }),
+        _ => Err(LineError::Outside),
+    }
+}
+
+fn deliver(words: &[&[u8]]) -> Result<Step, LineError>
+    ensures { Gives (λ s. s) result (deliver_step (texts words.now)) }
+{
+    match words {
+        [by, at, datagram] => Ok(Step::Deliver {
+            side: side(by)?,
+            time: Instant::from_nanos(time(at)?),
+            datagram: number(datagram)?,
+        }),
+        _ => Err(LineError::Outside),
+    }
+}
+
+fn foreign(alloc: Global, words: &[&[u8]]) -> Result<Step, LineError>
+    ensures { Gives (λ s. s) result (foreign_step (texts words.now)) }
+{
+    match words {
+        [by, at, kind, bytes] => Ok(Step::Foreign {
+            side: side(by)?,
+            time: Instant::from_nanos(time(at)?),
+            kind: kind_word(kind)?,
+            bytes: Bytes::from_vec(hex(alloc, bytes)?),
+        }),
+        _ => Err(LineError::Outside),
+    }
 }
 
 #[tactic(auto, unfolding(crate::specs::Grammar::step_of))]
@@ -110,8 +106,11 @@ fn step_in(alloc: Global, words: &[&[u8]]) -> Result<Step, LineError>
 
 // The step of a line.
 pub fn step(alloc: Global, line: &[u8]) -> Result<Step, LineError>
-    ensures { Gives (λ s. s) result (step_of (words_of line.now)) }
+    ensures { Gives (λ s. s) result (in_few step_of (words_of line.now)) }
 {
+    if is_long(line) {
+        return Err(LineError::Outside);
+    }
     let words = words(alloc, line)?;
     step_in(alloc, words.as_slice())
 }

@@ -148,7 +148,7 @@ fn put_yielded(text: &mut String, side: Side, packet: &Packet) -> Result<(), All
     )
 }
 
-fn put_entry(text: &mut String, entry: &Entry) -> Result<(), AllocError>
+pub fn put_entry(text: &mut String, entry: &Entry) -> Result<(), AllocError>
     ensures { OnOk result (string_bytes text.new ≡ string_bytes text.old ++ line_text entry.now) }
 {
     match entry {
@@ -183,7 +183,7 @@ pub fn entries_text(alloc: Global, entries: &[Entry]) -> Result<String, AllocErr
 }
 
 // Adds the last line.
-fn put_end(text: &mut String, genuine: bool, repairs: bool) -> Result<(), AllocError>
+pub fn put_end(text: &mut String, genuine: bool, repairs: bool) -> Result<(), AllocError>
     ensures { OnOk result (string_bytes text.new ≡ string_bytes text.old ++ end_text genuine repairs) }
 {
     let genuine = Answer(genuine);

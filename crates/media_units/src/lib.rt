@@ -5,8 +5,6 @@
 mod history;
 mod rate;
 mod soonest;
-#[cfg(test)]
-mod tests;
 mod time;
 mod trip;
 mod wallclock;

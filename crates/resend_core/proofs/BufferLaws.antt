@@ -1,6 +1,6 @@
 -- What a buffer stands for after each step.
-use Rattle.std.proofs.Common.{◌≡◌, ◌≢◌, ℕ, ◌+◌, ◌-◌, ◌*◌, ◌/◌, ◌%◌, ◌<◌, ◌≤◌, true, false, eqb, ltb, List, [], ◌∷◌, ◌++◌, refl, sym, ap, ◌∙◌, subst, arith, length, replicate, map, max, inl, inr, ⊎_elim, ◌⊎◌, Option, Some, None}
-use Rattle.std.specs.Prelude.{not, nat_eq, slice_index_or, unwrap_or, option_map}
+use Rattle.std.proofs.Common.{◌≡◌, ◌≢◌, ℕ, ◌+◌, ◌-◌, ◌*◌, ◌/◌, ◌%◌, ◌<◌, ◌≤◌, Bool, true, false, cond, eqb, leb, ltb, List, [], ◌∷◌, ◌++◌, refl, sym, ap, ◌∙◌, subst, arith, length, replicate, map, max, min, inl, inr, ⊎_elim, ◌⊎◌, Option, Some, None}
+use Rattle.std.specs.Prelude.{not, ◌&&◌, nat_eq, slice_index_or, unwrap_or, option_map}
 use Rattle.std.specs.List.{list_any}
 use Rattle.std.proofs.lemmas.Bool.Decides.{nat_tests}
 use Rattle.std.proofs.lemmas.List.{length-replicate, length-map}
@@ -8,10 +8,10 @@ use Rattle.std.proofs.lemmas.Bool.{cases_eq, cases_lt}
 use Rattle.std.proofs.Math.Nat.{mul-le-mul_left}
 use Rattle.resend_core.specs.declared.ring.Entry.{Entry}
 use Rattle.resend_core.specs.declared.rtx_cache_buf.EvictingBuffer.{EvictingBuffer}
-use Rattle.resend_core.specs.Ring.{slot_of, held, yields_to, has_room, is_other, put_in, settled_all, clashes, least_young, is_below, kept_from, IsIn, IsInPlace}
-use Rattle.resend_core.specs.ResendStore.{Event, pushed, evicted, Past, with_event, emptied, size_of, greatest_by, last_under, stored_at, stored_position, greatest_stored, after_pushed, next_position, evicted_at, latest_eviction, IsRising, MustStore, MayGo, HeldAs}
-use Rattle.resend_core.specs.EvictingBuffer.{StandsFor, IsReady, Grows, Places, Evicts, IsPushed, is_from, takes_push}
-use Rattle.resend_core.proofs.RingLaws.{held_slot, held_in, in_held, slot_held, held_put_same, held_put_other, held_put_from, in_place_put, length-put, all_length, IsOutdone, no_use, no_clash, grown, grown_from, grown_in_place, dropped_in_place, dropped_from, dropped_stays, IsYoungAt, least_at, least_le}
+use Rattle.resend_core.specs.Ring.{slot_of, held, yields_to, has_room, is_other, put_in, settled_all, clashes, kept_from, IsIn, IsInPlace}
+use Rattle.resend_core.specs.ResendStore.{Event, pushed, evicted, Past, with_event, emptied, size_of, greatest_by, last_under, stored_at, stored_position, greatest_stored, after_pushed, next_position, evicted_at, latest_eviction, IsRising, MustStore, MayGo, HeldAs, mark_above, IsMarked, is_under, IsAtLeast, IsPassedOver, MarksPush}
+use Rattle.resend_core.specs.EvictingBuffer.{StandsFor, IsReady, Grows, Places, lowered, IsBounded, Drops, IsDone, IsPushed, takes_push}
+use Rattle.resend_core.proofs.RingLaws.{held_slot, held_in, in_held, slot_held, held_put_same, held_put_other, held_put_from, in_place_put, length-put, all_length, IsOutdone, no_use, no_clash, grown, grown_from, grown_in_place, dropped_in_place, dropped_from}
 use Rattle.resend_core.proofs.EventLaws.{greatest_by-push, greatest_by_grows, last_by-push, under_same, under_other, under_ignored, under_evicted, rising_front, under_stored, under_next, rising_order}
 
 -- of two numbers with one remainder the greater is the divisor or more above
@@ -62,8 +62,8 @@ grown_keeps {T} b past p s some apart h q x is =
             reach : (a s c n g : ℕ) → a + s ≤ c → s ≡ n → c ≤ g → a + n ≤ g
             reach a s c n g h e k = omega arith
 
-pub grown_stands : {T : Type 0} (b b' : EvictingBuffer T) (past : Past T) (p : ℕ) → Grows b b' p → StandsFor b past → StandsFor b' past
-grown_stands {T} b b' past p g h =
+pub grown_stands : {T : Type 0} (b b' : EvictingBuffer T) (past : Past T) (p : ℕ) → 0 < length b.ring.items → Grows b b' p → StandsFor b past → StandsFor b' past
+grown_stands {T} b b' past p room g h =
     let some : 0 < g.slots = omega (arith, g.above) in
     record {
       ages = ap (λ (o : EvictingBuffer T). o.age) g.rest ∙ h.ages;
@@ -82,8 +82,16 @@ grown_stands {T} b b' past p g h =
           (h.keeps q t v is);
       newest = ap (λ (o : EvictingBuffer T). o.last) g.rest ∙ h.newest;
       marked = λ m is. h.marked m (sym (ap (λ (o : EvictingBuffer T). o.mark) g.rest) ∙ is);
+      inert = λ z. absurd (none_above (length b.ring.items) (h.inert z) room);
+      low = λ q e is. subst (λ (n : ℕ). n ≤ q) (sym (ap (λ (o : EvictingBuffer T). o.low) g.rest)) (h.low q e (was q e is));
+      high = λ q e is. subst (λ (n : ℕ). q ≤ n) (sym (ap (λ (o : EvictingBuffer T). o.high) g.rest)) (h.high q e (was q e is));
       young = λ r q e is. h.young r q e (grown_from g.slots b.ring.items some h.in_place q e (ap (λ (k : List (Option (Entry T))). held k q) (sym g.items) ∙ is));
-    }
+    } where
+      none_above : (n : ℕ) → n ≡ 0 → 0 < n → ⊥
+      none_above n e lt = omega arith
+
+      was : (q : ℕ) (e : Entry T) → held b'.ring.items q ≡ Some e → held b.ring.items q ≡ Some e
+      was q e is = grown_from g.slots b.ring.items (omega (arith, g.above)) h.in_place q e (ap (λ (r : List (Option (Entry T))). held r q) (sym g.items) ∙ is)
 
 grown_long : {T : Type 0} (b b' : EvictingBuffer T) (p : ℕ) (g : Grows b b' p) → length b'.ring.items ≡ g.slots
 grown_long b b' p g = rw (g.items, all_length (replicate g.slots None) b.ring.items, length-replicate) refl
@@ -141,6 +149,9 @@ ignored_stands {T} b past p t v h =
           (h.keeps q u w (sym (under_ignored past.events p t v q) ∙ is));
       newest = h.newest ∙ sym (last_by-push stored_at past.events e);
       marked = λ m is. le m (next_position past.events) (next_position (past.events ++ e ∷ [])) (h.marked m is) (greatest_by_grows after_pushed past.events e);
+      inert = h.inert;
+      low = h.low;
+      high = h.high;
       young = λ r q x is. subst (λ (n : ℕ). n ≤ x.moment + past.age) (same evicted_at refl) (h.young (rising_front past.events e r) q x is);
     } where
       le : (a c d : ℕ) → a ≤ c → c ≤ d → a ≤ d
@@ -163,10 +174,44 @@ placed_stands {T} b b' past e w room ready some timely h =
       keeps = λ q t v is. keeps_at q t v is;
       newest = ap (λ (o : EvictingBuffer T). o.last) w.rest ∙ sym (last_by-push stored_at past.events ev);
       marked = λ m is. mark_at m (sym (ap (λ (o : EvictingBuffer T). o.mark) w.rest) ∙ is);
+      inert = λ z. absurd (none_above (length b.ring.items) (h.inert z) some);
+      low = λ q x is. subst (λ (n : ℕ). n ≤ q) (sym (ap (λ (o : EvictingBuffer T). o.low) w.rest)) (low_at q x (ap (λ (r : List (Option (Entry T))). held r q) (sym w.items) ∙ is));
+      high = λ q x is. subst (λ (n : ℕ). q ≤ n) (sym (ap (λ (o : EvictingBuffer T). o.high) w.rest)) (high_at q x (ap (λ (r : List (Option (Entry T))). held r q) (sym w.items) ∙ is));
       young = λ r q x is. subst (λ (n : ℕ). n ≤ x.moment + past.age) late (young_at r q x (ap (λ (k : List (Option (Entry T))). held k q) (sym w.items) ∙ is));
     } where
       ev : Event T
       ev = pushed e.position e.moment e.value true
+
+      none_above : (n : ℕ) → n ≡ 0 → 0 < n → ⊥
+      none_above n i lt = omega arith
+
+      low_at : (q : ℕ) (x : Entry T) → held (put_in b.ring.items e) q ≡ Some x → lowered b e.position ≤ q
+      low_at q x is = pick (ltb b.high b.low) refl where
+        pick : (c : Bool) → ltb b.high b.low ≡ c → cond c e.position (min b.low e.position) ≤ q
+        pick c t =
+            ⊎_elim
+            (λ (k : (e ≡ x) × (e.position ≡ q)). mine c k.1)
+            (λ (k : held b.ring.items q ≡ Some x). theirs c t (h.low q x k) (h.high q x k))
+            (held_put_from b.ring.items e q x some is) where
+              mine : (c : Bool) → e.position ≡ q → cond c e.position (min b.low e.position) ≤ q
+              mine true at = omega arith
+              mine false at = omega arith
+
+              theirs : (c : Bool) → ltb b.high b.low ≡ c → b.low ≤ q → q ≤ b.high → cond c e.position (min b.low e.position) ≤ q
+              theirs true t i j = absurd (grind (arith, nat_tests))
+              theirs false t i j = omega arith
+
+      high_at : (q : ℕ) (x : Entry T) → held (put_in b.ring.items e) q ≡ Some x → q ≤ max b.high e.position
+      high_at q x is =
+          ⊎_elim
+          (λ (k : (e ≡ x) × (e.position ≡ q)). at_most q e.position b.high k.1)
+          (λ (k : held b.ring.items q ≡ Some x). below q e.position b.high (h.high q x k))
+          (held_put_from b.ring.items e q x some is) where
+            at_most : (q p m : ℕ) → p ≡ q → q ≤ max m p
+            at_most q p m i = omega arith
+
+            below : (q p m : ℕ) → q ≤ m → q ≤ max m p
+            below q p m i = omega arith
 
       late : latest_eviction past.events ≡ latest_eviction (past.events ++ pushed e.position e.moment e.value true ∷ [])
       late = omega (arith, greatest_by-push evicted_at past.events (pushed e.position e.moment e.value true))
@@ -252,12 +297,43 @@ placed_stands {T} b b' past e w room ready some timely h =
 pub must_take : {T : Type 0} (b : EvictingBuffer T) (past : Past T) (p t : ℕ) → StandsFor b past → MustStore past p t → takes_push b p t ≡ true
 must_take {T} b past p t h m =
     all (h.roomy m.roomy) (subst (λ (a : ℕ). 0 < a) (sym h.ages) m.aging) (subst (λ (a : ℕ). a ≤ t) (sym h.timed) m.timely) (mark b.mark refl) where
-      mark : (o : Option ℕ) → b.mark ≡ o → is_from o p ≡ true
+      mark : (o : Option ℕ) → b.mark ≡ o → not (is_under o p) ≡ true
       mark None is = refl
       mark (Some n) is = let low : n ≤ next_position past.events = h.marked n is in let le : n ≤ p = omega (arith, m.above) in grind (arith, nat_tests)
 
-      all : 0 < length b.ring.items → 0 < b.age → b.timeout ≤ t → is_from b.mark p ≡ true → takes_push b p t ≡ true
+      all : 0 < length b.ring.items → 0 < b.age → b.timeout ≤ t → not (is_under b.mark p) ≡ true → takes_push b p t ≡ true
       all x y z w = grind (arith, nat_tests)
+
+-- a push into a buffer without slots, or that is passed over, is not looked at
+pub inert_shut : {T : Type 0} (b : EvictingBuffer T) (past : Past T) (p t : ℕ) → StandsFor b past → past.initial ≡ 0 → takes_push b p t ≡ false
+inert_shut b past p t h z = let none : length b.ring.items ≡ 0 = h.inert z in let test : ltb 0 (length b.ring.items) ≡ false = grind (arith, nat_tests) in ap (λ (c : Bool). c && (ltb 0 b.age && (leb b.timeout t && not (is_under b.mark p)))) test
+
+pub passed_shut : {T : Type 0} (b : EvictingBuffer T) (past : Past T) (p t : ℕ) → StandsFor b past → IsPassedOver b.mark past p t → takes_push b p t ≡ false
+passed_shut {T} b past p t h w =
+    ⊎_elim
+    (λ (z : past.age ≡ 0). let none : b.age ≡ 0 = h.ages ∙ z in let test : ltb 0 b.age ≡ false = grind (arith, nat_tests) in second (ltb 0 (length b.ring.items)) (ltb 0 b.age) (leb b.timeout t) (not (is_under b.mark p)) test)
+    (λ (w : (t < latest_eviction past.events) ⊎ (is_under b.mark p ≡ true)).
+    ⊎_elim
+    (λ (lt : t < latest_eviction past.events). let early : t < b.timeout = subst (λ (n : ℕ). t < n) (sym h.timed) lt in let test : leb b.timeout t ≡ false = grind (arith, nat_tests) in third (ltb 0 (length b.ring.items)) (ltb 0 b.age) (leb b.timeout t) (not (is_under b.mark p)) test)
+    (λ (u : is_under b.mark p ≡ true). fourth (ltb 0 (length b.ring.items)) (ltb 0 b.age) (leb b.timeout t) (not (is_under b.mark p)) (ap not u))
+    w)
+    w where
+      second : (a c d f : Bool) → c ≡ false → (a && (c && (d && f))) ≡ false
+      second a c d f e = rw e (left a) where
+        left : (a : Bool) → (a && false) ≡ false
+        left true = refl
+        left false = refl
+
+      third : (a c d f : Bool) → d ≡ false → (a && (c && (d && f))) ≡ false
+      third true true d f e = ap (λ (x : Bool). x && f) e
+      third true false d f e = refl
+      third false c d f e = refl
+
+      fourth : (a c d f : Bool) → f ≡ false → (a && (c && (d && f))) ≡ false
+      fourth true true true f e = e
+      fourth true true false f e = refl
+      fourth true false d f e = refl
+      fourth false c d f e = refl
 
 pub must_room : {T : Type 0} (b : EvictingBuffer T) (past : Past T) (p t : ℕ) → StandsFor b past → MustStore past p t → has_room b.ring.items p ≡ true
 must_room {T} b past p t h m = pick (slot_of b.ring.items p) refl where
@@ -275,6 +351,23 @@ shut_stands b past p t v shut h = (false, λ m. sym shut ∙ must_take b past p 
 
 pub blocked_stands : {T : Type 0} (b : EvictingBuffer T) (past : Past T) (e : Entry T) → has_room b.ring.items e.position ≡ false → StandsFor b past → IsPushed past e.position e.moment e.value b
 blocked_stands b past e full h = (false, λ m. sym full ∙ must_room b past e.position e.moment h m, ignored_stands b past e.position e.moment e.value h)
+
+-- the mark after a push
+pub put_marks : {T : Type 0} (was is : ℕ → Option T) (past : Past T) (p t : ℕ) (o : Option ℕ) → MarksPush was is past p t o (Some (unwrap_or o p))
+put_marks was is past p t o = record { either = inr (inl refl); first = λ m. (unwrap_or o p, refl, omega arith); rises = λ m k. at m k } where
+  at : (m : ℕ) → o ≡ Some m → IsAtLeast (Some (unwrap_or o p)) m
+  at m k = (m, ap (λ (x : Option ℕ). Some (unwrap_or x p)) k, omega arith)
+
+pub blocked_marks : {T : Type 0} (was is : ℕ → Option T) (b : EvictingBuffer T) (past : Past T) (p t : ℕ) → has_room b.ring.items p ≡ false → StandsFor b past → MarksPush was is past p t b.mark b.mark
+blocked_marks was is b past p t full h = record {
+  either = inl refl;
+  first = λ m. absurd (let not_so : true ≡ false = sym (must_room b past p t h m) ∙ full in cc);
+  rises = λ m k. (m, k, omega arith);
+}
+
+-- what the mark says does not hang on what was held, where no position went
+pub same_marks : {T : Type 0} (was was' is : ℕ → Option T) (past : Past T) (p t : ℕ) (o n : Option ℕ) → ((n ≡ o) ⊎ (n ≡ Some (unwrap_or o p))) → MarksPush was is past p t o n → MarksPush was' is past p t o n
+same_marks was was' is past p t o n e m = record { either = ⊎_elim (λ (k : n ≡ o). inl k) (λ (k : n ≡ Some (unwrap_or o p)). inr (inl k)) e; first = m.first; rises = m.rises }
 
 pub put_stands : {T : Type 0} (b b' : EvictingBuffer T) (past : Past T) (e : Entry T) → Places b b' e → has_room b.ring.items e.position ≡ true → IsReady b e.position → 0 < length b.ring.items → b.timeout ≤ e.moment → StandsFor b past → IsPushed past e.position e.moment e.value b'
 put_stands b b' past e w room ready some timely h = (true, λ m. refl, placed_stands b b' past e w room ready some timely h)
@@ -295,6 +388,9 @@ late_stands {T} b past now early h =
           (h.keeps q u w (sym (under_evicted past.events now q) ∙ is));
       newest = h.newest ∙ sym (last_by-push stored_at past.events (evicted now));
       marked = λ m is. le m (next_position past.events) (next_position (past.events ++ evicted now ∷ [])) (h.marked m is) (greatest_by_grows after_pushed past.events (evicted now));
+      inert = h.inert;
+      low = h.low;
+      high = h.high;
       young = λ r q x is. subst (λ (n : ℕ). n ≤ x.moment + past.age) late (h.young (rising_front past.events (evicted now) r) q x is);
     } where
       le : (a c d : ℕ) → a ≤ c → c ≤ d → a ≤ d
@@ -303,91 +399,90 @@ late_stands {T} b past now early h =
       late : latest_eviction past.events ≡ latest_eviction (past.events ++ evicted now ∷ [])
       late = omega (arith, greatest_by-push evicted_at past.events (evicted now), h.timed)
 
-pub evicted_stands : {T : Type 0} (b b' : EvictingBuffer T) (past : Past T) (now : ℕ) → Evicts b b' now → b.timeout ≤ now → StandsFor b past → StandsFor b' (with_event past (evicted now))
-evicted_stands {T} b b' past now w timely h =
+pub evicted_stands : {T : Type 0} (b b' : EvictingBuffer T) (past : Past T) (now : ℕ) → Drops b b' now → IsDone b' now → b.timeout ≤ now → StandsFor b past → StandsFor (record b' { timeout = now }) (with_event past (evicted now))
+evicted_stands {T} b b' past now d done timely h =
     record {
-      ages = ap (λ (o : EvictingBuffer T). o.age) w.rest ∙ h.ages;
-      sized = ap (λ (o : EvictingBuffer T). o.size) w.rest ∙ h.sized;
-      roomy = λ r. rw (w.items, length-map) (h.roomy r);
-      timed = ap (λ (o : EvictingBuffer T). o.timeout) w.rest ∙ latest;
-      in_place = rw w.items (dropped_in_place first b.ring.items h.in_place);
-      true_to = λ q x is. under_evicted past.events now q ∙ h.true_to q x (was q x is).0;
+      ages = age_is ∙ h.ages;
+      sized = ap (λ (o : EvictingBuffer T). o.size) d.rest ∙ h.sized;
+      roomy = λ r. subst (λ (n : ℕ). 0 < n) (sym d.long) (h.roomy r);
+      timed = latest;
+      in_place = d.in_place;
+      true_to = λ q x is. under_evicted past.events now q ∙ h.true_to q x (d.from q x is);
       keeps = λ q u v is. ⊎_elim
-          (λ (k : held b.ring.items q ≡ Some (record { position = q; moment = u; value = v })). stays q (record { position = q; moment = u; value = v }) refl k)
+          (λ (k : held b.ring.items q ≡ Some (record { position = q; moment = u; value = v })). stays q (record { position = q; moment = u; value = v }) k)
           (λ (k : MayGo past q u). inr (may_go_more past (evicted now) q u k))
           (h.keeps q u v (sym (under_evicted past.events now q) ∙ is));
-      newest = ap (λ (o : EvictingBuffer T). o.last) w.rest ∙ h.newest ∙ sym (last_by-push stored_at past.events (evicted now));
+      newest = ap (λ (o : EvictingBuffer T). o.last) d.rest ∙ h.newest ∙ sym (last_by-push stored_at past.events (evicted now));
       marked = λ m is. le m (next_position past.events) (next_position (past.events ++ evicted now ∷ [])) (mark_at m is) (greatest_by_grows after_pushed past.events (evicted now));
-      young = λ r q x is. subst (λ (n : ℕ). n ≤ x.moment + past.age) latest (young_at (rising_front past.events (evicted now) r) q x (was q x is));
+      inert = λ z. d.long ∙ h.inert z;
+      low = d.low;
+      high = λ q x is. subst (λ (n : ℕ). q ≤ n) (sym (ap (λ (o : EvictingBuffer T). o.high) d.rest)) (h.high q x (d.from q x is));
+      young = λ r q x is. subst (λ (n : ℕ). n ≤ x.moment + past.age) latest (young_at (rising_front past.events (evicted now) r) q x is);
     } where
       le : (a c d : ℕ) → a ≤ c → c ≤ d → a ≤ d
       le a c d h k = omega arith
 
-      first : Option ℕ
-      first = least_young now b.age None b.ring.items
+      age_is : b'.age ≡ b.age
+      age_is = ap (λ (o : EvictingBuffer T). o.age) d.rest
 
       latest : now ≡ latest_eviction (past.events ++ evicted now ∷ [])
       latest = omega (arith, greatest_by-push evicted_at past.events (evicted now), h.timed)
 
-      was : (q : ℕ) (x : Entry T) → held b'.ring.items q ≡ Some x → (held b.ring.items q ≡ Some x) × (is_below (least_young now b.age None b.ring.items) q ≡ false)
-      was q x is = dropped_from (least_young now b.age None b.ring.items) b.ring.items q x (ap (λ (r : List (Option (Entry T))). held r q) (sym w.items) ∙ is)
-
       mark_at : (m : ℕ) → b'.mark ≡ Some m → m ≤ next_position past.events
       mark_at m is =
           ⊎_elim
-          (λ (k : b.mark ≡ Some m). h.marked m k)
-          (λ (k : (e : Entry T) × IsIn e b.ring.items × (m ≤ e.position + 1)). let next : k.0.position + 1 ≤ next_position past.events = held_next b past k.0 h k.1 in le m (k.0.position + 1) (next_position past.events) k.2 next)
-          (w.marks m is)
+          (λ (k : b'.mark ≡ b.mark). h.marked m (sym k ∙ is))
+          (λ (k : (q : ℕ) × (x : Entry T) × (held b.ring.items q ≡ Some x) × (held b'.ring.items q ≡ None) × (b'.mark ≡ Some (mark_above q))).
+          let next : k.0 + 1 ≤ next_position past.events = under_next k.0 past.events (k.1.moment, k.1.value) (h.true_to k.0 k.1 k.2) in
+          at_most m k.0 (next_position past.events) (some_is m (mark_above k.0) (sym is ∙ k.4)) next)
+          d.marks where
+            some_is : (a c : ℕ) → Some a ≡ Some c → a ≡ c
+            some_is a c k = cc
 
-      stays : (q : ℕ) (x : Entry T) → x.position ≡ q → held b.ring.items q ≡ Some x → (held b'.ring.items q ≡ Some x) ⊎ MayGo (with_event past (evicted now)) q x.moment
-      stays q x at k =
+            at_most : (m q n : ℕ) → m ≡ mark_above q → q + 1 ≤ n → m ≤ n
+            at_most m q n i j = omega arith
+
+      stays : (q : ℕ) (x : Entry T) → held b.ring.items q ≡ Some x → (held b'.ring.items q ≡ Some x) ⊎ MayGo (with_event past (evicted now)) q x.moment
+      stays q x k =
           ⊎_elim
-          (λ (old : b.age < now - x.moment). inr (inl (subst (λ (n : ℕ). x.moment + past.age < n) latest (gone b.age past.age now x.moment h.ages old))))
-          (λ (fresh : now - x.moment ≤ b.age).
-          let c = least_le now b.age None b.ring.items x (held_in b.ring.items q x k) fresh in
-          inl (ap (λ (r : List (Option (Entry T))). held r q) w.items ∙ dropped_stays (least_young now b.age None b.ring.items) b.ring.items q x k (ap (λ (o : Option ℕ). is_below o q) c.1 ∙ not_below q c.0 x.position c.2 at)))
-          (cases_lt b.age (now - x.moment)) where
+          (λ (w : held b'.ring.items q ≡ Some x). inl w)
+          (λ (w : (b.age < now - x.moment) × IsMarked b'.mark q). inr (inl (subst (λ (n : ℕ). x.moment + past.age < n) latest (gone b.age past.age now x.moment h.ages w.0))))
+          (d.stays q x k) where
             gone : (a g n m : ℕ) → a ≡ g → a < n - m → m + g < n
             gone a g n m i j = omega arith
 
-            not_below : (q c p : ℕ) → c ≤ p → p ≡ q → ltb q c ≡ false
-            not_below q c p i j = grind (arith, nat_tests)
+      young_at : IsRising past.events → (q : ℕ) (x : Entry T) → held b'.ring.items q ≡ Some x → now ≤ x.moment + past.age
+      young_at r q x is =
+          let y = done.young q x is in
+          let mine : held b.ring.items y.0.position ≡ Some y.0 = d.from y.0.position y.0 y.1 in
+          let its : held b.ring.items q ≡ Some x = d.from q x is in
+          ⊎_elim
+          (λ (lt : y.0.position < q).
+          let order : y.0.moment ≤ x.moment = rising_order past.events y.0.position q (y.0.moment, y.0.value) (x.moment, x.value) r (h.true_to y.0.position y.0 mine) (h.true_to q x its) lt in
+          near now y.0.moment x.moment b'.age past.age y.3 (age_is ∙ h.ages) order)
+          (λ (ge : q ≤ y.0.position).
+          let at : y.0.position ≡ q = here y.0.position q y.2 ge in
+          let both : Some y.0 ≡ Some x = sym mine ∙ ap (λ (i : ℕ). held b.ring.items i) at ∙ its in
+          let eq : y.0 ≡ x = cc in
+          near now y.0.moment x.moment b'.age past.age y.3 (age_is ∙ h.ages) (same y.0.moment x.moment (ap (λ (z : Entry T). z.moment) eq)))
+          (cases_lt y.0.position q) where
+            near : (n m o a g : ℕ) → n - m ≤ a → a ≡ g → m ≤ o → n ≤ o + g
+            near n m o a g i j l = omega arith
 
-      young_at : IsRising past.events → (q : ℕ) (x : Entry T) → (held b.ring.items q ≡ Some x) × (is_below (least_young now b.age None b.ring.items) q ≡ false) → now ≤ x.moment + past.age
-      young_at r q x k = pick (least_young now b.age None b.ring.items) refl k.1 where
-        pick : (o : Option ℕ) → least_young now b.age None b.ring.items ≡ o → is_below o q ≡ false → now ≤ x.moment + past.age
-        pick None is t = absurd (let not_so : true ≡ false = t in cc)
-        pick (Some c) is t =
-            ⊎_elim
-            (λ (none : None ≡ Some c). absurd (let not_so : None ≡ Some c = none in cc))
-            (λ (y : IsYoungAt now b.age b.ring.items c).
-            let le_q : c ≤ q = grind (arith, nat_tests) in
-            let mine : held b.ring.items y.0.position ≡ Some y.0 = in_held b.ring.items y.0 h.in_place y.1 in
-            ⊎_elim
-            (λ (lt : c < q).
-            let order : y.0.moment ≤ x.moment = rising_order past.events y.0.position q (y.0.moment, y.0.value) (x.moment, x.value) r (h.true_to y.0.position y.0 mine) (h.true_to q x k.0) (subst (λ (i : ℕ). i < q) (sym y.3) lt) in
-            near now y.0.moment x.moment b.age past.age y.2 h.ages order)
-            (λ (ge : q ≤ c).
-            let at : y.0.position ≡ q = here y.0.position c q y.3 le_q ge in
-            let both : Some y.0 ≡ Some x = sym mine ∙ ap (λ (i : ℕ). held b.ring.items i) at ∙ k.0 in
-            let eq : y.0 ≡ x = cc in
-            near now y.0.moment x.moment b.age past.age y.2 h.ages (same y.0.moment x.moment (ap (λ (z : Entry T). z.moment) eq)))
-            (cases_lt c q))
-            (least_at now b.age None b.ring.items c is) where
-              near : (n m o a g : ℕ) → n - m ≤ a → a ≡ g → m ≤ o → n ≤ o + g
-              near n m o a g i j l = omega arith
+            here : (p q : ℕ) → p ≤ q → q ≤ p → p ≡ q
+            here p q i j = omega arith
 
-              here : (p c q : ℕ) → p ≡ c → c ≤ q → q ≤ c → p ≡ q
-              here p c q i j l = omega arith
+            same : (m o : ℕ) → m ≡ o → m ≤ o
+            same m o i = omega arith
 
-              same : (m o : ℕ) → m ≡ o → m ≤ o
-              same m o i = omega arith
+pub stands_bounded : {T : Type 0} (b : EvictingBuffer T) (past : Past T) → StandsFor b past → IsBounded b
+stands_bounded b past h = record { in_place = h.in_place; low = h.low; high = h.high }
 
 -- a buffer that was cleared, or made
 none_kept : {T : Type 0} (ring : List (Option (Entry T))) (q : ℕ) (x : Entry T) → held (map (kept_from None) ring) q ≡ Some x → ⊥
 none_kept ring q x is = let t = dropped_from None ring q x is in let not_so : true ≡ false = t.1 in cc
 
-pub cleared_stands : {T : Type 0} (b b' : EvictingBuffer T) (past : Past T) → b'.ring.items ≡ map (kept_from None) b.ring.items → b' ≡ record b { ring = b'.ring; last = None; mark = None; timeout = 0 } → StandsFor b past → StandsFor b' (emptied past)
+pub cleared_stands : {T : Type 0} (b b' : EvictingBuffer T) (past : Past T) → b'.ring.items ≡ map (kept_from None) b.ring.items → b' ≡ record b { ring = b'.ring; last = None; mark = None; low = b'.low; high = b'.high; timeout = 0 } → StandsFor b past → StandsFor b' (emptied past)
 cleared_stands {T} b b' past items rest h = record {
   ages = ap (λ (o : EvictingBuffer T). o.age) rest ∙ h.ages;
   sized = ap (λ (o : EvictingBuffer T). o.size) rest ∙ h.sized;
@@ -398,17 +493,8 @@ cleared_stands {T} b b' past items rest h = record {
   keeps = λ q t v is. absurd (let not_so : None ≡ Some (t, v) = is in cc);
   newest = ap (λ (o : EvictingBuffer T). o.last) rest;
   marked = λ m is. absurd (let not_so : None ≡ Some m = sym (ap (λ (o : EvictingBuffer T). o.mark) rest) ∙ is in cc);
+  inert = λ z. rw (items, length-map) (h.inert z);
+  low = λ q x is. absurd (none_kept b.ring.items q x (ap (λ (r : List (Option (Entry T))). held r q) (sym items) ∙ is));
+  high = λ q x is. absurd (none_kept b.ring.items q x (ap (λ (r : List (Option (Entry T))). held r q) (sym items) ∙ is));
   young = λ r q x is. omega arith;
 }
-
--- what is held under a position
-pub held_as : {T : Type 0} (b : EvictingBuffer T) (past : Past T) (p : ℕ) → StandsFor b past → HeldAs past p (option_map (λ e. e.value) (held b.ring.items p))
-held_as {T} b past p h = pick (held b.ring.items p) refl where
-  pick : (o : Option (Entry T)) → held b.ring.items p ≡ o → HeldAs past p (option_map (λ e. e.value) o)
-  pick None is = λ t v last. ⊎_elim
-      (λ (k : held b.ring.items p ≡ Some (record { position = p; moment = t; value = v })). absurd (none_some (record { position = p; moment = t; value = v }) (sym is ∙ k)))
-      (λ (k : MayGo past p t). k)
-      (h.keeps p t v last) where
-        none_some : (e : Entry T) → None ≡ Some e → ⊥
-        none_some e k = cc
-  pick (Some e) is = (e.moment, h.true_to p e is, λ r. h.young r p e is)

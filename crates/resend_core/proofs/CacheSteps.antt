@@ -5,28 +5,25 @@ use Rattle.std.proofs.lemmas.Bool.Decides.{nat_tests}
 use Rattle.std.proofs.lemmas.List.{get_or-set_other, get_or-set_same, get_or-replicate, length-set}
 use Rattle.std.proofs.lemmas.Bool.{cases_eq}
 use Rattle.resend_core.specs.declared.rtx_cache.RtxCache.{RtxCache}
-use Rattle.resend_core.specs.declared.rtx_cache_buf.EvictingBuffer.{EvictingBuffer}
-use Rattle.resend_core.specs.ResendStore.{Event, pushed, evicted, Past, with_event, emptied, latter, next_position, latest_eviction, InOrderFrom, IsInOrder, AllStored, HeldAs}
-use Rattle.resend_core.specs.EvictingBuffer.{StandsFor as BufferStandsFor, value_at, IsPushed}
+use Rattle.resend_core.specs.ResendStore.{Event, pushed, evicted, Past, with_event, emptied, latter, next_position, latest_eviction, InOrderFrom, IsInOrder, AllStored, HeldAs, IsPushedInto}
 use Rattle.resend_core.specs.RtxCache.{number_in, last_of_class, greatest_below, packet_at, made_for, StandsFor, IsCached, CachedOnce, NoneKept}
 use Rattle.resend_core.proofs.EventLaws.{last_by-push}
-use Rattle.resend_core.proofs.BufferLaws.{held_as}
 use Rattle.resend_core.proofs.CacheLaws.{class_of_last, last_after, none_below, some_below, below_same}
 
 no_number : {P : Type 0} (size : P → ℕ) (numbers : List (Option ℕ)) → numbers ≡ replicate 80 None → (k : ℕ) → k < 80 → slice_index_or numbers k None ≡ None
 no_number size numbers blank k lt = ap (λ (l : List (Option ℕ)). slice_index_or l k None) blank ∙ get_or-replicate 80 k None None lt
 
-pub made_stands : {P : Type 0} (size : P → ℕ) (c : RtxCache P) (packets age room : ℕ) → c.numbers ≡ replicate 80 None → room ≡ min packets 10
-    → BufferStandsFor c.packets (record { initial = room; age = age; greatest = packets; events = [] }) → StandsFor size c (made_for packets age)
-made_stands {P} size c packets age room blank is b = record {
-  buffer = subst (λ (n : ℕ). BufferStandsFor c.packets (record { initial = n; age = age; greatest = packets; events = [] })) is b;
+pub made_stands : {P S : Type 0} (stands : S → Past P → Type 0) (size : P → ℕ) (c : RtxCache P S) (packets age room : ℕ) → c.numbers ≡ replicate 80 None → room ≡ min packets 10
+    → stands c.packets (record { initial = room; age = age; greatest = packets; events = [] }) → StandsFor stands size c (made_for packets age)
+made_stands {P} stands size c packets age room blank is b = record {
+  store = subst (λ (n : ℕ). stands c.packets (record { initial = n; age = age; greatest = packets; events = [] })) is b;
   long = rw blank refl;
   classes = λ k lt. no_number size c.numbers blank k lt;
   ordered = λ o roomy aging. tt;
 }
 
-pub emptied_stands : {P : Type 0} (size : P → ℕ) (c : RtxCache P) (past : Past P) → c.numbers ≡ replicate 80 None → BufferStandsFor c.packets (emptied past) → StandsFor size c (emptied past)
-emptied_stands size c past blank b = record { buffer = b; long = rw blank refl; classes = λ k lt. no_number size c.numbers blank k lt; ordered = λ o roomy aging. tt }
+pub emptied_stands : {P S : Type 0} (stands : S → Past P → Type 0) (size : P → ℕ) (c : RtxCache P S) (past : Past P) → c.numbers ≡ replicate 80 None → stands c.packets (emptied past) → StandsFor stands size c (emptied past)
+emptied_stands stands size c past blank b = record { store = b; long = rw blank refl; classes = λ k lt. no_number size c.numbers blank k lt; ordered = λ o roomy aging. tt }
 
 -- events in order
 order_front : {P : Type 0} (a b : ℕ) (es : List (Event P)) (e : Event P) → InOrderFrom a b (es ++ e ∷ []) → InOrderFrom a b es
@@ -82,14 +79,14 @@ class_after {P} size numbers es n t p s k long lt is =
           ∙ last_by-push (number_in size k) es (pushed n t p s)
           ∙ ap (λ (c : Bool). latter (last_of_class size k es) (cond c (Some n) None)) test
 
-pub cached_stands : {P : Type 0} (size : P → ℕ) (c c' : RtxCache P) (b : EvictingBuffer P) (past : Past P) (n t : ℕ) (p : P) → IsPushed past n t p b
-    → ((after : Past P) → BufferStandsFor b after → BufferStandsFor c'.packets (with_event after (evicted t)))
-    → c'.numbers ≡ slice_set c.numbers (size p / 25) (Some n) → StandsFor size c past → IsCached size past n t p c'
-cached_stands {P} size c c' b past n t p push evicts numbers h = (
+pub cached_stands : {P S : Type 0} (stands : S → Past P → Type 0) (size : P → ℕ) (c c' : RtxCache P S) (b : S) (past : Past P) (n t : ℕ) (p : P) → IsPushedInto stands past n t p b
+    → ((after : Past P) → stands b after → stands c'.packets (with_event after (evicted t)))
+    → c'.numbers ≡ slice_set c.numbers (size p / 25) (Some n) → StandsFor stands size c past → IsCached stands size past n t p c'
+cached_stands {P} stands size c c' b past n t p push evicts numbers h = (
   push.0,
   push.1,
   record {
-    buffer = evicts (with_event past (pushed n t p push.0)) push.2;
+    store = evicts (with_event past (pushed n t p push.0)) push.2;
     long = ap length numbers ∙ length-set c.numbers (size p / 25) (Some n) ∙ h.long;
     classes = λ k lt. ap (λ (l : List (Option ℕ)). slice_index_or l k None) numbers ∙ class_after size c.numbers past.events n t p push.0 k h.long lt (h.classes k lt);
     ordered = λ o roomy aging. all o roomy aging;
@@ -115,38 +112,38 @@ missed_step {P} f (suc k) some is =
     ap (λ (i : ℕ). greatest_below f i) at ∙ sym (ap (λ (o : Option P). latter (greatest_below f k) o) (ap f (sym at) ∙ is))
 
 -- the packet for a size
-pub choice_is : {P : Type 0} (size : P → ℕ) (c : RtxCache P) (past : Past P) (class : ℕ) → class ≤ 80 → StandsFor size c past
-    → greatest_below (λ k. option_and_then (packet_at c) (slice_index_or c.numbers k None)) class ≡ greatest_below (λ k. option_and_then (packet_at c) (last_of_class size k past.events)) class
-choice_is size c past class le h =
-    below_same (λ k. option_and_then (packet_at c) (slice_index_or c.numbers k None)) (λ k. option_and_then (packet_at c) (last_of_class size k past.events)) class
-    (λ k lt. ap (λ (o : Option ℕ). option_and_then (packet_at c) o) (h.classes k (omega arith)))
+pub choice_is : {P S : Type 0} (stands : S → Past P → Type 0) (value_at : S → ℕ → Option P) (size : P → ℕ) (c : RtxCache P S) (past : Past P) (class : ℕ) → class ≤ 80 → StandsFor stands size c past
+    → greatest_below (λ k. option_and_then (packet_at value_at c) (slice_index_or c.numbers k None)) class ≡ greatest_below (λ k. option_and_then (packet_at value_at c) (last_of_class size k past.events)) class
+choice_is stands value_at size c past class le h =
+    below_same (λ k. option_and_then (packet_at value_at c) (slice_index_or c.numbers k None)) (λ k. option_and_then (packet_at value_at c) (last_of_class size k past.events)) class
+    (λ k lt. ap (λ (o : Option ℕ). option_and_then (packet_at value_at c) o) (h.classes k (omega arith)))
 
 then_some : {P : Type 0} (f : ℕ → Option P) (o : Option ℕ) (p : P) → option_and_then f o ≡ Some p → (n : ℕ) × (o ≡ Some n) × (f n ≡ Some p)
 then_some f None p h = absurd (let not_so : None ≡ Some p = h in cc)
 then_some f (Some n) p h = (n, refl, h)
 
-held_packet : {P : Type 0} (size : P → ℕ) (c : RtxCache P) (past : Past P) (n : ℕ) → StandsFor size c past → HeldAs past n (packet_at c n)
-unfolding packet_at value_at
-held_packet size c past n h = held_as c.packets past n h.buffer
+held_packet : {P S : Type 0} (stands : S → Past P → Type 0) (value_at : S → ℕ → Option P) → ((s : S) (past : Past P) (p : ℕ) → stands s past → HeldAs past p (value_at s p)) → (size : P → ℕ) (c : RtxCache P S) (past : Past P) (n : ℕ) → StandsFor stands size c past → HeldAs past n (packet_at value_at c n)
+unfolding packet_at
+held_packet stands value_at holds size c past n h = holds c.packets past n h.store
 
-pub smaller_is : {P : Type 0} (size : P → ℕ) (c : RtxCache P) (past : Past P) (class : ℕ) (p : P) → StandsFor size c past → CachedOnce past.events
-    → greatest_below (λ k. option_and_then (packet_at c) (last_of_class size k past.events)) class ≡ Some p → size p / 25 < class
-smaller_is {P} size c past class p h once is =
-    let w = some_below (λ k. option_and_then (packet_at c) (last_of_class size k past.events)) class p is in
-    let at = then_some (packet_at c) (last_of_class size w.0 past.events) p w.2 in
-    let held : HeldAs past at.0 (Some p) = subst (λ (o : Option P). HeldAs past at.0 o) at.2 (held_packet size c past at.0 h) in
+pub smaller_is : {P S : Type 0} (stands : S → Past P → Type 0) (value_at : S → ℕ → Option P) → ((s : S) (past : Past P) (p : ℕ) → stands s past → HeldAs past p (value_at s p)) → (size : P → ℕ) (c : RtxCache P S) (past : Past P) (class : ℕ) (p : P) → StandsFor stands size c past → CachedOnce past.events
+    → greatest_below (λ k. option_and_then (packet_at value_at c) (last_of_class size k past.events)) class ≡ Some p → size p / 25 < class
+smaller_is {P} stands value_at holds size c past class p h once is =
+    let w = some_below (λ k. option_and_then (packet_at value_at c) (last_of_class size k past.events)) class p is in
+    let at = then_some (packet_at value_at c) (last_of_class size w.0 past.events) p w.2 in
+    let held : HeldAs past at.0 (Some p) = subst (λ (o : Option P). HeldAs past at.0 o) at.2 (held_packet stands value_at holds size c past at.0 h) in
     let same : size p / 25 ≡ w.0 = class_of_last size w.0 at.0 (held.0, p) past.events once at.1 held.1 in
     lower (size p / 25) w.0 class same w.1 where
       lower : (a b c : ℕ) → a ≡ b → b < c → a < c
       lower a b c i j = omega arith
 
-pub none_is : {P : Type 0} (size : P → ℕ) (c : RtxCache P) (past : Past P) (class : ℕ) → StandsFor size c past → IsInOrder past.events → 0 < past.initial → 0 < past.age
-    → greatest_below (λ k. option_and_then (packet_at c) (last_of_class size k past.events)) class ≡ None → NoneKept size past class
-none_is {P} size c past class h order roomy aging none = λ n t p under lt.
+pub none_is : {P S : Type 0} (stands : S → Past P → Type 0) (value_at : S → ℕ → Option P) → ((s : S) (past : Past P) (p : ℕ) → stands s past → HeldAs past p (value_at s p)) → (size : P → ℕ) (c : RtxCache P S) (past : Past P) (class : ℕ) → StandsFor stands size c past → IsInOrder past.events → 0 < past.initial → 0 < past.age
+    → greatest_below (λ k. option_and_then (packet_at value_at c) (last_of_class size k past.events)) class ≡ None → NoneKept size past class
+none_is {P} stands value_at holds size c past class h order roomy aging none = λ n t p under lt.
     let w = last_after size n 0 0 (t, p) past.events order (h.ordered order roomy aging) under in
-    let not_there : option_and_then (packet_at c) (last_of_class size (size p / 25) past.events) ≡ None = none_below (λ k. option_and_then (packet_at c) (last_of_class size k past.events)) (size p / 25) class none lt in
-    let gone : packet_at c w.number ≡ None = sym (ap (λ (o : Option ℕ). option_and_then (packet_at c) o) w.last) ∙ not_there in
-    let held : HeldAs past w.number None = subst (λ (o : Option P). HeldAs past w.number o) gone (held_packet size c past w.number h) in
+    let not_there : option_and_then (packet_at value_at c) (last_of_class size (size p / 25) past.events) ≡ None = none_below (λ k. option_and_then (packet_at value_at c) (last_of_class size k past.events)) (size p / 25) class none lt in
+    let gone : packet_at value_at c w.number ≡ None = sym (ap (λ (o : Option ℕ). option_and_then (packet_at value_at c) o) w.last) ∙ not_there in
+    let held : HeldAs past w.number None = subst (λ (o : Option P). HeldAs past w.number o) gone (held_packet stands value_at holds size c past w.number h) in
     ⊎_elim
     (λ (old : w.later.stored.0 + past.age < latest_eviction past.events). inl (older t w.later.stored.0 past.age (latest_eviction past.events) w.later.late old))
     (λ (far : w.number + max past.initial past.greatest ≤ _). inr (below n w.number (max past.initial past.greatest) _ w.later.above far))

@@ -108,10 +108,20 @@ revalued_stands {T} b past e w some slot h =
       keeps = λ q t v is. keeps_at q t v is;
       newest = h.newest ∙ sym (last_same stored_at e.position w past.events (at_same e.position w));
       marked = λ m is. subst (λ (n : ℕ). m ≤ n) (sym (greatest_same after_pushed e.position w past.events (after_same e.position w))) (h.marked m is);
+      inert = λ z. length-put b.ring.items new ∙ h.inert z;
+      low = λ q x is. bound (λ n. b.low ≤ n) q x is (h.low e.position e (slot_held b.ring.items e slot)) (λ k. h.low q x k);
+      high = λ q x is. bound (λ n. n ≤ b.high) q x is (h.high e.position e (slot_held b.ring.items e slot)) (λ k. h.high q x k);
       young = λ r q x is. subst (λ (n : ℕ). n ≤ x.moment + past.age) (sym (greatest_same evicted_at e.position w past.events (evicted_same e.position w))) (young_at (rising_same e.position w past.events r) q x is);
     } where
       new : Entry T
       new = record e { value = w }
+
+      bound : (Q : ℕ → Type 0) (q : ℕ) (x : Entry T) → held (put_in b.ring.items (record e { value = w })) q ≡ Some x → Q e.position → (held b.ring.items q ≡ Some x → Q q) → Q q
+      bound Q q x is here there =
+          ⊎_elim
+          (λ (k : (record e { value = w } ≡ x) × (e.position ≡ q)). subst Q k.1 here)
+          (λ (k : held b.ring.items q ≡ Some x). there k)
+          (held_put_from b.ring.items (record e { value = w }) q x some is)
 
       mine : held b.ring.items e.position ≡ Some e
       mine = slot_held b.ring.items e slot

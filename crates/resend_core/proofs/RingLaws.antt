@@ -1,6 +1,6 @@
 -- What a ring holds after an entry was put in, after it grew and after entries were dropped.
 use Rattle.std.proofs.Common.{◌≡◌, ◌≢◌, ℕ, zero, suc, ◌+◌, ◌-◌, ◌%◌, ◌<◌, ◌≤◌, Bool, true, false, cond, eqb, leb, List, [], ◌∷◌, refl, sym, ap, ◌∙◌, subst, arith, length, replicate, map, drop, inl, inr, add-one, ⊎_elim, ◌⊎◌, Option, Some, None}
-use Rattle.std.specs.Prelude.{◌||◌, ◌&&◌, nat_eq, slice_index_or, slice_set}
+use Rattle.std.specs.Prelude.{◌||◌, nat_eq, slice_index_or, slice_set}
 use Rattle.std.specs.List.{list_any}
 use Rattle.std.proofs.lemmas.Bool.Decides.{nat_tests}
 use Rattle.std.proofs.lemmas.List.{get_or-set_other, get_or-set_same, get_or-replicate, get_or_past, length-set, length-replicate, length-map}
@@ -8,7 +8,8 @@ use Rattle.std.proofs.Math.Seq.{drop-cons}
 use Rattle.std.proofs.Math.ListN.{get_or-map}
 use Rattle.std.proofs.lemmas.Bool.{cases_eq, cases_lt}
 use Rattle.resend_core.specs.declared.ring.Entry.{Entry}
-use Rattle.resend_core.specs.Ring.{matching, slot_of, held, yields_below, put_in, settled, settled_all, clashes, lower, least_young, is_below, is_above, raise, kept_from, IsIn, IsInPlace}
+use Rattle.resend_core.specs.Ring.{matching, slot_of, held, yields_below, put_in, settled, settled_all, clashes, lower, least_young, is_below, kept_from, IsIn, IsInPlace}
+pub use Rattle.resend_core.specs.HeldLaws.{matching_same, matching_some, held_slot, slot_held, length-put, slot_put_same, held_put_same, held_put_other}
 
 pub in_at : {T : Type 0} (ring : List (Option (Entry T))) (i : ℕ) (e : Entry T) → slice_index_or ring i None ≡ Some e → IsIn e ring
 in_at [] i e h = absurd (let no : None ≡ Some e = h in cc)
@@ -20,22 +21,6 @@ at_in [] e h = absurd h
 at_in (o ∷ os) e (inl h) = (0, h)
 at_in (o ∷ os) e (inr h) = let r = at_in os e h in (suc r.0, r.1)
 
-pub matching_same : {T : Type 0} (e : Entry T) → matching e.position (Some e) ≡ Some e
-matching_same e = grind (arith, nat_tests)
-
-pub matching_some : {T : Type 0} (q : ℕ) (o : Option (Entry T)) (e : Entry T) → matching q o ≡ Some e → (o ≡ Some e) × (e.position ≡ q)
-matching_some q None e h = absurd (let no : None ≡ Some e = h in cc)
-matching_some {T} q (Some f) e h = pick (eqb f.position q) refl h where
-  pick : (b : Bool) → eqb f.position q ≡ b → cond b (Some f) None ≡ Some e → (Some f ≡ Some e) × (e.position ≡ q)
-  pick false t k = absurd (let no : None ≡ Some e = k in cc)
-  pick true t k = (k, let same : f ≡ e = cc in let at : f.position ≡ q = grind (arith, nat_tests) in ap (λ (x : Entry T). x.position) (sym same) ∙ at)
-
-pub held_slot : {T : Type 0} (ring : List (Option (Entry T))) (q : ℕ) (e : Entry T) → held ring q ≡ Some e → (slot_of ring q ≡ Some e) × (e.position ≡ q)
-held_slot ring q e h = matching_some q (slot_of ring q) e h
-
-pub slot_held : {T : Type 0} (ring : List (Option (Entry T))) (e : Entry T) → slot_of ring e.position ≡ Some e → held ring e.position ≡ Some e
-slot_held ring e h = rw h (matching_same e)
-
 pub held_in : {T : Type 0} (ring : List (Option (Entry T))) (q : ℕ) (e : Entry T) → held ring q ≡ Some e → IsIn e ring
 held_in ring q e h = in_at ring (q % length ring) e (held_slot ring q e h).0
 
@@ -46,24 +31,6 @@ in_held ring e p h =
     slot_held ring e (rw is at.1)
 
 -- an entry was put in
-pub length-put : {T : Type 0} (ring : List (Option (Entry T))) (e : Entry T) → length (put_in ring e) ≡ length ring
-length-put ring e = length-set ring (e.position % length ring) (Some e)
-
-slot_put_same : {T : Type 0} (ring : List (Option (Entry T))) (e : Entry T) (q : ℕ) → 0 < length ring → q % length ring ≡ e.position % length ring → slot_of (put_in ring e) q ≡ Some e
-slot_put_same ring e q some is =
-    let within : e.position % length ring < length ring = omega arith in
-    rw (length-put ring e, is) (get_or-set_same ring (e.position % length ring) (Some e) None within)
-
-slot_put_other : {T : Type 0} (ring : List (Option (Entry T))) (e : Entry T) (q : ℕ) → q % length ring ≢ e.position % length ring → slot_of (put_in ring e) q ≡ slot_of ring q
-slot_put_other ring e q far =
-    rw (length-put ring e) (get_or-set_other ring (e.position % length ring) (q % length ring) (Some e) None far)
-
-pub held_put_same : {T : Type 0} (ring : List (Option (Entry T))) (e : Entry T) → 0 < length ring → held (put_in ring e) e.position ≡ Some e
-held_put_same ring e some = slot_held (put_in ring e) e (slot_put_same ring e e.position some refl)
-
-pub held_put_other : {T : Type 0} (ring : List (Option (Entry T))) (e : Entry T) (q : ℕ) → q % length ring ≢ e.position % length ring → held (put_in ring e) q ≡ held ring q
-held_put_other ring e q far = ap (λ o. matching q o) (slot_put_other ring e q far)
-
 pub held_put_from : {T : Type 0} (ring : List (Option (Entry T))) (e : Entry T) (q : ℕ) (x : Entry T) → 0 < length ring → held (put_in ring e) q ≡ Some x → ((e ≡ x) × (e.position ≡ q)) ⊎ (held ring q ≡ Some x)
 held_put_from {T} ring e q x some h =
     ⊎_elim
@@ -416,10 +383,3 @@ least_le {T} now age first (Some f ∷ slots) e (inl h) y =
     (r.0, ap (λ (b : Bool). least_young now age (cond b (lower first f.position) first) slots) test ∙ ap (λ (o : Option ℕ). least_young now age o slots) w.1 ∙ r.1, below r.0 w.0 f.position e.position r.2 w.2 at) where
       below : (a b c d : ℕ) → a ≤ b → b ≤ c → c ≡ d → a ≤ d
       below a b c d x y z = omega arith
-
-pub raise_from : {T : Type 0} (last : Option ℕ) (slot : Option (Entry T)) (first : Option ℕ) (p : ℕ) → raise last slot first ≡ Some p → (last ≡ Some p) ⊎ ((e : Entry T) × (slot ≡ Some e) × (e.position ≡ p))
-raise_from last None first p h = inl h
-raise_from {T} last (Some e) first p h = pick (is_below first e.position && is_above last e.position) h where
-  pick : (b : Bool) → cond b (Some e.position) last ≡ Some p → (last ≡ Some p) ⊎ ((f : Entry T) × (Some e ≡ Some f) × (f.position ≡ p))
-  pick true k = inr (e, refl, cc)
-  pick false k = inl k

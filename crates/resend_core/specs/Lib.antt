@@ -1,4 +1,5 @@
 pub mod EvictingBuffer
+pub mod HeldLaws
 pub mod Lending
 pub mod ResendStore
 pub mod Ring

@@ -78,6 +78,11 @@ abbrev pub raise : {T : Type 0} → Option ℕ → Option (Entry T) → Option �
 raise last None first = last
 raise last (Some e) first = if is_below first e.position && is_above last e.position then Some e.position else last
 
+-- the greatest position of the entries below the first, of any where there is none, and of one more
+abbrev pub raised_all : {T : Type 0} → Option ℕ → List (Option (Entry T)) → Option ℕ → Option ℕ
+raised_all last [] first = last
+raised_all last (slot ∷ slots) first = raised_all (raise last slot first) slots first
+
 abbrev pub IsIn : {T : Type 0} → Entry T → List (Option (Entry T)) → Type 0
 IsIn e [] = ⊥
 IsIn e (slot ∷ slots) = (slot ≡ Some e) ⊎ IsIn e slots

@@ -3,7 +3,6 @@ use Rattle.std.specs.Prelude.{◌≡◌, ℕ, zero, suc, ◌/◌, ◌<◌, Bool,
 use Rattle.std.specs.List.{list_any}
 use Rattle.resend_core.specs.declared.rtx_cache.RtxCache.{RtxCache}
 use Rattle.resend_core.specs.ResendStore.{Event, pushed, evicted, Past, with_event, MustStore, latter, last_by, last_under, IsInOrder, AllStored, MayGo}
-use Rattle.resend_core.specs.EvictingBuffer.{StandsFor as BufferStandsFor, value_at}
 
 -- a cache that was made for so many packets, with room for ten of them at first
 abbrev pub made_for : {P : Type 0} → ℕ → ℕ → Past P
@@ -24,19 +23,19 @@ greatest_below f zero = None
 greatest_below f (suc class) = latter (greatest_below f class) (f class)
 
 -- the packet that is held under a number
-unfoldable pub packet_at : {P : Type 0} → RtxCache P → ℕ → Option P
-packet_at c n = value_at c.packets n
+unfoldable pub packet_at : {P S : Type 0} → (S → ℕ → Option P) → RtxCache P S → ℕ → Option P
+packet_at value_at c n = value_at c.packets n
 
 -- the cache was made with these limits, and this happened to it since it was made or cleared
-pub record StandsFor {P : Type 0} (size : P → ℕ) (c : RtxCache P) (past : Past P) : Type 0 where
-  pub buffer : BufferStandsFor c.packets past
+pub record StandsFor {P S : Type 0} (stands_for : S → Past P → Type 0) (size : P → ℕ) (c : RtxCache P S) (past : Past P) : Type 0 where
+  pub store : stands_for c.packets past
   pub long : length c.numbers ≡ 80
   pub classes : (k : ℕ) → k < 80 → slice_index_or c.numbers k None ≡ last_of_class size k past.events
   pub ordered : IsInOrder past.events → 0 < past.initial → 0 < past.age → AllStored past.events
 
 -- a packet was cached: it was pushed, and stored where it must be, and too old ones went
-abbrev pub IsCached : {P : Type 0} → (P → ℕ) → Past P → ℕ → ℕ → P → RtxCache P → Type 0
-IsCached size past n t p c = (stored : Bool) × (MustStore past n t → stored ≡ true) × StandsFor size c (with_event (with_event past (pushed n t p stored)) (evicted t))
+abbrev pub IsCached : {P S : Type 0} → (S → Past P → Type 0) → (P → ℕ) → Past P → ℕ → ℕ → P → RtxCache P S → Type 0
+IsCached stands_for size past n t p c = (stored : Bool) × (MustStore past n t → stored ≡ true) × StandsFor stands_for size c (with_event (with_event past (pushed n t p stored)) (evicted t))
 
 -- no number was pushed twice
 abbrev pub is_push_of : {P : Type 0} → ℕ → Event P → Bool

@@ -7,8 +7,6 @@ mod ring;
 mod rtx_cache;
 mod rtx_cache_buf;
 mod size_classes;
-#[cfg(test)]
-mod tests;
 
 pub use resend_store::ResendStore;
 pub use rtx_cache::{Cached, RtxCache};

@@ -1,7 +1,7 @@
-ghost use Rattle.std.specs.Prelude.{◌≡◌, ℕ, Bool, Option, Some, None, true, is_some, option_and_then, OnSome, OnOk, OnErr, IfOk};
+ghost use Rattle.std.specs.Prelude.{◌≡◌, ℕ, Bool, Option, Some, None, true, is_some, option_and_then, OnSome, OnOk, OnErr, IfOk, IsOk};
 ghost use Rattle.std.specs.Option.{option_copied, option_copied_mut};
 ghost use Rattle.std.specs.Borrow.{sem, LendsIf};
-ghost use Rattle.resend_core.specs.ResendStore.{Past, evicted, with_event, emptied, made, revalued, last_position, HeldAs, IsPushedInto};
+ghost use Rattle.resend_core.specs.ResendStore.{Past, evicted, with_event, emptied, made, revalued, last_position, HeldAs, IsPushedInto, IsPassedOver, MarksPush, MarksEviction};
 
 use crate::rtx_cache_buf::EvictingBuffer;
 use media_base::{Duration, Instant};
@@ -18,6 +18,10 @@ pub trait ResendStore<T: Drop>: Drop {
     /// It, with another value held under a position.
     ghost with_value: { Self → ℕ → T → Self };
 
+    /// The position below which no push is looked at, where there is one: the first that was pushed,
+    /// then one above the greatest that was dropped for its age.
+    ghost mark: { Self → Option ℕ };
+
     /// One with room for so many values at first, and in the end for the greatest number, which holds
     /// no value longer than the age.
     fn new(
@@ -26,20 +30,26 @@ pub trait ResendStore<T: Drop>: Drop {
         max_age: Duration,
         max_size: usize,
     ) -> Result<Self, AllocError>
-        ensures { IfOk result (λ s. stands_for s (made initial_size max_age max_size)) };
+        ensures stands { IfOk result (λ s. stands_for s (made initial_size max_age max_size)) }
+        ensures marks { IfOk result (λ s. mark s ≡ None) };
 
-    /// Stores a value under its position, or passes over it. Without memory nothing changes.
+    /// Stores a value under its position, or passes over it: where values are held for no time, where
+    /// an eviction came at a later moment, and below the mark. Without memory nothing changes.
     fn push(&mut self, position: u64, timestamp: Instant, value: T) -> Result<(), AllocError>
         ensures ok { OnOk result ((past : Past T) → stands_for self.old past → IsPushedInto stands_for past position timestamp value self.new) }
+        ensures passed { (past : Past T) → stands_for self.old past → IsPassedOver (mark self.old) past position timestamp → (self.new ≡ self.old) × IsOk result }
+        ensures marked { OnOk result ((past : Past T) → stands_for self.old past → MarksPush (value_at self.old) (value_at self.new) past position timestamp (mark self.old) (mark self.new)) }
         ensures err { OnErr result (self.new ≡ self.old) };
 
     /// Drops values that are older than the age.
     fn maybe_evict(&mut self, now: Instant)
-        ensures { (past : Past T) → stands_for self.old past → stands_for self.new (with_event past (evicted now)) };
+        ensures stands { (past : Past T) → stands_for self.old past → stands_for self.new (with_event past (evicted now)) }
+        ensures marks { (past : Past T) → stands_for self.old past → MarksEviction (value_at self.old) (value_at self.new) (mark self.old) (mark self.new) };
 
     /// Drops all values.
     fn clear(&mut self)
-        ensures { (past : Past T) → stands_for self.old past → stands_for self.new (emptied past) };
+        ensures stands { (past : Past T) → stands_for self.old past → stands_for self.new (emptied past) }
+        ensures marks { mark self.new ≡ None };
 
     /// The value of a position, where it is held.
     fn get(&self, position: u64) -> Option<&T>
@@ -63,16 +73,34 @@ pub trait ResendStore<T: Drop>: Drop {
     /// The value of the position that was stored last, where it is held.
     fn last(&self) -> Option<&T>
         ensures { (past : Past T) → stands_for self.now past → option_copied result ≡ option_and_then (value_at self.now) (last_position past.events) };
+
+    /// What is held under a position is what the past lets be held.
+    ghost holds: { (s : Self) (past : Past T) (p : ℕ) → stands_for s past → HeldAs past p (value_at s p) };
+
+    /// Another value under a position where one is held is held there.
+    ghost value_here: { (s : Self) (p : ℕ) (v w : T) → value_at s p ≡ Some v → value_at (with_value s p w) p ≡ Some w };
+
+    /// Under other positions it changes nothing.
+    ghost value_other: { (s : Self) (p q : ℕ) (v w : T) → value_at s p ≡ Some v → (q ≡ p → ⊥) → value_at (with_value s p w) q ≡ value_at s q };
 }
 
 impl<T: Drop> ResendStore<T> for EvictingBuffer<T> {
     ghost use Rattle.resend_core.specs.EvictingBuffer.{StandsFor, value_at as value_of, with_value as with_value_at};
+    ghost use Rattle.resend_core.specs.HeldLaws.{held_as, value_here as here, value_other as other};
 
     ghost stands_for = { StandsFor };
 
     ghost value_at = { value_of };
 
     ghost with_value = { with_value_at };
+
+    ghost mark = { λ b. b.mark };
+
+    ghost holds = { held_as };
+
+    ghost value_here = { here };
+
+    ghost value_other = { other };
 
     fn new(
         alloc: Global,

@@ -1,6 +1,6 @@
-ghost use Rattle.std.specs.Prelude.{◌≡◌, ℕ, ◌<◌, ◌≤◌, ◌⊎◌, ◌%◌, ◌∷◌, [], List, Option, Some, None, false, map, max, replicate, length, IfOk, IfSome, option_map, is_some};
+ghost use Rattle.std.specs.Prelude.{◌≡◌, ◌<◌, ◌≤◌, ◌⊎◌, ◌%◌, ◌∷◌, [], slice_set, List, Option, Some, None, false, map, max, replicate, length, IfOk, IfSome, option_map, is_some};
 ghost use Rattle.std.specs.Option.{option_copied};
-ghost use Rattle.resend_core.specs.Ring.{slot_of, held, place_in, has_room, is_other, put_in, settled, settled_all, clashes, least_young, lower as lower_of, kept_from, raise, IsIn};
+ghost use Rattle.resend_core.specs.Ring.{slot_of, held, place_in, has_room, is_other, put_in, settled, settled_all, clashes, least_young, lower as lower_of, kept_from, raise, raised_all};
 
 use media_base::{Duration, Instant};
 use std::alloc::{AllocError, Global};
@@ -61,6 +61,15 @@ pub fn is_occupied<T>(ring: &[Option<Entry<T>>], position: u64) -> bool
         Some(entry) => entry.position != position,
         None => false,
     }
+}
+
+/// Drops the entry in the slot of a position.
+pub fn drop_at<T: Drop>(ring: &mut [Option<Entry<T>>], position: u64)
+    requires { 0 < length ring.old }
+    ensures { ring.new ≡ slice_set ring.old (position % length ring.old) None }
+{
+    let index = (position % ring.len() as u64) as usize;
+    ring[index] = None;
 }
 
 /// Puts an entry into the slot of its position.
@@ -247,7 +256,7 @@ fn raised<T>(last: Option<u64>, slot: &Option<Entry<T>>, first: Option<u64>) -> 
 
 /// The greatest position of an entry below the first, of any entry where there is none.
 pub fn last_below<T>(ring: &[Option<Entry<T>>], first: Option<u64>) -> Option<u64>
-    ensures { (p : ℕ) → result ≡ Some p → (e : Entry T) × IsIn e ring.now × (e.position ≡ p) }
+    ensures { result ≡ raised_all None ring.now first }
 {
     let mut last = None;
     for slot in ring {

@@ -3,11 +3,13 @@ ghost use Rattle.std.specs.Option.{option_copied};
 ghost use Rattle.resend_core.specs.ResendStore.{Past, emptied, last_position, HeldAs, IsInOrder};
 ghost use Rattle.resend_core.specs.RtxCache.{StandsFor, packet_at, made_for, IsCached, CachedOnce, last_of_class, greatest_below, NoneKept};
 
+use crate::resend_store::ResendStore;
 use crate::rtx_cache_buf::EvictingBuffer;
 use crate::size_classes::{CLASS_SIZE, SizeClasses};
 use media_base::{Duration, Instant};
 use rtp_base::SeqNo;
 use std::alloc::{AllocError, Global};
+use std::marker::PhantomData;
 
 /// A packet that was sent and may be sent again.
 pub trait Cached: Drop {
@@ -25,22 +27,24 @@ pub trait Cached: Drop {
 }
 
 /// Packets that were sent, each until it is too old or its room is needed (RFC 4588). They are found
-/// by number, and by size for padding.
+/// by number, and by size for padding. They are held in any store.
 #[derive(Drop)]
-pub struct RtxCache<P: Cached> {
-    packets: EvictingBuffer<P>,
+pub struct RtxCache<P: Cached, S: ResendStore<P> = EvictingBuffer<P>> {
+    packets: S,
     numbers: SizeClasses,
+    kind: PhantomData<P>,
 }
 
-impl<P: Cached> RtxCache<P> {
+impl<P: Cached, S: ResendStore<P>> RtxCache<P, S> {
     /// A cache of at most so many packets, none longer than the age.
     pub fn new(alloc: Global, max_packets: usize, max_age: Duration) -> Result<Self, AllocError>
-        ensures { IfOk result (λ c. StandsFor P.size c (made_for max_packets max_age)) }
+        ensures { IfOk result (λ c. StandsFor S.stands_for P.size c (made_for max_packets max_age)) }
     {
-        let packets = EvictingBuffer::new(alloc, max_packets.min(10), max_age, max_packets)?;
+        let packets = S::new(alloc, max_packets.min(10), max_age, max_packets)?;
         Ok(RtxCache {
             packets,
             numbers: SizeClasses::new(),
+            kind: PhantomData,
         })
     }
 
@@ -48,7 +52,7 @@ impl<P: Cached> RtxCache<P> {
     /// bytes. Without memory nothing changes.
     pub fn cache_sent_packet(&mut self, packet: P, now: Instant) -> Result<(), AllocError>
         requires { P.size packet < 2000 }
-        ensures ok { OnOk result ((past : Past P) → StandsFor P.size self.old past → IsCached P.size past (P.number packet) now packet self.new) }
+        ensures ok { OnOk result ((past : Past P) → StandsFor S.stands_for P.size self.old past → IsCached S.stands_for P.size past (P.number packet) now packet self.new) }
         ensures err { OnErr result (self.new ≡ self.old) }
     {
         let number = u64::from(packet.seq_no());
@@ -61,7 +65,7 @@ impl<P: Cached> RtxCache<P> {
 
     /// The number of the packet that was stored last.
     pub fn last_cached_seq_no(&self) -> Option<SeqNo>
-        ensures { (past : Past P) → StandsFor P.size self.now past → result ≡ last_position past.events }
+        ensures { (past : Past P) → StandsFor S.stands_for P.size self.now past → result ≡ last_position past.events }
     {
         match self.packets.last_position() {
             Some(number) => Some(SeqNo::from(number)),
@@ -72,8 +76,8 @@ impl<P: Cached> RtxCache<P> {
     /// The packet of a number, where it is held.
     #[tactic(auto, unfolding(crate::specs::RtxCache::packet_at))]
     pub fn get_cached_packet_by_seq_no(&self, seq_no: SeqNo) -> Option<&P>
-        ensures value { option_copied result ≡ packet_at self.now seq_no }
-        ensures held { (past : Past P) → StandsFor P.size self.now past → HeldAs past seq_no (option_copied result) }
+        ensures value { option_copied result ≡ packet_at S.value_at self.now seq_no }
+        ensures held { (past : Past P) → StandsFor S.stands_for P.size self.now past → HeldAs past seq_no (option_copied result) }
     {
         self.packets.get(u64::from(seq_no))
     }
@@ -82,9 +86,9 @@ impl<P: Cached> RtxCache<P> {
     /// greatest class whose packet cached last is held.
     pub fn get_cached_packet_smaller_than(&self, max_size: usize) -> Option<&P>
         requires { max_size ≤ 2000 }
-        ensures choice { (past : Past P) → StandsFor P.size self.now past → option_copied result ≡ greatest_below (λ k. option_and_then (packet_at self.now) (last_of_class P.size k past.events)) (max_size / 25) }
-        ensures smaller { (past : Past P) → StandsFor P.size self.now past → CachedOnce past.events → IfSome (option_copied result) (λ p. P.size p / 25 < max_size / 25) }
-        ensures none { (past : Past P) → StandsFor P.size self.now past → IsInOrder past.events → 0 < past.initial → 0 < past.age → IsNone (option_copied result) → NoneKept P.size past (max_size / 25) }
+        ensures choice { (past : Past P) → StandsFor S.stands_for P.size self.now past → option_copied result ≡ greatest_below (λ k. option_and_then (packet_at S.value_at self.now) (last_of_class P.size k past.events)) (max_size / 25) }
+        ensures smaller { (past : Past P) → StandsFor S.stands_for P.size self.now past → CachedOnce past.events → IfSome (option_copied result) (λ p. P.size p / 25 < max_size / 25) }
+        ensures none { (past : Past P) → StandsFor S.stands_for P.size self.now past → IsInOrder past.events → 0 < past.initial → 0 < past.age → IsNone (option_copied result) → NoneKept P.size past (max_size / 25) }
     {
         self.greatest_below(max_size / CLASS_SIZE)
     }
@@ -93,7 +97,7 @@ impl<P: Cached> RtxCache<P> {
     #[tactic(auto, using(crate::proofs::CacheSteps::found_step, crate::proofs::CacheSteps::missed_step))]
     fn greatest_below(&self, class: usize) -> Option<&P>
         requires { class ≤ 80 }
-        ensures { option_copied result ≡ greatest_below (λ k. option_and_then (packet_at self.now) (slice_index_or self.now.numbers k None)) class }
+        ensures { option_copied result ≡ greatest_below (λ k. option_and_then (packet_at S.value_at self.now) (slice_index_or self.now.numbers k None)) class }
     {
         let mut below = class;
         while below > 0 {
@@ -109,7 +113,7 @@ impl<P: Cached> RtxCache<P> {
     #[tactic(auto, unfolding(crate::specs::RtxCache::packet_at))]
     fn last_of(&self, class: usize) -> Option<&P>
         requires { class < 80 }
-        ensures { option_copied result ≡ option_and_then (packet_at self.now) (slice_index_or self.now.numbers class None) }
+        ensures { option_copied result ≡ option_and_then (packet_at S.value_at self.now) (slice_index_or self.now.numbers class None) }
     {
         match self.numbers.get(class) {
             Some(number) => self.packets.get(number),
@@ -120,14 +124,14 @@ impl<P: Cached> RtxCache<P> {
     /// The packet that was stored last, where it is held.
     #[tactic(auto, unfolding(crate::specs::RtxCache::packet_at))]
     pub fn last_packet(&self) -> Option<&P>
-        ensures { (past : Past P) → StandsFor P.size self.now past → option_copied result ≡ option_and_then (packet_at self.now) (last_position past.events) }
+        ensures { (past : Past P) → StandsFor S.stands_for P.size self.now past → option_copied result ≡ option_and_then (packet_at S.value_at self.now) (last_position past.events) }
     {
         self.packets.last()
     }
 
     /// Drops all packets.
     pub fn clear(&mut self)
-        ensures { (past : Past P) → StandsFor P.size self.old past → StandsFor P.size self.new (emptied past) }
+        ensures { (past : Past P) → StandsFor S.stands_for P.size self.old past → StandsFor S.stands_for P.size self.new (emptied past) }
     {
         self.packets.clear();
         self.numbers = SizeClasses::new();

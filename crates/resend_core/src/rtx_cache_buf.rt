@@ -1,15 +1,15 @@
-ghost use Rattle.std.specs.Prelude.{◌≡◌, ℕ, ◌+◌, ◌<◌, ◌≤◌, ◌⊎◌, Bool, [], ◌∷◌, Option, Some, None, true, max, is_some, option_and_then, length, OnSome, OnOk, OnErr, IfOk};
+ghost use Rattle.std.specs.Prelude.{◌≡◌, ℕ, ◌-◌, ◌<◌, ◌≤◌, ◌⊎◌, unwrap_or, Bool, Option, Some, None, true, nat_le, is_some, option_and_then, length, OnSome, OnOk, OnErr, IfOk, IsOk};
 ghost use Rattle.std.specs.Option.{option_copied, option_copied_mut};
 ghost use Rattle.std.specs.Borrow.{sem};
 ghost use Rattle.std.specs.Bool.{OnTrue};
-ghost use Rattle.resend_core.specs.Ring.{held, has_room, settled_all};
-ghost use Rattle.resend_core.specs.ResendStore.{Event, pushed, evicted, Past, with_event, emptied, revalued, size_of, last_position, MustStore, HeldAs};
+ghost use Rattle.resend_core.specs.Ring.{held};
+ghost use Rattle.resend_core.specs.ResendStore.{evicted, Past, made, with_event, emptied, revalued, last_position, HeldAs, IsPassedOver, MarksPush, MarksEviction, raised_to};
 ghost use Rattle.resend_core.specs.Lending.{LendsValue};
-ghost use Rattle.resend_core.specs.EvictingBuffer.{StandsFor, value_at, with_value, Grows, Places, Evicts, IsReady, IsPushed, takes_push};
+ghost use Rattle.resend_core.specs.EvictingBuffer.{StandsFor, value_at, with_value, Grows, Places, IsBounded, Drops, DropsLowest, Sweeps, IsDone, IsReady, IsPushed, takes_push, lowered, swept as swept_to};
 
 use crate::ring::{
-    Entry, blank, drop_below, entry_at, first_young, grown_size, is_free, is_occupied, last_below,
-    move_all, place_of, put,
+    Entry, blank, drop_at, drop_below, entry_at, first_young, grown_size, is_free, is_occupied,
+    last_below, move_all, place_of, put,
 };
 use media_base::{Duration, Instant};
 use std::alloc::{AllocError, Global};
@@ -25,6 +25,8 @@ pub struct EvictingBuffer<T> {
     size: usize,
     last: Option<u64>,
     mark: Option<u64>,
+    low: u64,
+    high: u64,
     timeout: Instant,
 }
 
@@ -37,7 +39,8 @@ impl<T: Drop> EvictingBuffer<T> {
         max_age: Duration,
         max_size: usize,
     ) -> Result<Self, AllocError>
-        ensures { IfOk result (λ b. StandsFor b (record { initial = initial_size; age = max_age; greatest = max_size; events = [] })) }
+        ensures stands { IfOk result (λ b. StandsFor b (made initial_size max_age max_size)) }
+        ensures marks { IfOk result (λ b. b.mark ≡ None) }
     {
         let ring = blank(alloc, initial_size)?;
         Ok(EvictingBuffer {
@@ -47,6 +50,8 @@ impl<T: Drop> EvictingBuffer<T> {
             size: initial_size.max(max_size),
             last: None,
             mark: None,
+            low: u64::MAX,
+            high: 0,
             timeout: Instant::from_nanos(0),
         })
     }
@@ -71,6 +76,7 @@ impl<T: Drop> EvictingBuffer<T> {
         ensures ready { OnOk result ((past : Past T) → StandsFor self.old past → IsReady self.new position) }
         ensures roomy { OnOk result (0 < length self.new.ring.items) }
         ensures timeout { OnOk result (self.new.timeout ≡ self.old.timeout) }
+        ensures mark { OnOk result (self.new.mark ≡ self.old.mark) }
         ensures err { OnErr result (self.new ≡ self.old) }
     {
         if self.ring.len() < self.size && is_occupied(&self.ring, position) {
@@ -85,13 +91,27 @@ impl<T: Drop> EvictingBuffer<T> {
     {
         self.last = Some(entry.position);
         self.mark = Some(self.mark.unwrap_or(entry.position));
+        self.low = self.lowered(entry.position);
+        self.high = self.high.max(entry.position);
         put(&mut self.ring, entry);
+    }
+
+    fn lowered(&self, position: u64) -> u64
+        ensures { result ≡ lowered self.now position }
+    {
+        if self.high < self.low {
+            position
+        } else {
+            self.low.min(position)
+        }
     }
 
     fn place(&mut self, entry: Entry<T>)
         requires roomy { 0 < length self.old.ring.items }
         requires timely { self.old.timeout ≤ entry.moment }
-        ensures { (past : Past T) → StandsFor self.old past → IsReady self.old entry.position → IsPushed past entry.position entry.moment entry.value self.new }
+        ensures pushed { (past : Past T) → StandsFor self.old past → IsReady self.old entry.position → IsPushed past entry.position entry.moment entry.value self.new }
+        ensures simple { (self.new.mark ≡ self.old.mark) ⊎ (self.new.mark ≡ Some (unwrap_or self.old.mark entry.position)) }
+        ensures marked { (past : Past T) → StandsFor self.old past → MarksPush (value_at self.old) (value_at self.new) past entry.position entry.moment self.old.mark self.new.mark }
     {
         if is_free(&self.ring, entry.position) {
             self.write(entry);
@@ -118,6 +138,9 @@ impl<T: Drop> EvictingBuffer<T> {
     /// nothing changes.
     pub fn push(&mut self, position: u64, timestamp: Instant, value: T) -> Result<(), AllocError>
         ensures ok { OnOk result ((past : Past T) → StandsFor self.old past → IsPushed past position timestamp value self.new) }
+        ensures inert { (past : Past T) → StandsFor self.old past → past.initial ≡ 0 → (self.new ≡ self.old) × IsOk result }
+        ensures passed { (past : Past T) → StandsFor self.old past → IsPassedOver self.old.mark past position timestamp → (self.new ≡ self.old) × IsOk result }
+        ensures marked { OnOk result ((past : Past T) → StandsFor self.old past → MarksPush (value_at self.old) (value_at self.new) past position timestamp self.old.mark self.new.mark) }
         ensures err { OnErr result (self.new ≡ self.old) }
     {
         if !self.takes(position, timestamp) {
@@ -132,34 +155,86 @@ impl<T: Drop> EvictingBuffer<T> {
         Ok(())
     }
 
-    fn drop_old(&mut self, now: Instant)
-        ensures { Evicts self.old self.new now }
+    fn drop_lowest(&mut self)
+        requires { 0 < length self.old.ring.items }
+        ensures { DropsLowest self.old self.new }
+    {
+        drop_at(&mut self.ring, self.low);
+        self.mark = raised(self.mark, self.low);
+        self.low = self.low.saturating_add(1);
+    }
+
+    /// Looks at the lowest position, and goes on to the next one unless a value that is not too old
+    /// is held there. Tells whether nothing more is to be dropped.
+    fn advance(&mut self, now: Instant) -> bool
+        ensures drops { IsBounded self.old → Drops self.old self.new now }
+        ensures done { OnTrue result (IsBounded self.old → IsDone self.new now) }
+    {
+        if self.high < self.low {
+            return true;
+        }
+        match entry_at(&self.ring, self.low) {
+            Some(entry) => {
+                if is_young(entry, now, self.age) {
+                    return true;
+                }
+            }
+            None => {
+                self.low = self.low.saturating_add(1);
+                return false;
+            }
+        }
+        self.drop_lowest();
+        false
+    }
+
+    /// Looks at all slots at once.
+    fn sweep(&mut self, now: Instant)
+        ensures { Sweeps self.old self.new now }
     {
         let first = first_young(&self.ring, now, self.age);
         let dropped = last_below(&self.ring, first);
         drop_below(&mut self.ring, first);
-        self.mark = raised_mark(self.mark, dropped);
-        self.timeout = now;
+        self.mark = swept(self.mark, dropped);
+        self.low = first.unwrap_or(self.low);
+    }
+
+    fn drop_old(&mut self, now: Instant)
+        ensures drops { IsBounded self.old → Drops self.old self.new now }
+        ensures done { IsBounded self.old → IsDone self.new now }
+    {
+        for _step in 0..self.ring.len() {
+            if self.advance(now) {
+                return;
+            }
+        }
+        self.sweep(now);
     }
 
     /// Drops the values that are older than the age, from the lowest position on, up to the first
-    /// that is not. A moment before the last such call is passed over.
+    /// that is not. A moment before the last such call is passed over. Where positions rise by ones
+    /// it looks at no more values than it drops and one; where they jump, at each slot at most twice.
     pub fn maybe_evict(&mut self, now: Instant)
-        ensures { (past : Past T) → StandsFor self.old past → StandsFor self.new (with_event past (evicted now)) }
+        ensures stands { (past : Past T) → StandsFor self.old past → StandsFor self.new (with_event past (evicted now)) }
+        ensures marks { (past : Past T) → StandsFor self.old past → MarksEviction (value_at self.old) (value_at self.new) self.old.mark self.new.mark }
     {
         if now.as_nanos() < self.timeout.as_nanos() {
             return;
         }
         self.drop_old(now);
+        self.timeout = now;
     }
 
     /// Drops all values, and makes the buffer as new, with the slots that it has.
     pub fn clear(&mut self)
-        ensures { (past : Past T) → StandsFor self.old past → StandsFor self.new (emptied past) }
+        ensures stands { (past : Past T) → StandsFor self.old past → StandsFor self.new (emptied past) }
+        ensures marks { self.new.mark ≡ None }
     {
         drop_below(&mut self.ring, None);
         self.last = None;
         self.mark = None;
+        self.low = u64::MAX;
+        self.high = 0;
         self.timeout = Instant::from_nanos(0);
     }
 
@@ -213,93 +288,30 @@ impl<T: Drop> EvictingBuffer<T> {
     }
 }
 
-fn raised_mark(mark: Option<u64>, dropped: Option<u64>) -> Option<u64>
-    ensures { (m : ℕ) → result ≡ Some m → (mark ≡ Some m) ⊎ ((p : ℕ) × (dropped ≡ Some p) × (m ≤ p + 1)) }
+/// Whether an entry is not older than the age.
+fn is_young<T>(entry: &Entry<T>, now: Instant, age: Duration) -> bool
+    ensures { result ≡ nat_le (now - entry.now.moment) age }
 {
-    let Some(dropped) = dropped else {
-        return mark;
-    };
+    now.as_nanos().saturating_sub(entry.moment.as_nanos()) <= age.as_nanos()
+}
+
+/// The mark after the value of a position was dropped for its age.
+fn raised(mark: Option<u64>, dropped: u64) -> Option<u64>
+    ensures { result ≡ raised_to mark dropped }
+{
     let next = dropped.saturating_add(1);
     match mark {
-        Some(mark) if next <= mark => Some(mark),
-        _ => Some(next),
+        Some(mark) => Some(mark.max(next)),
+        None => Some(next),
     }
 }
 
-#[cfg(test)]
-mod tests {
-    use super::*;
-    use std::test::Fail;
-
-    fn second(count: u64) -> Instant
-        requires { count < 100 }
-    {
-        Instant::from_nanos(count * 1_000_000_000)
-    }
-
-    // It grows until each has a slot of its own.
-    #[test]
-    fn grows(rt: HostRuntime) -> Result<(), Fail> {
-        let mut buffer = EvictingBuffer::new(
-            rt.alloc(),
-            2,
-            Duration::from_nanos(10_000_000_000),
-            10,
-        )?;
-        buffer.push(2, second(0), 'A')?;
-        buffer.push(3, second(1), 'B')?;
-        buffer.push(4, second(2), 'C')?;
-        assert_eq!(rt; buffer.get(2).copied(), Some('A'));
-        assert_eq!(rt; buffer.get(3).copied(), Some('B'));
-        assert_eq!(rt; buffer.get(4).copied(), Some('C'));
-        assert_eq!(rt; buffer.last_position(), Some(4));
-        assert_eq!(rt; buffer.last().copied(), Some('C'));
-        buffer.clear();
-        assert_eq!(rt; buffer.last_position(), None);
-        assert!(rt; !buffer.contains(4));
-        Ok(())
-    }
-
-    // What is older than ten seconds goes.
-    #[test]
-    fn ages_out(rt: HostRuntime) -> Result<(), Fail> {
-        let mut buffer = EvictingBuffer::new(
-            rt.alloc(),
-            4,
-            Duration::from_nanos(10_000_000_000),
-            10,
-        )?;
-        buffer.push(5, second(0), 'A')?;
-        buffer.push(7, second(2), 'C')?;
-        buffer.push(8, second(3), 'D')?;
-        buffer.maybe_evict(second(13));
-        assert!(rt; !buffer.contains(5));
-        assert!(rt; !buffer.contains(7));
-        assert_eq!(rt; buffer.get(8).copied(), Some('D'));
-        buffer.push(7, second(14), 'E')?;
-        assert!(rt; !buffer.contains(7));
-        buffer.push(9, second(12), 'F')?;
-        assert!(rt; !buffer.contains(9));
-        Ok(())
-    }
-
-    // At the greatest size the greater position stays.
-    #[test]
-    fn full(rt: HostRuntime) -> Result<(), Fail> {
-        let mut buffer = EvictingBuffer::new(
-            rt.alloc(),
-            1,
-            Duration::from_nanos(10_000_000_000),
-            2,
-        )?;
-        buffer.push(1, second(0), 'A')?;
-        buffer.push(2, second(0), 'B')?;
-        buffer.push(3, second(0), 'C')?;
-        assert!(rt; !buffer.contains(1));
-        assert_eq!(rt; buffer.get(2).copied(), Some('B'));
-        assert_eq!(rt; buffer.get(3).copied(), Some('C'));
-        buffer.push(1, second(0), 'D')?;
-        assert_eq!(rt; buffer.get(3).copied(), Some('C'));
-        Ok(())
+/// The mark after values were dropped for their age, of which this position is the greatest.
+fn swept(mark: Option<u64>, dropped: Option<u64>) -> Option<u64>
+    ensures { result ≡ swept_to mark dropped }
+{
+    match dropped {
+        Some(dropped) => raised(mark, dropped),
+        None => mark,
     }
 }

@@ -29,6 +29,3 @@ pub use rtcp_fb::RtcpFb;
 pub use rtp_base::{NackEntry, ReceptionReport, ReportList};
 pub use source::{Descriptions, Goodbye, Sdes, SdesItem, SdesType};
 pub use twcc_core::{PacketStatus, Twcc};
-
-#[cfg(test)]
-mod tests;

@@ -11,8 +11,6 @@ mod name;
 mod number;
 mod reception_report;
 mod report_list;
-#[cfg(test)]
-mod tests;
 mod widen;
 mod window;
 

@@ -6,8 +6,6 @@ mod abs_time;
 mod extension;
 mod header;
 mod laws;
-#[cfg(test)]
-mod tests;
 mod values;
 mod writing;
 

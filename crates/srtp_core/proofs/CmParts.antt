@@ -7,12 +7,12 @@ use Rattle.std.proofs.lemmas.Bool.{le-leb}
 use Rattle.std.proofs.lemmas.Bool.Decides.{nat_tests}
 use Rattle.srtp_core.specs.Cipher.{CipherMeaning}
 use Rattle.srtp_core.specs.Streams.{streamed}
-use Rattle.srtp_core.specs.StreamLaws.{streamed-streamed, length-streamed}
+use Rattle.srtp_core.specs.SimulatedLaws.{streamed-streamed, length-streamed}
 use Rattle.srtp_core.specs.Hmac.{hmac_of}
 use Rattle.srtp_core.specs.Seals.{cm_iv, cm_rtp_tag, cm_sealed_rtp}
 use Rattle.srtp_core.specs.RtcpSeals.{e_and_index, sender_of, cm_rest, cm_sealed_rtcp}
 use Rattle.srtp_core.specs.CmSeals.{CmRtcpOpens}
-use Rattle.srtp_core.specs.Codes.{length-tag}
+use Rattle.srtp_core.proofs.Codes.{length-tag}
 use Rattle.srtp_core.proofs.Lists.{front_of, back_of}
 use Rattle.srtp_core.proofs.RtcpParts.{small_front, small_back, word_true, word_false}
 

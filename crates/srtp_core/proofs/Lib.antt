@@ -1,5 +1,10 @@
 pub mod Lists
+pub mod Codes
+pub mod Derived
+pub mod TextOpens
+pub mod Columns
 pub mod Ivs
+pub mod Openings
 pub mod Sealing
 pub mod RtcpParts
 pub mod Results

@@ -5,12 +5,12 @@ use Rattle.std.specs.Int.{w32, to_be_bytes}
 use Rattle.srtp_core.specs.Cipher.{CipherMeaning}
 use Rattle.srtp_core.specs.Keys.{SessionKeys, tag_len}
 use Rattle.srtp_core.specs.Streams.{streamed}
-use Rattle.srtp_core.specs.StreamLaws.{length-streamed}
+use Rattle.srtp_core.specs.SimulatedLaws.{length-streamed}
 use Rattle.srtp_core.specs.Seals.{gcm_rtp_iv, cm_iv, cm_rtp_tag, rtp_seal, sealed_rtp}
 use Rattle.srtp_core.specs.Laws.{RtpSealIsLonger}
 use Rattle.srtp_core.specs.declared.profile.SrtpProfile.{SrtpProfile}
 use Rattle.srtp_core.specs.declared.profile.SrtpProfile.TheVariants.{Aes128CmSha1_80, AeadAes128Gcm, AeadAes256Gcm}
-use Rattle.srtp_core.specs.Codes.{length-tag}
+use Rattle.srtp_core.proofs.Codes.{length-tag}
 use Rattle.srtp_core.proofs.Lists.{length-front}
 
 module _ (cipher : CipherMeaning) (longer : (key iv aad plain : List ℕ) → length (cipher.aead key iv aad plain) ≡ length plain + 16) where

@@ -9,9 +9,9 @@ use Rattle.std.proofs.lemmas.List.{drop_at, length-append, take-append-drop}
 use Rattle.srtp_core.specs.Cipher.{CipherMeaning}
 use Rattle.srtp_core.specs.Keys.{SessionKeys}
 use Rattle.srtp_core.specs.Streams.{streamed}
-use Rattle.srtp_core.specs.StreamLaws.{streamed-streamed}
+use Rattle.srtp_core.specs.SimulatedLaws.{streamed-streamed}
 use Rattle.srtp_core.specs.Hmac.{hmac_of}
-use Rattle.srtp_core.specs.Codes.{length-tag}
+use Rattle.srtp_core.proofs.Codes.{length-tag}
 use Rattle.srtp_core.specs.Seals.{gcm_rtcp_iv, cm_iv}
 use Rattle.srtp_core.specs.RtcpSeals.{e_and_index, sender_of, cm_rest, gcm_sealed_rtcp, cm_sealed_rtcp, sealed_rtcp, stated_word, stated_bit, stated_index}
 use Rattle.srtp_core.specs.Laws.{RtcpOpensOnce, RtcpStates, RtcpOpensSealed}

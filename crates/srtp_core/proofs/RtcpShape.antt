@@ -4,7 +4,7 @@ use Rattle.std.proofs.lemmas.List.{take_at, length-append, length-take, length-d
 use Rattle.srtp_core.specs.Cipher.{CipherMeaning}
 use Rattle.srtp_core.specs.Keys.{SessionKeys, tag_len}
 use Rattle.srtp_core.specs.Hmac.{hmac_of}
-use Rattle.srtp_core.specs.Codes.{length-tag}
+use Rattle.srtp_core.proofs.Codes.{length-tag}
 use Rattle.srtp_core.specs.Seals.{gcm_rtcp_iv}
 use Rattle.srtp_core.specs.RtcpSeals.{e_and_index, sender_of, cm_rest, gcm_sealed_rtcp, sealed_rtcp}
 use Rattle.srtp_core.specs.Laws.{RtcpSealKeepsHeader}

@@ -5,12 +5,12 @@ use Rattle.std.specs.Int.{w32, to_be_bytes}
 use Rattle.srtp_core.specs.Cipher.{CipherMeaning}
 use Rattle.srtp_core.specs.Keys.{SessionKeys}
 use Rattle.srtp_core.specs.Streams.{streamed}
-use Rattle.srtp_core.specs.StreamLaws.{streamed-streamed}
+use Rattle.srtp_core.specs.SimulatedLaws.{streamed-streamed}
 use Rattle.srtp_core.specs.Seals.{gcm_rtp_iv, cm_iv, cm_rtp_tag, cm_sealed_rtp, gcm_sealed_rtp, rtp_seal, sealed_rtp}
-use Rattle.srtp_core.specs.SealLaws.{sealed_rtp_is}
+use Rattle.srtp_core.proofs.Openings.{sealed_rtp_is}
 use Rattle.srtp_core.specs.Laws.{RtpSealsApart, RtpOpensOnce, RtpOpensSealed}
 use Rattle.srtp_core.proofs.Lists.{length-front, front_same, back_same}
-use Rattle.srtp_core.specs.Codes.{length-tag}
+use Rattle.srtp_core.proofs.Codes.{length-tag}
 use Rattle.srtp_core.specs.declared.profile.SrtpProfile.{SrtpProfile}
 use Rattle.srtp_core.specs.declared.profile.SrtpProfile.TheVariants.{Aes128CmSha1_80, AeadAes128Gcm, AeadAes256Gcm}
 

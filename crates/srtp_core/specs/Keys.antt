@@ -4,29 +4,32 @@ use Rattle.std.specs.Int.{w16, to_be_bytes}
 use Rattle.srtp_core.specs.Cipher.{CipherMeaning}
 use Rattle.media_base.specs.Text.{bytes_by}
 use Rattle.srtp_core.specs.Streams.{blocks_at}
+use Rattle.srtp_core.specs.declared.aes_128_cm_sha1_80.TheConstants as cm
+use Rattle.srtp_core.specs.declared.aead_aes_128_gcm.TheConstants as gcm_128
+use Rattle.srtp_core.specs.declared.aead_aes_256_gcm.TheConstants as gcm_256
 use Rattle.srtp_core.specs.declared.profile.SrtpProfile.{SrtpProfile}
 use Rattle.srtp_core.specs.declared.profile.SrtpProfile.TheVariants.{Aes128CmSha1_80, AeadAes128Gcm, AeadAes256Gcm}
 
 -- the length of a key, of a salt, of an authentication key and of a tag
 abbrev pub key_len : SrtpProfile → ℕ
-key_len Aes128CmSha1_80 = 16
-key_len AeadAes128Gcm = 16
-key_len AeadAes256Gcm = 32
+key_len Aes128CmSha1_80 = cm.KEY_LEN
+key_len AeadAes128Gcm = gcm_128.KEY_LEN
+key_len AeadAes256Gcm = gcm_256.KEY_LEN
 
 abbrev pub salt_len : SrtpProfile → ℕ
-salt_len Aes128CmSha1_80 = 14
-salt_len AeadAes128Gcm = 12
-salt_len AeadAes256Gcm = 12
+salt_len Aes128CmSha1_80 = cm.SALT_LEN
+salt_len AeadAes128Gcm = gcm_128.SALT_LEN
+salt_len AeadAes256Gcm = gcm_256.SALT_LEN
 
 abbrev pub authentication_len : SrtpProfile → ℕ
-authentication_len Aes128CmSha1_80 = 20
+authentication_len Aes128CmSha1_80 = cm.HMAC_KEY_LEN
 authentication_len AeadAes128Gcm = 0
 authentication_len AeadAes256Gcm = 0
 
 abbrev pub tag_len : SrtpProfile → ℕ
-tag_len Aes128CmSha1_80 = 10
-tag_len AeadAes128Gcm = 16
-tag_len AeadAes256Gcm = 16
+tag_len Aes128CmSha1_80 = cm.HMAC_TAG_LEN
+tag_len AeadAes128Gcm = gcm_128.TAG_LEN
+tag_len AeadAes256Gcm = gcm_256.TAG_LEN
 
 -- keying material is the left key, the right key, the left salt, the right salt (RFC 5764, 4.2)
 abbrev pub material_len : SrtpProfile → ℕ

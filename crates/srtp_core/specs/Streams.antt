@@ -2,8 +2,8 @@
 use Rattle.std.specs.Prelude.{ℕ, ◌+◌, ◌/◌, ◌%◌, ◌^◌, List, ◌++◌, length, slice_index, bit_xor}
 use Rattle.std.specs.Int.{w32, w128, to_be_bytes, from_be_bytes}
 use Rattle.media_base.specs.Text.{bytes_by}
-use Rattle.srtp_core.specs.declared.stream.Counter.{Counter}
-use Rattle.srtp_core.specs.declared.stream.Counter.TheVariants.{Number, Word}
+use Rattle.srtp_core.specs.declared.key_stream.Counter.{Counter}
+use Rattle.srtp_core.specs.declared.key_stream.Counter.TheVariants.{Number, Word}
 
 -- a text XORed with a stream, whose byte i is stream i
 unfoldable pub streamed : (ℕ → ℕ) → List ℕ → List ℕ

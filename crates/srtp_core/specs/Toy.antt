@@ -1,9 +1,9 @@
 -- The toy cipher.
-use Rattle.std.specs.Prelude.{ℕ, ◌+◌, ◌%◌, ◌^◌, ◌==◌, if◌then◌else◌, List, [], ◌∷◌, ◌++◌, slice_index, bit_xor}
+use Rattle.std.specs.Prelude.{ℕ, ◌+◌, ◌%◌, ◌==◌, if◌then◌else◌, List, [], ◌∷◌, ◌++◌, slice_index, bit_xor}
 use Rattle.std.specs.Int.{w32, to_be_bytes}
 use Rattle.media_base.specs.Text.{bytes_by}
 use Rattle.srtp_core.specs.Cipher.{CipherMeaning}
-use Rattle.srtp_core.specs.Streams.{blocks_at, streamed, counter_mode}
+use Rattle.srtp_core.specs.Simulated.{simulated}
 
 -- a block XOR the key: of a key of 32 bytes XOR both halves. Past the end of a key of 16 bytes there is nothing to add
 abbrev pub toy_block_byte : List ℕ → List ℕ → ℕ → ℕ
@@ -12,26 +12,14 @@ toy_block_byte k x i = bit_xor (bit_xor (slice_index x i) (slice_index k i)) (sl
 unfoldable pub toy_block : List ℕ → List ℕ → List ℕ
 toy_block k x = bytes_by (toy_block_byte k x) 16
 
--- block n of the stream is that of the nonce and the word n + 2
-abbrev pub toy_stream : List ℕ → List ℕ → ℕ → ℕ
-toy_stream k iv i = blocks_at (λ n. toy_block k (iv ++ to_be_bytes w32 ((n + 2) % 2 ^ 32))) i
-
 -- all bytes at the places that are j modulo 16, XORed; the first byte stands at place i
 abbrev pub column : ℕ → ℕ → List ℕ → ℕ
 column j i [] = 0
 column j i (b ∷ bs) = bit_xor (if i % 16 == j then b else 0) (column j (i + 1) bs)
 
--- byte j is that of the block of the nonce and the word 1, XOR column j of the message
-unfoldable pub toy_tag : List ℕ → List ℕ → List ℕ → List ℕ
-toy_tag k iv m = bytes_by (λ j. bit_xor (slice_index (toy_block k (iv ++ to_be_bytes w32 1)) j) (column j 0 m)) 16
-
--- the text XOR the stream, and the tag of the associated data with the text behind it
-unfoldable pub toy_aead : List ℕ → List ℕ → List ℕ → List ℕ → List ℕ
-toy_aead k iv aad p = streamed (toy_stream k iv) p ++ toy_tag k iv (aad ++ p)
+-- byte j is that of the block of the nonce and the word 1, XOR column j of the associated data with the text behind it
+unfoldable pub toy_tag : List ℕ → List ℕ → List ℕ → List ℕ → List ℕ
+toy_tag k iv aad p = bytes_by (λ j. bit_xor (slice_index (toy_block k (iv ++ to_be_bytes w32 1)) j) (column j 0 (aad ++ p))) 16
 
 abbrev pub toy_meaning : CipherMeaning
-toy_meaning = record {
-  block = toy_block;
-  keystream = λ k. counter_mode (toy_block k);
-  aead = toy_aead;
-}
+toy_meaning = simulated toy_block toy_tag

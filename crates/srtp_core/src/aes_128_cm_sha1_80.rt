@@ -5,8 +5,10 @@ ghost use Rattle.srtp_core.specs.Seals.{cm_source, cm_index, cm_iv, cm_rtp_tag};
 ghost use Rattle.srtp_core.specs.Hmac.{hmac_of};
 ghost use Rattle.media_base.specs.Text.{xored};
 
+use crate::SRTP_BLOCK_SIZE;
 use crate::gcm::xor_into;
 use crate::hmac::sha1_hmac;
+use crate::keying::SrtpKey;
 
 /// The length of a key, in bytes.
 pub const KEY_LEN: usize = 16;
@@ -18,13 +20,16 @@ pub const HMAC_KEY_LEN: usize = 20;
 pub const HMAC_TAG_LEN: usize = 10;
 
 /// A key for counter mode.
-pub type AesKey = [u8; 16];
+pub type AesKey = [u8; KEY_LEN];
 
 /// A salt, of RTP or of RTCP.
-pub type RtpSalt = [u8; 14];
+pub type RtpSalt = [u8; SALT_LEN];
 
 /// An initial value, of RTP or of RTCP.
-pub type RtpIv = [u8; 16];
+pub type RtpIv = [u8; SRTP_BLOCK_SIZE];
+
+/// A master key with its salt.
+pub(crate) type MasterKey = SrtpKey<KEY_LEN, SALT_LEN>;
 
 fn source_bytes(ssrc: u32) -> [u8; 16]
     ensures { result ≡ cm_source ssrc }
@@ -68,18 +73,18 @@ pub fn rtp_iv(salt: RtpSalt, ssrc: u32, srtp_index: u64) -> RtpIv
 }
 
 /// The first bytes of a code.
-fn tag_of(key: &[u8], part1: &[u8], part2: &[u8]) -> [u8; 10]
-    ensures { result ≡ take 10 (hmac_of key.now (part1.now ++ part2.now)) }
+fn tag_of(key: &[u8], part1: &[u8], part2: &[u8]) -> [u8; HMAC_TAG_LEN]
+    ensures { result ≡ take HMAC_TAG_LEN (hmac_of key.now (part1.now ++ part2.now)) }
 {
     let code = sha1_hmac(key, part1, part2);
     let (front, _) = code.split_at(HMAC_TAG_LEN);
-    let mut tag = [0; 10];
+    let mut tag = [0; HMAC_TAG_LEN];
     tag.copy_from_slice(front);
     tag
 }
 
 /// The tag of an RTP datagram, over its text and the rollover count.
-pub(crate) fn rtp_tag(key: &[u8], text: &[u8], srtp_index: u64) -> [u8; 10]
+pub(crate) fn rtp_tag(key: &[u8], text: &[u8], srtp_index: u64) -> [u8; HMAC_TAG_LEN]
     requires { srtp_index < 2 ^ 48 }
     ensures { result ≡ cm_rtp_tag key.now srtp_index text.now }
 {
@@ -88,17 +93,17 @@ pub(crate) fn rtp_tag(key: &[u8], text: &[u8], srtp_index: u64) -> [u8; 10]
 }
 
 /// The tag of an SRTCP datagram, over its text.
-pub(crate) fn rtcp_tag(key: &[u8], text: &[u8]) -> [u8; 10]
-    ensures { result ≡ take 10 (hmac_of key.now text.now) }
+pub(crate) fn rtcp_tag(key: &[u8], text: &[u8]) -> [u8; HMAC_TAG_LEN]
+    ensures { result ≡ take HMAC_TAG_LEN (hmac_of key.now text.now) }
 {
     tag_of(key, text, &[])
 }
 
 /// Writes the tag of the RTP datagram whose text stands before `hmac_start`, from there on.
 pub fn rtp_hmac(key: &[u8], buf: &mut [u8], srtp_index: u64, hmac_start: usize)
-    requires room { hmac_start + 10 ≤ length buf.old }
+    requires room { hmac_start + HMAC_TAG_LEN ≤ length buf.old }
     requires index { srtp_index < 2 ^ 48 }
-    ensures { buf.new ≡ take hmac_start buf.old ++ cm_rtp_tag key.now srtp_index (take hmac_start buf.old) ++ drop (hmac_start + 10) buf.old }
+    ensures { buf.new ≡ take hmac_start buf.old ++ cm_rtp_tag key.now srtp_index (take hmac_start buf.old) ++ drop (hmac_start + HMAC_TAG_LEN) buf.old }
 {
     let (text, behind) = buf.split_at_mut(hmac_start);
     let (tag, _) = behind.split_at_mut(HMAC_TAG_LEN);
@@ -115,8 +120,8 @@ pub fn rtp_verify(key: &[u8], buf: &[u8], srtp_index: u64, tag: &[u8]) -> bool
 
 /// Writes the tag of the SRTCP datagram whose text stands before `hmac_index`, from there on.
 pub fn rtcp_hmac(key: &[u8], buf: &mut [u8], hmac_index: usize)
-    requires { hmac_index + 10 ≤ length buf.old }
-    ensures { buf.new ≡ take hmac_index buf.old ++ take 10 (hmac_of key.now (take hmac_index buf.old)) ++ drop (hmac_index + 10) buf.old }
+    requires { hmac_index + HMAC_TAG_LEN ≤ length buf.old }
+    ensures { buf.new ≡ take hmac_index buf.old ++ take HMAC_TAG_LEN (hmac_of key.now (take hmac_index buf.old)) ++ drop (hmac_index + HMAC_TAG_LEN) buf.old }
 {
     let (text, behind) = buf.split_at_mut(hmac_index);
     let (tag, _) = behind.split_at_mut(HMAC_TAG_LEN);
@@ -125,7 +130,7 @@ pub fn rtcp_hmac(key: &[u8], buf: &mut [u8], hmac_index: usize)
 
 /// Whether this is the tag of the SRTCP datagram whose text `buf` is.
 pub fn rtcp_verify(key: &[u8], buf: &[u8], tag: &[u8]) -> bool
-    ensures { IsTrue result ↔ (tag.now ≡ take 10 (hmac_of key.now buf.now)) }
+    ensures { IsTrue result ↔ (tag.now ≡ take HMAC_TAG_LEN (hmac_of key.now buf.now)) }
 {
     tag == rtcp_tag(key, buf).as_slice()
 }

@@ -69,8 +69,12 @@ pub trait SrtpCipher: Copy {
         output: &mut [u8],
     ) -> bool
         requires { length input.now ≡ length output.old + 16 }
-        ensures opens { IsTrue result → meaning.aead (bytes_128 key.now) iv.now (aad1.now ++ aad2.now) output.new ≡ input.now }
-        ensures only { (plain : List ℕ) → meaning.aead (bytes_128 key.now) iv.now (aad1.now ++ aad2.now) plain ≡ input.now → IsTrue result };
+        ensures opens { IsTrue result
+            → meaning.aead (bytes_128 key.now) iv.now (aad1.now ++ aad2.now) output.new
+            ≡ input.now }
+        ensures only { (plain : List ℕ)
+            → meaning.aead (bytes_128 key.now) iv.now (aad1.now ++ aad2.now) plain ≡ input.now
+            → IsTrue result };
 
     /// Seals the input; `aad1` and `aad2`, one after the other, are the associated data.
     fn seal_256(
@@ -97,15 +101,22 @@ pub trait SrtpCipher: Copy {
         output: &mut [u8],
     ) -> bool
         requires { length input.now ≡ length output.old + 16 }
-        ensures opens { IsTrue result → meaning.aead (bytes_256 key.now) iv.now (aad1.now ++ aad2.now) output.new ≡ input.now }
-        ensures only { (plain : List ℕ) → meaning.aead (bytes_256 key.now) iv.now (aad1.now ++ aad2.now) plain ≡ input.now → IsTrue result };
+        ensures opens { IsTrue result
+            → meaning.aead (bytes_256 key.now) iv.now (aad1.now ++ aad2.now) output.new
+            ≡ input.now }
+        ensures only { (plain : List ℕ)
+            → meaning.aead (bytes_256 key.now) iv.now (aad1.now ++ aad2.now) plain ≡ input.now
+            → IsTrue result };
 
     /// A sealed text is 16 bytes longer.
-    ghost longer: { (key iv aad plain : List ℕ) → length (meaning.aead key iv aad plain) ≡ length plain + 16 };
+    ghost longer: { (key iv aad plain : List ℕ) → length (meaning.aead key iv aad plain)
+        ≡ length plain + 16 };
 
     /// No two plain texts are sealed alike.
-    ghost apart: { (key iv aad p q : List ℕ) → meaning.aead key iv aad p ≡ meaning.aead key iv aad q → p ≡ q };
+    ghost apart: { (key iv aad p q : List ℕ) → meaning.aead key iv aad p ≡ meaning.aead key iv aad q
+        → p ≡ q };
 
     /// The key stream is the counter mode of the blocks.
-    ghost counts: { (key iv : List ℕ) (i : ℕ) → meaning.keystream key iv i ≡ counter_mode (meaning.block key) iv i };
+    ghost counts: { (key iv : List ℕ) (i : ℕ) → meaning.keystream key iv i
+        ≡ counter_mode (meaning.block key) iv i };
 }

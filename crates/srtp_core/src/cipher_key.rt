@@ -82,8 +82,11 @@ impl<C: SrtpCipher> CipherKey<C> {
         output: &mut [u8],
     ) -> bool
         requires { length input.now ≡ length output.old + 16 }
-        ensures opens { IsTrue result → C.meaning.aead self.now iv.now (aad1.now ++ aad2.now) output.new ≡ input.now }
-        ensures only { (plain : List ℕ) → C.meaning.aead self.now iv.now (aad1.now ++ aad2.now) plain ≡ input.now → IsTrue result }
+        ensures opens { IsTrue result
+            → C.meaning.aead self.now iv.now (aad1.now ++ aad2.now) output.new ≡ input.now }
+        ensures only { (plain : List ℕ)
+            → C.meaning.aead self.now iv.now (aad1.now ++ aad2.now) plain ≡ input.now
+            → IsTrue result }
     {
         match &self.key {
             ByLength::Short(key) => cipher.open_128(key, iv, aad1, aad2, input, output),

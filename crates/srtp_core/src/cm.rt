@@ -5,18 +5,23 @@ ghost use Rattle.srtp_core.specs.Streams.{streamed};
 ghost use Rattle.srtp_core.specs.CmSeals.{CmRtcpOpens};
 ghost use Rattle.srtp_core.specs.RtcpSeals.{sender_of, cm_sealed_rtcp};
 
-use crate::aes_128_cm_sha1_80::{HMAC_TAG_LEN, rtcp_tag, rtcp_verify, rtp_iv, rtp_tag, rtp_verify};
+use crate::aes_128_cm_sha1_80::{
+    HMAC_KEY_LEN, HMAC_TAG_LEN, KEY_LEN, MasterKey, RtpSalt, SALT_LEN, rtcp_tag, rtcp_verify,
+    rtp_iv, rtp_tag, rtp_verify,
+};
 use crate::cipher::SrtpCipher;
-use crate::gcm_rtcp::{E_BIT, number_of, sender};
-use crate::keying::SrtpKey;
+use crate::srtcp::{E_BIT, HEADER_LEN, WORD_LEN, number_of, sender};
 use std::alloc::{AllocError, Global};
+
+/// The length of the shortest sealed RTCP packet, in bytes.
+const MIN_SEALED_LEN: usize = HEADER_LEN + WORD_LEN + HMAC_TAG_LEN;
 
 /// A key for counter mode, with the key of its tags and its salt.
 #[derive(Drop)]
 pub(crate) struct CmKeys<C: SrtpCipher> {
     pub(crate) key: C::Key128,
-    pub(crate) authentication: [u8; 20],
-    pub(crate) salt: [u8; 14],
+    pub(crate) authentication: [u8; HMAC_KEY_LEN],
+    pub(crate) salt: RtpSalt,
 }
 
 /// The keys of a direction.
@@ -26,17 +31,20 @@ pub(crate) struct CmDirection<C: SrtpCipher> {
     pub(crate) rtcp: CmKeys<C>,
 }
 
-fn cm_keys<C: SrtpCipher>(cipher: C, master: &SrtpKey<16, 14>, first_label: u8) -> CmKeys<C>
+fn cm_keys<C: SrtpCipher>(cipher: C, master: &MasterKey, first_label: u8) -> CmKeys<C>
     requires { first_label ≤ 3 }
-    ensures key { C.bytes_128 result.key ≡ derived (C.meaning.block master.now.master) master.now.salt first_label 16 }
-    ensures authentication { result.authentication ≡ derived (C.meaning.block master.now.master) master.now.salt (first_label + 1) 20 }
-    ensures salt { result.salt ≡ derived (C.meaning.block master.now.master) master.now.salt (first_label + 2) 14 }
+    ensures key { C.bytes_128 result.key
+        ≡ derived (C.meaning.block master.now.master) master.now.salt first_label KEY_LEN }
+    ensures authentication { result.authentication
+        ≡ derived (C.meaning.block master.now.master) master.now.salt (first_label + 1) HMAC_KEY_LEN }
+    ensures salt { result.salt
+        ≡ derived (C.meaning.block master.now.master) master.now.salt (first_label + 2) SALT_LEN }
 {
-    let mut key = [0; 16];
+    let mut key = [0; KEY_LEN];
     master.derive(cipher, first_label, &mut key);
-    let mut authentication = [0; 20];
+    let mut authentication = [0; HMAC_KEY_LEN];
     master.derive(cipher, first_label + 1, &mut authentication);
-    let mut salt = [0; 14];
+    let mut salt = [0; SALT_LEN];
     master.derive(cipher, first_label + 2, &mut salt);
     CmKeys {
         key: cipher.key_128(&key),
@@ -46,13 +54,19 @@ fn cm_keys<C: SrtpCipher>(cipher: C, master: &SrtpKey<16, 14>, first_label: u8) 
 }
 
 /// The keys of a direction, of its master key.
-pub(crate) fn cm_direction<C: SrtpCipher>(cipher: C, master: &SrtpKey<16, 14>) -> CmDirection<C>
-    ensures rtp_key { C.bytes_128 result.rtp.key ≡ derived (C.meaning.block master.now.master) master.now.salt 0 16 }
-    ensures rtp_authentication { result.rtp.authentication ≡ derived (C.meaning.block master.now.master) master.now.salt 1 20 }
-    ensures rtp_salt { result.rtp.salt ≡ derived (C.meaning.block master.now.master) master.now.salt 2 14 }
-    ensures rtcp_key { C.bytes_128 result.rtcp.key ≡ derived (C.meaning.block master.now.master) master.now.salt 3 16 }
-    ensures rtcp_authentication { result.rtcp.authentication ≡ derived (C.meaning.block master.now.master) master.now.salt 4 20 }
-    ensures rtcp_salt { result.rtcp.salt ≡ derived (C.meaning.block master.now.master) master.now.salt 5 14 }
+pub(crate) fn cm_direction<C: SrtpCipher>(cipher: C, master: &MasterKey) -> CmDirection<C>
+    ensures rtp_key { C.bytes_128 result.rtp.key
+        ≡ derived (C.meaning.block master.now.master) master.now.salt 0 KEY_LEN }
+    ensures rtp_authentication { result.rtp.authentication
+        ≡ derived (C.meaning.block master.now.master) master.now.salt 1 HMAC_KEY_LEN }
+    ensures rtp_salt { result.rtp.salt
+        ≡ derived (C.meaning.block master.now.master) master.now.salt 2 SALT_LEN }
+    ensures rtcp_key { C.bytes_128 result.rtcp.key
+        ≡ derived (C.meaning.block master.now.master) master.now.salt 3 KEY_LEN }
+    ensures rtcp_authentication { result.rtcp.authentication
+        ≡ derived (C.meaning.block master.now.master) master.now.salt 4 HMAC_KEY_LEN }
+    ensures rtcp_salt { result.rtcp.salt
+        ≡ derived (C.meaning.block master.now.master) master.now.salt 5 SALT_LEN }
 {
     CmDirection {
         rtp: cm_keys(cipher, master, 0),
@@ -127,15 +141,15 @@ pub(crate) fn seal_rtcp<C: SrtpCipher>(
     buf: &[u8],
     index: u32,
 ) -> Result<Vec<u8>, AllocError>
-    requires header { 8 ≤ length buf.now }
+    requires header { HEADER_LEN ≤ length buf.now }
     requires index { index < 2 ^ 31 }
     ensures { IfOk result (λ v. v.items
         ≡ cm_sealed_rtcp C.meaning (C.bytes_128 keys.now.key) keys.now.authentication keys.now.salt true index (take 8 buf.now) (drop 8 buf.now)) }
 {
-    let mut sealed = vec![in alloc; 0; buf.len() + 4 + HMAC_TAG_LEN]?;
-    let (header, rest) = buf.split_at(8);
-    let (text, tag) = sealed.split_at_mut(buf.len() + 4);
-    let (front, behind) = text.split_at_mut(8);
+    let mut sealed = vec![in alloc; 0; buf.len() + WORD_LEN + HMAC_TAG_LEN]?;
+    let (header, rest) = buf.split_at(HEADER_LEN);
+    let (text, tag) = sealed.split_at_mut(buf.len() + WORD_LEN);
+    let (front, behind) = text.split_at_mut(HEADER_LEN);
     let (body, word) = behind.split_at_mut(rest.len());
     front.copy_from_slice(header);
     let iv = rtp_iv(keys.salt, sender(header), index as u64);
@@ -153,13 +167,13 @@ fn deciphered<C: SrtpCipher>(
     packet: &[u8],
     index: u32,
 ) -> Result<Vec<u8>, AllocError>
-    requires { 8 ≤ length packet.now }
+    requires { HEADER_LEN ≤ length packet.now }
     ensures { IfOk result (λ v. v.items ≡ take 8 packet.now
         ++ streamed (C.meaning.keystream (C.bytes_128 keys.now.key) (cm_iv keys.now.salt (sender_of (take 8 packet.now)) index)) (drop 8 packet.now)) }
 {
     let mut plain = vec![in alloc; 0; packet.len()]?;
-    let (header, rest) = packet.split_at(8);
-    let (front, body) = plain.split_at_mut(8);
+    let (header, rest) = packet.split_at(HEADER_LEN);
+    let (front, body) = plain.split_at_mut(HEADER_LEN);
     front.copy_from_slice(header);
     let iv = rtp_iv(keys.salt, sender(header), index as u64);
     cipher.ctr(&keys.key, &iv, rest, body);
@@ -184,14 +198,14 @@ pub(crate) fn open_rtcp<C: SrtpCipher>(
     ensures none { IfOk result (λ r. IfNone r ((p : List ℕ)
         → CmRtcpOpens C.meaning (C.bytes_128 keys.now.key) keys.now.authentication keys.now.salt buf.now p → ⊥)) }
 {
-    if buf.len() < 22 {
+    if buf.len() < MIN_SEALED_LEN {
         return Ok(None);
     }
     let (text, tag) = buf.split_at(buf.len() - HMAC_TAG_LEN);
     if !rtcp_verify(&keys.authentication, text, tag) {
         return Ok(None);
     }
-    let (packet, word) = text.split_at(text.len() - 4);
+    let (packet, word) = text.split_at(text.len() - WORD_LEN);
     let number = number_of(word);
     if number >= E_BIT {
         Ok(Some(deciphered(alloc, cipher, keys, packet, number % E_BIT)?))

@@ -10,9 +10,9 @@ use crate::cipher::SrtpCipher;
 use crate::cm::CmDirection;
 use crate::error::SrtpError;
 use crate::gcm::GcmDirection;
-use crate::keying::{KeyingMaterial, SrtpKey};
+use crate::keying::KeyingMaterial;
 use crate::profile::SrtpProfile;
-use crate::{cm, gcm, gcm_rtcp};
+use crate::{aead_aes_128_gcm, aead_aes_256_gcm, aes_128_cm_sha1_80, cm, gcm, gcm_rtcp};
 use rtp_wire::RtpHeader;
 use std::alloc::{AllocError, Global};
 use std::marker::Model;
@@ -71,8 +71,10 @@ impl<C: SrtpCipher> SrtpContext<C> {
         left: bool,
     ) -> Result<Self, SrtpError>
         ensures made { IfOk result (λ c. c ≡ new_state C.meaning profile mat.now left 0) }
-        ensures key_length { length mat.now ≢ material_len profile → IsErrOf result SrtpError.KeyLength }
-        ensures memory { length mat.now ≡ material_len profile → IfErr result (λ e. e ≡ SrtpError.Memory) }
+        ensures key_length { length mat.now ≢ material_len profile
+            → IsErrOf result SrtpError.KeyLength }
+        ensures memory { length mat.now ≡ material_len profile
+            → IfErr result (λ e. e ≡ SrtpError.Memory) }
     {
         Self::new_at(alloc, cipher, profile, mat, left, 0)
     }
@@ -92,8 +94,10 @@ impl<C: SrtpCipher> SrtpContext<C> {
     ) -> Result<Self, SrtpError>
         requires { srtcp_index ≤ 2 ^ 31 }
         ensures made { IfOk result (λ c. c ≡ new_state C.meaning profile mat.now left srtcp_index) }
-        ensures key_length { length mat.now ≢ material_len profile → IsErrOf result SrtpError.KeyLength }
-        ensures memory { length mat.now ≡ material_len profile → IfErr result (λ e. e ≡ SrtpError.Memory) }
+        ensures key_length { length mat.now ≢ material_len profile
+            → IsErrOf result SrtpError.KeyLength }
+        ensures memory { length mat.now ≡ material_len profile
+            → IfErr result (λ e. e ≡ SrtpError.Memory) }
     {
         if mat.as_slice().len() != profile.keying_material_len() {
             return Err(SrtpError::KeyLength);
@@ -182,7 +186,8 @@ impl<C: SrtpCipher> SrtpContext<C> {
         requires { 8 ≤ length buf.now }
         ensures sealed { IfOk result (λ v. v.items
             ≡ sealed_rtcp C.meaning self.old.profile self.old.keys true self.old.srtcp_index buf.now) }
-        ensures next { OnOk result (self.new ≡ record self.old { srtcp_index = self.old.srtcp_index + 1 }) }
+        ensures next { OnOk result (self.new
+            ≡ record self.old { srtcp_index = self.old.srtcp_index + 1 }) }
         ensures refused { OnErr result (self.new ≡ self.old) }
         ensures exhausted { self.old.srtcp_index ≡ 2 ^ 31 → IsErrOf result SrtpError.KeyExhausted }
         ensures memory { self.old.srtcp_index ≢ 2 ^ 31 → IfErr result (λ e. e ≡ SrtpError.Memory) }
@@ -205,7 +210,8 @@ impl<C: SrtpCipher> SrtpContext<C> {
     /// Where there is no memory.
     pub fn unprotect_rtcp(&mut self, buf: &[u8]) -> Result<Option<Vec<u8>>, AllocError>
         ensures some { IfOk result (λ r. IfSome r (λ v. RtcpOpensTo C.meaning self.old.profile self.old.keys buf.now v.items)) }
-        ensures none { IfOk result (λ r. IfNone r ((p : List ℕ) → RtcpOpensTo C.meaning self.old.profile self.old.keys buf.now p → ⊥)) }
+        ensures none { IfOk result (λ r. IfNone r ((p : List ℕ)
+            → RtcpOpensTo C.meaning self.old.profile self.old.keys buf.now p → ⊥)) }
         ensures same { self.new ≡ self.old }
     {
         open_packet(self.alloc, self.cipher, &self.keys, buf)
@@ -213,7 +219,7 @@ impl<C: SrtpCipher> SrtpContext<C> {
 }
 
 /// The keys of a direction.
-#[tactic(auto, using(crate::specs::KeyLaws::derived_nothing))]
+#[tactic(auto, using(crate::proofs::Derived::derived_nothing))]
 fn keys_of<C: SrtpCipher>(
     cipher: C,
     profile: SrtpProfile,
@@ -226,13 +232,13 @@ fn keys_of<C: SrtpCipher>(
 {
     match profile {
         SrtpProfile::Aes128CmSha1_80 => {
-            Keys::Cm(cm::cm_direction(cipher, &SrtpKey::<16, 14>::new(mat, left)))
+            Keys::Cm(cm::cm_direction(cipher, &aes_128_cm_sha1_80::MasterKey::new(mat, left)))
         }
         SrtpProfile::AeadAes128Gcm => {
-            Keys::Gcm128(gcm::gcm_direction(cipher, &SrtpKey::<16, 12>::new(mat, left)))
+            Keys::Gcm128(gcm::gcm_direction(cipher, &aead_aes_128_gcm::MasterKey::new(mat, left)))
         }
         SrtpProfile::AeadAes256Gcm => {
-            Keys::Gcm256(gcm::gcm_direction(cipher, &SrtpKey::<32, 12>::new(mat, left)))
+            Keys::Gcm256(gcm::gcm_direction(cipher, &aead_aes_256_gcm::MasterKey::new(mat, left)))
         }
     }
 }
@@ -254,7 +260,8 @@ fn open_front<C: SrtpCipher>(
     ensures same { length output.new ≡ length output.old }
     ensures len { IfSome result (λ n. n ≤ length output.new) }
     ensures opens { IfSome result (λ n. OpensTo C.meaning (profile_of keys.now) (session_of C.bytes_128 keys.now) ssrc index header_len buf.now (take n output.new)) }
-    ensures none { IfNone result ((p : List ℕ) → OpensTo C.meaning (profile_of keys.now) (session_of C.bytes_128 keys.now) ssrc index header_len buf.now p → ⊥) }
+    ensures none { IfNone result ((p : List ℕ)
+        → OpensTo C.meaning (profile_of keys.now) (session_of C.bytes_128 keys.now) ssrc index header_len buf.now p → ⊥) }
 {
     match keys {
         Keys::Cm(direction) => cm::open_rtp(
@@ -297,7 +304,8 @@ fn seal_packet<C: SrtpCipher>(
 ) -> Result<Vec<u8>, AllocError>
     requires header { 8 ≤ length buf.now }
     requires index { index < 2 ^ 31 }
-    ensures { IfOk result (λ v. v.items ≡ sealed_rtcp C.meaning (profile_of keys.now) (session_of C.bytes_128 keys.now) true index buf.now) }
+    ensures { IfOk result (λ v. v.items
+        ≡ sealed_rtcp C.meaning (profile_of keys.now) (session_of C.bytes_128 keys.now) true index buf.now) }
 {
     match keys {
         Keys::Cm(direction) => cm::seal_rtcp(alloc, cipher, &direction.rtcp, buf, index),
@@ -313,7 +321,9 @@ fn open_packet<C: SrtpCipher>(
     buf: &[u8],
 ) -> Result<Option<Vec<u8>>, AllocError>
     ensures some { IfOk result (λ r. IfSome r (λ v. RtcpOpensTo C.meaning (profile_of keys.now) (session_of C.bytes_128 keys.now) buf.now v.items)) }
-    ensures none { IfOk result (λ r. IfNone r ((p : List ℕ) → RtcpOpensTo C.meaning (profile_of keys.now) (session_of C.bytes_128 keys.now) buf.now p → ⊥)) }
+    ensures none { IfOk result (λ r. IfNone r ((p : List ℕ)
+        → RtcpOpensTo C.meaning (profile_of keys.now) (session_of C.bytes_128 keys.now) buf.now p
+        → ⊥)) }
 {
     match keys {
         Keys::Cm(direction) => cm::open_rtcp(alloc, cipher, &direction.rtcp, buf),

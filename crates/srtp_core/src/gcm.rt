@@ -3,6 +3,7 @@ ghost use Rattle.media_base.specs.Text.{xored};
 ghost use Rattle.srtp_core.specs.Keys.{derived};
 ghost use Rattle.srtp_core.specs.Seals.{gcm_rtp_iv, gcm_rtcp_iv, gcm_sealed_rtp};
 
+use crate::aead_aes_128_gcm::{IV_LEN, RtpIv, RtpSalt, SALT_LEN, TAG_LEN};
 use crate::cipher::SrtpCipher;
 use crate::cipher_key::CipherKey;
 use crate::keying::SrtpKey;
@@ -20,10 +21,10 @@ pub(crate) fn xor_into(bytes: &mut [u8], with: &[u8])
 /// The initial value of an RTP datagram, of its rollover count and sequence number (RFC 7714
 /// section 8.1).
 #[tactic(auto, unfolding(crate::specs::Seals::gcm_rtp_iv))]
-pub fn rtp_iv(salt: [u8; 12], ssrc: u32, roc: u32, seq: u16) -> [u8; 12]
+pub fn rtp_iv(salt: RtpSalt, ssrc: u32, roc: u32, seq: u16) -> RtpIv
     ensures { result ≡ gcm_rtp_iv salt ssrc roc seq }
 {
-    let mut iv = [0; 12];
+    let mut iv = [0; IV_LEN];
     let (zeros_and_ssrc, place) = iv.split_at_mut(6);
     let (_, source) = zeros_and_ssrc.split_at_mut(2);
     source.copy_from_slice(&ssrc.to_be_bytes());
@@ -36,10 +37,10 @@ pub fn rtp_iv(salt: [u8; 12], ssrc: u32, roc: u32, seq: u16) -> [u8; 12]
 
 /// The initial value of an RTCP datagram, of its index (RFC 7714 section 9.1).
 #[tactic(auto, unfolding(crate::specs::Seals::gcm_rtcp_iv))]
-pub fn rtcp_iv(salt: [u8; 12], ssrc: u32, index: u32) -> [u8; 12]
+pub fn rtcp_iv(salt: RtpSalt, ssrc: u32, index: u32) -> RtpIv
     ensures { result ≡ gcm_rtcp_iv salt ssrc index }
 {
-    let mut iv = [0; 12];
+    let mut iv = [0; IV_LEN];
     let (zeros_and_ssrc, place) = iv.split_at_mut(6);
     let (_, source) = zeros_and_ssrc.split_at_mut(2);
     source.copy_from_slice(&ssrc.to_be_bytes());
@@ -53,7 +54,7 @@ pub fn rtcp_iv(salt: [u8; 12], ssrc: u32, index: u32) -> [u8; 12]
 #[derive(Drop)]
 pub(crate) struct GcmKeys<C: SrtpCipher> {
     pub(crate) key: CipherKey<C>,
-    pub(crate) salt: [u8; 12],
+    pub(crate) salt: RtpSalt,
 }
 
 /// The keys of a direction.
@@ -65,17 +66,19 @@ pub(crate) struct GcmDirection<C: SrtpCipher> {
 
 fn gcm_keys<C: SrtpCipher, const ML: usize>(
     cipher: C,
-    master: &SrtpKey<ML, 12>,
+    master: &SrtpKey<ML, SALT_LEN>,
     key_label: u8,
     salt_label: u8,
 ) -> GcmKeys<C>
     requires { (ML ≡ 16) ⊎ (ML ≡ 32) }
-    ensures key { result.key ≡ derived (C.meaning.block master.now.master) master.now.salt key_label ML }
-    ensures salt { result.salt ≡ derived (C.meaning.block master.now.master) master.now.salt salt_label 12 }
+    ensures key { result.key
+        ≡ derived (C.meaning.block master.now.master) master.now.salt key_label ML }
+    ensures salt { result.salt
+        ≡ derived (C.meaning.block master.now.master) master.now.salt salt_label SALT_LEN }
 {
     let mut key = [0; ML];
     master.derive(cipher, key_label, &mut key);
-    let mut salt = [0; 12];
+    let mut salt = [0; SALT_LEN];
     master.derive(cipher, salt_label, &mut salt);
     GcmKeys {
         key: CipherKey::new(cipher, &key),
@@ -86,13 +89,17 @@ fn gcm_keys<C: SrtpCipher, const ML: usize>(
 /// The keys of a direction, of its master key.
 pub(crate) fn gcm_direction<C: SrtpCipher, const ML: usize>(
     cipher: C,
-    master: &SrtpKey<ML, 12>,
+    master: &SrtpKey<ML, SALT_LEN>,
 ) -> GcmDirection<C>
     requires { (ML ≡ 16) ⊎ (ML ≡ 32) }
-    ensures rtp_key { result.rtp.key ≡ derived (C.meaning.block master.now.master) master.now.salt 0 ML }
-    ensures rtp_salt { result.rtp.salt ≡ derived (C.meaning.block master.now.master) master.now.salt 2 12 }
-    ensures rtcp_key { result.rtcp.key ≡ derived (C.meaning.block master.now.master) master.now.salt 3 ML }
-    ensures rtcp_salt { result.rtcp.salt ≡ derived (C.meaning.block master.now.master) master.now.salt 5 12 }
+    ensures rtp_key { result.rtp.key
+        ≡ derived (C.meaning.block master.now.master) master.now.salt 0 ML }
+    ensures rtp_salt { result.rtp.salt
+        ≡ derived (C.meaning.block master.now.master) master.now.salt 2 SALT_LEN }
+    ensures rtcp_key { result.rtcp.key
+        ≡ derived (C.meaning.block master.now.master) master.now.salt 3 ML }
+    ensures rtcp_salt { result.rtcp.salt
+        ≡ derived (C.meaning.block master.now.master) master.now.salt 5 SALT_LEN }
 {
     GcmDirection {
         rtp: gcm_keys(cipher, master, 0, 2),
@@ -112,9 +119,10 @@ pub(crate) fn seal_rtp<C: SrtpCipher>(
 ) -> Result<Vec<u8>, AllocError>
     requires header { header_len ≤ length buf.now }
     requires index { index < 2 ^ 48 }
-    ensures { IfOk result (λ v. v.items ≡ gcm_sealed_rtp C.meaning keys.now.key keys.now.salt ssrc index (take header_len buf.now) (drop header_len buf.now)) }
+    ensures { IfOk result (λ v. v.items
+        ≡ gcm_sealed_rtp C.meaning keys.now.key keys.now.salt ssrc index (take header_len buf.now) (drop header_len buf.now)) }
 {
-    let mut sealed = vec![in alloc; 0; buf.len() + 16]?;
+    let mut sealed = vec![in alloc; 0; buf.len() + TAG_LEN]?;
     let (header, payload) = buf.split_at(header_len);
     let (front, end) = sealed.split_at_mut(header_len);
     front.copy_from_slice(header);
@@ -150,10 +158,10 @@ pub(crate) fn open_rtp<C: SrtpCipher>(
         → gcm_sealed_rtp C.meaning keys.now.key keys.now.salt ssrc index (take header_len buf.now) payload ≡ buf.now → ⊥) }
 {
     let (header, sealed) = buf.split_at(header_len);
-    if sealed.len() < 16 {
+    if sealed.len() < TAG_LEN {
         return None;
     }
-    let len = sealed.len() - 16;
+    let len = sealed.len() - TAG_LEN;
     let (front, _) = output.split_at_mut(len);
     let iv = rtp_iv(
         keys.salt,

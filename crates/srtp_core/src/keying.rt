@@ -1,6 +1,7 @@
 ghost use Rattle.std.specs.Prelude.{◌≡◌, ℕ, ◌+◌, ◌*◌, ◌≤◌, ◌⊎◌, length, if◌then◌else◌, IfOk};
 ghost use Rattle.srtp_core.specs.Keys.{master_key, master_salt, derivation_input, derived};
 
+use crate::SRTP_BLOCK_SIZE;
 use crate::cipher::SrtpCipher;
 use crate::cipher_key::CipherKey;
 use std::alloc::{AllocError, Global};
@@ -78,12 +79,13 @@ impl<const ML: usize, const SL: usize> SrtpKey<ML, SL> {
         ensures { output.new ≡ derived (C.meaning.block self.now.master) self.now.salt label (length output.old) }
     {
         let key = CipherKey::new(cipher, &self.master);
-        let mut block = [0; 16];
+        let mut block = [0; SRTP_BLOCK_SIZE];
         for i in 0..output.len() {
-            if i % 16 == 0 {
-                block = key.block(cipher, &input_block(&self.salt, label, (i / 16) as u16));
+            if i % SRTP_BLOCK_SIZE == 0 {
+                let round = (i / SRTP_BLOCK_SIZE) as u16;
+                block = key.block(cipher, &input_block(&self.salt, label, round));
             }
-            output[i] = block[i % 16];
+            output[i] = block[i % SRTP_BLOCK_SIZE];
         }
     }
 }

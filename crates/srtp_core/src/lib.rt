@@ -12,11 +12,13 @@ mod error;
 mod gcm;
 mod gcm_rtcp;
 mod hmac;
+mod key_stream;
 mod keying;
 pub mod laws;
 mod profile;
 mod sha;
-mod stream;
+mod simulated;
+mod srtcp;
 mod toy;
 
 pub use cipher::SrtpCipher;
@@ -25,8 +27,9 @@ pub use error::SrtpError;
 pub use hmac::sha1_hmac;
 pub use keying::{KeyingMaterial, SrtpKey};
 pub use profile::SrtpProfile;
-pub use sha::{ShaCipher, ShaKey128, ShaKey256};
-pub use toy::{ToyCipher, ToyKey128, ToyKey256};
+pub use sha::ShaCipher;
+pub use simulated::SimulatedKey;
+pub use toy::ToyCipher;
 
 /// The length of a block of the cipher, in bytes.
 pub const SRTP_BLOCK_SIZE: usize = 16;
@@ -34,6 +37,3 @@ pub const SRTP_BLOCK_SIZE: usize = 16;
 pub const SRTCP_OVERHEAD: usize = 20;
 /// The most by which a sealed RTP datagram is longer than the datagram, in bytes.
 pub const SRTP_OVERHEAD: usize = 16;
-
-#[cfg(test)]
-mod tests;

@@ -2,6 +2,7 @@ ghost use Rattle.std.specs.Prelude.{◌≡◌, Some};
 ghost use Rattle.srtp_core.specs.Keys.{material_len};
 ghost use Rattle.srtp_core.specs.Names.{profile_name};
 
+use crate::{aead_aes_128_gcm as gcm_128, aead_aes_256_gcm as gcm_256, aes_128_cm_sha1_80 as cm};
 use std::fmt;
 
 /// A protection profile (RFC 5764 section 4.1.2, RFC 7714 section 14.2).
@@ -28,9 +29,9 @@ impl SrtpProfile {
         ensures { result ≡ material_len self.now }
     {
         match self {
-            SrtpProfile::Aes128CmSha1_80 => 60,
-            SrtpProfile::AeadAes128Gcm => 56,
-            SrtpProfile::AeadAes256Gcm => 88,
+            SrtpProfile::Aes128CmSha1_80 => 2 * (cm::KEY_LEN + cm::SALT_LEN),
+            SrtpProfile::AeadAes128Gcm => 2 * (gcm_128::KEY_LEN + gcm_128::SALT_LEN),
+            SrtpProfile::AeadAes256Gcm => 2 * (gcm_256::KEY_LEN + gcm_256::SALT_LEN),
         }
     }
 }

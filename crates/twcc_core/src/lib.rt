@@ -11,8 +11,6 @@ mod send;
 mod share;
 mod size;
 mod status;
-#[cfg(test)]
-mod tests;
 mod wire;
 
 pub use feedback::{Twcc, read_twcc, write_twcc};

@@ -2,8 +2,8 @@ use Rattle.std.proofs.Common.{◌≡◌, true, arith}
 use Rattle.srtp_core.proofs.CmParts.{Split, encrypted_opens, clear_opens, rtcp_code, rtcp_short}
 use Rattle.srtp_core.proofs.cm.open_rtcp.Goals as goal
 
-pub returns-then-buf-lt22-clause-none : goal.returns-then-buf-lt22-clause-none
-returns-then-buf-lt22-clause-none g c = λ p o. rtcp_short g.C.SrtpCipher.meaning (g.C.SrtpCipher.bytes_128 c.args.keys.now.key) c.args.keys.now.authentication c.args.keys.now.salt c.args.buf.now p c.if-buf-lt22.true o
+pub returns-then-buf-lt-MIN_SEALED_LEN-clause-none : goal.returns-then-buf-lt-MIN_SEALED_LEN-clause-none
+returns-then-buf-lt-MIN_SEALED_LEN-clause-none g c = λ p o. rtcp_short g.C.SrtpCipher.meaning (g.C.SrtpCipher.bytes_128 c.args.keys.now.key) c.args.keys.now.authentication c.args.keys.now.salt c.args.buf.now p c.if-buf-lt-MIN_SEALED_LEN.true o
 
 pub returns-then-not-rtcp_verify-clause-none : goal.returns-then-not-rtcp_verify-clause-none
 returns-then-not-rtcp_verify-clause-none g c =

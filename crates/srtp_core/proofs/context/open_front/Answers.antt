@@ -1,4 +1,4 @@
-use Rattle.srtp_core.specs.SealLaws.{some_opens, none_opens}
+use Rattle.srtp_core.proofs.Openings.{some_opens, none_opens}
 use Rattle.srtp_core.specs.Views.{cm_session, gcm_session}
 use Rattle.srtp_core.specs.declared.profile.SrtpProfile.TheVariants.{Aes128CmSha1_80, AeadAes128Gcm, AeadAes256Gcm}
 use Rattle.srtp_core.proofs.context.open_front.Goals as goal

@@ -14,7 +14,7 @@ lost_fits (pos n) h = omega arith
 lost_fits (negsuc n) h = omega arith
 
 pub returns-clause-report : goal.returns-clause-report
-returns-clause-report c = λ past h.
+returns-clause-report g c = λ past h.
     let first = c.in_ok-first.first in
     let last = c.in_ok-last.last in
     let e = c.expected-expected.result in
@@ -24,7 +24,7 @@ returns-clause-report c = λ past h.
     let jitter = c.jitter_in_rtp_ts.result in
     let begins : first_in past ≡ Some first = sym h.begins ∙ c.in_ok-first.was in
     let ends : greatest_of (taken (heard past)) ≡ Some last = sym (c.max_seq.ensures.greatest past h) ∙ c.in_ok-last.was in
-    let after : StandsFor c.fraction_lost-fraction.new.self (reported past e count) = c.fraction_lost-fraction.ensures.reported past h in
+    let after : StandsFor g.W.GapWindow.remembers c.fraction_lost-fraction.new.self (reported past e count) = c.fraction_lost-fraction.ensures.reported past h in
     let share_is : share ≡ fraction_of (last_counts past) (expected_of first last) (received past) =
     c.fraction_lost-fraction.ensures.fraction past h
     ∙ ap (λ (n : ℕ). fraction_of (last_counts past) n count) c.expected-expected.ensures

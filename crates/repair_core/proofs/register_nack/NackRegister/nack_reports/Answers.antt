@@ -10,7 +10,7 @@ pub returns : goal.returns
 returns c = record {
   asked = λ past m.
       subst (λ (s : NackRegister). Remembers s (round past c.args.now (wait_of c.args.trip)))
-      (sym (c.round.ensures.asked ∙ ap (λ (w : ℕ). with_round c.args.self.now c.args.now w) c.wait.ensures))
+      (sym (c.settle.ensures ∙ c.round.ensures.asked ∙ ap (λ (w : ℕ). with_round c.args.self.now c.args.now w) c.wait.ensures))
       (round_is c.args.self.now past c.args.now (wait_of c.args.trip) m).0;
   entries = λ past m.
       c.round.ensures.entries

@@ -12,16 +12,16 @@ is_none None h = refl
 is_none (Some p) h = absurd (let not_so : true ≡ false = h in cc)
 
 pub returns-clause-choice : goal.returns-clause-choice
-returns-clause-choice g c = λ past h. c.greatest_below.ensures ∙ choice_is g.P.Cached.size c.args.self.now past (c.args.max_size / 25) (omega arith) h
+returns-clause-choice g c = λ past h. c.greatest_below.ensures ∙ choice_is g.S.ResendStore.stands_for g.S.ResendStore.value_at g.P.Cached.size c.args.self.now past (c.args.max_size / 25) (omega arith) h
 
 pub returns-clause-smaller : goal.returns-clause-smaller
 returns-clause-smaller g c = λ past h once.
     if_some _ _
     (λ p is.
-    smaller_is g.P.Cached.size c.args.self.now past (c.args.max_size / 25) p h once
-    (sym (c.greatest_below.ensures ∙ choice_is g.P.Cached.size c.args.self.now past (c.args.max_size / 25) (omega arith) h) ∙ is))
+    smaller_is g.S.ResendStore.stands_for g.S.ResendStore.value_at g.met.S.ResendStore.holds g.P.Cached.size c.args.self.now past (c.args.max_size / 25) p h once
+    (sym (c.greatest_below.ensures ∙ choice_is g.S.ResendStore.stands_for g.S.ResendStore.value_at g.P.Cached.size c.args.self.now past (c.args.max_size / 25) (omega arith) h) ∙ is))
 
 pub returns-clause-none : goal.returns-clause-none
 returns-clause-none g c = λ past h order roomy aging none.
-    none_is g.P.Cached.size c.args.self.now past (c.args.max_size / 25) h order roomy aging
-    (sym (c.greatest_below.ensures ∙ choice_is g.P.Cached.size c.args.self.now past (c.args.max_size / 25) (omega arith) h) ∙ is_none _ none)
+    none_is g.S.ResendStore.stands_for g.S.ResendStore.value_at g.met.S.ResendStore.holds g.P.Cached.size c.args.self.now past (c.args.max_size / 25) h order roomy aging
+    (sym (c.greatest_below.ensures ∙ choice_is g.S.ResendStore.stands_for g.S.ResendStore.value_at g.P.Cached.size c.args.self.now past (c.args.max_size / 25) (omega arith) h) ∙ is_none _ none)

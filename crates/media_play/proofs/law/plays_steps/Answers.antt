@@ -1,5 +1,0 @@
-use Rattle.media_play.proofs.Steps.{plays_steps}
-use Rattle.media_play.proofs.law.plays_steps.Goals as goal
-
-pub returns : goal.returns
-returns c seal setup steps entries wire sound h = plays_steps h

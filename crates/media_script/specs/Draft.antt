@@ -1,0 +1,46 @@
+-- What the setup lines of a script say together.
+use Rattle.std.specs.Prelude.{ℕ, List, [], ◌∷◌, ◌++◌, Bool, Option, Some, None, if◌then◌else◌}
+use Rattle.std.specs.Str.{bytes_eq}
+use Rattle.srtp_core.specs.declared.profile.SrtpProfile.TheVariants.{AeadAes128Gcm}
+use Rattle.media_model.specs.declared.setup.CipherName.TheVariants.{Toy}
+use Rattle.media_model.specs.declared.setup.Stream.{Stream}
+use Rattle.media_model.specs.declared.setup.Media.{Media}
+use Rattle.media_model.specs.declared.setup.Setup.{Setup}
+use Rattle.media_script.specs.declared.draft.Draft.{Draft}
+use Rattle.media_script.specs.declared.setup_line.SetupLine.{SetupLine}
+use Rattle.media_script.specs.declared.setup_line.SetupLine.TheVariants as line
+use Rattle.media_script.specs.Words.{◌>>=◌}
+
+abbrev pub is_of : List ℕ → Media → Bool
+is_of mid media = bytes_eq media.mid mid
+
+-- the first media of this mid has one stream more
+abbrev pub with_stream : List ℕ → Stream → List Media → List Media
+with_stream mid stream [] = []
+with_stream mid stream (media ∷ rest) =
+    if is_of mid media then record media { streams = media.streams ++ stream ∷ [] } ∷ rest
+    else media ∷ with_stream mid stream rest
+
+-- what stands where no line says it
+abbrev pub blank : Draft
+blank = record { cipher = Toy; profile = AeadAes128Gcm; key = None; types = []; media = [] }
+
+-- what one line more says
+abbrev pub told : Draft → SetupLine → Draft
+told draft (line.Cipher cipher) = record draft { cipher = cipher }
+told draft (line.Profile profile) = record draft { profile = profile }
+told draft (line.Key key) = record draft { key = Some key }
+told draft (line.Type payload_type) = record draft { types = draft.types ++ payload_type ∷ [] }
+told draft (line.Media mid kind cname) =
+    record draft { media = draft.media ++ record { mid = mid; kind = kind; cname = cname; streams = [] } ∷ [] }
+told draft (line.Stream mid stream) = record draft { media = with_stream mid stream draft.media }
+
+-- the setup, if the key stands
+abbrev pub setup_of : Draft → Option Setup
+setup_of draft = draft.key >>= λ key. Some (record {
+  cipher = draft.cipher;
+  profile = draft.profile;
+  key = key;
+  types = draft.types;
+  media = draft.media;
+})

@@ -1,0 +1,288 @@
+// What the words of a line say.
+ghost use Rattle.std.specs.Prelude.{◌≡◌, ◌^◌, IsTrue, IfOk};
+ghost use Rattle.std.specs.Option.{ForSome, option_copied};
+ghost use Rattle.std.specs.Char.{is_ascii_alphanumeric};
+ghost use Rattle.std.specs.List.{list_all};
+ghost use Rattle.media_script.specs.Words.{plain_front, number_of, narrow_of, time_of, side_of, flag_of, hex_of, kind_of, profile_of, key_of, codec_of, media_kind_of, rate_of, is_name, name_of, optional};
+ghost use Rattle.media_script.specs.Gives.{Gives};
+
+use crate::error::LineError;
+use hex::FromHexError;
+use media_base::Bytes;
+use media_model::{Codec, Key, Kind, MediaKind, Side};
+use rtp_wire::{Mid, Rid};
+use srtp_core::SrtpProfile;
+use std::alloc::Global;
+
+fn has_plain_front(word: &[u8]) -> bool
+    ensures { result ≡ plain_front word.now }
+{
+    match word {
+        [] => false,
+        [b'0', _, ..] => false,
+        _ => true,
+    }
+}
+
+// Digits with no needless zero in front, below 2^64.
+#[tactic(auto, unfolding(crate::specs::Words::number_of))]
+pub fn number(word: &[u8]) -> Result<u64, LineError>
+    ensures { Gives (λ n. n) result (number_of word.now) }
+{
+    if !has_plain_front(word) {
+        return Err(LineError::Outside);
+    }
+    let mut value = 0u64;
+    for b in word {
+        if !b.is_ascii_digit() {
+            return Err(LineError::Outside);
+        }
+        value = match value.checked_mul(10) {
+            Some(tens) => match tens.checked_add(u64::from(*b - b'0')) {
+                Some(value) => value,
+                None => return Err(LineError::Outside),
+            },
+            None => return Err(LineError::Outside),
+        };
+    }
+    Ok(value)
+}
+
+#[tactic(auto, unfolding(crate::specs::Words::narrow_of))]
+pub fn number_32(word: &[u8]) -> Result<u32, LineError>
+    ensures { Gives (λ n. n) result (narrow_of (2 ^ 32) word.now) }
+{
+    let n = number(word)?;
+    if n > 0xffff_ffff {
+        return Err(LineError::Outside);
+    }
+    Ok(n as u32)
+}
+
+#[tactic(auto, unfolding(crate::specs::Words::narrow_of))]
+pub fn number_8(word: &[u8]) -> Result<u8, LineError>
+    ensures { Gives (λ n. n) result (narrow_of (2 ^ 8) word.now) }
+{
+    let n = number(word)?;
+    if n > 255 {
+        return Err(LineError::Outside);
+    }
+    Ok(n as u8)
+}
+
+// Nanoseconds, or milliseconds with ms behind them.
+#[tactic(auto, unfolding(crate::specs::Words::time_of))]
+pub fn time(word: &[u8]) -> Result<u64, LineError>
+    ensures { Gives (λ n. n) result (time_of word.now) }
+{
+    match word.strip_suffix(b"ms".as_slice()) {
+        Some(digits) => {
+            let n = number(digits)?;
+            match n.checked_mul(1_000_000) {
+                Some(nanos) => Ok(nanos),
+                None => Err(LineError::Outside),
+            }
+        }
+        None => number(word),
+    }
+}
+
+#[tactic(auto, unfolding(crate::specs::Words::side_of))]
+pub fn side(word: &[u8]) -> Result<Side, LineError>
+    ensures { Gives (λ s. s) result (side_of word.now) }
+{
+    if word == b"A".as_slice() {
+        Ok(Side::A)
+    } else if word == b"B".as_slice() {
+        Ok(Side::B)
+    } else {
+        Err(LineError::Outside)
+    }
+}
+
+#[tactic(auto, unfolding(crate::specs::Words::flag_of))]
+pub fn flag(word: &[u8]) -> Result<bool, LineError>
+    ensures { Gives (λ b. b) result (flag_of word.now) }
+{
+    if word == b"0".as_slice() {
+        Ok(false)
+    } else if word == b"1".as_slice() {
+        Ok(true)
+    } else {
+        Err(LineError::Outside)
+    }
+}
+
+#[tactic(auto, unfolding(crate::specs::Words::hex_of))]
+pub fn hex(alloc: Global, word: &[u8]) -> Result<Vec<u8>, LineError>
+    ensures { Gives (λ v. v.items) result (hex_of word.now) }
+{
+    if word == b"-".as_slice() {
+        return Ok(Vec::new(alloc));
+    }
+    if word.is_empty() {
+        return Err(LineError::Outside);
+    }
+    match hex::decode(alloc, word) {
+        Ok(bytes) => Ok(bytes),
+        Err(FromHexError::OutOfMemory) => Err(LineError::Memory),
+        Err(_) => Err(LineError::Outside),
+    }
+}
+
+#[tactic(auto, unfolding(crate::specs::Words::kind_of))]
+pub fn kind(word: &[u8]) -> Result<Kind, LineError>
+    ensures { Gives (λ k. k) result (kind_of word.now) }
+{
+    if word == b"rtp".as_slice() {
+        Ok(Kind::Rtp)
+    } else {
+        Err(LineError::Outside)
+    }
+}
+
+#[tactic(auto, unfolding(crate::specs::Words::profile_of))]
+pub fn profile(word: &[u8]) -> Result<SrtpProfile, LineError>
+    ensures { Gives (λ p. p) result (profile_of word.now) }
+{
+    if word == b"gcm128".as_slice() {
+        Ok(SrtpProfile::AeadAes128Gcm)
+    } else {
+        Err(LineError::Outside)
+    }
+}
+
+#[tactic(auto, unfolding(crate::specs::Words::key_of))]
+pub fn key(alloc: Global, word: &[u8]) -> Result<Key, LineError>
+    ensures { Gives (λ k. k) result (key_of word.now) }
+{
+    if word == b"zero".as_slice() {
+        return Ok(Key::Zero);
+    }
+    let bytes = hex(alloc, word)?;
+    Ok(Key::Given(Bytes::from_vec(bytes)))
+}
+
+#[tactic(auto, unfolding(crate::specs::Words::codec_of))]
+pub fn codec(word: &[u8]) -> Result<Codec, LineError>
+    ensures { Gives (λ c. c) result (codec_of word.now) }
+{
+    if word == b"opus".as_slice() {
+        Ok(Codec::Opus)
+    } else if word == b"pcmu".as_slice() {
+        Ok(Codec::Pcmu)
+    } else if word == b"pcma".as_slice() {
+        Ok(Codec::Pcma)
+    } else if word == b"telephone".as_slice() {
+        Ok(Codec::Telephone)
+    } else if word == b"vp8".as_slice() {
+        Ok(Codec::Vp8)
+    } else if word == b"vp9".as_slice() {
+        Ok(Codec::Vp9)
+    } else if word == b"h264".as_slice() {
+        Ok(Codec::H264)
+    } else if word == b"h265".as_slice() {
+        Ok(Codec::H265)
+    } else if word == b"h266".as_slice() {
+        Ok(Codec::H266)
+    } else if word == b"av1".as_slice() {
+        Ok(Codec::Av1)
+    } else {
+        Err(LineError::Outside)
+    }
+}
+
+#[tactic(auto, unfolding(crate::specs::Words::media_kind_of))]
+pub fn media_kind(word: &[u8]) -> Result<MediaKind, LineError>
+    ensures { Gives (λ k. k) result (media_kind_of word.now) }
+{
+    if word == b"audio".as_slice() {
+        Ok(MediaKind::Audio)
+    } else if word == b"video".as_slice() {
+        Ok(MediaKind::Video)
+    } else {
+        Err(LineError::Outside)
+    }
+}
+
+// Units of RTP time in a second.
+#[tactic(auto, unfolding(crate::specs::Words::rate_of))]
+pub fn rate(word: &[u8]) -> Result<u32, LineError>
+    ensures { Gives (λ n. n) result (rate_of word.now) }
+{
+    let n = number_32(word)?;
+    if n == 0 {
+        return Err(LineError::Outside);
+    }
+    Ok(n)
+}
+
+// 1 to so many ASCII letters and digits.
+fn is_name(word: &[u8], most: usize) -> bool
+    ensures { result ≡ is_name most word.now }
+{
+    !word.is_empty() && word.len() <= most && is_plain(word)
+}
+
+fn is_plain(word: &[u8]) -> bool
+    ensures { result ≡ list_all is_ascii_alphanumeric word.now }
+{
+    word.iter().all(|b| b.is_ascii_alphanumeric())
+}
+
+// The word, if it is a name of 1 to so many ASCII letters and digits.
+#[tactic(auto, unfolding(crate::specs::Words::name_of))]
+pub fn name(word: &[u8], most: usize) -> Result<&[u8], LineError>
+    ensures value { Gives (λ n. n.now) result (name_of most word.now) }
+    ensures name { IfOk result (λ n. IsTrue (is_name most n.now)) }
+{
+    if !is_name(word, most) {
+        return Err(LineError::Outside);
+    }
+    Ok(word)
+}
+
+#[tactic(auto, using(crate::proofs::Names::is_wire_name))]
+pub fn mid(name: &[u8]) -> Mid
+    requires { IsTrue (is_name 16 name.now) }
+    ensures { result ≡ name.now }
+{
+    match Mid::from_slice(name) {
+        Some(mid) => mid,
+        None => unreachable!(),
+    }
+}
+
+#[tactic(auto, using(crate::proofs::Names::is_wire_name))]
+pub fn rid(name: Option<&[u8]>) -> Option<Rid>
+    requires { ForSome name (λ n. IsTrue (is_name 16 n.now)) }
+    ensures { result ≡ option_copied name.entry }
+{
+    match name {
+        Some(name) => Rid::from_slice(name),
+        None => None,
+    }
+}
+
+// A number of 32 bits, or - for none.
+#[tactic(auto, unfolding(crate::specs::Words::optional))]
+pub fn optional_32(word: &[u8]) -> Result<Option<u32>, LineError>
+    ensures { Gives (λ n. n) result (optional (narrow_of (2 ^ 32)) word.now) }
+{
+    if word == b"-".as_slice() {
+        return Ok(None);
+    }
+    Ok(Some(number_32(word)?))
+}
+
+// A name of 1 to 16 ASCII letters and digits, or - for none.
+#[tactic(auto, unfolding(crate::specs::Words::optional))]
+pub fn optional_name(word: &[u8]) -> Result<Option<&[u8]>, LineError>
+    ensures value { Gives (λ n. option_copied n) result (optional (name_of 16) word.now) }
+    ensures name { IfOk result (λ n. ForSome n (λ n. IsTrue (is_name 16 n.now))) }
+{
+    if word == b"-".as_slice() {
+        return Ok(None);
+    }
+    Ok(Some(name(word, 16)?))
+}

@@ -1,0 +1,89 @@
+-- What a run comes to, with its line and without memory for it.
+use Rattle.std.proofs.Common.{◌≡◌, inl, inr, ℕ, List, [], ◌++◌, length, take, Some, None, Result, Ok, Err, refl, sym, ap, ◌∙◌, subst, arith}
+use Rattle.std.specs.Prelude.{IfOk}
+use Rattle.std.specs.declared.alloc.AllocError.{AllocError}
+use Rattle.std.specs.declared.option.Option.{Option}
+use Rattle.std.proofs.lemmas.List.{take_all}
+use Rattle.media_model.specs.declared.entry.Entry.{Entry}
+use Rattle.media_model.specs.declared.setup.Setup.{Setup as Given}
+use Rattle.media_model.specs.declared.step.Step.{Step as Act}
+use Rattle.media_script.specs.FirstWrong.{IsFirstWrong}
+use Rattle.media_script.specs.Spelling.{IsScript}
+use Rattle.media_script.specs.Text.{entries_text}
+use Rattle.media_play.specs.declared.fault.StepFault.{StepFault}
+use Rattle.media_play.specs.declared.fault.RunError.TheVariants as error
+use Rattle.media_play.specs.Headline.{HoldsOfRun}
+use Rattle.media_play.specs.Running.{HasCause}
+use Rattle.mediasim.specs.declared.ends.End.{End}
+use Rattle.mediasim.specs.declared.ends.End.TheVariants.{Done, Setup, Step, ReadFault, WriteFault, Memory, Syntax, TooLong, Usage}
+use Rattle.mediasim.specs.Lines.{memory_line, IsLastLine, reported}
+use Rattle.mediasim.specs.RunCommand.{toy_sealing, syntax_line, step_line, AreOfRun, RunEnds, RunMakes, IsNoScript}
+
+-- all entries are a front of themselves
+all_told : (entries : List Entry) (last : List ℕ) → last ≡ memory_line → entries_text entries ++ last ≡ entries_text (take (length entries) entries) ++ memory_line
+all_told entries last is =
+    ap (λ (xs : List ℕ). entries_text entries ++ xs) is
+    ∙ ap (λ (es : List Entry). entries_text es ++ memory_line) (sym (take_all (length entries) entries (omega arith)))
+
+-- a run that ended at a step
+pub step_ends : {X : Type 0} (view : X → List ℕ) (setup : Given) (steps : List Act) (number : ℕ) (fault : StepFault) (entries told : List Entry)
+    (line : Result X AllocError) (ended : End) (last : List ℕ)
+    → IsLastLine view (Step number fault) line ended last → IfOk line (λ text. view text ≡ step_line number fault) → told ≡ entries
+    → HasCause (toy_sealing setup) setup steps entries (error.Step number fault) → HoldsOfRun (toy_sealing setup) setup entries
+    → RunEnds setup steps ended (reported ended told) (entries_text told ++ last)
+step_ends view setup steps number fault entries told (Ok text) ended last is said same cause holds =
+    subst (λ (es : List Entry). RunEnds setup steps ended (reported ended es) (entries_text es ++ last)) (sym same)
+    (subst (λ (e : End). RunEnds setup steps e (reported e entries) (entries_text entries ++ last)) (sym is.0)
+    (cause, holds, ap (λ (xs : List ℕ). entries_text entries ++ xs) (is.1 ∙ said)))
+step_ends view setup steps number fault entries told (Err e) ended last is said same cause holds =
+    subst (λ (es : List Entry). RunEnds setup steps ended (reported ended es) (entries_text es ++ last)) (sym same)
+    (subst (λ (e : End). RunEnds setup steps e (reported e entries) (entries_text entries ++ last)) (sym is.0)
+    (entries, inr (error.Step number fault, cause), (length entries, all_told entries last is.1)))
+
+-- the end of a script's run is that of its bytes
+pub run_makes : (read : List ℕ) (setup : Given) (steps : List Act) (end : End) (transcript : Option (List Entry)) (text : List ℕ)
+    → IsScript read setup steps → RunEnds setup steps end transcript text → RunMakes read end transcript text
+run_makes read setup steps Done transcript text script h = record { setup = setup; steps = steps; script = script; run = h }
+run_makes read setup steps (Setup fault) transcript text script h = record { setup = setup; steps = steps; script = script; run = h }
+run_makes read setup steps (Step number fault) transcript text script h = record { setup = setup; steps = steps; script = script; run = h }
+run_makes read setup steps Memory None text script h = inr (record { setup = setup; steps = steps; script = script; run = h })
+run_makes read setup steps Memory (Some entries) text script h = absurd h
+run_makes read setup steps (Syntax line) transcript text script h = absurd h
+run_makes read setup steps ReadFault transcript text script h = absurd h
+run_makes read setup steps WriteFault transcript text script h = absurd h
+run_makes read setup steps TooLong transcript text script h = absurd h
+run_makes read setup steps Usage transcript text script h = absurd h
+
+-- memory runs out after some entries of a run were told
+pub run_fronts : (read : List ℕ) (setup : Given) (steps : List Act) (entries : List Entry) (count : ℕ) → IsScript read setup steps → AreOfRun setup steps entries
+    → RunMakes read Memory None (entries_text (take count entries) ++ memory_line)
+run_fronts read setup steps entries count script are =
+    inr (record { setup = setup; steps = steps; script = script; run = (entries, are, (count, refl)) })
+
+-- where there are no entries
+pub no_fronts : (read : List ℕ) (entries : List Entry) (count : ℕ) → entries ≡ [] → RunMakes read Memory None (entries_text (take count entries) ++ memory_line)
+no_fronts read entries count none =
+    inl (ap (λ (es : List Entry). entries_text (take count es) ++ memory_line) none
+    ∙ ap (λ (es : List Entry). entries_text es ++ memory_line) (take_all count [] (omega arith)))
+
+-- bytes that are no script
+pub syntax_makes : {X : Type 0} (view : X → List ℕ) (read : List ℕ) (number : ℕ) (entries : List Entry) (line : Result X AllocError) (ended : End) (last : List ℕ)
+    → IsLastLine view (Syntax number) line ended last → IfOk line (λ text. view text ≡ syntax_line number) → entries ≡ []
+    → IsFirstWrong read number → IsNoScript read
+    → RunMakes read ended (reported ended entries) (entries_text entries ++ last)
+syntax_makes view read number entries (Ok text) ended last is said none wrong not_script =
+    subst (λ (es : List Entry). RunMakes read ended (reported ended es) (entries_text es ++ last)) (sym none)
+    (subst (λ (e : End). RunMakes read e (reported e []) (entries_text [] ++ last)) (sym is.0) (wrong, not_script, is.1 ∙ said))
+syntax_makes view read number entries (Err e) ended last is said none wrong not_script =
+    subst (λ (es : List Entry). RunMakes read ended (reported ended es) (entries_text es ++ last)) (sym none)
+    (subst (λ (e : End). RunMakes read e (reported e []) (entries_text [] ++ last)) (sym is.0) (inl is.1))
+
+pub memory_makes : (read : List ℕ) (entries : List Entry) (ended : End) (last : List ℕ) → ended ≡ Memory → last ≡ memory_line → entries ≡ []
+    → RunMakes read ended (reported ended entries) (entries_text entries ++ last)
+memory_makes read entries ended last is same none =
+    subst (λ (es : List Entry). RunMakes read ended (reported ended es) (entries_text es ++ last)) (sym none)
+    (subst (λ (e : End). RunMakes read e (reported e []) (entries_text [] ++ last)) (sym is) (inl same))
+
+-- what a script gives is no line
+pub no_line : (setup : Given) (steps : List Act) (line : ℕ) → (let script : Given × List Act = (setup, steps) in ◌≡◌ {A = Result (Given × List Act) ℕ} (Ok script) (Err line)) → ⊥
+no_line setup steps line e = cc

@@ -1,0 +1,16 @@
+use Rattle.std.proofs.Common.{◌≡◌, ℕ, List, [], ◌∷◌, length, get_or, map, string_bytes, sym, ap, ◌∙◌, arith}
+use Rattle.std.proofs.lemmas.Bool.Decides.{Decides-eqb}
+use Rattle.std.proofs.lemmas.Slice.Eq.{slice_eq-Decides}
+use Rattle.mediasim.proofs.command.command_of.Goals as goal
+
+single : {X : Type 0} (xs : List X) (x : X) → length xs ≡ 1 → x ≡ get_or xs 0 x → xs ≡ x ∷ []
+single [] x one is = absurd (omega arith)
+single (y ∷ []) x one is = ap (λ z. z ∷ []) (sym is)
+single (y ∷ z ∷ xs) x one is = absurd (omega arith)
+
+pub returns-in-len1 : goal.returns-in-len1
+returns-in-len1 c =
+    let one = single c.args.words.now c.word-item.result (omega arith) c.word-item.is in
+    let decides = slice_eq-Decides Decides-eqb _ _ _ c.eq.ensures in
+    let seen : map string_bytes c.args.words.now ≡ c.as_str.result.now ∷ [] = ap (map string_bytes) one ∙ ap (λ (l : List ℕ). l ∷ []) (sym c.as_str.ensures.value) in
+    seen ∙ ap (λ (l : List ℕ). l ∷ []) (decides.0 c.if-eq.true)

@@ -1,0 +1,42 @@
+use Rattle.media_play.specs.Headline.{StepsAreAnswered, SealsAreRight, FirstSendingsAreYielded, NoNonceTwice, SendsInSome, YieldsWrites, NoPacketTwice}
+use Rattle.mediasim.specs.RunCommand.{toy_sealing}
+use Rattle.mediasim.proofs.Whole.{answers_script, plays_all, script_holds, script_plays, always_holds}
+use Rattle.mediasim.proofs.media_main.media_main.Goals as goal
+
+pub returns-clause-script : goal.returns-clause-script
+returns-clause-script g c setup acts told = answers_script _ _ _ _ _ _ setup acts _ _ c.script_spells_one.ensures c.answer.ensures.answers told
+
+pub returns-clause-complete : goal.returns-clause-complete
+returns-clause-complete g c setup acts order no_read no_write =
+    plays_all _ _ _ _ _ _ setup acts _ _ c.script_spells_one.ensures c.answer.ensures.answers order (λ e. no_read (c.answer.ensures.read_fault e)) (λ e. no_write (c.answer.ensures.write_fault e))
+
+pub returns-clause-played : goal.returns-clause-played
+returns-clause-played g c setup acts told =
+    script_plays c.plays_steps.ensures _ _ setup acts _ _ (answers_script _ _ _ _ _ _ setup acts _ _ c.script_spells_one.ensures c.answer.ensures.answers told)
+
+pub returns-clause-steps : goal.returns-clause-steps
+returns-clause-steps g c setup acts told =
+    script_holds _ _ setup acts _ _ (StepsAreAnswered (toy_sealing setup) setup) (λ entries h. h.steps)
+    (answers_script _ _ _ _ _ _ setup acts _ _ c.script_spells_one.ensures c.answer.ensures.answers told)
+
+pub returns-clause-seals : goal.returns-clause-seals
+returns-clause-seals g c setup acts told =
+    script_holds _ _ setup acts _ _ (SealsAreRight (toy_sealing setup) setup) (λ entries h. h.seals)
+    (answers_script _ _ _ _ _ _ setup acts _ _ c.script_spells_one.ensures c.answer.ensures.answers told)
+
+pub returns-clause-exactly : goal.returns-clause-exactly
+returns-clause-exactly g c setup acts told =
+    script_holds _ _ setup acts _ _ FirstSendingsAreYielded (λ entries h. h.exactly)
+    (answers_script _ _ _ _ _ _ setup acts _ _ c.script_spells_one.ensures c.answer.ensures.answers told)
+
+pub returns-clause-nonces : goal.returns-clause-nonces
+returns-clause-nonces g c = always_holds _ _ _ _ _ _ _ _ NoNonceTwice (λ seal setup entries h. h.nonces) c.answer.ensures.answers
+
+pub returns-clause-sendings : goal.returns-clause-sendings
+returns-clause-sendings g c = always_holds _ _ _ _ _ _ _ _ SendsInSome (λ seal setup entries h. (setup, h.sendings)) c.answer.ensures.answers
+
+pub returns-clause-yields : goal.returns-clause-yields
+returns-clause-yields g c = always_holds _ _ _ _ _ _ _ _ YieldsWrites (λ seal setup entries h. h.yields) c.answer.ensures.answers
+
+pub returns-clause-once : goal.returns-clause-once
+returns-clause-once g c = always_holds _ _ _ _ _ _ _ _ NoPacketTwice (λ seal setup entries h. h.once) c.answer.ensures.answers

@@ -1,0 +1,105 @@
+-- What the command run makes of a whole input.
+use Rattle.std.specs.Prelude.{ℕ, ◌≡◌, ◌⊎◌, ◌+◌, List, ◌++◌, take, codes}
+use Rattle.std.specs.Fmt.{decimal}
+use Rattle.std.specs.declared.option.Option.{Option}
+use Rattle.std.specs.declared.option.Option.TheVariants.{Some, None}
+use Rattle.srtp_core.specs.Toy.{toy_meaning}
+use Rattle.media_model.specs.declared.entry.Entry.{Entry}
+use Rattle.media_model.specs.declared.setup.Setup.{Setup as Given}
+use Rattle.media_model.specs.declared.step.Step.{Step as Act}
+use Rattle.media_script.specs.FirstWrong.{IsFirstWrong}
+use Rattle.media_script.specs.Spelling.{IsScript}
+use Rattle.media_script.specs.Text.{entries_text, text_of}
+use Rattle.media_play.specs.declared.fault.SetupFault.{SetupFault}
+use Rattle.media_play.specs.declared.fault.StepFault.{StepFault}
+use Rattle.media_play.specs.declared.fault.RunError.{RunError}
+use Rattle.media_play.specs.declared.fault.RunError.TheVariants as error
+use Rattle.media_play.specs.FaultNames.{setup_fault_name, step_fault_name}
+use Rattle.media_play.specs.Headline.{HoldsOfRun, PlaysSteps}
+use Rattle.media_play.specs.Opening.{Sealing}
+use Rattle.media_play.specs.Play.{Played}
+use Rattle.media_play.specs.Running.{HasCause}
+use Rattle.media_play.specs.Sessions.{sealing_of}
+use Rattle.media_play.specs.SetupRules.{setup_fault}
+use Rattle.mediasim.specs.Lines.{memory_line}
+use Rattle.mediasim.specs.declared.ends.End.{End}
+use Rattle.mediasim.specs.declared.ends.End.TheVariants.{Done, Setup, Step, ReadFault, Memory, Syntax, TooLong, Usage}
+
+-- how the sides of a setup seal with the toy cipher
+abbrev pub toy_sealing : Given → Sealing
+toy_sealing setup = sealing_of toy_meaning setup
+
+-- the fault lines that name a line, a rule of setups, or a step and a rule of steps
+abbrev pub syntax_line : ℕ → List ℕ
+syntax_line line = codes "fault syntax " ++ decimal line ++ codes "\n"
+
+abbrev pub setup_line : SetupFault → List ℕ
+setup_line fault = codes "fault setup " ++ setup_fault_name fault ++ codes "\n"
+
+abbrev pub step_line : ℕ → StepFault → List ℕ
+step_line number fault = codes "fault step " ++ decimal number ++ codes " " ++ step_fault_name fault ++ codes "\n"
+
+-- the entries of a run of this setup and these steps: of all its steps, or those before it ended
+abbrev pub AreOfRun : Given → List Act → List Entry → Type 0
+AreOfRun setup steps entries =
+    Played (toy_sealing setup) setup steps entries ⊎ ((cause : RunError) × HasCause (toy_sealing setup) setup steps entries cause)
+
+-- the lines of some entries at the front, and the fault line behind them
+abbrev pub StopsAmong : List Entry → List ℕ → Type 0
+StopsAmong entries text = (count : ℕ) × (text ≡ entries_text (take count entries) ++ memory_line)
+
+-- what a setup and its steps come to: all steps are played; the setup breaks a rule, and nothing happens; the steps before
+-- the first one that breaks a rule are played; or memory runs out, and what was told ends with a line
+abbrev pub RunEnds : Given → List Act → End → Option (List Entry) → List ℕ → Type 0
+RunEnds setup steps Done (Some entries) text =
+    (setup_fault setup ≡ None) × Played (toy_sealing setup) setup steps entries
+    × HoldsOfRun (toy_sealing setup) setup entries × (text ≡ text_of setup entries)
+RunEnds setup steps (Setup fault) None text = (setup_fault setup ≡ Some fault) × (text ≡ setup_line fault)
+RunEnds setup steps (Step number fault) (Some entries) text =
+    HasCause (toy_sealing setup) setup steps entries (error.Step number fault)
+    × HoldsOfRun (toy_sealing setup) setup entries × (text ≡ entries_text entries ++ step_line number fault)
+RunEnds setup steps Memory None text = (entries : List Entry) × AreOfRun setup steps entries × StopsAmong entries text
+RunEnds setup steps end transcript text = ⊥
+
+-- what was read is a script, whose setup and steps come to this end
+pub record ScriptEnds (read : List ℕ) (end : End) (transcript : Option (List Entry)) (text : List ℕ) : Type 0 where
+  pub setup : Given
+  pub steps : List Act
+  pub script : IsScript read setup steps
+  pub run : RunEnds setup steps end transcript text
+
+-- these bytes are no script
+abbrev pub IsNoScript : List ℕ → Type 0
+IsNoScript read = (setup : Given) (steps : List Act) → IsScript read setup steps → ⊥
+
+-- the end, the transcript and the text of all that was read
+abbrev pub RunMakes : List ℕ → End → Option (List Entry) → List ℕ → Type 0
+RunMakes read Done transcript text = ScriptEnds read Done transcript text
+RunMakes read (Setup fault) transcript text = ScriptEnds read (Setup fault) transcript text
+RunMakes read (Step number fault) transcript text = ScriptEnds read (Step number fault) transcript text
+RunMakes read (Syntax line) None text = IsFirstWrong read line × IsNoScript read × (text ≡ syntax_line line)
+RunMakes read Memory None text = (text ≡ memory_line) ⊎ ScriptEnds read Memory None text
+RunMakes read end transcript text = ⊥
+
+-- the call came to the end of this setup and these steps, or to one that is no end of a script
+abbrev pub EndsInRun : Given → List Act → End → Option (List Entry) → List ℕ → Type 0
+EndsInRun setup steps Done transcript text = RunEnds setup steps Done transcript text
+EndsInRun setup steps (Setup fault) transcript text = RunEnds setup steps (Setup fault) transcript text
+EndsInRun setup steps (Step number fault) transcript text = RunEnds setup steps (Step number fault) transcript text
+EndsInRun setup steps Memory None text = (text ≡ memory_line) ⊎ RunEnds setup steps Memory None text
+EndsInRun setup steps ReadFault transcript text = transcript ≡ None
+EndsInRun setup steps TooLong transcript text = transcript ≡ None
+EndsInRun setup steps Usage transcript text = transcript ≡ None
+EndsInRun setup steps end transcript text = ⊥
+
+-- the steps among the entries are all those of the script, or those before the one that breaks a rule
+abbrev pub PlaysToEnd : List Act → End → Option (List Entry) → Type 0
+PlaysToEnd steps Done (Some entries) = PlaysSteps steps entries
+PlaysToEnd steps (Step number fault) (Some entries) = (before : ℕ) × (number ≡ before + 1) × PlaysSteps (take before steps) entries
+PlaysToEnd steps end transcript = transcript ≡ None
+
+-- all steps were played, or memory ran out
+abbrev pub PlaysAll : Given → List Act → End → Option (List Entry) → Type 0
+PlaysAll setup steps Done (Some entries) = Played (toy_sealing setup) setup steps entries
+PlaysAll setup steps Memory None = Unit {0}
+PlaysAll setup steps end transcript = ⊥

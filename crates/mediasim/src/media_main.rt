@@ -1,0 +1,110 @@
+// The top call.
+ghost use Rattle.std.specs.Prelude.{◌≡◌, List, ℕ, map, string_bytes, IfSome};
+ghost use Rattle.media_base.specs.Causes.{Rose};
+ghost use Rattle.media_model.specs.declared.setup.Setup.{Setup as Given};
+ghost use Rattle.media_model.specs.declared.step.Step.{Step as Act};
+ghost use Rattle.media_play.specs.Headline.{StepsAreAnswered, SealsAreRight, NoNonceTwice, SendsInSome, YieldsWrites, NoPacketTwice, FirstSendingsAreYielded};
+ghost use Rattle.mediasim.specs.Ends.{status_of};
+ghost use Rattle.mediasim.specs.MediaMain.{Answers, AnswersScript, TellsScript, IsInOrder};
+ghost use Rattle.mediasim.specs.RunCommand.{toy_sealing, PlaysToEnd, PlaysAll};
+
+use crate::command::{Command, command_of};
+use crate::ends::{End, Report, tell_line};
+use crate::run_command::run_command;
+use media_base::{ReadError, Sink, Source, read_all};
+use media_play::laws::plays_steps;
+use media_script::laws::script_spells_one;
+use std::alloc::Global;
+
+/// The most bytes of an input.
+pub const LIMIT: usize = 67_108_864;
+
+// Reads the whole input, and has the command that the words name answer it.
+fn answer<S: Source, K: Sink>(
+    alloc: Global,
+    words: &[String],
+    source: &mut S,
+    sink: &mut K,
+) -> Report
+    ensures status { result.status ≡ status_of result.end }
+    ensures answers { Answers LIMIT (map string_bytes words.now) (S.left source.old) (S.left source.new)
+        (K.written sink.old) (K.written sink.new) result.end result.transcript }
+    ensures read_fault { result.end ≡ End.ReadFault → Rose (S.fault_count source.old) (S.fault_count source.new) }
+    ensures write_fault { result.end ≡ End.WriteFault → Rose (K.fault_count sink.old) (K.fault_count sink.new) }
+{
+    let command = match command_of(words) {
+        Some(command) => command,
+        None => return tell_line(sink, End::Usage, b"fault usage\n"),
+    };
+    match read_all(alloc, source, LIMIT) {
+        Ok(bytes) => match command {
+            Command::Run => run_command(alloc, &bytes, sink),
+        },
+        Err(ReadError::Failed) => tell_line(sink, End::ReadFault, b"fault read\n"),
+        Err(ReadError::TooLong) => tell_line(sink, End::TooLong, b"fault long\n"),
+        Err(ReadError::Memory) => tell_line(sink, End::Memory, b"fault memory\n"),
+    }
+}
+
+/// Does what the words behind the program's name say, with the input that the source gives, and
+/// writes what came of it to the sink. The one command is `run`: it plays a script between two
+/// sessions with the toy cipher.
+///
+/// What is written is the text of the transcript, or one fault line, with the text of the steps that
+/// were played before it where a step broke a rule, and whole lines at the front of the text where
+/// memory ran out. A fault of the sink takes the place of the end that it cuts short, of whose text
+/// the front was written.
+///
+/// # Errors
+/// The ends of the report other than `Done`, each exactly where its cause holds.
+pub fn media_main<S: Source, K: Sink>(
+    alloc: Global,
+    words: &[String],
+    source: &mut S,
+    sink: &mut K,
+) -> Report
+    ensures status { result.status ≡ status_of result.end }
+
+    // What was read, the end that it has come to, and what was written.
+    ensures answers { Answers LIMIT (map string_bytes words.now) (S.left source.old) (S.left source.new)
+        (K.written sink.old) (K.written sink.new) result.end result.transcript }
+    // These two come only where an end of the program has failed.
+    ensures read_fault { result.end ≡ End.ReadFault → Rose (S.fault_count source.old) (S.fault_count source.new) }
+    ensures write_fault { result.end ≡ End.WriteFault → Rose (K.fault_count sink.old) (K.fault_count sink.new) }
+    // What a script comes to.
+    ensures script { (setup : Given) (acts : List Act) → TellsScript (S.left source.old) setup acts
+        → AnswersScript setup acts (K.written sink.old) (K.written sink.new) result.end result.transcript }
+    // A script in order is played to its last step, where neither end of the program fails.
+    ensures complete { (setup : Given) (acts : List Act)
+        → IsInOrder LIMIT (map string_bytes words.now) (S.left source.old) setup acts
+        → (Rose (S.fault_count source.old) (S.fault_count source.new) → ⊥)
+        → (Rose (K.fault_count sink.old) (K.fault_count sink.new) → ⊥)
+        → PlaysAll setup acts result.end result.transcript }
+
+    // The steps of the transcript are those of the script, in order: a datagram that is delivered is
+    // the one that the other side sealed under this number.
+    ensures played { (setup : Given) (acts : List Act) → TellsScript (S.left source.old) setup acts
+        → PlaysToEnd acts result.end result.transcript }
+    // A write brings nothing. A tick seals all queued writes, stream by stream. What comes is opened
+    // exactly where it opens, and its packet yielded.
+    ensures steps { (setup : Given) (acts : List Act) → TellsScript (S.left source.old) setup acts
+        → IfSome result.transcript (StepsAreAnswered (toy_sealing setup) setup) }
+    // Each sealed datagram is a seal under its side's keys.
+    ensures seals { (setup : Given) (acts : List Act) → TellsScript (S.left source.old) setup acts
+        → IfSome result.transcript (SealsAreRight (toy_sealing setup) setup) }
+    // The write of a delivered first sending is yielded exactly where its number widens to itself and is
+    // fresh.
+    ensures exactly { (setup : Given) (acts : List Act) → TellsScript (S.left source.old) setup acts
+        → IfSome result.transcript FirstSendingsAreYielded }
+    // No two datagrams of a direction share a nonce.
+    ensures nonces { IfSome result.transcript NoNonceTwice }
+    // Each sealed datagram carries one earlier write of its side, none twice.
+    ensures sendings { IfSome result.transcript SendsInSome }
+    // In a genuine run each packet yielded is a write of the other side; in every run none is yielded twice.
+    ensures yields { IfSome result.transcript YieldsWrites }
+    ensures once { IfSome result.transcript NoPacketTwice }
+{
+    plays_steps();
+    script_spells_one();
+    answer(alloc, words, source, sink)
+}

@@ -1,0 +1,148 @@
+// The command run: what it makes of a whole input.
+ghost use Rattle.std.specs.Prelude.{◌≡◌, ◌++◌, ℕ, None, take, string_bytes, IfOk};
+ghost use Rattle.media_base.specs.Causes.{Rose};
+ghost use Rattle.media_script.specs.Text.{entries_text};
+ghost use Rattle.mediasim.specs.declared.command.Command.TheVariants.{Run};
+ghost use Rattle.mediasim.specs.Command.{Carries};
+ghost use Rattle.mediasim.specs.Ends.{status_of};
+ghost use Rattle.mediasim.specs.Lines.{bytes_of, memory_line, IsLastLine, reported};
+ghost use Rattle.mediasim.specs.RunCommand.{syntax_line, setup_line, step_line, AreOfRun, RunEnds, RunMakes};
+
+use crate::ends::{End, Report, tell_line};
+use crate::lines::{LastLine, TextError, write_text};
+use media_base::Sink;
+use media_model::{Setup, Step, Transcript};
+use media_play::{RunError, SetupFault, StepFault, media_run};
+use media_script::{ScriptError, end_line, read_script};
+use srtp_core::ToyCipher;
+use std::alloc::{AllocError, Global};
+use std::fmt::Write;
+
+/// An end, whose text is the lines of these entries and a last line.
+#[derive(Drop)]
+struct Ending {
+    end: End,
+    entries: Transcript,
+    last: LastLine,
+}
+
+impl Ending {
+    fn out_of_memory(entries: Transcript) -> Self
+        ensures end { result.end ≡ End.Memory }
+        ensures entries { result.entries ≡ entries }
+        ensures last { bytes_of result.last ≡ memory_line }
+    {
+        Ending {
+            end: End::Memory,
+            entries,
+            last: LastLine::Fixed(b"fault memory\n"),
+        }
+    }
+
+    /// An end with its line, where there was memory for it.
+    fn new(end: End, entries: Transcript, line: Result<String, AllocError>) -> Self
+        ensures entries { result.entries ≡ entries }
+        ensures last { IsLastLine (λ text. string_bytes text) end line result.end (bytes_of result.last) }
+    {
+        match line {
+            Ok(line) => Ending {
+                end,
+                entries,
+                last: LastLine::Made(line),
+            },
+            Err(_) => Ending::out_of_memory(entries),
+        }
+    }
+}
+
+// The report of an end whose text was written.
+fn report(end: End, entries: Transcript) -> Report
+    ensures end { result.end ≡ end }
+    ensures transcript { result.transcript ≡ reported end entries }
+    ensures status { result.status ≡ status_of result.end }
+{
+    match end {
+        End::Done => Report::new(end, Some(entries)),
+        End::Step(_, _) => Report::new(end, Some(entries)),
+        _ => Report::new(end, None),
+    }
+}
+
+fn syntax_line(alloc: Global, line: u64) -> Result<String, AllocError>
+    ensures { IfOk result (λ text. string_bytes text ≡ syntax_line line) }
+{
+    format!(in alloc; "fault syntax {line}\n")
+}
+
+fn setup_line(alloc: Global, fault: SetupFault) -> Result<String, AllocError>
+    ensures { IfOk result (λ text. string_bytes text ≡ setup_line fault) }
+{
+    format!(in alloc; "fault setup {fault}\n")
+}
+
+fn step_line(alloc: Global, number: u64, fault: StepFault) -> Result<String, AllocError>
+    ensures { IfOk result (λ text. string_bytes text ≡ step_line number fault) }
+{
+    let mut text = String::new(alloc);
+    writeln!(text, "fault step {number} {fault}")?;
+    Ok(text)
+}
+
+// Plays a setup and its steps.
+fn play_steps(alloc: Global, setup: &Setup, steps: &[Step]) -> Ending
+    ensures ended { RunEnds setup.now steps.now result.end (reported result.end result.entries)
+        (entries_text result.entries ++ bytes_of result.last) }
+    ensures entries { AreOfRun setup.now steps.now result.entries }
+{
+    let fault = match media_run(alloc, setup, &ToyCipher, steps) {
+        Ok(transcript) => {
+            let line = end_line(alloc, setup, &transcript);
+            return Ending::new(End::Done, transcript, line);
+        }
+        Err(fault) => fault,
+    };
+    match fault.cause {
+        RunError::Setup(cause) => {
+            Ending::new(End::Setup(cause), fault.sofar, setup_line(alloc, cause))
+        }
+        RunError::Step(number, cause) => Ending::new(
+            End::Step(number, cause),
+            fault.sofar,
+            step_line(alloc, number, cause),
+        ),
+        RunError::Memory => Ending::out_of_memory(fault.sofar),
+    }
+}
+
+// Plays the script of a whole input.
+fn play_script(alloc: Global, bytes: &[u8]) -> Ending
+    ensures makes { RunMakes bytes.now result.end (reported result.end result.entries)
+        (entries_text result.entries ++ bytes_of result.last) }
+    // Where memory runs out while the text is written.
+    ensures fronts { (count : ℕ) → RunMakes bytes.now End.Memory None (entries_text (take count result.entries) ++ memory_line) }
+{
+    match read_script(alloc, bytes) {
+        Ok((setup, steps)) => play_steps(alloc, &setup, &steps),
+        Err(ScriptError::Syntax(line)) => Ending::new(
+            End::Syntax(line),
+            Transcript::new(alloc),
+            syntax_line(alloc, line),
+        ),
+        Err(ScriptError::Memory) => Ending::out_of_memory(Transcript::new(alloc)),
+    }
+}
+
+/// Plays the script that these bytes spell between two sessions with the toy cipher, and writes the
+/// text of what happened.
+pub fn run_command<K: Sink>(alloc: Global, bytes: &[u8], sink: &mut K) -> Report
+    ensures status { result.status ≡ status_of result.end }
+    ensures carries { Carries Run bytes.now (K.written sink.old) (K.written sink.new) result.end result.transcript }
+    ensures write_fault { result.end ≡ End.WriteFault → Rose (K.fault_count sink.old) (K.fault_count sink.new) }
+{
+    let Ending { end, entries, last } = play_script(alloc, bytes);
+    match write_text(alloc, sink, entries.entries(), last.as_slice()) {
+        Ok(()) => report(end, entries),
+        Err(TextError::Memory) => tell_line(sink, End::Memory, b"fault memory\n"),
+        Err(TextError::Failed) => Report::new(End::WriteFault, None),
+    }
+}

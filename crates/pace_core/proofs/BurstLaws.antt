@@ -1,0 +1,13 @@
+-- A burst of a leaky bucket.
+use Rattle.std.proofs.Common.{refl, lit≤}
+use Rattle.pace_core.specs.LeakyBurst.{IsLetOutByFive}
+
+pub burst_is_let_out : IsLetOutByFive
+burst_is_let_out = record {
+  debts = refl;
+  sixth = refl;
+  wake = refl;
+  paced = (refl, refl, (refl, refl, (refl, refl, (refl, refl, (refl, refl, tt)))));
+  answers = (refl, (refl, (refl, (refl, (refl, tt)))));
+  short = (lit≤ tt, (lit≤ tt, (lit≤ tt, (lit≤ tt, (lit≤ tt, tt)))));
+}

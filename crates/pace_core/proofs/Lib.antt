@@ -1,0 +1,6 @@
+pub mod AnswerLaws
+pub mod BurstLaws
+pub mod ClusterLaws
+pub mod EnvelopeLaws
+pub mod RunLaws
+pub mod SendLaws

@@ -1,0 +1,14 @@
+pub mod Answers
+pub mod Bucket
+pub mod Envelope
+pub mod Leaky
+pub mod LeakyBurst
+pub mod Null
+pub mod NullPacer
+pub mod PacerImpl
+pub mod Past
+pub mod Player
+pub mod Probes
+pub mod Queues
+pub mod Run
+pub mod Sends

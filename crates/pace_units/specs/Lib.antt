@@ -1,0 +1,6 @@
+pub mod Cluster
+pub mod Control
+pub mod Moments
+pub mod Probe
+pub mod Queue
+pub mod Script

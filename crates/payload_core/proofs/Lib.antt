@@ -1,0 +1,9 @@
+pub mod Choosing
+pub mod InOrder
+pub mod RedCount
+pub mod RedBlocks
+pub mod RedAgain
+pub mod SentAgain
+pub mod Specs
+pub mod Tones
+pub mod Turns

@@ -1,0 +1,15 @@
+pub mod Buffer
+pub mod Codecs
+pub mod InOrder
+pub mod Packets
+pub mod Params
+pub mod Reasons
+pub mod Red
+pub mod RedReading
+pub mod RedWriting
+pub mod Remembered
+pub mod Reordering
+pub mod Sending
+pub mod SendingLaws
+pub mod Telephone
+pub mod Waiting

@@ -1,0 +1,27 @@
+//! Payload formats of RTP without any session: codecs and the payload types that name them, RED
+//! (RFC 2198), telephone events (RFC 4733).
+#![tactic(auto)]
+
+mod buffer;
+mod codec;
+mod error;
+mod params;
+mod payload;
+mod red;
+mod red_encoder;
+mod red_sender;
+mod simulcast;
+mod tele;
+
+pub use buffer::{Arrival, Depacketized, DepacketizingBuffer, RtpMeta, frames_come_out_as_in};
+pub use codec::{Codec, CodecSpec, FormatParams, MediaKind};
+pub use error::{PacketError, TelephoneFault};
+pub use params::{CodecConfig, ParamsOfKind, PayloadParams, TELE_EVENT_MAX};
+pub use payload::{CodecDepacketizer, CodecExtra, MediaPacket, PacketSink, Payloader, VideoExtra};
+pub use red::{MAX_RED_RECOVERY_DEPTH, RedBlock, RedDecoder, RedError, red_same_pt_blocks};
+pub use red_encoder::{RedEncoder, written_red_is_read_again};
+pub use red_sender::{RedSender, SentFrame, frames_are_sent_again};
+pub use simulcast::{SdpAttribute, SdpSimulcast, SdpSimulcastLayer};
+pub use tele::{
+    TelephoneEvent, duration_from_units, telephone_events_are_read_again, units_come_back,
+};

@@ -1,0 +1,8 @@
+//! The tests of compound RTCP and of transport-wide feedback: worked values of the standards, and each public
+//! call that takes memory once with enough of it. What a clause says is not tested.
+#![tactic(auto)]
+
+#[cfg(test)]
+mod rtcp_items;
+#[cfg(test)]
+mod transport_feedback;

@@ -1,0 +1,223 @@
+use media_base::{Bytes, Instant, Listed};
+use media_model::*;
+use media_script::{ScriptError, entries_text, read_script, write_transcript};
+use rtp_wire::{Pt, SeqNo, Ssrc};
+use srtp_core::SrtpProfile;
+use std::alloc::Global;
+use std::test::Fail;
+
+// Each kind of line once, and a stream of each form.
+const EVERY_LINE: &[u8] = b"# all of it\n\nstr0m-media 1\ntype 96 vp8 90000\nmedia v video cam\n\
+media a audio mic2\nstream A v 42 - -\ncipher toy\ntype 255 telephone 4294967295\n\
+stream B a 4294967295 0 hi\nkey 00Ff\nprofile gcm128\nstream B v 7 - lo\nbegin\n\
+write A 5ms 42 18446744073709551615 96 4294967295 1 0 8060Ff\ntick B 1000\ndeliver A 0 3\n\
+foreign B 1 rtp 80\n#\nend\n\n# end\n";
+
+fn syntax(alloc: Global, text: &[u8]) -> Option<ScriptError> {
+    read_script(alloc, text).err()
+}
+
+#[test]
+fn each_line_is_read(rt: HostRuntime) -> Result<(), Fail> {
+    let alloc = rt.alloc();
+    let (setup, steps) = read_script(alloc, EVERY_LINE).ok().ok_or("a script")?;
+    assert_eq!(rt; setup.cipher, CipherName::Toy);
+    assert_eq!(rt; setup.profile, SrtpProfile::AeadAes128Gcm);
+    assert_eq!(rt; setup.key, Key::Given(Bytes::from_slice(alloc, &[0, 255])?));
+    assert_eq!(rt; setup.types.as_slice().len(), 2);
+    assert_eq!(rt;
+        setup.types.as_slice().last(),
+        Some(&PayloadType {
+            pt: Pt::from(255),
+            codec: Codec::Telephone,
+            rate: 4_294_967_295,
+        })
+    );
+    assert_eq!(rt; setup.media.as_slice().len(), 2);
+    let video = setup.media.as_slice().first().ok_or("a media")?;
+    assert_eq!(rt; video.mid.as_slice(), b"v".as_slice());
+    assert_eq!(rt; video.kind, MediaKind::Video);
+    assert_eq!(rt; video.cname.as_slice(), b"cam".as_slice());
+    assert_eq!(rt; video.streams.as_slice().len(), 2);
+    let audio = setup.media.as_slice().last().ok_or("a media")?;
+    let stream = audio.streams.as_slice().first().ok_or("a stream")?;
+    assert_eq!(rt; stream.side, Side::B);
+    assert_eq!(rt; stream.ssrc, Ssrc::from(4_294_967_295));
+    assert_eq!(rt; stream.rtx, Some(Ssrc::from(0)));
+    let layer = stream.rid.ok_or("a layer")?;
+    assert_eq!(rt; layer.as_slice(), b"hi".as_slice());
+    assert_eq!(rt; steps.len(), 4);
+    assert_eq!(rt;
+        steps.last(),
+        Some(&Step::Foreign {
+            side: Side::B,
+            time: Instant::from_nanos(1),
+            kind: Kind::Rtp,
+            bytes: Bytes::from_slice(alloc, &[0x80])?,
+        })
+    );
+    Ok(())
+}
+
+#[test]
+fn first_line_outside_is_told(rt: HostRuntime) {
+    let alloc = rt.alloc();
+    for (text, line) in [
+        ("", 1),
+        ("key zero\n", 1),
+        ("str0m-media 1", 1),
+        ("str0m-media 1\n", 2),
+        ("str0m-media 1\r\n", 1),
+        ("\n# \u{ff}\nstr0m-media 2\n", 3),
+        ("str0m-media 1\nkey zero\nkey zero\n", 3),
+        ("str0m-media 1\nkey -\nbegin\nend\nend\n", 5),
+        ("str0m-media 1\nbegin\nend\n", 4),
+        ("str0m-media 1\nbegin\ntick A 1\ntick A\nend\n", 4),
+        ("str0m-media 1\nkey zero\nbegin\nend", 4),
+        ("str0m-media 1\nkey zero\nbegin\ntick A 1\n", 5),
+        ("str0m-media 1\nkey zero\ntick A 1\nbegin\nend\n", 3),
+        (
+            "str0m-media 1\nkey zero\nbegin\ntype 96 vp8 90000\nend\n",
+            4,
+        ),
+        ("str0m-media 1\ncipher sha\n", 2),
+        ("str0m-media 1\nprofile cm\n", 2),
+        ("str0m-media 1\nprofile gcm128\nprofile gcm128\n", 3),
+        ("str0m-media 1\ntype 256 vp8 90000\n", 2),
+        ("str0m-media 1\ntype 96 vp8 0\n", 2),
+        ("str0m-media 1\ntype 96 vp8 4294967296\n", 2),
+        ("str0m-media 1\ntype 96 vp10 90000\n", 2),
+        ("str0m-media 1\ntype 96 vp8 90000 pli\n", 2),
+        ("str0m-media 1\nmedia 12345678901234567 video cam\n", 2),
+        ("str0m-media 1\nmedia v-1 video cam\n", 2),
+        ("str0m-media 1\nstream A v 42 - -\nmedia v video cam\n", 2),
+        ("str0m-media 1\nmedia v video cam\nstream A w 42 - -\n", 3),
+        ("str0m-media 1\nmedia v video cam\nstream A v 42  -\n", 3),
+        (
+            "str0m-media 1\nkey zero\nbegin\nforeign A 1 rtcp 80\nend\n",
+            4,
+        ),
+        (
+            "str0m-media 1\nkey zero\nbegin\nwrite A 1 42 1 96 0 0 0 01 c=-\nend\n",
+            4,
+        ),
+        ("str0m-media 1\nkey zero\nbegin\ndeliver A 1ms\nend\n", 4),
+        (
+            "str0m-media 1\nkey zero\nbegin\ntick A 18446744073710ms\nend\n",
+            4,
+        ),
+    ] {
+        assert_eq!(rt;
+            syntax(alloc, text.as_bytes()),
+            Some(ScriptError::Syntax(line)),
+            "at {text:?}"
+        );
+    }
+}
+
+// The head of a script with so many media lines, and so many stream lines of the first.
+fn many(alloc: Global, media: u32, streams: u32) -> Result<Vec<u8>, Fail> {
+    let mut text = Vec::new(alloc);
+    text.extend_from_slice(b"str0m-media 1\nkey zero\n")?;
+    for _ in 0..media {
+        text.extend_from_slice(b"media v video cam\n")?;
+    }
+    for _ in 0..streams {
+        text.extend_from_slice(b"stream A v 42 - -\n")?;
+    }
+    text.extend_from_slice(b"begin\nend\n")?;
+    Ok(text)
+}
+
+#[test]
+fn limits_of_media_and_streams(rt: HostRuntime) -> Result<(), Fail> {
+    let alloc = rt.alloc();
+    let full = many(alloc, 64, 256)?;
+    let (setup, steps) = read_script(alloc, full.as_slice()).ok().ok_or("a script")?;
+    assert_eq!(rt; setup.media.as_slice().len(), 64);
+    let first = setup.media.as_slice().first().ok_or("a media")?;
+    assert_eq!(rt; first.streams.as_slice().len(), 256);
+    assert!(rt; steps.is_empty());
+    let media = many(alloc, 65, 0)?;
+    assert_eq!(rt;
+        syntax(alloc, media.as_slice()),
+        Some(ScriptError::Syntax(67))
+    );
+    let streams = many(alloc, 1, 257)?;
+    assert_eq!(rt;
+        syntax(alloc, streams.as_slice()),
+        Some(ScriptError::Syntax(260))
+    );
+    Ok(())
+}
+
+// One packet sealed by A, opened and yielded by B.
+fn one_opened(alloc: Global) -> Result<Transcript, Fail> {
+    let mut transcript = Transcript::new(alloc);
+    transcript.push(Entry::Sealed(Sealed {
+        side: Side::A,
+        kind: Kind::Rtp,
+        ssrc: Ssrc::from(42),
+        index: SeqNo::from(1),
+        plain: Bytes::from_slice(alloc, &[1])?,
+        bytes: Bytes::from_slice(alloc, &[1, 2])?,
+    }))?;
+    transcript.push(Entry::Got(Got {
+        side: Side::B,
+        time: Instant::from_nanos(1),
+        kind: Kind::Rtp,
+        bytes: Bytes::from_slice(alloc, &[1, 2])?,
+    }))?;
+    transcript.push(Entry::Opened(Opened {
+        side: Side::B,
+        kind: Kind::Rtp,
+        ssrc: Ssrc::from(42),
+        index: SeqNo::from(1),
+        plain: Bytes::from_slice(alloc, &[1])?,
+    }))?;
+    transcript.push(Entry::Yielded(
+        Side::B,
+        Packet {
+            ssrc: Ssrc::from(42),
+            number: SeqNo::from(1),
+            pt: Pt::from(96),
+            rtp_time: 0,
+            marker: false,
+            csrc: Listed::new(alloc),
+            payload: Bytes::from_slice(alloc, &[1])?,
+        },
+    ))?;
+    Ok(transcript)
+}
+
+#[test]
+fn surface_ample(rt: HostRuntime) -> Result<(), Fail> {
+    let alloc = rt.alloc();
+    let (setup, _) = read_script(alloc, EVERY_LINE).ok().ok_or("a script")?;
+    assert_eq!(rt; setup.material(alloc)?.as_slice(), [0, 255].as_slice());
+    assert_eq!(rt;
+        setup.streams(alloc, Side::B)?.as_slice(),
+        [Ssrc::from(7), Ssrc::from(4_294_967_295)].as_slice()
+    );
+    assert_eq!(rt;
+        setup.repairs(alloc)?.as_slice(),
+        [Ssrc::from(0)].as_slice()
+    );
+    assert_eq!(rt;
+        setup.types(alloc)?.as_slice(),
+        [Pt::from(96), Pt::from(255)].as_slice()
+    );
+    let transcript = one_opened(alloc)?;
+    assert!(rt; transcript.genuine(alloc)?);
+    assert!(rt; transcript.repairs_widen(alloc, &setup)?);
+    let lines =
+        "sealed A rtp 42 1 0102\ngot B rtp 2\nopened B rtp 42 1\nyielded B 42 1 96 0 0 01\n";
+    let text = entries_text(alloc, transcript.entries())?;
+    assert_eq!(rt; text.as_str(), lines);
+    let whole = write_transcript(alloc, &setup, &transcript)?;
+    assert_eq!(rt;
+        whole.as_str().strip_prefix(lines),
+        Some("end genuine=yes repairs=yes\n")
+    );
+    Ok(())
+}

@@ -1,0 +1,75 @@
+ghost use Rattle.std.specs.Prelude.{◌≡◌, ℕ, ◌+◌, ◌-◌, ◌*◌, ◌^◌, ◌<◌, ◌≤◌, ◌⊎◌, List, ◌++◌, length, slice_index, bit_xor};
+ghost use Rattle.std.specs.Int.{w32, to_be_bytes};
+ghost use Rattle.srtp_core.specs.Streams.{streamed, blocks_at, counter_input};
+
+use crate::SRTP_BLOCK_SIZE;
+use crate::simulated::Simulated;
+use std::simd::prelude::*;
+
+/// What is enciphered for the blocks of a stream.
+#[derive(Clone, Copy)]
+pub(crate) enum Counter {
+    /// A number of 16 bytes, counted up from this one.
+    Number(u128),
+    /// A nonce, and a word of 4 bytes that is counted up from 2.
+    Word([u8; 12]),
+}
+
+pub(crate) fn nonce_and_word(iv: &[u8; 12], word: u32) -> [u8; 16]
+    ensures { result ≡ iv.now ++ to_be_bytes w32 word }
+{
+    let mut input = [0; 16];
+    let (front, back) = input.split_at_mut(12);
+    front.copy_from_slice(iv);
+    back.copy_from_slice(&word.to_be_bytes());
+    input
+}
+
+fn input_block(counter: &Counter, n: usize) -> [u8; 16]
+    ensures { result ≡ counter_input counter.now n }
+{
+    match counter {
+        Counter::Number(first) => first.wrapping_add(n as u128).to_be_bytes(),
+        Counter::Word(iv) => {
+            nonce_and_word(iv, ((n % 4_294_967_296 + 2) % 4_294_967_296) as u32)
+        }
+    }
+}
+
+/// XORs a block into the bytes from a place on, as far as they go.
+fn xor_block(input: &[u8], at: usize, block: &[u8; 16], output: &mut [u8])
+    requires output { length output.old ≡ length input.now }
+    requires at { at ≤ length input.now }
+    ensures len { length output.new ≡ length output.old }
+    ensures before { (k : ℕ) → k < at → slice_index output.new k ≡ slice_index output.old k }
+    ensures here { (k : ℕ) → k < 16 → at + k < length input.now
+        → slice_index output.new (at + k)
+        ≡ bit_xor (slice_index input.now (at + k)) (slice_index block.now k) }
+{
+    if input.len() - at < SRTP_BLOCK_SIZE {
+        for i in at..input.len() {
+            output[i] = input[i] ^ block[i - at];
+        }
+    } else {
+        let lanes = u8x16::from_slice(&input[at..]) ^ u8x16::from_array(*block);
+        lanes.copy_to_slice(&mut output[at..]);
+    }
+}
+
+/// Writes the input XOR the stream of the blocks.
+pub(crate) fn xor_stream<S: Simulated>(
+    cipher: S,
+    key: &[u8],
+    counter: &Counter,
+    input: &[u8],
+    output: &mut [u8],
+)
+    requires key { (length key.now ≡ 16) ⊎ (length key.now ≡ 32) }
+    requires output { length output.old ≡ length input.now }
+    ensures { output.new ≡ streamed (blocks_at (λ n. S.block_of key.now (counter_input counter.now n))) input.now }
+{
+    for n in 0..input.len().div_ceil(SRTP_BLOCK_SIZE) {
+        let block = cipher.block(key, &input_block(counter, n));
+        xor_block(input, SRTP_BLOCK_SIZE * n, &block, output);
+    }
+}

@@ -1,0 +1,165 @@
+ghost use Rattle.std.specs.Prelude.{◌≡◌, ℕ, ◌+◌, ◌⊎◌, List, ◌++◌, length, IsTrue, refl};
+ghost use Rattle.srtp_core.specs.Simulated.{sealed_text, simulated};
+ghost use Rattle.srtp_core.specs.SimulatedLaws.{length-sealed_text, sealed_text_apart};
+
+use crate::cipher::SrtpCipher;
+use crate::key_stream::{Counter, xor_stream};
+
+/// A block function and a tag, over the bytes of a key of 16 or 32 bytes: what a simulated cipher
+/// is made of. No call takes memory.
+pub trait Simulated: Copy {
+    /// The bytes of a key, and a block: the block enciphered.
+    ghost block_of: { List ℕ → List ℕ → List ℕ };
+
+    /// The bytes of a key, the nonce, the associated data and the plain text: the tag.
+    ghost tag_of: { List ℕ → List ℕ → List ℕ → List ℕ → List ℕ };
+
+    /// One block enciphered.
+    fn block(&self, key: &[u8], input: &[u8; 16]) -> [u8; 16]
+        requires { (length key.now ≡ 16) ⊎ (length key.now ≡ 32) }
+        ensures { result ≡ block_of key.now input.now };
+
+    /// The tag of a text; `aad1` and `aad2`, one after the other, are the associated data.
+    fn tag(&self, key: &[u8], iv: &[u8; 12], aad1: &[u8], aad2: &[u8], text: &[u8]) -> [u8; 16]
+        requires { (length key.now ≡ 16) ⊎ (length key.now ≡ 32) }
+        ensures { result ≡ tag_of key.now iv.now (aad1.now ++ aad2.now) text.now };
+
+    /// A tag has 16 bytes.
+    ghost tag_len: { (key iv aad text : List ℕ) → length (tag_of key iv aad text) ≡ 16 };
+}
+
+/// A key of a simulated cipher: its bytes.
+#[derive(Drop)]
+pub struct SimulatedKey<const N: usize> {
+    bytes: [u8; N],
+}
+
+#[tactic(auto, unfolding(crate::specs::Simulated::sealed_text))]
+fn seal<S: Simulated>(
+    cipher: S,
+    key: &[u8],
+    iv: &[u8; 12],
+    aad1: &[u8],
+    aad2: &[u8],
+    input: &[u8],
+    output: &mut [u8],
+)
+    requires key { (length key.now ≡ 16) ⊎ (length key.now ≡ 32) }
+    requires output { length output.old ≡ length input.now + 16 }
+    ensures { output.new ≡ sealed_text S.block_of S.tag_of key.now iv.now (aad1.now ++ aad2.now) input.now }
+{
+    let (text, end) = output.split_at_mut(input.len());
+    xor_stream(cipher, key, &Counter::Word(*iv), input, text);
+    end.copy_from_slice(&cipher.tag(key, iv, aad1, aad2, input));
+}
+
+fn open<S: Simulated>(
+    cipher: S,
+    key: &[u8],
+    iv: &[u8; 12],
+    aad1: &[u8],
+    aad2: &[u8],
+    input: &[u8],
+    output: &mut [u8],
+) -> bool
+    requires key { (length key.now ≡ 16) ⊎ (length key.now ≡ 32) }
+    requires input { length input.now ≡ length output.old + 16 }
+    ensures opens { IsTrue result
+        → sealed_text S.block_of S.tag_of key.now iv.now (aad1.now ++ aad2.now) output.new
+        ≡ input.now }
+    ensures only { (plain : List ℕ)
+        → sealed_text S.block_of S.tag_of key.now iv.now (aad1.now ++ aad2.now) plain ≡ input.now
+        → IsTrue result }
+{
+    let (text, end) = input.split_at(output.len());
+    xor_stream(cipher, key, &Counter::Word(*iv), text, output);
+    let tag = cipher.tag(key, iv, aad1, aad2, output);
+    end == tag.as_slice()
+}
+
+impl<S: Simulated> SrtpCipher for S {
+    type Key128 = SimulatedKey<16>;
+
+    type Key256 = SimulatedKey<32>;
+
+    ghost bytes_128 = { λ k. k.bytes };
+
+    ghost bytes_256 = { λ k. k.bytes };
+
+    ghost meaning = { simulated S.block_of S.tag_of };
+
+    fn key_128(&self, key: &[u8; 16]) -> SimulatedKey<16> {
+        SimulatedKey { bytes: *key }
+    }
+
+    fn key_256(&self, key: &[u8; 32]) -> SimulatedKey<32> {
+        SimulatedKey { bytes: *key }
+    }
+
+    fn block_128(&self, key: &SimulatedKey<16>, input: &[u8; 16]) -> [u8; 16] {
+        self.block(&key.bytes, input)
+    }
+
+    fn block_256(&self, key: &SimulatedKey<32>, input: &[u8; 16]) -> [u8; 16] {
+        self.block(&key.bytes, input)
+    }
+
+    fn ctr(&self, key: &SimulatedKey<16>, iv: &[u8; 16], input: &[u8], output: &mut [u8]) {
+        let counter = Counter::Number(u128::from_be_bytes(*iv));
+        xor_stream(*self, &key.bytes, &counter, input, output)
+    }
+
+    fn seal_128(
+        &self,
+        key: &SimulatedKey<16>,
+        iv: &[u8; 12],
+        aad1: &[u8],
+        aad2: &[u8],
+        input: &[u8],
+        output: &mut [u8],
+    ) {
+        seal(*self, &key.bytes, iv, aad1, aad2, input, output)
+    }
+
+    fn open_128(
+        &self,
+        key: &SimulatedKey<16>,
+        iv: &[u8; 12],
+        aad1: &[u8],
+        aad2: &[u8],
+        input: &[u8],
+        output: &mut [u8],
+    ) -> bool {
+        open(*self, &key.bytes, iv, aad1, aad2, input, output)
+    }
+
+    fn seal_256(
+        &self,
+        key: &SimulatedKey<32>,
+        iv: &[u8; 12],
+        aad1: &[u8],
+        aad2: &[u8],
+        input: &[u8],
+        output: &mut [u8],
+    ) {
+        seal(*self, &key.bytes, iv, aad1, aad2, input, output)
+    }
+
+    fn open_256(
+        &self,
+        key: &SimulatedKey<32>,
+        iv: &[u8; 12],
+        aad1: &[u8],
+        aad2: &[u8],
+        input: &[u8],
+        output: &mut [u8],
+    ) -> bool {
+        open(*self, &key.bytes, iv, aad1, aad2, input, output)
+    }
+
+    ghost longer = { length-sealed_text S.block_of S.tag_of S.tag_len };
+
+    ghost apart = { sealed_text_apart S.block_of S.tag_of S.tag_len };
+
+    ghost counts = { λ key iv i. refl };
+}
