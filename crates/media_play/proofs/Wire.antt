@@ -3,7 +3,7 @@ use Rattle.std.proofs.Common.{◌≡◌, ℕ, zero, suc, ◌+◌, ◌<◌, ◌�
 use Rattle.std.proofs.lemmas.List.{length-append, drop_at}
 use Rattle.rtp_wire.specs.declared.header.RtpHeader.{RtpHeader}
 use Rattle.rtp_wire.specs.BytesLaws.{AreWords}
-use Rattle.rtp_wire.specs.Extensions.{no_extensions, written_data, extension_bytes}
+use Rattle.rtp_wire.specs.Extensions.{no_extensions, written_elements, written_data, extension_bytes}
 use Rattle.rtp_wire.specs.Header.{header_of, header_bytes}
 use Rattle.rtp_wire.specs.HeaderLaws.{ReadsOwnBytes, PlainIsReadAgain, PlainIsAsLong, HasFixedBytes, IsPlainHeader}
 use Rattle.srtp_core.specs.Cipher.{CipherMeaning}
@@ -65,7 +65,7 @@ carries_write setup again long w f = record {
 
 -- under a map without names no extension is written
 no_extension : (h : RtpHeader) → extension_bytes no_extensions h.ext_vals ≡ []
-unfolding extension_bytes written_data
+unfolding extension_bytes written_data written_elements
 no_extension h = refl
 
 header_is_short : (h : RtpHeader) → h.csrc_count ≡ 0 → length (header_bytes no_extensions h) ≤ 160
