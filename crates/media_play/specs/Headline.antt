@@ -135,10 +135,3 @@ pub record HoldsOfRun (seal : Sealing) (setup : Setup) (entries : List Entry) : 
 -- the same under the setup of the run, whichever it is
 abbrev pub SendsInSome : List Entry → Type 0
 SendsInSome entries = (setup : Setup) × SendsWrites setup entries
-
--- what of it speaks of the entries alone
-pub record HoldsAlways (entries : List Entry) : Type 0 where
-  pub nonces : NoNonceTwice entries
-  pub sendings : SendsInSome entries
-  pub yields : YieldsWrites entries
-  pub once : NoPacketTwice entries

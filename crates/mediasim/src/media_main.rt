@@ -3,7 +3,7 @@ ghost use Rattle.std.specs.Prelude.{◌≡◌, List, ℕ, map, string_bytes, IfS
 ghost use Rattle.media_base.specs.Causes.{Rose};
 ghost use Rattle.media_model.specs.declared.setup.Setup.{Setup as Given};
 ghost use Rattle.media_model.specs.declared.step.Step.{Step as Act};
-ghost use Rattle.media_play.specs.Headline.{StepsAreAnswered, SealsAreRight, NoNonceTwice, SendsInSome, YieldsWrites, NoPacketTwice, FirstSendingsAreYielded};
+ghost use Rattle.media_play.specs.Headline.{StepsAreAnswered, SealsAreRight, NoNonceTwice, SendsWrites, SendsInSome, YieldsWrites, NoPacketTwice, FirstSendingsAreYielded};
 ghost use Rattle.mediasim.specs.Ends.{status_of};
 ghost use Rattle.mediasim.specs.MediaMain.{Answers, AnswersScript, TellsScript, IsInOrder};
 ghost use Rattle.mediasim.specs.RunCommand.{toy_sealing, PlaysToEnd, PlaysAll};
@@ -98,8 +98,11 @@ pub fn media_main<S: Source, K: Sink>(
         → IfSome result.transcript FirstSendingsAreYielded }
     // No two datagrams of a direction share a nonce.
     ensures nonces { IfSome result.transcript NoNonceTwice }
-    // Each sealed datagram carries one earlier write of its side, none twice.
-    ensures sendings { IfSome result.transcript SendsInSome }
+    // Each sealed datagram carries one earlier write of its side, none twice: under the setup of the
+    // script, and where the source tells none, under that of the run.
+    ensures sendings { (setup : Given) (acts : List Act) → TellsScript (S.left source.old) setup acts
+        → IfSome result.transcript (SendsWrites setup) }
+    ensures sent { IfSome result.transcript SendsInSome }
     // In a genuine run each packet yielded is a write of the other side; in every run none is yielded twice.
     ensures yields { IfSome result.transcript YieldsWrites }
     ensures once { IfSome result.transcript NoPacketTwice }

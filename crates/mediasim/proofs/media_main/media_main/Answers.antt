@@ -1,4 +1,4 @@
-use Rattle.media_play.specs.Headline.{StepsAreAnswered, SealsAreRight, FirstSendingsAreYielded, NoNonceTwice, SendsInSome, YieldsWrites, NoPacketTwice}
+use Rattle.media_play.specs.Headline.{StepsAreAnswered, SealsAreRight, FirstSendingsAreYielded, NoNonceTwice, SendsWrites, SendsInSome, YieldsWrites, NoPacketTwice}
 use Rattle.mediasim.specs.RunCommand.{toy_sealing}
 use Rattle.mediasim.proofs.Whole.{answers_script, plays_all, script_holds, script_plays, always_holds}
 use Rattle.mediasim.proofs.media_main.media_main.Goals as goal
@@ -33,7 +33,12 @@ pub returns-clause-nonces : goal.returns-clause-nonces
 returns-clause-nonces g c = always_holds _ _ _ _ _ _ _ _ NoNonceTwice (λ seal setup entries h. h.nonces) c.answer.ensures.answers
 
 pub returns-clause-sendings : goal.returns-clause-sendings
-returns-clause-sendings g c = always_holds _ _ _ _ _ _ _ _ SendsInSome (λ seal setup entries h. (setup, h.sendings)) c.answer.ensures.answers
+returns-clause-sendings g c setup acts told =
+    script_holds _ _ setup acts _ _ (SendsWrites setup) (λ entries h. h.sendings)
+    (answers_script _ _ _ _ _ _ setup acts _ _ c.script_spells_one.ensures c.answer.ensures.answers told)
+
+pub returns-clause-sent : goal.returns-clause-sent
+returns-clause-sent g c = always_holds _ _ _ _ _ _ _ _ SendsInSome (λ seal setup entries h. (setup, h.sendings)) c.answer.ensures.answers
 
 pub returns-clause-yields : goal.returns-clause-yields
 returns-clause-yields g c = always_holds _ _ _ _ _ _ _ _ YieldsWrites (λ seal setup entries h. h.yields) c.answer.ensures.answers
