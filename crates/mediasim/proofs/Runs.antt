@@ -7,13 +7,16 @@ use Rattle.std.proofs.lemmas.List.{take_all}
 use Rattle.media_model.specs.declared.entry.Entry.{Entry}
 use Rattle.media_model.specs.declared.setup.Setup.{Setup as Given}
 use Rattle.media_model.specs.declared.step.Step.{Step as Act}
+use Rattle.media_model.specs.Genuine.{is_genuine, repairs_widen}
 use Rattle.media_script.specs.FirstWrong.{IsFirstWrong}
 use Rattle.media_script.specs.Spelling.{IsScript}
-use Rattle.media_script.specs.Text.{entries_text}
+use Rattle.media_script.specs.Text.{entries_text, end_text}
 use Rattle.media_play.specs.declared.fault.StepFault.{StepFault}
 use Rattle.media_play.specs.declared.fault.RunError.TheVariants as error
 use Rattle.media_play.specs.Headline.{HoldsOfRun}
+use Rattle.media_play.specs.Play.{Played}
 use Rattle.media_play.specs.Running.{HasCause}
+use Rattle.media_play.specs.SetupRules.{setup_fault}
 use Rattle.mediasim.specs.declared.ends.End.{End}
 use Rattle.mediasim.specs.declared.ends.End.TheVariants.{Done, Setup, Step, ReadFault, WriteFault, Memory, Syntax, TooLong, Usage}
 use Rattle.mediasim.specs.Lines.{memory_line, IsLastLine, reported}
@@ -39,6 +42,30 @@ step_ends view setup steps number fault entries told (Err e) ended last is said 
     subst (λ (es : List Entry). RunEnds setup steps ended (reported ended es) (entries_text es ++ last)) (sym same)
     (subst (λ (e : End). RunEnds setup steps e (reported e entries) (entries_text entries ++ last)) (sym is.0)
     (entries, inr (error.Step number fault, cause), (length entries, all_told entries last is.1)))
+
+-- a run that was played to its end
+pub done_ends : {X : Type 0} (view : X → List ℕ) (setup : Given) (steps : List Act) (entries told : List Entry)
+    (line : Result X AllocError) (ended : End) (last : List ℕ)
+    → IsLastLine view Done line ended last → IfOk line (λ text. view text ≡ end_text (is_genuine entries) (repairs_widen setup entries)) → told ≡ entries
+    → setup_fault setup ≡ None → Played (toy_sealing setup) setup steps entries → HoldsOfRun (toy_sealing setup) setup entries
+    → RunEnds setup steps ended (reported ended told) (entries_text told ++ last)
+done_ends view setup steps entries told (Ok text) ended last is said same fine played holds =
+    subst (λ (es : List Entry). RunEnds setup steps ended (reported ended es) (entries_text es ++ last)) (sym same)
+    (subst (λ (e : End). RunEnds setup steps e (reported e entries) (entries_text entries ++ last)) (sym is.0)
+    (fine, played, holds, ap (λ (xs : List ℕ). entries_text entries ++ xs) (is.1 ∙ said)))
+done_ends view setup steps entries told (Err e) ended last is said same fine played holds =
+    subst (λ (es : List Entry). RunEnds setup steps ended (reported ended es) (entries_text es ++ last)) (sym same)
+    (subst (λ (e : End). RunEnds setup steps e (reported e entries) (entries_text entries ++ last)) (sym is.0)
+    (entries, inl played, (length entries, all_told entries last is.1)))
+
+-- a run that ended for want of memory
+pub memory_ends : (setup : Given) (steps : List Act) (entries told : List Entry) (ended : End) (last : List ℕ)
+    → ended ≡ Memory → last ≡ memory_line → told ≡ entries → HasCause (toy_sealing setup) setup steps entries error.Memory
+    → RunEnds setup steps ended (reported ended told) (entries_text told ++ last)
+memory_ends setup steps entries told ended last is line same cause =
+    subst (λ (es : List Entry). RunEnds setup steps ended (reported ended es) (entries_text es ++ last)) (sym same)
+    (subst (λ (e : End). RunEnds setup steps e (reported e entries) (entries_text entries ++ last)) (sym is)
+    (entries, inr (error.Memory, cause), (length entries, all_told entries last line)))
 
 -- the end of a script's run is that of its bytes
 pub run_makes : (read : List ℕ) (setup : Given) (steps : List Act) (end : End) (transcript : Option (List Entry)) (text : List ℕ)

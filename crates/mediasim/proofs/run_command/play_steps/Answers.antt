@@ -3,7 +3,7 @@ use Rattle.media_play.specs.declared.fault.RunError.{RunError}
 use Rattle.media_play.specs.Running.{HasCause}
 use Rattle.mediasim.specs.Lines.{bytes_of}
 use Rattle.mediasim.specs.RunCommand.{toy_sealing}
-use Rattle.mediasim.proofs.Runs.{step_ends}
+use Rattle.mediasim.proofs.Runs.{step_ends, done_ends, memory_ends}
 use Rattle.mediasim.proofs.run_command.play_steps.Goals as goal
 
 pub returns-in-Step-clause-ended : goal.returns-in-Step-clause-ended
@@ -16,3 +16,20 @@ returns-in-Step-clause-ended c =
     c.new-in-Step.ensures.last c.step_line.ensures c.new-in-Step.ensures.entries
     (subst (λ (x : RunError). HasCause (toy_sealing setup) setup steps sofar x) c.in-Step.is e.cause)
     (record { steps = e.steps; seals = e.seals; nonces = e.nonces; sendings = e.sendings; yields = e.yields; once = e.once; exactly = e.exactly })
+
+pub returns-in-Ok-clause-ended : goal.returns-in-Ok-clause-ended
+returns-in-Ok-clause-ended c =
+    let e = c.in-Ok.ensures in
+    done_ends (λ text. string_bytes text) c.args.setup.now c.args.steps.now c.in-Ok.transcript c.new.result.entries c.end_line-line.result c.new.result.end (bytes_of c.new.result.last)
+    c.new.ensures.last c.end_line-line.ensures c.new.ensures.entries e.played.0 e.played.1
+    (record { steps = e.steps; seals = e.seals; nonces = e.nonces; sendings = e.sendings; yields = e.yields; once = e.once; exactly = e.exactly })
+
+pub returns-in-Memory-clause-ended : goal.returns-in-Memory-clause-ended
+returns-in-Memory-clause-ended c =
+    let setup = c.args.setup.now in
+    let steps = c.args.steps.now in
+    let sofar = c.in-Err.fault.sofar in
+    let e = c.in-Err.ensures in
+    memory_ends setup steps sofar c.out_of_memory.result.entries c.out_of_memory.result.end (bytes_of c.out_of_memory.result.last)
+    c.out_of_memory.ensures.end c.out_of_memory.ensures.last c.out_of_memory.ensures.entries
+    (subst (λ (x : RunError). HasCause (toy_sealing setup) setup steps sofar x) c.in-Memory.is e.cause)
