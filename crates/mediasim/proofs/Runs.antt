@@ -8,7 +8,10 @@ use Rattle.media_model.specs.declared.entry.Entry.{Entry}
 use Rattle.media_model.specs.declared.setup.Setup.{Setup as Given}
 use Rattle.media_model.specs.declared.step.Step.{Step as Act}
 use Rattle.media_model.specs.Genuine.{is_genuine, repairs_widen}
-use Rattle.media_script.specs.FirstWrong.{IsFirstWrong}
+use Rattle.media_script.specs.declared.error.ScriptError.{ScriptError}
+use Rattle.media_script.specs.declared.error.ScriptError.TheVariants as script
+use Rattle.media_script.specs.FirstWrong.{IsFirstWrong, StopsRightly}
+use Rattle.media_script.specs.Gives.{GivesScript}
 use Rattle.media_script.specs.Spelling.{IsScript}
 use Rattle.media_script.specs.Text.{entries_text, end_text}
 use Rattle.media_play.specs.declared.fault.StepFault.{StepFault}
@@ -114,3 +117,15 @@ memory_makes read entries ended last is same none =
 -- what a script gives is no line
 pub no_line : (setup : Given) (steps : List Act) (line : ℕ) → (let script : Given × List Act = (setup, steps) in ◌≡◌ {A = Result (Given × List Act) ℕ} (Ok script) (Err line)) → ⊥
 no_line setup steps line e = cc
+
+-- the line of a reader that stopped is the first wrong one, and it gave no script
+pub first_told : {X : Type 0} (read : List ℕ) (line : ℕ) (error : ScriptError) (r : Result X ScriptError) → r ≡ Err error → error ≡ script.Syntax line
+    → StopsRightly r read → IsFirstWrong read line
+first_told {X} read line error r is same first =
+    subst (λ (x : Result X ScriptError). StopsRightly x read) (is ∙ ap (λ (e : ScriptError). Err e) same) first
+
+pub none_told : {X : Type 0} (view : X → Given × List Act) (setup : Given) (steps : List Act) (line : ℕ) (error : ScriptError) (r : Result X ScriptError)
+    → r ≡ Err error → error ≡ script.Syntax line → (let script : Given × List Act = (setup, steps) in GivesScript view r (Ok script)) → ⊥
+none_told {X} view setup steps line error r is same given =
+    no_line setup steps line
+    (subst (λ (x : Result X ScriptError). (let script : Given × List Act = (setup, steps) in GivesScript view x (Ok script))) (is ∙ ap (λ (e : ScriptError). Err e) same) given)

@@ -1,9 +1,9 @@
-use Rattle.std.proofs.Common.{List, ◌++◌, subst}
+use Rattle.std.proofs.Common.{List, ◌++◌, ◌∙◌, subst, string_bytes}
 use Rattle.media_model.specs.declared.step.Step.{Step as Act}
 use Rattle.media_script.specs.Text.{entries_text}
 use Rattle.mediasim.specs.Lines.{bytes_of, reported}
 use Rattle.mediasim.specs.RunCommand.{RunEnds}
-use Rattle.mediasim.proofs.Runs.{run_makes}
+use Rattle.mediasim.proofs.Runs.{run_makes, syntax_makes, first_told, none_told}
 use Rattle.mediasim.proofs.run_command.play_script.Goals as goal
 
 pub returns-in-Ok-clause-makes : goal.returns-in-Ok-clause-makes
@@ -12,3 +12,12 @@ returns-in-Ok-clause-makes c =
     let text = entries_text p.entries ++ bytes_of p.last in
     run_makes c.args.bytes.now c.in-Ok.setup c.in-Ok.steps.items p.end (reported p.end p.entries) text c.in-Ok.ensures.found
     (subst (λ (steps : List Act). RunEnds c.in-Ok.setup steps p.end (reported p.end p.entries) text) c.deref.ensures.value c.play_steps.ensures.ended)
+
+pub returns-in-Err-Syntax-clause-makes : goal.returns-in-Err-Syntax-clause-makes
+returns-in-Err-Syntax-clause-makes c =
+    let r = c.new-in-Err-Syntax.result in
+    let s = c.in-Err-Syntax in
+    syntax_makes (λ text. string_bytes text) c.args.bytes.now s.line r.entries c.syntax_line.result r.end (bytes_of r.last)
+    c.new-in-Err-Syntax.ensures.last c.syntax_line.ensures (c.new-in-Err-Syntax.ensures.entries ∙ c.new.ensures)
+    (first_told c.args.bytes.now s.line s.field-0 c.read_script.result s.is s.field-0-is c.read_script.ensures.first)
+    (λ setup steps spelled. none_told (λ x. (x.0, x.1.items)) setup steps s.line s.field-0 c.read_script.result s.is s.field-0-is (c.read_script.ensures.only setup steps spelled))
