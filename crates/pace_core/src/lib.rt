@@ -10,6 +10,8 @@ mod pacer;
 mod queues;
 mod run;
 mod sends;
+#[cfg(test)]
+mod tests;
 
 pub use laws::{answers_are_within, burst_is_let_out, envelope};
 pub use leaky::LeakyBucketPacer;

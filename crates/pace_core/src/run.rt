@@ -2,7 +2,6 @@
 ghost use Rattle.pace_core.specs.Past.{Past, made, pacing_set, padding_set, polled};
 ghost use Rattle.pace_core.specs.Run.{
   told,
-  past_of,
   entry_of,
   entries,
   state_of,

@@ -10,6 +10,8 @@ mod probe;
 mod queue;
 mod reason;
 mod scripted;
+#[cfg(test)]
+mod tests;
 
 pub use cluster::ProbeClusterState;
 pub use control::{PacerControl, PacingResult};

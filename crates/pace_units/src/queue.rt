@@ -1,5 +1,5 @@
 //! What a queue of packets holds at a moment.
-ghost use Rattle.std.specs.Prelude.{◌≡◌, ◌+◌, ◌-◌, ◌*◌, ◌^◌, ◌==◌, min, if◌then◌else◌};
+ghost use Rattle.std.specs.Prelude.{◌≡◌, ◌-◌, ◌==◌, if◌then◌else◌};
 ghost use Rattle.pace_units.specs.Queue.{
   rank_of,
   first_of_priorities,
