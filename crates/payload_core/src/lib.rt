@@ -12,6 +12,8 @@ mod red_encoder;
 mod red_sender;
 mod simulcast;
 mod tele;
+#[cfg(test)]
+mod tests;
 
 pub use buffer::{Arrival, Depacketized, DepacketizingBuffer, RtpMeta, frames_come_out_as_in};
 pub use codec::{Codec, CodecSpec, FormatParams, MediaKind};
