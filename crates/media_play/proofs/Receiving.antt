@@ -5,7 +5,7 @@ use Rattle.std.specs.List.{AllByRecursion, list_any}
 use Rattle.std.proofs.lemmas.List.{take-append-drop}
 use Rattle.rtp_wire.specs.declared.header.RtpHeader.{RtpHeader}
 use Rattle.rtp_wire.specs.Extensions.{no_extensions}
-use Rattle.rtp_wire.specs.HeaderLaws.{reads_own_bytes}
+use Rattle.rtp_wire.proofs.HeaderLaws.{reads_own_bytes}
 use Rattle.rtp_wire.specs.Padding.{unpadded}
 use Rattle.rtp_wire.specs.Widen.{widen16}
 use Rattle.repair_core.specs.Fresh.{greatest_of, is_fresh}

@@ -1,10 +1,10 @@
 -- What headers and seals give to the laws of a run.
 use Rattle.std.proofs.Common.{ℕ, zero, suc, ◌≤◌, List, [], length, replicate, refl, arith}
 use Rattle.std.proofs.lemmas.List.{length-append, drop_at}
-use Rattle.rtp_wire.specs.BytesLaws.{AreWords}
+use Rattle.rtp_wire.specs.Laws.{AreWords, ReadsOwnBytes, PlainIsReadAgain, PlainIsAsLong, IsPlainHeader}
+use Rattle.rtp_wire.proofs.HeaderLaws.{has_fixed_bytes}
 use Rattle.rtp_wire.specs.Extensions.{no_extensions}
 use Rattle.rtp_wire.specs.Header.{header_bytes}
-use Rattle.rtp_wire.specs.HeaderLaws.{ReadsOwnBytes, PlainIsReadAgain, PlainIsAsLong, IsPlainHeader, has_fixed_bytes}
 use Rattle.srtp_core.specs.Laws.{RtpSealsApart, RtpSealKeepsHeader}
 use Rattle.media_script.specs.declared.entry.Write.{Write as Writing}
 use Rattle.media_script.specs.declared.setup.Setup.{Setup}

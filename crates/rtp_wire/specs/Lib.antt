@@ -1,15 +1,12 @@
 pub mod AbsTime
 pub mod Bytes
-pub mod BytesLaws
-pub mod ElementsLaws
 pub mod Extensions
 pub mod Header
-pub mod HeaderLaws
+pub mod Laws
 pub mod Padding
 pub mod Reading
 pub mod Repairs
 pub mod Writing
-pub mod WritingLaws
 pub use Rattle.media_units.specs.Wallclock
 pub use Rattle.rtp_base.specs.Fields
 pub use Rattle.rtp_base.specs.Ids

@@ -5,7 +5,7 @@ ghost use Rattle.std.specs.Option.{option_map};
 ghost use Rattle.rtp_base.specs.Widen.{widen16};
 ghost use Rattle.rtp_wire.specs.Repairs.{original_of, blank_length, blank_payload};
 ghost use Rattle.rtp_wire.specs.Bytes.{u16_at, u32_at};
-ghost use Rattle.rtp_wire.specs.BytesLaws.{AreWords};
+ghost use Rattle.rtp_wire.specs.Laws.{AreWords};
 
 use crate::extension::ExtensionMap;
 use crate::values::ExtensionValues;
@@ -54,7 +54,7 @@ fn u32_at(bytes: &[u8], at: usize) -> u32
 
 impl RtpHeader {
     ghost use Rattle.rtp_wire.specs.Header.{sources_end, header_end, has_header, has_extension_bit, fields_of, header_of, sources, header_bytes, fixed_bytes, source_count};
-    ghost use Rattle.rtp_wire.specs.HeaderLaws.{IsHeader, IsReadAgain};
+    ghost use Rattle.rtp_wire.specs.Laws.{IsHeader, IsReadAgain};
     ghost use Rattle.rtp_wire.specs.Padding.{unpadded};
     ghost use Rattle.std.specs.Option.{option_copied};
 

@@ -1,4 +1,4 @@
-ghost use Rattle.rtp_wire.specs.HeaderLaws.{ReadsOwnBytes, WrittenIsReadAgain, PlainIsReadAgain, PlainIsAsLong, HasFixedBytes};
+ghost use Rattle.rtp_wire.specs.Laws.{ReadsOwnBytes, WrittenIsReadAgain, PlainIsReadAgain, PlainIsAsLong, HasFixedBytes};
 
 /// The header at the front of some bytes is read off its own bytes alone.
 pub fn header_reads_own_bytes()

@@ -10,8 +10,9 @@ use Rattle.rtp_wire.specs.Bytes.{u16_at, words_of}
 use Rattle.std.proofs.lemmas.List.{length-take-le, take_at, drop_at, drop-drop, length-replicate}
 use Rattle.rtp_wire.specs.declared.values.ExtensionValues.{ExtensionValues}
 use Rattle.rtp_wire.specs.Extensions.{no_values, one_byte_elements, with_elements, values_of, written_data, words_for, with_data, extension_bytes, written_values}
-use Rattle.rtp_wire.specs.WritingLaws.{data_bound, data_again, no_data}
-use Rattle.rtp_wire.specs.BytesLaws.{same_piece, same_byte, AreWords, words_again, length-flat_words}
+use Rattle.rtp_wire.proofs.WritingLaws.{data_bound, data_again, no_data}
+use Rattle.rtp_wire.specs.Laws.{AreWords, IsHeader, IsReadAgain, WrittenIsReadAgain, ReadsOwnBytes, IsPlainHeader, PlainIsReadAgain, PlainIsAsLong, HasFixedBytes}
+use Rattle.rtp_wire.proofs.BytesLaws.{same_piece, same_byte, words_again, length-flat_words}
 use Rattle.rtp_wire.specs.declared.extension.ExtensionMap.{ExtensionMap}
 use Rattle.rtp_wire.specs.declared.header.RtpHeader.{RtpHeader}
 use Rattle.rtp_wire.specs.Header.{version, has_extension_bit, source_count, sources, sources_end, extension_profile, extension_length, extension_data, header_end, has_header, fields_of, header_of, csrc_of, bit, fixed_bytes, header_bytes, wire_form}
@@ -116,12 +117,6 @@ agree_stands a b s h = record {
   whole = omega (arith, end_same a b h, h.long);
 }
 
--- The header at the front of some bytes is read off its own bytes alone: whatever else follows them, it is the same.
-abbrev pub ReadsOwnBytes : Type 0
-ReadsOwnBytes =
-    (exts : ExtensionMap) (bytes rest : List ℕ) (h : RtpHeader) → header_of exts bytes ≡ Some h
-    → (header_of exts (take h.header_len bytes ++ rest) ≡ Some h) × (12 ≤ h.header_len) × (h.header_len ≤ length bytes)
-
 agree_cut : (a rest : List ℕ) → Stands a → Agree a (take (header_end a) a ++ rest)
 agree_cut a rest s =
     let long : length (take (header_end a) a) ≡ header_end a = length-take-le (header_end a) a s.whole in record {
@@ -144,15 +139,6 @@ reads_own_bytes exts bytes rest h e =
       omega (arith, len, end_bound bytes),
       omega (arith, len, stand.whole),
     )
-
--- a header whose fields are in their ranges
-pub record IsHeader (h : RtpHeader) : Type 0 where
-  pub number : h.sequence_number < 2 ^ 16
-  pub time : h.timestamp < 2 ^ 32
-  pub source : h.ssrc < 2 ^ 32
-  pub few : h.csrc_count ≤ 15
-  pub room : length h.csrc ≡ 15
-  pub words : AreWords h.csrc
 
 first_version : (p x : Bool) (n : ℕ) → n ≤ 15 → (128 + bit p 32 + bit x 16 + n) / 64 ≡ 2
 first_version true true n h = omega arith
@@ -330,10 +316,6 @@ pub packet_reads : (exts : ExtensionMap) (values : ExtensionValues) (h : RtpHead
 packet_reads exts values h extension rest i w =
     found exts (packet h extension rest) (packet_stands exts values h extension rest i w) ∙ ap Some (packet_fields exts values h extension rest i w)
 
--- A header is written so that it is read again, as its wire form is, whatever follows it.
-abbrev pub IsReadAgain : ExtensionMap → RtpHeader → Type 0
-IsReadAgain exts h = (rest : List ℕ) → header_of exts (header_bytes exts h ++ rest) ≡ Some (wire_form exts h)
-
 length_written : (exts : ExtensionMap) (h : RtpHeader) → IsHeader h → length (header_bytes exts h) ≡ 12 + 4 * h.csrc_count + length (extension_bytes exts h.ext_vals)
 unfolding header_bytes packet
 length_written exts h i =
@@ -356,30 +338,8 @@ pub is_written : (exts : ExtensionMap) (values : ExtensionValues) → IsWritten 
 unfolding extension_bytes
 is_written exts values = data_written exts (written_values exts values) (written_data exts values) (data_bound exts values) (data_again exts values)
 
--- Each header whose fields are in their ranges is read again as its wire form, under each map and whatever follows it.
-abbrev pub WrittenIsReadAgain : Type 0
-WrittenIsReadAgain = (exts : ExtensionMap) (h : RtpHeader) → IsHeader h → IsReadAgain exts h
-
 pub written_is_read_again : WrittenIsReadAgain
 written_is_read_again exts h i = read_again exts h i (is_written exts h.ext_vals)
-
--- a header without values, whose fields are in the ranges of their places on the wire
-pub record IsPlainHeader (h : RtpHeader) : Type 0 where
-  pub number : h.sequence_number < 2 ^ 16
-  pub time : h.timestamp < 2 ^ 32
-  pub source : h.ssrc < 2 ^ 32
-  pub type : h.payload_type < 128
-  pub few : h.csrc_count ≤ 15
-  pub room : length h.csrc ≡ 15
-  pub words : AreWords h.csrc
-  pub zeros : h.csrc ≡ csrc_of h ++ replicate (15 - h.csrc_count) 0
-  pub values : h.ext_vals ≡ no_values
-  pub len : h.header_len ≡ 12 + 4 * h.csrc_count
-
--- A header without values is read again just as it was, under each map.
-abbrev pub PlainIsReadAgain : Type 0
-PlainIsReadAgain =
-    (exts : ExtensionMap) (h : RtpHeader) (rest : List ℕ) → IsPlainHeader h → header_of exts (header_bytes exts h ++ rest) ≡ Some h
 
 nothing_written : (exts : ExtensionMap) → extension_bytes exts no_values ≡ []
 unfolding extension_bytes
@@ -394,11 +354,6 @@ plain_is_read_again exts h rest p =
     ∙ packet_reads exts no_values h [] rest i (nothing refl)
     ∙ ap Some (same_header _ _ _ _ _ _ _ _ _ _ _ _ _ _ _ _ _ _ _ _ refl refl (omega (arith, p.type)) refl refl refl refl (sym p.zeros) (sym p.values) (omega (arith, p.len)))
 
--- A header without values has twelve bytes, and four for each source.
-abbrev pub PlainIsAsLong : Type 0
-PlainIsAsLong =
-    (exts : ExtensionMap) (h : RtpHeader) → h.ext_vals ≡ no_values → h.csrc_count ≤ length h.csrc → length (header_bytes exts h) ≡ 12 + 4 * h.csrc_count
-
 pub plain_is_as_long : PlainIsAsLong
 unfolding header_bytes
 plain_is_as_long exts h none few =
@@ -406,10 +361,6 @@ plain_is_as_long exts h none few =
     let extension = extension_bytes exts h.ext_vals in
     let empty : length extension ≡ 0 = ap length (ap (extension_bytes exts) none ∙ nothing_written exts) in
     omega (arith, empty, length-append (flat_map (to_be_bytes w32) sources) extension, length-flat_words sources, length-take-le h.csrc_count h.csrc few)
-
--- Each header that is written has at least its first twelve bytes.
-abbrev pub HasFixedBytes : Type 0
-HasFixedBytes = (exts : ExtensionMap) (h : RtpHeader) → 12 ≤ length (header_bytes exts h)
 
 pub has_fixed_bytes : HasFixedBytes
 unfolding header_bytes

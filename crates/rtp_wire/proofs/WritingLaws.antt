@@ -19,7 +19,7 @@ use Rattle.rtp_base.specs.Name.{is_name, name_of}
 use Rattle.rtp_wire.specs.Reading.{u24_of, level_of, hundredths}
 use Rattle.rtp_wire.specs.Writing.{u24_bytes, minus_level, level_byte, quarter_turns, delay_steps, both, value_bytes, without, wire_values}
 use Rattle.rtp_wire.specs.Extensions.{named_by, is_at, no_values, one_byte_elements, with_value, with_elements, values_of, written_ids, bytes_at, left_after, element_at, written_elements, element_bytes, written_data, is_named, written_values}
-use Rattle.rtp_wire.specs.ElementsLaws.{one_padding, one_element}
+use Rattle.rtp_wire.proofs.ElementsLaws.{one_padding, one_element}
 
 -- numbers in bytes, read again
 

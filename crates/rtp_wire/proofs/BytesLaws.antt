@@ -7,6 +7,7 @@ use Rattle.std.proofs.lemmas.List.{set_at, take_at, drop-drop, drop_at, take_mor
 use Rattle.std.proofs.lemmas.Grind.{flat_map-append}
 use Rattle.std.proofs.Math.ListN.{set}
 use Rattle.rtp_wire.specs.Bytes.{u32_at, words_of}
+use Rattle.rtp_wire.specs.Laws.{AreWords}
 
 -- the same bytes at the front hold the same numbers
 pub same_piece : (n at k : ℕ) (a b : List ℕ) → take n a ≡ take n b → at + k ≤ n → take k (drop at a) ≡ take k (drop at b)
@@ -39,10 +40,6 @@ length-words_of (suc i) n (a ∷ b ∷ c ∷ []) e h = absurd (omega arith)
 length-words_of (suc i) n (a ∷ b ∷ c ∷ d ∷ rest) e h =
     let n_is : n ≡ suc (suc (suc (suc (4 * i)))) = omega arith in
     rw n_is (ap suc (length-words_of i (4 * i) rest refl (omega arith)))
-
--- numbers of 32 bits
-abbrev pub AreWords : List ℕ → Type 0
-AreWords words = AllByRecursion (λ n. n < 2 ^ 32) words
 
 pub are_words : (words : List ℕ) → ((k : ℕ) → get_or words k 0 < 2 ^ 32) → AreWords words
 are_words [] h = tt
