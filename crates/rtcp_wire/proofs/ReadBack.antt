@@ -6,10 +6,9 @@ use Rattle.std.specs.Int.{w16, w32, to_be_bytes, from_be_bytes}
 use Rattle.std.proofs.lemmas.Bool.{le-ltb, lt-ltb, le-leb}
 use Rattle.std.proofs.lemmas.List.{append-nil, take_at, drop_at}
 use Rattle.std.proofs.lemmas.Nat.{from_be_bytes-to_be_bytes_2, from_be_bytes-to_be_bytes_4, from_be_bytes-to_be_bytes_8}
-use Rattle.rtcp_wire.specs.Wire.{half_at, word_at, rows_of}
+use Rattle.rtp_base.specs.Fields.{u16_at, u32_at, signed24, bits24, IsSigned24}
+use Rattle.rtcp_wire.specs.Rows.{rows_of, nack_entry_at, nack_entry_text, fir_entry_at, fir_entry_text, report_at, report_text}
 use Rattle.rtcp_wire.specs.Frame.{item_len, frame_at}
-use Rattle.rtcp_wire.specs.Rows.{nack_entry_at, nack_entry_text, fir_entry_at, fir_entry_text, report_at, report_text}
-use Rattle.rtp_base.specs.Fields.{signed24, bits24, IsSigned24}
 use Rattle.rtcp_wire.specs.Feedback.{nack_of, nack_body, pli_of, pli_body, fir_of, fir_body, app_feedback_of, app_feedback_body}
 use Rattle.media_base.specs.Wallclock.{ntp_of_unix}
 use Rattle.rtcp_wire.specs.Remb.{is_remb, remb_of, remb_body, mantissa_of, exponent_of}
@@ -67,7 +66,7 @@ pub frame_again : (count kind : ℕ) (body rest : List ℕ) → count ≤ 31 →
     → frame_at (framed count kind body ++ rest) ≡ Some (record { count = count; kind = kind; body = body; rest = rest })
 frame_again count kind body rest few whole short =
     let bytes : List ℕ = framed count kind body ++ rest in
-    let half : half_at bytes 2 ≡ length body / 4 = from_be_bytes-to_be_bytes_2 (length body / 4) (omega arith) in
+    let half : u16_at bytes 2 ≡ length body / 4 = from_be_bytes-to_be_bytes_2 (length body / 4) (omega arith) in
     let il : item_len bytes ≡ suc (suc (suc (suc (length body)))) = omega (arith, half) in
     let version : (128 + count) / 64 ≡ 2 = omega arith in
     let padding : (128 + count) / 32 % 2 ≡ 0 = omega arith in
@@ -81,7 +80,7 @@ frame_again count kind body rest few whole short =
 
 -- ---- rows
 
-ssrc_again : (x : ℕ) (rest : List ℕ) → x < 2 ^ 32 → (word_at (to_be_bytes w32 x ++ rest) 0 ≡ x) × (drop 4 (to_be_bytes w32 x ++ rest) ≡ rest)
+ssrc_again : (x : ℕ) (rest : List ℕ) → x < 2 ^ 32 → (u32_at (to_be_bytes w32 x ++ rest) 0 ≡ x) × (drop 4 (to_be_bytes w32 x ++ rest) ≡ rest)
 ssrc_again x rest lt = (from_be_bytes-to_be_bytes_4 x lt, refl)
 
 nack_entry_again : (e : NackEntry) (rest : List ℕ) → IsNackEntry e → (nack_entry_at (nack_entry_text e ++ rest) ≡ e) × (drop 4 (nack_entry_text e ++ rest) ≡ rest)
@@ -143,7 +142,7 @@ unfolding nack_entry_text
 nack_entry_len e = refl
 
 nack_is : (body : List ℕ) (k : ℕ) → 8 ≤ length body → length body % 4 ≡ 0 → min ((length body - 8) / 4) 31 ≡ k
-    → nack_of body ≡ Some (record { sender_ssrc = word_at body 0; ssrc = word_at body 4; reports = rows_of nack_entry_at 4 k (drop 8 body) })
+    → nack_of body ≡ Some (record { sender_ssrc = u32_at body 0; ssrc = u32_at body 4; reports = rows_of nack_entry_at 4 k (drop 8 body) })
 unfolding nack_of
 nack_is body k long even count =
     let t : ltb (length body) 8 ≡ false = le-ltb _ _ long in
@@ -163,7 +162,7 @@ unfolding fir_entry_text
 fir_entry_len e = refl
 
 fir_is : (body : List ℕ) (k : ℕ) → 8 ≤ length body → length body % 8 ≡ 0 → min ((length body - 8) / 8) 31 ≡ k
-    → fir_of body ≡ Some (record { sender_ssrc = word_at body 0; reports = rows_of fir_entry_at 8 k (drop 8 body) })
+    → fir_of body ≡ Some (record { sender_ssrc = u32_at body 0; reports = rows_of fir_entry_at 8 k (drop 8 body) })
 unfolding fir_of
 fir_is body k long even count =
     let t : ltb (length body) 8 ≡ false = le-ltb _ _ long in
@@ -178,7 +177,7 @@ fir_again f s few rows =
     fir_is (fir_body f) (length f.reports) (omega arith) (omega (arith, len)) (omega (arith, len)) ∙ rw (a, again) refl
 
 app_is : (body : List ℕ) → 8 ≤ length body → length body % 4 ≡ 0
-    → app_feedback_of body ≡ Some (record { sender_ssrc = word_at body 0; media_ssrc = word_at body 4; payload = drop 8 body })
+    → app_feedback_of body ≡ Some (record { sender_ssrc = u32_at body 0; media_ssrc = u32_at body 4; payload = drop 8 body })
 unfolding app_feedback_of
 app_is body long even =
     let t : ltb (length body) 8 ≡ false = le-ltb _ _ long in
@@ -191,7 +190,7 @@ app_again f s t even =
     let b : from_be_bytes w32 (to_be_bytes w32 f.media_ssrc) ≡ f.media_ssrc = from_be_bytes-to_be_bytes_4 f.media_ssrc t in
     app_is (app_feedback_body f) (omega arith) even ∙ rw (a, b) refl
 
-goodbye_is : (count : ℕ) (body : List ℕ) → count * 4 ≤ length body → goodbye_of count body ≡ Some (record { reports = rows_of (λ bytes. word_at bytes 0) 4 count body })
+goodbye_is : (count : ℕ) (body : List ℕ) → count * 4 ≤ length body → goodbye_of count body ≡ Some (record { reports = rows_of (λ bytes. u32_at bytes 0) 4 count body })
 unfolding goodbye_of
 goodbye_is count body long =
     let t : ltb (length body) (count * 4) ≡ false = le-ltb _ _ long in
@@ -201,14 +200,14 @@ goodbye_again : (g : GoodbyeItem) → AllByRecursion (λ s. s < 2 ^ 32) g.report
 unfolding goodbye_body
 goodbye_again g rows =
     let len = rows_len (to_be_bytes w32) 4 (λ n. refl) g.reports in
-    let again : rows_of (λ bytes. word_at bytes 0) 4 (length g.reports) (flat_map (to_be_bytes w32) g.reports) ≡ g.reports = ap (rows_of (λ bytes. word_at bytes 0) 4 (length g.reports)) (sym (append-nil (flat_map (to_be_bytes w32) g.reports))) ∙ rows_again (λ bytes. word_at bytes 0) (to_be_bytes w32) 4 (λ s. s < 2 ^ 32) ssrc_again g.reports [] rows in
+    let again : rows_of (λ bytes. u32_at bytes 0) 4 (length g.reports) (flat_map (to_be_bytes w32) g.reports) ≡ g.reports = ap (rows_of (λ bytes. u32_at bytes 0) 4 (length g.reports)) (sym (append-nil (flat_map (to_be_bytes w32) g.reports))) ∙ rows_again (λ bytes. u32_at bytes 0) (to_be_bytes w32) 4 (λ s. s < 2 ^ 32) ssrc_again g.reports [] rows in
     goodbye_is (length g.reports) (goodbye_body g) (omega (arith, len)) ∙ rw again refl
 
 pub report_len : (r : ReceptionReport) → length (report_text r) ≡ 24
 unfolding report_text
 report_len r = refl
 
-receiver_report_is : (count : ℕ) (body : List ℕ) → 4 + count * 24 ≤ length body → receiver_report_of count body ≡ Some (record { sender_ssrc = word_at body 0; reports = rows_of report_at 24 count (drop 4 body) })
+receiver_report_is : (count : ℕ) (body : List ℕ) → 4 + count * 24 ≤ length body → receiver_report_of count body ≡ Some (record { sender_ssrc = u32_at body 0; reports = rows_of report_at 24 count (drop 4 body) })
 unfolding receiver_report_of
 receiver_report_is count body long =
     let t : ltb (length body) (4 + count * 24) ≡ false = le-ltb _ _ long in
@@ -271,8 +270,8 @@ remb_named r =
     let t : leb 12 (length (remb_body r)) ≡ true = le-leb 12 (length (remb_body r)) (omega arith) in
     rw t refl
 
-remb_is : (body : List ℕ) (count : ℕ) → 16 + count * 4 ≤ length body → word_at body 12 / 16777216 ≡ count
-    → remb_of body ≡ Some (record { sender_ssrc = word_at body 0; bitrate = min (word_at body 12 % 262144 * 2 ^ (word_at body 12 / 262144 % 64)) 10000000000; ssrcs = rows_of (λ bytes. word_at bytes 0) 4 count (drop 16 body) })
+remb_is : (body : List ℕ) (count : ℕ) → 16 + count * 4 ≤ length body → u32_at body 12 / 16777216 ≡ count
+    → remb_of body ≡ Some (record { sender_ssrc = u32_at body 0; bitrate = min (u32_at body 12 % 262144 * 2 ^ (u32_at body 12 / 262144 % 64)) 10000000000; ssrcs = rows_of (λ bytes. u32_at bytes 0) 4 count (drop 16 body) })
 unfolding remb_of
 remb_is body count long e =
     let t : ltb (length body) 16 ≡ false = le-ltb _ _ (omega arith) in
@@ -284,7 +283,7 @@ remb_again : (r : RembItem) → length r.ssrcs ≤ 255 → r.sender_ssrc < 2 ^ 3
 unfolding remb_body
 remb_again r few s rate rows =
     let len = rows_len (to_be_bytes w32) 4 (λ n. refl) r.ssrcs in
-    let again : rows_of (λ bytes. word_at bytes 0) 4 (length r.ssrcs) (flat_map (to_be_bytes w32) r.ssrcs) ≡ r.ssrcs = ap (rows_of (λ bytes. word_at bytes 0) 4 (length r.ssrcs)) (sym (append-nil (flat_map (to_be_bytes w32) r.ssrcs))) ∙ rows_again (λ bytes. word_at bytes 0) (to_be_bytes w32) 4 (λ s. s < 2 ^ 32) ssrc_again r.ssrcs [] rows in
+    let again : rows_of (λ bytes. u32_at bytes 0) 4 (length r.ssrcs) (flat_map (to_be_bytes w32) r.ssrcs) ≡ r.ssrcs = ap (rows_of (λ bytes. u32_at bytes 0) 4 (length r.ssrcs)) (sym (append-nil (flat_map (to_be_bytes w32) r.ssrcs))) ∙ rows_again (λ bytes. u32_at bytes 0) (to_be_bytes w32) 4 (λ s. s < 2 ^ 32) ssrc_again r.ssrcs [] rows in
     let small : mantissa_of r.bitrate < 262144 = mantissa_small r.bitrate rate in
     let e : exponent_of r.bitrate < 64 = omega arith in
     let w : ℕ = length r.ssrcs * 16777216 + exponent_of r.bitrate * 262144 + mantissa_of r.bitrate in
@@ -292,9 +291,9 @@ remb_again r few s rate rows =
     let a : from_be_bytes w32 (to_be_bytes w32 r.sender_ssrc) ≡ r.sender_ssrc = from_be_bytes-to_be_bytes_4 r.sender_ssrc s in
     let make : ℕ → ℕ → ℕ → List ℕ → Option RembItem = λ x m k y. Some (record { sender_ssrc = x; bitrate = min (m * 2 ^ k) 10000000000; ssrcs = y }) in
     remb_is (remb_body r) (length r.ssrcs) (omega (arith, len)) word.0
-    ∙ ap (λ (x : ℕ). make x (word_at (remb_body r) 12 % 262144) (word_at (remb_body r) 12 / 262144 % 64) (rows_of (λ bytes. word_at bytes 0) 4 (length r.ssrcs) (flat_map (to_be_bytes w32) r.ssrcs))) a
-    ∙ ap (λ (m : ℕ). make r.sender_ssrc m (word_at (remb_body r) 12 / 262144 % 64) (rows_of (λ bytes. word_at bytes 0) 4 (length r.ssrcs) (flat_map (to_be_bytes w32) r.ssrcs))) word.1
-    ∙ ap (λ (k : ℕ). make r.sender_ssrc (mantissa_of r.bitrate) k (rows_of (λ bytes. word_at bytes 0) 4 (length r.ssrcs) (flat_map (to_be_bytes w32) r.ssrcs))) word.2
+    ∙ ap (λ (x : ℕ). make x (u32_at (remb_body r) 12 % 262144) (u32_at (remb_body r) 12 / 262144 % 64) (rows_of (λ bytes. u32_at bytes 0) 4 (length r.ssrcs) (flat_map (to_be_bytes w32) r.ssrcs))) a
+    ∙ ap (λ (m : ℕ). make r.sender_ssrc m (u32_at (remb_body r) 12 / 262144 % 64) (rows_of (λ bytes. u32_at bytes 0) 4 (length r.ssrcs) (flat_map (to_be_bytes w32) r.ssrcs))) word.1
+    ∙ ap (λ (k : ℕ). make r.sender_ssrc (mantissa_of r.bitrate) k (rows_of (λ bytes. u32_at bytes 0) 4 (length r.ssrcs) (flat_map (to_be_bytes w32) r.ssrcs))) word.2
     ∙ ap (make r.sender_ssrc (mantissa_of r.bitrate) (exponent_of r.bitrate)) again
 
 abbrev made_report : ℕ → List ReportBlock → ExtendedItem
@@ -349,7 +348,7 @@ block_again b rest w =
     let content : List ℕ = block_content b in
     let bytes : List ℕ = block_text b ++ rest in
     let whole = content_whole b w in
-    let half : half_at bytes 2 ≡ length content / 4 = from_be_bytes-to_be_bytes_2 (length content / 4) (omega (arith, whole.1)) in
+    let half : u16_at bytes 2 ≡ length content / 4 = from_be_bytes-to_be_bytes_2 (length content / 4) (omega (arith, whole.1)) in
     let il : item_len bytes ≡ suc (suc (suc (suc (length content)))) = omega (arith, half, whole.0) in
     let long : 4 ≤ length bytes = omega arith in
     let fits : suc (suc (suc (suc (length content)))) ≤ length bytes = omega (arith, length-append content rest) in
@@ -368,7 +367,7 @@ blocks_again (suc n) (b ∷ bs) w =
     let others = blocks_again n bs w.1 in
     some_block n b (flat_map block_text bs) ∙ rw (one, others) refl
 
-extended_report_is : (body : List ℕ) → 4 ≤ length body → extended_report_of body ≡ option_map (λ blocks. made_report (word_at body 0) blocks) (blocks_of (drop 4 body))
+extended_report_is : (body : List ℕ) → 4 ≤ length body → extended_report_of body ≡ option_map (λ blocks. made_report (u32_at body 0) blocks) (blocks_of (drop 4 body))
 unfolding extended_report_of
 extended_report_is body long =
     let t : ltb (length body) 4 ≡ false = le-ltb _ _ long in
@@ -379,7 +378,7 @@ unfolding extended_report_body blocks_of
 extended_report_again r s w =
     let a : from_be_bytes w32 (to_be_bytes w32 r.ssrc) ≡ r.ssrc = from_be_bytes-to_be_bytes_4 r.ssrc s in
     extended_report_is (extended_report_body r) (omega arith)
-    ∙ ap (option_map (λ blocks. made_report (word_at (extended_report_body r) 0) blocks)) (blocks_again 31 r.blocks w)
+    ∙ ap (option_map (λ blocks. made_report (u32_at (extended_report_body r) 0) blocks)) (blocks_again 31 r.blocks w)
     ∙ ap (λ (x : ℕ). Some (made_report x (map held_block (take 31 r.blocks)))) a
 
 -- ---- items

@@ -6,7 +6,7 @@ use Rattle.std.specs.Int.{w32, to_be_bytes}
 use Rattle.std.proofs.lemmas.Bool.{le-ltb, ne_eqb}
 use Rattle.std.proofs.lemmas.List.{take_at, drop_at, length-take}
 use Rattle.std.proofs.lemmas.Nat.{from_be_bytes-to_be_bytes_4}
-use Rattle.rtcp_wire.specs.Wire.{word_at}
+use Rattle.rtp_base.specs.Fields.{u32_at}
 use Rattle.rtcp_wire.specs.declared.source.SdesItem.{SdesItem}
 use Rattle.rtcp_wire.specs.declared.source.Sdes.{Sdes}
 use Rattle.rtcp_wire.specs.declared.source.Descriptions.{Descriptions}
@@ -50,7 +50,7 @@ items_len [] = omega arith
 items_len (i ∷ is) = omega (arith, length-append (sdes_item_text i) (flat_map sdes_item_text is), items_len is)
 
 sdes_is : (bytes rest : List ℕ) (is : List SdesItem) → 4 ≤ length bytes → sdes_items_of (drop 4 bytes) ≡ Some (is, rest)
-    → sdes_at bytes ≡ sdes_ended (word_at bytes 0) (length bytes - length rest) (take 31 is, rest)
+    → sdes_at bytes ≡ sdes_ended (u32_at bytes 0) (length bytes - length rest) (take 31 is, rest)
 unfolding sdes_at
 sdes_is bytes rest is long found =
     let t : ltb (length bytes) 4 ≡ false = le-ltb _ _ long in
@@ -80,7 +80,7 @@ sdes_again s rest w =
     let text : sdes_text s ++ rest ≡ whole = rw e (append_assoc (head ++ items) (0 ∷ zeros) rest ∙ append_assoc head items end) in
     let len : length whole ≡ at + length end = omega (arith, length-append items end, length-append head items, length-append head (items ++ end)) in
     let found = items_again (length (items ++ end)) s.values (zeros ++ rest) (omega (arith, items_len s.values, length-append items end)) w.1 in
-    let ssrc : word_at whole 0 ≡ s.ssrc = from_be_bytes-to_be_bytes_4 s.ssrc w.0 in
+    let ssrc : u32_at whole 0 ≡ s.ssrc = from_be_bytes-to_be_bytes_4 s.ssrc w.0 in
     let place : length whole - length end ≡ at = omega (arith, len) in
     ap sdes_at text ∙ sdes_is whole end s.values (omega (arith, len)) found
     ∙ rw (ssrc, place) (ended_is s.ssrc at n (take 31 s.values) rest e (omega arith))

@@ -5,7 +5,7 @@ use Rattle.std.proofs.lemmas.List.{append-nil, take_at, drop_at}
 use Rattle.std.proofs.lemmas.List.Concat.{flat_map-append}
 use Rattle.std.proofs.lemmas.Bool.{le-leb, lt-leb}
 use Rattle.rtcp_wire.specs.declared.packet.Rtcp.{Rtcp}
-use Rattle.rtcp_wire.specs.Wire.{Puts}
+use Rattle.rtp_base.specs.Fields.{Puts}
 use Rattle.rtcp_wire.specs.Texts.{IsWritable, text_of, fitting}
 
 -- the items written so far are the first of all, and how many of the others fit is still to come

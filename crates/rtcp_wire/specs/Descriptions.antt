@@ -3,7 +3,7 @@ use Rattle.std.specs.Prelude.{ℕ, zero, suc, ◌+◌, ◌-◌, ◌%◌, ◌==�
 use Rattle.std.specs.List.{flat_map}
 use Rattle.std.specs.Option.{option_map, option_and_then}
 use Rattle.std.specs.Int.{w32, to_be_bytes}
-use Rattle.rtcp_wire.specs.Wire.{word_at}
+use Rattle.rtp_base.specs.Fields.{u32_at}
 use Rattle.rtcp_wire.specs.declared.source.SdesType.{SdesType}
 use Rattle.rtcp_wire.specs.declared.source.SdesType.TheVariants.{CNAME, NAME, EMAIL, PHONE, LOC, TOOL, NOTE, PRIV, Unknown}
 use Rattle.rtcp_wire.specs.declared.source.SdesItem.{SdesItem}
@@ -76,7 +76,7 @@ sdes_ended ssrc at x =
 unfoldable pub sdes_at : List ℕ → Option (Sdes × List ℕ)
 sdes_at bytes =
     if nat_lt (length bytes) 4 then None
-    else option_and_then (λ x. sdes_ended (word_at bytes 0) (length bytes - length x.1) x) (first_31 (sdes_items_of (drop 4 bytes)))
+    else option_and_then (λ x. sdes_ended (u32_at bytes 0) (length bytes - length x.1) x) (first_31 (sdes_items_of (drop 4 bytes)))
 
 -- n chunks, one after another
 abbrev pub chunks_of : ℕ → List ℕ → Option (List Sdes)

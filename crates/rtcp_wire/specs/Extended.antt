@@ -1,19 +1,25 @@
 -- Extended reports (RFC 3611).
-use Rattle.std.specs.Prelude.{ℕ, zero, suc, ◌/◌, ◌==◌, ◌||◌, List, [], ◌∷◌, ◌++◌, length, take, drop, slice_index, nat_lt, Option, Some, None, if◌then◌else◌}
+use Rattle.std.specs.Prelude.{ℕ, zero, suc, Bool, true, false, ◌/◌, ◌==◌, ◌||◌, List, [], ◌∷◌, ◌++◌, length, take, drop, slice_index, nat_lt, Option, Some, None, if◌then◌else◌}
 use Rattle.std.specs.List.{flat_map}
 use Rattle.std.specs.Option.{option_map, option_and_then}
 use Rattle.std.specs.Int.{w16, w32, w64, to_be_bytes}
 use Rattle.media_base.specs.Wallclock.{unix_of_ntp, ntp_of_unix}
-use Rattle.rtcp_wire.specs.Wire.{word_at, double_at, words, rows_of}
+use Rattle.rtp_base.specs.Fields.{u32_at, u64_at, words}
+use Rattle.rtcp_wire.specs.Rows.{rows_of}
 use Rattle.rtcp_wire.specs.Frame.{item_len}
 use Rattle.rtcp_wire.specs.declared.extended.DlrrItem.{DlrrItem}
 use Rattle.rtcp_wire.specs.declared.extended.ReportBlock.{ReportBlock}
 use Rattle.rtcp_wire.specs.declared.extended.ReportBlock.TheVariants.{Rrtr, Dlrr}
 use Rattle.rtcp_wire.specs.declared.extended.ExtendedReport.{ExtendedReport}
 
+-- the value, where there is one
+abbrev pub some_if : {T : Type 0} → Bool → T → Option T
+some_if true x = Some x
+some_if false x = None
+
 -- the SSRC of a receiver, its last RRTR and the delay since then (section 4.5)
 unfoldable pub dlrr_item_at : List ℕ → DlrrItem
-dlrr_item_at bytes = record { ssrc = word_at bytes 0; last_rr_time = word_at bytes 4; last_rr_delay = word_at bytes 8 }
+dlrr_item_at bytes = record { ssrc = u32_at bytes 0; last_rr_time = u32_at bytes 4; last_rr_delay = u32_at bytes 8 }
 
 unfoldable pub dlrr_item_text : DlrrItem → List ℕ
 dlrr_item_text i = words (i.ssrc ∷ i.last_rr_time ∷ i.last_rr_delay ∷ [])
@@ -23,7 +29,7 @@ dlrr_item_text i = words (i.ssrc ∷ i.last_rr_time ∷ i.last_rr_delay ∷ [])
 -- block is too short
 unfoldable pub block_of : ℕ → List ℕ → Option (List ReportBlock)
 block_of kind content =
-    if kind == 4 then (if nat_lt (length content) 8 then None else Some (Rrtr (record { ntp_time = unix_of_ntp (double_at content 0) }) ∷ []))
+    if kind == 4 then (if nat_lt (length content) 8 then None else Some (Rrtr (record { ntp_time = unix_of_ntp (u64_at content 0) }) ∷ []))
     else (if kind == 5 then Some (Dlrr (record { items = rows_of dlrr_item_at 12 (length content / 12) content }) ∷ [])
     else Some [])
 
@@ -55,7 +61,7 @@ blocks_of bytes = blocks_within 31 bytes
 unfoldable pub extended_report_of : List ℕ → Option ExtendedReport
 extended_report_of body =
     if nat_lt (length body) 4 then None
-    else option_map (λ blocks. record { ssrc = word_at body 0; blocks = blocks }) (blocks_of (drop 4 body))
+    else option_map (λ blocks. record { ssrc = u32_at body 0; blocks = blocks }) (blocks_of (drop 4 body))
 
 abbrev pub block_kind : ReportBlock → ℕ
 block_kind (Rrtr r) = 4

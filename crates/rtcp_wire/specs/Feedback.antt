@@ -1,8 +1,8 @@
 -- Feedback (RFC 4585 section 6).
 use Rattle.std.specs.Prelude.{ℕ, ◌-◌, ◌/◌, ◌%◌, ◌==◌, ◌||◌, not, min, List, [], ◌∷◌, ◌++◌, length, drop, nat_lt, Option, Some, None, if◌then◌else◌}
 use Rattle.std.specs.List.{flat_map}
-use Rattle.rtcp_wire.specs.Wire.{word_at, words, rows_of}
-use Rattle.rtcp_wire.specs.Rows.{nack_entry_at, nack_entry_text, fir_entry_at, fir_entry_text}
+use Rattle.rtp_base.specs.Fields.{u32_at, words}
+use Rattle.rtcp_wire.specs.Rows.{rows_of, nack_entry_at, nack_entry_text, fir_entry_at, fir_entry_text}
 use Rattle.rtcp_wire.specs.declared.nack.Nack.{Nack}
 use Rattle.rtcp_wire.specs.declared.request.Pli.{Pli}
 use Rattle.rtcp_wire.specs.declared.request.Fir.{Fir}
@@ -13,7 +13,7 @@ use Rattle.rtcp_wire.specs.declared.feedback.AppSpecificFeedback.{AppSpecificFee
 unfoldable pub nack_of : List ℕ → Option Nack
 nack_of body =
     if nat_lt (length body) 8 || not (length body % 4 == 0) then None
-    else Some (record { sender_ssrc = word_at body 0; ssrc = word_at body 4; reports = rows_of nack_entry_at 4 (min ((length body - 8) / 4) 31) (drop 8 body) })
+    else Some (record { sender_ssrc = u32_at body 0; ssrc = u32_at body 4; reports = rows_of nack_entry_at 4 (min ((length body - 8) / 4) 31) (drop 8 body) })
 
 unfoldable pub nack_body : Nack → List ℕ
 nack_body n = words (n.sender_ssrc ∷ n.ssrc ∷ []) ++ flat_map nack_entry_text n.reports
@@ -22,7 +22,7 @@ nack_body n = words (n.sender_ssrc ∷ n.ssrc ∷ []) ++ flat_map nack_entry_tex
 unfoldable pub pli_of : List ℕ → Option Pli
 pli_of body =
     if nat_lt (length body) 8 then None
-    else Some (record { sender_ssrc = word_at body 0; ssrc = word_at body 4 })
+    else Some (record { sender_ssrc = u32_at body 0; ssrc = u32_at body 4 })
 
 unfoldable pub pli_body : Pli → List ℕ
 pli_body p = words (p.sender_ssrc ∷ p.ssrc ∷ [])
@@ -32,7 +32,7 @@ pli_body p = words (p.sender_ssrc ∷ p.ssrc ∷ [])
 unfoldable pub fir_of : List ℕ → Option Fir
 fir_of body =
     if nat_lt (length body) 8 || not (length body % 8 == 0) then None
-    else Some (record { sender_ssrc = word_at body 0; reports = rows_of fir_entry_at 8 (min ((length body - 8) / 8) 31) (drop 8 body) })
+    else Some (record { sender_ssrc = u32_at body 0; reports = rows_of fir_entry_at 8 (min ((length body - 8) / 8) 31) (drop 8 body) })
 
 unfoldable pub fir_body : Fir → List ℕ
 fir_body f = words (f.sender_ssrc ∷ 0 ∷ []) ++ flat_map fir_entry_text f.reports
@@ -42,7 +42,7 @@ fir_body f = words (f.sender_ssrc ∷ 0 ∷ []) ++ flat_map fir_entry_text f.rep
 unfoldable pub app_feedback_of : List ℕ → Option AppSpecificFeedback
 app_feedback_of body =
     if nat_lt (length body) 8 || not (length body % 4 == 0) then None
-    else Some (record { sender_ssrc = word_at body 0; media_ssrc = word_at body 4; payload = drop 8 body })
+    else Some (record { sender_ssrc = u32_at body 0; media_ssrc = u32_at body 4; payload = drop 8 body })
 
 unfoldable pub app_feedback_body : AppSpecificFeedback → List ℕ
 app_feedback_body f = words (f.sender_ssrc ∷ f.media_ssrc ∷ []) ++ f.payload

@@ -1,6 +1,6 @@
 -- The header that each item begins with (RFC 3550 section 6.4.1).
 use Rattle.std.specs.Prelude.{ℕ, ◌+◌, ◌-◌, ◌*◌, ◌/◌, ◌%◌, ◌==◌, ◌||◌, ◌&&◌, not, nat_lt, nat_le, List, length, take, drop, slice_index, Option, Some, None, if◌then◌else◌}
-use Rattle.rtcp_wire.specs.Wire.{half_at}
+use Rattle.rtp_base.specs.Fields.{u16_at}
 use Rattle.rtcp_wire.specs.declared.frame.Frame.{Frame as Found}
 
 -- an item: its count or format, its type, the bytes after its header, and what follows it
@@ -16,7 +16,7 @@ view f = record { count = f.count; kind = f.kind; body = f.body.now; rest = f.re
 
 -- the length of the item at the front in bytes: the header has it in words, less one
 abbrev pub item_len : List ℕ → ℕ
-item_len bytes = 4 * half_at bytes 2 + 4
+item_len bytes = 4 * u16_at bytes 2 + 4
 
 -- the bytes without padding, whose last byte counts it, itself included; a count that is 0 or above
 -- the bytes there is none

@@ -1,4 +1,3 @@
-pub mod Wire
 pub mod Rows
 pub mod Frame
 pub mod Reports

@@ -1,7 +1,8 @@
 -- The greatest rate that a receiver asks for (draft-alvestrand-rmcat-remb section 2.2).
 use Rattle.std.specs.Prelude.{ℕ, Bool, ◌+◌, ◌-◌, ◌*◌, ◌/◌, ◌%◌, ◌^◌, ◌==◌, ◌&&◌, ◌||◌, min, List, [], ◌∷◌, ◌++◌, length, drop, nat_lt, nat_le, Option, Some, None, if◌then◌else◌}
 use Rattle.std.specs.Int.{w64, leading_zeros}
-use Rattle.rtcp_wire.specs.Wire.{word_at, words, rows_of}
+use Rattle.rtp_base.specs.Fields.{u32_at, words}
+use Rattle.rtcp_wire.specs.Rows.{rows_of}
 use Rattle.rtcp_wire.specs.declared.remb.Remb.{Remb}
 
 -- a rate is mantissa * 2 ^ exponent, the mantissa below 2 ^ 18: the exponent is how many more bits than
@@ -18,17 +19,17 @@ remb_name = 0x52454d42
 
 -- application feedback whose words begin with the name
 abbrev pub is_remb : List ℕ → Bool
-is_remb body = nat_le 12 (length body) && (word_at body 8 == remb_name)
+is_remb body = nat_le 12 (length body) && (u32_at body 8 == remb_name)
 
 -- type 206, format 15: the SSRC of the sender, 0, the name, the number of SSRCs, the exponent, the
 -- mantissa, the SSRCs
 unfoldable pub remb_of : List ℕ → Option Remb
 remb_of body =
-    if nat_lt (length body) 16 || nat_lt (length body) (16 + word_at body 12 / 16777216 * 4) then None
+    if nat_lt (length body) 16 || nat_lt (length body) (16 + u32_at body 12 / 16777216 * 4) then None
     else Some (record {
-      sender_ssrc = word_at body 0;
-      bitrate = min (word_at body 12 % 262144 * 2 ^ (word_at body 12 / 262144 % 64)) 10000000000;
-      ssrcs = rows_of (λ bytes. word_at bytes 0) 4 (word_at body 12 / 16777216) (drop 16 body);
+      sender_ssrc = u32_at body 0;
+      bitrate = min (u32_at body 12 % 262144 * 2 ^ (u32_at body 12 / 262144 % 64)) 10000000000;
+      ssrcs = rows_of (λ bytes. u32_at bytes 0) 4 (u32_at body 12 / 16777216) (drop 16 body);
     })
 
 unfoldable pub remb_body : Remb → List ℕ

@@ -3,8 +3,8 @@ use Rattle.std.specs.Prelude.{ℕ, ◌+◌, ◌*◌, List, [], ◌∷◌, ◌++�
 use Rattle.std.specs.List.{flat_map}
 use Rattle.std.specs.Int.{w32, w64, to_be_bytes}
 use Rattle.media_base.specs.Wallclock.{unix_of_ntp, ntp_of_unix}
-use Rattle.rtcp_wire.specs.Wire.{word_at, double_at, words, rows_of}
-use Rattle.rtcp_wire.specs.Rows.{report_at, report_text}
+use Rattle.rtp_base.specs.Fields.{u32_at, u64_at, words}
+use Rattle.rtcp_wire.specs.Rows.{rows_of, report_at, report_text}
 use Rattle.rtcp_wire.specs.declared.report.ReceiverReport.{ReceiverReport}
 use Rattle.rtcp_wire.specs.declared.report.SenderReport.{SenderReport}
 use Rattle.rtcp_wire.specs.declared.report.SenderInfo.{SenderInfo}
@@ -14,7 +14,7 @@ use Rattle.rtcp_wire.specs.declared.source.Goodbye.{Goodbye}
 unfoldable pub receiver_report_of : ℕ → List ℕ → Option ReceiverReport
 receiver_report_of count body =
     if nat_lt (length body) (4 + count * 24) then None
-    else Some (record { sender_ssrc = word_at body 0; reports = rows_of report_at 24 count (drop 4 body) })
+    else Some (record { sender_ssrc = u32_at body 0; reports = rows_of report_at 24 count (drop 4 body) })
 
 unfoldable pub receiver_report_body : ReceiverReport → List ℕ
 receiver_report_body r = to_be_bytes w32 r.sender_ssrc ++ flat_map report_text r.reports
@@ -23,11 +23,11 @@ receiver_report_body r = to_be_bytes w32 r.sender_ssrc ++ flat_map report_text r
 -- (RFC 3550 section 6.4.1)
 unfoldable pub sender_info_at : List ℕ → SenderInfo
 sender_info_at body = record {
-  ssrc = word_at body 0;
-  ntp_time = unix_of_ntp (double_at body 4);
-  rtp_time = word_at body 12;
-  sender_packet_count = word_at body 16;
-  sender_octet_count = word_at body 20;
+  ssrc = u32_at body 0;
+  ntp_time = unix_of_ntp (u64_at body 4);
+  rtp_time = u32_at body 12;
+  sender_packet_count = u32_at body 16;
+  sender_octet_count = u32_at body 20;
 }
 
 unfoldable pub sender_info_text : SenderInfo → List ℕ
@@ -47,7 +47,7 @@ sender_report_body r = sender_info_text r.sender_info ++ flat_map report_text r.
 unfoldable pub goodbye_of : ℕ → List ℕ → Option Goodbye
 goodbye_of count body =
     if nat_lt (length body) (count * 4) then None
-    else Some (record { reports = rows_of (λ bytes. word_at bytes 0) 4 count body })
+    else Some (record { reports = rows_of (λ bytes. u32_at bytes 0) 4 count body })
 
 unfoldable pub goodbye_body : Goodbye → List ℕ
 goodbye_body g = words g.reports

@@ -2,6 +2,7 @@
 use Rattle.std.specs.Prelude.{◌≡◌, ℕ, suc, ◌+◌, ◌-◌, ◌/◌, ◌%◌, ◌^◌, ◌≤◌, ◌<◌, List, [], ◌∷◌, ◌++◌, length, nat_le, if◌then◌else◌}
 use Rattle.std.specs.List.{AllByRecursion}
 use Rattle.std.specs.Int.{w16, to_be_bytes}
+use Rattle.rtcp_wire.specs.declared.kinds.TheConstants.{SENDER_REPORT, RECEIVER_REPORT, SOURCE_DESCRIPTION, GOODBYE, TRANSPORT_FEEDBACK, PAYLOAD_FEEDBACK, EXTENDED_REPORT, NACK_FORMAT, TWCC_FORMAT, PLI_FORMAT, FIR_FORMAT, APPLICATION_FORMAT}
 use Rattle.rtcp_wire.specs.declared.packet.Rtcp.{Rtcp}
 use Rattle.rtcp_wire.specs.declared.packet.Rtcp.TheVariants.{SenderReport, ReceiverReport, SourceDescription, Goodbye, ExtendedReport, Nack, Pli, Fir, Twcc, Remb, AppSpecificFeedback}
 use Rattle.rtcp_wire.specs.declared.source.Sdes.{Sdes}
@@ -14,17 +15,17 @@ use Rattle.twcc_core.specs.Feedback.{twcc_bytes}
 
 -- the packet type (RFC 3550 section 12.1, RFC 4585 section 6.1)
 abbrev pub kind_of : Rtcp → ℕ
-kind_of (SenderReport r) = 200
-kind_of (ReceiverReport r) = 201
-kind_of (SourceDescription d) = 202
-kind_of (Goodbye g) = 203
-kind_of (ExtendedReport r) = 207
-kind_of (Nack n) = 205
-kind_of (Pli p) = 206
-kind_of (Fir f) = 206
-kind_of (Twcc t) = 205
-kind_of (Remb r) = 206
-kind_of (AppSpecificFeedback f) = 206
+kind_of (SenderReport r) = SENDER_REPORT
+kind_of (ReceiverReport r) = RECEIVER_REPORT
+kind_of (SourceDescription d) = SOURCE_DESCRIPTION
+kind_of (Goodbye g) = GOODBYE
+kind_of (ExtendedReport r) = EXTENDED_REPORT
+kind_of (Nack n) = TRANSPORT_FEEDBACK
+kind_of (Pli p) = PAYLOAD_FEEDBACK
+kind_of (Fir f) = PAYLOAD_FEEDBACK
+kind_of (Twcc t) = TRANSPORT_FEEDBACK
+kind_of (Remb r) = PAYLOAD_FEEDBACK
+kind_of (AppSpecificFeedback f) = PAYLOAD_FEEDBACK
 
 -- the count, or the format of feedback
 abbrev pub count_of : Rtcp → ℕ
@@ -33,12 +34,12 @@ count_of (ReceiverReport r) = length r.reports
 count_of (SourceDescription d) = length d.reports
 count_of (Goodbye g) = length g.reports
 count_of (ExtendedReport r) = 0
-count_of (Nack n) = 1
-count_of (Pli p) = 1
-count_of (Fir f) = 4
-count_of (Twcc t) = 15
-count_of (Remb r) = 15
-count_of (AppSpecificFeedback f) = 15
+count_of (Nack n) = NACK_FORMAT
+count_of (Pli p) = PLI_FORMAT
+count_of (Fir f) = FIR_FORMAT
+count_of (Twcc t) = TWCC_FORMAT
+count_of (Remb r) = APPLICATION_FORMAT
+count_of (AppSpecificFeedback f) = APPLICATION_FORMAT
 
 -- the bytes after the header
 abbrev pub body_of : Rtcp → List ℕ

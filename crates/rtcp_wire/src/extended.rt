@@ -2,13 +2,13 @@
 ghost use Rattle.std.specs.Prelude.{◌≡◌, ◌++◌, length, IfOk, Option};
 ghost use Rattle.std.specs.Int.{w16, to_be_bytes};
 ghost use Rattle.std.specs.Option.{option_map};
-ghost use Rattle.rtcp_wire.specs.Wire.{Puts, some_if};
-ghost use Rattle.rtcp_wire.specs.Extended.{with_blocks, kept, block_of, block_at, block_kind, block_content, block_text, blocks_of, extended_report_of, extended_report_body};
+ghost use Rattle.rtp_base.specs.Fields.{Puts};
+ghost use Rattle.rtcp_wire.specs.Extended.{some_if, with_blocks, kept, block_of, block_at, block_kind, block_content, block_text, blocks_of, extended_report_of, extended_report_body};
 
-use crate::row::{Put, Row, read_many, write_rows};
-use crate::wire::{double, half, put, word};
+use crate::row::{Row, read_many};
 use media_base::{Listed, SystemTime, SystemTimeExt};
 use rtp_base::Ssrc;
+use rtp_base::fields::{Put, put_all, put_at, u16_at, u32_at, u64_at};
 use std::alloc::{AllocError, Global};
 
 /// Blocks of reports of one sender (RFC 3611 section 2).
@@ -68,9 +68,9 @@ impl Row for DlrrItem {
     #[tactic(auto, unfolding(crate::specs::Extended::dlrr_item_at))]
     fn read(bytes: &[u8]) -> Self {
         DlrrItem {
-            ssrc: word(bytes, 0).into(),
-            last_rr_time: word(bytes, 4),
-            last_rr_delay: word(bytes, 8),
+            ssrc: u32_at(bytes, 0).into(),
+            last_rr_time: u32_at(bytes, 4),
+            last_rr_delay: u32_at(bytes, 8),
         }
     }
 }
@@ -81,9 +81,9 @@ impl Put for DlrrItem {
     ghost text_of = { dlrr_item_text };
 
     #[tactic(auto, unfolding(crate::specs::Extended::dlrr_item_text))]
-    fn write(&self, out: &mut [u8], at: usize) -> Option<usize> {
+    fn put(&self, out: &mut [u8], at: usize) -> Option<usize> {
         let words = [self.ssrc.into(), self.last_rr_time, self.last_rr_delay];
-        write_rows(&words, out, at)
+        put_all(&words, out, at)
     }
 }
 
@@ -102,7 +102,7 @@ fn read_block(
             if content.len() < 8 {
                 return Ok(false);
             }
-            let ntp_time = SystemTime::from_ntp_64(double(content, 0));
+            let ntp_time = SystemTime::from_ntp_64(u64_at(content, 0));
             blocks.push(ReportBlock::Rrtr(Rrtr { ntp_time }))?;
         }
         5 => {
@@ -126,7 +126,7 @@ fn read_first_block<'a>(
     if bytes.len() < 4 {
         return Ok(None);
     }
-    let len = 4 * usize::from(half(bytes, 2)) + 4;
+    let len = 4 * usize::from(u16_at(bytes, 2)) + 4;
     if bytes.len() < len {
         return Ok(None);
     }
@@ -173,7 +173,7 @@ pub(crate) fn read_extended_report(
         return Ok(None);
     };
     Ok(Some(ExtendedReport {
-        ssrc: word(body, 0).into(),
+        ssrc: u32_at(body, 0).into(),
         blocks,
     }))
 }
@@ -193,8 +193,8 @@ impl ReportBlock {
         ensures { Puts out.old 0 (block_content self.now) out.new result }
     {
         match self {
-            ReportBlock::Rrtr(rrtr) => put(out, 0, &rrtr.ntp_time.as_ntp_64().to_be_bytes()),
-            ReportBlock::Dlrr(dlrr) => write_rows(dlrr.items.as_slice(), out, 0),
+            ReportBlock::Rrtr(rrtr) => put_at(out, 0, &rrtr.ntp_time.as_ntp_64().to_be_bytes()),
+            ReportBlock::Dlrr(dlrr) => put_all(dlrr.items.as_slice(), out, 0),
         }
     }
 }
@@ -210,7 +210,7 @@ impl Put for ReportBlock {
     ghost text_of = { block_text };
 
     #[tactic(auto, unfolding(crate::specs::Extended::block_text))]
-    fn write(&self, out: &mut [u8], at: usize) -> Option<usize> {
+    fn put(&self, out: &mut [u8], at: usize) -> Option<usize> {
         if out.len() < at || out.len() - at < 4 {
             return None;
         }
@@ -227,6 +227,6 @@ impl Put for ReportBlock {
 pub(crate) fn write_extended_report(report: &ExtendedReport, out: &mut [u8]) -> Option<usize>
     ensures { Puts out.old 0 (extended_report_body report.now) out.new result }
 {
-    let at = put(out, 0, &u32::from(report.ssrc).to_be_bytes())?;
-    write_rows(report.blocks.as_slice(), out, at)
+    let at = put_at(out, 0, &u32::from(report.ssrc).to_be_bytes())?;
+    put_all(report.blocks.as_slice(), out, at)
 }

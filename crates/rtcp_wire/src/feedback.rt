@@ -1,12 +1,11 @@
 //! Feedback on what was received (RFC 4585 section 6).
 ghost use Rattle.std.specs.Prelude.{◌≡◌, IfOk};
-ghost use Rattle.rtcp_wire.specs.Wire.{Puts};
+ghost use Rattle.rtp_base.specs.Fields.{Puts};
 ghost use Rattle.rtcp_wire.specs.Feedback.{app_feedback_of, app_feedback_body};
 
-use crate::row::write_rows;
-use crate::wire::{put, word};
 use media_base::Bytes;
 use rtp_base::Ssrc;
+use rtp_base::fields::{put_all, put_at, u32_at};
 use std::alloc::{AllocError, Global};
 
 /// Feedback of an application (RFC 4585 section 6.4), whose words are its own.
@@ -46,8 +45,8 @@ pub(crate) fn read_app_feedback(
     }
     let (_, payload) = body.split_at(8);
     Ok(Some(AppSpecificFeedback {
-        sender_ssrc: word(body, 0).into(),
-        media_ssrc: word(body, 4).into(),
+        sender_ssrc: u32_at(body, 0).into(),
+        media_ssrc: u32_at(body, 4).into(),
         payload: Bytes::from_slice(alloc, payload)?,
     }))
 }
@@ -57,6 +56,6 @@ pub(crate) fn write_app_feedback(feedback: &AppSpecificFeedback, out: &mut [u8])
     ensures { Puts out.old 0 (app_feedback_body feedback.now) out.new result }
 {
     let words: [u32; 2] = [feedback.sender_ssrc.into(), feedback.media_ssrc.into()];
-    let at = write_rows(&words, out, 0)?;
-    put(out, at, feedback.payload.as_slice())
+    let at = put_all(&words, out, 0)?;
+    put_at(out, at, feedback.payload.as_slice())
 }

@@ -3,7 +3,7 @@ ghost use Rattle.std.specs.Prelude.{◌≡◌, ◌≤◌, IfSome};
 ghost use Rattle.std.specs.Option.{option_map};
 ghost use Rattle.rtcp_wire.specs.Frame.{view, frame_at, unpadded};
 
-use crate::wire;
+use rtp_base::fields::u16_at;
 
 // An item in bytes: its count or format, its type, what stands after its header, and what follows it.
 #[derive(Drop)]
@@ -38,7 +38,7 @@ pub fn first_frame(bytes: &[u8]) -> Option<Frame<'_>>
     if bytes.len() < 4 || bytes[0] / 64 != 2 {
         return None;
     }
-    let len = 4 * usize::from(wire::half(bytes, 2)) + 4;
+    let len = 4 * usize::from(u16_at(bytes, 2)) + 4;
     if bytes.len() < len {
         return None;
     }

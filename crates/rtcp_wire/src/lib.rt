@@ -6,6 +6,7 @@
 mod extended;
 mod feedback;
 mod frame;
+mod kinds;
 mod laws;
 mod nack;
 mod packet;
@@ -15,7 +16,6 @@ mod request;
 mod row;
 mod rtcp_fb;
 mod source;
-mod wire;
 
 pub use extended::{Dlrr, DlrrItem, ExtendedReport, ReportBlock, Rrtr};
 pub use feedback::AppSpecificFeedback;

@@ -1,10 +1,10 @@
 //! Packets that are missing (RFC 4585 section 6.2.1).
 ghost use Rattle.std.specs.Prelude.{◌≡◌};
-ghost use Rattle.rtcp_wire.specs.Wire.{Puts};
+ghost use Rattle.rtp_base.specs.Fields.{Puts};
 ghost use Rattle.rtcp_wire.specs.Feedback.{nack_of, nack_body};
 
-use crate::row::{Put, Row, read_rows, write_rows};
-use crate::wire::{half, put, word};
+use crate::row::{Row, read_rows};
+use rtp_base::fields::{Put, put_all, put_at, u16_at, u32_at};
 use rtp_base::{NackEntry, ReportList, Ssrc};
 
 /// Packets of a source that are missing (RFC 4585 section 6.2.1).
@@ -32,8 +32,8 @@ impl Row for NackEntry {
     #[tactic(auto, unfolding(crate::specs::Rows::nack_entry_at))]
     fn read(bytes: &[u8]) -> Self {
         NackEntry {
-            pid: half(bytes, 0),
-            blp: half(bytes, 2),
+            pid: u16_at(bytes, 0),
+            blp: u16_at(bytes, 2),
         }
     }
 }
@@ -44,9 +44,9 @@ impl Put for NackEntry {
     ghost text_of = { nack_entry_text };
 
     #[tactic(auto, unfolding(crate::specs::Rows::nack_entry_text))]
-    fn write(&self, out: &mut [u8], at: usize) -> Option<usize> {
-        let at = put(out, at, &self.pid.to_be_bytes())?;
-        put(out, at, &self.blp.to_be_bytes())
+    fn put(&self, out: &mut [u8], at: usize) -> Option<usize> {
+        let at = put_at(out, at, &self.pid.to_be_bytes())?;
+        put_at(out, at, &self.blp.to_be_bytes())
     }
 }
 
@@ -60,8 +60,8 @@ pub(crate) fn read_nack(body: &[u8]) -> Option<Nack>
     let (_, rows) = body.split_at(8);
     let count = (rows.len() / 4).min(31);
     Some(Nack {
-        sender_ssrc: word(body, 0).into(),
-        ssrc: word(body, 4).into(),
+        sender_ssrc: u32_at(body, 0).into(),
+        ssrc: u32_at(body, 4).into(),
         reports: read_rows(rows, count),
     })
 }
@@ -71,6 +71,6 @@ pub(crate) fn write_nack(nack: &Nack, out: &mut [u8]) -> Option<usize>
     ensures { Puts out.old 0 (nack_body nack.now) out.new result }
 {
     let words: [u32; 2] = [nack.sender_ssrc.into(), nack.ssrc.into()];
-    let at = write_rows(&words, out, 0)?;
-    write_rows(nack.reports.as_slice(), out, at)
+    let at = put_all(&words, out, 0)?;
+    put_all(nack.reports.as_slice(), out, at)
 }

@@ -7,6 +7,7 @@ ghost use Rattle.rtcp_wire.specs.Items.{reading_or_short};
 use crate::extended::{ExtendedReport, read_extended_report, write_extended_report};
 use crate::feedback::{AppSpecificFeedback, read_app_feedback, write_app_feedback};
 use crate::frame::{Frame, first_frame};
+use crate::kinds;
 use crate::nack::{Nack, read_nack, write_nack};
 use crate::remb::{Remb, is_named_remb, read_remb, write_remb};
 use crate::report::{
@@ -58,7 +59,7 @@ fn item_or_short(item: Option<Rtcp>) -> Reading
 impl Rtcp {
     ghost use Rattle.rtcp_wire.specs.Items.{reading_of, transport_feedback_of, payload_feedback_of, application_of, item_at, added_of, rest_of, items_of, items_within};
     ghost use Rattle.rtcp_wire.specs.Texts.{IsWritable, CountFits, text_of, body_of, count_of, kind_of, fitting};
-    ghost use Rattle.rtcp_wire.specs.Wire.{Puts};
+    ghost use Rattle.rtp_base.specs.Fields.{Puts};
     ghost use Rattle.rtcp_wire.specs.Remb.{is_remb};
 
     /// Reads the items of a datagram, in order, and adds them to a list. Reading stops at an item whose
@@ -114,15 +115,21 @@ impl Rtcp {
     {
         let (count, body) = (frame.count, frame.body);
         match frame.kind {
-            200 => Ok(item_or_short(read_sender_report(count, body).map(Rtcp::SenderReport))),
-            201 => Ok(item_or_short(read_receiver_report(count, body).map(Rtcp::ReceiverReport))),
-            202 => Ok(item_or_short(read_descriptions(alloc, count, body)?.map(
-                Rtcp::SourceDescription,
+            kinds::SENDER_REPORT => Ok(item_or_short(read_sender_report(count, body).map(
+                Rtcp::SenderReport,
             ))),
-            203 => Ok(item_or_short(read_goodbye(count, body).map(Rtcp::Goodbye))),
-            205 => Rtcp::read_transport_feedback(alloc, count, body),
-            206 => Rtcp::read_payload_feedback(alloc, count, body),
-            207 => Ok(item_or_short(read_extended_report(alloc, body)?.map(Rtcp::ExtendedReport))),
+            kinds::RECEIVER_REPORT => Ok(item_or_short(read_receiver_report(count, body).map(
+                Rtcp::ReceiverReport,
+            ))),
+            kinds::SOURCE_DESCRIPTION => Ok(item_or_short(read_descriptions(
+                alloc, count, body,
+            )?.map(Rtcp::SourceDescription))),
+            kinds::GOODBYE => Ok(item_or_short(read_goodbye(count, body).map(Rtcp::Goodbye))),
+            kinds::TRANSPORT_FEEDBACK => Rtcp::read_transport_feedback(alloc, count, body),
+            kinds::PAYLOAD_FEEDBACK => Rtcp::read_payload_feedback(alloc, count, body),
+            kinds::EXTENDED_REPORT => Ok(item_or_short(read_extended_report(alloc, body)?.map(
+                Rtcp::ExtendedReport,
+            ))),
             _ => Ok(Reading::PassedOver),
         }
     }
@@ -136,8 +143,8 @@ impl Rtcp {
         ensures { IfOk result (λ r. r ≡ transport_feedback_of format body.now) }
     {
         match format {
-            1 => Ok(item_or_short(read_nack(body).map(Rtcp::Nack))),
-            15 => Ok(item_or_short(read_twcc(alloc, body)?.map(Rtcp::Twcc))),
+            kinds::NACK_FORMAT => Ok(item_or_short(read_nack(body).map(Rtcp::Nack))),
+            kinds::TWCC_FORMAT => Ok(item_or_short(read_twcc(alloc, body)?.map(Rtcp::Twcc))),
             _ => Ok(Reading::PassedOver),
         }
     }
@@ -147,9 +154,9 @@ impl Rtcp {
         ensures { IfOk result (λ r. r ≡ payload_feedback_of format body.now) }
     {
         match format {
-            1 => Ok(item_or_short(read_pli(body).map(Rtcp::Pli))),
-            4 => Ok(item_or_short(read_fir(body).map(Rtcp::Fir))),
-            15 => Rtcp::read_application(alloc, body),
+            kinds::PLI_FORMAT => Ok(item_or_short(read_pli(body).map(Rtcp::Pli))),
+            kinds::FIR_FORMAT => Ok(item_or_short(read_fir(body).map(Rtcp::Fir))),
+            kinds::APPLICATION_FORMAT => Rtcp::read_application(alloc, body),
             _ => Ok(Reading::PassedOver),
         }
     }
@@ -228,14 +235,14 @@ impl Rtcp {
         ensures { result ≡ kind_of self.now }
     {
         match self {
-            Rtcp::SenderReport(_) => 200,
-            Rtcp::ReceiverReport(_) => 201,
-            Rtcp::SourceDescription(_) => 202,
-            Rtcp::Goodbye(_) => 203,
-            Rtcp::ExtendedReport(_) => 207,
-            Rtcp::Nack(_) | Rtcp::Twcc(_) => 205,
-            Rtcp::Pli(_) | Rtcp::Fir(_) | Rtcp::Remb(_) => 206,
-            Rtcp::AppSpecificFeedback(_) => 206,
+            Rtcp::SenderReport(_) => kinds::SENDER_REPORT,
+            Rtcp::ReceiverReport(_) => kinds::RECEIVER_REPORT,
+            Rtcp::SourceDescription(_) => kinds::SOURCE_DESCRIPTION,
+            Rtcp::Goodbye(_) => kinds::GOODBYE,
+            Rtcp::ExtendedReport(_) => kinds::EXTENDED_REPORT,
+            Rtcp::Nack(_) | Rtcp::Twcc(_) => kinds::TRANSPORT_FEEDBACK,
+            Rtcp::Pli(_) | Rtcp::Fir(_) | Rtcp::Remb(_) => kinds::PAYLOAD_FEEDBACK,
+            Rtcp::AppSpecificFeedback(_) => kinds::PAYLOAD_FEEDBACK,
         }
     }
 
@@ -249,9 +256,11 @@ impl Rtcp {
             Rtcp::SourceDescription(described) => described.reports.as_slice().len() as u8,
             Rtcp::Goodbye(goodbye) => goodbye.reports.len() as u8,
             Rtcp::ExtendedReport(_) => 0,
-            Rtcp::Nack(_) | Rtcp::Pli(_) => 1,
-            Rtcp::Fir(_) => 4,
-            Rtcp::Twcc(_) | Rtcp::Remb(_) | Rtcp::AppSpecificFeedback(_) => 15,
+            Rtcp::Nack(_) => kinds::NACK_FORMAT,
+            Rtcp::Pli(_) => kinds::PLI_FORMAT,
+            Rtcp::Fir(_) => kinds::FIR_FORMAT,
+            Rtcp::Twcc(_) => kinds::TWCC_FORMAT,
+            Rtcp::Remb(_) | Rtcp::AppSpecificFeedback(_) => kinds::APPLICATION_FORMAT,
         }
     }
 }

@@ -1,12 +1,12 @@
 //! The greatest rate that a receiver asks for (draft-alvestrand-rmcat-remb).
 ghost use Rattle.std.specs.Prelude.{◌≡◌, ◌≤◌, ◌/◌, ◌^◌, ◌*◌, ◌<◌, IfOk, length, min};
-ghost use Rattle.rtcp_wire.specs.Wire.{Puts};
+ghost use Rattle.rtp_base.specs.Fields.{Puts};
 ghost use Rattle.rtcp_wire.specs.Remb.{is_remb, remb_of, remb_body, exponent_of, mantissa_of};
 
-use crate::row::{read_many, write_rows};
-use crate::wire::word;
+use crate::row::read_many;
 use media_base::{Bitrate, Listed};
 use rtp_base::Ssrc;
+use rtp_base::fields::{put_all, u32_at};
 use std::alloc::{AllocError, Global};
 
 const NAME: u32 = 0x5245_4d42;
@@ -26,7 +26,7 @@ pub struct Remb {
 pub(crate) fn is_named_remb(body: &[u8]) -> bool
     ensures { result ≡ is_remb body.now }
 {
-    body.len() >= 12 && word(body, 8) == NAME
+    body.len() >= 12 && u32_at(body, 8) == NAME
 }
 
 // The rate of a mantissa and an exponent, which may be far above the greatest.
@@ -46,14 +46,14 @@ pub(crate) fn read_remb(alloc: Global, body: &[u8]) -> Result<Option<Remb>, Allo
     if body.len() < 16 {
         return Ok(None);
     }
-    let fields = word(body, 12);
+    let fields = u32_at(body, 12);
     let count = (fields / 0x100_0000) as usize;
     if body.len() < 16 + count * 4 {
         return Ok(None);
     }
     let (_, rows) = body.split_at(16);
     Ok(Some(Remb {
-        sender_ssrc: word(body, 0).into(),
+        sender_ssrc: u32_at(body, 0).into(),
         bitrate: rate(fields % 0x4_0000, fields / 0x4_0000 % 64),
         ssrcs: read_many(alloc, rows, count)?,
     }))
@@ -81,6 +81,6 @@ pub(crate) fn write_remb(remb: &Remb, out: &mut [u8]) -> Option<usize>
     let (exponent, mantissa) = parts(remb.bitrate);
     let fields = ssrcs.len() as u32 * 0x100_0000 + exponent * 0x4_0000 + mantissa;
     let words = [remb.sender_ssrc.into(), 0, NAME, fields];
-    let at = write_rows(&words, out, 0)?;
-    write_rows(ssrcs, out, at)
+    let at = put_all(&words, out, 0)?;
+    put_all(ssrcs, out, at)
 }

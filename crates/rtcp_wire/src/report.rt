@@ -1,12 +1,11 @@
 //! Reports on what was sent and received (RFC 3550 section 6.4).
 ghost use Rattle.std.specs.Prelude.{◌≡◌, ◌<◌, ◌≤◌, length};
-ghost use Rattle.rtp_base.specs.Fields.{signed24};
-ghost use Rattle.rtcp_wire.specs.Wire.{Puts};
+ghost use Rattle.rtp_base.specs.Fields.{Puts};
 ghost use Rattle.rtcp_wire.specs.Reports.{receiver_report_of, receiver_report_body, sender_info_at, sender_info_text, sender_report_of, sender_report_body};
 
-use crate::row::{Put, Row, read_rows, write_rows};
-use crate::wire::{double, put, word};
+use crate::row::{Row, read_rows};
 use media_base::{SystemTime, SystemTimeExt};
+use rtp_base::fields::{Put, bits24, put_all, put_at, signed24, u32_at, u64_at};
 use rtp_base::{ReceptionReport, ReportList, Ssrc};
 
 impl Row for ReceptionReport {
@@ -22,15 +21,15 @@ impl Row for ReceptionReport {
 
     #[tactic(auto, unfolding(crate::specs::Rows::report_at))]
     fn read(bytes: &[u8]) -> Self {
-        let lost = word(bytes, 4);
+        let lost = u32_at(bytes, 4);
         ReceptionReport {
-            ssrc: word(bytes, 0).into(),
+            ssrc: u32_at(bytes, 0).into(),
             fraction_lost: (lost / 0x100_0000) as u8,
-            packets_lost: signed(lost % 0x100_0000),
-            max_seq: word(bytes, 8),
-            jitter: word(bytes, 12),
-            last_sr_time: word(bytes, 16),
-            last_sr_delay: word(bytes, 20),
+            packets_lost: signed24(lost % 0x100_0000),
+            max_seq: u32_at(bytes, 8),
+            jitter: u32_at(bytes, 12),
+            last_sr_time: u32_at(bytes, 16),
+            last_sr_delay: u32_at(bytes, 20),
         }
     }
 }
@@ -41,9 +40,8 @@ impl Put for ReceptionReport {
     ghost text_of = { report_text };
 
     #[tactic(auto, unfolding(crate::specs::Rows::report_text))]
-    fn write(&self, out: &mut [u8], at: usize) -> Option<usize> {
-        let lost = u32::from(self.fraction_lost) * 0x100_0000
-            + self.packets_lost.cast_unsigned() % 0x100_0000;
+    fn put(&self, out: &mut [u8], at: usize) -> Option<usize> {
+        let lost = u32::from(self.fraction_lost) * 0x100_0000 + bits24(self.packets_lost);
         let words = [
             self.ssrc.into(),
             lost,
@@ -52,19 +50,7 @@ impl Put for ReceptionReport {
             self.last_sr_time,
             self.last_sr_delay,
         ];
-        write_rows(&words, out, at)
-    }
-}
-
-// 24 bits as a signed number.
-fn signed(bits: u32) -> i32
-    requires { bits < 16777216 }
-    ensures { result ≡ signed24 bits }
-{
-    if bits < 0x80_0000 {
-        bits as i32
-    } else {
-        bits as i32 - 0x100_0000
+        put_all(&words, out, at)
     }
 }
 
@@ -88,7 +74,7 @@ pub(crate) fn read_receiver_report(count: u8, body: &[u8]) -> Option<ReceiverRep
     }
     let (_, rows) = body.split_at(4);
     Some(ReceiverReport {
-        sender_ssrc: word(body, 0).into(),
+        sender_ssrc: u32_at(body, 0).into(),
         reports: read_rows(rows, count),
     })
 }
@@ -97,8 +83,8 @@ pub(crate) fn read_receiver_report(count: u8, body: &[u8]) -> Option<ReceiverRep
 pub(crate) fn write_receiver_report(report: &ReceiverReport, out: &mut [u8]) -> Option<usize>
     ensures { Puts out.old 0 (receiver_report_body report.now) out.new result }
 {
-    let at = put(out, 0, &u32::from(report.sender_ssrc).to_be_bytes())?;
-    write_rows(report.reports.as_slice(), out, at)
+    let at = put_at(out, 0, &u32::from(report.sender_ssrc).to_be_bytes())?;
+    put_all(report.reports.as_slice(), out, at)
 }
 
 /// What a sender says of itself (RFC 3550 section 6.4.1).
@@ -131,11 +117,11 @@ fn read_sender_info(body: &[u8]) -> SenderInfo
     ensures { result ≡ sender_info_at body.now }
 {
     SenderInfo {
-        ssrc: word(body, 0).into(),
-        ntp_time: SystemTime::from_ntp_64(double(body, 4)),
-        rtp_time: word(body, 12),
-        sender_packet_count: word(body, 16),
-        sender_octet_count: word(body, 20),
+        ssrc: u32_at(body, 0).into(),
+        ntp_time: SystemTime::from_ntp_64(u64_at(body, 4)),
+        rtp_time: u32_at(body, 12),
+        sender_packet_count: u32_at(body, 16),
+        sender_octet_count: u32_at(body, 20),
     }
 }
 
@@ -143,14 +129,14 @@ fn read_sender_info(body: &[u8]) -> SenderInfo
 fn write_sender_info(info: &SenderInfo, out: &mut [u8]) -> Option<usize>
     ensures { Puts out.old 0 (sender_info_text info.now) out.new result }
 {
-    let at = put(out, 0, &u32::from(info.ssrc).to_be_bytes())?;
-    let at = put(out, at, &info.ntp_time.as_ntp_64().to_be_bytes())?;
+    let at = put_at(out, 0, &u32::from(info.ssrc).to_be_bytes())?;
+    let at = put_at(out, at, &info.ntp_time.as_ntp_64().to_be_bytes())?;
     let words = [
         info.rtp_time,
         info.sender_packet_count,
         info.sender_octet_count,
     ];
-    write_rows(&words, out, at)
+    put_all(&words, out, at)
 }
 
 #[tactic(auto, unfolding(crate::specs::Reports::sender_report_of))]
@@ -174,5 +160,5 @@ pub(crate) fn write_sender_report(report: &SenderReport, out: &mut [u8]) -> Opti
     ensures { Puts out.old 0 (sender_report_body report.now) out.new result }
 {
     let at = write_sender_info(&report.sender_info, out)?;
-    write_rows(report.reports.as_slice(), out, at)
+    put_all(report.reports.as_slice(), out, at)
 }

@@ -1,10 +1,10 @@
 //! Requests for a picture that stands alone (RFC 4585 section 6.3.1, RFC 5104 section 4.3.1).
 ghost use Rattle.std.specs.Prelude.{◌≡◌};
-ghost use Rattle.rtcp_wire.specs.Wire.{Puts};
+ghost use Rattle.rtp_base.specs.Fields.{Puts};
 ghost use Rattle.rtcp_wire.specs.Feedback.{pli_of, pli_body, fir_of, fir_body};
 
-use crate::row::{Put, Row, read_rows, write_rows};
-use crate::wire::{put, word};
+use crate::row::{Row, read_rows};
+use rtp_base::fields::{Put, put_all, put_at, u32_at};
 use rtp_base::{ReportList, Ssrc};
 
 /// A picture was lost (RFC 4585 section 6.3.1).
@@ -24,8 +24,8 @@ pub(crate) fn read_pli(body: &[u8]) -> Option<Pli>
         return None;
     }
     Some(Pli {
-        sender_ssrc: word(body, 0).into(),
-        ssrc: word(body, 4).into(),
+        sender_ssrc: u32_at(body, 0).into(),
+        ssrc: u32_at(body, 4).into(),
     })
 }
 
@@ -34,7 +34,7 @@ pub(crate) fn write_pli(pli: &Pli, out: &mut [u8]) -> Option<usize>
     ensures { Puts out.old 0 (pli_body pli.now) out.new result }
 {
     let words: [u32; 2] = [pli.sender_ssrc.into(), pli.ssrc.into()];
-    write_rows(&words, out, 0)
+    put_all(&words, out, 0)
 }
 
 /// Pictures that stand alone are asked for (RFC 5104 section 4.3.1).
@@ -69,7 +69,7 @@ impl Row for FirEntry {
     #[tactic(auto, unfolding(crate::specs::Rows::fir_entry_at))]
     fn read(bytes: &[u8]) -> Self {
         FirEntry {
-            ssrc: word(bytes, 0).into(),
+            ssrc: u32_at(bytes, 0).into(),
             seq_no: bytes[4],
         }
     }
@@ -81,9 +81,9 @@ impl Put for FirEntry {
     ghost text_of = { fir_entry_text };
 
     #[tactic(auto, unfolding(crate::specs::Rows::fir_entry_text))]
-    fn write(&self, out: &mut [u8], at: usize) -> Option<usize> {
-        let at = put(out, at, &u32::from(self.ssrc).to_be_bytes())?;
-        put(out, at, &[self.seq_no, 0, 0, 0])
+    fn put(&self, out: &mut [u8], at: usize) -> Option<usize> {
+        let at = put_at(out, at, &u32::from(self.ssrc).to_be_bytes())?;
+        put_at(out, at, &[self.seq_no, 0, 0, 0])
     }
 }
 
@@ -97,7 +97,7 @@ pub(crate) fn read_fir(body: &[u8]) -> Option<Fir>
     let (_, rows) = body.split_at(8);
     let count = (rows.len() / 8).min(31);
     Some(Fir {
-        sender_ssrc: word(body, 0).into(),
+        sender_ssrc: u32_at(body, 0).into(),
         reports: read_rows(rows, count),
     })
 }
@@ -107,6 +107,6 @@ pub(crate) fn write_fir(fir: &Fir, out: &mut [u8]) -> Option<usize>
     ensures { Puts out.old 0 (fir_body fir.now) out.new result }
 {
     let words: [u32; 2] = [fir.sender_ssrc.into(), 0];
-    let at = write_rows(&words, out, 0)?;
-    write_rows(fir.reports.as_slice(), out, at)
+    let at = put_all(&words, out, 0)?;
+    put_all(fir.reports.as_slice(), out, at)
 }

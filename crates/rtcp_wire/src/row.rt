@@ -1,21 +1,12 @@
 // Rows of fields of a fixed length.
 ghost use Rattle.std.specs.Prelude.{◌≡◌, ◌+◌, ◌*◌, ◌≤◌, List, ℕ, length, IfOk};
 ghost use Rattle.std.specs.List.{flat_map};
-ghost use Rattle.rtcp_wire.specs.Wire.{rows_of, Puts};
+ghost use Rattle.rtp_base.specs.Fields.{Puts};
+ghost use Rattle.rtcp_wire.specs.Rows.{rows_of};
 
-use crate::wire;
 use media_base::Listed;
 use rtp_base::ReportList;
 use std::alloc::{AllocError, Global};
-
-// What is put in bytes.
-pub trait Put {
-    // The bytes of it.
-    ghost text_of: { Self → List ℕ };
-
-    fn write(&self, out: &mut [u8], at: usize) -> Option<usize>
-        ensures { Puts out.old at (text_of self.now) out.new result };
-}
 
 // Fields of a fixed length, of which an item has as many rows as it says.
 pub trait Row: Copy {
@@ -31,16 +22,6 @@ pub trait Row: Copy {
     fn read(bytes: &[u8]) -> Self
         requires { size ≤ length bytes.now }
         ensures { result ≡ row_of bytes.now };
-}
-
-impl Put for u32 {
-    ghost use Rattle.std.specs.Int.{w32, to_be_bytes};
-
-    ghost text_of = { to_be_bytes w32 };
-
-    fn write(&self, out: &mut [u8], at: usize) -> Option<usize> {
-        wire::put(out, at, &self.to_be_bytes())
-    }
 }
 
 // The first rows of some bytes, at most 31.
@@ -72,21 +53,4 @@ pub fn read_many<T: Row>(alloc: Global, bytes: &[u8], count: usize) -> Result<Li
         rest = after;
     }
     Ok(rows)
-}
-
-// Puts values one after another, or says that there is no room for them.
-pub fn write_rows<T: Put>(rows: &[T], out: &mut [u8], at: usize) -> Option<usize>
-    ensures { Puts out.old at (flat_map T.text_of rows.now) out.new result }
-{
-    if out.len() < at {
-        return None;
-    }
-    let mut end = at;
-    for row in rows {
-        match row.write(out, end) {
-            Some(next) => end = next,
-            None => return None,
-        }
-    }
-    Some(end)
 }

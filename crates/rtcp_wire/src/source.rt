@@ -1,41 +1,41 @@
 //! Sources that describe themselves and leave (RFC 3550 sections 6.5 and 6.6).
 ghost use Rattle.std.specs.Prelude.{◌≡◌, ◌≤◌, IfOk, OnOk, IfSome, length};
 ghost use Rattle.std.specs.Option.{option_map};
-ghost use Rattle.rtcp_wire.specs.Wire.{Puts};
+ghost use Rattle.rtp_base.specs.Fields.{Puts};
 ghost use Rattle.rtcp_wire.specs.Reports.{goodbye_of, goodbye_body};
 ghost use Rattle.rtcp_wire.specs.Descriptions.{sdes_item_at, with_item, first_31, sdes_items_of, sdes_at, descriptions_of, descriptions_body};
 
-use crate::row::{Put, Row, read_rows, write_rows};
-use crate::wire::{put, word};
+use crate::row::{Row, read_rows};
 use media_base::{Bytes, Listed};
+use rtp_base::fields::{Put, put_all, put_at, u32_at};
 use rtp_base::{ReportList, Ssrc};
 use std::alloc::{AllocError, Global};
 
 impl Row for Ssrc {
     ghost use Rattle.std.specs.Int.{w32, to_be_bytes};
-    ghost use Rattle.rtcp_wire.specs.Wire.{word_at};
+    ghost use Rattle.rtp_base.specs.Fields.{u32_at};
 
     ghost size = { 4 };
 
-    ghost row_of = { λ bytes. word_at bytes 0 };
+    ghost row_of = { λ bytes. u32_at bytes 0 };
 
     fn size() -> usize {
         4
     }
 
     fn read(bytes: &[u8]) -> Self {
-        word(bytes, 0).into()
+        u32_at(bytes, 0).into()
     }
 }
 
 impl Put for Ssrc {
     ghost use Rattle.std.specs.Int.{w32, to_be_bytes};
-    ghost use Rattle.rtcp_wire.specs.Wire.{word_at};
+    ghost use Rattle.rtp_base.specs.Fields.{u32_at};
 
     ghost text_of = { to_be_bytes w32 };
 
-    fn write(&self, out: &mut [u8], at: usize) -> Option<usize> {
-        put(out, at, &u32::from(*self).to_be_bytes())
+    fn put(&self, out: &mut [u8], at: usize) -> Option<usize> {
+        put_at(out, at, &u32::from(*self).to_be_bytes())
     }
 }
 
@@ -64,7 +64,7 @@ pub(crate) fn read_goodbye(count: u8, body: &[u8]) -> Option<Goodbye>
 pub(crate) fn write_goodbye(goodbye: &Goodbye, out: &mut [u8]) -> Option<usize>
     ensures { Puts out.old 0 (goodbye_body goodbye.now) out.new result }
 {
-    write_rows(goodbye.reports.as_slice(), out, 0)
+    put_all(goodbye.reports.as_slice(), out, 0)
 }
 
 /// What an item of a description tells (RFC 3550 section 12.2).
@@ -234,7 +234,7 @@ fn read_sdes(alloc: Global, bytes: &[u8]) -> Result<Option<(Sdes, &[u8])>, Alloc
         return Ok(None);
     }
     let (_, rest) = end.split_at(zeros);
-    let ssrc = word(bytes, 0).into();
+    let ssrc = u32_at(bytes, 0).into();
     Ok(Some((Sdes { ssrc, values }, rest)))
 }
 
@@ -267,10 +267,10 @@ impl Put for SdesItem {
     ghost text_of = { sdes_item_text };
 
     #[tactic(auto, unfolding(crate::specs::Descriptions::sdes_item_text))]
-    fn write(&self, out: &mut [u8], at: usize) -> Option<usize> {
+    fn put(&self, out: &mut [u8], at: usize) -> Option<usize> {
         let text = self.text.as_slice();
-        let at = put(out, at, &[self.kind.into(), (text.len() % 256) as u8])?;
-        put(out, at, text)
+        let at = put_at(out, at, &[self.kind.into(), (text.len() % 256) as u8])?;
+        put_at(out, at, text)
     }
 }
 
@@ -280,11 +280,11 @@ impl Put for Sdes {
     ghost text_of = { sdes_text };
 
     #[tactic(auto, unfolding(crate::specs::Descriptions::sdes_text))]
-    fn write(&self, out: &mut [u8], at: usize) -> Option<usize> {
-        let end = put(out, at, &u32::from(self.ssrc).to_be_bytes())?;
-        let end = write_rows(self.values.as_slice(), out, end)?;
+    fn put(&self, out: &mut [u8], at: usize) -> Option<usize> {
+        let end = put_at(out, at, &u32::from(self.ssrc).to_be_bytes())?;
+        let end = put_all(self.values.as_slice(), out, end)?;
         let zeros = [0; 4];
-        put(out, end, &zeros[..4 - (end - at) % 4])
+        put_at(out, end, &zeros[..4 - (end - at) % 4])
     }
 }
 
@@ -292,5 +292,5 @@ impl Put for Sdes {
 pub(crate) fn write_descriptions(descriptions: &Descriptions, out: &mut [u8]) -> Option<usize>
     ensures { Puts out.old 0 (descriptions_body descriptions.now) out.new result }
 {
-    write_rows(descriptions.reports.as_slice(), out, 0)
+    put_all(descriptions.reports.as_slice(), out, 0)
 }

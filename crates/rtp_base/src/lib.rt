@@ -3,6 +3,7 @@
 //! rows of RTCP that registers make, in lists of at most 31 (RFC 3550 section 6.4.1, RFC 4585 section 6.2.1).
 #![tactic(auto)]
 
+pub mod fields;
 mod ids;
 mod kind;
 mod media_time;

@@ -1,13 +1,27 @@
 -- Words written one after another are read again, and a word more is read behind the others.
 use Rattle.std.proofs.Common.{◌≡◌, ℕ, zero, suc, ◌+◌, ◌-◌, ◌*◌, ◌<◌, ◌≤◌, ◌^◌, List, [], ◌∷◌, ◌++◌, length, take, drop, get_or, replicate, refl, sym, ap, ◌∙◌, append_assoc, arith, length-drop, length-take}
 use Rattle.std.specs.List.{flat_map, AllByRecursion}
-use Rattle.std.specs.Int.{w32, from_be_bytes, to_be_bytes}
+use Rattle.std.specs.Int.{w16, w32, from_be_bytes, to_be_bytes}
 use Rattle.std.proofs.lemmas.Nat.{from_be_bytes-to_be_bytes_4}
 use Rattle.std.proofs.lemmas.List.{set_at, take_at, drop-drop, drop_at, take_more, drop-take, take-take, get_or-take}
 use Rattle.std.proofs.lemmas.Grind.{flat_map-append}
 use Rattle.std.proofs.Math.ListN.{set}
-use Rattle.rtp_wire.specs.Bytes.{u32_at, words_of}
+use Rattle.rtp_base.specs.Fields.{u32_at}
+use Rattle.rtp_wire.specs.Header.{words_of}
 use Rattle.rtp_wire.specs.Laws.{AreWords}
+
+-- a number is read off the bytes at the front
+pub front_2 : (l : List ℕ) → from_be_bytes w16 (take 2 l) ≡ from_be_bytes w16 l
+front_2 [] = refl
+front_2 (a ∷ []) = refl
+front_2 (a ∷ b ∷ l) = refl
+
+pub front_4 : (l : List ℕ) → from_be_bytes w32 (take 4 l) ≡ from_be_bytes w32 l
+front_4 [] = refl
+front_4 (a ∷ []) = refl
+front_4 (a ∷ b ∷ []) = refl
+front_4 (a ∷ b ∷ c ∷ []) = refl
+front_4 (a ∷ b ∷ c ∷ d ∷ l) = refl
 
 -- the same bytes at the front hold the same numbers
 pub same_piece : (n at k : ℕ) (a b : List ℕ) → take n a ≡ take n b → at + k ≤ n → take k (drop at a) ≡ take k (drop at b)
@@ -85,7 +99,7 @@ source_put bytes sources i v lt h e inv =
     let xs : List ℕ = words_of (take (4 * i) (drop 12 bytes)) in
     let long : length xs ≡ i = length-words_of i (4 * i) (drop 12 bytes) refl (omega (arith, length-drop 12 bytes)) in
     let more = words_more i (4 * i) (4 * (i + 1)) (drop 12 bytes) refl (omega arith) (omega (arith, length-drop 12 bytes)) in
-    let same : u32_at (drop 12 bytes) (4 * i) ≡ v = ap (λ (l : List ℕ). from_be_bytes w32 (take 4 l)) (drop-drop (4 * i) 12 bytes) ∙ sym e in
+    let same : u32_at (drop 12 bytes) (4 * i) ≡ v = ap (from_be_bytes w32) (drop-drop (4 * i) 12 bytes) ∙ sym e in
     ap (λ (s : List ℕ). set s i v) inv
     ∙ words_put xs i v long lt
     ∙ ap (λ (l : List ℕ). l ++ replicate (15 - (i + 1)) 0) (sym (more ∙ ap (λ (n : ℕ). xs ++ n ∷ []) same))

@@ -6,16 +6,16 @@ use Rattle.std.specs.Int.{w16, w32, from_be_bytes, to_be_bytes}
 use Rattle.std.proofs.lemmas.Bool.Decides.{nat_tests}
 use Rattle.std.proofs.lemmas.Option.{cond_some}
 use Rattle.std.proofs.lemmas.Nat.{from_be_bytes-to_be_bytes_2, from_be_bytes-to_be_bytes_4}
-use Rattle.rtp_wire.specs.Bytes.{u16_at, words_of}
+use Rattle.rtp_base.specs.Fields.{u16_at, u32_at}
 use Rattle.std.proofs.lemmas.List.{length-take-le, take_at, drop_at, drop-drop, length-replicate}
 use Rattle.rtp_wire.specs.declared.values.ExtensionValues.{ExtensionValues}
 use Rattle.rtp_wire.specs.Extensions.{no_values, one_byte_elements, with_elements, values_of, written_data, words_for, with_data, extension_bytes, written_values}
 use Rattle.rtp_wire.proofs.WritingLaws.{data_bound, data_again, no_data}
 use Rattle.rtp_wire.specs.Laws.{AreWords, IsHeader, IsReadAgain, WrittenIsReadAgain, ReadsOwnBytes, IsPlainHeader, PlainIsReadAgain, PlainIsAsLong, HasFixedBytes}
-use Rattle.rtp_wire.proofs.BytesLaws.{same_piece, same_byte, words_again, length-flat_words}
+use Rattle.rtp_wire.proofs.BytesLaws.{front_2, front_4, same_piece, same_byte, words_again, length-flat_words}
 use Rattle.rtp_wire.specs.declared.extension.ExtensionMap.{ExtensionMap}
 use Rattle.rtp_wire.specs.declared.header.RtpHeader.{RtpHeader}
-use Rattle.rtp_wire.specs.Header.{version, has_extension_bit, source_count, sources, sources_end, extension_profile, extension_length, extension_data, header_end, has_header, fields_of, header_of, csrc_of, bit, fixed_bytes, header_bytes, wire_form}
+use Rattle.rtp_wire.specs.Header.{words_of, version, has_extension_bit, source_count, sources, sources_end, extension_profile, extension_length, extension_data, header_end, has_header, fields_of, header_of, csrc_of, bit, fixed_bytes, header_bytes, wire_form}
 
 -- what it takes for a header to stand
 record Stands (bytes : List ℕ) : Type 0 where
@@ -52,8 +52,14 @@ second_same a b h = sym (same_byte (header_end a) 1 a b h.front (omega (arith, e
 piece_same : (at k : ℕ) (a b : List ℕ) → Agree a b → at + k ≤ header_end a → take k (drop at b) ≡ take k (drop at a)
 piece_same at k a b h le = sym (same_piece (header_end a) at k a b h.front le)
 
+half_same : (at : ℕ) (a b : List ℕ) → Agree a b → at + 2 ≤ header_end a → u16_at b at ≡ u16_at a at
+half_same at a b h le = sym (front_2 (drop at b)) ∙ ap (from_be_bytes w16) (piece_same at 2 a b h le) ∙ front_2 (drop at a)
+
+word_same : (at : ℕ) (a b : List ℕ) → Agree a b → at + 4 ≤ header_end a → u32_at b at ≡ u32_at a at
+word_same at a b h le = sym (front_4 (drop at b)) ∙ ap (from_be_bytes w32) (piece_same at 4 a b h le) ∙ front_4 (drop at a)
+
 length_same : (a b : List ℕ) → Agree a b → has_extension_bit a ≡ true → 4 * u16_at b (sources_end a + 2) ≡ extension_length a
-length_same a b h x = ap (λ (l : List ℕ). 4 * from_be_bytes w16 l) (piece_same (sources_end a + 2) 2 a b h (omega (arith, end_extended a x)))
+length_same a b h x = ap (λ (n : ℕ). 4 * n) (half_same (sources_end a + 2) a b h (omega (arith, end_extended a x)))
 
 cond_same : {X : Type 0} (t : Bool) (x y u v : X) → (t ≡ true → x ≡ y) → u ≡ v → cond t x u ≡ cond t y v
 cond_same true x y u v f e = f refl
@@ -71,7 +77,7 @@ unfolding values_in
 values_same exts a b h =
     rw (first_same a b h)
     (cond_same (has_extension_bit a) _ _ _ _
-    (λ x. let profile : u16_at b (sources_end a) ≡ extension_profile a = ap (from_be_bytes w16) (piece_same (sources_end a) 2 a b h (omega (arith, end_extended a x))) in
+    (λ x. let profile : u16_at b (sources_end a) ≡ extension_profile a = half_same (sources_end a) a b h (omega (arith, end_extended a x)) in
     let piece : take (extension_length a) (drop (sources_end a + 4) b) ≡ extension_data a = piece_same (sources_end a + 4) (extension_length a) a b h (omega (arith, end_extended a x)) in
     ap (λ (n : ℕ). values_of exts n (take (4 * u16_at b (sources_end a + 2)) (drop (sources_end a + 4) b))) profile
     ∙ ap (λ (n : ℕ). values_of exts (extension_profile a) (take n (drop (sources_end a + 4) b))) (length_same a b h x)
@@ -79,14 +85,14 @@ values_same exts a b h =
     refl)
 
 -- the header that these parts make
-header_with : ℕ → ℕ → List ℕ → List ℕ → List ℕ → List ℕ → ExtensionValues → ℕ → RtpHeader
+header_with : ℕ → ℕ → ℕ → ℕ → ℕ → List ℕ → ExtensionValues → ℕ → RtpHeader
 header_with first second number time source words values len = record {
   has_padding = first / 32 % 2 == 1;
   marker = second / 128 % 2 == 1;
   payload_type = second % 128;
-  sequence_number = from_be_bytes w16 number;
-  timestamp = from_be_bytes w32 time;
-  ssrc = from_be_bytes w32 source;
+  sequence_number = number;
+  timestamp = time;
+  ssrc = source;
   csrc_count = first % 16;
   csrc = words_of words ++ replicate (15 - first % 16) 0;
   ext_vals = values;
@@ -94,7 +100,7 @@ header_with first second number time source words values len = record {
 }
 
 fields_are : (exts : ExtensionMap) (bytes : List ℕ)
-    → fields_of exts bytes ≡ header_with (get_or bytes 0 0) (get_or bytes 1 0) (take 2 (drop 2 bytes)) (take 4 (drop 4 bytes)) (take 4 (drop 8 bytes)) (take (4 * source_count bytes) (drop 12 bytes)) (values_in exts bytes) (header_end bytes)
+    → fields_of exts bytes ≡ header_with (get_or bytes 0 0) (get_or bytes 1 0) (u16_at bytes 2) (u32_at bytes 4) (u32_at bytes 8) (take (4 * source_count bytes) (drop 12 bytes)) (values_in exts bytes) (header_end bytes)
 unfolding header_with values_in
 fields_are exts bytes = refl
 
@@ -102,9 +108,9 @@ fields_same : (exts : ExtensionMap) (a b : List ℕ) → Agree a b → fields_of
 fields_same exts a b h =
     let first = first_same a b h in
     let second = second_same a b h in
-    let number = piece_same 2 2 a b h (omega (arith, end_bound a)) in
-    let time = piece_same 4 4 a b h (omega (arith, end_bound a)) in
-    let source = piece_same 8 4 a b h (omega (arith, end_bound a)) in
+    let number = half_same 2 a b h (omega (arith, end_bound a)) in
+    let time = word_same 4 a b h (omega (arith, end_bound a)) in
+    let source = word_same 8 a b h (omega (arith, end_bound a)) in
     let words : take (4 * source_count b) (drop 12 b) ≡ take (4 * source_count a) (drop 12 a) = rw first (piece_same 12 (4 * source_count a) a b h (omega (arith, end_bound a))) in
     let values = values_same exts a b h in
     let long = end_same a b h in
@@ -234,10 +240,10 @@ packet_start h extension rest i =
 
 packet_length : (h : RtpHeader) (n : ℕ) (bytes rest : List ℕ) → IsHeader h → n < 2 ^ 16 → u16_at (packet h (190 ∷ 222 ∷ to_be_bytes w16 n ++ bytes) rest) (sources_end (packet h (190 ∷ 222 ∷ to_be_bytes w16 n ++ bytes) rest) + 2) ≡ n
 packet_length h n bytes rest i small =
-    ap (λ (l : List ℕ). from_be_bytes w16 (take 2 l)) (packet_end h (190 ∷ 222 ∷ to_be_bytes w16 n ++ bytes) rest 2 i) ∙ from_be_bytes-to_be_bytes_2 n small
+    ap (from_be_bytes w16) (packet_end h (190 ∷ 222 ∷ to_be_bytes w16 n ++ bytes) rest 2 i) ∙ from_be_bytes-to_be_bytes_2 n small
 
 packet_profile : (h : RtpHeader) (n : ℕ) (bytes rest : List ℕ) → IsHeader h → extension_profile (packet h (190 ∷ 222 ∷ to_be_bytes w16 n ++ bytes) rest) ≡ 48862
-packet_profile h n bytes rest i = ap (λ (l : List ℕ). from_be_bytes w16 (take 2 l)) (packet_start h (190 ∷ 222 ∷ to_be_bytes w16 n ++ bytes) rest i)
+packet_profile h n bytes rest i = ap (from_be_bytes w16) (packet_start h (190 ∷ 222 ∷ to_be_bytes w16 n ++ bytes) rest i)
 
 packet_data : (h : RtpHeader) (n : ℕ) (bytes rest : List ℕ) → IsHeader h → length bytes ≡ 4 * n → take (4 * n) (drop (sources_end (packet h (190 ∷ 222 ∷ to_be_bytes w16 n ++ bytes) rest) + 4) (packet h (190 ∷ 222 ∷ to_be_bytes w16 n ++ bytes) rest)) ≡ bytes
 packet_data h n bytes rest i long =

@@ -1,8 +1,7 @@
 -- The RTP header (RFC 3550 section 5.1).
-use Rattle.std.specs.Prelude.{ℕ, ◌+◌, ◌-◌, ◌*◌, ◌/◌, ◌%◌, Bool, not, ◌==◌, nat_le, nat_lt, ◌&&◌, ◌||◌, if◌then◌else◌, Option, Some, None, List, ◌∷◌, ◌++◌, length, take, drop, replicate, slice_index}
-use Rattle.std.specs.List.{flat_map}
-use Rattle.std.specs.Int.{w16, w32, to_be_bytes}
-use Rattle.rtp_wire.specs.Bytes.{u16_at, u32_at, words_of}
+use Rattle.std.specs.Prelude.{ℕ, ◌+◌, ◌-◌, ◌*◌, ◌/◌, ◌%◌, Bool, not, ◌==◌, nat_le, nat_lt, ◌&&◌, ◌||◌, if◌then◌else◌, Option, Some, None, List, [], ◌∷◌, ◌++◌, length, take, drop, replicate, slice_index}
+use Rattle.std.specs.Int.{w16, w32, from_be_bytes, to_be_bytes}
+use Rattle.rtp_base.specs.Fields.{u16_at, u32_at, words}
 use Rattle.rtp_wire.specs.declared.extension.ExtensionMap.{ExtensionMap}
 use Rattle.rtp_wire.specs.declared.header.RtpHeader.{RtpHeader}
 use Rattle.rtp_wire.specs.Extensions.{no_values, values_of, extension_bytes, written_values}
@@ -25,6 +24,11 @@ has_marker_bit bytes = slice_index bytes 1 / 128 % 2 == 1
 
 abbrev pub type_number : List ℕ → ℕ
 type_number bytes = slice_index bytes 1 % 128
+
+-- the 32-bit numbers that bytes hold, one after another
+abbrev pub words_of : List ℕ → List ℕ
+words_of (a ∷ b ∷ c ∷ d ∷ rest) = from_be_bytes w32 (a ∷ b ∷ c ∷ d ∷ []) ∷ words_of rest
+words_of few = []
 
 -- the contributing sources, behind the twelve bytes of each header
 abbrev pub sources : List ℕ → List ℕ
@@ -93,7 +97,7 @@ fixed_bytes h extended =
 unfoldable pub header_bytes : ExtensionMap → RtpHeader → List ℕ
 header_bytes exts h =
     let extension = extension_bytes exts h.ext_vals in
-    fixed_bytes h (nat_lt 0 (length extension)) ++ flat_map (to_be_bytes w32) (csrc_of h) ++ extension
+    fixed_bytes h (nat_lt 0 (length extension)) ++ words (csrc_of h) ++ extension
 
 -- a header as it is read again: the low 7 bits of its type, zeros behind its sources, its values as their wire form holds
 -- them, and its length

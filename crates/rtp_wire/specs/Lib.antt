@@ -1,5 +1,4 @@
 pub mod AbsTime
-pub mod Bytes
 pub mod Extensions
 pub mod Header
 pub mod Laws

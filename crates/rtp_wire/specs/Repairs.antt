@@ -1,6 +1,6 @@
 -- The payload of a repair, and of a packet that is only padding.
 use Rattle.std.specs.Prelude.{ℕ, ◌+◌, ◌-◌, ◌*◌, ◌/◌, nat_le, if◌then◌else◌, Option, Some, None, List, [], ◌∷◌, ◌++◌, length, drop, replicate}
-use Rattle.rtp_wire.specs.Bytes.{u16_at}
+use Rattle.rtp_base.specs.Fields.{u16_at}
 
 -- a repair begins with the number of the packet that it repairs, behind which stands that packet's payload (RFC 4588
 -- section 4)

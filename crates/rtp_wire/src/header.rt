@@ -4,11 +4,11 @@ ghost use Rattle.std.specs.Int.{w16, w32, to_be_bytes};
 ghost use Rattle.std.specs.Option.{option_map};
 ghost use Rattle.rtp_base.specs.Widen.{widen16};
 ghost use Rattle.rtp_wire.specs.Repairs.{original_of, blank_length, blank_payload};
-ghost use Rattle.rtp_wire.specs.Bytes.{u16_at, u32_at};
 ghost use Rattle.rtp_wire.specs.Laws.{AreWords};
 
 use crate::extension::ExtensionMap;
 use crate::values::ExtensionValues;
+use rtp_base::fields::{u16_at, u32_at};
 use rtp_base::{Pt, SeqNo, Ssrc, widen16 as wide16};
 
 /// The header of an RTP packet (RFC 3550 section 5.1).
@@ -34,22 +34,6 @@ pub struct RtpHeader {
     pub ext_vals: ExtensionValues,
     /// The bytes of the header, with sources and extension.
     pub header_len: usize,
-}
-
-fn u16_at(bytes: &[u8], at: usize) -> u16
-    requires { at + 2 ≤ length bytes.now }
-    ensures { result ≡ u16_at bytes.now at }
-{
-    let (_, rest) = bytes.split_at(at);
-    u16::from_be_bytes([rest[0], rest[1]])
-}
-
-fn u32_at(bytes: &[u8], at: usize) -> u32
-    requires { at + 4 ≤ length bytes.now }
-    ensures { result ≡ u32_at bytes.now at }
-{
-    let (_, rest) = bytes.split_at(at);
-    u32::from_be_bytes([rest[0], rest[1], rest[2], rest[3]])
 }
 
 impl RtpHeader {

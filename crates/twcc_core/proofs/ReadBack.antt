@@ -12,13 +12,11 @@ use Rattle.std.proofs.lemmas.Nat.{from_be_bytes-to_be_bytes_2, from_be_bytes-to_
 use Rattle.twcc_core.specs.declared.status.PacketStatus.{PacketStatus}
 use Rattle.twcc_core.specs.declared.status.PacketStatus.TheVariants.{NotReceived, Received}
 use Rattle.twcc_core.specs.declared.feedback.Twcc.{Twcc}
-use Rattle.twcc_core.specs.Wire.{half_at, word_at, halves, words}
+use Rattle.rtp_base.specs.Fields.{u16_at, u32_at, halves, words, signed24, bits24, IsSigned24}
 use Rattle.twcc_core.specs.Statuses.{symbol_of, delta_text, status_at, statuses_of}
 use Rattle.twcc_core.specs.Chunks.{two_bit_symbols, chunk_symbols, with_symbols, symbols_within, symbols_of, symbol_at, run_of, vector_of, chunk_of, told_by, chunks_within, chunks_of}
 use Rattle.twcc_core.specs.Feedback.{with_rows, twcc_of, twcc_fields, fill_of, twcc_bytes}
-use Rattle.rtp_base.specs.Fields.{signed24, bits24}
 use Rattle.twcc_core.specs.Laws.{IsStatus, IsFeedback}
-use Rattle.rtp_base.specs.Fields.{IsSigned24}
 use Rattle.twcc_core.proofs.Symbols.{some_left, none_left}
 
 -- ---- symbols and deltas
@@ -203,7 +201,7 @@ symbols_again (suc n) (suc m) (row ∷ rows) rest enough fuel =
     let after : List PacketStatus = drop (told_by all) all in
     let later : List ℕ = halves (chunks_within m after) ++ rest in
     let len : length after ≡ length all - told_by all = length-drop (told_by all) all in
-    let half : half_at (to_be_bytes w16 (chunk_of all) ++ later) 0 ≡ chunk_of all = from_be_bytes-to_be_bytes_2 (chunk_of all) t.fits in
+    let half : u16_at (to_be_bytes w16 (chunk_of all) ++ later) 0 ≡ chunk_of all = from_be_bytes-to_be_bytes_2 (chunk_of all) t.fits in
     let e : halves (chunks_within (suc m) all) ++ rest ≡ to_be_bytes w16 (chunk_of all) ++ later = append_assoc (to_be_bytes w16 (chunk_of all)) (halves (chunks_within m after)) rest in
     let others = symbols_again n m after rest (omega (arith, len, t.some)) (omega arith) in
     let left : length all - length (chunk_symbols (chunk_of all)) ≡ length after = t.left ∙ sym len in
@@ -288,7 +286,7 @@ twcc_whole t few =
     let deltas = deltas_len t.rows in
     (omega (arith, len), omega (arith, len, fields, chunks, deltas, few))
 
-twcc_is : (body : List ℕ) → 16 ≤ length body → twcc_of body ≡ option_map (with_rows body) (option_and_then (λ s. statuses_of s.0 s.1) (symbols_of (half_at body 10) (drop 16 body)))
+twcc_is : (body : List ℕ) → 16 ≤ length body → twcc_of body ≡ option_map (with_rows body) (option_and_then (λ s. statuses_of s.0 s.1) (symbols_of (u16_at body 10) (drop 16 body)))
 unfolding twcc_of
 twcc_is body long = let t : ltb (length body) 16 ≡ false = le-ltb _ _ long in rw t refl
 
@@ -313,24 +311,24 @@ twcc_again t w =
     let deltas : List ℕ = flat_map delta_text t.rows in
     let chunks : List ℕ = halves (chunks_of t.rows) in
     let long : 16 ≤ length body = omega (arith, bytes_len t, fields_len t) in
-    let sender : word_at body 0 ≡ t.sender_ssrc = from_be_bytes-to_be_bytes_4 t.sender_ssrc w.sender in
-    let media : word_at body 4 ≡ t.ssrc = from_be_bytes-to_be_bytes_4 t.ssrc w.media in
+    let sender : u32_at body 0 ≡ t.sender_ssrc = from_be_bytes-to_be_bytes_4 t.sender_ssrc w.sender in
+    let media : u32_at body 4 ≡ t.ssrc = from_be_bytes-to_be_bytes_4 t.ssrc w.media in
     let small : bits24 t.reference_time < 16777216 = omega arith in
-    let word : word_at body 12 ≡ last = from_be_bytes-to_be_bytes_4 last (omega (arith, small, w.count)) in
-    let both : word_at body 8 ≡ first = from_be_bytes-to_be_bytes_4 first (omega (arith, w.base, w.few)) in
-    let base : half_at body 8 ≡ t.base_seq = omega (arith, w.base, w.few) in
-    let count : half_at body 10 ≡ length t.rows = omega (arith, w.base, w.few) in
+    let word : u32_at body 12 ≡ last = from_be_bytes-to_be_bytes_4 last (omega (arith, small, w.count)) in
+    let both : u32_at body 8 ≡ first = from_be_bytes-to_be_bytes_4 first (omega (arith, w.base, w.few)) in
+    let base : u16_at body 8 ≡ t.base_seq = omega (arith, w.base, w.few) in
+    let count : u16_at body 10 ≡ length t.rows = omega (arith, w.base, w.few) in
     let upper : last / 256 ≡ bits24 t.reference_time = omega (arith, w.count) in
-    let reference : signed24 (word_at body 12 / 256) ≡ t.reference_time = ap (λ (n : ℕ). signed24 (n / 256)) word ∙ ap signed24 upper ∙ reference_again t.reference_time w.reference in
-    let number : word_at body 12 % 256 ≡ t.feedback_count = omega (arith, word, w.count) in
+    let reference : signed24 (u32_at body 12 / 256) ≡ t.reference_time = ap (λ (n : ℕ). signed24 (n / 256)) word ∙ ap signed24 upper ∙ reference_again t.reference_time w.reference in
+    let number : u32_at body 12 % 256 ≡ t.feedback_count = omega (arith, word, w.count) in
     let rest : drop 16 body ≡ chunks ++ (deltas ++ zeros) = append_assoc chunks deltas zeros in
     let make : ℕ → ℕ → ℕ → ℤ → ℕ → Option Twcc = λ a b c d e. Some (record { sender_ssrc = a; ssrc = b; base_seq = c; reference_time = d; feedback_count = e; rows = t.rows }) in
     twcc_is body long
     ∙ ap (λ (n : ℕ). option_map (with_rows body) (option_and_then (λ s. statuses_of s.0 s.1) (symbols_of n (drop 16 body)))) count
     ∙ ap (λ (x : List ℕ). option_map (with_rows body) (option_and_then (λ s. statuses_of s.0 s.1) (symbols_of (length t.rows) x))) rest
     ∙ ap (option_map (with_rows body)) (rows_again t.rows zeros w.statuses)
-    ∙ ap (λ (a : ℕ). make a (word_at body 4) (half_at body 8) (signed24 (word_at body 12 / 256)) (word_at body 12 % 256)) sender
-    ∙ ap (λ (b : ℕ). make t.sender_ssrc b (half_at body 8) (signed24 (word_at body 12 / 256)) (word_at body 12 % 256)) media
-    ∙ ap (λ (c : ℕ). make t.sender_ssrc t.ssrc c (signed24 (word_at body 12 / 256)) (word_at body 12 % 256)) base
-    ∙ ap (λ (d : ℤ). make t.sender_ssrc t.ssrc t.base_seq d (word_at body 12 % 256)) reference
+    ∙ ap (λ (a : ℕ). make a (u32_at body 4) (u16_at body 8) (signed24 (u32_at body 12 / 256)) (u32_at body 12 % 256)) sender
+    ∙ ap (λ (b : ℕ). make t.sender_ssrc b (u16_at body 8) (signed24 (u32_at body 12 / 256)) (u32_at body 12 % 256)) media
+    ∙ ap (λ (c : ℕ). make t.sender_ssrc t.ssrc c (signed24 (u32_at body 12 / 256)) (u32_at body 12 % 256)) base
+    ∙ ap (λ (d : ℤ). make t.sender_ssrc t.ssrc t.base_seq d (u32_at body 12 % 256)) reference
     ∙ ap (λ (e : ℕ). make t.sender_ssrc t.ssrc t.base_seq t.reference_time e) number

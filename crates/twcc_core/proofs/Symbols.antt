@@ -5,7 +5,7 @@ use Rattle.std.proofs.lemmas.List.{append-nil, length-take, take_min}
 use Rattle.std.proofs.lemmas.Bool.{le-ltb, lt-ltb}
 use Rattle.std.proofs.Math.ListN.{drop_of_length-le}
 use Rattle.twcc_core.specs.declared.status.PacketStatus.{PacketStatus}
-use Rattle.twcc_core.specs.Wire.{half_at}
+use Rattle.rtp_base.specs.Fields.{u16_at}
 use Rattle.twcc_core.specs.Statuses.{status_at, statuses_of}
 use Rattle.twcc_core.specs.Chunks.{one_bit_symbols, chunk_symbols, with_symbols, symbols_within, symbols_of}
 
@@ -23,7 +23,7 @@ regroup now new None = refl
 regroup now new (Some x) = ap (λ (t : List ℕ). let y : List ℕ × List ℕ = (t, x.1) in Some y) (sym (append_assoc now new x.0))
 
 pub some_left : (n count : ℕ) (bytes : List ℕ) → 0 < count
-    → symbols_within (suc n) count bytes ≡ option_map (with_symbols (take count (chunk_symbols (half_at bytes 0)))) (symbols_within n (count - length (chunk_symbols (half_at bytes 0))) (drop 2 bytes))
+    → symbols_within (suc n) count bytes ≡ option_map (with_symbols (take count (chunk_symbols (u16_at bytes 0)))) (symbols_within n (count - length (chunk_symbols (u16_at bytes 0))) (drop 2 bytes))
 some_left n zero bytes lt = absurd (omega arith)
 some_left n (suc count) bytes lt = refl
 
@@ -42,10 +42,10 @@ read_starts count bytes =
     record { within = omega arith; so_far = rw k (front_none (symbols_within (length bytes / 2) count bytes)) }
 
 pub read_more : (now new : List ℕ) (count : ℕ) (rest after : List ℕ) (all : Option (List ℕ × List ℕ)) → length now < count → 2 ≤ length rest
-    → new ≡ now ++ take (count - length now) (chunk_symbols (half_at rest 0)) → after ≡ drop 2 rest
+    → new ≡ now ++ take (count - length now) (chunk_symbols (u16_at rest 0)) → after ≡ drop 2 rest
     → IsRead now count rest all → IsRead new count after all
 read_more now new count rest after all lt long e d h =
-    let symbols : List ℕ = chunk_symbols (half_at rest 0) in
+    let symbols : List ℕ = chunk_symbols (u16_at rest 0) in
     let left : ℕ = count - length now in
     let n : length rest / 2 ≡ suc (length (drop 2 rest) / 2) = omega (arith, length-drop 2 rest) in
     let so_far = rw (n, some_left (length (drop 2 rest) / 2) (count - length now) rest (omega arith)) at h.so_far in

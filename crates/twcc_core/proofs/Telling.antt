@@ -11,9 +11,8 @@ use Rattle.twcc_core.specs.declared.status.PacketStatus.{PacketStatus}
 use Rattle.twcc_core.specs.declared.status.PacketStatus.TheVariants.{NotReceived, Received}
 use Rattle.twcc_core.specs.declared.feedback.Twcc.{Twcc}
 use Rattle.twcc_core.specs.Feedback.{twcc_of, twcc_bytes}
-use Rattle.rtp_base.specs.Fields.{signed24, bits24}
+use Rattle.rtp_base.specs.Fields.{signed24, bits24, IsSigned24}
 use Rattle.twcc_core.specs.Laws.{IsStatus, IsFeedback}
-use Rattle.rtp_base.specs.Fields.{IsSigned24}
 use Rattle.twcc_core.specs.Reports.{Receiving, unreported, arrival_of, steps_of, reference_of, delta_of, row_of, last_after, rows_from, fitting, greatest_of, report_rows, report_with, report_if, report_of}
 use Rattle.twcc_core.specs.Times.{moment_after, row_moment, moments_from, moments_of, held, held_from, AreMoments}
 use Rattle.twcc_core.proofs.ReadBack.{twcc_again}

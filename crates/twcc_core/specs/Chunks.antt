@@ -3,7 +3,7 @@
 use Rattle.std.specs.Prelude.{ℕ, zero, suc, ◌+◌, ◌-◌, ◌*◌, ◌/◌, ◌%◌, ◌==◌, min, List, [], ◌∷◌, ◌++◌, length, take, drop, replicate, slice_get, nat_lt, nat_le, Option, Some, None, if◌then◌else◌}
 use Rattle.std.specs.List.{take_while}
 use Rattle.std.specs.Option.{option_map, option_map_or}
-use Rattle.twcc_core.specs.Wire.{half_at}
+use Rattle.rtp_base.specs.Fields.{u16_at}
 use Rattle.twcc_core.specs.Statuses.{symbol_of}
 use Rattle.twcc_core.specs.declared.status.PacketStatus.{PacketStatus}
 use Rattle.twcc_core.specs.declared.chunk.Told.{Told}
@@ -35,7 +35,7 @@ symbols_within zero zero bytes = Some ([], bytes)
 symbols_within zero (suc count) bytes = None
 symbols_within (suc n) zero bytes = Some ([], bytes)
 symbols_within (suc n) (suc count) bytes =
-    option_map (with_symbols (take (suc count) (chunk_symbols (half_at bytes 0)))) (symbols_within n (suc count - length (chunk_symbols (half_at bytes 0))) (drop 2 bytes))
+    option_map (with_symbols (take (suc count) (chunk_symbols (u16_at bytes 0)))) (symbols_within n (suc count - length (chunk_symbols (u16_at bytes 0))) (drop 2 bytes))
 
 unfoldable pub symbols_of : ℕ → List ℕ → Option (List ℕ × List ℕ)
 symbols_of count bytes = symbols_within (length bytes / 2) count bytes

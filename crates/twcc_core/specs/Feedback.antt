@@ -2,8 +2,7 @@
 use Rattle.std.specs.Prelude.{ℕ, ◌+◌, ◌-◌, ◌*◌, ◌/◌, ◌%◌, List, [], ◌∷◌, ◌++◌, length, drop, replicate, nat_lt, Option, None, if◌then◌else◌}
 use Rattle.std.specs.List.{flat_map}
 use Rattle.std.specs.Option.{option_map, option_and_then}
-use Rattle.rtp_base.specs.Fields.{signed24, bits24}
-use Rattle.twcc_core.specs.Wire.{half_at, word_at, halves, words}
+use Rattle.rtp_base.specs.Fields.{signed24, bits24, u16_at, u32_at, halves, words}
 use Rattle.twcc_core.specs.Statuses.{statuses_of, delta_text}
 use Rattle.twcc_core.specs.Chunks.{symbols_of, chunks_of}
 use Rattle.twcc_core.specs.declared.status.PacketStatus.{PacketStatus}
@@ -13,11 +12,11 @@ use Rattle.twcc_core.specs.declared.feedback.Twcc.{Twcc}
 -- count of feedback
 abbrev pub with_rows : List ℕ → List PacketStatus → Twcc
 with_rows body rows = record {
-  sender_ssrc = word_at body 0;
-  ssrc = word_at body 4;
-  base_seq = half_at body 8;
-  reference_time = signed24 (word_at body 12 / 256);
-  feedback_count = word_at body 12 % 256;
+  sender_ssrc = u32_at body 0;
+  ssrc = u32_at body 4;
+  base_seq = u16_at body 8;
+  reference_time = signed24 (u32_at body 12 / 256);
+  feedback_count = u32_at body 12 % 256;
   rows = rows;
 }
 
@@ -26,7 +25,7 @@ with_rows body rows = record {
 unfoldable pub twcc_of : List ℕ → Option Twcc
 twcc_of body =
     if nat_lt (length body) 16 then None
-    else option_map (with_rows body) (option_and_then (λ s. statuses_of s.0 s.1) (symbols_of (half_at body 10) (drop 16 body)))
+    else option_map (with_rows body) (option_and_then (λ s. statuses_of s.0 s.1) (symbols_of (u16_at body 10) (drop 16 body)))
 
 -- the fields, the chunks and the deltas
 unfoldable pub twcc_fields : Twcc → List ℕ

@@ -1,4 +1,3 @@
-pub mod Wire
 pub mod Statuses
 pub mod Chunks
 pub mod Feedback

@@ -2,11 +2,11 @@
 // sections 3.1.3 and 3.1.4).
 ghost use Rattle.std.specs.Prelude.{◌≡◌, ◌<◌, ◌≤◌, ◌++◌, length, take, replicate, IfOk, OnOk};
 ghost use Rattle.std.specs.Option.{option_map};
-ghost use Rattle.twcc_core.specs.Wire.{halves, Puts};
+ghost use Rattle.rtp_base.specs.Fields.{halves, Puts};
 ghost use Rattle.twcc_core.specs.Chunks.{view, one_bit_symbols, two_bit_symbols, chunk_symbols, symbols_of, symbol_at, run_of, vector_of, chunk_of, told_by, chunks_of};
 
 use crate::PacketStatus;
-use crate::wire::{half, put};
+use rtp_base::fields::{put_at, u16_at};
 use std::alloc::{AllocError, Global};
 
 // The symbols that chunks tell, and the bytes after those chunks.
@@ -91,7 +91,7 @@ pub fn read_symbols(
             return Ok(None);
         }
         let left = count - symbols.len();
-        push_chunk(&mut symbols, half(rest, 0), left)?;
+        push_chunk(&mut symbols, u16_at(rest, 0), left)?;
         let (_, after) = rest.split_at(2);
         rest = after;
     }
@@ -166,7 +166,7 @@ pub fn write_chunks(rows: &[PacketStatus], out: &mut [u8], at: usize) -> Option<
     let mut end = at;
     while !rest.is_empty() {
         let (chunk, told) = first_chunk(rest);
-        match put(out, end, &chunk.to_be_bytes()) {
+        match put_at(out, end, &chunk.to_be_bytes()) {
             Some(next) => end = next,
             None => return None,
         }

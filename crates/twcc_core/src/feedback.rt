@@ -1,16 +1,15 @@
 //! Transport-wide feedback (draft-holmer-rmcat-transport-wide-cc-extensions-01 section 3.1).
 ghost use Rattle.std.specs.Prelude.{◌≡◌, ◌+◌, ◌*◌, ◌<◌, IfOk, length};
 ghost use Rattle.std.specs.Option.{option_map};
-ghost use Rattle.twcc_core.specs.Wire.{words, Puts};
+ghost use Rattle.rtp_base.specs.Fields.{Puts};
 ghost use Rattle.twcc_core.specs.Feedback.{twcc_of, twcc_bytes};
-ghost use Rattle.rtp_base.specs.Fields.{signed24, bits24};
 
 use crate::PacketStatus;
 use crate::chunk::{read_symbols, write_chunks};
-use crate::status::{read_statuses, write_deltas};
-use crate::wire::{half, put, word};
+use crate::status::read_statuses;
 use media_base::Listed;
 use rtp_base::Ssrc;
+use rtp_base::fields::{bits24, put_all, put_at, signed24, u16_at, u32_at};
 use std::alloc::{AllocError, Global};
 
 /// Transport-wide feedback: what a receiver says of packets in a row (section 3.1).
@@ -30,18 +29,6 @@ pub struct Twcc {
     pub rows: Listed<PacketStatus>,
 }
 
-// The signed number of 24 bits.
-pub(crate) fn signed(bits: u32) -> i32
-    requires { bits < 16777216 }
-    ensures { result ≡ signed24 bits }
-{
-    if bits < 0x80_0000 {
-        bits as i32
-    } else {
-        bits as i32 - 0x100_0000
-    }
-}
-
 /// Reads feedback from the bytes after the header of an item of type 205 and format 15. Without memory
 /// there is an error, and None where the bytes end before the chunks or the deltas that they tell.
 #[tactic(auto, unfolding(crate::specs::Feedback::twcc_of))]
@@ -52,46 +39,21 @@ pub fn read_twcc(alloc: Global, body: &[u8]) -> Result<Option<Twcc>, AllocError>
         return Ok(None);
     }
     let (_, chunks) = body.split_at(16);
-    let Some(told) = read_symbols(alloc, chunks, usize::from(half(body, 10)))? else {
+    let Some(told) = read_symbols(alloc, chunks, usize::from(u16_at(body, 10)))? else {
         return Ok(None);
     };
     let Some(rows) = read_statuses(alloc, &told.symbols, told.deltas)? else {
         return Ok(None);
     };
-    let last = word(body, 12);
+    let last = u32_at(body, 12);
     Ok(Some(Twcc {
-        sender_ssrc: word(body, 0).into(),
-        ssrc: word(body, 4).into(),
-        base_seq: half(body, 8),
-        reference_time: signed(last / 0x100),
+        sender_ssrc: u32_at(body, 0).into(),
+        ssrc: u32_at(body, 4).into(),
+        base_seq: u16_at(body, 8),
+        reference_time: signed24(last / 0x100),
         feedback_count: (last % 0x100) as u8,
         rows,
     }))
-}
-
-// Puts words one after another, or says that there is no room for them.
-fn write_words(all: &[u32], out: &mut [u8], at: usize) -> Option<usize>
-    ensures { Puts out.old at (words all.now) out.new result }
-{
-    if out.len() < at {
-        return None;
-    }
-    let mut end = at;
-    for word in all {
-        match put(out, end, &word.to_be_bytes()) {
-            Some(next) => end = next,
-            None => return None,
-        }
-    }
-    Some(end)
-}
-
-// The reference time in 24 bits.
-pub(crate) fn reference_bits(twcc: &Twcc) -> u32
-    ensures value { result ≡ bits24 twcc.now.reference_time }
-    ensures small { result < 16777216 }
-{
-    twcc.reference_time.cast_unsigned() % 0x100_0000
 }
 
 // A word of 24 bits and 8.
@@ -114,11 +76,11 @@ pub fn write_twcc(twcc: &Twcc, out: &mut [u8]) -> Option<usize>
         twcc.sender_ssrc.into(),
         twcc.ssrc.into(),
         u32::from(twcc.base_seq) * 0x1_0000 + rows.len() as u32,
-        word_of(reference_bits(twcc), twcc.feedback_count),
+        word_of(bits24(twcc.reference_time), twcc.feedback_count),
     ];
-    let at = write_words(&words, out, 0)?;
+    let at = put_all(&words, out, 0)?;
     let at = write_chunks(rows, out, at)?;
-    let at = write_deltas(rows, out, at)?;
+    let at = put_all(rows, out, at)?;
     let zeros = [0; 3];
-    put(out, at, &zeros[..(4 - at % 4) % 4])
+    put_at(out, at, &zeros[..(4 - at % 4) % 4])
 }

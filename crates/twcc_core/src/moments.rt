@@ -2,9 +2,9 @@
 ghost use Rattle.std.specs.Prelude.{◌≡◌, IfOk};
 ghost use Rattle.twcc_core.specs.Times.{moment_after, row_moment, moments_from, moments_of};
 
-use crate::feedback::reference_bits;
 use crate::{PacketStatus, Twcc};
 use media_base::{Instant, Listed};
+use rtp_base::fields::bits24;
 use std::alloc::{AllocError, Global};
 
 // So many steps of 250 us after a moment, or before it, in nanoseconds.
@@ -60,6 +60,6 @@ fn moments_after(
 pub fn arrivals(alloc: Global, twcc: &Twcc) -> Result<Listed<Option<Instant>>, AllocError>
     ensures { IfOk result (λ moments. moments ≡ moments_of twcc.now) }
 {
-    let start = u64::from(reference_bits(twcc)) * 64_000_000;
+    let start = u64::from(bits24(twcc.reference_time)) * 64_000_000;
     moments_after(alloc, start, twcc.rows.as_slice())
 }

@@ -3,10 +3,10 @@ ghost use Rattle.std.specs.Prelude.{◌≡◌, ◌+◌, ◌*◌, ◌^◌, ◌<�
 ghost use Rattle.std.specs.Option.{option_map};
 ghost use Rattle.twcc_core.specs.Reports.{arrival_of, greatest_of, delta_of, row_of, with_last, rows_from, rows_within, missing_from, lowest_of, share_between, loss_of};
 
-use crate::feedback::signed;
 use crate::size::Size;
 use crate::{PacketStatus, Share, Twcc};
 use media_base::{Instant, Listed};
+use rtp_base::fields::signed24;
 use rtp_base::{SeqNo, Ssrc};
 use std::alloc::{AllocError, Global};
 use std::collections::BTreeMap;
@@ -197,7 +197,7 @@ impl TwccRecvRegister {
             sender_ssrc,
             ssrc,
             base_seq: (base % 0x1_0000) as u16,
-            reference_time: signed((reference % 0x100_0000) as u32),
+            reference_time: signed24((reference % 0x100_0000) as u32),
             feedback_count: self.report_count,
             rows,
         }

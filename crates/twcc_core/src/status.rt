@@ -1,11 +1,9 @@
 ghost use Rattle.std.specs.Prelude.{◌≡◌, ◌<◌, ◌≤◌, length, IfOk};
 ghost use Rattle.std.specs.Option.{option_map};
-ghost use Rattle.std.specs.List.{flat_map};
-ghost use Rattle.twcc_core.specs.Wire.{Puts};
 ghost use Rattle.twcc_core.specs.Statuses.{delta_text, status_at, statuses_of};
 
-use crate::wire::{half, put};
 use media_base::Listed;
+use rtp_base::fields::{Put, put_at, u16_at};
 use std::alloc::{AllocError, Global};
 
 /// What feedback says of a packet (draft-holmer-rmcat-transport-wide-cc-extensions-01 section 3.1.1).
@@ -42,18 +40,22 @@ impl PacketStatus {
             _ => 2,
         }
     }
+}
 
-    // Puts the delta, where there is one.
-    fn write_delta(self, out: &mut [u8], at: usize) -> Option<usize>
-        ensures { Puts out.old at (delta_text self) out.new result }
-    {
-        match self {
-            PacketStatus::NotReceived => put(out, at, &[]),
+impl Put for PacketStatus {
+    ghost use Rattle.twcc_core.specs.Statuses.{delta_text};
+
+    // The bytes of the delta, where there is one.
+    ghost text_of = { delta_text };
+
+    fn put(&self, out: &mut [u8], at: usize) -> Option<usize> {
+        match *self {
+            PacketStatus::NotReceived => put_at(out, at, &[]),
             PacketStatus::Received(delta) => {
                 if delta >= 0 && delta < 256 {
-                    put(out, at, &[delta as u8])
+                    put_at(out, at, &[delta as u8])
                 } else {
-                    put(out, at, &delta.to_be_bytes())
+                    put_at(out, at, &delta.to_be_bytes())
                 }
             }
         }
@@ -75,7 +77,7 @@ fn read_status(symbol: u8, bytes: &[u8]) -> Option<(PacketStatus, &[u8])>
                 return None;
             }
             let (delta, rest) = bytes.split_at(2);
-            Some((PacketStatus::Received(half(delta, 0).cast_signed()), rest))
+            Some((PacketStatus::Received(u16_at(delta, 0).cast_signed()), rest))
         }
         _ => Some((PacketStatus::NotReceived, bytes)),
     }
@@ -99,21 +101,4 @@ pub(crate) fn read_statuses(
         rest = after;
     }
     Ok(Some(rows))
-}
-
-// Puts deltas one after another, or says that there is no room for them.
-pub(crate) fn write_deltas(rows: &[PacketStatus], out: &mut [u8], at: usize) -> Option<usize>
-    ensures { Puts out.old at (flat_map delta_text rows.now) out.new result }
-{
-    if out.len() < at {
-        return None;
-    }
-    let mut end = at;
-    for row in rows {
-        match row.write_delta(out, end) {
-            Some(next) => end = next,
-            None => return None,
-        }
-    }
-    Some(end)
 }

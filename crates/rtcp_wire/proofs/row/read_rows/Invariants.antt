@@ -1,5 +1,5 @@
 use Rattle.std.proofs.Common.{◌≡◌, ◌-◌, ◌*◌, ◌≤◌, ◌++◌, length}
-use Rattle.rtcp_wire.specs.Wire.{rows_of}
+use Rattle.rtcp_wire.specs.Rows.{rows_of}
 use Rattle.rtcp_wire.proofs.row.read_rows.Given as goal
 
 abbrev pub invariant-loop : goal.invariant-loop

@@ -10,4 +10,4 @@ loop-rest-preserved c =
     let len : c.len.result ≡ length c.loop-rest.symbols.items = c.len.ensures ∙ c.loop-rest.symbols.ok.0 in
     let len' : c.len-in-loop-rest.result ≡ length c.loop-rest.symbols.items = c.len-in-loop-rest.ensures ∙ c.loop-rest.symbols.ok.0 in
     read_more c.loop-rest.symbols.items c.push_chunk.new.symbols.items c.args.count c.loop-rest.rest.now c.split_at.result.1.now _ (omega arith) (omega arith)
-    (rw (c.half.ensures, len') at c.in_ok-push_chunk.ensures) c.split_at.ensures.back c.loop-rest.invariant
+    (rw (c.u16_at.ensures, len') at c.in_ok-push_chunk.ensures) c.split_at.ensures.back c.loop-rest.invariant

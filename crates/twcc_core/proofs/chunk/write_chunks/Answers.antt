@@ -9,7 +9,7 @@ loop-rest-init c = put_starts c.args.rows.now c.args.out.now c.args.at (omega ar
 pub loop-rest-preserved : goal.loop-rest-preserved
 loop-rest-preserved c =
     let some : 0 < length c.loop-rest.rest.now = search rules in
-    let same : length c.put.new.out ≡ length c.loop-rest.out = grind (arith, common_steps) in
-    put_more c.args.rows.now c.loop-rest.rest.now c.split_at.result.1.now c.args.out.now c.args.at c.loop-rest.out c.put.new.out c.loop-rest.end c.in-Some.next c.first_chunk-chunk.result.0 c.first_chunk-chunk.result.1 some
+    let same : length c.put_at.new.out ≡ length c.loop-rest.out = grind (arith, common_steps) in
+    put_more c.args.rows.now c.loop-rest.rest.now c.split_at.result.1.now c.args.out.now c.args.at c.loop-rest.out c.put_at.new.out c.loop-rest.end c.in-Some.next c.first_chunk-chunk.result.0 c.first_chunk-chunk.result.1 some
     c.first_chunk-chunk.ensures.chunk c.first_chunk-chunk.ensures.told c.first_chunk-chunk.ensures.some c.first_chunk-chunk.ensures.within c.split_at.ensures.back same
     (rw c.to_be_bytes.ensures at c.in-Some.ensures) c.loop-rest.invariant

@@ -1,7 +1,7 @@
 use Rattle.std.proofs.Common.{Some, take, length, ◌≡◌}
 use Rattle.std.specs.List.{flat_map}
-use Rattle.rtcp_wire.specs.Wire.{Puts}
-use Rattle.rtcp_wire.proofs.row.write_rows.Given as goal
+use Rattle.rtp_base.specs.Fields.{Puts}
+use Rattle.rtp_base.proofs.fields.put_all.Given as goal
 
 abbrev pub invariant-loop-row : goal.invariant-loop-row
 invariant-loop-row g l = record {

@@ -1,9 +1,0 @@
-use Rattle.std.proofs.Common.{◌≡◌, Some, take, length}
-use Rattle.twcc_core.specs.Wire.{words, Puts}
-use Rattle.twcc_core.proofs.feedback.write_words.Given as goal
-
-abbrev pub invariant-loop-word : goal.invariant-loop-word
-invariant-loop-word l = record {
-  so_far : Puts l.initial.out l.initial.at (words (take l.word-index l.all)) l.out (Some l.end);
-  same : length l.out ≡ length l.initial.out;
-}
