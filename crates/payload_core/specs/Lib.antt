@@ -1,5 +1,6 @@
 pub mod Buffer
 pub mod Codecs
+pub mod History
 pub mod InOrder
 pub mod Packets
 pub mod Params
