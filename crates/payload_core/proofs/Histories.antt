@@ -1,12 +1,12 @@
 -- What a reordering buffer stands for is carried on by each call.
-use Rattle.std.proofs.Common.{◌≡◌, ℕ, ◌+◌, ◌<◌, ◌≤◌, Bool, true, false, List, [], ◌∷◌, ◌++◌, Option, Some, None, Result, refl, sym, ap, ◌∙◌, arith, eqb, leb, cond, ◌⊎◌, inl, inr}
+use Rattle.std.proofs.Common.{◌≡◌, ℕ, ◌+◌, ◌<◌, ◌≤◌, Bool, true, false, List, [], ◌∷◌, ◌++◌, Option, Some, None, Result, refl, sym, ap, ◌∙◌, arith, eqb, leb, ◌⊎◌, inl, inr}
 use Rattle.std.specs.Prelude.{◌||◌, is_some, slice_get, if◌then◌else◌}
 use Rattle.std.specs.Ordering.{nat_cmp}
 use Rattle.std.specs.BTreeMap.{insert_entry}
 use Rattle.std.specs.BTreeSet.{insert_key}
 use Rattle.std.specs.Option.{option_or, option_map, option_map_or, option_and_then}
 use Rattle.std.proofs.lemmas.List.{append-nil}
-use Rattle.std.proofs.lemmas.Bool.{eq-eqb, ne_eqb, le-leb, lt-leb, eqb-true, cases_lt, cases_order}
+use Rattle.std.proofs.lemmas.Bool.{eq-eqb, ne_eqb, le-leb, lt-leb, cases_lt, cases_order}
 use Rattle.payload_core.specs.declared.buffer.Arrival.{Arrival}
 use Rattle.payload_core.specs.declared.buffer.Depacketized.{Depacketized}
 use Rattle.payload_core.specs.declared.error.PacketError.{PacketError}
@@ -16,7 +16,7 @@ use Rattle.payload_core.specs.Reordering.{nothing_waits, is_passed, is_known, wi
 use Rattle.payload_core.specs.Waiting.{Waiting}
 use Rattle.payload_core.specs.History.{Event, pushed, padded, given, push_under, first_push, packet_of, is_padding, number_given, last_given, IsPassedUpTo, IsLast, waiting_under, is_kept, Rise, NumbersRise, StandsFor, given_now, IsFront, is_due, NothingIsDue, GivesByRule}
 use Rattle.payload_core.proofs.Entries.{under, among, under_head, under_tail, under_below, under_inserted, under_others, rise_inserted, rise_later, among_inserted, among_others, numbers_rise_inserted}
-use Rattle.payload_core.proofs.Settling.{Settles, IsSettled, settles}
+use Rattle.payload_core.proofs.Settling.{Settles, settles}
 
 or_none : {A : Type 0} (o : Option A) → option_or o None ≡ o
 or_none None = refl

@@ -2,6 +2,7 @@ pub mod Choosing
 pub mod Entries
 pub mod Histories
 pub mod InOrder
+pub mod OneBuffer
 pub mod RedCount
 pub mod RedBlocks
 pub mod RedAgain

@@ -1,5 +1,5 @@
 -- What a reordering buffer stands for: what was pushed and given so far.
-use Rattle.std.specs.Prelude.{◌≡◌, ℕ, ◌+◌, ◌<◌, ◌≤◌, ◌==◌, Bool, true, false, ◌||◌, ◌↔◌, if◌then◌else◌, Option, Some, None, IsSome, MatchOption, Result, List, [], ◌∷◌, ◌++◌, find}
+use Rattle.std.specs.Prelude.{◌≡◌, ℕ, ◌+◌, ◌<◌, ◌≤◌, ◌==◌, Bool, true, false, ◌||◌, if◌then◌else◌, Option, Some, None, MatchOption, Result, List, [], ◌∷◌}
 use Rattle.std.specs.Ordering.{nat_cmp}
 use Rattle.std.specs.Map.{lookup}
 use Rattle.std.specs.BTreeMap.{is_at}
@@ -116,3 +116,13 @@ NothingIsDue {I} b events now timeout = (number : ℕ) (arrival : Arrival I) →
 -- the rule of giving, after these events
 abbrev pub GivesByRule : {I : Type 0} → Waiting I → List (Event I) → ℕ → Option ℕ → Option (Result (Depacketized I) PacketError) → Type 0
 GivesByRule b events now timeout answer = MatchOption answer (NothingIsDue b events now timeout) (λ r. IsFrontGiven b events now timeout r)
+
+-- two buffers hold the same
+pub record HoldsTheSame {I : Type 0} (b c : Waiting I) : Type 0 where
+  pub last : b.last ≡ c.last
+  pub packets : b.packets ≡ c.packets
+  pub paddings : b.paddings ≡ c.paddings
+
+-- what was pushed and given determines what a buffer holds
+abbrev pub EventsDetermine : (I : Type 0) → Type 0
+EventsDetermine I = (b c : Waiting I) (events : List (Event I)) → StandsFor b events → StandsFor c events → HoldsTheSame b c

@@ -7,6 +7,7 @@ pub mod Params
 pub mod Reasons
 pub mod Red
 pub mod RedReading
+pub mod RedSinks
 pub mod RedWriting
 pub mod Remembered
 pub mod Reordering

@@ -1,6 +1,7 @@
 //! Packets put back into the order of their numbers.
 ghost use Rattle.std.specs.Prelude.{◌≡◌, List, [], ◌∷◌, ◌++◌, OnOk, OnErr};
 ghost use Rattle.std.specs.Option.{option_map};
+ghost use Rattle.payload_core.specs.History.{EventsDetermine};
 ghost use Rattle.payload_core.specs.InOrder.{ComesOutAsIn};
 ghost use Rattle.payload_core.specs.Reordering.{frame_of};
 ghost use Rattle.payload_core.specs.Buffer.{settled, is_next, earliest, is_past, timed_out};
@@ -320,4 +321,9 @@ impl<I: Drop> DepacketizingBuffer<I> {
 #[tactic(auto, using(crate::proofs::InOrder::in_order))]
 pub fn frames_come_out_as_in<I: Drop>()
     ensures { ComesOutAsIn I }
+{}
+
+/// What was pushed and given determines what a buffer holds: the last number, and what waits.
+pub fn events_determine_what_waits<I: Drop>()
+    ensures { EventsDetermine I }
 {}
