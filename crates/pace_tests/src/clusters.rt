@@ -147,26 +147,6 @@ fn clusters_at_their_edges(rt: HostRuntime) {
     );
 }
 
-#[test]
-fn kinds_of_clusters(rt: HostRuntime) {
-    for (kind, is_alr) in [
-        (ProbeKind::Initial, false),
-        (ProbeKind::Exponential, false),
-        (ProbeKind::Allocation { in_alr: false }, false),
-        (ProbeKind::Allocation { in_alr: true }, true),
-        (ProbeKind::PeriodicAlr, true),
-        (ProbeKind::LargeDrop, false),
-        (ProbeKind::Stagnant, false),
-    ] {
-        let config = ProbeClusterConfig::new(TwccClusterId::from(1), Bitrate::mbps(1), kind);
-        assert_eq!(rt; config.is_alr_probe(), is_alr);
-    }
-    let config = config(960);
-    assert_eq!(rt; config.target_bytes(), DataSize::bytes(1_800));
-    assert_eq!(rt; config.min_packet_count(), 5);
-    assert_eq!(rt; config.min_probe_delta(), Duration::from_millis(2));
-}
-
 // Media is active, the link is overused, the estimate, the least rate, and the rates of padding and of pacing, in
 // kbit/s.
 const RATES: [(bool, bool, u64, u64, u64, u64); 8] = [
@@ -201,15 +181,13 @@ fn pacer_control(rt: HostRuntime) {
 
 // A queue of three packets that waited for 7 ms together when the snapshot was made, at 10 ms.
 fn waiting() -> QueueSnapshot {
-    let mut snapshot = QueueSnapshot {
-        created_at: micros(10_000),
-        byte_size: 300,
-        packet_count: 3,
-        total_queue_time_origin: Duration::from_millis(7),
-        last_emitted: Some(micros(2)),
-        first_unsent: Some(micros(4)),
-        priority: QueuePriority::Empty,
-    };
+    let mut snapshot = QueueSnapshot::default();
+    snapshot.created_at = micros(10_000);
+    snapshot.byte_size = 300;
+    snapshot.packet_count = 3;
+    snapshot.total_queue_time_origin = Duration::from_millis(7);
+    snapshot.last_emitted = Some(micros(2));
+    snapshot.first_unsent = Some(micros(4));
     snapshot.update_priority(QueuePriority::Padding);
     snapshot
 }

@@ -1,5 +1,5 @@
 use crate::steps::at;
-use media_base::{Bitrate, DataSize, Duration, Listed};
+use media_base::{Bitrate, DataSize, Duration, Instant, Listed};
 use pace_core::{PaceCall, PaceEntry, PaceError, PaceLog, PaceQueue, are_short, pace_run};
 use rtp_base::Mid;
 use std::alloc::{AllocError, Global};
@@ -51,14 +51,26 @@ fn call_of(alloc: Global, mid: Mid, call: Call) -> Result<PaceCall, AllocError> 
     }
 }
 
+fn size_of(asked: &Option<(Mid, DataSize)>) -> Option<u64> {
+    match asked {
+        Some((_, size)) => Some(size.as_u64()),
+        None => None,
+    }
+}
+
+fn nanos_of(wake: &Option<Instant>) -> Option<u64> {
+    match wake {
+        Some(moment) => Some(moment.as_nanos()),
+        None => None,
+    }
+}
+
 fn line_of(entry: &PaceEntry) -> Line {
     match entry {
         PaceEntry::Set => Set,
-        PaceEntry::Timed(Some((_, size))) => Timed(Some(size.as_u64())),
-        PaceEntry::Timed(None) => Timed(None),
+        PaceEntry::Timed(asked) => Timed(size_of(asked)),
         PaceEntry::Chose(_) => Chose,
-        PaceEntry::Idle(Some(moment)) => Idle(Some(moment.as_nanos())),
-        PaceEntry::Idle(None) => Idle(None),
+        PaceEntry::Idle(wake) => Idle(nanos_of(wake)),
         PaceEntry::Sent { bits, debt, rate } => {
             Sent(*bits, debt.as_billionths() / 1_000_000_000, rate.as_u64())
         }
