@@ -3,7 +3,7 @@ use Rattle.media_model.specs.declared.entry.Entry.{Entry}
 use Rattle.media_model.specs.declared.entry.Entry.TheVariants.{Got}
 use Rattle.media_play.specs.Opening.{got_as}
 use Rattle.media_play.specs.Sessions.{sealing_of, received_entries, Ready}
-use Rattle.media_play.proofs.run.receive_step.Goals as goal
+use Rattle.media_play.proofs.pair.receive_step.Goals as goal
 
 pub returns-clause-ready : goal.returns-clause-ready
 returns-clause-ready g c setup sound ready =

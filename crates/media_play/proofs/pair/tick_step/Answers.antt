@@ -2,7 +2,7 @@ use Rattle.std.proofs.Common.{List, [], ◌∷◌, ◌++◌, ap, sym, subst, ◌
 use Rattle.media_model.specs.declared.entry.Entry.{Entry}
 use Rattle.media_model.specs.declared.entry.Entry.TheVariants.{Ticked}
 use Rattle.media_play.specs.Sessions.{Ready}
-use Rattle.media_play.proofs.run.tick_step.Goals as goal
+use Rattle.media_play.proofs.pair.tick_step.Goals as goal
 
 pub returns-clause-ready : goal.returns-clause-ready
 returns-clause-ready g c setup steps sound played ready =
