@@ -4,8 +4,14 @@
 
 mod packet;
 mod payload;
+mod send_queue;
+mod stream_tx;
+mod transport;
 mod write;
 
 pub use packet::RtpPacket;
 pub use payload::Payload;
+pub use send_queue::SendQueue;
+pub use stream_tx::{PacketReceipt, StreamTx};
+pub use transport::Transport;
 pub use write::{RtpWrite, WriteError};
