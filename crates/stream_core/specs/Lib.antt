@@ -1,0 +1,4 @@
+pub mod Queue
+pub mod Sealing
+pub mod TxRecord
+pub mod Write
