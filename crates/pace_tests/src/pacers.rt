@@ -4,8 +4,8 @@ use crate::steps::Step::{Poll, Send, Timeout, Wake};
 use crate::steps::{Held, NO, Queues, Seen, Step, at, number_of, play};
 use media_base::{Bitrate, Duration};
 use pace_core::{
-    LeakyBucketPacer, NullPacer, Pacer, PacerImpl, PacerReason, ProbeClusterConfig, ProbeKind,
-    Reason,
+    LeakyBucketPacer, NullPacer, PaceEntry, PaceLog, Pacer, PacerImpl, PacerReason,
+    ProbeClusterConfig, ProbeKind, Reason,
 };
 use rtp_base::TwccClusterId;
 use std::alloc::{AllocError, Global};
@@ -543,4 +543,16 @@ fn turns(rt: HostRuntime) {
     // The same without the choice of two kinds.
     let mut pacer = NullPacer::new(rt.alloc());
     assert!(rt; follows(&rt, rt.alloc(), &mut pacer, &NULL).is_ok());
+}
+
+// Calls that take memory and stand in no table.
+#[test]
+fn surface_ample(rt: HostRuntime) {
+    let mut pacer = LeakyBucketPacer::new(rt.alloc(), Bitrate::mbps(1));
+    assert!(rt; pacer.start_probe(cluster(3)).is_ok());
+    assert!(rt; number_of(pacer.active_cluster()) == Some(3));
+    assert!(rt; pacer.check_probe_complete(at(0)).is_none());
+    let mut log = PaceLog::new(rt.alloc());
+    assert!(rt; log.push(PaceEntry::Set).is_ok());
+    assert_eq!(rt; log.as_slice().len(), 1);
 }
