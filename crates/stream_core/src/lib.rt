@@ -5,13 +5,19 @@
 mod packet;
 mod payload;
 mod send_queue;
+mod ssrc_table;
+mod stream_rx;
 mod stream_tx;
+mod streams;
 mod transport;
 mod write;
 
 pub use packet::RtpPacket;
 pub use payload::Payload;
 pub use send_queue::SendQueue;
+pub use ssrc_table::SsrcTable;
+pub use stream_rx::StreamRx;
 pub use stream_tx::{PacketReceipt, StreamTx};
+pub use streams::Streams;
 pub use transport::Transport;
 pub use write::{RtpWrite, WriteError};

@@ -4,7 +4,7 @@ use rtp_base::{MediaTime, SeqNo};
 use rtp_wire::RtpHeader;
 
 /// An RTP packet that was written, or that came (RFC 3550 section 5.1).
-#[derive(Debug, Drop)]
+#[derive(Debug, PartialEq, Eq, Drop)]
 pub struct RtpPacket {
     /// Its extended sequence number, of which its header has the low 16 bits.
     pub seq_no: SeqNo,

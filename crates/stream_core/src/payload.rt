@@ -21,6 +21,28 @@ impl Model for Payload {
     ghost view = { λ p. rc_slice_items p.all };
 }
 
+impl PartialEq for Payload {
+    ghost use Rattle.std.specs.Prelude.{◌==◌};
+    ghost use Rattle.std.proofs.Common.{rules};
+    ghost use Rattle.std.specs.Cmp.Lexicographic.{pointwise};
+    ghost use Rattle.std.specs.Cmp.Rules.{comparing};
+
+    ghost eq = { pointwise ◌==◌ };
+
+    ghost laws = { Prim.search (comparing, rules) };
+
+    fn eq(&self, other: &Payload) -> bool {
+        self.all.as_slice() == other.all.as_slice()
+    }
+}
+
+impl Eq for Payload {
+    ghost use Rattle.std.proofs.Common.{rules};
+    ghost use Rattle.std.specs.Cmp.Rules.{comparing};
+
+    ghost laws = { Prim.search (comparing, rules) };
+}
+
 impl From<RcSlice<u8>> for Payload {
     ghost use Rattle.std.specs.Prelude.{◌≡◌};
     ghost use Rattle.std.specs.Rc.{rc_slice_items};
