@@ -5,11 +5,10 @@ mod calls;
 pub mod laws;
 mod queues;
 mod reader;
-mod text;
-mod words;
-
 #[cfg(test)]
 mod tests;
+mod text;
+mod words;
 
 pub use media_script::ScriptError;
 pub use reader::read_pace_script;

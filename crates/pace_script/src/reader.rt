@@ -108,10 +108,7 @@ pub fn read_pace_script(
     read_lines(alloc, bytes)
 }
 
-fn read_lines(
-    alloc: Global,
-    bytes: &[u8],
-) -> Result<(Bitrate, Vec<PaceCall>), ScriptError>
+fn read_lines(alloc: Global, bytes: &[u8]) -> Result<(Bitrate, Vec<PaceCall>), ScriptError>
     ensures { GivesScript (λ x. (x.0, x.1.items)) result (script_of bytes.now) }
 {
     pieces_are_lines();

@@ -27,10 +27,7 @@ impl fmt::Display for Wake {
     }
 }
 
-fn put_padding(
-    text: &mut String,
-    asked: Option<(Mid, DataSize)>,
-) -> Result<(), AllocError>
+fn put_padding(text: &mut String, asked: Option<(Mid, DataSize)>) -> Result<(), AllocError>
     ensures { OnOk result (string_bytes text.new ≡ string_bytes text.old ++ pad_text asked) }
 {
     match asked {
