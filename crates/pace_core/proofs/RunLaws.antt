@@ -1,7 +1,6 @@
 -- Runs of a pacer's calls.
 use Rattle.std.proofs.Common.{◌≡◌, ℕ, ◌+◌, ◌*◌, ◌≤◌, ◌<◌, List, [], ◌∷◌, ◌++◌, length, take, Bool, true, false, refl, sym, ap, subst, ◌∙◌, arith, get_or, length-take}
 use Rattle.std.proofs.lemmas.List.{take_more}
-use Rattle.std.proofs.lemmas.Bool.Decides.{nat_tests}
 use Rattle.std.specs.Prelude.{Option, Some, None, is_some, unwrap_or, ◌||◌}
 use Rattle.rtp_base.specs.declared.ids.MidRid.{MidRid}
 use Rattle.pace_units.specs.declared.cluster.ProbeClusterState.{ProbeClusterState}

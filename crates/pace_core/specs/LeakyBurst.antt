@@ -1,10 +1,9 @@
 -- A burst of a leaky bucket: ten packets of 1,000 bytes wait at 1 Mbit/s, and a timeout, a poll and a packet are repeated at one
 -- moment.
-use Rattle.std.specs.Prelude.{◌≡◌, ℕ, ◌+◌, ◌-◌, ◌*◌, zero, suc, true, false, List, [], ◌∷◌, ◌++◌, Option, Some, None}
+use Rattle.std.specs.Prelude.{◌≡◌, ℕ, ◌-◌, ◌*◌, zero, suc, true, false, List, [], ◌∷◌, ◌++◌, Some, None}
 use Rattle.rtp_base.specs.declared.ids.MidRid.{MidRid}
 use Rattle.pace_units.specs.declared.queue.QueueState.{QueueState}
 use Rattle.pace_units.specs.declared.queue.QueuePriority.TheVariants.{Media}
-use Rattle.pace_core.specs.declared.run.PaceQueue.{PaceQueue}
 use Rattle.pace_core.specs.declared.run.PaceCall.{PaceCall}
 use Rattle.pace_core.specs.declared.run.PaceCall.TheVariants.{Timeout, Poll, Send}
 use Rattle.pace_core.specs.declared.log.PaceEntry.{PaceEntry}

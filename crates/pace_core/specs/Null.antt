@@ -1,5 +1,5 @@
 -- What a null pacer answers, read off what it was told.
-use Rattle.std.specs.Prelude.{ℕ, ◌+◌, ◌-◌, ◌==◌, ◌&&◌, not, Bool, true, false, if◌then◌else◌, List, [], ◌∷◌, Option, Some, None, option_map, option_and_then, slice_get, slice_set}
+use Rattle.std.specs.Prelude.{ℕ, ◌+◌, ◌-◌, ◌==◌, ◌&&◌, not, Bool, true, if◌then◌else◌, List, [], ◌∷◌, Option, Some, None, option_map, slice_get, slice_set}
 use Rattle.rtp_base.specs.declared.ids.MidRid.{MidRid}
 use Rattle.pace_units.specs.declared.queue.QueueState.{QueueState}
 use Rattle.pace_units.specs.declared.queue.PaddingRequest.{PaddingRequest}

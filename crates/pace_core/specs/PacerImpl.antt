@@ -1,5 +1,5 @@
 -- What a pacer of either kind stands for, and what it answers.
-use Rattle.std.specs.Prelude.{ℕ, Bool, if◌then◌else◌, List, Option, Some, None}
+use Rattle.std.specs.Prelude.{ℕ, if◌then◌else◌, List, Option, None}
 use Rattle.rtp_base.specs.declared.ids.MidRid.{MidRid}
 use Rattle.pace_units.specs.declared.queue.QueueState.{QueueState}
 use Rattle.pace_units.specs.declared.queue.PaddingRequest.{PaddingRequest}

@@ -1,5 +1,5 @@
 -- Runs of a pacer's calls.
-use Rattle.std.specs.Prelude.{◌≡◌, ℕ, ◌*◌, ◌==◌, ◌≤◌, ◌&&◌, All, nat_le, is_some, unwrap_or, option_map, if◌then◌else◌, Bool, true, false, List, [], ◌∷◌, length, take, slice_get, Option, Some, None}
+use Rattle.std.specs.Prelude.{◌≡◌, ℕ, ◌*◌, ◌==◌, ◌≤◌, ◌&&◌, nat_le, is_some, unwrap_or, option_map, if◌then◌else◌, Bool, true, false, List, [], ◌∷◌, length, take, slice_get, Option, Some, None}
 use Rattle.rtp_base.specs.declared.ids.MidRid.{MidRid}
 use Rattle.pace_units.specs.declared.queue.QueueState.{QueueState}
 use Rattle.pace_units.specs.declared.queue.PaddingRequest.{PaddingRequest}

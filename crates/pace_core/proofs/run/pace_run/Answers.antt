@@ -1,8 +1,8 @@
-use Rattle.std.proofs.Common.{◌≡◌, take, true, refl, sym, ◌∙◌, arith, ◌++◌, ◌∷◌, []}
+use Rattle.std.proofs.Common.{◌≡◌, take, true, refl, sym, ◌∙◌, arith}
 use Rattle.std.specs.Prelude.{Some}
 use Rattle.std.proofs.lemmas.Option.{slice_get_read}
 use Rattle.pace_core.specs.Past.{Past, made}
-use Rattle.pace_core.specs.Run.{past_of, may_come, IsLogOf}
+use Rattle.pace_core.specs.Run.{past_of, may_come}
 use Rattle.pace_core.proofs.RunLaws.{take_next, past_of-last, entries-last, may_all_come-last, log_of_front, log_of_front-length, keeps}
 use Rattle.pace_core.proofs.run.pace_run.Goals as goal
 
