@@ -10,5 +10,7 @@ pub mod Reported
 pub mod Telling
 pub mod Nothing
 pub mod Marking
+pub mod Rising
+pub mod Within
 pub mod ComingBack
 pub mod RoundTrip

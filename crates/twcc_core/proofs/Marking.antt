@@ -23,3 +23,6 @@ done_ends f i xs now le h =
     let whole : take i xs ≡ xs = take_all i xs le in
     let none : drop i xs ≡ [] = drop_of_length-le xs le in
     h.so_far ∙ rw (whole, none) (append-nil (map f xs))
+
+pub done_next : {X : Type 0} (f : X → X) (i : ℕ) (xs now : List X) (new old : X) → i < length xs → old ≡ get_or now i old → new ≡ f old → IsDone f i xs now → IsDone f (i + 1) xs (set now i new)
+done_next f i xs now new old lt e is h = done_more f i xs now old new lt (is ∙ ap f e) h

@@ -1,6 +1,7 @@
 -- Packets sent, and what reports say of them.
 use Rattle.std.specs.Prelude.{◌≡◌, ℕ, ◌+◌, ◌-◌, ◌^◌, ◌<◌, ◌≤◌, ◌&&◌, Bool, true, false, All, Contains, List, [], ◌∷◌, ◌++◌, length, drop, map, filter, fold, slice_get, count_by, nat_lt, nat_le, is_some, is_none, unwrap_or, Option, Some, None, if◌then◌else◌}
-use Rattle.std.specs.List.{filter_map}
+use Rattle.std.specs.List.{filter_map, AllWithin}
+use Rattle.std.specs.List.Sorted.{IsNonDecreasingBy}
 use Rattle.std.specs.Option.{option_map, option_map_or}
 use Rattle.rtp_base.specs.Widen.{widen16}
 use Rattle.twcc_core.specs.declared.feedback.Twcc.{Twcc}
@@ -29,6 +30,21 @@ last_number records = option_map (λ r. r.id.seq) (slice_get records (length rec
 
 abbrev pub first_told : List TwccSendRecord → Twcc → ℕ
 first_told records t = widen16 (last_number records) t.base_seq
+
+-- so many records at the end are in order of their numbers
+unfoldable pub IsRising : List TwccSendRecord → ℕ → Type 0
+IsRising records n = IsNonDecreasingBy (λ r. r.id.seq) (drop (length records - n) records)
+
+-- whether a record is of one of n numbers in a row
+abbrev pub is_among : ℕ → ℕ → TwccSendRecord → Bool
+is_among first n r = nat_le first r.id.seq && nat_lt r.id.seq (first + n)
+
+-- the records of n numbers in a row stand between two places
+pub record IsWithin (first n : ℕ) (records : List TwccSendRecord) (start end : ℕ) : Type 0 where
+  pub order : start ≤ end
+  pub bound : end ≤ length records
+  pub before : AllWithin (λ r. is_among first n r ≡ false) records 0 start
+  pub after : AllWithin (λ r. is_among first n r ≡ false) records end (length records)
 
 -- what is told of a number by the moments of the numbers from a first one on, if it is among them
 abbrev pub moment_told : ℕ → List (Option ℕ) → ℕ → Option (Option ℕ)
@@ -95,10 +111,7 @@ share_of start records = record { missing = count_by (is_missing_from start) rec
 unfoldable pub sent_loss : ℕ → List TwccSendRecord → Option Share
 sent_loss start records = if nat_lt 0 (count_by (is_told_from start) records) then Some (share_of start records) else None
 
--- whether a record is of one of n numbers in a row, and what is put down in it of what was received
-abbrev pub is_among : ℕ → ℕ → TwccSendRecord → Bool
-is_among first n r = nat_le first r.id.seq && nat_lt r.id.seq (first + n)
-
+-- a record with what was received of it put down
 abbrev pub with_arrival_of : List (ℕ × ℕ) → ℕ → TwccSendRecord → TwccSendRecord
 with_arrival_of arrivals now r = with_report now r (option_map held (arrival_of arrivals r.id.seq))
 

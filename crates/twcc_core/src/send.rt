@@ -1,7 +1,8 @@
 //! Packets sent, and what reports say of them.
-ghost use Rattle.std.specs.Prelude.{◌≡◌, ◌-◌, ◌≤◌, [], List, length, map, count_by, IfOk, OnOk, OnErr};
-ghost use Rattle.std.specs.List.{filter_map};
-ghost use Rattle.twcc_core.specs.Sending.{last_number, first_told, moment_told, record_told, after_told, greater_of, trip_of, is_told_from, is_missing_from, sent_loss};
+ghost use Rattle.std.specs.Prelude.{◌≡◌, ◌+◌, ◌-◌, ◌<◌, ◌≤◌, [], ◌∷◌, ◌++◌, length, map, slice_range, count_by, IfOk, OnOk, OnErr};
+ghost use Rattle.std.specs.List.{filter_map, AllWithin};
+ghost use Rattle.std.specs.List.Sorted.{IsNonDecreasingBy};
+ghost use Rattle.twcc_core.specs.Sending.{IsRising, IsWithin, last_number, first_told, moment_told, record_told, after_told, greater_of, trip_of, is_told_from, is_missing_from, sent_loss};
 
 use crate::{Share, Twcc, arrivals};
 use media_base::{DataSize, Duration, Instant, Listed};
@@ -109,29 +110,33 @@ fn trip(records: &[TwccSendRecord], now: Instant) -> Option<Duration>
 #[derive(Drop)]
 pub struct TwccSendRegister {
     records: VecDeque<TwccSendRecord>,
+    // How many records at the end are in order of their numbers.
+    rising: usize,
     trip: Option<Duration>,
 }
 
 impl Model for TwccSendRegister {
     ghost use Rattle.std.specs.Prelude.{◌≤◌, length};
-    ghost use Rattle.twcc_core.specs.Sending.{Sending};
+    ghost use Rattle.twcc_core.specs.Sending.{Sending, IsRising};
 
     ghost Value = { Sending };
 
     ghost view = { λ r. record { records = r.records.items; trip = r.trip } };
 
-    ghost invariant = { λ r. length r.records.items ≤ 1000 };
+    ghost invariant = { λ r. (length r.records.items ≤ 1000) × (r.rising ≤ 1000) × IsRising r.records.items r.rising };
 }
 
 impl TwccSendRegister {
     ghost use Rattle.twcc_core.specs.Sending.{Sending, with_sent, told_by, after_applied};
 
     /// No packets.
+    #[tactic(auto, using(crate::proofs::Rising::none_rise))]
     pub fn new(alloc: Global) -> Self
         ensures { result ≡ record { records = []; trip = None } }
     {
         TwccSendRegister {
             records: VecDeque::new(alloc),
+            rising: 0,
             trip: None,
         }
     }
@@ -147,6 +152,7 @@ impl TwccSendRegister {
         ensures ok { OnOk result (self.new ≡ with_sent self.old (record { id = id; size = size; sent = now; reported = None; received = None })) }
         ensures err { OnErr result (self.new ≡ self.old) }
     {
+        let rising = self.rising_before(id.seq.into());
         self.records.push_back(TwccSendRecord {
             id,
             size,
@@ -154,6 +160,7 @@ impl TwccSendRegister {
             reported: None,
             received: None,
         })?;
+        self.rising = (rising + 1).min(1_000);
         if self.records.len() > 1_000 {
             self.records.pop_front();
         }
@@ -170,26 +177,94 @@ impl TwccSendRegister {
         }
     }
 
-    // The records that moments tell, as they tell them.
-    fn told(
+    // How many records at the end are in order of their numbers and not above one.
+    #[tactic(auto, using(crate::proofs::Rising::rises_behind, crate::proofs::Rising::rises_first, crate::proofs::Rising::falls))]
+    fn rising_before(&self, number: u64) -> usize
+        ensures most { result ≤ 1000 }
+        ensures order { (sent : TwccSendRecord) → sent.id.seq ≡ number → IsRising (self.now.records ++ sent ∷ []) (result + 1) }
+    {
+        match self.last() {
+            Some(last) if number < last => 0,
+            _ => self.rising,
+        }
+    }
+
+    // How many records stand before the first whose number is not below one.
+    fn count_below(&self, number: u64) -> usize
+        requires { IsNonDecreasingBy (λ r. r.id.seq) self.now.records }
+        ensures bound { result ≤ length self.now.records }
+        ensures below { AllWithin (λ r. r.id.seq < number) self.now.records 0 result }
+    {
+        self.records
+            .partition_point(|record| record.number() < number)
+    }
+
+    // How many records stand before the first that is so far above a number.
+    fn count_near(&self, number: u64, span: usize) -> usize
+        requires { IsNonDecreasingBy (λ r. r.id.seq) self.now.records }
+        ensures bound { result ≤ length self.now.records }
+        ensures above { AllWithin (λ r. span ≤ r.id.seq - number) self.now.records result (length self.now.records) }
+    {
+        let span = span as u64;
+        self.records
+            .partition_point(|record| record.number().saturating_sub(number) < span)
+    }
+
+    // Between which places the records of so many numbers in a row stand: found by bisection where all
+    // records are in order, else anywhere.
+    #[tactic(auto, using(crate::proofs::Within::anywhere, crate::proofs::Within::between, crate::proofs::Rising::all_rise))]
+    fn places(&self, first: u64, count: usize) -> (usize, usize)
+        ensures { IsWithin first count self.now.records result.0 result.1 }
+    {
+        if self.rising < self.records.len() {
+            return (0, self.records.len());
+        }
+        let end = self.count_near(first, count);
+        let start = self.count_below(first).min(end);
+        (start, end)
+    }
+
+    // The records between two places that moments tell, as they tell them.
+    fn told_between(
         &self,
         alloc: Global,
+        places: (usize, usize),
         first: u64,
         moments: &[Option<Instant>],
         now: Instant,
     ) -> Result<Vec<TwccSendRecord>, AllocError>
-        ensures { IfOk result (λ told. told.items ≡ filter_map (record_told first moments.now now) self.now.records) }
+        requires order { places.0 ≤ places.1 }
+        requires bound { places.1 ≤ length self.now.records }
+        ensures { IfOk result (λ told. told.items ≡ filter_map (record_told first moments.now now) (slice_range self.now.records places.0 places.1)) }
     {
+        let (start, end) = places;
         self.records
-            .iter()
+            .range(start..end)
             .filter_map(|record| record.told(first, moments, now))
             .collect(alloc)
     }
 
+    // The records that moments tell, as they tell them: they stand between two places.
+    fn told(
+        &self,
+        alloc: Global,
+        places: (usize, usize),
+        first: u64,
+        moments: &[Option<Instant>],
+        now: Instant,
+    ) -> Result<Vec<TwccSendRecord>, AllocError>
+        requires { IsWithin first (length moments.now) self.now.records places.0 places.1 }
+        ensures { IfOk result (λ told. told.items ≡ filter_map (record_told first moments.now now) self.now.records) }
+    {
+        let told = self.told_between(alloc, places, first, moments, now)?;
+        Ok(told)
+    }
+
     /// Takes in a report, whose first number is the one nearest to the last that was sent, and gives the
-    /// records of the packets that it tells and that are still held, in order of sending. Without memory
+    /// records of the packets that it tells and that are still held, in order of sending. It takes the time
+    /// of these, where numbers rose in the order of sending, else that of all that are held. Without memory
     /// nothing changes.
-    #[tactic(auto, unfolding(crate::specs::Sending::told_by, crate::specs::Sending::after_applied))]
+    #[tactic(auto, using(crate::proofs::Rising::told_rise), unfolding(crate::specs::Sending::told_by, crate::specs::Sending::after_applied))]
     pub fn apply_report(
         &mut self,
         alloc: Global,
@@ -203,7 +278,8 @@ impl TwccSendRegister {
         let first = widen16(self.last(), twcc.base_seq);
         let moments = arrivals(alloc, twcc)?;
         let moments = moments.as_slice();
-        let told = self.told(alloc, first, moments, now)?;
+        let places = self.places(first, moments.len());
+        let told = self.told(alloc, places, first, moments, now)?;
         mark(self.records.make_contiguous(), first, moments, now);
         self.trip = trip(&told, now);
         Ok(Listed::from_vec(told))

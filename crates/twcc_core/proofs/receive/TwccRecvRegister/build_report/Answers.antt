@@ -34,6 +34,6 @@ returns-clause-ok c =
     let last : ℕ = c.in-Some.base + (length c.as_slice.result.now - 1) in
     let is : last ≡ c.in-Some.base + (length rows - 1) = ap (λ (xs : List PacketStatus). c.in-Some.base + (length xs - 1)) same in
     λ past h.
-      let P : Kept → Type 0 = λ x. StandsFor (record { arrivals = x.arrivals; pending = filter (λ e. ltb last e.0) x.pending; lowest = x.lowest; reports = (x.reports + 1) % 256 }) (after_report past c.args.limit) in
-      let kept = some_after c.args.self.now past c.args.limit (c.in-Some.base, c.in-Some.moment) rows last h c.in-Some.ensures c.in_ok-rows.ensures.rows some is in
-      rw c.forget_to.ensures (subst P (sym c.self.view_is) kept)
+    let P : Kept → Type 0 = λ x. StandsFor (record { arrivals = x.arrivals; pending = filter (λ e. ltb last e.0) x.pending; lowest = x.lowest; reports = (x.reports + 1) % 256 }) (after_report past c.args.limit) in
+    let kept = some_after c.args.self.now past c.args.limit (c.in-Some.base, c.in-Some.moment) rows last h c.in-Some.ensures c.in_ok-rows.ensures.rows some is in
+    rw c.forget_to.ensures (subst P (sym c.self.view_is) kept)
