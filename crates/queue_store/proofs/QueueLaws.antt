@@ -1,16 +1,16 @@
 -- What a queue stands for after each step.
 use Rattle.std.proofs.Common.{◌≡◌, ◌≢◌, ℕ, ◌+◌, ◌-◌, ◌<◌, ◌≤◌, ◌^◌, Bool, true, false, cond, eqb, List, [], ◌∷◌, ◌++◌, refl, sym, ap, ◌∙◌, subst, arith, length, map, drop, max, min, inl, inr, ⊎_elim, ◌⊎◌, Option, Some, None}
-use Rattle.std.specs.Prelude.{◌&&◌, not, nat_lt, nat_le, unwrap_or, option_map, option_and_then, slice_set, slice_get}
+use Rattle.std.specs.Prelude.{◌&&◌, not, nat_lt, nat_le, unwrap_or, option_map, option_and_then, slice_get}
 use Rattle.std.proofs.lemmas.List.{length-set}
 use Rattle.std.proofs.lemmas.Bool.Decides.{nat_tests}
 use Rattle.std.proofs.lemmas.Bool.{cases_eq, cases_lt}
-use Rattle.resend_core.specs.ResendStore.{Event, pushed, evicted, Past, with_event, emptied, revalued, revalued_event, size_of, last_under, stored_under, stored_at, stored_position, after_pushed, next_position, evicted_at, latest_eviction, IsRising, MustStore, MayGo, greatest_by, mark_above, raised_to, is_under, IsMarked, IsAtLeast, IsPassedOver, MarksPush, MarksEviction, greatest_stored}
-use Rattle.resend_core.specs.EventLaws.{greatest_by-push, greatest_by_grows, last_by-push, under_same, under_other, under_ignored, under_evicted, rising_front, rising_order, under_stored, under_next, may_go_more, greatest_same, last_same, stored_position_same, after_same, evicted_same, at_same, rising_same, under_far, with_moment, under_all, may_go_same}
+use Rattle.resend_core.specs.ResendStore.{Event, pushed, evicted, Past, with_event, revalued, revalued_event, size_of, last_under, stored_under, stored_at, after_pushed, next_position, evicted_at, latest_eviction, IsRising, MustStore, MayGo, greatest_by, mark_above, raised_to, is_under, IsMarked, IsAtLeast, MarksPush, MarksEviction, greatest_stored}
+use Rattle.resend_core.specs.EventLaws.{greatest_by-push, greatest_by_grows, last_by-push, under_same, under_other, under_ignored, under_evicted, rising_front, rising_order, under_stored, under_next, may_go_more, greatest_same, last_same, after_same, evicted_same, at_same, rising_same, under_far, with_moment, under_all, may_go_same}
 use Rattle.queue_store.specs.declared.stamps.Stamp.{Stamp}
 use Rattle.queue_store.specs.declared.queue.QueueStore.{QueueStore}
 use Rattle.queue_store.specs.Stamps.{stamp_at, first_of, AllAbove, IsGreatest}
-use Rattle.queue_store.specs.Queue.{index_of, held, held_in, value_at, with_item, StandsFor, Puts, Drops, IsOld, IsFar, IsThat, IsDone, IsPaired, IsPushed, takes_push}
-use Rattle.queue_store.specs.HeldLaws.{eq_true, eq_false, eq_is, held_index, held_item, revalue}
+use Rattle.queue_store.specs.Queue.{index_of, held, held_in, value_at, with_item, StandsFor, Puts, Drops, IsOld, IsFar, IsThat, IsDone, IsPaired, takes_push}
+use Rattle.queue_store.specs.HeldLaws.{eq_true, eq_false, held_index, held_item, revalue}
 use Rattle.queue_store.proofs.RowLaws.{Front, front_dropped, held_from, held_some}
 
 -- ---- the mark

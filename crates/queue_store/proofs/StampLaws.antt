@@ -1,12 +1,12 @@
 -- Positions that rise stay in order.
-use Rattle.std.proofs.Common.{◌≡◌, ℕ, zero, suc, ◌+◌, ◌-◌, ◌<◌, ◌≤◌, List, [], ◌∷◌, refl, sym, ap, ◌∙◌, subst, arith, length, drop, ⊎_elim, Option, Some, None, Result, Ok, Err}
-use Rattle.std.specs.Prelude.{slice_index_or, slice_set}
+use Rattle.std.proofs.Common.{◌≡◌, ℕ, zero, suc, ◌+◌, ◌-◌, ◌<◌, ◌≤◌, List, [], ◌∷◌, sym, ap, subst, arith, length, drop, ⊎_elim, Result, Ok, Err}
+use Rattle.std.specs.Prelude.{slice_set}
 use Rattle.std.specs.Result.{OnOk, OnErr}
 use Rattle.std.specs.Option.{IfSome}
 use Rattle.std.specs.List.{insert}
 use Rattle.std.proofs.lemmas.Bool.{cases_lt}
 use Rattle.queue_store.specs.declared.stamps.Stamp.{Stamp}
-use Rattle.queue_store.specs.Stamps.{Rises, no_stamp, stamp_at, first_of, IsPlace, AllAbove, IsGreatest}
+use Rattle.queue_store.specs.Stamps.{Rises, stamp_at, first_of, IsPlace, AllAbove, IsGreatest}
 
 pub rises_weaker : (m n : ℕ) (l : List Stamp) → m ≤ n → Rises n l → Rises m l
 rises_weaker m n [] le h = tt

@@ -1,6 +1,6 @@
 -- What a queue of values by rising position stands for.
-use Rattle.std.specs.Prelude.{◌≡◌, ℕ, suc, ◌+◌, ◌-◌, ◌<◌, ◌≤◌, ◌⊎◌, ◌&&◌, ◌==◌, Bool, true, nat_lt, nat_le, not, List, [], ◌∷◌, length, slice_set, Option, Some, None, unwrap_or, option_map, option_and_then, if◌then◌else◌}
-use Rattle.resend_core.specs.ResendStore.{Past, pushed, with_event, size_of, MustStore, last_under, last_position, next_position, latest_eviction, IsRising, MayGo, mark_above, raised_to, IsMarked, is_under}
+use Rattle.std.specs.Prelude.{◌≡◌, ℕ, suc, ◌+◌, ◌-◌, ◌<◌, ◌≤◌, ◌⊎◌, ◌&&◌, ◌==◌, Bool, true, nat_lt, nat_le, not, List, [], ◌∷◌, length, slice_set, Option, Some, None, unwrap_or, option_map, if◌then◌else◌}
+use Rattle.resend_core.specs.ResendStore.{Past, pushed, with_event, size_of, MustStore, last_under, last_position, next_position, latest_eviction, IsRising, MayGo, mark_above, IsMarked, is_under}
 use Rattle.queue_store.specs.declared.stamps.Stamp.{Stamp}
 use Rattle.queue_store.specs.declared.queue.QueueStore.{QueueStore}
 

@@ -1,6 +1,5 @@
-use Rattle.std.proofs.Common.{◌≡◌, ◌∙◌, ℕ, ◌+◌, ◌-◌, ◌<◌, ◌≤◌, List, Option, Some, None, Bool, true, false, ap, sym, subst, refl, arith, length, drop, inl, ◌⊎◌}
+use Rattle.std.proofs.Common.{◌≡◌, ◌∙◌, ℕ, ◌+◌, List, true, false, ap, sym, arith, length}
 use Rattle.queue_store.specs.declared.stamps.Stamp.{Stamp}
-use Rattle.queue_store.specs.declared.queue.QueueStore.{QueueStore}
 use Rattle.std.specs.Prelude.{slice_set}
 use Rattle.std.specs.Result.{is_err}
 use Rattle.std.specs.List.{insert, remove}

@@ -1,6 +1,5 @@
-use Rattle.std.proofs.Common.{◌≡◌, ◌∙◌, ℕ, ◌+◌, ◌-◌, ◌<◌, ◌≤◌, List, Option, Some, None, Bool, true, false, ap, sym, subst, refl, arith, length, drop}
+use Rattle.std.proofs.Common.{ℕ, ◌<◌, List, Option, ap, sym, subst, length}
 use Rattle.queue_store.specs.declared.stamps.Stamp.{Stamp}
-use Rattle.queue_store.specs.declared.queue.QueueStore.{QueueStore}
 use Rattle.queue_store.proofs.RowLaws.{front_dropped, drop_shorter}
 use Rattle.queue_store.proofs.QueueLaws.{drops_one}
 use Rattle.queue_store.proofs.queue.QueueStore.drop_lowest.Goals as goal

@@ -1,5 +1,4 @@
-use Rattle.std.proofs.Common.{◌≡◌, ◌∙◌, ℕ, ◌+◌, ◌-◌, ◌<◌, ◌≤◌, List, Option, Some, None, Bool, true, false, ap, sym, subst, refl, arith, length, drop}
-use Rattle.queue_store.specs.declared.stamps.Stamp.{Stamp}
+use Rattle.std.proofs.Common.{◌≡◌, ◌∙◌, ap, sym, arith}
 use Rattle.queue_store.specs.declared.queue.QueueStore.{QueueStore}
 use Rattle.queue_store.specs.Queue.{IsOld}
 use Rattle.queue_store.proofs.QueueLaws.{drops_then, done_is}

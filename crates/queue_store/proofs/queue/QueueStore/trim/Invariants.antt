@@ -1,5 +1,5 @@
 use Rattle.std.proofs.Common.{length}
-use Rattle.queue_store.specs.Queue.{Drops, IsOld, IsFar, IsPaired}
+use Rattle.queue_store.specs.Queue.{Drops, IsFar, IsPaired}
 use Rattle.queue_store.proofs.queue.QueueStore.trim.Given as goal
 
 abbrev pub invariant-loop-lowest : goal.invariant-loop-lowest

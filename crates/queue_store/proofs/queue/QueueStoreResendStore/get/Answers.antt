@@ -1,9 +1,6 @@
-use Rattle.std.proofs.Common.{◌≡◌, ◌∙◌, ℕ, ◌+◌, ◌-◌, ◌<◌, ◌≤◌, List, Option, Some, None, Bool, true, false, ap, sym, subst, refl, arith, length, drop}
-use Rattle.queue_store.specs.declared.stamps.Stamp.{Stamp}
-use Rattle.queue_store.specs.declared.queue.QueueStore.{QueueStore}
+use Rattle.std.proofs.Common.{◌∙◌, Option, ap, sym, subst}
 use Rattle.std.specs.Option.{option_copied}
 use Rattle.resend_core.specs.ResendStore.{HeldAs}
-use Rattle.queue_store.specs.Queue.{value_at}
 use Rattle.queue_store.specs.HeldLaws.{held_as}
 use Rattle.queue_store.proofs.QueueLaws.{value_found, value_missed}
 use Rattle.queue_store.proofs.queue.QueueStoreResendStore.get.Goals as goal

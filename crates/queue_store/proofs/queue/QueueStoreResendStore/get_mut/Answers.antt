@@ -1,10 +1,8 @@
-use Rattle.std.proofs.Common.{◌≡◌, ◌∙◌, ℕ, ◌+◌, ◌-◌, ◌<◌, ◌≤◌, List, Option, Some, None, Bool, true, false, ap, sym, subst, refl, arith, length, drop, inl, ◌⊎◌}
-use Rattle.queue_store.specs.declared.stamps.Stamp.{Stamp}
-use Rattle.queue_store.specs.declared.queue.QueueStore.{QueueStore}
+use Rattle.std.proofs.Common.{◌≡◌, ◌∙◌, ℕ, Option, Some, ap, sym, subst, refl}
 use borrow.Follows.Closed.{read_of}
-use Rattle.std.specs.Option.{option_copied_mut, ghost_name_of}
-use Rattle.resend_core.specs.ResendStore.{Past, revalued}
-use Rattle.queue_store.specs.Queue.{index_of, StandsFor, value_at, with_item, with_value}
+use Rattle.std.specs.Option.{ghost_name_of}
+use Rattle.resend_core.specs.ResendStore.{revalued}
+use Rattle.queue_store.specs.Queue.{index_of, StandsFor, with_item, with_value}
 use Rattle.queue_store.proofs.RowLaws.{some_when}
 use Rattle.queue_store.proofs.QueueLaws.{value_found, value_missed, revalued_stands}
 use Rattle.queue_store.proofs.queue.QueueStoreResendStore.get_mut.Goals as goal

@@ -1,8 +1,5 @@
-use Rattle.std.proofs.Common.{◌≡◌, ◌∙◌, ℕ, ◌+◌, ◌-◌, ◌<◌, ◌≤◌, List, Option, Some, None, Bool, true, false, ap, sym, subst, refl, arith, length, drop, inl, ◌⊎◌}
-use Rattle.queue_store.specs.declared.stamps.Stamp.{Stamp}
-use Rattle.queue_store.specs.declared.queue.QueueStore.{QueueStore}
-use Rattle.resend_core.specs.ResendStore.{Past, with_event, evicted}
-use Rattle.queue_store.specs.Queue.{StandsFor, IsOld}
+use Rattle.std.proofs.Common.{arith}
+use Rattle.queue_store.specs.Queue.{IsOld}
 use Rattle.queue_store.proofs.QueueLaws.{evicted_stands, late_stands, evict_marks}
 use Rattle.queue_store.proofs.queue.QueueStoreResendStore.maybe_evict.Goals as goal
 

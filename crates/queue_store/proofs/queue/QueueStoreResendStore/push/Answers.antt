@@ -1,6 +1,4 @@
-use Rattle.std.proofs.Common.{◌≡◌, ◌∙◌, ℕ, ◌+◌, ◌-◌, ◌<◌, ◌≤◌, List, Option, Some, None, Bool, true, false, ap, sym, subst, refl, arith, length, drop, inl, ◌⊎◌}
-use Rattle.queue_store.specs.declared.stamps.Stamp.{Stamp}
-use Rattle.queue_store.specs.declared.queue.QueueStore.{QueueStore}
+use Rattle.std.proofs.Common.{◌≡◌, ◌∙◌, true, false, sym, refl}
 use Rattle.resend_core.specs.ResendStore.{pushed, with_event}
 use Rattle.queue_store.specs.Queue.{StandsFor, Puts, Drops, IsFar}
 use Rattle.queue_store.proofs.QueueLaws.{must_take, taken_timely, ignored_stands, put_stands, drops_stands, mark_low, far_goes, push_marks}

@@ -1,4 +1,4 @@
-use Rattle.std.proofs.Common.{◌≡◌, ◌∙◌, List, Option, sym, subst, drop, arith}
+use Rattle.std.proofs.Common.{◌≡◌, List, Option, sym, subst, drop, arith}
 use Rattle.std.proofs.lemmas.Grind.{common_steps}
 use Rattle.std.specs.Option.{IfSome}
 use Rattle.queue_store.specs.declared.stamps.Stamp.{Stamp}

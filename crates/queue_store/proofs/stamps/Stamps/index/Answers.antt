@@ -1,4 +1,4 @@
-use Rattle.std.proofs.Common.{◌≡◌, ◌∙◌, List, Option, Some, None, ℕ, Result, Ok, Err, refl, sym, subst}
+use Rattle.std.proofs.Common.{◌≡◌, ◌∙◌, List, ℕ, Result, Ok, Err, sym}
 use Rattle.std.specs.Result.{IfOk, IfErr, result_ok}
 use Rattle.queue_store.specs.declared.stamps.Stamp.{Stamp}
 use Rattle.queue_store.specs.Stamps.{IsFound, IsPlace}

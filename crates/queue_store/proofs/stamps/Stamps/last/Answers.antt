@@ -1,7 +1,7 @@
-use Rattle.std.proofs.Common.{◌≡◌, ◌<◌, ◌+◌, ◌-◌, ◌/◌, ℕ, List, ap, sym, ◌∙◌, subst, arith, rules, length, get_or}
+use Rattle.std.proofs.Common.{◌≡◌, ◌<◌, ◌-◌, ℕ, List, ap, sym, ◌∙◌, subst, arith, length, get_or}
 use Rattle.std.proofs.lemmas.List.{get_or_default}
 use Rattle.queue_store.specs.declared.stamps.Stamp.{Stamp}
-use Rattle.queue_store.specs.Stamps.{Rises, IsPlace, IsGreatest, stamp_at, no_stamp}
+use Rattle.queue_store.specs.Stamps.{IsGreatest, no_stamp}
 use Rattle.queue_store.proofs.StampLaws.{last_is}
 use Rattle.queue_store.proofs.stamps.Stamps.last.Goals as goal
 

@@ -1,7 +1,6 @@
-use Rattle.std.proofs.Common.{◌≡◌, ◌<◌, ◌+◌, ◌-◌, ◌/◌, ℕ, List, ap, sym, ◌∙◌, subst, arith, rules, length}
-use Rattle.std.proofs.lemmas.List.{get_or_default}
+use Rattle.std.proofs.Common.{List, sym, subst}
 use Rattle.queue_store.specs.declared.stamps.Stamp.{Stamp}
-use Rattle.queue_store.specs.Stamps.{Rises, IsPlace, IsGreatest, stamp_at, no_stamp}
+use Rattle.queue_store.specs.Stamps.{Rises}
 use Rattle.queue_store.proofs.StampLaws.{rises_drop}
 use Rattle.queue_store.proofs.stamps.Stamps.pop_first.Goals as goal
 

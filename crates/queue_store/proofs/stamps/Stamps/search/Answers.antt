@@ -1,8 +1,8 @@
-use Rattle.std.proofs.Common.{◌≡◌, ◌<◌, ◌+◌, ◌-◌, ◌/◌, ℕ, List, ap, sym, ◌∙◌, subst, arith, length, Less, Equal, Greater}
+use Rattle.std.proofs.Common.{◌≡◌, ◌<◌, ◌+◌, ◌-◌, ◌/◌, List, sym, ◌∙◌, subst, arith, length, Less, Equal, Greater}
 use Rattle.std.proofs.lemmas.List.{get_or_default}
 use Rattle.std.proofs.lemmas.Cmp.{ranked}
 use Rattle.queue_store.specs.declared.stamps.Stamp.{Stamp}
-use Rattle.queue_store.specs.Stamps.{Rises, IsFound, stamp_at, no_stamp}
+use Rattle.queue_store.specs.Stamps.{IsFound, stamp_at, no_stamp}
 use Rattle.queue_store.proofs.StampLaws.{goes_up, goes_down, rises_order}
 use Rattle.queue_store.proofs.stamps.Stamps.search.Goals as goal
 
