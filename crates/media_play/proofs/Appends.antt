@@ -1,5 +1,5 @@
 -- What one step more leaves of the queues, of the taken numbers, of the writes, of the datagrams and of the last time.
-use Rattle.std.proofs.Common.{◌≡◌, inl, inr, ℕ, Bool, true, false, cond, not, ◌&&◌, List, [], ◌∷◌, ◌++◌, map, refl, sym, ap, ◌∙◌, subst}
+use Rattle.std.proofs.Common.{◌≡◌, inl, inr, ℕ, Bool, true, false, cond, not, ◌&&◌, List, [], ◌∷◌, ◌++◌, refl, sym, ap, ◌∙◌, subst}
 use Rattle.std.specs.Prelude.{◌==◌}
 use Rattle.std.specs.List.{flat_map, list_any, filter}
 use Rattle.std.proofs.lemmas.List.{append-nil}
@@ -8,14 +8,10 @@ use Rattle.std.proofs.lemmas.List.Elements.{filter-append}
 use Rattle.std.proofs.lemmas.Bool.{and_parts, eqb-true, eq-eqb, false≢true, false_from_ne_true, not_from_true, not_from_false}
 use Rattle.rtp_wire.specs.declared.header.RtpHeader.{RtpHeader}
 use Rattle.media_model.specs.declared.entry.Side.{Side}
-use Rattle.rtp_base.specs.declared.kind.Kind.{Kind}
-use Rattle.rtp_base.specs.declared.kind.Kind.TheVariants.{Rtp}
 use Rattle.media_model.specs.declared.entry.Write.{Write as Writing}
 use Rattle.media_model.specs.declared.entry.Got.{Got as GotEntry}
-use Rattle.media_model.specs.declared.entry.Sealed.{Sealed as SealedEntry}
-use Rattle.media_model.specs.declared.entry.Opened.{Opened as OpenedEntry}
 use Rattle.media_model.specs.declared.entry.Entry.{Entry}
-use Rattle.media_model.specs.declared.entry.Entry.TheVariants.{Wrote, Ticked, Got, Sealed, Opened}
+use Rattle.media_model.specs.declared.entry.Entry.TheVariants.{Wrote, Ticked, Got, Opened}
 use Rattle.media_model.specs.declared.step.Step.{Step}
 use Rattle.media_model.specs.declared.setup.Setup.{Setup}
 use Rattle.media_model.specs.Sides.{same_side}

@@ -19,7 +19,7 @@ use Rattle.media_model.specs.declared.entry.Side.{Side}
 use Rattle.media_model.specs.declared.entry.Write.{Write as Writing}
 use Rattle.media_model.specs.declared.entry.Got.{Got as GotEntry}
 use Rattle.media_model.specs.declared.entry.Entry.{Entry}
-use Rattle.media_model.specs.declared.entry.Entry.TheVariants.{Wrote, Ticked, Got}
+use Rattle.media_model.specs.declared.entry.Entry.TheVariants.{Wrote, Ticked}
 use Rattle.media_model.specs.declared.step.Step.{Step}
 use Rattle.media_model.specs.declared.setup.Setup.{Setup}
 use Rattle.media_model.specs.Sides.{same_side, peer_of}
@@ -34,7 +34,7 @@ use Rattle.media_play.specs.Listing.{IsIn, NoRepeat}
 use Rattle.media_play.specs.Packets.{WaitingPacket, waiting_of}
 use Rattle.media_play.specs.Rules.{has, write_fault}
 use Rattle.media_play.specs.SetupFacts.{IsSound}
-use Rattle.media_play.specs.Opening.{Sealing, yields, is_known, fresh_number}
+use Rattle.media_play.specs.Opening.{Sealing, is_known, fresh_number}
 use Rattle.media_play.specs.Play.{Played, to_seal, Seals}
 use Rattle.media_play.proofs.Lists.{IsIn-map, tested, any-from_in, in-from_any, map-flat_map}
 use Rattle.media_play.proofs.Stands.{cond_none, writes_on-wrote, writes_on-ticked}

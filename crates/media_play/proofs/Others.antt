@@ -1,5 +1,5 @@
 -- What a run knows after one step more.
-use Rattle.std.proofs.Common.{◌≡◌, ℕ, ◌<◌, ◌^◌, false, not, List, [], ◌∷◌, ◌++◌, Option, Some, None, Result, Ok, Err, IfErr, refl, sym, ap, ◌∙◌, subst}
+use Rattle.std.proofs.Common.{◌≡◌, ℕ, ◌<◌, ◌^◌, false, not, List, [], ◌∷◌, ◌++◌, Option, None, Result, Ok, Err, IfErr, refl, sym, ap, ◌∙◌, subst}
 use Rattle.std.specs.Prelude.{filter}
 use Rattle.std.specs.Result.{IsErrAnd}
 use Rattle.srtp_core.specs.Cipher.{CipherMeaning}
@@ -14,7 +14,7 @@ use Rattle.media_model.specs.declared.setup.Setup.{Setup}
 use Rattle.media_model.specs.Sides.{same_side}
 use Rattle.media_play.specs.declared.fault.StepFault.{StepFault}
 use Rattle.media_play.specs.declared.fault.StepError.{StepError}
-use Rattle.media_model.specs.Entries.{write_on, writes_on, sealed_numbers, is_sealed, queued, taken, last_time}
+use Rattle.media_model.specs.Entries.{write_on, writes_on, sealed_numbers, is_sealed, queued, taken}
 use Rattle.media_play.specs.Errors.{IsCauseAt}
 use Rattle.media_play.specs.Play.{wrote}
 use Rattle.media_play.specs.Rules.{or_else, time_fault, write_fault}

@@ -9,7 +9,6 @@ use Rattle.media_model.specs.declared.transcript.Transcript.{Transcript}
 use Rattle.media_play.specs.declared.fault.RunError.{RunError}
 use Rattle.media_play.specs.declared.fault.RunFault.{RunFault}
 use Rattle.media_play.specs.declared.fault.RunError.TheVariants as error
-use Rattle.media_play.specs.declared.fault.StepFault.{StepFault}
 use Rattle.media_play.specs.declared.fault.StepError.{StepError}
 use Rattle.media_play.specs.declared.fault.StepError.TheVariants.{Memory, Rule}
 use Rattle.media_play.specs.Errors.{IsCauseAt}

@@ -17,7 +17,7 @@ use Rattle.media_model.specs.declared.entry.Packet.{Packet}
 use Rattle.media_model.specs.declared.entry.Got.{Got as GotEntry}
 use Rattle.media_model.specs.declared.entry.Sealed.{Sealed as SealedEntry}
 use Rattle.media_model.specs.declared.entry.Entry.{Entry}
-use Rattle.media_model.specs.declared.entry.Entry.TheVariants.{Wrote, Ticked, Got, Sealed, Opened, Yielded}
+use Rattle.media_model.specs.declared.entry.Entry.TheVariants.{Ticked, Got, Sealed, Opened, Yielded}
 use Rattle.media_model.specs.declared.step.Step.{Step}
 use Rattle.media_model.specs.declared.setup.Setup.{Setup}
 use Rattle.media_model.specs.Sides.{peer_of}

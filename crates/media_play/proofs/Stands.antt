@@ -6,11 +6,9 @@ use Rattle.std.proofs.lemmas.List.{append-nil, map-append}
 use Rattle.std.proofs.lemmas.List.Concat.{flat_map-append}
 use Rattle.std.proofs.lemmas.Bool.{and_parts, eqb-true, eq-eqb, false≢true, not-false, leb-false, ltb-false}
 use Rattle.media_model.specs.declared.entry.Side.{Side}
-use Rattle.rtp_base.specs.declared.kind.Kind.{Kind}
 use Rattle.media_model.specs.declared.entry.Write.{Write as Writing}
 use Rattle.media_model.specs.declared.entry.Got.{Got as GotEntry}
 use Rattle.media_model.specs.declared.entry.Sealed.{Sealed as SealedEntry}
-use Rattle.media_model.specs.declared.entry.Opened.{Opened as OpenedEntry}
 use Rattle.media_model.specs.declared.entry.Entry.{Entry}
 use Rattle.media_model.specs.declared.entry.Entry.TheVariants.{Wrote, Ticked, Got, Sealed}
 use Rattle.media_model.specs.declared.step.Step.{Step}
@@ -25,7 +23,7 @@ use Rattle.media_play.specs.Opening.{Sealing, Receives, opens, stays}
 use Rattle.media_play.specs.Rules.{has, or_else, time_fault, write_fault, step_fault}
 use Rattle.media_play.specs.Play.{IsSealOfWrite, Seals, Outcome, wrote, ticked, got, Played, start, turn}
 use Rattle.media_play.proofs.Lists.{IsIn-left, IsIn-append, IsIn-from_map, tested, any-from_in, NoRepeat-push}
-use Rattle.media_play.proofs.Readings.{same_side-true, same_reading, seals_none, received_none, written_on, seals_from, to_seal_in}
+use Rattle.media_play.proofs.Readings.{same_side-true, same_reading, seals_none, received_none, seals_from, to_seal_in}
 
 -- a write that breaks no rule
 pub record IsWriting (setup : Setup) (side : Side) (w : Writing) : Type 0 where

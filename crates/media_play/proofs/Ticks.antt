@@ -1,5 +1,5 @@
 -- What a session seals at a tick are the seals of the writes that wait.
-use Rattle.std.proofs.Common.{◌≡◌, inl, inr, ℕ, ◌<◌, ◌^◌, List, [], ◌∷◌, map, Some, refl, sym, ap, ◌∙◌}
+use Rattle.std.proofs.Common.{◌≡◌, inl, inr, ℕ, List, [], ◌∷◌, map, refl, sym, ap, ◌∙◌}
 use Rattle.rtp_wire.specs.HeaderLaws.{PlainIsReadAgain, PlainIsAsLong}
 use Rattle.srtp_core.specs.Cipher.{CipherMeaning}
 use Rattle.srtp_core.specs.Contexts.{SrtpState, new_state}
@@ -14,7 +14,7 @@ use Rattle.media_model.specs.declared.step.Step.{Step}
 use Rattle.media_model.specs.Setup.{material_of}
 use Rattle.media_play.specs.Listing.{IsIn}
 use Rattle.media_play.specs.Packets.{FitsHeader, fixed_len, waiting_of, seal_in, sealed_packet, plain_of}
-use Rattle.media_play.specs.Plain.{extensions_of, read_header, len_of, Carries}
+use Rattle.media_play.specs.Plain.{len_of}
 use Rattle.media_play.specs.Play.{IsSealOfWrite, AreSealsOf, no_seals, seal_of, to_seal, Seals, Played}
 use Rattle.media_play.specs.Sessions.{is_left, sealing_of}
 use Rattle.media_play.specs.SetupFacts.{IsSound}

@@ -1,10 +1,10 @@
 -- What headers and seals give to the laws of a run, and that a write as it waits is carried.
-use Rattle.std.proofs.Common.{◌≡◌, ℕ, zero, suc, ◌+◌, ◌<◌, ◌≤◌, List, [], ◌++◌, length, take, drop, replicate, Some, refl, sym, ap, ◌∙◌, subst, arith}
+use Rattle.std.proofs.Common.{◌≡◌, ℕ, zero, suc, ◌+◌, ◌≤◌, List, [], length, take, replicate, Some, refl, sym, ap, ◌∙◌, subst, arith}
 use Rattle.std.proofs.lemmas.List.{length-append, drop_at}
 use Rattle.rtp_wire.specs.declared.header.RtpHeader.{RtpHeader}
 use Rattle.rtp_wire.specs.BytesLaws.{AreWords}
 use Rattle.rtp_wire.specs.Extensions.{no_extensions, written_elements, written_data, extension_bytes}
-use Rattle.rtp_wire.specs.Header.{header_of, header_bytes}
+use Rattle.rtp_wire.specs.Header.{header_bytes}
 use Rattle.rtp_wire.specs.HeaderLaws.{ReadsOwnBytes, PlainIsReadAgain, PlainIsAsLong, HasFixedBytes, IsPlainHeader}
 use Rattle.srtp_core.specs.Cipher.{CipherMeaning}
 use Rattle.srtp_core.specs.Keys.{session_keys}

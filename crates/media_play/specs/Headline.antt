@@ -1,5 +1,5 @@
 -- What holds of the entries of a run.
-use Rattle.std.specs.Prelude.{◌≡◌, ◌↔◌, ◌<◌, ◌^◌, ◌%◌, ℕ, false, true, List, [], ◌∷◌, ◌++◌, Some}
+use Rattle.std.specs.Prelude.{◌≡◌, ◌↔◌, ◌<◌, ◌^◌, ◌%◌, false, true, List, [], ◌∷◌, ◌++◌, Some}
 use Rattle.rtp_wire.specs.declared.header.RtpHeader.{RtpHeader}
 use Rattle.rtp_wire.specs.Widen.{widen16}
 use Rattle.media_model.specs.declared.entry.Side.{Side}

@@ -1,5 +1,5 @@
 -- Packets on their way through a session.
-use Rattle.std.specs.Prelude.{ℕ, ◌%◌, ◌<◌, ◌^◌, false, List, ◌++◌, length, replicate}
+use Rattle.std.specs.Prelude.{ℕ, ◌%◌, ◌<◌, ◌^◌, false, List, ◌++◌, replicate}
 use Rattle.rtp_wire.specs.declared.header.RtpHeader.{RtpHeader}
 use Rattle.rtp_wire.specs.Extensions.{no_extensions, no_values}
 use Rattle.rtp_wire.specs.Header.{header_bytes}

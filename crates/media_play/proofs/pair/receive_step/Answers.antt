@@ -2,7 +2,7 @@ use Rattle.std.proofs.Common.{List, [], ◌∷◌, ◌++◌, ap, sym, subst, ref
 use Rattle.media_model.specs.declared.entry.Entry.{Entry}
 use Rattle.media_model.specs.declared.entry.Entry.TheVariants.{Got}
 use Rattle.media_play.specs.Opening.{got_as}
-use Rattle.media_play.specs.Sessions.{sealing_of, received_entries, Ready}
+use Rattle.media_play.specs.Sessions.{received_entries, Ready}
 use Rattle.media_play.proofs.pair.receive_step.Goals as goal
 
 pub returns-clause-ready : goal.returns-clause-ready

@@ -1,7 +1,6 @@
 use Rattle.std.proofs.Common.{rules, List, [], ◌∷◌, ◌++◌, map, ap, sym, subst, ◌∙◌}
 use Rattle.std.proofs.lemmas.List.{append-nil}
 use Rattle.std.proofs.lemmas.Result.{on_ok_weaker}
-use Rattle.srtp_core.specs.Contexts.{SrtpState}
 use Rattle.media_model.specs.declared.entry.Entry.{Entry}
 use Rattle.media_model.specs.declared.entry.Entry.TheVariants.{Ticked, Sealed}
 use Rattle.media_play.specs.Knowing.{Knows}
