@@ -261,9 +261,9 @@ impl TwccSendRegister {
     }
 
     /// Takes in a report, whose first number is the one nearest to the last that was sent, and gives the
-    /// records of the packets that it tells and that are still held, in order of sending. It takes the time
-    /// of these, where numbers rose in the order of sending, else that of all that are held. Without memory
-    /// nothing changes.
+    /// records of the packets that it tells and that are still held, in order of sending. It finds these by
+    /// halving where numbers rose in the order of sending, and goes over all that are held, at most 1,000,
+    /// to note what it tells of them. Without memory nothing changes.
     #[tactic(auto, using(crate::proofs::Rising::told_rise), unfolding(crate::specs::Sending::told_by, crate::specs::Sending::after_applied))]
     pub fn apply_report(
         &mut self,
