@@ -17,7 +17,7 @@ use Rattle.media_play.specs.Opening.{Sealing, Receives, opens, stays, opened_as,
 use Rattle.media_play.specs.Play.{AreSealsOf, no_seals, seal_of, Outcome, wrote, ticked, got, Played, start, turn}
 use Rattle.media_play.specs.SetupFacts.{IsSound}
 use Rattle.media_play.specs.WireLaws.{WireLaws}
-use Rattle.media_play.specs.Headline.{IsRightSeal, SealsAreRight, NoNonceTwice, IsSentWrite, SendsWrites, NoPacketTwice, IsOwedTo, HoldsSoFar}
+use Rattle.media_play.specs.Headline.{IsRightSeal, SealsAreRight, NoNonceTwice, IsSentWrite, SendsWrites, NoPacketTwice, IsOwedTo, HoldsOfFront}
 use Rattle.media_play.proofs.Genuineness.{HasSeal, has_seals}
 use Rattle.media_play.proofs.Lists.{IsIn-left, tested, EachFrom-append, EachFrom-left, EachFrom-right}
 use Rattle.media_play.proofs.Stands.{Stands, stands}
@@ -134,12 +134,12 @@ module _ {seal : Sealing} {setup : Setup} (wire : WireLaws seal setup) where
             (front_owed (stands h) o m.0 rest m.2 (EachFrom-right HasSeal [] entries m.0 g)))
       ]
 
-pub holds_so_far : {seal : Sealing} {setup : Setup} {steps : List Step} (front rest : List Entry) → WireLaws seal setup → IsSound setup → Played seal setup steps (front ++ rest)
-    → HoldsSoFar seal setup front
-holds_so_far {seal} {setup} front rest wire sound h = record {
-  sends_writes = sends_writes-front setup front rest (sends_writes sound h);
-  seals_are_right = seals_are_right-front seal setup front rest (seals_are_right h);
-  no_nonce_twice = no_nonce_twice-front front rest (no_nonce_twice sound h);
-  no_packet_twice = no_packet_twice-front front rest (no_packet_twice h);
-  yields_writes = λ genuine. yields_owed-front wire h front rest refl (has_seals front genuine);
+pub holds_of_front : {seal : Sealing} {setup : Setup} {steps : List Step} (front rest : List Entry) → WireLaws seal setup → IsSound setup
+    → Played seal setup steps (front ++ rest) → HoldsOfFront seal setup front
+holds_of_front {seal} {setup} front rest wire sound h = record {
+  seals = seals_are_right-front seal setup front rest (seals_are_right h);
+  nonces = no_nonce_twice-front front rest (no_nonce_twice sound h);
+  sendings = sends_writes-front setup front rest (sends_writes sound h);
+  yields = λ genuine. yields_owed-front wire h front rest refl (has_seals front genuine);
+  once = no_packet_twice-front front rest (no_packet_twice h);
 }

@@ -17,8 +17,8 @@ use Rattle.media_model.specs.Entries.{taken, last_time}
 use Rattle.media_play.specs.Opening.{Sealing, Receives, opens, stays}
 use Rattle.media_play.specs.Play.{Seals, Outcome, ticked, got, Brings, IsTick, IsArrival, Played, turn}
 use Rattle.media_play.specs.Rules.{or_else, time_fault, step_fault}
-use Rattle.media_play.specs.Running.{RunState, Running}
-use Rattle.media_play.specs.Sessions.{SessionState, Ready}
+use Rattle.media_play.specs.Running.{RunState, IsRunOf, PlaysOn}
+use Rattle.media_play.specs.Sessions.{SessionState, Ready, sealing_of}
 use Rattle.media_play.proofs.Appends.{queued-ticked_other, queued-got, taken-ticked, taken-stays, taken-opens, last_time-ticked, last_time-got}
 use Rattle.media_play.proofs.Receiving.{knows_still}
 use Rattle.media_play.proofs.Stands.{writes_on-ticked, writes_on-got}
@@ -53,69 +53,77 @@ ready_got_other cipher {seal} {setup} s session entries came brought other recei
 }
 
 -- a run after one step more
-pub runs_on : (cipher : CipherMeaning) (seal : Sealing) (setup : Setup) (run : RunState) (steps : List Step) → Running cipher seal setup run steps
-    → (step : Step) (new : List Entry) (a b : SessionState) (log : List Entry) (time : ℕ) → step_fault setup run.log step ≡ None → Outcome seal setup run.log step new
+pub runs_on : (cipher : CipherMeaning) (setup : Setup) (run : RunState) (steps : List Step) → IsRunOf cipher setup steps run
+    → (step : Step) (new : List Entry) (a b : SessionState) (log : List Entry) (time : ℕ) → step_fault setup run.log step ≡ None
+    → Outcome (sealing_of cipher setup) setup run.log step new
     → Ready cipher setup A a (run.log ++ new) → Ready cipher setup B b (run.log ++ new) → last_time (run.log ++ new) ≡ time → log ≡ run.log ++ new
-    → Running cipher seal setup (record { a = a; b = b; log = log; latest = time }) (steps ++ step ∷ [])
-runs_on cipher seal setup run steps h step new a b log time fault outcome a_knows b_knows at is = record {
-  a_knows = subst (Ready cipher setup A a) (sym is) a_knows;
-  b_knows = subst (Ready cipher setup B b) (sym is) b_knows;
-  time = sym at ∙ ap last_time (sym is);
-  played = subst (Played seal setup (steps ++ step ∷ [])) (sym is) (turn h.played step new fault outcome);
+    → PlaysOn cipher setup steps run step (record { a = a; b = b; log = log; latest = time })
+runs_on cipher setup run steps h step new a b log time fault outcome a_knows b_knows at is = record {
+  valid = fault;
+  is_run = record {
+    valid = h.valid;
+    played = subst (Played (sealing_of cipher setup) setup (steps ++ step ∷ [])) (sym is) (turn h.played step new fault outcome);
+    a_knows = subst (Ready cipher setup A a) (sym is) a_knows;
+    b_knows = subst (Ready cipher setup B b) (sym is) b_knows;
+    time = sym at ∙ ap last_time (sym is);
+  };
+  brought = new;
+  outcome = outcome;
+  added = is;
 }
 
 pub no_fault : (a b : Option StepFault) → a ≡ None → b ≡ None → or_else a b ≡ None
 no_fault a b e f = ap (λ x. or_else x b) e ∙ f
 
-module _ (cipher : CipherMeaning) (seal : Sealing) (setup : Setup) (run : RunState) (steps : List Step) (h : Running cipher seal setup run steps)
+module _ (cipher : CipherMeaning) (setup : Setup) (run : RunState) (steps : List Step) (h : IsRunOf cipher setup steps run)
     (side : Side) (time : ℕ) (fault : time_fault run.log time ≡ None) (log : List Entry) where
   pub ticks_a : side ≡ A → (a : SessionState)
-      → (Ready cipher setup side run.a run.log → IsTick seal setup side time run.log log × Ready cipher setup side a log)
-      → Running cipher seal setup (record { a = a; b = run.b; log = log; latest = time }) (steps ++ Tick side time ∷ [])
+      → (Ready cipher setup side run.a run.log → IsTick (sealing_of cipher setup) setup side time run.log log × Ready cipher setup side a log)
+      → PlaysOn cipher setup steps run (Tick side time) (record { a = a; b = run.b; log = log; latest = time })
   ticks_a is a brings =
       let after = brings (subst (λ s. Ready cipher setup s run.a run.log) (sym is) h.a_knows) in
       let d = after.0 in
       let new = Ticked side time ∷ d.sealed in
       let mine : Ready cipher setup A a (run.log ++ new) = subst (Ready cipher setup A a) d.added (subst (λ s. Ready cipher setup s a log) is after.1) in
       let others : Ready cipher setup B run.b (run.log ++ new) = ready_ticked_other cipher B side run.b run.log time d.sealed (ap (same_side B) is) d.seals h.b_knows in
-      runs_on cipher seal setup run steps h (Tick side time) new a run.b log time fault (ticked side time d.sealed d.seals) mine others
+      runs_on cipher setup run steps h (Tick side time) new a run.b log time fault (ticked side time d.sealed d.seals) mine others
       (last_time-ticked run.log side time d.sealed d.seals) d.added
 
   pub ticks_b : side ≡ B → (b : SessionState)
-      → (Ready cipher setup side run.b run.log → IsTick seal setup side time run.log log × Ready cipher setup side b log)
-      → Running cipher seal setup (record { a = run.a; b = b; log = log; latest = time }) (steps ++ Tick side time ∷ [])
+      → (Ready cipher setup side run.b run.log → IsTick (sealing_of cipher setup) setup side time run.log log × Ready cipher setup side b log)
+      → PlaysOn cipher setup steps run (Tick side time) (record { a = run.a; b = b; log = log; latest = time })
   ticks_b is b brings =
       let after = brings (subst (λ s. Ready cipher setup s run.b run.log) (sym is) h.b_knows) in
       let d = after.0 in
       let new = Ticked side time ∷ d.sealed in
       let mine : Ready cipher setup B b (run.log ++ new) = subst (Ready cipher setup B b) d.added (subst (λ s. Ready cipher setup s b log) is after.1) in
       let others : Ready cipher setup A run.a (run.log ++ new) = ready_ticked_other cipher A side run.a run.log time d.sealed (ap (same_side A) is) d.seals h.a_knows in
-      runs_on cipher seal setup run steps h (Tick side time) new run.a b log time fault (ticked side time d.sealed d.seals) others mine
+      runs_on cipher setup run steps h (Tick side time) new run.a b log time fault (ticked side time d.sealed d.seals) others mine
       (last_time-ticked run.log side time d.sealed d.seals) d.added
 
 -- a run after a datagram that came to a side
-module _ (cipher : CipherMeaning) (seal : Sealing) (setup : Setup) (run : RunState) (steps : List Step) (h : Running cipher seal setup run steps)
+module _ (cipher : CipherMeaning) (setup : Setup) (run : RunState) (steps : List Step) (h : IsRunOf cipher setup steps run)
     (came : GotEntry) (log : List Entry) (step : Step) (brings : Brings run.log came step) (fault : step_fault setup run.log step ≡ None) where
   pub arrives_a : came.side ≡ A → (a : SessionState)
-      → (Ready cipher setup came.side run.a run.log → IsArrival seal setup came run.log log × Ready cipher setup came.side a log)
-      → Running cipher seal setup (record { a = a; b = run.b; log = log; latest = came.time }) (steps ++ step ∷ [])
+      → (Ready cipher setup came.side run.a run.log → IsArrival (sealing_of cipher setup) setup came run.log log × Ready cipher setup came.side a log)
+      → PlaysOn cipher setup steps run step (record { a = a; b = run.b; log = log; latest = came.time })
   arrives_a is a comes =
       let after = comes (subst (λ s. Ready cipher setup s run.a run.log) (sym is) h.a_knows) in
       let d = after.0 in
       let new = Got came ∷ d.brought in
       let mine : Ready cipher setup A a (run.log ++ new) = subst (Ready cipher setup A a) d.added (subst (λ s. Ready cipher setup s a log) is after.1) in
       let others : Ready cipher setup B run.b (run.log ++ new) = ready_got_other cipher B run.b run.log came d.brought (ap (same_side B) is) d.received h.b_knows in
-      runs_on cipher seal setup run steps h step new a run.b log came.time fault (got came d.brought brings d.received) mine others
+      runs_on cipher setup run steps h step new a run.b log came.time fault (got came d.brought brings d.received) mine others
       (last_time-got run.log came d.brought d.received) d.added
 
   pub arrives_b : came.side ≡ B → (b : SessionState)
-      → (Ready cipher setup came.side run.b run.log → IsArrival seal setup came run.log log × Ready cipher setup came.side b log)
-      → Running cipher seal setup (record { a = run.a; b = b; log = log; latest = came.time }) (steps ++ step ∷ [])
+      → (Ready cipher setup came.side run.b run.log → IsArrival (sealing_of cipher setup) setup came run.log log × Ready cipher setup came.side b log)
+      → PlaysOn cipher setup steps run step (record { a = run.a; b = b; log = log; latest = came.time })
   arrives_b is b comes =
       let after = comes (subst (λ s. Ready cipher setup s run.b run.log) (sym is) h.b_knows) in
       let d = after.0 in
       let new = Got came ∷ d.brought in
       let mine : Ready cipher setup B b (run.log ++ new) = subst (Ready cipher setup B b) d.added (subst (λ s. Ready cipher setup s b log) is after.1) in
       let others : Ready cipher setup A run.a (run.log ++ new) = ready_got_other cipher A run.a run.log came d.brought (ap (same_side A) is) d.received h.a_knows in
-      runs_on cipher seal setup run steps h step new run.a b log came.time fault (got came d.brought brings d.received) others mine
+      runs_on cipher setup run steps h step new run.a b log came.time fault (got came d.brought brings d.received) others mine
       (last_time-got run.log came d.brought d.received) d.added

@@ -1,11 +1,10 @@
--- How a step ends.
-use Rattle.std.specs.Prelude.{◌≡◌, Option, Some, None, Result, Ok, Err}
+-- Why a step is not played.
+use Rattle.std.specs.Prelude.{◌≡◌, Option, Some}
 use Rattle.media_play.specs.declared.fault.StepFault.{StepFault}
 use Rattle.media_play.specs.declared.fault.StepError.{StepError}
 use Rattle.media_play.specs.declared.fault.StepError.TheVariants.{Memory, Rule}
 
--- a step is played only where it breaks no rule, and is refused by the first rule that it breaks, which changes nothing
-abbrev pub IsBroken : {X : Type 0} → Result X StepError → Option StepFault → Type 0 → Type 0
-IsBroken (Ok done) fault Unchanged = fault ≡ None
-IsBroken (Err Memory) fault Unchanged = Unit {0}
-IsBroken (Err (Rule broken)) fault Unchanged = (fault ≡ Some broken) × Unchanged
+-- the first rule that it breaks, where it breaks one; memory may run out at any step
+abbrev pub IsCauseAt : Option StepFault → StepError → Type 0
+IsCauseAt broken Memory = Unit {0}
+IsCauseAt broken (Rule fault) = broken ≡ Some fault

@@ -22,8 +22,8 @@ use Rattle.media_play.specs.Plain.{extensions_of, read_header, Carries, as_packe
 use Rattle.media_play.specs.Play.{Seals, Brings}
 use Rattle.media_play.specs.Rules.{has}
 
--- a sealed datagram is the seal of its plain, which reads with its SSRC and the low 16 bits of its number; the SSRC is
--- that of a stream of the side, and there is no padding, so it is no filler
+-- a sealed datagram is the seal of its plain, which reads with its SSRC and the low 16 bits of its
+-- number; the SSRC is that of a stream of the side, and there is no padding, so it is no filler
 pub record IsSealOf (seal : Sealing) (setup : Setup) (s : SealedEntry) : Type 0 where
   pub rtp : s.kind ≡ Rtp
   pub header : RtpHeader
@@ -63,8 +63,8 @@ IsSentWrite setup past _ = Unit {0}
 abbrev pub SendsWrites : Setup → List Entry → Type 0
 SendsWrites setup entries = Each (IsSentWrite setup) entries
 
--- a write brings nothing; a tick seals all that is queued, stream by stream, and nothing else; a datagram that comes is
--- opened, and its packet yielded, exactly where it opens
+-- a write brings nothing; a tick seals all that is queued, stream by stream, and nothing else; a
+-- datagram that comes is opened, and its packet yielded, exactly where it opens
 abbrev pub Answers : Sealing → Setup → List Entry → Entry → List Entry → Type 0
 Answers seal setup past (Wrote side time write) chunk = chunk ≡ []
 Answers seal setup past (Ticked side time) chunk = Seals seal setup side past chunk
@@ -80,47 +80,46 @@ NoPacketTwice entries = (side : Side) → NoRepeat (packets side entries)
 
 -- a packet that is yielded is an earlier write of the other side
 abbrev pub IsOwedTo : List Entry → Entry → Type 0
-IsOwedTo past (Yielded side packet) = (w : Writing) × IsIn w (writes_by (peer_of side) past) × (packet ≡ as_packet w)
+IsOwedTo past (Yielded side packet) =
+    (w : Writing) × IsIn w (writes_by (peer_of side) past) × (packet ≡ as_packet w)
 IsOwedTo past _ = Unit {0}
 
 -- in a genuine run each packet that is yielded is a write of the other side
 abbrev pub YieldsWrites : List Entry → Type 0
 YieldsWrites entries = IsGenuine entries → Each IsOwedTo entries
 
--- where a datagram comes that the other side sealed before, the write of that SSRC and number is yielded exactly where
--- the number widens to itself and is fresh
+-- where a datagram comes that the other side sealed before, the write of that SSRC and number is
+-- yielded exactly where the number widens to itself and is fresh
 abbrev pub YieldsExactly : List Entry → Entry → List Entry → Type 0
 YieldsExactly past (Got got) chunk =
-    (s : SealedEntry) (w : Writing) → got.kind ≡ Rtp → IsIn (Sealed s) past → s.side ≡ peer_of got.side → s.kind ≡ Rtp → s.bytes ≡ got.bytes
+    (s : SealedEntry) (w : Writing) → got.kind ≡ Rtp → IsIn (Sealed s) past
+    → s.side ≡ peer_of got.side → s.kind ≡ Rtp → s.bytes ≡ got.bytes
     → IsIn w (writes_on (peer_of got.side) s.ssrc past) → w.number ≡ s.index
     → IsIn (Yielded got.side (as_packet w)) chunk
-    ↔ ((widen16 (greatest_of (taken got.side s.ssrc past)) (s.index % 65536) ≡ s.index) × (is_fresh (taken got.side s.ssrc past) s.index ≡ true))
+    ↔ ((widen16 (greatest_of (taken got.side s.ssrc past)) (s.index % 65536) ≡ s.index)
+    × (is_fresh (taken got.side s.ssrc past) s.index ≡ true))
 YieldsExactly past _ chunk = Unit {0}
 
 abbrev pub FirstSendingsAreYielded : List Entry → Type 0
 FirstSendingsAreYielded entries = EachStep YieldsExactly entries
 
--- the steps among these entries are those of the script, in order: bytes that come are those that the step brings
+-- the steps among these entries are those of the script, in order: bytes that come are those that
+-- the step brings
 abbrev pub PlaysFrom : List Entry → List Step → List Entry → Type 0
 PlaysFrom past steps [] = steps ≡ []
 PlaysFrom past steps (Wrote side time write ∷ entries) =
-    (rest : List Step) × (steps ≡ Write side time write ∷ rest) × PlaysFrom (past ++ Wrote side time write ∷ []) rest entries
+    (rest : List Step) × (steps ≡ Write side time write ∷ rest)
+    × PlaysFrom (past ++ Wrote side time write ∷ []) rest entries
 PlaysFrom past steps (Ticked side time ∷ entries) =
-    (rest : List Step) × (steps ≡ Tick side time ∷ rest) × PlaysFrom (past ++ Ticked side time ∷ []) rest entries
+    (rest : List Step) × (steps ≡ Tick side time ∷ rest)
+    × PlaysFrom (past ++ Ticked side time ∷ []) rest entries
 PlaysFrom past steps (Got got ∷ entries) =
-    (step : Step) × (rest : List Step) × (steps ≡ step ∷ rest) × Brings past got step × PlaysFrom (past ++ Got got ∷ []) rest entries
+    (step : Step) × (rest : List Step) × (steps ≡ step ∷ rest) × Brings past got step
+    × PlaysFrom (past ++ Got got ∷ []) rest entries
 PlaysFrom past steps (entry ∷ entries) = PlaysFrom (past ++ entry ∷ []) steps entries
 
 abbrev pub PlaysSteps : List Step → List Entry → Type 0
 PlaysSteps steps entries = PlaysFrom [] steps entries
-
--- what holds at each entry of a run, and so also where a run ended within a step
-pub record HoldsSoFar (seal : Sealing) (setup : Setup) (entries : List Entry) : Type 0 where
-  pub sends_writes : SendsWrites setup entries
-  pub seals_are_right : SealsAreRight seal setup entries
-  pub no_nonce_twice : NoNonceTwice entries
-  pub no_packet_twice : NoPacketTwice entries
-  pub yields_writes : YieldsWrites entries
 
 -- all that holds of the entries of a run, whether it came to its end or not
 pub record HoldsOfRun (seal : Sealing) (setup : Setup) (entries : List Entry) : Type 0 where
@@ -132,6 +131,14 @@ pub record HoldsOfRun (seal : Sealing) (setup : Setup) (entries : List Entry) : 
   pub once : NoPacketTwice entries
   pub exactly : FirstSendingsAreYielded entries
 
--- the same under the setup of the run, whichever it is
+-- what of it holds of each front of them too, so also where a run ended within a step
+pub record HoldsOfFront (seal : Sealing) (setup : Setup) (entries : List Entry) : Type 0 where
+  pub seals : SealsAreRight seal setup entries
+  pub nonces : NoNonceTwice entries
+  pub sendings : SendsWrites setup entries
+  pub yields : YieldsWrites entries
+  pub once : NoPacketTwice entries
+
+-- *sendings* under the setup of the run, whichever it is
 abbrev pub SendsInSome : List Entry → Type 0
 SendsInSome entries = (setup : Setup) × SendsWrites setup entries

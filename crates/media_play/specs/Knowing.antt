@@ -20,7 +20,8 @@ use Rattle.media_play.specs.Packets.{waiting_of}
 -- what waits is what is queued, and the used numbers are those that were written
 pub record SendsAs (side : Side) (entries : List Entry) (stream : Outgoing) : Type 0 where
   pub queue : stream.queue ≡ map waiting_of (queued side stream.ssrc entries)
-  pub used : (n : ℕ) → contains nat_cmp stream.used n ≡ list_any (λ w. w.number == n) (writes_on side stream.ssrc entries)
+  pub used : (n : ℕ) → contains nat_cmp stream.used n
+      ≡ list_any (λ w. w.number == n) (writes_on side stream.ssrc entries)
 
 abbrev pub TakesAs : Side → List Entry → Incoming → Type 0
 TakesAs side entries stream = StandsFor stream.register (taken side stream.ssrc entries)
@@ -32,7 +33,8 @@ abbrev pub source_of : Incoming → ℕ
 source_of stream = stream.ssrc
 
 -- the streams are those of the setup, and each stands for what the entries say of it
-pub record Knows (setup : Setup) (side : Side) (streams : Streams) (entries : List Entry) : Type 0 where
+pub record Knows (setup : Setup) (side : Side) (streams : Streams)
+    (entries : List Entry) : Type 0 where
   pub outgoing : map ssrc_of streams.outgoing.items ≡ streams_of side setup
   pub sends : AllByRecursion (SendsAs side entries) streams.outgoing.items
   pub incoming : map source_of streams.incoming.items ≡ 0 ∷ streams_of (peer_of side) setup
@@ -46,4 +48,5 @@ emptied stream = record stream { queue = [] }
 -- the number under which a datagram with this header may still open
 abbrev pub accepted : Setup → Side → List Entry → RtpHeader → Option ℕ
 accepted setup side entries header =
-    if is_known setup side header then fresh_number (taken side header.ssrc entries) header.sequence_number else None
+    if is_known setup side header
+    then fresh_number (taken side header.ssrc entries) header.sequence_number else None

@@ -8,6 +8,7 @@ pub mod Play
 pub mod SetupFacts
 pub mod WireLaws
 pub mod Headline
+pub mod Laws
 pub mod Packets
 pub mod Knowing
 pub mod Sessions

@@ -29,7 +29,12 @@ brought (entry ∷ entries) = if is_step entry then [] else entry ∷ brought en
 abbrev pub StepsFrom : (List Entry → Entry → List Entry → Type 0) → List Entry → List Entry → Type 0
 StepsFrom P past [] = Unit {0}
 StepsFrom P past (entry ∷ entries) =
-    (is_step entry ≡ true → P past entry (brought entries)) × StepsFrom P (past ++ entry ∷ []) entries
+    (is_step entry ≡ true → P past entry (brought entries))
+    × StepsFrom P (past ++ entry ∷ []) entries
 
 abbrev pub EachStep : (List Entry → Entry → List Entry → Type 0) → List Entry → Type 0
 EachStep P entries = StepsFrom P [] entries
+
+-- entries are only added, behind those that there are
+abbrev pub OnlyAdds : List Entry → List Entry → Type 0
+OnlyAdds old new = (more : List Entry) × (new ≡ old ++ more)

@@ -18,7 +18,9 @@ is_seal entry = false
 -- the places of the entries by which a side sealed, the first entry standing at this place
 abbrev pub places_from : ℕ → Side → List Entry → List ℕ
 places_from at side [] = []
-places_from at side (entry ∷ entries) = cond (seals side entry) (at ∷ places_from (at + 1) side entries) (places_from (at + 1) side entries)
+places_from at side (entry ∷ entries) =
+    cond (seals side entry)
+    (at ∷ places_from (at + 1) side entries) (places_from (at + 1) side entries)
 
 abbrev pub places : Side → List Entry → List ℕ
 places side entries = places_from 0 side entries

@@ -22,11 +22,15 @@ use Rattle.media_play.specs.Rules.{has}
 
 -- the number with these low 16 bits, where it is fresh
 abbrev pub fresh_number : List ℕ → ℕ → Option ℕ
-fresh_number l low = if is_fresh l (widen16 (greatest_of l) low) then Some (widen16 (greatest_of l) low) else None
+fresh_number l low =
+    if is_fresh l (widen16 (greatest_of l) low) then Some (widen16 (greatest_of l) low) else None
 
 -- SSRC 0, or a main SSRC of the other side's streams with a payload type that the setup claims
 abbrev pub is_known : Setup → Side → RtpHeader → Bool
-is_known setup side header = (header.ssrc == 0) || (has (streams_of (peer_of side) setup) header.ssrc && has (types_of setup) header.payload_type)
+is_known setup side header =
+    (header.ssrc == 0)
+    || (has (streams_of (peer_of side) setup) header.ssrc
+    && has (types_of setup) header.payload_type)
 
 -- the payload without its padding
 abbrev pub cut : RtpHeader → List ℕ → List ℕ
@@ -46,11 +50,13 @@ packet_with header number payload = record {
 
 -- the packet of a plain datagram under its number
 abbrev pub packet_from : RtpHeader → ℕ → List ℕ → Packet
-packet_from header number plain = packet_with header number (cut header (drop header.header_len plain))
+packet_from header number plain =
+    packet_with header number (cut header (drop header.header_len plain))
 
 -- what an opened RTP datagram yields: its packet, but on SSRC 0 nothing
 abbrev pub yields : Side → RtpHeader → ℕ → List ℕ → List Entry
-yields side header number plain = if header.ssrc == 0 then [] else Yielded side (packet_from header number plain) ∷ []
+yields side header number plain =
+    if header.ssrc == 0 then [] else Yielded side (packet_from header number plain) ∷ []
 
 -- the bytes that a side makes of a plain datagram of a kind under an SSRC and an index
 abbrev pub Sealing : Type 0
@@ -62,24 +68,32 @@ got_as side time kind bytes = record { side = side; time = time; kind = kind; by
 
 -- the entry of RTP that a side opened under a header and a number
 abbrev pub opened_as : Side → RtpHeader → ℕ → List ℕ → OpenedEntry
-opened_as side header number plain = record { side = side; kind = Rtp; ssrc = header.ssrc; index = number; plain = plain }
+opened_as side header number plain =
+    record { side = side; kind = Rtp; ssrc = header.ssrc; index = number; plain = plain }
 
--- a datagram that comes to a side after these entries opens under this number to this plain datagram; it is RTP, since
--- no RTCP opens yet
-pub record Opens (seal : Sealing) (setup : Setup) (entries : List Entry) (got : GotEntry) (header : RtpHeader) (number : ℕ) (plain : List ℕ) : Type 0 where
+-- a datagram that comes to a side after these entries opens under this number to this plain
+-- datagram; it is RTP, since no RTCP opens yet
+pub record Opens (seal : Sealing) (setup : Setup) (entries : List Entry) (got : GotEntry)
+    (header : RtpHeader) (number : ℕ) (plain : List ℕ) : Type 0 where
   pub rtp : got.kind ≡ Rtp
   pub short : length got.bytes ≤ 2000
   pub reads : read_header setup got.bytes ≡ Some header
   pub known : is_known setup got.side header ≡ true
-  pub widened : number ≡ widen16 (greatest_of (taken got.side header.ssrc entries)) header.sequence_number
+  pub widened : number
+      ≡ widen16 (greatest_of (taken got.side header.ssrc entries)) header.sequence_number
   pub fresh : is_fresh (taken got.side header.ssrc entries) number ≡ true
   pub front : take header.header_len plain ≡ take header.header_len got.bytes
   pub sealed : seal (peer_of got.side) Rtp header.ssrc number plain ≡ got.bytes
   pub unpads : IsTrue header.has_padding → IsSome (unpadded (drop header.header_len plain))
 
--- what a datagram brings that comes to a side after these entries: where it opens, what it opens to, and else nothing
-pub data Receives (seal : Sealing) (setup : Setup) (entries : List Entry) (got : GotEntry) : List Entry → Type 0 where
-  opens : (header : RtpHeader) (number : ℕ) (plain : List ℕ) → Opens seal setup entries got header number plain
-      → Receives seal setup entries got (Opened (opened_as got.side header number plain) ∷ yields got.side header number plain)
-  stays : ((header : RtpHeader) (number : ℕ) (plain : List ℕ) → Opens seal setup entries got header number plain → ⊥)
+-- what a datagram brings that comes to a side after these entries: where it opens, what it opens
+-- to, and else nothing
+pub data Receives (seal : Sealing) (setup : Setup) (entries : List Entry) (got : GotEntry)
+    : List Entry → Type 0 where
+  opens : (header : RtpHeader) (number : ℕ) (plain : List ℕ)
+      → Opens seal setup entries got header number plain
+      → Receives seal setup entries got
+      (Opened (opened_as got.side header number plain) ∷ yields got.side header number plain)
+  stays : ((header : RtpHeader) (number : ℕ) (plain : List ℕ)
+      → Opens seal setup entries got header number plain → ⊥)
       → Receives seal setup entries got []

@@ -51,7 +51,8 @@ waiting_of w = record { header = header_of_write w; number = w.number; plain = p
 
 -- how a context seals
 abbrev pub seal_in : CipherMeaning → SrtpState → ℕ → ℕ → ℕ → List ℕ → List ℕ
-seal_in cipher state ssrc index n plain = sealed_rtp cipher state.profile state.keys ssrc index n plain
+seal_in cipher state ssrc index n plain =
+    sealed_rtp cipher state.profile state.keys ssrc index n plain
 
 -- the seal of a packet that waited
 abbrev pub sealed_packet : (ℕ → ℕ → ℕ → List ℕ → List ℕ) → Side → WaitingPacket → SealedEntry

@@ -21,9 +21,9 @@ abbrev pub len_of : Option RtpHeader → ℕ
 len_of None = 0
 len_of (Some header) = header.header_len
 
--- A plain datagram carries a write: under this map it reads with the write's SSRC, the low 16 bits of its number, its
--- type, time and marker, without padding and contributing sources; it is written as that header is (RFC 3550 section
--- 5.1), and behind it stands the write's payload.
+-- A plain datagram carries a write: under this map it reads with the write's SSRC, the low 16 bits
+-- of its number, its type, time and marker, without padding and contributing sources; it is written
+-- as that header is (RFC 3550 section 5.1), and behind it stands the write's payload.
 pub record Carries (exts : ExtensionMap) (plain : List ℕ) (w : Writing) : Type 0 where
   pub header : RtpHeader
   pub reads : header_of exts plain ≡ Some header

@@ -19,7 +19,8 @@ use Rattle.media_play.specs.Rules.{step_fault}
 use Rattle.media_play.specs.Plain.{extensions_of, Carries}
 
 -- a side seals a write: under its SSRC and number, a plain datagram that carries it
-pub record IsSealOfWrite (seal : Sealing) (setup : Setup) (by : Side) (w : Writing) (s : SealedEntry) : Type 0 where
+pub record IsSealOfWrite (seal : Sealing) (setup : Setup) (by : Side) (w : Writing)
+    (s : SealedEntry) : Type 0 where
   pub side : s.side ≡ by
   pub kind : s.kind ≡ Rtp
   pub ssrc : s.ssrc ≡ w.ssrc
@@ -28,9 +29,11 @@ pub record IsSealOfWrite (seal : Sealing) (setup : Setup) (by : Side) (w : Writi
   pub bytes : s.bytes ≡ seal s.side s.kind s.ssrc s.index s.plain
 
 -- the entries are the seals of these writes, in order
-pub data AreSealsOf (seal : Sealing) (setup : Setup) (side : Side) : List Writing → List Entry → Type 0 where
+pub data AreSealsOf (seal : Sealing) (setup : Setup) (side : Side)
+    : List Writing → List Entry → Type 0 where
   no_seals : AreSealsOf seal setup side [] []
-  seal_of : {ws : List Writing} {es : List Entry} (w : Writing) (s : SealedEntry) → IsSealOfWrite seal setup side w s
+  seal_of : {ws : List Writing} {es : List Entry} (w : Writing) (s : SealedEntry)
+      → IsSealOfWrite seal setup side w s
       → AreSealsOf seal setup side ws es → AreSealsOf seal setup side (w ∷ ws) (Sealed s ∷ es)
 
 -- what waits on a side, stream by stream
@@ -39,39 +42,46 @@ to_seal setup side entries = flat_map (λ ssrc. queued side ssrc entries) (strea
 
 -- what a tick of a side without a pacer brings: the seals of all queued writes, stream by stream
 abbrev pub Seals : Sealing → Setup → Side → List Entry → List Entry → Type 0
-Seals seal setup side entries sealed = AreSealsOf seal setup side (to_seal setup side entries) sealed
+Seals seal setup side entries sealed =
+    AreSealsOf seal setup side (to_seal setup side entries) sealed
 
--- the bytes that a step brings to a side after these entries: the datagram of this number, counted from 1, that the
--- other side sealed; or bytes of the step's own
+-- the bytes that a step brings to a side after these entries: the datagram of this number, counted
+-- from 1, that the other side sealed; or bytes of the step's own
 pub data Brings (entries : List Entry) : GotEntry → Step → Type 0 where
-  delivered : (side : Side) (time k : ℕ) (bytes : List ℕ) → 1 ≤ k → slice_get (datagrams (peer_of side) entries) (k - 1) ≡ Some bytes
+  delivered : (side : Side) (time k : ℕ) (bytes : List ℕ) → 1 ≤ k
+      → slice_get (datagrams (peer_of side) entries) (k - 1) ≡ Some bytes
       → Brings entries (got_as side time Rtp bytes) (Deliver side time k)
   foreign : (got : GotEntry) → Brings entries got (Foreign got.side got.time got.kind got.bytes)
 
 -- what a step brings after these entries, the step's own entry first
-pub data Outcome (seal : Sealing) (setup : Setup) (entries : List Entry) : Step → List Entry → Type 0 where
+pub data Outcome (seal : Sealing) (setup : Setup) (entries : List Entry)
+    : Step → List Entry → Type 0 where
   wrote : (side : Side) (time : ℕ) (w : Writing) → w.ssrc < 2 ^ 32 → w.rtp_time < 2 ^ 32
       → Outcome seal setup entries (Write side time w) (Wrote side time w ∷ [])
   ticked : (side : Side) (time : ℕ) (sealed : List Entry) → Seals seal setup side entries sealed
       → Outcome seal setup entries (Tick side time) (Ticked side time ∷ sealed)
-  got : {step : Step} (came : GotEntry) (brought : List Entry) → Brings entries came step → Receives seal setup entries came brought
+  got : {step : Step} (came : GotEntry) (brought : List Entry) → Brings entries came step
+      → Receives seal setup entries came brought
       → Outcome seal setup entries step (Got came ∷ brought)
 
 -- these steps, each of which breaks no rule, brought these entries
 pub data Played (seal : Sealing) (setup : Setup) : List Step → List Entry → Type 0 where
   start : Played seal setup [] []
-  turn : {steps : List Step} {entries : List Entry} → Played seal setup steps entries → (step : Step) (new : List Entry)
+  turn : {steps : List Step} {entries : List Entry} → Played seal setup steps entries
+      → (step : Step) (new : List Entry)
       → step_fault setup entries step ≡ None → Outcome seal setup entries step new
       → Played seal setup (steps ++ step ∷ []) (entries ++ new)
 
 -- a tick of a side brings what it seals
-pub record IsTick (seal : Sealing) (setup : Setup) (side : Side) (time : ℕ) (entries new : List Entry) : Type 0 where
+pub record IsTick (seal : Sealing) (setup : Setup) (side : Side) (time : ℕ)
+    (entries new : List Entry) : Type 0 where
   pub sealed : List Entry
   pub seals : Seals seal setup side entries sealed
   pub added : new ≡ entries ++ Ticked side time ∷ sealed
 
 -- a datagram that comes to a side brings what it opens to
-pub record IsArrival (seal : Sealing) (setup : Setup) (got : GotEntry) (entries new : List Entry) : Type 0 where
+pub record IsArrival (seal : Sealing) (setup : Setup) (got : GotEntry)
+    (entries new : List Entry) : Type 0 where
   pub brought : List Entry
   pub received : Receives seal setup entries got brought
   pub added : new ≡ entries ++ Got got ∷ brought

@@ -58,7 +58,9 @@ deliver_fault entries side k = first_fault (deliver_rules entries side k)
 
 -- the rules of times stand before all others
 abbrev pub step_fault : Setup → List Entry → Step → Option StepFault
-step_fault setup entries (Write side time write) = or_else (time_fault entries time) (write_fault setup entries side write)
+step_fault setup entries (Write side time write) =
+    or_else (time_fault entries time) (write_fault setup entries side write)
 step_fault setup entries (Tick side time) = time_fault entries time
-step_fault setup entries (Deliver side time k) = or_else (time_fault entries time) (deliver_fault entries side k)
+step_fault setup entries (Deliver side time k) =
+    or_else (time_fault entries time) (deliver_fault entries side k)
 step_fault setup entries (Foreign side time kind bytes) = time_fault entries time

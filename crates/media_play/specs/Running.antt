@@ -1,19 +1,22 @@
 -- What a run knows of the steps that it played.
-use Rattle.std.specs.Prelude.{◌≡◌, ◌+◌, ◌≤◌, ℕ, List, [], length, take, slice_get, Some, None, Result, Ok, Err}
+use Rattle.std.specs.Prelude.{◌≡◌, ◌+◌, ◌≤◌, ℕ, List, [], ◌∷◌, ◌++◌, length, take, slice_get, Some, None, Result, Ok, Err}
 use Rattle.srtp_core.specs.Cipher.{CipherMeaning}
 use Rattle.media_model.specs.declared.entry.Side.TheVariants.{A, B}
 use Rattle.media_model.specs.declared.entry.Entry.{Entry}
 use Rattle.media_model.specs.declared.transcript.Transcript.{Transcript}
 use Rattle.media_model.specs.declared.step.Step.{Step}
 use Rattle.media_model.specs.declared.setup.Setup.{Setup}
+use Rattle.media_play.specs.declared.fault.StepError.{StepError}
+use Rattle.media_play.specs.declared.fault.StepError.TheVariants as step
 use Rattle.media_play.specs.declared.fault.RunError.{RunError}
 use Rattle.media_play.specs.declared.fault.RunFault.{RunFault}
 use Rattle.media_play.specs.declared.fault.RunError.TheVariants as error
 use Rattle.media_model.specs.Entries.{last_time}
+use Rattle.media_play.specs.Errors.{IsCauseAt}
 use Rattle.media_play.specs.Opening.{Sealing}
-use Rattle.media_play.specs.Play.{Played}
+use Rattle.media_play.specs.Play.{Outcome, Played}
 use Rattle.media_play.specs.Rules.{step_fault}
-use Rattle.media_play.specs.Sessions.{SessionState, Ready}
+use Rattle.media_play.specs.Sessions.{SessionState, Ready, sealing_of}
 use Rattle.media_play.specs.SetupRules.{setup_fault}
 
 -- the two sessions, the entries so far and the time of the last step
@@ -23,27 +26,67 @@ pub record RunState : Type 0 where
   pub log : List Entry
   pub latest : ℕ
 
--- the entries are those that these steps brought, and each part knows them
-pub record Running (cipher : CipherMeaning) (seal : Sealing) (setup : Setup) (run : RunState) (steps : List Step) : Type 0 where
+-- a run of a setup after these steps: the setup breaks no rule, the entries are those that the
+-- steps brought, and each part knows them
+pub record IsRunOf (cipher : CipherMeaning) (setup : Setup) (steps : List Step)
+    (run : RunState) : Type 0 where
+  pub valid : setup_fault setup ≡ None
+  pub played : Played (sealing_of cipher setup) setup steps run.log
   pub a_knows : Ready cipher setup A run.a run.log
   pub b_knows : Ready cipher setup B run.b run.log
   pub time : run.latest ≡ last_time run.log
-  pub played : Played seal setup steps run.log
 
--- why a run ended, and what it brought until then: nothing for a setup that breaks a rule; all steps before the one that
--- breaks a rule, which is the first one; without memory some steps at the front
+-- one step more: it breaks no rule, the run has played it too, and its entries are those before and
+-- what the step brings
+pub record PlaysOn (cipher : CipherMeaning) (setup : Setup) (steps : List Step) (old : RunState)
+    (step : Step) (new : RunState) : Type 0 where
+  pub valid : step_fault setup old.log step ≡ None
+  pub is_run : IsRunOf cipher setup (steps ++ step ∷ []) new
+  pub brought : List Entry
+  pub outcome : Outcome (sealing_of cipher setup) setup old.log step brought
+  pub added : new.log ≡ old.log ++ brought
+
+-- a run of any setup plays a step
+abbrev pub Plays : CipherMeaning → RunState → Step → RunState → Type 0
+Plays cipher old step new =
+    (setup : Setup) (steps : List Step) → IsRunOf cipher setup steps old
+    → PlaysOn cipher setup steps old step new
+
+-- a run of any setup refuses a step for this cause
+abbrev pub Refuses : CipherMeaning → RunState → Step → StepError → Type 0
+Refuses cipher run step cause =
+    (setup : Setup) (steps : List Step) → IsRunOf cipher setup steps run
+    → IsCauseAt (step_fault setup run.log step) cause
+
+-- why no run of a setup begins: the first rule that it breaks; memory may run out
+abbrev pub IsSetupCause : Setup → RunError → Type 0
+IsSetupCause setup (error.Setup fault) = setup_fault setup ≡ Some fault
+IsSetupCause setup (error.Step number fault) = ⊥
+IsSetupCause setup error.Memory = Unit {0}
+
+-- why a run ended whose step of this number was not played
+abbrev pub run_cause : ℕ → StepError → RunError
+run_cause number (step.Rule fault) = error.Step number fault
+run_cause number step.Memory = error.Memory
+
+-- why a run ended, and what it brought until then: nothing for a setup that breaks a rule; all
+-- steps before the one that breaks a rule, which is the first one; without memory some steps at the
+-- front
 abbrev pub HasCause : Sealing → Setup → List Step → List Entry → RunError → Type 0
-HasCause seal setup steps entries (error.Setup fault) = (setup_fault setup ≡ Some fault) × (entries ≡ [])
+HasCause seal setup steps entries (error.Setup fault) =
+    (setup_fault setup ≡ Some fault) × (entries ≡ [])
 HasCause seal setup steps entries (error.Step number fault) =
-    (setup_fault setup ≡ None) × ((before : ℕ) × (step : Step) × (number ≡ before + 1) × (slice_get steps before ≡ Some step)
+    (setup_fault setup ≡ None) × ((before : ℕ) × (step : Step) × (number ≡ before + 1)
+    × (slice_get steps before ≡ Some step)
     × Played seal setup (take before steps) entries × (step_fault setup entries step ≡ Some fault))
-HasCause seal setup steps entries error.Memory = (played : ℕ) × (played ≤ length steps) × Played seal setup (take played steps) entries
+HasCause seal setup steps entries error.Memory =
+    (played : ℕ) × (played ≤ length steps) × Played seal setup (take played steps) entries
 
 -- no step breaks a rule after the entries that the steps before it brought
 abbrev pub AreValidSteps : Sealing → Setup → List Step → Type 0
 AreValidSteps seal setup steps =
-    (before : ℕ) (step : Step) (entries : List Entry) → slice_get steps before ≡ Some step → Played seal setup (take before steps) entries
-    → step_fault setup entries step ≡ None
+    (before : ℕ) (step : Step) (entries : List Entry) → slice_get steps before ≡ Some step
+    → Played seal setup (take before steps) entries → step_fault setup entries step ≡ None
 
 -- what holds of the entries of a run, whether it came to its end or not
 abbrev pub OfRun : Result Transcript RunFault → (List Entry → Type 0) → Type 0

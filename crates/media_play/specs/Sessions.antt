@@ -1,5 +1,5 @@
 -- What a session knows of the entries so far.
-use Rattle.std.specs.Prelude.{◌≡◌, ℕ, Bool, true, false, List, [], ◌∷◌, take, drop, Option, Some, None}
+use Rattle.std.specs.Prelude.{◌≡◌, ℕ, Bool, true, false, List, [], ◌∷◌, ◌++◌, take, drop, Option, Some, None}
 use Rattle.rtp_wire.specs.declared.header.RtpHeader.{RtpHeader}
 use Rattle.srtp_core.specs.Cipher.{CipherMeaning}
 use Rattle.srtp_core.specs.Contexts.{SrtpState, new_state}
@@ -8,17 +8,20 @@ use Rattle.srtp_core.specs.Seals.{sealed_rtp, OpensTo}
 use Rattle.srtp_core.specs.RtcpSeals.{sealed_rtcp}
 use Rattle.media_model.specs.declared.entry.Side.{Side}
 use Rattle.media_model.specs.declared.entry.Side.TheVariants.{A, B}
+use Rattle.rtp_base.specs.declared.kind.Kind.{Kind}
 use Rattle.rtp_base.specs.declared.kind.Kind.TheVariants.{Rtp, Rtcp}
 use Rattle.media_model.specs.declared.entry.Packet.{Packet}
+use Rattle.media_model.specs.declared.entry.Got.{Got as GotEntry}
 use Rattle.media_model.specs.declared.entry.Entry.{Entry}
-use Rattle.media_model.specs.declared.entry.Entry.TheVariants.{Opened, Yielded}
+use Rattle.media_model.specs.declared.entry.Entry.TheVariants.{Got, Opened, Yielded}
 use Rattle.media_model.specs.declared.setup.Setup.{Setup}
 use Rattle.media_model.specs.Setup.{material_of}
 use Rattle.media_model.specs.Sides.{peer_of}
 use Rattle.media_play.specs.declared.session.Received.{Received}
 use Rattle.media_play.specs.declared.streams.Streams.{Streams}
 use Rattle.media_play.specs.Knowing.{Knows}
-use Rattle.media_play.specs.Opening.{Sealing}
+use Rattle.media_play.specs.Opening.{Sealing, Receives}
+use Rattle.media_play.specs.SetupFacts.{IsSound}
 use Rattle.media_play.specs.Plain.{len_of, read_header}
 
 -- side A is the left one
@@ -30,10 +33,12 @@ is_left B = false
 -- that it reads as, RTCP encrypted, so that the E bit is set
 abbrev pub sealing_of : CipherMeaning → Setup → Sealing
 sealing_of cipher setup side Rtp ssrc index plain =
-    sealed_rtp cipher setup.profile (session_keys cipher setup.profile (material_of setup) (is_left side)) ssrc index
+    sealed_rtp cipher setup.profile
+    (session_keys cipher setup.profile (material_of setup) (is_left side)) ssrc index
     (len_of (read_header setup plain)) plain
 sealing_of cipher setup side Rtcp ssrc index plain =
-    sealed_rtcp cipher setup.profile (session_keys cipher setup.profile (material_of setup) (is_left side)) true index plain
+    sealed_rtcp cipher setup.profile
+    (session_keys cipher setup.profile (material_of setup) (is_left side)) true index plain
 
 -- the context that seals, the one that opens, and the streams
 pub record SessionState : Type 0 where
@@ -41,17 +46,21 @@ pub record SessionState : Type 0 where
   pub opening : SrtpState
   pub streams : Streams
 
--- the session seals with its side's keys and opens with its peer's, and its streams know the entries
-pub record Ready (cipher : CipherMeaning) (setup : Setup) (side : Side) (session : SessionState) (entries : List Entry) : Type 0 where
+-- the session seals with its side's keys and opens with its peer's, and its streams know the
+-- entries
+pub record Ready (cipher : CipherMeaning) (setup : Setup) (side : Side) (session : SessionState)
+    (entries : List Entry) : Type 0 where
   pub seals : session.sealing ≡ new_state cipher setup.profile (material_of setup) (is_left side) 0
-  pub opens : session.opening ≡ new_state cipher setup.profile (material_of setup) (is_left (peer_of side)) 0
+  pub opens : session.opening
+      ≡ new_state cipher setup.profile (material_of setup) (is_left (peer_of side)) 0
   pub knows : Knows setup side session.streams entries
 
 -- the bytes open in this context to this plain datagram, whose header is that of the bytes
 abbrev pub OpensAs : CipherMeaning → SrtpState → RtpHeader → ℕ → List ℕ → List ℕ → Type 0
 OpensAs cipher state header number bytes plain =
     (take header.header_len plain ≡ take header.header_len bytes)
-    × OpensTo cipher state.profile state.keys header.ssrc number header.header_len bytes (drop header.header_len plain)
+    × OpensTo cipher state.profile state.keys header.ssrc number header.header_len bytes
+    (drop header.header_len plain)
 
 abbrev pub yielded : Side → Option Packet → List Entry
 yielded side None = []
@@ -61,4 +70,15 @@ yielded side (Some packet) = Yielded side packet ∷ []
 abbrev pub received_entries : Side → Option Received → List Entry
 received_entries side None = []
 received_entries side (Some r) =
-    Opened (record { side = side; kind = Rtp; ssrc = r.ssrc; index = r.number; plain = r.plain }) ∷ yielded side r.packet
+    Opened (record { side = side; kind = Rtp; ssrc = r.ssrc; index = r.number; plain = r.plain })
+    ∷ yielded side r.packet
+
+-- the session takes in bytes of a kind that come to its side: this is what they open to
+abbrev pub TakesIn : CipherMeaning → SessionState → Kind → List ℕ → SessionState → Option Received
+    → Type 0
+TakesIn cipher old kind bytes new received =
+    (setup : Setup) (entries : List Entry) (came : GotEntry)
+    → IsSound setup → came.kind ≡ kind → came.bytes ≡ bytes
+    → Ready cipher setup came.side old entries
+    → Receives (sealing_of cipher setup) setup entries came (received_entries came.side received)
+    × Ready cipher setup came.side new (entries ++ Got came ∷ received_entries came.side received)

@@ -82,7 +82,9 @@ impl fmt::Display for StepFault {
 /// Why a step was not played.
 #[derive(Clone, Copy, Debug, PartialEq, Eq)]
 pub enum StepError {
+    /// Memory ran out.
     Memory,
+    /// The first rule that the step breaks.
     Rule(StepFault),
 }
 
@@ -108,6 +110,15 @@ impl From<StepFault> for StepError {
     }
 }
 
+/// Why a step was not played, and the transcript of the steps before it.
+#[derive(Debug, Drop)]
+pub struct PlayFault {
+    /// Why it was not played.
+    pub cause: StepError,
+    /// What the steps before it brought, and nothing of this one.
+    pub sofar: Transcript,
+}
+
 /// Why a run ended before its last step.
 #[derive(Clone, Copy, Debug, PartialEq, Eq)]
 pub enum RunError {
@@ -117,6 +128,17 @@ pub enum RunError {
     Setup(SetupFault),
     /// The step of this number, counted from 1, broke a rule.
     Step(u64, StepFault),
+}
+
+impl From<AllocError> for RunError {
+    ghost use Rattle.std.specs.Prelude.{◌≡◌};
+    ghost use Rattle.media_play.specs.declared.fault.RunError.TheVariants.{Memory};
+
+    ghost from_gives = { λ _ e. e ≡ Memory };
+
+    fn from(_: AllocError) -> Self {
+        RunError::Memory
+    }
 }
 
 /// Why a run ended before its last step, and the transcript of the steps that were played.

@@ -4,6 +4,7 @@
 mod fault;
 pub mod laws;
 mod log;
+mod pair;
 mod run;
 mod session;
 mod setup_rules;
@@ -11,5 +12,5 @@ mod stream;
 mod streams;
 mod waiting;
 
-pub use fault::{RunError, RunFault, SetupFault, StepFault};
-pub use run::media_run;
+pub use fault::{PlayFault, RunError, RunFault, SetupFault, StepError, StepFault};
+pub use run::{Run, media_run};

@@ -29,7 +29,8 @@ impl Model for Log {
 
     ghost view = { λ l. l.transcript };
 
-    ghost invariant = { λ l. (l.sealed_by_a.items ≡ places A l.transcript) × (l.sealed_by_b.items ≡ places B l.transcript) };
+    ghost invariant = { λ l. (l.sealed_by_a.items ≡ places A l.transcript)
+        × (l.sealed_by_b.items ≡ places B l.transcript) };
 }
 
 impl Log {
@@ -47,6 +48,12 @@ impl Log {
         ensures { result ≡ length self.now }
     {
         self.transcript.entries().len()
+    }
+
+    pub fn entries(&self) -> &[Entry]
+        ensures { result.now ≡ self.now }
+    {
+        self.transcript.entries()
     }
 
     /// Adds an entry that is no seal. Without memory nothing is added.
@@ -128,7 +135,8 @@ fn push_both(
 ) -> Result<(), AllocError>
     ensures entry { OnOk result (transcript.new ≡ transcript.old ++ entry ∷ []) }
     ensures place { OnOk result (places.new.items ≡ places.old.items ++ place ∷ []) }
-    ensures err { OnErr result ((transcript.new ≡ transcript.old) × (places.new.items ≡ places.old.items)) }
+    ensures err { OnErr result ((transcript.new ≡ transcript.old)
+        × (places.new.items ≡ places.old.items)) }
 {
     places.push(place)?;
     match transcript.push(entry) {

@@ -6,12 +6,12 @@ ghost use Rattle.srtp_core.specs.Contexts.{new_state};
 ghost use Rattle.media_model.specs.declared.entry.Side.{Side as Party};
 ghost use Rattle.media_model.specs.declared.entry.Entry.{Entry};
 ghost use Rattle.media_model.specs.declared.entry.Entry.TheVariants as happening;
-ghost use Rattle.media_model.specs.declared.entry.Got.{Got as GotEntry};
 ghost use Rattle.media_model.specs.declared.entry.Write.{Write as Writing};
 ghost use Rattle.media_model.specs.declared.setup.Setup.{Setup as Given};
 ghost use Rattle.media_model.specs.declared.step.Step.{Step};
 ghost use Rattle.srtp_core.specs.Keys.{material_len};
 ghost use Rattle.media_model.specs.Setup.{material_of};
+ghost use Rattle.media_play.specs.Listing.{OnlyAdds};
 ghost use Rattle.media_play.specs.Packets.{waiting_of, seal_in, sealed_packet};
 ghost use Rattle.media_play.specs.Opening.{cut, packet_with};
 ghost use Rattle.media_play.specs.Sessions.{is_left, OpensAs};
@@ -89,8 +89,9 @@ fn seal_all<C: SrtpCipher>(
     log: &mut Log,
 ) -> Result<(), AllocError>
     ensures sealed { OnOk result ((writes : List Writing) → waiting.items ≡ map waiting_of writes
-        → log.new ≡ log.old ++ map (λ w. happening.Sealed (sealed_packet (seal_in C.meaning context.old) side (waiting_of w))) writes) }
-    ensures longer { (more : List Entry) × (log.new ≡ log.old ++ more) }
+        → log.new ≡ log.old ++ map (λ w. happening.Sealed
+        (sealed_packet (seal_in C.meaning context.old) side (waiting_of w))) writes) }
+    ensures longer { OnlyAdds log.old log.new }
     ensures same { context.new ≡ context.old }
 {
     for packet in waiting {
@@ -105,8 +106,9 @@ fn seal<C: SrtpCipher>(
     packet: Waiting,
     log: &mut Log,
 ) -> Result<(), AllocError>
-    ensures sealed { OnOk result (log.new ≡ log.old ++ happening.Sealed (sealed_packet (seal_in C.meaning context.old) side packet) ∷ []) }
-    ensures longer { (more : List Entry) × (log.new ≡ log.old ++ more) }
+    ensures sealed { OnOk result (log.new ≡ log.old
+        ++ happening.Sealed (sealed_packet (seal_in C.meaning context.old) side packet) ∷ []) }
+    ensures longer { OnlyAdds log.old log.new }
     ensures same { context.new ≡ context.old }
 {
     let ssrc = packet.ssrc();
@@ -132,8 +134,10 @@ fn open<C: SrtpCipher>(
 ) -> Result<Option<Bytes>, AllocError>
     requires index { number < 2 ^ 48 }
     requires low { number % 65536 ≡ header.now.sequence_number }
-    ensures opened { IfOk result (λ r. IfSome r (λ plain. OpensAs C.meaning context.old header.now number bytes.now plain)) }
-    ensures none { IfOk result (λ r. IfNone r ((plain : List ℕ) → OpensAs C.meaning context.old header.now number bytes.now plain → ⊥)) }
+    ensures opened { IfOk result (λ r. IfSome r
+        (λ plain. OpensAs C.meaning context.old header.now number bytes.now plain)) }
+    ensures none { IfOk result (λ r. IfNone r
+        ((plain : List ℕ) → OpensAs C.meaning context.old header.now number bytes.now plain → ⊥)) }
     ensures same { context.new ≡ context.old }
 {
     let front = header.header_len;
@@ -151,8 +155,12 @@ fn open<C: SrtpCipher>(
 /// The payload of a plain datagram without its padding, None where it does not unpad.
 fn cut_payload<'a>(header: &RtpHeader, plain: &'a [u8]) -> Option<&'a [u8]>
     requires { header.now.header_len ≤ length plain.now }
-    ensures some { IfSome result (λ p. (p.now ≡ cut header.now (drop header.now.header_len plain.now)) × (IsTrue header.now.has_padding → IsSome (unpadded (drop header.now.header_len plain.now)))) }
-    ensures none { IfNone result (IsTrue header.now.has_padding × IsNone (unpadded (drop header.now.header_len plain.now))) }
+    ensures some { IfSome result (λ p.
+        (p.now ≡ cut header.now (drop header.now.header_len plain.now))
+        × (IsTrue header.now.has_padding
+        → IsSome (unpadded (drop header.now.header_len plain.now)))) }
+    ensures none { IfNone result (IsTrue header.now.has_padding
+        × IsNone (unpadded (drop header.now.header_len plain.now))) }
 {
     let payload = &plain[header.header_len..];
     if header.has_padding {
@@ -181,7 +189,8 @@ fn packet(
     number: SeqNo,
     payload: &[u8],
 ) -> Result<Option<Packet>, AllocError>
-    ensures { IfOk result (λ packet. packet ≡ (if header.now.ssrc == 0 then None else Some (packet_with header.now number payload.now))) }
+    ensures { IfOk result (λ packet. packet ≡
+        (if header.now.ssrc == 0 then None else Some (packet_with header.now number payload.now))) }
 {
     if header.ssrc.is_probe() {
         return Ok(None);
@@ -215,13 +224,13 @@ impl<C: SrtpCipher> Model for Session<C> {
 
 impl<C: SrtpCipher> Session<C> {
     ghost use Rattle.rtp_base.specs.declared.kind.Kind.TheVariants.{Rtp};
-    ghost use Rattle.media_model.specs.declared.entry.Entry.TheVariants.{Wrote, Ticked, Got};
-    ghost use Rattle.media_play.specs.Opening.{Sealing, Receives};
+    ghost use Rattle.media_model.specs.declared.entry.Entry.TheVariants.{Wrote, Ticked};
+    ghost use Rattle.media_play.specs.Opening.{Sealing};
     ghost use Rattle.media_play.specs.Play.{Played, Seals};
     ghost use Rattle.media_play.specs.SetupFacts.{IsSound};
     ghost use Rattle.media_play.specs.Knowing.{ssrc_of};
     ghost use Rattle.media_play.specs.Rules.{write_fault};
-    ghost use Rattle.media_play.specs.Sessions.{Ready, sealing_of, received_entries};
+    ghost use Rattle.media_play.specs.Sessions.{Ready, TakesIn, sealing_of};
 
     /// The session of a side of the setup, before any step. The setup's key material has its
     /// profile's length.
@@ -245,10 +254,12 @@ impl<C: SrtpCipher> Session<C> {
 
     /// The place of the stream of a write, or the first rule that the write breaks.
     pub fn check_write(&self, write: &Write) -> Result<usize, StepFault>
-        ensures place { IfOk result (λ at. (at < length self.now.streams.outgoing.items) × (slice_get (map ssrc_of self.now.streams.outgoing.items) at ≡ Some write.now.ssrc)) }
+        ensures place { IfOk result (λ at. (at < length self.now.streams.outgoing.items)
+            × (slice_get (map ssrc_of self.now.streams.outgoing.items) at ≡ Some write.now.ssrc)) }
         ensures number { IfOk result (λ at. write.now.number < 2 ^ 48) }
         ensures payload { IfOk result (λ at. length write.now.payload ≤ 1400) }
-        ensures rule { (setup : Given) (side : Party) (entries : List Entry) → Ready C.meaning setup side self.now entries
+        ensures rule { (setup : Given) (side : Party) (entries : List Entry)
+            → Ready C.meaning setup side self.now entries
             → write_fault setup entries side write.now ≡ result_err result }
     {
         self.streams.check_write(write)
@@ -259,9 +270,12 @@ impl<C: SrtpCipher> Session<C> {
         requires place { at < length self.old.streams.outgoing.items }
         requires payload { length write.now.payload ≤ 1400 }
         requires number { write.now.number < 2 ^ 48 }
-        ensures { OnOk result ((seal : Sealing) (setup : Given) (steps : List Step) (side : Party) (entries : List Entry) (time : ℕ)
-            → Played seal setup steps entries → Ready C.meaning setup side self.old entries → IsSound setup
-            → slice_get (map ssrc_of self.old.streams.outgoing.items) at ≡ Some write.now.ssrc → write_fault setup entries side write.now ≡ None
+        ensures { OnOk result ((seal : Sealing) (setup : Given) (steps : List Step) (side : Party)
+            (entries : List Entry) (time : ℕ)
+            → Played seal setup steps entries → Ready C.meaning setup side self.old entries
+            → IsSound setup
+            → slice_get (map ssrc_of self.old.streams.outgoing.items) at ≡ Some write.now.ssrc
+            → write_fault setup entries side write.now ≡ None
             → Ready C.meaning setup side self.new (entries ++ Wrote side time write.now ∷ [])) }
     {
         self.streams.put(alloc, at, write)
@@ -274,10 +288,7 @@ impl<C: SrtpCipher> Session<C> {
         kind: Kind,
         bytes: &[u8],
     ) -> Result<Option<Received>, AllocError>
-        ensures received { IfOk result (λ r. (setup : Given) (entries : List Entry) (came : GotEntry) → IsSound setup
-            → came.kind ≡ kind → came.bytes ≡ bytes.now → Ready C.meaning setup came.side self.old entries
-            → Receives (sealing_of C.meaning setup) setup entries came (received_entries came.side r)
-            × Ready C.meaning setup came.side self.new (entries ++ Got came ∷ received_entries came.side r)) }
+        ensures received { IfOk result (TakesIn C.meaning self.old kind bytes.now self.new) }
         ensures unopened { IfOk result (λ r. IfNone r (self.new ≡ self.old)) }
         ensures err { OnErr result (self.new ≡ self.old) }
     {
@@ -289,10 +300,7 @@ impl<C: SrtpCipher> Session<C> {
     }
 
     fn receive_rtp(&mut self, alloc: Global, bytes: &[u8]) -> Result<Option<Received>, AllocError>
-        ensures received { IfOk result (λ r. (setup : Given) (entries : List Entry) (came : GotEntry) → IsSound setup
-            → came.kind ≡ Rtp → came.bytes ≡ bytes.now → Ready C.meaning setup came.side self.old entries
-            → Receives (sealing_of C.meaning setup) setup entries came (received_entries came.side r)
-            × Ready C.meaning setup came.side self.new (entries ++ Got came ∷ received_entries came.side r)) }
+        ensures received { IfOk result (TakesIn C.meaning self.old Rtp bytes.now self.new) }
         ensures unopened { IfOk result (λ r. IfNone r (self.new ≡ self.old)) }
         ensures err { OnErr result (self.new ≡ self.old) }
     {
@@ -326,11 +334,14 @@ impl<C: SrtpCipher> Session<C> {
 
     /// Seals all packets that wait, stream by stream, into the log.
     pub fn tick(&mut self, alloc: Global, side: Side, log: &mut Log) -> Result<(), AllocError>
-        ensures sealed { OnOk result ((setup : Given) (steps : List Step) (entries : List Entry) (time : ℕ) → IsSound setup
-            → Played (sealing_of C.meaning setup) setup steps entries → Ready C.meaning setup side self.old entries
+        ensures sealed { OnOk result ((setup : Given) (steps : List Step) (entries : List Entry)
+            (time : ℕ) → IsSound setup
+            → Played (sealing_of C.meaning setup) setup steps entries
+            → Ready C.meaning setup side self.old entries
             → (sealed : List Entry) × Seals (sealing_of C.meaning setup) setup side entries sealed
-            × (log.new ≡ log.old ++ sealed) × Ready C.meaning setup side self.new (entries ++ Ticked side time ∷ sealed)) }
-        ensures longer { (more : List Entry) × (log.new ≡ log.old ++ more) }
+            × (log.new ≡ log.old ++ sealed)
+            × Ready C.meaning setup side self.new (entries ++ Ticked side time ∷ sealed)) }
+        ensures longer { OnlyAdds log.old log.new }
     {
         plain_header_is_read_again();
         headers_are_as_long();

@@ -54,7 +54,8 @@ impl Outgoing {
         requires payload { length write.now.payload ≤ 1400 }
         requires number { write.now.number < 2 ^ 48 }
         ensures ssrc { self.new.ssrc ≡ self.old.ssrc }
-        ensures used { OnOk result ((n : ℕ) → contains nat_cmp self.new.used n ≡ (contains nat_cmp self.old.used n || (write.now.number == n))) }
+        ensures used { OnOk result ((n : ℕ) → contains nat_cmp self.new.used n
+            ≡ (contains nat_cmp self.old.used n || (write.now.number == n))) }
         ensures queue { OnOk result (self.new.queue ≡ self.old.queue ++ waiting_of write.now ∷ []) }
     {
         let packet = Waiting::new(alloc, write)?;

@@ -126,10 +126,12 @@ impl Streams {
 
     /// The place of the stream of a write, or the first rule that the write breaks.
     pub fn check_write(&self, write: &Write) -> Result<usize, StepFault>
-        ensures place { IfOk result (λ at. (at < length self.now.outgoing.items) × (slice_get (map ssrc_of self.now.outgoing.items) at ≡ Some write.now.ssrc)) }
+        ensures place { IfOk result (λ at. (at < length self.now.outgoing.items)
+            × (slice_get (map ssrc_of self.now.outgoing.items) at ≡ Some write.now.ssrc)) }
         ensures number { IfOk result (λ at. write.now.number < 2 ^ 48) }
         ensures payload { IfOk result (λ at. length write.now.payload ≤ 1400) }
-        ensures rule { (setup : Given) (side : Party) (entries : List Entry) → Knows setup side self.now entries
+        ensures rule { (setup : Given) (side : Party) (entries : List Entry)
+            → Knows setup side self.now entries
             → write_fault setup entries side write.now ≡ result_err result }
     {
         let Some(at) = outgoing_place(&self.outgoing, write.ssrc) else {
@@ -156,9 +158,11 @@ impl Streams {
         requires place { at < length self.old.outgoing.items }
         requires payload { length write.now.payload ≤ 1400 }
         requires number { write.now.number < 2 ^ 48 }
-        ensures { OnOk result ((seal : Sealing) (setup : Given) (steps : List Step) (side : Party) (entries : List Entry) (time : ℕ)
+        ensures { OnOk result ((seal : Sealing) (setup : Given) (steps : List Step) (side : Party)
+            (entries : List Entry) (time : ℕ)
             → Played seal setup steps entries → Knows setup side self.old entries → IsSound setup
-            → slice_get (map ssrc_of self.old.outgoing.items) at ≡ Some write.now.ssrc → write_fault setup entries side write.now ≡ None
+            → slice_get (map ssrc_of self.old.outgoing.items) at ≡ Some write.now.ssrc
+            → write_fault setup entries side write.now ≡ None
             → Knows setup side self.new (entries ++ Wrote side time write.now ∷ [])) }
     {
         let stream = &mut self.outgoing[at];
@@ -167,9 +171,11 @@ impl Streams {
 
     /// Takes out all packets that wait, stream by stream.
     pub fn take_waiting(&mut self, alloc: Global) -> Result<Vec<Waiting>, AllocError>
-        ensures waiting { IfOk result (λ all. (setup : Given) (side : Party) (entries : List Entry) → Knows setup side self.old entries
+        ensures waiting { IfOk result (λ all. (setup : Given) (side : Party) (entries : List Entry)
+            → Knows setup side self.old entries
             → all.items ≡ map waiting_of (to_seal setup side entries)) }
-        ensures after { OnOk result ((seal : Sealing) (setup : Given) (side : Party) (entries : List Entry) (time : ℕ) (sealed : List Entry)
+        ensures after { OnOk result ((seal : Sealing) (setup : Given) (side : Party)
+            (entries : List Entry) (time : ℕ) (sealed : List Entry)
             → Seals seal setup side entries sealed → Knows setup side self.old entries
             → Knows setup side self.new (entries ++ Ticked side time ∷ sealed)) }
     {
@@ -179,10 +185,12 @@ impl Streams {
     /// The place and the number under which a datagram with this header may open, None where its
     /// SSRC or payload type is not known, or its number not fresh.
     pub fn accept(&self, header: &RtpHeader) -> Option<(usize, SeqNo)>
-        ensures place { IfSome result (λ x. (x.0 < length self.now.incoming.items) × (slice_get (map source_of self.now.incoming.items) x.0 ≡ Some header.now.ssrc)) }
+        ensures place { IfSome result (λ x. (x.0 < length self.now.incoming.items)
+            × (slice_get (map source_of self.now.incoming.items) x.0 ≡ Some header.now.ssrc)) }
         ensures small { IfSome result (λ x. x.1 < 2 ^ 48) }
         ensures low { IfSome result (λ x. x.1 % 65536 ≡ header.now.sequence_number) }
-        ensures number { (setup : Given) (side : Party) (entries : List Entry) → Knows setup side self.now entries
+        ensures number { (setup : Given) (side : Party) (entries : List Entry)
+            → Knows setup side self.now entries
             → option_map (λ x. x.1) result ≡ accepted setup side entries header.now }
     {
         if !header.ssrc.is_probe() && !has_type(&self.types, header.payload_type) {
@@ -198,11 +206,13 @@ impl Streams {
     pub fn take(&mut self, at: usize, number: SeqNo)
         requires place { at < length self.old.incoming.items }
         requires number { number < 2 ^ 48 }
-        ensures { (setup : Given) (entries : List Entry) (came : GotEntry) (plain : List ℕ) (header : Header)
+        ensures { (setup : Given) (entries : List Entry) (came : GotEntry) (plain : List ℕ)
+            (header : Header)
             → Knows setup came.side self.old entries → IsSound setup
             → slice_get (map source_of self.old.incoming.items) at ≡ Some header.ssrc
             → is_fresh (taken came.side header.ssrc entries) number ≡ true
-            → Knows setup came.side self.new (entries ++ Got came ∷ Opened (opened_as came.side header number plain)
+            → Knows setup came.side self.new
+            (entries ++ Got came ∷ Opened (opened_as came.side header number plain)
             ∷ yields came.side header number plain) }
     {
         let stream = &mut self.incoming[at];

@@ -29,7 +29,8 @@ impl Model for Waiting {
 
     ghost view = { λ w. record { header = w.header; number = w.number; plain = w.plain } };
 
-    ghost invariant = { λ w. (w.header.header_len ≤ length w.plain) × (w.number < 2 ^ 48) × (w.header.sequence_number ≡ w.number % 65536) };
+    ghost invariant = { λ w. (w.header.header_len ≤ length w.plain) × (w.number < 2 ^ 48)
+        × (w.header.sequence_number ≡ w.number % 65536) };
 }
 
 /// The header of a write.
@@ -109,7 +110,9 @@ impl Waiting {
         &self,
         context: &mut SrtpContext<C>,
     ) -> Result<Bytes, AllocError>
-        ensures sealed { IfOk result (λ bytes. bytes ≡ sealed_rtp C.meaning context.old.profile context.old.keys self.now.header.ssrc self.now.number self.now.header.header_len self.now.plain) }
+        ensures sealed { IfOk result (λ bytes. bytes
+            ≡ sealed_rtp C.meaning context.old.profile context.old.keys self.now.header.ssrc
+            self.now.number self.now.header.header_len self.now.plain) }
         ensures same { context.new ≡ context.old }
     {
         let bytes = context.protect_rtp(

@@ -62,3 +62,9 @@ pieces_plain (b ∷ bytes) = go (pieces_plain bytes) (eqb b 10) refl where
 pub lines_plain : (lines : List (List ℕ)) → AllByRecursion Plain (lines ++ [] ∷ []) → AllByRecursion NoEnd lines
 lines_plain [] all = tt
 lines_plain (line ∷ lines) all = (All-from_recursion (λ b. b ≢ 10) line all.0, lines_plain lines all.1)
+
+pub pieces_are_plain : (bytes : List ℕ) → AllByRecursion NoEnd (pieces_of bytes)
+pieces_are_plain bytes = go (pieces_of bytes) (pieces_plain bytes) where
+  go : (pieces : List (List ℕ)) → AllByRecursion Plain pieces → AllByRecursion NoEnd pieces
+  go [] all = tt
+  go (piece ∷ pieces) all = (All-from_recursion (λ b. b ≢ 10) piece all.0, go pieces all.1)

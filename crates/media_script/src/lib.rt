@@ -11,6 +11,7 @@ mod reader;
 mod said;
 mod setup_line;
 mod setup_lines;
+pub mod shared;
 mod steps;
 mod text;
 mod text_lines;

@@ -1,3 +1,5 @@
 pub mod Texts
 pub mod Runs
 pub mod Whole
+pub mod PaceEnds
+pub mod PaceWhole

@@ -21,7 +21,7 @@ use Rattle.media_play.specs.Play.{Played}
 use Rattle.media_play.specs.Running.{HasCause}
 use Rattle.media_play.specs.SetupRules.{setup_fault}
 use Rattle.mediasim.specs.declared.ends.End.{End}
-use Rattle.mediasim.specs.declared.ends.End.TheVariants.{Done, Setup, Step, ReadFault, WriteFault, Memory, Syntax, TooLong, Usage}
+use Rattle.mediasim.specs.declared.ends.End.TheVariants.{Done, Setup, Step, Call, ReadFault, WriteFault, Memory, Syntax, TooLong, Usage}
 use Rattle.mediasim.specs.Lines.{memory_line, IsLastLine, reported}
 use Rattle.mediasim.specs.RunCommand.{toy_sealing, syntax_line, step_line, AreOfRun, RunEnds, RunMakes, IsNoScript}
 
@@ -78,6 +78,7 @@ run_makes read setup steps (Setup fault) transcript text script h = record { set
 run_makes read setup steps (Step number fault) transcript text script h = record { setup = setup; steps = steps; script = script; run = h }
 run_makes read setup steps Memory None text script h = inr (record { setup = setup; steps = steps; script = script; run = h })
 run_makes read setup steps Memory (Some entries) text script h = absurd h
+run_makes read setup steps (Call number) transcript text script h = absurd h
 run_makes read setup steps (Syntax line) transcript text script h = absurd h
 run_makes read setup steps ReadFault transcript text script h = absurd h
 run_makes read setup steps WriteFault transcript text script h = absurd h

@@ -14,14 +14,14 @@ use Rattle.media_play.specs.Headline.{HoldsOfRun, PlaysSteps}
 use Rattle.media_play.specs.Opening.{Sealing}
 use Rattle.media_play.specs.Play.{Played}
 use Rattle.mediasim.specs.declared.command.Command.{Command}
-use Rattle.mediasim.specs.declared.command.Command.TheVariants.{Run}
+use Rattle.mediasim.specs.declared.command.Command.TheVariants.{Run, Pace}
 use Rattle.mediasim.specs.declared.ends.End.{End}
-use Rattle.mediasim.specs.declared.ends.End.TheVariants.{Done, Setup, Step, ReadFault, WriteFault, Memory, Syntax, TooLong, Usage}
+use Rattle.mediasim.specs.declared.ends.End.TheVariants.{Done, Setup, Step, Call, ReadFault, WriteFault, Memory, Syntax, TooLong, Usage}
 use Rattle.mediasim.specs.Command.{IsCommand, Makes, Carries}
 use Rattle.mediasim.specs.Ends.{Tells}
 use Rattle.mediasim.specs.Lines.{memory_line}
-use Rattle.mediasim.specs.MediaMain.{Cause, Answers, TellsScript, AnswersScript, IsInOrder}
-use Rattle.mediasim.specs.RunCommand.{toy_sealing, RunEnds, EndsInRun, PlaysToEnd, PlaysAll}
+use Rattle.mediasim.specs.MediaMain.{Cause, Answers, TellsScript, RunsScript, AnswersScript, IsInOrder}
+use Rattle.mediasim.specs.RunCommand.{toy_sealing, RunEnds, RunMakes, EndsInRun, PlaysToEnd, PlaysAll}
 use Rattle.mediasim.proofs.Texts.{front_of_second}
 
 -- what is read to the end of input is all that the source tells
@@ -59,6 +59,12 @@ made_cause limit words left' read command (Syntax line) transcript text named wh
     record { command = command; named = named; whole = whole; within = within; makes = h }
 made_cause limit words left' read command Memory transcript text named whole within h =
     inr (record { command = command; named = named; whole = whole; within = within; makes = h })
+made_cause limit words left' read command (Call number) transcript text named whole within h =
+    record { command = command; named = named; whole = whole; within = within; makes = h }
+made_cause limit words left' read Pace ReadFault transcript text named whole within h = absurd h.1
+made_cause limit words left' read Pace WriteFault transcript text named whole within h = absurd h.1
+made_cause limit words left' read Pace TooLong transcript text named whole within h = absurd h.1
+made_cause limit words left' read Pace Usage transcript text named whole within h = absurd h.1
 made_cause limit words left' read Run ReadFault transcript text named whole within h = absurd h
 made_cause limit words left' read Run WriteFault transcript text named whole within h = absurd h
 made_cause limit words left' read Run TooLong transcript text named whole within h = absurd h
@@ -84,44 +90,59 @@ tells_memory held mid held' lines answer answered all (inl t) = inl (t.0, t.1, A
 tells_memory held mid held' lines answer answered all (inr t) = inr (t.0, t.1, front_of_second held mid held' lines memory_line all t.2)
 
 -- a script ends as its setup and its steps do
-script_made : (setup : Given) (steps : List Act) (read : List ℕ) (end : End) (transcript : Option (List Entry)) (text : List ℕ) (command : Command)
-    → SpellsOne → IsScript read setup steps → Makes command read end transcript text → EndsInRun setup steps end transcript text
-script_made setup steps read Done transcript text Run one script h =
+script_made : (setup : Given) (steps : List Act) (read : List ℕ) (end : End) (transcript : Option (List Entry)) (text : List ℕ)
+    → SpellsOne → IsScript read setup steps → RunMakes read end transcript text → EndsInRun setup steps end transcript text
+script_made setup steps read Done transcript text one script h =
     let same = one read setup h.setup steps h.steps script h.script in
     subst (λ (s : Given). RunEnds s steps Done transcript text) (sym same.0) (subst (λ (t : List Act). RunEnds h.setup t Done transcript text) (sym same.1) h.run)
-script_made setup steps read (Setup fault) transcript text Run one script h =
+script_made setup steps read (Setup fault) transcript text one script h =
     let same = one read setup h.setup steps h.steps script h.script in
     subst (λ (s : Given). RunEnds s steps (Setup fault) transcript text) (sym same.0)
     (subst (λ (t : List Act). RunEnds h.setup t (Setup fault) transcript text) (sym same.1) h.run)
-script_made setup steps read (Step number fault) transcript text Run one script h =
+script_made setup steps read (Step number fault) transcript text one script h =
     let same = one read setup h.setup steps h.steps script h.script in
     subst (λ (s : Given). RunEnds s steps (Step number fault) transcript text) (sym same.0)
     (subst (λ (t : List Act). RunEnds h.setup t (Step number fault) transcript text) (sym same.1) h.run)
-script_made setup steps read (Syntax line) None text Run one script h = absurd (h.1 setup steps script)
-script_made setup steps read (Syntax line) (Some entries) text Run one script h = absurd h
-script_made setup steps read Memory None text Run one script (inl h) = inl h
-script_made setup steps read Memory None text Run one script (inr h) =
+script_made setup steps read (Syntax line) None text one script h = absurd (h.1 setup steps script)
+script_made setup steps read (Syntax line) (Some entries) text one script h = absurd h
+script_made setup steps read (Call number) transcript text one script h = absurd h
+script_made setup steps read Memory None text one script (inl h) = inl h
+script_made setup steps read Memory None text one script (inr h) =
     let same = one read setup h.setup steps h.steps script h.script in
     inr (subst (λ (s : Given). RunEnds s steps Memory None text) (sym same.0) (subst (λ (t : List Act). RunEnds h.setup t Memory None text) (sym same.1) h.run))
-script_made setup steps read Memory (Some entries) text Run one script h = absurd h
-script_made setup steps read ReadFault transcript text Run one script h = absurd h
-script_made setup steps read WriteFault transcript text Run one script h = absurd h
-script_made setup steps read TooLong transcript text Run one script h = absurd h
-script_made setup steps read Usage transcript text Run one script h = absurd h
+script_made setup steps read Memory (Some entries) text one script h = absurd h
+script_made setup steps read ReadFault transcript text one script h = absurd h
+script_made setup steps read WriteFault transcript text one script h = absurd h
+script_made setup steps read TooLong transcript text one script h = absurd h
+script_made setup steps read Usage transcript text one script h = absurd h
+
+-- where the words name run, run made it
+run_made : (words : List (List ℕ)) (command : Command) (read : List ℕ) (end : End) (transcript : Option (List Entry)) (text : List ℕ)
+    → IsCommand words Run → IsCommand words command → Makes command read end transcript text → RunMakes read end transcript text
+run_made words Run read end transcript text named is h = h
+run_made words Pace read end transcript text named is h = absurd cc
 
 module _ (limit : ℕ) (words : List (List ℕ)) (left left' : Option (List ℕ)) (read : List ℕ) (setup : Given) (steps : List Act) where
-  script_caused : (end : End) (transcript : Option (List Entry)) (text : List ℕ) → SpellsOne → TellsScript left setup steps → Consumes left left' read
+  script_caused : (end : End) (transcript : Option (List Entry)) (text : List ℕ) → SpellsOne → RunsScript words left setup steps → Consumes left left' read
       → Cause limit words left' read end transcript text → EndsInRun setup steps end transcript text
   script_caused Done transcript text one told taken m =
-      script_made setup steps read Done transcript text m.command one (tells_read left left' read setup steps told taken m.whole) m.makes
+      script_made setup steps read Done transcript text one (tells_read left left' read setup steps told.1 taken m.whole)
+      (run_made words m.command read Done transcript text told.0 m.named m.makes)
   script_caused (Setup fault) transcript text one told taken m =
-      script_made setup steps read (Setup fault) transcript text m.command one (tells_read left left' read setup steps told taken m.whole) m.makes
+      script_made setup steps read (Setup fault) transcript text one (tells_read left left' read setup steps told.1 taken m.whole)
+      (run_made words m.command read (Setup fault) transcript text told.0 m.named m.makes)
   script_caused (Step number fault) transcript text one told taken m =
-      script_made setup steps read (Step number fault) transcript text m.command one (tells_read left left' read setup steps told taken m.whole) m.makes
+      script_made setup steps read (Step number fault) transcript text one (tells_read left left' read setup steps told.1 taken m.whole)
+      (run_made words m.command read (Step number fault) transcript text told.0 m.named m.makes)
   script_caused (Syntax line) transcript text one told taken m =
-      script_made setup steps read (Syntax line) transcript text m.command one (tells_read left left' read setup steps told taken m.whole) m.makes
+      script_made setup steps read (Syntax line) transcript text one (tells_read left left' read setup steps told.1 taken m.whole)
+      (run_made words m.command read (Syntax line) transcript text told.0 m.named m.makes)
+  script_caused (Call number) transcript text one told taken m =
+      script_made setup steps read (Call number) transcript text one (tells_read left left' read setup steps told.1 taken m.whole)
+      (run_made words m.command read (Call number) transcript text told.0 m.named m.makes)
   script_caused Memory transcript text one told taken (inr m) =
-      script_made setup steps read Memory transcript text m.command one (tells_read left left' read setup steps told taken m.whole) m.makes
+      script_made setup steps read Memory transcript text one (tells_read left left' read setup steps told.1 taken m.whole)
+      (run_made words m.command read Memory transcript text told.0 m.named m.makes)
   script_caused Memory transcript text one told taken (inl h) =
       subst (λ (t : Option (List Entry)). EndsInRun setup steps Memory t text) (sym h.1) (inl h.2)
   script_caused ReadFault transcript text one told taken h = h.1
@@ -143,6 +164,7 @@ module _ (limit : ℕ) (words : List (List ℕ)) (left left' : Option (List ℕ)
       let valid = order.valid r.0 r.1 entries r.3 r.4 in
       absurd (let e = sym valid ∙ r.5 in cc)
   plays_caused (Syntax line) transcript text order taken cause ends no_read = absurd ends
+  plays_caused (Call number) transcript text order taken cause ends no_read = absurd ends
   plays_caused ReadFault transcript text order taken cause ends no_read = absurd (no_read refl)
   plays_caused WriteFault transcript text order taken cause ends no_read = absurd ends
   plays_caused Memory None text order taken cause ends no_read = tt
@@ -154,7 +176,7 @@ module _ (limit : ℕ) (words : List (List ℕ)) (left left' : Option (List ℕ)
   plays_caused Usage transcript text order taken cause ends no_read = absurd (cause.0 (Run, order.command))
 
 pub answers_script : (limit : ℕ) (words : List (List ℕ)) (left left' held held' : Option (List ℕ)) (setup : Given) (steps : List Act) (answer : End) (answered : Option (List Entry))
-    → SpellsOne → Answers limit words left left' held held' answer answered → TellsScript left setup steps → AnswersScript setup steps held held' answer answered
+    → SpellsOne → Answers limit words left left' held held' answer answered → RunsScript words left setup steps → AnswersScript setup steps held held' answer answered
 answers_script limit words left left' held held' setup steps answer answered one a told = record {
   end = a.end;
   transcript = a.transcript;
@@ -170,7 +192,7 @@ plays_all limit words left left' held held' setup steps answer answered one a or
     elim a.tells [
       | inl t ↦
           let told = tells left order.bytes setup steps order.told order.script in
-          let ends = script_caused limit words left left' a.read setup steps a.end a.transcript a.text one told a.taken a.cause in
+          let ends = script_caused limit words left left' a.read setup steps a.end a.transcript a.text one (order.command, told) a.taken a.cause in
           let all = plays_caused limit words left left' a.read setup steps a.end a.transcript a.text order a.taken a.cause ends (λ e. no_read (t.0 ∙ e)) in
           subst (λ (e : End). PlaysAll setup steps e answered) (sym t.0) (subst (λ (o : Option (List Entry)). PlaysAll setup steps a.end o) (sym t.1) all)
       | inr t ↦ absurd (no_write t.0)
@@ -190,6 +212,7 @@ holds_in setup steps (Setup fault) (Some entries) text h = absurd h
 holds_in setup steps (Step number fault) None text h = tt
 holds_in setup steps (Step number fault) (Some entries) text h = h.1
 holds_in setup steps (Syntax line) transcript text h = absurd h
+holds_in setup steps (Call number) transcript text h = absurd h
 holds_in setup steps ReadFault transcript text h = none_holds transcript _ h
 holds_in setup steps WriteFault transcript text h = absurd h
 holds_in setup steps Memory None text h = tt
@@ -223,6 +246,7 @@ plays_in law setup steps (Setup fault) (Some entries) text h = absurd h
 plays_in law setup steps (Step number fault) None text h = absurd h
 plays_in law setup steps (Step number fault) (Some entries) text h = let r = h.0.1 in (r.0, r.2, law (toy_sealing setup) setup (take r.0 steps) entries r.4)
 plays_in law setup steps (Syntax line) transcript text h = absurd h
+plays_in law setup steps (Call number) transcript text h = absurd h
 plays_in law setup steps ReadFault transcript text h = h
 plays_in law setup steps WriteFault transcript text h = absurd h
 plays_in law setup steps Memory None text h = refl
@@ -245,6 +269,8 @@ script_plays law held held' setup steps answer answered a =
 always_made : (read : List ℕ) (end : End) (transcript : Option (List Entry)) (text : List ℕ) (command : Command) (Q : List Entry → Type 0)
     → ((seal : Sealing) (setup : Given) (entries : List Entry) → HoldsOfRun seal setup entries → Q entries)
     → Makes command read end transcript text → IfSome transcript Q
+always_made read end transcript text Pace Q says h = none_holds transcript Q h.0
+always_made read (Call number) transcript text Run Q says h = absurd h
 always_made read Done None text Run Q says h = tt
 always_made read Done (Some entries) text Run Q says h = says (toy_sealing h.setup) h.setup entries h.run.2
 always_made read (Setup fault) None text Run Q says h = tt
@@ -267,6 +293,7 @@ always_caused limit words left' read Done transcript text Q says m = always_made
 always_caused limit words left' read (Setup fault) transcript text Q says m = always_made read (Setup fault) transcript text m.command Q says m.makes
 always_caused limit words left' read (Step number fault) transcript text Q says m = always_made read (Step number fault) transcript text m.command Q says m.makes
 always_caused limit words left' read (Syntax line) transcript text Q says m = always_made read (Syntax line) transcript text m.command Q says m.makes
+always_caused limit words left' read (Call number) transcript text Q says m = always_made read (Call number) transcript text m.command Q says m.makes
 always_caused limit words left' read Memory transcript text Q says (inl h) = none_holds transcript Q h.1
 always_caused limit words left' read Memory transcript text Q says (inr m) = always_made read Memory transcript text m.command Q says m.makes
 always_caused limit words left' read ReadFault transcript text Q says h = none_holds transcript Q h.1

@@ -1,5 +1,5 @@
 -- What the top call read, what came of it, and what it wrote.
-use Rattle.std.specs.Prelude.{ℕ, ◌<◌, ◌≤◌, ◌≡◌, ◌⊎◌, List, [], length, codes}
+use Rattle.std.specs.Prelude.{ℕ, ◌<◌, ◌≤◌, ◌≡◌, ◌⊎◌, List, [], length, true, codes}
 use Rattle.std.specs.declared.option.Option.{Option}
 use Rattle.std.specs.declared.option.Option.TheVariants.{Some, None}
 use Rattle.std.specs.Io.KnownBytes.{Consumes, IsAtEnd}
@@ -7,10 +7,14 @@ use Rattle.media_model.specs.declared.entry.Entry.{Entry}
 use Rattle.media_model.specs.declared.setup.Setup.{Setup as Given}
 use Rattle.media_model.specs.declared.step.Step.{Step as Act}
 use Rattle.media_script.specs.Spelling.{IsScript}
+use Rattle.pace_core.specs.declared.run.PaceCall.{PaceCall}
+use Rattle.pace_core.specs.Past.{made}
+use Rattle.pace_core.specs.Run.{may_all_come}
+use Rattle.pace_script.specs.Spelling.{IsPaceScript}
 use Rattle.media_play.specs.Running.{AreValidSteps}
 use Rattle.media_play.specs.SetupRules.{setup_fault}
 use Rattle.mediasim.specs.declared.command.Command.{Command}
-use Rattle.mediasim.specs.declared.command.Command.TheVariants.{Run}
+use Rattle.mediasim.specs.declared.command.Command.TheVariants.{Run, Pace}
 use Rattle.mediasim.specs.declared.ends.End.{End}
 use Rattle.mediasim.specs.declared.ends.End.TheVariants.{ReadFault, WriteFault, Memory, TooLong, Usage}
 use Rattle.mediasim.specs.Command.{IsCommand, Makes}
@@ -57,6 +61,19 @@ abbrev pub TellsScript : Option (List ℕ) → Given → List Act → Type 0
 TellsScript None setup steps = ⊥
 TellsScript (Some bytes) setup steps = IsScript bytes setup steps
 
+-- the words are those of the command run, and the source tells a script of this setup and these steps
+abbrev pub RunsScript : List (List ℕ) → Option (List ℕ) → Given → List Act → Type 0
+RunsScript words left setup steps = IsCommand words Run × TellsScript left setup steps
+
+-- the source tells its bytes, which are a pace script of this rate and these calls
+abbrev pub TellsCalls : Option (List ℕ) → ℕ → List PaceCall → Type 0
+TellsCalls None rate calls = ⊥
+TellsCalls (Some bytes) rate calls = IsPaceScript bytes rate calls
+
+-- the words are those of the command pace, and the source tells a pace script
+abbrev pub RunsCalls : List (List ℕ) → Option (List ℕ) → ℕ → List PaceCall → Type 0
+RunsCalls words left rate calls = IsCommand words Pace × TellsCalls left rate calls
+
 -- the end of this setup and these steps was told, or one that is no end of a script
 pub record AnswersScript (setup : Given) (steps : List Act) (held held' : Option (List ℕ)) (answer : End) (answered : Option (List Entry)) : Type 0 where
   pub end : End
@@ -74,3 +91,12 @@ pub record IsInOrder (limit : ℕ) (words : List (List ℕ)) (left : Option (Lis
   pub short : length bytes ≤ limit
   pub fine : setup_fault setup ≡ None
   pub valid : AreValidSteps (toy_sealing setup) setup steps
+
+-- the command pace, and a source that tells a pace script within the length, whose calls may all come
+pub record ArePaced (limit : ℕ) (words : List (List ℕ)) (left : Option (List ℕ)) (rate : ℕ) (calls : List PaceCall) : Type 0 where
+  pub command : IsCommand words Pace
+  pub bytes : List ℕ
+  pub told : left ≡ Some bytes
+  pub script : IsPaceScript bytes rate calls
+  pub short : length bytes ≤ limit
+  pub come : may_all_come (made (Some rate)) calls ≡ true

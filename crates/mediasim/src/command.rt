@@ -8,6 +8,8 @@ ghost use Rattle.mediasim.specs.Command.{IsCommand};
 pub enum Command {
     /// Plays a script between two sessions, and tells what happened.
     Run,
+    /// Plays the calls of a pace script on a pacer, and tells what they answered.
+    Pace,
 }
 
 /// The command that the words behind the program's name name.
@@ -17,6 +19,7 @@ pub fn command_of(words: &[String]) -> Option<Command>
 {
     match words {
         [word] if word.as_str() == "run" => Some(Command::Run),
+        [word] if word.as_str() == "pace" => Some(Command::Pace),
         _ => None,
     }
 }

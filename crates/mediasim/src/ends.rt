@@ -16,6 +16,9 @@ pub enum End {
     Setup(SetupFault),
     /// The first step, counted from 1, that breaks a rule, and the first rule that it breaks.
     Step(u64, StepFault),
+    /// The first call of a pace script, counted from 1, that may not come: its moment falls, or it sends
+    /// a packet that no poll gave a queue for.
+    Call(u64),
     /// The source failed.
     ReadFault,
     /// The sink failed.
@@ -39,6 +42,7 @@ impl End {
             End::Done => 0,
             End::Setup(_) => 1,
             End::Step(_, _) => 2,
+            End::Call(_) => 2,
             End::ReadFault => 4,
             End::WriteFault => 5,
             End::Memory => 6,
@@ -75,7 +79,7 @@ impl Report {
     }
 }
 
-/// Tells an end that has no transcript by its one line.
+/// Tells an end that has no transcript by its text.
 pub fn tell_line<K: Sink>(sink: &mut K, end: End, line: &[u8]) -> Report
     ensures status { result.status ≡ status_of result.end }
     ensures tells { Tells (K.written sink.old) (K.written sink.new) end None line.now result.end result.transcript }

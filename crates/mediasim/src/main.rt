@@ -1,11 +1,12 @@
-//! Plays a script of two media sessions from standard input, and writes what happened to standard
-//! output. The one command is `run`.
+//! Plays a script from standard input, of two media sessions (`run`) or of a pacer's calls (`pace`), and
+//! writes what happened to standard output.
 #![tactic(auto)]
 
 mod command;
 mod ends;
 mod lines;
 mod media_main;
+mod pace_command;
 mod run_command;
 
 use media_base::{ReaderSource, WriterSink};

@@ -5,15 +5,19 @@ ghost use Rattle.media_model.specs.declared.setup.Setup.{Setup as Given};
 ghost use Rattle.media_model.specs.declared.step.Step.{Step as Act};
 ghost use Rattle.media_play.specs.Headline.{StepsAreAnswered, SealsAreRight, NoNonceTwice, SendsWrites, SendsInSome, YieldsWrites, NoPacketTwice, FirstSendingsAreYielded};
 ghost use Rattle.mediasim.specs.Ends.{status_of};
-ghost use Rattle.mediasim.specs.MediaMain.{Answers, AnswersScript, TellsScript, IsInOrder};
+ghost use Rattle.mediasim.specs.MediaMain.{Answers, AnswersScript, RunsScript, IsInOrder, RunsCalls, ArePaced};
+ghost use Rattle.mediasim.specs.PaceCommand.{AnswersCalls, PlaysAllCalls};
+ghost use Rattle.pace_core.specs.declared.run.PaceCall.{PaceCall as Told};
 ghost use Rattle.mediasim.specs.RunCommand.{toy_sealing, PlaysToEnd, PlaysAll};
 
 use crate::command::{Command, command_of};
 use crate::ends::{End, Report, tell_line};
+use crate::pace_command::pace_command;
 use crate::run_command::run_command;
 use media_base::{ReadError, Sink, Source, read_all};
 use media_play::laws::plays_steps;
 use media_script::laws::script_spells_one;
+use pace_script::laws::pace_script_spells_one;
 use std::alloc::Global;
 
 /// The most bytes of an input.
@@ -39,6 +43,7 @@ fn answer<S: Source, K: Sink>(
     match read_all(alloc, source, LIMIT) {
         Ok(bytes) => match command {
             Command::Run => run_command(alloc, &bytes, sink),
+            Command::Pace => pace_command(alloc, &bytes, sink),
         },
         Err(ReadError::Failed) => tell_line(sink, End::ReadFault, b"fault read\n"),
         Err(ReadError::TooLong) => tell_line(sink, End::TooLong, b"fault long\n"),
@@ -47,8 +52,8 @@ fn answer<S: Source, K: Sink>(
 }
 
 /// Does what the words behind the program's name say, with the input that the source gives, and
-/// writes what came of it to the sink. The one command is `run`: it plays a script between two
-/// sessions with the toy cipher.
+/// writes what came of it to the sink. `run` plays a script between two sessions with the toy cipher,
+/// `pace` plays a pace script on a leaky bucket pacer.
 ///
 /// What is written is the text of the transcript, or one fault line, with the text of the steps that
 /// were played before it where a step broke a rule, and whole lines at the front of the text where
@@ -72,7 +77,8 @@ pub fn media_main<S: Source, K: Sink>(
     ensures read_fault { result.end ≡ End.ReadFault → Rose (S.fault_count source.old) (S.fault_count source.new) }
     ensures write_fault { result.end ≡ End.WriteFault → Rose (K.fault_count sink.old) (K.fault_count sink.new) }
     // What a script comes to.
-    ensures script { (setup : Given) (acts : List Act) → TellsScript (S.left source.old) setup acts
+    ensures script { (setup : Given) (acts : List Act)
+        → RunsScript (map string_bytes words.now) (S.left source.old) setup acts
         → AnswersScript setup acts (K.written sink.old) (K.written sink.new) result.end result.transcript }
     // A script in order is played to its last step, where neither end of the program fails.
     ensures complete { (setup : Given) (acts : List Act)
@@ -81,26 +87,43 @@ pub fn media_main<S: Source, K: Sink>(
         → (Rose (K.fault_count sink.old) (K.fault_count sink.new) → ⊥)
         → PlaysAll setup acts result.end result.transcript }
 
+    // What a pace script comes to: on Done the text is that of what its calls answer, in order, which keeps
+    // within the envelope.
+    ensures calls { (rate : ℕ) (calls : List Told)
+        → RunsCalls (map string_bytes words.now) (S.left source.old) rate calls
+        → AnswersCalls rate calls (K.written sink.old) (K.written sink.new) result.end result.transcript }
+    // A pace script whose calls may all come is played to its last call.
+    ensures paced { (rate : ℕ) (calls : List Told)
+        → ArePaced LIMIT (map string_bytes words.now) (S.left source.old) rate calls
+        → (Rose (S.fault_count source.old) (S.fault_count source.new) → ⊥)
+        → (Rose (K.fault_count sink.old) (K.fault_count sink.new) → ⊥)
+        → PlaysAllCalls result.end }
+
     // The steps of the transcript are those of the script, in order: a datagram that is delivered is
     // the one that the other side sealed under this number.
-    ensures played { (setup : Given) (acts : List Act) → TellsScript (S.left source.old) setup acts
+    ensures played { (setup : Given) (acts : List Act)
+        → RunsScript (map string_bytes words.now) (S.left source.old) setup acts
         → PlaysToEnd acts result.end result.transcript }
     // A write brings nothing. A tick seals all queued writes, stream by stream. What comes is opened
     // exactly where it opens, and its packet yielded.
-    ensures steps { (setup : Given) (acts : List Act) → TellsScript (S.left source.old) setup acts
+    ensures steps { (setup : Given) (acts : List Act)
+        → RunsScript (map string_bytes words.now) (S.left source.old) setup acts
         → IfSome result.transcript (StepsAreAnswered (toy_sealing setup) setup) }
     // Each sealed datagram is a seal under its side's keys.
-    ensures seals { (setup : Given) (acts : List Act) → TellsScript (S.left source.old) setup acts
+    ensures seals { (setup : Given) (acts : List Act)
+        → RunsScript (map string_bytes words.now) (S.left source.old) setup acts
         → IfSome result.transcript (SealsAreRight (toy_sealing setup) setup) }
     // The write of a delivered first sending is yielded exactly where its number widens to itself and is
     // fresh.
-    ensures exactly { (setup : Given) (acts : List Act) → TellsScript (S.left source.old) setup acts
+    ensures exactly { (setup : Given) (acts : List Act)
+        → RunsScript (map string_bytes words.now) (S.left source.old) setup acts
         → IfSome result.transcript FirstSendingsAreYielded }
     // No two datagrams of a direction share a nonce.
     ensures nonces { IfSome result.transcript NoNonceTwice }
     // Each sealed datagram carries one earlier write of its side, none twice: under the setup of the
     // script, and where the source tells none, under that of the run.
-    ensures sendings { (setup : Given) (acts : List Act) → TellsScript (S.left source.old) setup acts
+    ensures sendings { (setup : Given) (acts : List Act)
+        → RunsScript (map string_bytes words.now) (S.left source.old) setup acts
         → IfSome result.transcript (SendsWrites setup) }
     ensures sent { IfSome result.transcript SendsInSome }
     // In a genuine run each packet yielded is a write of the other side; in every run none is yielded twice.
@@ -109,5 +132,6 @@ pub fn media_main<S: Source, K: Sink>(
 {
     plays_steps();
     script_spells_one();
+    pace_script_spells_one();
     answer(alloc, words, source, sink)
 }

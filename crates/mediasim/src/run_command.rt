@@ -68,7 +68,8 @@ fn report(end: End, entries: Transcript) -> Report
     }
 }
 
-fn syntax_line(alloc: Global, line: u64) -> Result<String, AllocError>
+/// The line that names the first line outside the grammar.
+pub fn syntax_line(alloc: Global, line: u64) -> Result<String, AllocError>
     ensures { IfOk result (λ text. string_bytes text ≡ syntax_line line) }
 {
     format!(in alloc; "fault syntax {line}\n")

@@ -30,13 +30,17 @@ fn script(alloc: Global, steps: &str) -> Result<Vec<u8>, Fail> {
     Ok(text.into_bytes())
 }
 
-// The call on these bytes, with ends that do not fail.
-fn ran_on(alloc: Global, bytes: Vec<u8>) -> Result<(Report, MemSink), Fail> {
+// The call of a command on these bytes, with ends that do not fail.
+fn called_on(alloc: Global, command: &str, bytes: Vec<u8>) -> Result<(Report, MemSink), Fail> {
     let mut source = MemSource::new(bytes, 4_096, Vec::new(alloc));
     let mut sink = MemSink::new(alloc, ROOM, ROOM, Vec::new(alloc))?;
-    let words = words(alloc, "run")?;
+    let words = words(alloc, command)?;
     let report = media_main(alloc, &words, &mut source, &mut sink);
     Ok((report, sink))
+}
+
+fn ran_on(alloc: Global, bytes: Vec<u8>) -> Result<(Report, MemSink), Fail> {
+    called_on(alloc, "run", bytes)
 }
 
 fn ran(alloc: Global, steps: &str) -> Result<(Report, MemSink), Fail> {
@@ -409,5 +413,38 @@ fn foreign_datagrams(rt: HostRuntime) -> Result<(), Fail> {
     assert_eq!(rt; lines_with(sink.bytes(), "yielded B"), 3);
     assert_eq!(rt; lines_with(sink.bytes(), "yielded B 42 4 96 0 0 07"), 1);
     assert_eq!(rt; lines_with(sink.bytes(), "end genuine=no repairs=yes"), 1);
+    Ok(())
+}
+
+// Pace scripts, with the text and the status of each.
+const PACED: [(&str, &str, u8); 4] = [
+    (
+        "pace 1\nrate 1000000\ntimeout 1 v:2:2000:0\npoll\nsend 1 1000\npoll\ntimeout 1 v:1:1000:0\npoll\nsend 1 1000\nend\n",
+        "chose v\nsent 8000 debt=8000000000000 rate=1000000\nnone 1001\nchose v\nsent 8000 debt=16000000000000 rate=1000000\nend\n",
+        0,
+    ),
+    (
+        "pace 1\nrate 1000000\ntimeout 1 v:2:2000:0\npoll\nsend 1 1000\nsend 1 1000\nend\n",
+        "chose v\nsent 8000 debt=8000000000000 rate=1000000\nfault step 4 Call\n",
+        2,
+    ),
+    (
+        "pace 1\nrate 1\ntimeout 2\ntimeout 1\nend\n",
+        "fault step 2 Call\n",
+        2,
+    ),
+    ("pace 1\nrate 1\npoll\n", "fault syntax 4\n", 7),
+];
+
+#[test]
+fn paced(rt: HostRuntime) -> Result<(), Fail> {
+    let alloc = rt.alloc();
+    for (script, text, status) in PACED {
+        let bytes = script.to_string(alloc)?.into_bytes();
+        let (report, sink) = called_on(alloc, "pace", bytes)?;
+        assert_eq!(rt; report.status, status, "at {script}");
+        assert_eq!(rt; sink.bytes(), text.as_bytes(), "at {script}");
+        assert!(rt; report.transcript.is_none(), "at {script}");
+    }
     Ok(())
 }

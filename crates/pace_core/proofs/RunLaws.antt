@@ -84,11 +84,16 @@ paced past (Timeout now queues ∷ calls) is none =
 paced past (Poll ∷ calls) is none = paced (told past Poll) calls is none
 paced past (Send now size ∷ calls) is none = paced (told past (Send now size)) calls is (ap (λ (cs : List ProbeClusterState). clusters_sent cs now size) none)
 
--- a log of the first calls keeps within the bound
+-- a log of the first calls is as long as they are, and keeps within the bound
+pub log_of_front-length : (rate i : ℕ) (calls : List PaceCall) (log : List PaceEntry) → i ≤ length calls
+    → log ≡ entries (made (Some rate)) (take i calls) → length log ≡ i
+log_of_front-length rate i calls log le e =
+    ap length e ∙ (entries-length (made (Some rate)) (take i calls) ∙ simp length-take (omega arith))
+
 pub log_of_front : (rate i : ℕ) (calls : List PaceCall) (log : List PaceEntry) → i ≤ length calls
     → log ≡ entries (made (Some rate)) (take i calls) → IsLogOf rate calls log
 log_of_front rate i calls log le e =
-    let count : length log ≡ i = ap length e ∙ (entries-length (made (Some rate)) (take i calls) ∙ simp length-take (omega arith)) in
+    let count : length log ≡ i = log_of_front-length rate i calls log le e in
     rw count e
 
 pub keeps : (rate : ℕ) (calls : List PaceCall) (log : List PaceEntry) → IsLogOf rate calls log → KeepsEnvelope rate calls log

@@ -142,3 +142,8 @@ KeepsEnvelope rate calls log =
 -- the log is what the first of these calls answer
 abbrev pub IsLogOf : ℕ → List PaceCall → List PaceEntry → Type 0
 IsLogOf rate calls log = log ≡ entries (made (Some rate)) (take (length log) calls)
+
+-- which calls it is the log of: all of them came, and they are those before the one that may not come
+abbrev pub IsLogUntil : ℕ → List PaceCall → PaceError → List PaceEntry → Type 0
+IsLogUntil rate calls Memory log = may_all_come (made (Some rate)) (take (length log) calls) ≡ true
+IsLogUntil rate calls (Call i) log = length log ≡ i

@@ -1,7 +1,7 @@
 //! Laws of what is let out.
 ghost use Rattle.pace_core.specs.Answers.{AnswersAreWithin};
 ghost use Rattle.pace_core.specs.Envelope.{Envelope};
-ghost use Rattle.pace_core.specs.LeakyBurst.{IsLetOutByFive};
+ghost use Rattle.pace_core.specs.LeakyBurst.{IsLetOutByFive, IsRunOfFive};
 
 /// From one packet to another, both included, a bucket lets out no more than the rate times the time
 /// passed, and the burst, and the last packet, whatever was owed before.
@@ -24,4 +24,10 @@ pub fn answers_are_within()
 #[tactic(auto, using(crate::proofs::BurstLaws::burst_is_let_out))]
 pub fn burst_is_let_out()
     ensures { IsLetOutByFive }
+{}
+
+/// The same as a run: it plays all calls, and its log meets all that the bound on runs asks for.
+#[tactic(auto, using(crate::proofs::BurstLaws::burst_is_run))]
+pub fn burst_is_run()
+    ensures { IsRunOfFive }
 {}

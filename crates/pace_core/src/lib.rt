@@ -11,7 +11,7 @@ mod queues;
 mod run;
 mod sends;
 
-pub use laws::{answers_are_within, burst_is_let_out, envelope};
+pub use laws::{answers_are_within, burst_is_let_out, burst_is_run, envelope};
 pub use leaky::LeakyBucketPacer;
 pub use log::{PaceEntry, PaceLog};
 pub use null::NullPacer;

@@ -1,7 +1,7 @@
 //! A pacer that does not pace: what waits is let out at once, in turns.
-ghost use Rattle.std.specs.Prelude.{◌≡◌, ◌<◌, None, OnOk, length};
+ghost use Rattle.std.specs.Prelude.{◌≡◌, ◌<◌, None, OnOk, OnErr, IsOk, IsSome, length};
 ghost use Rattle.std.specs.Option.{ForSome};
-ghost use Rattle.pace_core.specs.Past.{made};
+ghost use Rattle.pace_core.specs.Past.{Past, made, sent, last_sent_in};
 ghost use Rattle.pace_core.specs.Null.{
   goes_first,
   least_from,
@@ -168,7 +168,11 @@ impl Pacer for NullPacer {
         now: Instant,
         _packet_size: DataSize,
         from: MidRid,
-    ) -> Result<(), AllocError> {
+    ) -> Result<(), AllocError>
+        ensures ok { OnOk result ((past : Past) → StandsFor self.old past → StandsFor self.new (sent past now _packet_size from)) }
+        ensures err { OnErr result ((past : Past) → StandsFor self.old past → StandsFor self.new past) }
+        ensures known { (past : Past) → StandsFor self.old past → IsSome (last_sent_in past from) → IsOk result }
+    {
         self.sends.record(&from, now)?;
         mark(self.queues.as_mut_slice(), &from, now);
         self.unsent_since = None;

@@ -1,7 +1,9 @@
 //! What every pacer can do, and a pacer that is one of two kinds.
-ghost use Rattle.std.specs.Prelude.{◌≡◌, ℕ, List, Option, Some, None, IfOk, OnOk, OnErr};
+ghost use Rattle.std.specs.Prelude.{◌≡◌, ℕ, List, Option, Some, None, IfOk, OnOk, OnErr, IsOk, IsSome, true, false};
 ghost use Rattle.pace_core.specs.Past.{
   Past,
+  is_leaky,
+  last_sent_in,
   made,
   pacing_set,
   padding_set,
@@ -109,6 +111,7 @@ impl PacerImpl {
     pub fn start_probe(&mut self, config: ProbeClusterConfig) -> Result<(), AllocError>
         ensures ok { OnOk result ((past : Past) → ImplStandsFor self.old past → ImplStandsFor self.new (probe_started past config)) }
         ensures err { OnErr result ((past : Past) → ImplStandsFor self.old past → ImplStandsFor self.new past) }
+        ensures null { (past : Past) → ImplStandsFor self.old past → is_leaky past ≡ false → IsOk result }
     {
         match self {
             PacerImpl::Null(_) => Ok(()),
@@ -170,11 +173,17 @@ impl Pacer for PacerImpl {
         }
     }
 
+    /// A leaky bucket pacer takes no memory.
     fn handle_timeout(
         &mut self,
         now: Instant,
         queues: &[QueueState],
-    ) -> Result<Option<PaddingRequest>, AllocError> {
+    ) -> Result<Option<PaddingRequest>, AllocError>
+        ensures padding { IfOk result (λ asked. (past : Past) → ImplStandsFor self.old past → asked ≡ padding_of past now queues.now) }
+        ensures ok { OnOk result ((past : Past) → ImplStandsFor self.old past → ImplStandsFor self.new (timed past now queues.now)) }
+        ensures err { OnErr result ((past : Past) → ImplStandsFor self.old past → ImplStandsFor self.new past) }
+        ensures leaky { (past : Past) → ImplStandsFor self.old past → is_leaky past ≡ true → IsOk result }
+    {
         match self {
             PacerImpl::Null(pacer) => pacer.handle_timeout(now, queues),
             PacerImpl::LeakyBucket(pacer) => pacer.handle_timeout(now, queues),
@@ -188,12 +197,18 @@ impl Pacer for PacerImpl {
         }
     }
 
+    /// It takes memory only for a queue that was not sent on before, and where it is a null pacer.
     fn register_send(
         &mut self,
         now: Instant,
         packet_size: DataSize,
         from: MidRid,
-    ) -> Result<(), AllocError> {
+    ) -> Result<(), AllocError>
+        ensures ok { OnOk result ((past : Past) → ImplStandsFor self.old past → ImplStandsFor self.new (sent past now packet_size from)) }
+        ensures err { OnErr result ((past : Past) → ImplStandsFor self.old past → ImplStandsFor self.new past) }
+        ensures leaky { (past : Past) → ImplStandsFor self.old past → is_leaky past ≡ true → IsOk result }
+        ensures known { (past : Past) → ImplStandsFor self.old past → IsSome (last_sent_in past from) → IsOk result }
+    {
         match self {
             PacerImpl::Null(pacer) => pacer.register_send(now, packet_size, from),
             PacerImpl::LeakyBucket(pacer) => pacer.register_send(now, packet_size, from),

@@ -19,6 +19,7 @@ ghost use Rattle.pace_core.specs.Run.{
   IsCause,
   KeepsEnvelope,
   IsLogOf,
+  IsLogUntil,
 };
 ghost use Rattle.pace_core.specs.Player.{Plays, may_play};
 ghost use Rattle.std.specs.Prelude.{◌≡◌, ◌≤◌, [], ◌∷◌, ◌++◌, IfOk, IfErr, OnOk, OnErr, Some, IsSome, IsTrue, MatchResult, All, true, ◌↔◌};
@@ -308,6 +309,7 @@ pub fn pace_run(alloc: Global, rate: Bitrate, calls: &[PaceCall]) -> Result<Pace
     requires { All IsShort calls.now }
     ensures played { IfOk result (λ log. log ≡ entries (made (Some rate)) calls.now) }
     ensures sofar { IfErr result (λ fault. IsLogOf rate calls.now fault.sofar) }
+    ensures until { IfErr result (λ fault. IsLogUntil rate calls.now fault.error fault.sofar) }
     ensures came { IfOk result (λ log. may_all_come (made (Some rate)) calls.now ≡ true) }
     ensures cause { IfErr result (λ fault. IsCause rate calls.now fault.error) }
     ensures envelope { MatchResult result (λ log. KeepsEnvelope rate calls.now log)

@@ -1,5 +1,5 @@
 //! When each queue was sent on last.
-ghost use Rattle.std.specs.Prelude.{◌≡◌, [], ◌∷◌, ◌++◌, OnOk, OnErr};
+ghost use Rattle.std.specs.Prelude.{◌≡◌, [], ◌∷◌, ◌++◌, OnOk, OnErr, IsOk, IsSome, None};
 ghost use Rattle.std.specs.Bool.{OnTrue, OnFalse};
 ghost use Rattle.pace_core.specs.Sends.{same_queue, last_of, with_send};
 
@@ -36,6 +36,7 @@ fn updated(all: &mut [(MidRid, Instant)], key: &MidRid, now: Instant) -> bool
     ensures found { OnTrue result (all.new ≡ with_send all.old key.now now) }
     ensures absent { OnFalse result (all.new ≡ all.old) }
     ensures end { OnFalse result (with_send all.old key.now now ≡ all.old ++ (key.now, now) ∷ []) }
+    ensures unknown { OnFalse result (last_of all.old key.now ≡ None) }
 {
     for i in 0..all.len() {
         if same_queue(&all[i].0, key) {
@@ -72,6 +73,7 @@ impl Sends {
     pub fn record(&mut self, key: &MidRid, now: Instant) -> Result<(), AllocError>
         ensures ok { OnOk result (self.new ≡ with_send self.old key.now now) }
         ensures err { OnErr result (self.new ≡ self.old) }
+        ensures known { IsSome (last_of self.old key.now) → IsOk result }
     {
         if updated(self.all.as_mut_slice(), key, now) {
             return Ok(());

@@ -1,5 +1,5 @@
 -- Packets that come in order are given as they came.
-use Rattle.std.proofs.Common.{◌≡◌, ℕ, ◌+◌, ◌-◌, ◌<◌, Bool, true, false, Option, Some, None, [], ◌∷◌, refl, ap, ◌∙◌, arith, eqb, leb}
+use Rattle.std.proofs.Common.{◌≡◌, ℕ, ◌-◌, true, false, Option, Some, None, [], ◌∷◌, refl, ap, ◌∙◌, arith}
 use Rattle.std.proofs.lemmas.Bool.{eqb-true, lt-leb}
 use Rattle.payload_core.specs.declared.buffer.Arrival.{Arrival}
 use Rattle.payload_core.specs.declared.payload.CodecDepacketizer.{CodecDepacketizer}

@@ -1,9 +1,13 @@
 pub mod Choosing
+pub mod Entries
+pub mod Histories
 pub mod InOrder
+pub mod OneBuffer
 pub mod RedCount
 pub mod RedBlocks
 pub mod RedAgain
 pub mod SentAgain
+pub mod Settling
 pub mod Specs
 pub mod Tones
 pub mod Turns

@@ -1,14 +1,13 @@
 -- What is written as RED is read again.
-use Rattle.std.proofs.Common.{◌≡◌, ℕ, suc, ◌+◌, ◌*◌, ◌/◌, ◌%◌, ◌<◌, ◌≤◌, List, [], ◌∷◌, ◌++◌, length, take, drop, Option, Some, None, refl, sym, ap, ◌∙◌, append_assoc, arith, rules, length-append, ltb, true, false, get_or}
-use Rattle.std.specs.Prelude.{slice_index}
+use Rattle.std.proofs.Common.{◌≡◌, ℕ, suc, ◌+◌, ◌*◌, ◌%◌, ◌<◌, ◌≤◌, List, [], ◌∷◌, ◌++◌, length, take, drop, Some, refl, ap, ◌∙◌, append_assoc, arith, rules, length-append, ltb, false, get_or}
 use Rattle.std.specs.List.{flat_map}
-use Rattle.std.specs.Int.{w32, to_be_bytes, from_be_bytes}
-use Rattle.std.specs.Option.{option_map, option_and_then}
-use Rattle.std.proofs.lemmas.Bool.{lt-ltb, le-ltb}
+use Rattle.std.specs.Int.{w32, to_be_bytes}
+use Rattle.std.specs.Option.{option_map}
+use Rattle.std.proofs.lemmas.Bool.{le-ltb}
 use Rattle.std.proofs.lemmas.List.{take_at, drop_at}
 use Rattle.std.proofs.lemmas.Nat.{from_be_bytes-to_be_bytes_4}
-use Rattle.payload_core.specs.Red.{Block, redundant_count, header_of, type_in, offset_in, length_in, redundant_block, primary_block, first_block, blocks_from, red_of}
-use Rattle.payload_core.specs.RedWriting.{header_word, header_bytes, red_bytes, IsRedundant, IsPrimary, IsRed}
+use Rattle.payload_core.specs.Red.{Block, redundant_count, header_of, type_in, offset_in, length_in, first_block, blocks_from, red_of}
+use Rattle.payload_core.specs.RedWriting.{header_word, header_bytes, red_bytes, IsRedundant, IsRed}
 use Rattle.payload_core.proofs.RedCount.{count_next, count_here}
 
 abbrev heads : List Block → List ℕ

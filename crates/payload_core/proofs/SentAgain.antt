@@ -1,15 +1,14 @@
 -- What a sender of RED makes is read again, and within the limit.
-use Rattle.std.proofs.Common.{◌≡◌, ℕ, ◌+◌, ◌-◌, ◌<◌, ◌≤◌, Bool, true, false, List, [], ◌∷◌, ◌++◌, length, refl, sym, ap, ◌∙◌, arith, length-append, eqb, inl, inr, ◌⊎◌}
+use Rattle.std.proofs.Common.{◌≡◌, ℕ, ◌+◌, ◌-◌, ◌<◌, ◌≤◌, Bool, true, false, List, [], ◌∷◌, length, refl, ◌∙◌, arith, length-append, eqb, inl, inr, ◌⊎◌}
 use mathlib.Core.Bool.{◌&&◌}
-use mathlib.Core.List.{reverse, reverse_aux}
+use mathlib.Core.List.{reverse_aux}
 use Rattle.std.proofs.lemmas.Bool.{and_parts, leb-true, ltb-true}
 use Rattle.std.specs.List.{flat_map, list_any, AllByRecursion}
 use Rattle.payload_core.specs.declared.red_sender.SentFrame.{SentFrame}
-use Rattle.payload_core.specs.Red.{Block, red_of}
+use Rattle.payload_core.specs.Red.{Block}
 use Rattle.payload_core.specs.RedWriting.{header_bytes, red_bytes, IsRedundant, IsPrimary, IsRed}
-use Rattle.payload_core.specs.Remembered.{Remembered}
-use Rattle.payload_core.specs.Sending.{Fits, fits, older_block, first_block, chosen, frame_blocks}
-use Rattle.payload_core.specs.SendingLaws.{IsSentAgain, FramesAreSentAgain}
+use Rattle.payload_core.specs.Sending.{Fits, fits, older_block, first_block, chosen}
+use Rattle.payload_core.specs.SendingLaws.{FramesAreSentAgain}
 use Rattle.payload_core.proofs.RedAgain.{red_again}
 
 tells : (b : Bool) → (b ≡ true) ⊎ (b ≡ false)

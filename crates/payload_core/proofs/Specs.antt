@@ -1,5 +1,5 @@
 -- Two specs are one exactly where all their fields are.
-use Rattle.std.proofs.Common.{◌≡◌, ℕ, ◌+◌, ◌<◌, ◌≤◌, Bool, true, false, eqb, Option, Some, None, List, length, refl, sym, ap, ◌∙◌, rules, get_or, below_more, inl, inr}
+use Rattle.std.proofs.Common.{◌≡◌, ℕ, ◌+◌, ◌<◌, Bool, true, false, eqb, Option, Some, None, List, length, refl, sym, ap, ◌∙◌, rules, get_or, below_more}
 use Rattle.std.specs.Prelude.{slice_get}
 use Rattle.std.specs.Option.{option_eq}
 use mathlib.Core.Bool.{◌&&◌, beq}

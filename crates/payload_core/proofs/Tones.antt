@@ -1,11 +1,10 @@
 -- Telephone events in bytes, and durations in ticks.
-use Rattle.std.proofs.Common.{◌≡◌, ℕ, ◌+◌, ◌-◌, ◌*◌, ◌/◌, ◌%◌, ◌<◌, ◌≤◌, Bool, true, false, List, ◌∷◌, ◌++◌, length, take, drop, Option, Some, None, refl, sym, ap, ◌∙◌, arith, eqb, ltb, cond, inl, inr}
+use Rattle.std.proofs.Common.{◌≡◌, ℕ, ◌+◌, ◌-◌, ◌*◌, ◌/◌, ◌%◌, ◌<◌, ◌≤◌, Bool, true, false, List, ◌∷◌, ◌++◌, length, Some, refl, arith, eqb, ltb, inl, inr}
 use Rattle.std.specs.Int.{w16, to_be_bytes, from_be_bytes}
 use Rattle.std.proofs.lemmas.Bool.{eq-eqb, ne_eqb, lt-ltb, le-ltb, cases_lt}
 use Rattle.std.proofs.lemmas.Nat.{from_be_bytes-to_be_bytes_2, div-add-mod'}
 use Rattle.std.proofs.Math.Nat.{div-eq_of_lt-le, mod-lt}
-use Rattle.payload_core.specs.declared.tele.TelephoneEvent.{TelephoneEvent}
-use Rattle.payload_core.specs.Telephone.{units_of, duration_of, event_of, end_bit, bytes_of, held_event, EventReadsBack, UnitsComeBack}
+use Rattle.payload_core.specs.Telephone.{units_of, duration_of, event_of, end_bit, EventReadsBack, UnitsComeBack}
 
 read : (clock event byte volume units : ℕ) (end : Bool) (rest : List ℕ) → eqb (byte / 128) 1 ≡ end → byte % 64 ≡ volume → units < 65536
     → event_of clock ((event ∷ byte ∷ to_be_bytes w16 units) ++ rest)

@@ -1,6 +1,5 @@
 -- When the front of a buffer is given.
-use Rattle.std.proofs.Common.{◌≡◌, ℕ, Bool, true, false, Option, Some, None, refl}
-use Rattle.std.proofs.Common.{◌∙◌}
+use Rattle.std.proofs.Common.{◌≡◌, ℕ, true, false, Option, Some, None, refl}
 use Rattle.payload_core.specs.declared.buffer.Arrival.{Arrival}
 use Rattle.payload_core.specs.Buffer.{is_next}
 use Rattle.payload_core.specs.Reordering.{front, is_late, turn}

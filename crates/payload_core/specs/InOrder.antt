@@ -1,5 +1,5 @@
 -- Packets that come in order are given as they came.
-use Rattle.std.specs.Prelude.{◌≡◌, ℕ, true, Option, Some, None, [], Result}
+use Rattle.std.specs.Prelude.{◌≡◌, ℕ, true, Option, Some, []}
 use Rattle.payload_core.specs.declared.buffer.Arrival.{Arrival}
 use Rattle.payload_core.specs.declared.payload.CodecDepacketizer.{CodecDepacketizer}
 use Rattle.payload_core.specs.Buffer.{is_next}

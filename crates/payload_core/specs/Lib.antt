@@ -1,11 +1,13 @@
 pub mod Buffer
 pub mod Codecs
+pub mod History
 pub mod InOrder
 pub mod Packets
 pub mod Params
 pub mod Reasons
 pub mod Red
 pub mod RedReading
+pub mod RedSinks
 pub mod RedWriting
 pub mod Remembered
 pub mod Reordering

@@ -1,9 +1,10 @@
 -- Frames that are sent again beside later ones (RFC 2198).
-use Rattle.std.specs.Prelude.{◌≡◌, ℕ, ◌+◌, ◌-◌, ◌<◌, ◌≤◌, max, fold, reverse, Bool, true, false, ◌==◌, nat_lt, nat_le, ◌&&◌, if◌then◌else◌, Option, Some, List, [], ◌∷◌, length, take, IfOk}
+use Rattle.std.specs.Prelude.{ℕ, ◌+◌, ◌-◌, ◌<◌, ◌≤◌, max, fold, reverse, Bool, true, false, ◌==◌, nat_lt, nat_le, ◌&&◌, if◌then◌else◌, List, [], ◌∷◌, length, take, drop}
 use Rattle.std.specs.List.{list_any}
-use Rattle.payload_core.specs.Red.{Block, red_of}
+use Rattle.payload_core.specs.Red.{Block}
 use Rattle.payload_core.specs.RedWriting.{red_bytes}
 use Rattle.payload_core.specs.Remembered.{Remembered}
+use Rattle.payload_core.specs.declared.payload.MediaPacket.{MediaPacket}
 use Rattle.payload_core.specs.declared.red_sender.SentFrame.{SentFrame}
 
 abbrev pub no_frames : ℕ → ℕ → List ℕ → Remembered
@@ -46,6 +47,22 @@ abbrev pub frame_blocks : Remembered → ℕ → List ℕ → ℕ → List Block
 frame_blocks s time frame limit =
     reverse (first_block s.pt frame ∷ chosen s.pt s.distances time (limit - 1 - length frame) 1 s.sent)
 
--- a frame was sent: as many are remembered as the greatest distance says
+-- a frame was sent, and none was forgotten
+abbrev pub with_frame : Remembered → ℕ → List ℕ → Remembered
+with_frame s time frame = record s { sent = record { time = time; payload = frame } ∷ s.sent }
+
+-- the frame that was sent last is forgotten
+abbrev pub without_last : Remembered → Remembered
+without_last s = record s { sent = drop 1 s.sent }
+
+-- as many frames are remembered as the greatest distance says
+abbrev pub trimmed : Remembered → Remembered
+trimmed s = record s { sent = take (fold max 0 s.distances) s.sent }
+
+-- a frame was sent
 abbrev pub with_sent : Remembered → ℕ → List ℕ → Remembered
-with_sent s time frame = record s { sent = take (fold max 0 s.distances) (record { time = time; payload = frame } ∷ s.sent) }
+with_sent s time frame = trimmed (with_frame s time frame)
+
+-- the packet under the type of RED, with the older frames before its own
+abbrev pub wrapped : Remembered → MediaPacket → ℕ → MediaPacket
+wrapped s p limit = record p { pt = s.red_pt; payload = red_bytes (frame_blocks s p.rtp_time.numer p.payload limit) }

@@ -1,6 +1,7 @@
 //! Packets put back into the order of their numbers.
-ghost use Rattle.std.specs.Prelude.{◌≡◌, OnOk, OnErr};
+ghost use Rattle.std.specs.Prelude.{◌≡◌, List, [], ◌∷◌, ◌++◌, OnOk, OnErr};
 ghost use Rattle.std.specs.Option.{option_map};
+ghost use Rattle.payload_core.specs.History.{EventsDetermine};
 ghost use Rattle.payload_core.specs.InOrder.{ComesOutAsIn};
 ghost use Rattle.payload_core.specs.Reordering.{frame_of};
 ghost use Rattle.payload_core.specs.Buffer.{settled, is_next, earliest, is_past, timed_out};
@@ -153,11 +154,14 @@ fn frame<I: Drop>(
 }
 
 impl<I: Drop> DepacketizingBuffer<I> {
+    ghost use Rattle.payload_core.specs.History.{Event, pushed, padded, StandsFor, given_now, GivesByRule};
     ghost use Rattle.payload_core.specs.Reordering.{nothing_waits, is_known, with_packet, with_padding, is_late, turn, popped, after_pop, blocked, next_moment, candidate};
 
     /// Nothing waits, and nothing was given. More than so many packets do not wait for a missing one.
+    #[tactic(auto, using(crate::proofs::Histories::new_stands))]
     pub fn new(alloc: Global, depack: CodecDepacketizer, hold_back: usize) -> Self
-        ensures { result ≡ nothing_waits depack hold_back }
+        ensures value { result ≡ nothing_waits depack hold_back }
+        ensures stands { StandsFor result [] }
     {
         DepacketizingBuffer {
             depack,
@@ -186,6 +190,8 @@ impl<I: Drop> DepacketizingBuffer<I> {
     pub fn push(&mut self, meta: RtpMeta<I>, payload: Bytes) -> Result<(), AllocError>
         ensures ok { OnOk result (self.new ≡ with_packet self.old (record { meta = meta; payload = payload })) }
         ensures err { OnErr result (self.new ≡ self.old) }
+        ensures stands { (events : List (Event I)) → StandsFor self.old events
+            → OnOk result (StandsFor self.new (events ++ pushed (record { meta = meta; payload = payload }) ∷ [])) }
     {
         let number = u64::from(meta.seq_no);
         if self.is_known(number) {
@@ -200,6 +206,8 @@ impl<I: Drop> DepacketizingBuffer<I> {
     pub fn push_padding(&mut self, seq_no: SeqNo) -> Result<(), AllocError>
         ensures ok { OnOk result (self.new ≡ with_padding self.old seq_no) }
         ensures err { OnErr result (self.new ≡ self.old) }
+        ensures stands { (events : List (Event I)) → StandsFor self.old events
+            → OnOk result (StandsFor self.new (events ++ padded seq_no ∷ [])) }
     {
         let number = u64::from(seq_no);
         if self.is_known(number) {
@@ -247,6 +255,10 @@ impl<I: Drop> DepacketizingBuffer<I> {
     ) -> Option<Result<Depacketized<I>, PacketError>>
         ensures given { result ≡ popped self.old now audio_timeout }
         ensures after { self.new ≡ after_pop self.old now audio_timeout }
+        ensures rule { (events : List (Event I)) → StandsFor self.old events
+            → GivesByRule self.old events now audio_timeout result }
+        ensures stands { (events : List (Event I)) → StandsFor self.old events
+            → StandsFor self.new (events ++ given_now self.old now audio_timeout) }
     {
         let Some(contiguous) = self.turn(now, audio_timeout) else {
             return None;
@@ -298,7 +310,8 @@ impl<I: Drop> DepacketizingBuffer<I> {
 
     /// Sets when the missing packets before the front are given up, None for never.
     pub fn set_recovery_deadline(&mut self, deadline: Option<Instant>)
-        ensures { self.new ≡ record self.old { deadline = deadline } }
+        ensures value { self.new ≡ record self.old { deadline = deadline } }
+        ensures stands { (events : List (Event I)) → StandsFor self.old events → StandsFor self.new events }
     {
         self.deadline = deadline;
     }
@@ -308,4 +321,9 @@ impl<I: Drop> DepacketizingBuffer<I> {
 #[tactic(auto, using(crate::proofs::InOrder::in_order))]
 pub fn frames_come_out_as_in<I: Drop>()
     ensures { ComesOutAsIn I }
+{}
+
+/// What was pushed and given determines what a buffer holds: the last number, and what waits.
+pub fn events_determine_what_waits<I: Drop>()
+    ensures { EventsDetermine I }
 {}

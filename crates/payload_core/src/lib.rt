@@ -10,10 +10,14 @@ mod payload;
 mod red;
 mod red_encoder;
 mod red_sender;
+mod red_sink;
 mod simulcast;
 mod tele;
 
-pub use buffer::{Arrival, Depacketized, DepacketizingBuffer, RtpMeta, frames_come_out_as_in};
+pub use buffer::{
+    Arrival, Depacketized, DepacketizingBuffer, RtpMeta, events_determine_what_waits,
+    frames_come_out_as_in,
+};
 pub use codec::{Codec, CodecSpec, FormatParams, MediaKind};
 pub use error::{PacketError, TelephoneFault};
 pub use params::{CodecConfig, ParamsOfKind, PayloadParams, TELE_EVENT_MAX};
@@ -21,6 +25,7 @@ pub use payload::{CodecDepacketizer, CodecExtra, MediaPacket, PacketSink, Payloa
 pub use red::{MAX_RED_RECOVERY_DEPTH, RedBlock, RedDecoder, RedError, red_same_pt_blocks};
 pub use red_encoder::{RedEncoder, written_red_is_read_again};
 pub use red_sender::{RedSender, SentFrame, frames_are_sent_again};
+pub use red_sink::RedSink;
 pub use simulcast::{SdpAttribute, SdpSimulcast, SdpSimulcastLayer};
 pub use tele::{
     TelephoneEvent, duration_from_units, telephone_events_are_read_again, units_come_back,

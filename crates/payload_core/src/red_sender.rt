@@ -93,7 +93,7 @@ fn older_block(pt: Pt, time: u64, sent: &SentFrame) -> RedBlock<'_>
 }
 
 impl RedSender {
-    ghost use Rattle.payload_core.specs.Sending.{no_frames, synced, chosen, frame_blocks, with_sent};
+    ghost use Rattle.payload_core.specs.Sending.{no_frames, synced, chosen, frame_blocks, with_frame, without_last, trimmed, with_sent, wrapped};
 
     /// Sends frames of a type under the type of RED, with the frames that are so many packets back. No
     /// frame was sent.
@@ -161,6 +161,7 @@ impl RedSender {
         Ok(blocks)
     }
 
+    // The payload under the type of RED of a frame at this time.
     fn payload(
         &self,
         alloc: Global,
@@ -174,14 +175,30 @@ impl RedSender {
         red_bytes(alloc, &blocks)
     }
 
-    fn keep(&mut self, time: u64, payload: Bytes) -> Result<(), AllocError>
-        ensures ok { OnOk result (self.new ≡ with_sent self.old time payload) }
+    // Puts a frame before those that were sent.
+    fn add(&mut self, time: u64, payload: Bytes) -> Result<(), AllocError>
+        ensures ok { OnOk result (self.new ≡ with_frame self.old time payload) }
         ensures err { OnErr result (self.new ≡ self.old) }
     {
-        let depth = greatest(&self.distances) as usize;
         self.sent.insert(0, SentFrame { time, payload })?;
-        self.sent.truncate(depth);
         Ok(())
+    }
+
+    // Lets go of the frame that was added last.
+    pub(crate) fn remove_last(&mut self)
+        ensures { self.new ≡ without_last self.old }
+    {
+        if !self.sent.is_empty() {
+            let _last = self.sent.remove(0);
+        }
+    }
+
+    // Lets go of the frames that are farther back than any distance.
+    pub(crate) fn forget(&mut self)
+        ensures { self.new ≡ trimmed self.old }
+    {
+        let depth = greatest(&self.distances) as usize;
+        self.sent.truncate(depth);
     }
 
     /// The packet under the type of RED: its frame as the last block, and before it the frames at the
@@ -194,15 +211,31 @@ impl RedSender {
         packet: MediaPacket,
         limit: usize,
     ) -> Result<MediaPacket, AllocError>
-        ensures packet { IfOk result (λ p. p ≡ record packet { pt = self.old.red_pt; payload = red_bytes (frame_blocks self.old packet.rtp_time.numer packet.payload limit) }) }
+        ensures packet { IfOk result (λ p. p ≡ wrapped self.old packet limit) }
         ensures sent { OnOk result (self.new ≡ with_sent self.old packet.rtp_time.numer packet.payload) }
+        ensures err { OnErr result (self.new ≡ self.old) }
+    {
+        let wrapped = self.wrap_only(alloc, packet, limit)?;
+        self.forget();
+        Ok(wrapped)
+    }
+
+    // Wraps a packet, and keeps all frames.
+    pub(crate) fn wrap_only(
+        &mut self,
+        alloc: Global,
+        packet: MediaPacket,
+        limit: usize,
+    ) -> Result<MediaPacket, AllocError>
+        ensures packet { IfOk result (λ p. p ≡ wrapped self.old packet limit) }
+        ensures sent { OnOk result (self.new ≡ with_frame self.old packet.rtp_time.numer packet.payload) }
         ensures err { OnErr result (self.new ≡ self.old) }
     {
         let mut packet = packet;
         let time = packet.rtp_time.numer();
         let payload = self.payload(alloc, time, packet.payload.as_slice(), limit)?;
         let frame = mem::replace(&mut packet.payload, Bytes::from_vec(payload));
-        self.keep(time, frame)?;
+        self.add(time, frame)?;
         packet.pt = self.red_type;
         Ok(packet)
     }

@@ -15,3 +15,9 @@ pub use laws::{remembered_is_not_fresh, rounds_name_the_due, taken_is_not_fresh}
 pub use register::{ReceiverRegister, expected, packets_lost};
 pub use register_nack::NackRegister;
 pub use resend_core::{Cached, EvictingBuffer, ResendStore, RtxCache};
+
+/// What a round of asking is made of (RFC 4585 section 6.2.1), for every register.
+pub mod rounds {
+    pub use crate::missing::{Missing, pack};
+    pub use crate::register_nack::{grace, later, wait};
+}

@@ -363,8 +363,8 @@ impl NackRegister {
     }
 }
 
-/// How long a number is not asked for again.
-fn wait(trip: Option<Duration>) -> Duration
+/// How long a number is not asked for again: the round trip, 100 ms where it is not known, and 5 ms.
+pub fn wait(trip: Option<Duration>) -> Duration
     ensures { result ≡ wait_of trip }
 {
     let trip = match trip {
@@ -374,15 +374,17 @@ fn wait(trip: Option<Duration>) -> Duration
     trip.saturating_add(Duration::from_nanos(5_000_000))
 }
 
-/// Three round trips.
-fn grace(trip: Option<Duration>) -> Duration
+/// Three round trips, of 100 ms where they are not known: so long after the last ask a number is
+/// given up.
+pub fn grace(trip: Option<Duration>) -> Duration
     ensures { result ≡ grace_of trip }
 {
     let trip = trip.unwrap_or(Duration::from_nanos(100_000_000));
     trip.saturating_mul(3)
 }
 
-fn later(latest: Option<Instant>, moment: Instant) -> Option<Instant>
+/// The later of two moments.
+pub fn later(latest: Option<Instant>, moment: Instant) -> Option<Instant>
     ensures { result ≡ later_of latest moment }
 {
     match latest {

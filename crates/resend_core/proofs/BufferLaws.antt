@@ -12,7 +12,7 @@ use Rattle.resend_core.specs.Ring.{slot_of, held, yields_to, has_room, is_other,
 use Rattle.resend_core.specs.ResendStore.{Event, pushed, evicted, Past, with_event, emptied, size_of, greatest_by, last_under, stored_at, stored_position, greatest_stored, after_pushed, next_position, evicted_at, latest_eviction, IsRising, MustStore, MayGo, HeldAs, mark_above, IsMarked, is_under, IsAtLeast, IsPassedOver, MarksPush}
 use Rattle.resend_core.specs.EvictingBuffer.{StandsFor, IsReady, Grows, Places, lowered, IsBounded, Drops, IsDone, IsPushed, takes_push}
 use Rattle.resend_core.proofs.RingLaws.{held_slot, held_in, in_held, slot_held, held_put_same, held_put_other, held_put_from, in_place_put, length-put, all_length, IsOutdone, no_use, no_clash, grown, grown_from, grown_in_place, dropped_in_place, dropped_from}
-use Rattle.resend_core.proofs.EventLaws.{greatest_by-push, greatest_by_grows, last_by-push, under_same, under_other, under_ignored, under_evicted, rising_front, under_stored, under_next, rising_order}
+use Rattle.resend_core.specs.EventLaws.{may_go_more, greatest_by-push, greatest_by_grows, last_by-push, under_same, under_other, under_ignored, under_evicted, rising_front, under_stored, under_next, rising_order}
 
 -- of two numbers with one remainder the greater is the divisor or more above
 step_up : (n a b : ℕ) → 0 < n → a < b → a % n ≡ b % n → a + n ≤ b
@@ -21,18 +21,6 @@ step_up n a b some lt same =
     (λ (more : a / n < b / n). let times : n * (a / n + 1) ≤ n * (b / n) = mul-le-mul_left n (omega arith) in omega arith)
     (λ (less : b / n ≤ a / n). let times : n * (b / n) ≤ n * (a / n) = mul-le-mul_left n less in absurd (omega arith))
     (cases_lt (a / n) (b / n))
-
-may_go_more : {T : Type 0} (past : Past T) (e : Event T) (p t : ℕ) → MayGo past p t → MayGo (with_event past e) p t
-may_go_more past e p t w =
-    ⊎_elim
-    (λ (old : t + past.age < latest_eviction past.events). inl (less t past.age (latest_eviction past.events) (latest_eviction (past.events ++ e ∷ [])) old (greatest_by_grows evicted_at past.events e)))
-    (λ (far : p + size_of past ≤ greatest_stored past.events). inr (far_on p (size_of past) (greatest_stored past.events) (greatest_stored (past.events ++ e ∷ [])) far (greatest_by_grows stored_position past.events e)))
-    w where
-      less : (a b c d : ℕ) → a + b < c → c ≤ d → a + b < d
-      less a b c d h k = omega arith
-
-      far_on : (a b c d : ℕ) → a + b ≤ c → c ≤ d → a + b ≤ d
-      far_on a b c d h k = omega arith
 
 -- what is held is that of an event
 held_le : {T : Type 0} (b : EvictingBuffer T) (past : Past T) (f : Entry T) → StandsFor b past → IsIn f b.ring.items → f.position ≤ greatest_stored past.events

@@ -2,6 +2,5 @@ pub mod BufferLaws
 pub mod CacheLaws
 pub mod CacheSteps
 pub mod DropLaws
-pub mod EventLaws
 pub mod RevaluedLaws
 pub mod RingLaws

@@ -1,3 +1,4 @@
+pub mod EventLaws
 pub mod EvictingBuffer
 pub mod HeldLaws
 pub mod Lending

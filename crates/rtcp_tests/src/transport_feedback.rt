@@ -140,6 +140,16 @@ fn build(
     Ok(register.build_report(rt.alloc(), Ssrc::from(1), Ssrc::from(42), limit)?)
 }
 
+// The first number of a report and how many it tells of.
+fn reported(
+    rt: &HostRuntime,
+    register: &mut TwccRecvRegister,
+    limit: usize,
+) -> Result<Option<(u16, usize)>, Fail> {
+    let report = build(rt, register, limit)?;
+    Ok(report.map(|report| (report.base_seq, report.rows.as_slice().len())))
+}
+
 fn rows(rt: &HostRuntime, statuses: &[PacketStatus]) -> Result<Listed<PacketStatus>, Fail> {
     let mut rows = Listed::new(rt.alloc());
     for status in statuses {
@@ -186,6 +196,39 @@ fn late_at_the_wrap(rt: HostRuntime) -> Result<(), Fail> {
     let deltas = [PacketStatus::Received(24), PacketStatus::Received(-16)];
     assert!(rt; second.rows == rows(&rt, &deltas)?);
     assert!(rt; (second.base_seq, second.feedback_count) == (65_535, 1));
+    assert!(rt; !register.has_unreported());
+    Ok(())
+}
+
+// After 1 and 3 to 8 were reported 2 comes late: a report goes from 2 on as far as it has room, and
+// nothing is left behind it.
+#[test]
+fn late_number_below_reported_ones(rt: HostRuntime) -> Result<(), Fail> {
+    let early = [(1, 0), (3, 0), (4, 0), (5, 0), (6, 0), (7, 0), (8, 0)];
+    for (limit, count) in [(23, 0), (24, 1), (1_000, 7)] {
+        let mut register = register(&rt, &early)?;
+        assert_eq!(rt; reported(&rt, &mut register, 1_000)?, Some((1, 8)));
+        register.update_seq(SeqNo::from(2), Instant::from_nanos(1_000_000))?;
+        let late = if count == 0 { None } else { Some((2, count)) };
+        assert_eq!(rt; reported(&rt, &mut register, limit)?, late);
+        assert_eq!(rt; register.has_unreported(), count == 0);
+    }
+    Ok(())
+}
+
+// A number 32,768 below the greatest counts, and one further below is passed over or let go.
+#[test]
+fn numbers_far_below(rt: HostRuntime) -> Result<(), Fail> {
+    for (first, second, base) in [
+        (32_769, 1, 1),
+        (32_770, 1, 32_770),
+        (5, 32_773, 5),
+        (5, 32_774, 32_774),
+    ] {
+        let mut register = register(&rt, &[(first, 0), (second, 0)])?;
+        let begun = reported(&rt, &mut register, 24)?.map(|report| report.0);
+        assert_eq!(rt; begun, Some(base));
+    }
     Ok(())
 }
 

@@ -63,7 +63,7 @@ pub come_back : WidensToItself → ReportsComeBack
 unfolding told_by
 come_back widens s r sender ssrc limit now last t first small small' count w due early e sent low high few =
     let tells = reports_tell r sender ssrc limit t first small small' count w due early e in
-    let rows = report_rows r limit first in
+    let rows = report_rows r.arrivals limit first in
     let is = made_of r sender ssrc first rows t (sym (something_due r sender ssrc limit first rows (sym due) refl).0 ∙ e) in
     let base : first.0 % 65536 ≡ t.base_seq = ap (λ (x : Twcc). x.base_seq) is in
     let near : widen16 (Some last) (first.0 % 65536) ≡ first.0 = (widens last first.0 few (omega (arith, low, few))).1 (inl (omega (arith, low), omega (arith, high), λ k. absurd (omega (arith, low, k)), λ k. absurd (omega (arith, high, k)))) in

@@ -3,8 +3,10 @@ pub mod Symbols
 pub mod Chunks
 pub mod ReadBack
 pub mod Sizes
+pub mod Keeping
 pub mod Receiving
 pub mod Reporting
+pub mod Reported
 pub mod Telling
 pub mod Nothing
 pub mod Marking

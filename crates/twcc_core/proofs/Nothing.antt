@@ -13,10 +13,11 @@ use Rattle.twcc_core.specs.declared.feedback.Twcc.{Twcc}
 use Rattle.twcc_core.specs.declared.size.Size.{Size}
 use Rattle.twcc_core.specs.Chunks.{chunks_of}
 use Rattle.twcc_core.specs.Feedback.{twcc_bytes}
-use Rattle.twcc_core.specs.Reports.{Receiving, unreported, arrival_of, steps_of, reference_of, rows_from, size_of, fitting, greatest_of, report_rows, report_with, report_of}
+use Rattle.twcc_core.specs.Reports.{Receiving, unreported, is_unreported, arrival_of, steps_of, reference_of, rows_from, size_of, fitting, greatest_of, report_rows, report_with, report_of}
 use Rattle.twcc_core.specs.Sizes.{after_row, IsCounted}
 use Rattle.twcc_core.proofs.ReadBack.{bytes_len, fields_len}
 use Rattle.twcc_core.proofs.Sizes.{next_counted, counted_chunks, size_grows}
+use Rattle.twcc_core.proofs.Keeping.{first_found}
 use Rattle.twcc_core.proofs.Receiving.{fit_down}
 use Rattle.twcc_core.proofs.Reporting.{nothing_due, something_due, no_rows, some_rows}
 
@@ -28,15 +29,6 @@ size_written t =
     let bytes = bytes_len t in
     omega (arith, fields, bytes)
 
-at_same : (n : ℕ) → is_at (nat_cmp n) n ≡ true
-at_same n = ap is_eq (sym (nat_cmp_is n n Equal refl))
-
-at_above : (n m : ℕ) → m < n → is_at (nat_cmp n) m ≡ false
-at_above n m lt = ap is_eq (sym (nat_cmp_is n m Greater lt))
-
-entry_is : (x y : ℕ × ℕ) → Some x ≡ Some y → x ≡ y
-entry_is x y e = cc
-
 abbrev empty : Size
 empty = record { chunks = 0; told = 0; symbol = 0; is_run = false; deltas = 0 }
 
@@ -47,21 +39,6 @@ one_chunk_of : (row : PacketStatus) → length (chunks_of (row ∷ [])) ≡ 1
 one_chunk_of row =
     let c = counted_chunks (after_row empty row) (row ∷ []) (next_counted empty row [] (refl, refl, refl)) in
     sym c ∙ first_counted row
-
--- the first entry from a number on is found under its number
-first_found : (next : ℕ) (es : List (ℕ × ℕ)) (first : ℕ × ℕ) → slice_get (filter (λ e. leb next e.0) es) 0 ≡ Some first → (next ≤ first.0) × (arrival_of es first.0 ≡ Some first.1)
-first_found next [] first = λ due. absurd cc
-first_found next (e ∷ es) first =
-    elim (leb next e.0) as (λ b. (leb next e.0 ≡ b) → slice_get (cond b (e ∷ filter (λ x. leb next x.0) es) (filter (λ x. leb next x.0) es)) 0 ≡ Some first → (next ≤ first.0) × (arrival_of (e ∷ es) first.0 ≡ Some first.1)) [
-      | true ↦ λ le due.
-          let is : e ≡ first = entry_is e first due in
-          let same : is_at (nat_cmp first.0) first.0 ≡ true = at_same first.0 in
-          rw is (leb-true _ _ (ap (λ (x : ℕ × ℕ). leb next x.0) (sym is) ∙ le), rw same refl)
-      | false ↦ λ lt due.
-          let h = first_found next es first due in
-          let apart : is_at (nat_cmp first.0) e.0 ≡ false = at_above first.0 e.0 (omega (arith, leb-false _ _ lt, h.0)) in
-          (h.0, rw apart h.1)
-    ] refl
 
 -- one row of a small delta takes 24 bytes
 one_row : (steps : ℕ) → steps < 256 → size_of (Received (pos steps) ∷ []) ≡ 24
@@ -105,7 +82,7 @@ row_fits : (r : Receiving) (first : ℕ × ℕ) (limit : ℕ) → slice_get (unr
     → (limit < 24 → fitting limit (all_rows r first) (length (all_rows r first)) ≡ 0)
     × (24 ≤ limit → (0 < fitting limit (all_rows r first) (length (all_rows r first))) × (0 < length (all_rows r first)))
 row_fits r first limit due =
-    let found = (first_found r.next r.arrivals first due).1 in
+    let found = (first_found (is_unreported r) r.arrivals first due).1 in
     let m : ℕ = min 65534 (unwrap_or (greatest_of r.arrivals) 0 - first.0) in
     let k : m + 1 ≡ suc m = omega arith in
     let is : all_rows r first ≡ Received (pos (steps_of first.1 - 256 * reference_of first.1)) ∷ rows_from r.arrivals m (first.0 + 1) (steps_of first.1) = rw k (first_row r.arrivals m first.0 first.1 found) in
@@ -129,14 +106,14 @@ none_exactly r sender ssrc limit = (
         | Some first ↦ λ due.
             let len = length-take (fitting limit (all_rows r first) (length (all_rows r first))) (all_rows r first) in
             let zero' = (row_fits r first limit due).0 few in
-            (something_due r sender ssrc limit first (report_rows r limit first) (sym due) refl).0 ∙ (no_rows r sender ssrc first (report_rows r limit first) (omega (arith, len, zero'))).0
+            (something_due r sender ssrc limit first (report_rows r.arrivals limit first) (sym due) refl).0 ∙ (no_rows r sender ssrc first (report_rows r.arrivals limit first) (omega (arith, len, zero'))).0
       ] refl,
   λ first due room.
       let len = length-take (fitting limit (all_rows r first) (length (all_rows r first))) (all_rows r first) in
       let some' = (row_fits r first limit due).1 room in
       let some0 = some'.0 in
       let some1 = some'.1 in (
-        report_with r sender ssrc first (report_rows r limit first),
-        (something_due r sender ssrc limit first (report_rows r limit first) (sym due) refl).0 ∙ some_rows r sender ssrc first (report_rows r limit first) (omega (arith, len, some0, some1)),
+        report_with r.reports sender ssrc first (report_rows r.arrivals limit first),
+        (something_due r sender ssrc limit first (report_rows r.arrivals limit first) (sym due) refl).0 ∙ some_rows r sender ssrc first (report_rows r.arrivals limit first) (omega (arith, len, some0, some1)),
       ),
 )

@@ -138,10 +138,10 @@ reference_fits n lt =
 
 -- ---- reports
 
-pub made_of : (r : Receiving) (sender ssrc : ℕ) (first : ℕ × ℕ) (rows : List PacketStatus) (t : Twcc) → report_if r sender ssrc first rows ≡ Some t → report_with r sender ssrc first rows ≡ t
+pub made_of : (r : Receiving) (sender ssrc : ℕ) (first : ℕ × ℕ) (rows : List PacketStatus) (t : Twcc) → report_if r sender ssrc first rows ≡ Some t → report_with r.reports sender ssrc first rows ≡ t
 made_of r sender ssrc first rows t =
-    elim (ltb 0 (length rows)) as (λ b. cond b (Some (report_with r sender ssrc first rows)) None ≡ Some t → report_with r sender ssrc first rows ≡ t) [
-      | true ↦ λ e. some_is (report_with r sender ssrc first rows) t e
+    elim (ltb 0 (length rows)) as (λ b. cond b (Some (report_with r.reports sender ssrc first rows)) None ≡ Some t → report_with r.reports sender ssrc first rows ≡ t) [
+      | true ↦ λ e. some_is (report_with r.reports sender ssrc first rows) t e
       | false ↦ λ e. absurd cc
     ]
 
@@ -149,14 +149,14 @@ pub reports_tell : (r : Receiving) (sender ssrc limit : ℕ) (t : Twcc) (first :
     → slice_get (unreported r) 0 ≡ Some first → reference_of first.1 < 2 ^ 24 → report_of r sender ssrc limit ≡ Some t
     → (twcc_of (twcc_bytes t) ≡ Some t) × (moments_of t ≡ held_from r.arrivals first.0 (length t.rows))
 reports_tell r sender ssrc limit t first s m count w due early e =
-    let rows : List PacketStatus = report_rows r limit first in
+    let rows : List PacketStatus = report_rows r.arrivals limit first in
     let is = made_of r sender ssrc first rows t (sym (something_due r sender ssrc limit first rows (sym due) refl).0 ∙ e) in
     let reference = reference_fits (reference_of first.1 % 16777216) (omega arith) in
     let n : ℕ = min 65534 (unwrap_or (greatest_of r.arrivals) 0 - first.0) + 1 in
     let all : List PacketStatus = rows_from r.arrivals n first.0 (256 * reference_of first.1) in
     let len = length-take (fitting limit all (length all)) all in
     let few = rows_few r.arrivals n first.0 (256 * reference_of first.1) in
-    let fits : IsFeedback (report_with r sender ssrc first rows) = record {
+    let fits : IsFeedback (report_with r.reports sender ssrc first rows) = record {
       sender = s;
       media = m;
       base = omega arith;
@@ -166,9 +166,9 @@ reports_tell r sender ssrc limit t first s m count w due early e =
       statuses = rows_are_statuses r.arrivals n first.0 (256 * reference_of first.1) (fitting limit all (length all));
     } in
     let start : bits24 (signed24 (reference_of first.1 % 16777216)) * 64000000 ≡ 256 * reference_of first.1 * 250000 = omega (arith, reference.1, early) in
-    let tells : moments_of (report_with r sender ssrc first rows) ≡ held_from r.arrivals first.0 (length rows) =
+    let tells : moments_of (report_with r.reports sender ssrc first rows) ≡ held_from r.arrivals first.0 (length rows) =
     ap (λ (x : ℕ). moments_from x rows) start ∙ taken_tell r.arrivals n first.0 (256 * reference_of first.1) (fitting limit all (length all)) w in
-    rw (← is) (twcc_again (report_with r sender ssrc first rows) fits, tells)
+    rw (← is) (twcc_again (report_with r.reports sender ssrc first rows) fits, tells)
 
 -- ---- the loop over rows
 

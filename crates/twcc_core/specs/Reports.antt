@@ -1,6 +1,6 @@
 -- Reports of packets received.
-use Rattle.std.specs.Prelude.{ℕ, ℤ, pos, negsuc, zero, suc, ◌+◌, ◌-◌, ◌*◌, ◌/◌, ◌%◌, ◌^◌, min, max, List, [], ◌∷◌, length, take, filter, slice_get, nat_lt, nat_le, is_some, unwrap_or, Option, Some, None, if◌then◌else◌}
-use Rattle.std.specs.List.{flat_map}
+use Rattle.std.specs.Prelude.{◌≡◌, ℕ, ℤ, pos, negsuc, zero, suc, ◌+◌, ◌-◌, ◌*◌, ◌/◌, ◌%◌, min, max, ◌&&◌, Bool, List, [], ◌∷◌, length, take, filter, slice_get, nat_eq, nat_lt, nat_le, is_some, unwrap_or, Option, Some, None, if◌then◌else◌}
+use Rattle.std.specs.List.{flat_map, list_any}
 use Rattle.std.specs.Option.{option_map, option_map_or, option_and_then}
 use Rattle.std.specs.Ordering.{nat_cmp}
 use Rattle.std.specs.Map.{lookup}
@@ -14,31 +14,86 @@ use Rattle.twcc_core.specs.Chunks.{chunks_of}
 use Rattle.twcc_core.specs.Feedback.{fill_of}
 use Rattle.rtp_base.specs.Fields.{signed24}
 
--- the packets received: each number with the moment of its first arrival, in order of numbers; the
--- number from which on they are to be reported; and how many reports were made, modulo 256
+-- what was received and reported: each number that counts with the moment of its first arrival, in order of
+-- numbers; the numbers that came and that no report covered since; and how many reports were made, modulo 256
 pub record Receiving : Type 0 where
   pub arrivals : List (ℕ × ℕ)
-  pub next : ℕ
+  pub pending : List ℕ
   pub reports : ℕ
+
+abbrev pub nothing_received : Receiving
+nothing_received = record { arrivals = []; pending = []; reports = 0 }
 
 -- when a number came, if it did
 abbrev pub arrival_of : List (ℕ × ℕ) → ℕ → Option ℕ
 arrival_of arrivals number = lookup (is_at (nat_cmp number)) arrivals
 
--- of two arrivals of a number the first counts. One below what was reported makes the numbers from it
--- on unreported again
-abbrev pub with_arrival : Receiving → ℕ → ℕ → Receiving
-with_arrival r number now =
-    if is_some (arrival_of r.arrivals number) then r
-    else record { arrivals = insert_entry nat_cmp r.arrivals number now; next = min r.next number; reports = r.reports }
-
--- the numbers to report
-abbrev pub unreported : Receiving → List (ℕ × ℕ)
-unreported r = filter (λ e. nat_le r.next e.0) r.arrivals
-
--- the greatest number
+-- the greatest and the lowest number
 abbrev pub greatest_of : List (ℕ × ℕ) → Option ℕ
 greatest_of arrivals = option_map (λ e. e.0) (slice_get arrivals (length arrivals - 1))
+
+abbrev pub lowest_of : List (ℕ × ℕ) → Option ℕ
+lowest_of arrivals = option_map (λ e. e.0) (slice_get arrivals 0)
+
+-- the numbers that count: those not more than 32,768 below the greatest, as far as 16 bits tell numbers
+-- apart on either side
+abbrev pub first_counted : List (ℕ × ℕ) → ℕ
+first_counted arrivals = unwrap_or (greatest_of arrivals) 0 - 32768
+
+-- a number that does not count is passed over, and of two arrivals of a number the first counts
+abbrev pub with_arrival : Receiving → ℕ → ℕ → Receiving
+with_arrival r number now =
+    if nat_lt number (first_counted r.arrivals) then r
+    else (if is_some (arrival_of r.arrivals number) then r
+    else record { arrivals = insert_entry nat_cmp r.arrivals number now; pending = number ∷ r.pending; reports = r.reports })
+
+-- the numbers to report
+abbrev pub is_pending : List ℕ → ℕ → Bool
+is_pending pending number = list_any (nat_eq number) pending
+
+abbrev pub is_unreported : Receiving → ℕ → Bool
+is_unreported r number = nat_le (first_counted r.arrivals) number && is_pending r.pending number
+
+abbrev pub unreported : Receiving → List (ℕ × ℕ)
+unreported r = filter (λ e. is_unreported r e.0) r.arrivals
+
+-- what a register keeps of it: the arrivals of the numbers that count, those of them that are to be
+-- reported, and the lowest number of all
+pub record Kept : Type 0 where
+  pub arrivals : List (ℕ × ℕ)
+  pub pending : List (ℕ × ℕ)
+  pub lowest : Option ℕ
+  pub reports : ℕ
+
+abbrev pub recent : List (ℕ × ℕ) → List (ℕ × ℕ)
+recent arrivals = filter (λ e. nat_le (first_counted arrivals) e.0) arrivals
+
+abbrev pub kept_of : Receiving → Kept
+kept_of r = record { arrivals = recent r.arrivals; pending = unreported r; lowest = lowest_of r.arrivals; reports = r.reports }
+
+abbrev pub least_of : Option ℕ → ℕ → ℕ
+least_of lowest number = option_map_or (λ other. min other number) lowest number
+
+-- with another number, and without those that do not count
+abbrev pub with_put : Kept → ℕ → ℕ → Kept
+with_put k number now = record {
+  arrivals = insert_entry nat_cmp k.arrivals number now;
+  pending = insert_entry nat_cmp k.pending number now;
+  lowest = Some (least_of k.lowest number);
+  reports = k.reports;
+}
+
+abbrev pub with_recent : Kept → Kept
+with_recent k = record {
+  arrivals = recent k.arrivals;
+  pending = filter (λ e. nat_le (first_counted k.arrivals) e.0) k.pending;
+  lowest = k.lowest;
+  reports = k.reports;
+}
+
+-- a register stands for what was received and reported
+unfoldable pub StandsFor : Kept → Receiving → Type 0
+StandsFor kept r = kept ≡ kept_of r
 
 -- a moment in steps of 250 us, and in steps of 64 ms
 abbrev pub steps_of : ℕ → ℕ
@@ -88,36 +143,36 @@ rows_within limit rows = take (fitting limit rows (length rows)) rows
 
 -- the rows of a report from a number on, which came at a moment: up to the greatest number, at most
 -- 65,535
-abbrev pub report_rows : Receiving → ℕ → ℕ × ℕ → List PacketStatus
-report_rows r limit e =
-    rows_within limit (rows_from r.arrivals (min 65534 (unwrap_or (greatest_of r.arrivals) 0 - e.0) + 1) e.0 (256 * reference_of e.1))
+abbrev pub report_rows : List (ℕ × ℕ) → ℕ → ℕ × ℕ → List PacketStatus
+report_rows arrivals limit e =
+    rows_within limit (rows_from arrivals (min 65534 (unwrap_or (greatest_of arrivals) 0 - e.0) + 1) e.0 (256 * reference_of e.1))
 
 -- the report of some rows, if there are any
-abbrev pub report_with : Receiving → ℕ → ℕ → ℕ × ℕ → List PacketStatus → Twcc
-report_with r sender ssrc e rows = record {
+abbrev pub report_with : ℕ → ℕ → ℕ → ℕ × ℕ → List PacketStatus → Twcc
+report_with reports sender ssrc e rows = record {
   sender_ssrc = sender;
   ssrc = ssrc;
   base_seq = e.0 % 65536;
   reference_time = signed24 (reference_of e.1 % 16777216);
-  feedback_count = r.reports;
+  feedback_count = reports;
   rows = rows;
 }
 
 abbrev pub report_if : Receiving → ℕ → ℕ → ℕ × ℕ → List PacketStatus → Option Twcc
-report_if r sender ssrc e rows = if nat_lt 0 (length rows) then Some (report_with r sender ssrc e rows) else None
+report_if r sender ssrc e rows = if nat_lt 0 (length rows) then Some (report_with r.reports sender ssrc e rows) else None
 
 -- the report that fits so many bytes, from the lowest unreported number on; none where nothing is
 -- unreported or not one number fits
 unfoldable pub report_of : Receiving → ℕ → ℕ → ℕ → Option Twcc
-report_of r sender ssrc limit = option_and_then (λ e. report_if r sender ssrc e (report_rows r limit e)) (slice_get (unreported r) 0)
+report_of r sender ssrc limit = option_and_then (λ e. report_if r sender ssrc e (report_rows r.arrivals limit e)) (slice_get (unreported r) 0)
 
--- what is left to report behind it
+-- what is left to report behind it: nothing that it covers, nor a number below
 abbrev pub after_rows : Receiving → ℕ × ℕ → List PacketStatus → Receiving
 after_rows r e rows =
-    if nat_lt 0 (length rows) then record { arrivals = r.arrivals; next = min (e.0 + length rows) (2 ^ 64 - 1); reports = (r.reports + 1) % 256 } else r
+    if nat_lt 0 (length rows) then record { arrivals = r.arrivals; pending = filter (nat_le (e.0 + length rows)) r.pending; reports = (r.reports + 1) % 256 } else r
 
 unfoldable pub after_report : Receiving → ℕ → Receiving
-after_report r limit = option_map_or (λ e. after_rows r e (report_rows r limit e)) (slice_get (unreported r) 0) r
+after_report r limit = option_map_or (λ e. after_rows r e (report_rows r.arrivals limit e)) (slice_get (unreported r) 0) r
 
 -- how many of n numbers in a row are missing
 abbrev pub missing_from : List (ℕ × ℕ) → ℕ → ℕ → ℕ
@@ -130,9 +185,6 @@ share_from arrivals number n = record { missing = missing_from arrivals number n
 -- what is missing of the last 100 numbers, of which none is below the lowest that came
 abbrev pub share_between : List (ℕ × ℕ) → ℕ → ℕ → Share
 share_between arrivals lowest greatest = share_from arrivals (max (greatest - 99) lowest) (greatest - max (greatest - 99) lowest + 1)
-
-abbrev pub lowest_of : List (ℕ × ℕ) → Option ℕ
-lowest_of arrivals = option_map (λ e. e.0) (slice_get arrivals 0)
 
 unfoldable pub loss_of : List (ℕ × ℕ) → Option Share
 loss_of arrivals = option_and_then (λ lowest. option_map (λ greatest. share_between arrivals lowest greatest) (greatest_of arrivals)) (lowest_of arrivals)

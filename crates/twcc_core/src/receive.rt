@@ -1,7 +1,10 @@
 //! Packets received, and the reports of them.
-ghost use Rattle.std.specs.Prelude.{◌≡◌, ◌+◌, ◌*◌, ◌^◌, ◌<◌, ◌≤◌, ℕ, [], List, slice_get, is_some, IfOk, OnOk, OnErr};
+ghost use Rattle.std.specs.Prelude.{◌≡◌, ◌+◌, ◌*◌, ◌^◌, ◌≤◌, ℕ, length, filter, slice_get, nat_lt, is_some, not, if◌then◌else◌, IfOk, OnOk, OnErr};
 ghost use Rattle.std.specs.Option.{option_map};
-ghost use Rattle.twcc_core.specs.Reports.{arrival_of, greatest_of, delta_of, row_of, with_last, rows_from, rows_within, missing_from, lowest_of, share_between, loss_of};
+ghost use Rattle.std.specs.Ordering.{nat_cmp};
+ghost use Rattle.std.specs.List.Sorted.{IsStrictlySortedBy};
+ghost use Rattle.std.specs.Map.{keys_of};
+ghost use Rattle.twcc_core.specs.Reports.{arrival_of, greatest_of, first_counted, delta_of, row_of, with_last, rows_from, rows_within, report_rows, report_with, missing_from, share_between, loss_of};
 
 use crate::feedback::signed;
 use crate::size::Size;
@@ -10,22 +13,42 @@ use media_base::{Instant, Listed};
 use rtp_base::{SeqNo, Ssrc};
 use std::alloc::{AllocError, Global};
 use std::collections::BTreeMap;
+use std::collections::btree_map::Entry;
 use std::marker::Model;
 
-/// Packets received, of which reports are made.
+/// How far a number may be below the greatest: 16 bits tell it from one above.
+const SPAN: u64 = 32_768;
+
+/// Packets received, of which reports are made. Numbers more than 32,768 below the greatest are let go,
+/// so at most 32,769 are held.
 #[derive(Drop)]
 pub struct TwccRecvRegister {
     arrivals: BTreeMap<u64, Instant>,
-    next: u64,
+    // Those of them that are to be reported.
+    pending: BTreeMap<u64, Instant>,
+    // The lowest number of all that came.
+    lowest: Option<u64>,
     report_count: u8,
 }
 
 impl Model for TwccRecvRegister {
-    ghost use Rattle.twcc_core.specs.Reports.{Receiving};
+    ghost use Rattle.twcc_core.specs.Reports.{Kept};
 
-    ghost Value = { Receiving };
+    ghost Value = { Kept };
 
-    ghost view = { λ r. record { arrivals = r.arrivals.entries; next = r.next; reports = r.report_count } };
+    ghost view = { λ r. record { arrivals = r.arrivals.entries; pending = r.pending.entries; lowest = r.lowest; reports = r.report_count } };
+}
+
+// Lets go of the numbers up to one.
+fn forget_to(map: &mut BTreeMap<u64, Instant>, last: u64)
+    ensures { map.new.entries ≡ filter (λ e. nat_lt last e.0) map.old.entries }
+{
+    while let Some((first, _)) = map.first_key_value() {
+        if last < *first {
+            return;
+        }
+        map.pop_first();
+    }
 }
 
 // The steps of 250 us from one moment to another, both in such steps, where 16 bits can tell them.
@@ -66,32 +89,70 @@ fn next_row(arrival: Option<Instant>, last: u64) -> Option<(PacketStatus, u64)>
 }
 
 impl TwccRecvRegister {
-    ghost use Rattle.twcc_core.specs.Reports.{Receiving, with_arrival, unreported, report_rows, report_with, report_of, after_report};
+    ghost use Rattle.twcc_core.specs.Reports.{Receiving, StandsFor, nothing_received, with_arrival, unreported, report_of, after_report, with_put, with_recent};
 
     /// No packets.
+    #[tactic(auto, unfolding(crate::specs::Reports::StandsFor))]
     pub fn new(alloc: Global) -> Self
-        ensures { result ≡ record { arrivals = []; next = 0; reports = 0 } }
+        ensures { StandsFor result nothing_received }
     {
         TwccRecvRegister {
             arrivals: BTreeMap::new(alloc),
-            next: 0,
+            pending: BTreeMap::new(alloc),
+            lowest: None,
             report_count: 0,
         }
     }
 
-    /// Takes in a packet that came. Of two arrivals of a number the first counts. A number below what
-    /// was reported makes the numbers from it on unreported again. Without memory nothing changes.
+    /// Takes in a packet that came. Of two arrivals of a number the first counts, and a number more than
+    /// 32,768 below the greatest is passed over. It takes a few look-ups among the numbers held; over
+    /// many calls each number is let go once. Without memory nothing changes.
+    #[tactic(auto, using(crate::proofs::Keeping::put_stands, crate::proofs::Keeping::passed_below, crate::proofs::Keeping::passed_again))]
     pub fn update_seq(&mut self, seq: SeqNo, now: Instant) -> Result<(), AllocError>
-        ensures ok { OnOk result (self.new ≡ with_arrival self.old seq now) }
+        ensures ok { OnOk result ((past : Receiving) → StandsFor self.old past → StandsFor self.new (with_arrival past seq now)) }
         ensures err { OnErr result (self.new ≡ self.old) }
     {
         let number: u64 = seq.into();
-        if self.arrivals.contains_key(&number) {
+        if number < self.first_counted() {
             return Ok(());
         }
-        self.arrivals.insert(number, now)?;
-        self.next = self.next.min(number);
+        let new = self.put(number, now)?;
+        if !new {
+            return Ok(());
+        }
+        self.forget();
         Ok(())
+    }
+
+    // Holds another number, which is to be reported, and tells whether it is another.
+    fn put(&mut self, number: u64, now: Instant) -> Result<bool, AllocError>
+        ensures ok { IfOk result (λ new. self.new ≡ (if new then with_put self.old number now else self.old)) }
+        ensures found { IfOk result (λ new. is_some (arrival_of self.old.arrivals number) ≡ not new) }
+        ensures ordered { OnOk result (IsStrictlySortedBy nat_cmp (keys_of self.old.arrivals)) }
+        ensures err { OnErr result (self.new ≡ self.old) }
+    {
+        let Entry::Vacant(slot) = self.arrivals.entry(number)? else {
+            return Ok(false);
+        };
+        self.pending.insert(number, now)?;
+        slot.insert(now);
+        self.lowest = Some(match self.lowest {
+            Some(lowest) => lowest.min(number),
+            None => number,
+        });
+        Ok(true)
+    }
+
+    // Lets go of the numbers that no longer count.
+    #[tactic(auto, using(crate::proofs::Keeping::above_is, crate::proofs::Keeping::not_below_zero))]
+    fn forget(&mut self)
+        ensures { self.new ≡ with_recent self.old }
+    {
+        let Some(last) = self.first_counted().checked_sub(1) else {
+            return;
+        };
+        forget_to(&mut self.arrivals, last);
+        forget_to(&mut self.pending, last);
     }
 
     fn arrival(&self, number: u64) -> Option<Instant>
@@ -102,9 +163,9 @@ impl TwccRecvRegister {
 
     // The lowest unreported number, and when it came, in nanoseconds.
     fn first_unreported(&self) -> Option<(u64, u64)>
-        ensures { result ≡ slice_get (unreported self.now) 0 }
+        ensures { result ≡ slice_get self.now.pending 0 }
     {
-        match self.arrivals.range(self.next..).next() {
+        match self.pending.first_key_value() {
             Some((number, moment)) => Some((*number, moment.as_nanos())),
             None => None,
         }
@@ -119,16 +180,25 @@ impl TwccRecvRegister {
         }
     }
 
+    // The lowest number that counts.
+    fn first_counted(&self) -> u64
+        ensures { result ≡ first_counted self.now.arrivals }
+    {
+        self.greatest().unwrap_or(0).saturating_sub(SPAN)
+    }
+
     /// Whether a number is unreported.
+    #[tactic(auto, using(crate::proofs::Keeping::pending_told))]
     pub fn has_unreported(&self) -> bool
-        ensures { result ≡ is_some (slice_get (unreported self.now) 0) }
+        ensures { (past : Receiving) → StandsFor self.now past → result ≡ is_some (slice_get (unreported past) 0) }
     {
         self.first_unreported().is_some()
     }
 
     /// The greatest number, None where no packet came.
+    #[tactic(auto, using(crate::proofs::Keeping::greatest_told))]
     pub fn max_seq(&self) -> Option<SeqNo>
-        ensures { result ≡ greatest_of self.now.arrivals }
+        ensures { (past : Receiving) → StandsFor self.now past → result ≡ greatest_of past.arrivals }
     {
         match self.greatest() {
             Some(number) => Some(SeqNo::from(number)),
@@ -147,7 +217,8 @@ impl TwccRecvRegister {
     ) -> Result<Listed<PacketStatus>, AllocError>
         requires within { base + count ≤ 2 ^ 64 }
         requires few { count ≤ 65535 }
-        ensures { IfOk result (λ rows. rows ≡ rows_within limit (rows_from self.now.arrivals count base reference)) }
+        ensures rows { IfOk result (λ rows. rows ≡ rows_within limit (rows_from self.now.arrivals count base reference)) }
+        ensures most { IfOk result (λ rows. length rows ≤ count) }
     {
         let mut rows = Listed::new(alloc);
         let mut size = Size::new();
@@ -174,7 +245,8 @@ impl TwccRecvRegister {
         moment: u64,
         limit: usize,
     ) -> Result<Listed<PacketStatus>, AllocError>
-        ensures { IfOk result (λ rows. rows ≡ report_rows self.now limit (base, moment)) }
+        ensures rows { IfOk result (λ rows. rows ≡ report_rows self.now.arrivals limit (base, moment)) }
+        ensures most { IfOk result (λ rows. base + length rows ≤ 2 ^ 64) }
     {
         let greatest = self.greatest().unwrap_or(0);
         let count = greatest.saturating_sub(base).min(65_534) + 1;
@@ -190,7 +262,7 @@ impl TwccRecvRegister {
         moment: u64,
         rows: Listed<PacketStatus>,
     ) -> Twcc
-        ensures { result ≡ report_with self.now sender_ssrc ssrc (base, moment) rows }
+        ensures { result ≡ report_with self.now.reports sender_ssrc ssrc (base, moment) rows }
     {
         let reference = moment / 64_000_000;
         Twcc {
@@ -204,10 +276,11 @@ impl TwccRecvRegister {
     }
 
     /// The next report, of at most so many bytes with its header: from the lowest unreported number to
-    /// the greatest, at most 65,535, and up to the first arrival whose delta leaves 16 bits. The
+    /// the greatest, at most 65,535, and up to the first arrival whose delta leaves 16 bits. What was
+    /// reported is told again only behind a number that comes late, and is not unreported again. The
     /// reference time is that of the first arrival, rounded down. None where nothing is unreported or
     /// not one number fits, which takes 24 bytes. Without memory nothing changes.
-    #[tactic(auto, unfolding(crate::specs::Reports::report_of, crate::specs::Reports::after_report))]
+    #[tactic(auto, using(crate::proofs::Reported::none_report, crate::proofs::Reported::none_after))]
     pub fn build_report(
         &mut self,
         alloc: Global,
@@ -215,8 +288,8 @@ impl TwccRecvRegister {
         ssrc: Ssrc,
         limit: usize,
     ) -> Result<Option<Twcc>, AllocError>
-        ensures report { IfOk result (λ t. t ≡ report_of self.old sender_ssrc ssrc limit) }
-        ensures ok { OnOk result (self.new ≡ after_report self.old limit) }
+        ensures report { IfOk result (λ t. (past : Receiving) → StandsFor self.old past → t ≡ report_of past sender_ssrc ssrc limit) }
+        ensures ok { OnOk result ((past : Receiving) → StandsFor self.old past → StandsFor self.new (after_report past limit)) }
         ensures err { OnErr result (self.new ≡ self.old) }
     {
         let Some((base, moment)) = self.first_unreported() else {
@@ -228,7 +301,7 @@ impl TwccRecvRegister {
         if len == 0 {
             return Ok(None);
         }
-        self.next = base.saturating_add(len);
+        forget_to(&mut self.pending, base + (len - 1));
         self.report_count = self.report_count.wrapping_add(1);
         Ok(Some(report))
     }
@@ -248,15 +321,6 @@ impl TwccRecvRegister {
         missing
     }
 
-    fn lowest(&self) -> Option<u64>
-        ensures { result ≡ lowest_of self.now.arrivals }
-    {
-        match self.arrivals.first_key_value() {
-            Some((number, _)) => Some(*number),
-            None => None,
-        }
-    }
-
     fn share(&self, lowest: u64, greatest: u64) -> Share
         ensures { result ≡ share_between self.now.arrivals lowest greatest }
     {
@@ -270,16 +334,12 @@ impl TwccRecvRegister {
 
     /// What is missing of the last 100 numbers, up to the greatest; numbers below the lowest that came
     /// do not count. None where no packet came.
-    #[tactic(auto, unfolding(crate::specs::Reports::loss_of))]
+    #[tactic(auto, using(crate::proofs::Keeping::loss_told, crate::proofs::Keeping::no_loss_told, crate::proofs::Keeping::never_loss_told))]
     pub fn loss(&self) -> Option<Share>
-        ensures { result ≡ loss_of self.now.arrivals }
+        ensures { (past : Receiving) → StandsFor self.now past → result ≡ loss_of past.arrivals }
     {
-        let Some(lowest) = self.lowest() else {
-            return None;
-        };
-        let Some(greatest) = self.greatest() else {
-            return None;
-        };
+        let lowest = self.lowest?;
+        let greatest = self.greatest()?;
         Some(self.share(lowest, greatest))
     }
 }

@@ -1,6 +1,7 @@
 use Rattle.media_play.specs.Headline.{StepsAreAnswered, SealsAreRight, FirstSendingsAreYielded, NoNonceTwice, SendsWrites, SendsInSome, YieldsWrites, NoPacketTwice}
 use Rattle.mediasim.specs.RunCommand.{toy_sealing}
 use Rattle.mediasim.proofs.Whole.{answers_script, plays_all, script_holds, script_plays, always_holds}
+use Rattle.mediasim.proofs.PaceWhole.{answers_calls, plays_all_calls}
 use Rattle.mediasim.proofs.media_main.media_main.Goals as goal
 
 pub returns-clause-script : goal.returns-clause-script
@@ -45,3 +46,12 @@ returns-clause-yields g c = always_holds _ _ _ _ _ _ _ _ YieldsWrites (λ seal s
 
 pub returns-clause-once : goal.returns-clause-once
 returns-clause-once g c = always_holds _ _ _ _ _ _ _ _ NoPacketTwice (λ seal setup entries h. h.once) c.answer.ensures.answers
+
+pub returns-clause-calls : goal.returns-clause-calls
+returns-clause-calls g c rate calls told =
+    answers_calls _ _ _ _ _ _ rate calls _ _ c.pace_script_spells_one.ensures c.answer.ensures.answers told
+
+pub returns-clause-paced : goal.returns-clause-paced
+returns-clause-paced g c rate calls order no_read no_write =
+    plays_all_calls _ _ _ _ _ _ rate calls _ _ c.pace_script_spells_one.ensures c.answer.ensures.answers order
+    (λ e. no_read (c.answer.ensures.read_fault e)) (λ e. no_write (c.answer.ensures.write_fault e))

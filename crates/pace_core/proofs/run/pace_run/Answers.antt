@@ -3,12 +3,16 @@ use Rattle.std.specs.Prelude.{Some}
 use Rattle.std.proofs.lemmas.Option.{slice_get_read}
 use Rattle.pace_core.specs.Past.{Past, made}
 use Rattle.pace_core.specs.Run.{past_of, may_come, IsLogOf}
-use Rattle.pace_core.proofs.RunLaws.{take_next, past_of-last, entries-last, may_all_come-last, log_of_front, keeps}
+use Rattle.pace_core.proofs.RunLaws.{take_next, past_of-last, entries-last, may_all_come-last, log_of_front, log_of_front-length, keeps}
 use Rattle.pace_core.proofs.run.pace_run.Goals as goal
 
 pub returns-then-not-may_play-clause-sofar : goal.returns-then-not-may_play-clause-sofar
 returns-then-not-may_play-clause-sofar c =
     log_of_front c.args.rate c.loop-i.i c.args.calls.now c.loop-i.log (omega arith) c.loop-i.invariant.log_is
+
+pub returns-then-not-may_play-clause-until : goal.returns-then-not-may_play-clause-until
+returns-then-not-may_play-clause-until c =
+    log_of_front-length c.args.rate c.loop-i.i c.args.calls.now c.loop-i.log (omega arith) c.loop-i.invariant.log_is
 
 pub returns-then-not-may_play-clause-cause : goal.returns-then-not-may_play-clause-cause
 returns-then-not-may_play-clause-cause c =
@@ -22,6 +26,11 @@ returns-then-not-may_play-clause-envelope c =
 pub returns-in-Err-clause-sofar : goal.returns-in-Err-clause-sofar
 returns-in-Err-clause-sofar c =
     log_of_front c.args.rate c.loop-i.i c.args.calls.now c.play_into.new.log (omega arith) (c.in-Err.ensures.same ∙ c.loop-i.invariant.log_is)
+
+pub returns-in-Err-clause-until : goal.returns-in-Err-clause-until
+returns-in-Err-clause-until c =
+    let count = log_of_front-length c.args.rate c.loop-i.i c.args.calls.now c.play_into.new.log (omega arith) (c.in-Err.ensures.same ∙ c.loop-i.invariant.log_is) in
+    rw count c.loop-i.invariant.came
 
 pub returns-in-Err-clause-envelope : goal.returns-in-Err-clause-envelope
 returns-in-Err-clause-envelope c =

@@ -1,4 +1,4 @@
-use Rattle.std.proofs.Common.{sym, ◌∙◌, ap}
+use Rattle.std.proofs.Common.{sym}
 use Rattle.payload_core.proofs.Specs.{first_found, none_more}
 use Rattle.payload_core.proofs.params.CodecConfig.match_params.Goals as goal
 

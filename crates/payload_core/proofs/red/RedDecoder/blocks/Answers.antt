@@ -1,4 +1,4 @@
-use Rattle.std.proofs.Common.{◌≡◌, ◌∷◌, [], Some, arith, length-append, sym}
+use Rattle.std.proofs.Common.{◌∷◌, [], arith, length-append, sym}
 use Rattle.payload_core.proofs.RedBlocks.{read_more, read_short, read_ends, pushed}
 use Rattle.payload_core.proofs.red.RedDecoder.blocks.Goals as goal
 

@@ -1,4 +1,4 @@
-use Rattle.std.proofs.Common.{◌≡◌, ◌+◌, ◌<◌, ◌≤◌, ◌∷◌, [], Bool, true, false, length, arith, length-append, get_or, refl, sym}
+use Rattle.std.proofs.Common.{◌≡◌, ◌<◌, ◌≤◌, ◌∷◌, [], length, arith, length-append, get_or, refl, sym}
 use Rattle.payload_core.proofs.Choosing.{chosen_one, chosen_none, chosen_ends}
 use Rattle.payload_core.proofs.red_sender.RedSender.blocks.Goals as goal
 use Rattle.payload_core.proofs.red_sender.RedSender.blocks.Goals.{then-is_taken, else-is_taken}

@@ -1,4 +1,4 @@
-use Rattle.std.proofs.Common.{◌≡◌, ◌+◌, ◌-◌, ◌≤◌, ◌∷◌, length}
+use Rattle.std.proofs.Common.{◌+◌, ◌-◌, ◌≤◌, ◌∷◌, length}
 use Rattle.std.specs.Vec.{vec_capacity}
 use Rattle.payload_core.specs.Sending.{first_block, chosen}
 use Rattle.payload_core.proofs.Choosing.{IsChosen}

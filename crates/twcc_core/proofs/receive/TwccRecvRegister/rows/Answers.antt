@@ -33,8 +33,8 @@ bytes-requires-clause-deltas c =
     let b = (counted_bounds (after_row c.loop-i.size c.in-Some.row) (c.loop-i.rows ++ c.in-Some.row ∷ []) (next_counted c.loop-i.size c.in-Some.row c.loop-i.rows c.loop-i.invariant.counted) (omega (arith, length-append c.loop-i.rows (c.in-Some.row ∷ []), c.loop-i-test.true))).1 in
     rw c.add.ensures (omega (arith, b))
 
-pub returns-then-bytes-limit : goal.returns-then-bytes-limit
-returns-then-bytes-limit c =
+pub returns-then-bytes-limit-clause-rows : goal.returns-then-bytes-limit-clause-rows
+returns-then-bytes-limit-clause-rows c =
     let e = rw c.arrival.ensures at c.in-Some.ensures in
     let b = rw c.add.ensures at c.bytes.ensures in
     rows_full c.args.self.now.arrivals _ c.args.limit c.args.count c.loop-i.i c.args.base c.loop-i.last c.in-Some.after c.in-Some.row c.loop-i.rows c.loop-i.size c.loop-i-test.true e (omega (arith, b, c.if-bytes-limit.true)) c.loop-i.invariant

@@ -1,0 +1,4 @@
+pub mod AskLaws
+pub mod MaskLaws
+pub mod RegisterLaws
+pub mod WindowLaws

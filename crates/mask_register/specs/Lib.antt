@@ -1,0 +1,4 @@
+pub mod Asks
+pub mod Mask
+pub mod MaskRegister
+pub mod Window

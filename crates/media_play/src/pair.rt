@@ -1,0 +1,362 @@
+ghost use Rattle.std.specs.Prelude.{◌≡◌, ◌∷◌, ◌++◌, ◌-◌, ◌<◌, ◌≤◌, ◌^◌, List, [], slice_get, length, Some, None, IfOk, IfErr, OnOk, MatchResult};
+ghost use Rattle.media_model.specs.declared.entry.Entry.{Entry as Happening};
+ghost use Rattle.media_model.specs.declared.entry.Entry.TheVariants.{Wrote};
+ghost use Rattle.media_model.specs.declared.step.Step.{Step as Act};
+ghost use Rattle.media_model.specs.declared.step.Step.TheVariants.{Write as WriteStep, Tick as TickStep, Deliver as DeliverStep, Foreign as ForeignStep};
+ghost use Rattle.media_model.specs.declared.setup.Setup.{Setup as Given};
+ghost use Rattle.media_model.specs.Sides.{peer_of};
+ghost use Rattle.media_model.specs.Entries.{datagrams};
+ghost use Rattle.media_play.specs.Errors.{IsCauseAt};
+ghost use Rattle.media_play.specs.Listing.{OnlyAdds};
+ghost use Rattle.media_play.specs.Opening.{Sealing, got_as};
+ghost use Rattle.media_play.specs.Play.{Brings, IsTick, IsArrival, Played};
+ghost use Rattle.media_play.specs.Rules.{write_fault, deliver_fault};
+ghost use Rattle.media_play.specs.SetupFacts.{IsSound};
+ghost use Rattle.media_play.specs.SetupRules.{setup_fault};
+ghost use Rattle.media_play.specs.Sessions.{Ready, sealing_of, received_entries};
+
+use crate::fault::{StepError, StepFault};
+use crate::log::Log;
+use crate::session::{Received, Session};
+use media_base::{Bytes, Instant};
+use media_model::{Entry, Got, Kind, Opened, Setup, Side, Step, Transcript, Write};
+use srtp_core::SrtpCipher;
+use std::alloc::{AllocError, Global};
+use std::marker::Model;
+
+/// The greatest time of a step, in nanoseconds.
+const LAST_TIME: u64 = 10_000_000_000_000_000;
+
+/// Two sessions, what happened so far, and the time of the last step.
+#[derive(Drop)]
+pub struct Pair<C: SrtpCipher> {
+    a: Session<C>,
+    b: Session<C>,
+    log: Log,
+    latest: Instant,
+}
+
+impl<C: SrtpCipher> Model for Pair<C> {
+    ghost use Rattle.media_play.specs.Running.{RunState};
+
+    ghost Value = { RunState };
+
+    ghost view = { λ p. record { a = p.a; b = p.b; log = p.log; latest = p.latest } };
+}
+
+impl<C: SrtpCipher> Pair<C> {
+    ghost use Rattle.std.specs.Result.{result_err};
+    ghost use Rattle.media_model.specs.Entries.{last_time};
+    ghost use Rattle.media_play.specs.Rules.{time_fault, step_fault};
+    ghost use Rattle.media_play.specs.Running.{IsRunOf, PlaysOn, Plays, Refuses};
+
+    /// The two sessions of a setup that breaks no rule, before any step.
+    pub fn new(alloc: Global, cipher: C, setup: &Setup) -> Result<Self, AllocError>
+        requires { setup_fault setup.now ≡ None }
+        ensures run { IfOk result (IsRunOf C.meaning setup.now []) }
+        ensures empty { IfOk result (λ pair. pair.log ≡ []) }
+    {
+        Ok(Pair {
+            a: Session::new(alloc, cipher, setup, Side::A)?,
+            b: Session::new(alloc, cipher, setup, Side::B)?,
+            log: Log::new(alloc),
+            latest: Instant::from_nanos(0),
+        })
+    }
+
+    /// The same in a box.
+    pub fn boxed(alloc: Global, cipher: C, setup: &Setup) -> Result<Box<Self>, AllocError>
+        requires { setup_fault setup.now ≡ None }
+        ensures run { IfOk result (λ pair. IsRunOf C.meaning setup.now [] pair.value) }
+        ensures empty { IfOk result (λ pair. pair.value.log ≡ []) }
+    {
+        let pair = Pair::new(alloc, cipher, setup)?;
+        Ok(Box::new(alloc, pair)?)
+    }
+
+    /// How many entries there are.
+    pub fn len(&self) -> usize
+        ensures { result ≡ length self.now.log }
+    {
+        self.log.len()
+    }
+
+    /// The entries so far.
+    pub fn entries(&self) -> &[Entry]
+        ensures { result.now ≡ self.now.log }
+    {
+        self.log.entries()
+    }
+
+    pub fn into_transcript(self) -> Transcript
+        ensures { result ≡ self.log }
+    {
+        self.log.into_transcript()
+    }
+
+    /// The first rule of times that a step breaks.
+    fn check_time(&self, time: Instant) -> Result<(), StepFault>
+        ensures { (entries : List Happening) → self.now.latest ≡ last_time entries
+            → time_fault entries time ≡ result_err result }
+    {
+        if time == Instant::from_nanos(0) {
+            return Err(StepFault::TimeZero);
+        }
+        if time < self.latest {
+            return Err(StepFault::TimeBack);
+        }
+        if time > Instant::from_nanos(LAST_TIME) {
+            return Err(StepFault::TimeBeyond);
+        }
+        Ok(())
+    }
+
+    /// The datagram that the other side sealed as its `number`-th, counted from 1.
+    fn datagram_for(&self, side: Side, number: u64) -> Result<&[u8], StepFault>
+        ensures { MatchResult result
+            (λ bytes. (deliver_fault self.now.log side number ≡ None) × (1 ≤ number)
+            × (slice_get (datagrams (peer_of side) self.now.log) (number - 1) ≡ Some bytes.now))
+            (λ fault. deliver_fault self.now.log side number ≡ Some fault) }
+    {
+        if number == 0 {
+            return Err(StepFault::UnknownDatagram);
+        }
+        let Ok(place) = usize::try_from(number - 1) else {
+            return Err(StepFault::UnknownDatagram);
+        };
+        match self.log.datagram(side.peer(), place) {
+            Some(bytes) => Ok(bytes),
+            None => Err(StepFault::UnknownDatagram),
+        }
+    }
+
+    fn write(
+        &mut self,
+        alloc: Global,
+        side: Side,
+        time: Instant,
+        write: &Write,
+    ) -> Result<(), StepError>
+        ensures played { OnOk result
+            (Plays C.meaning self.old (WriteStep side time write.now) self.new) }
+        ensures refused { IfErr result
+            (Refuses C.meaning self.old (WriteStep side time write.now)) }
+        ensures longer { OnlyAdds self.old.log self.new.log }
+    {
+        self.check_time(time)?;
+        match side {
+            Side::A => write_step(alloc, &mut self.a, &mut self.log, side, time, write)?,
+            Side::B => write_step(alloc, &mut self.b, &mut self.log, side, time, write)?,
+        }
+        self.latest = time;
+        Ok(())
+    }
+
+    fn tick(&mut self, alloc: Global, side: Side, time: Instant) -> Result<(), StepError>
+        ensures played { OnOk result (Plays C.meaning self.old (TickStep side time) self.new) }
+        ensures refused { IfErr result (Refuses C.meaning self.old (TickStep side time)) }
+        ensures longer { OnlyAdds self.old.log self.new.log }
+    {
+        self.check_time(time)?;
+        match side {
+            Side::A => tick_step(alloc, &mut self.a, &mut self.log, side, time)?,
+            Side::B => tick_step(alloc, &mut self.b, &mut self.log, side, time)?,
+        }
+        self.latest = time;
+        Ok(())
+    }
+
+    /// Takes in bytes that a step brings to a side.
+    fn receive(
+        &mut self,
+        alloc: Global,
+        side: Side,
+        time: Instant,
+        kind: Kind,
+        bytes: Bytes,
+    ) -> Result<(), AllocError>
+        ensures played { OnOk result ((setup : Given) (steps : List Act) (step : Act)
+            → IsRunOf C.meaning setup steps self.old → step_fault setup self.old.log step ≡ None
+            → Brings self.old.log (got_as side time kind bytes) step
+            → PlaysOn C.meaning setup steps self.old step self.new) }
+        ensures longer { OnlyAdds self.old.log self.new.log }
+    {
+        match side {
+            Side::A => receive_step(alloc, &mut self.a, &mut self.log, side, time, kind, bytes)?,
+            Side::B => receive_step(alloc, &mut self.b, &mut self.log, side, time, kind, bytes)?,
+        }
+        self.latest = time;
+        Ok(())
+    }
+
+    fn deliver(
+        &mut self,
+        alloc: Global,
+        side: Side,
+        time: Instant,
+        datagram: u64,
+    ) -> Result<(), StepError>
+        ensures played { OnOk result
+            (Plays C.meaning self.old (DeliverStep side time datagram) self.new) }
+        ensures refused { IfErr result
+            (Refuses C.meaning self.old (DeliverStep side time datagram)) }
+        ensures longer { OnlyAdds self.old.log self.new.log }
+    {
+        self.check_time(time)?;
+        let bytes = Bytes::from_slice(alloc, self.datagram_for(side, datagram)?)?;
+        self.receive(alloc, side, time, Kind::Rtp, bytes)?;
+        Ok(())
+    }
+
+    fn foreign(
+        &mut self,
+        alloc: Global,
+        side: Side,
+        time: Instant,
+        kind: Kind,
+        bytes: &Bytes,
+    ) -> Result<(), StepError>
+        ensures played { OnOk result
+            (Plays C.meaning self.old (ForeignStep side time kind bytes.now) self.new) }
+        ensures refused { IfErr result
+            (Refuses C.meaning self.old (ForeignStep side time kind bytes.now)) }
+        ensures longer { OnlyAdds self.old.log self.new.log }
+    {
+        self.check_time(time)?;
+        let bytes = Bytes::from_slice(alloc, bytes.as_slice())?;
+        self.receive(alloc, side, time, kind, bytes)?;
+        Ok(())
+    }
+
+    /// Plays one step. Where it is not played, what it brought so far may stand behind the entries.
+    pub fn play(&mut self, alloc: Global, step: &Step) -> Result<(), StepError>
+        ensures played { OnOk result (Plays C.meaning self.old step.now self.new) }
+        ensures refused { IfErr result (Refuses C.meaning self.old step.now) }
+        ensures longer { OnlyAdds self.old.log self.new.log }
+    {
+        match step {
+            Step::Write { side, time, write } => self.write(alloc, *side, *time, write),
+            Step::Tick { side, time } => self.tick(alloc, *side, *time),
+            Step::Deliver {
+                side,
+                time,
+                datagram,
+            } => self.deliver(alloc, *side, *time, *datagram),
+            Step::Foreign {
+                side,
+                time,
+                kind,
+                bytes,
+            } => self.foreign(alloc, *side, *time, *kind, bytes),
+        }
+    }
+}
+
+fn copied(alloc: Global, write: &Write) -> Result<Write, AllocError>
+    ensures { IfOk result (λ w. w ≡ write.now) }
+{
+    Ok(Write {
+        ssrc: write.ssrc,
+        number: write.number,
+        pt: write.pt,
+        rtp_time: write.rtp_time,
+        marker: write.marker,
+        nackable: write.nackable,
+        payload: Bytes::from_slice(alloc, write.payload.as_slice())?,
+    })
+}
+
+fn write_step<C: SrtpCipher>(
+    alloc: Global,
+    session: &mut Session<C>,
+    log: &mut Log,
+    side: Side,
+    time: Instant,
+    write: &Write,
+) -> Result<(), StepError>
+    ensures ready { OnOk result ((seal : Sealing) (setup : Given) (steps : List Act)
+        (entries : List Happening) → Played seal setup steps entries → IsSound setup
+        → Ready C.meaning setup side session.old entries
+        → Ready C.meaning setup side session.new (entries ++ Wrote side time write.now ∷ [])) }
+    ensures valid { OnOk result ((setup : Given) (entries : List Happening)
+        → Ready C.meaning setup side session.old entries
+        → write_fault setup entries side write.now ≡ None) }
+    ensures refused { IfErr result (λ e. (setup : Given) (entries : List Happening)
+        → Ready C.meaning setup side session.old entries
+        → IsCauseAt (write_fault setup entries side write.now) e) }
+    ensures wrote { OnOk result (log.new ≡ log.old ++ Wrote side time write.now ∷ []) }
+    ensures fits { OnOk result ((write.now.ssrc < 2 ^ 32) × (write.now.rtp_time < 2 ^ 32)) }
+    ensures longer { OnlyAdds log.old log.new }
+{
+    let _ssrc = u32::from(write.ssrc);
+    let _rtp_time = write.rtp_time;
+    let at = session.check_write(write)?;
+    session.put(alloc, at, write)?;
+    log.push(Entry::Wrote(side, time, copied(alloc, write)?))?;
+    Ok(())
+}
+
+fn tick_step<C: SrtpCipher>(
+    alloc: Global,
+    session: &mut Session<C>,
+    log: &mut Log,
+    side: Side,
+    time: Instant,
+) -> Result<(), AllocError>
+    ensures ready { OnOk result ((setup : Given) (steps : List Act) → IsSound setup
+        → Played (sealing_of C.meaning setup) setup steps log.old
+        → Ready C.meaning setup side session.old log.old
+        → IsTick (sealing_of C.meaning setup) setup side time log.old log.new
+        × Ready C.meaning setup side session.new log.new) }
+    ensures longer { OnlyAdds log.old log.new }
+{
+    log.push(Entry::Ticked(side, time))?;
+    session.tick(alloc, side, log)?;
+    Ok(())
+}
+
+fn receive_step<C: SrtpCipher>(
+    alloc: Global,
+    session: &mut Session<C>,
+    log: &mut Log,
+    side: Side,
+    time: Instant,
+    kind: Kind,
+    bytes: Bytes,
+) -> Result<(), AllocError>
+    ensures ready { OnOk result ((setup : Given) → IsSound setup
+        → Ready C.meaning setup side session.old log.old
+        → IsArrival (sealing_of C.meaning setup) setup (got_as side time kind bytes) log.old log.new
+        × Ready C.meaning setup side session.new log.new) }
+    ensures longer { OnlyAdds log.old log.new }
+{
+    let received = session.receive(alloc, kind, bytes.as_slice())?;
+    log.push(Entry::Got(Got {
+        side,
+        time,
+        kind,
+        bytes,
+    }))?;
+    push_received(log, side, received)?;
+    Ok(())
+}
+
+fn push_received(log: &mut Log, side: Side, received: Option<Received>) -> Result<(), AllocError>
+    ensures done { OnOk result (log.new ≡ log.old ++ received_entries side received) }
+    ensures longer { OnlyAdds log.old log.new }
+{
+    let Some(received) = received else {
+        return Ok(());
+    };
+    log.push(Entry::Opened(Opened {
+        side,
+        kind: Kind::Rtp,
+        ssrc: received.ssrc,
+        index: received.number,
+        plain: received.plain,
+    }))?;
+    match received.packet {
+        Some(packet) => log.push(Entry::Yielded(side, packet)),
+        None => Ok(()),
+    }
+}

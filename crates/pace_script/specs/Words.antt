@@ -1,0 +1,16 @@
+-- What the words of a pace script say.
+use Rattle.std.specs.Prelude.{ℕ, ◌+◌, ◌^◌, ◌==◌, min, List, Option, Some}
+use Rattle.std.specs.List.{slice_split}
+use Rattle.media_script.specs.Words.{◌>>=◌, below, number_of, time_of}
+
+-- bits a second; what is above the greatest rate is the greatest
+unfoldable pub rate_of : List ℕ → Option ℕ
+rate_of word = number_of word >>= λ n. Some (min n 10000000000)
+
+-- nanoseconds, at most 10^16
+unfoldable pub moment_of : List ℕ → Option ℕ
+moment_of word = time_of word >>= λ time. below (10 ^ 16 + 1) time
+
+-- one colon stands between two parts of a word
+abbrev pub parts_of : List ℕ → List (List ℕ)
+parts_of word = slice_split (λ b. b == 58) word

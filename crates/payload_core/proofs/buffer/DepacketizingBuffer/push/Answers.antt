@@ -1,0 +1,9 @@
+use Rattle.std.proofs.Common.{rules}
+use Rattle.payload_core.proofs.Histories.{packet_after}
+use Rattle.payload_core.proofs.buffer.DepacketizingBuffer.push.Goals as goal
+
+pub returns-then-is_known-clause-stands : goal.returns-then-is_known-clause-stands
+returns-then-is_known-clause-stands g c = λ events s. packet_after c.args.self.now _ events _ (search rules) s
+
+pub returns-clause-stands : goal.returns-clause-stands
+returns-clause-stands g c = λ events s. packet_after c.args.self.now _ events _ (search rules) s

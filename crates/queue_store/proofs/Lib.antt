@@ -1,0 +1,3 @@
+pub mod QueueLaws
+pub mod RowLaws
+pub mod StampLaws

@@ -1,0 +1,4 @@
+pub mod HeldLaws
+pub mod Lending
+pub mod Queue
+pub mod Stamps

@@ -1,0 +1,222 @@
+ghost use Rattle.std.specs.Prelude.{◌≡◌, ℕ, ◌+◌, ◌-◌, ◌<◌, ◌≤◌, ◌⊎◌, Bool, Option, Some, None, true, is_some, option_and_then, drop, length, unwrap_or, OnSome, OnOk, OnErr, IfOk, IsOk};
+ghost use Rattle.std.specs.Option.{option_copied};
+ghost use Rattle.std.specs.Borrow.{sem};
+ghost use Rattle.std.specs.Bool.{OnTrue};
+ghost use Rattle.resend_core.specs.ResendStore.{evicted, Past, made, with_event, emptied, revalued, last_position, HeldAs, IsPassedOver, MarksPush, MarksEviction, raised_to};
+ghost use Rattle.queue_store.specs.Stamps.{first_of, AllAbove};
+ghost use Rattle.queue_store.specs.Queue.{StandsFor, value_at, with_value, takes_push, Puts, Drops, IsOld, IsFar, IsThat, IsDone, held, put_held, IsPaired};
+ghost use Rattle.queue_store.specs.Lending.{LendsValue};
+
+use crate::stamps::{Stamp, Stamps};
+use crate::values::Values;
+use media_base::{Duration, Instant};
+use resend_core::ResendStore;
+use std::alloc::{AllocError, Global};
+
+/// Values under rising positions, each until it is too old or its room is needed: a queue in which a
+/// position is found by halving. It holds no position that is its size or more below the greatest.
+#[derive(Debug, Drop)]
+pub struct QueueStore<T> {
+    stamps: Stamps,
+    values: Values<T>,
+    age: Duration,
+    size: usize,
+    last: Option<u64>,
+    mark: Option<u64>,
+    timeout: Instant,
+}
+
+impl<T: Drop> QueueStore<T> {
+    fn takes(&self, position: u64, timestamp: Instant) -> bool
+        ensures { result ≡ takes_push self.now position timestamp }
+    {
+        if self.age.as_nanos() == 0 || timestamp < self.timeout {
+            return false;
+        }
+        match self.mark {
+            Some(mark) => mark <= position,
+            None => true,
+        }
+    }
+
+    /// Puts a value under its position. Without memory nothing changes.
+    fn put(&mut self, position: u64, moment: Instant, value: T) -> Result<(), AllocError>
+        ensures ok { OnOk result (IsPaired self.old → Puts self.old self.new position moment value) }
+        ensures err { OnErr result (self.new ≡ self.old) }
+    {
+        place(
+            &mut self.stamps,
+            &mut self.values,
+            Stamp { position, moment },
+            value,
+        )?;
+        self.last = Some(position);
+        self.mark = Some(self.mark.unwrap_or(position));
+        Ok(())
+    }
+
+    /// Drops the value of the lowest position.
+    fn drop_lowest(&mut self, lowest: Stamp)
+        requires lowest { first_of self.old.stamps ≡ Some lowest }
+        requires above { AllAbove lowest.position (drop 1 self.old.stamps) }
+        ensures drops { IsPaired self.old → Drops (IsThat lowest) self.old self.new }
+        ensures shorter { length self.new.stamps < length self.old.stamps }
+    {
+        self.stamps.pop_first();
+        self.values.pop_first();
+        self.mark = raised(self.mark, lowest.position);
+    }
+
+    /// Drops what is older than the age, from the lowest position on, up to the first that is not.
+    fn drop_old(&mut self, now: Instant)
+        ensures drops { IsPaired self.old → Drops (IsOld now self.old.age) self.old self.new }
+        ensures done { IsPaired self.old → IsDone self.new now }
+    {
+        while let Some(lowest) = self.stamps.first() {
+            let passed = now.as_nanos().saturating_sub(lowest.moment.as_nanos());
+            if passed <= self.age.as_nanos() {
+                return;
+            }
+            self.drop_lowest(lowest);
+        }
+    }
+
+    /// Drops what is the size or more below the greatest position.
+    fn trim(&mut self)
+        ensures { IsPaired self.old → Drops (IsFar self.old) self.old self.new }
+    {
+        let Some(last) = self.stamps.last() else {
+            return;
+        };
+        while let Some(lowest) = self.stamps.first() {
+            match last.position.checked_sub(lowest.position) {
+                Some(below) if self.size as u64 <= below => self.drop_lowest(lowest),
+                _ => return,
+            }
+        }
+    }
+}
+
+impl<T: Drop> ResendStore<T> for QueueStore<T> {
+    ghost use Rattle.queue_store.specs.HeldLaws.{held_as, value_here as here, value_other as other};
+
+    ghost stands_for = { StandsFor };
+
+    ghost value_at = { value_at };
+
+    ghost with_value = { with_value };
+
+    ghost mark = { λ q. q.mark };
+
+    ghost holds = { held_as };
+
+    ghost value_here = { here };
+
+    ghost value_other = { other };
+
+    fn new(
+        alloc: Global,
+        initial_size: usize,
+        max_age: Duration,
+        max_size: usize,
+    ) -> Result<Self, AllocError> {
+        Ok(QueueStore {
+            stamps: Stamps::new(alloc),
+            values: Values::new(alloc),
+            age: max_age,
+            size: initial_size.max(max_size),
+            last: None,
+            mark: None,
+            timeout: Instant::from_nanos(0),
+        })
+    }
+
+    fn push(&mut self, position: u64, timestamp: Instant, value: T) -> Result<(), AllocError> {
+        if !self.takes(position, timestamp) {
+            return Ok(());
+        }
+        self.put(position, timestamp, value)?;
+        self.trim();
+        Ok(())
+    }
+
+    fn maybe_evict(&mut self, now: Instant) {
+        if now.as_nanos() < self.timeout.as_nanos() {
+            return;
+        }
+        self.drop_old(now);
+        self.timeout = now;
+    }
+
+    fn clear(&mut self) {
+        self.stamps.clear();
+        self.values.clear();
+        self.last = None;
+        self.mark = None;
+        self.timeout = Instant::from_nanos(0);
+    }
+
+    fn get(&self, position: u64) -> Option<&T> {
+        let index = self.stamps.index(position)?;
+        self.values.get(index)
+    }
+
+    fn get_mut(&mut self, position: u64) -> Option<&mut T> {
+        let index = self.stamps.index(position)?;
+        self.values.get_mut(index)
+    }
+
+    fn contains(&self, position: u64) -> bool {
+        self.get(position).is_some()
+    }
+
+    fn last_position(&self) -> Option<u64> {
+        self.last
+    }
+
+    fn last(&self) -> Option<&T> {
+        match self.last {
+            Some(position) => self.get(position),
+            None => None,
+        }
+    }
+}
+
+/// Puts a value at the place of its position, in both queues or none.
+fn place<T: Drop>(
+    stamps: &mut Stamps,
+    values: &mut Values<T>,
+    stamp: Stamp,
+    value: T,
+) -> Result<(), AllocError>
+    ensures ok { OnOk result (length stamps.old ≡ length values.old → (length stamps.new ≡ length values.new) × ((k : ℕ) → held stamps.new values.new k ≡ put_held stamp value stamps.old values.old k)) }
+    ensures err { OnErr result ((stamps.new ≡ stamps.old) × (values.new ≡ values.old)) }
+{
+    match stamps.search(stamp.position) {
+        Ok(index) => {
+            stamps.set(index, stamp);
+            values.set(index, value);
+            Ok(())
+        }
+        Err(index) => {
+            let end = index.min(values.len());
+            values.insert(end, value)?;
+            if stamps.insert(index, stamp).is_err() {
+                values.remove(end);
+                return Err(AllocError);
+            }
+            Ok(())
+        }
+    }
+}
+
+/// The mark after the value of a position was dropped.
+fn raised(mark: Option<u64>, dropped: u64) -> Option<u64>
+    ensures { result ≡ raised_to mark dropped }
+{
+    let next = dropped.saturating_add(1);
+    match mark {
+        Some(mark) => Some(mark.max(next)),
+        None => Some(next),
+    }
+}

@@ -1,0 +1,125 @@
+ghost use Rattle.std.specs.Prelude.{◌≡◌, ℕ, ◌+◌, ◌-◌, ◌*◌, ◌^◌, ◌<◌, ◌≤◌, [], drop, length, slice_set, IfOk, IfSome, IfErr, IsNone, OnOk, OnErr};
+ghost use Rattle.std.specs.List.{insert};
+ghost use Rattle.queue_store.specs.Queue.{index_of};
+ghost use Rattle.queue_store.specs.Stamps.{stamp_at, first_of, IsFound, IsPlace, AllAbove, IsGreatest};
+
+use media_base::Instant;
+use std::alloc::{AllocError, Global};
+use std::cmp::Ordering;
+use std::collections::VecDeque;
+use std::marker::Model;
+
+/// A position, and when its value was stored.
+#[derive(Clone, Copy, Debug)]
+pub struct Stamp {
+    pub position: u64,
+    pub moment: Instant,
+}
+
+/// Rising positions, each with a moment. Contracts see the list.
+#[derive(Debug, Drop)]
+pub struct Stamps {
+    all: VecDeque<Stamp>,
+}
+
+impl Model for Stamps {
+    ghost use Rattle.std.specs.Prelude.{List};
+    ghost use Rattle.queue_store.specs.declared.stamps.Stamp.{Stamp};
+    ghost use Rattle.queue_store.specs.Stamps.{Rises};
+
+    ghost Value = { List Stamp };
+
+    ghost view = { λ s. s.all.items };
+
+    ghost invariant = { λ s. Rises 0 s.all.items };
+}
+
+impl Stamps {
+    pub fn new(alloc: Global) -> Self
+        ensures { result ≡ [] }
+    {
+        Stamps {
+            all: VecDeque::new(alloc),
+        }
+    }
+
+    /// The index of a position, else the index where it would stand.
+    pub fn search(&self, position: u64) -> Result<usize, usize>
+        ensures found { IfOk result (IsFound self.now position) }
+        ensures missed { IfErr result (IsPlace self.now position) }
+    {
+        let mut low = 0;
+        let mut high = self.all.len();
+        while low < high {
+            let middle = low + (high - low) / 2;
+            match self.all[middle].position.cmp(&position) {
+                Ordering::Less => low = middle + 1,
+                Ordering::Equal => return Ok(middle),
+                Ordering::Greater => high = middle,
+            }
+        }
+        Err(low)
+    }
+
+    /// The index of a position, where it stands here.
+    #[tactic(auto, using(crate::proofs::RowLaws::found_index, crate::proofs::RowLaws::missed_index))]
+    pub fn index(&self, position: u64) -> Option<usize>
+        ensures { result ≡ index_of self.now position }
+    {
+        self.search(position).ok()
+    }
+
+    /// Puts a stamp at its place. Without memory nothing changes.
+    pub fn insert(&mut self, index: usize, stamp: Stamp) -> Result<(), AllocError>
+        requires { IsPlace self.old stamp.position index }
+        ensures ok { OnOk result (self.new ≡ insert self.old index stamp) }
+        ensures err { OnErr result (self.new ≡ self.old) }
+    {
+        match self.all.insert(index, stamp) {
+            Ok(()) => Ok(()),
+            Err(_) => Err(AllocError),
+        }
+    }
+
+    /// Changes the moment of a position.
+    pub fn set(&mut self, index: usize, stamp: Stamp)
+        requires within { index < length self.old }
+        requires same { (stamp_at self.old index).position ≡ stamp.position }
+        ensures { self.new ≡ slice_set self.old index stamp }
+    {
+        self.all[index] = stamp;
+    }
+
+    /// The lowest position.
+    pub fn first(&self) -> Option<Stamp>
+        ensures value { result ≡ first_of self.now }
+        ensures above { IfSome result (λ s. AllAbove s.position (drop 1 self.now)) }
+    {
+        self.all.front().copied()
+    }
+
+    /// The greatest position.
+    pub fn last(&self) -> Option<Stamp>
+        ensures some { IfSome result (λ s. IsGreatest self.now s) }
+        ensures none { IsNone result → self.now ≡ [] }
+    {
+        let count = self.all.len();
+        if count == 0 {
+            return None;
+        }
+        Some(self.all[count - 1])
+    }
+
+    /// Takes the lowest position out.
+    pub fn pop_first(&mut self)
+        ensures { self.new ≡ drop 1 self.old }
+    {
+        self.all.pop_front();
+    }
+
+    pub fn clear(&mut self)
+        ensures { self.new ≡ [] }
+    {
+        self.all.clear();
+    }
+}

@@ -1,0 +1,70 @@
+-- A call on the streams of a session.
+use Rattle.std.proofs.Common.{◌≡◌, ℕ, true, false, [], ◌∷◌, ◌++◌, Option, Some, is_some, slice_get, sym, subst, ap, ◌∙◌}
+use Rattle.std.specs.Prelude.{List}
+use Rattle.std.specs.Map.{values_of}
+use Rattle.indexmap.specs.IndexMap.{set_value_at}
+use Rattle.repair_core.specs.Rounds.{Heard}
+use Rattle.stream_core.specs.RxRecord.{RxView, RxRecord, StandsFor as RxStandsFor}
+use Rattle.stream_core.specs.StreamsRecord.{StreamsView, StreamsRecord, StandsFor}
+use Rattle.stream_core.specs.Tables.{place_of, with_new, without_key, change_at, Along}
+use Rattle.stream_core.specs.TxRecord.{TxRecord}
+use Rattle.stream_core.proofs.Alongside.{change_at_along}
+use Rattle.stream_core.proofs.TableSteps.{with_new_there, with_new_absent, along_there, along_new, without_along}
+
+module _ {W : Type 0} (remembers : W → Heard → Type 0) (ssrc : ℕ) where
+  -- there is such a stream
+  pub rx_there : (s inside : StreamsView W) (found : Option ℕ) (y : RxRecord) → inside ≡ s → found ≡ place_of ssrc inside.rx → is_some found ≡ true
+      → (r : StreamsRecord) → StandsFor remembers s r → StandsFor remembers s (record r { rx = with_new ssrc y r.rx })
+  rx_there s inside found y view place is r h = record {
+    rx = along_there (RxStandsFor remembers) s.rx r.rx ssrc y h.rx (ap (λ (v : StreamsView W). is_some (place_of ssrc v.rx)) (sym view) ∙ sym (ap is_some place) ∙ is);
+    tx = h.tx;
+  }
+
+  -- a new stream is put behind the others
+  pub rx_new : (s inside : StreamsView W) (found : Option ℕ) (x : RxView W) (y : RxRecord) (rx : List (ℕ × RxView W)) → inside ≡ s → found ≡ place_of ssrc inside.rx → is_some found ≡ false
+      → RxStandsFor remembers x y → rx ≡ inside.rx ++ (ssrc, x) ∷ []
+      → (r : StreamsRecord) → StandsFor remembers s r → StandsFor remembers (record inside { rx = rx }) (record r { rx = with_new ssrc y r.rx })
+  rx_new s inside found x y rx view place is stands added r h =
+      let mine = subst (λ v. StandsFor remembers v r) (sym view) h in
+      record {
+        rx = subst (λ l. Along (RxStandsFor remembers) l (with_new ssrc y r.rx)) (sym added)
+            (along_new (RxStandsFor remembers) inside.rx r.rx ssrc x y mine.rx stands (sym (ap is_some place) ∙ is));
+        tx = mine.tx;
+      }
+
+  -- a stream is taken out
+  pub rx_removed : (s inside : StreamsView W) (rx : List (ℕ × RxView W)) → inside ≡ s → rx ≡ without_key ssrc inside.rx
+      → (r : StreamsRecord) → StandsFor remembers s r → StandsFor remembers (record inside { rx = rx }) (record r { rx = without_key ssrc r.rx })
+  rx_removed s inside rx view removed r h =
+      let mine = subst (λ v. StandsFor remembers v r) (sym view) h in
+      record {
+        rx = subst (λ l. Along (RxStandsFor remembers) l (without_key ssrc r.rx)) (sym removed) (without_along (RxStandsFor remembers) inside.rx r.rx ssrc mine.rx);
+        tx = mine.tx;
+      }
+
+  -- a stream changes
+  pub rx_changed : (s inside : StreamsView W) (i : ℕ) (x new : RxView W) (f : RxRecord → RxRecord) (rx : List (ℕ × RxView W)) → inside ≡ s → slice_get (values_of inside.rx) i ≡ Some x
+      → ((y : RxRecord) → RxStandsFor remembers x y → RxStandsFor remembers new (f y)) → rx ≡ set_value_at inside.rx i new
+      → (r : StreamsRecord) → StandsFor remembers s r → place_of ssrc s.rx ≡ Some i → StandsFor remembers (record inside { rx = rx }) (record r { rx = change_at ssrc f r.rx })
+  rx_changed s inside i x new f rx view at step changed r h place =
+      let mine = subst (λ v. StandsFor remembers v r) (sym view) h in
+      let found : place_of ssrc inside.rx ≡ Some i = ap (λ (v : StreamsView W). place_of ssrc v.rx) view ∙ place in
+      record {
+        rx = subst (λ l. Along (RxStandsFor remembers) l (change_at ssrc f r.rx)) (sym changed)
+            (change_at_along (RxStandsFor remembers) inside.rx r.rx ssrc i x new f mine.rx found at step);
+        tx = mine.tx;
+      }
+
+module _ {W : Type 0} (s inside : StreamsView W) (ssrc : ℕ) (y : TxRecord) (view : inside ≡ s) (found : Option ℕ) (place : found ≡ place_of ssrc inside.tx) where
+  -- there is such a stream
+  pub tx_there : is_some found ≡ true → s ≡ record s { tx = with_new ssrc y s.tx }
+  tx_there is =
+      let here : is_some (place_of ssrc s.tx) ≡ true = ap (λ (v : StreamsView W). is_some (place_of ssrc v.tx)) (sym view) ∙ sym (ap is_some place) ∙ is in
+      let same : s.tx ≡ with_new ssrc y s.tx = sym (with_new_there ssrc y s.tx here) in
+      λ j. record { rx = s.rx; tx = same j }
+
+  -- a new stream is put behind the others
+  pub tx_new : (tx : List (ℕ × TxRecord)) → is_some found ≡ false → tx ≡ inside.tx ++ (ssrc, y) ∷ [] → record inside { tx = tx } ≡ record s { tx = with_new ssrc y s.tx }
+  tx_new tx is added =
+      let grown : tx ≡ with_new ssrc y inside.tx = added ∙ sym (with_new_absent ssrc y inside.tx (sym (ap is_some place) ∙ is)) in
+      λ j. record { rx = (view j).rx; tx = (grown ∙ ap (λ (v : StreamsView W). with_new ssrc y v.tx) view) j }

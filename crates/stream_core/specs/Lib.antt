@@ -1,0 +1,9 @@
+pub mod Lending
+pub mod LendingStreams
+pub mod Queue
+pub mod RxRecord
+pub mod Sealing
+pub mod StreamsRecord
+pub mod Tables
+pub mod TxRecord
+pub mod Write

@@ -1,0 +1,72 @@
+-- The record of an incoming stream, and what each call makes of it.
+use Rattle.std.specs.Prelude.{◌≡◌, ℕ, ◌+◌, ◌*◌, if◌then◌else◌, List, Option, Some, None, unwrap_or}
+use Rattle.rtp_base.specs.Widen.{widen16}
+use Rattle.repair_core.specs.Fresh.{is_fresh, greatest_of}
+use Rattle.repair_core.specs.Rounds.{Heard, started_at, came, taken}
+
+-- an incoming stream as its callers see it
+pub record RxView (W : Type 0) : Type 0 where
+  pub ssrc : ℕ
+  pub rtx : Option ℕ
+  pub mid : List ℕ
+  pub rid : Option (List ℕ)
+  pub roc : Option ℕ
+  pub window : Option W
+
+-- an incoming stream: its SSRC and that of its repairs, the media section and the stream in it; the rollover count that the
+-- next datagram is taken to have, if one was set; and what its window was told, None before the first datagram opened
+pub record RxRecord : Type 0 where
+  pub ssrc : ℕ
+  pub rtx : Option ℕ
+  pub mid : List ℕ
+  pub rid : Option (List ℕ)
+  pub roc : Option ℕ
+  pub numbers : Option Heard
+
+-- a stream on which nothing was opened
+abbrev pub expected : ℕ → Option ℕ → List ℕ → Option (List ℕ) → RxRecord
+expected ssrc rtx mid rid = record { ssrc = ssrc; rtx = rtx; mid = mid; rid = rid; roc = None; numbers = None }
+
+-- what a window was told, or will have been told once the first datagram opens: a window begins with the greatest number
+-- that is remembered of the SSRC by then
+abbrev pub heard : Option ℕ → RxRecord → Heard
+heard remembered r = unwrap_or r.numbers (started_at remembered)
+
+abbrev pub taken_of : Option ℕ → RxRecord → List ℕ
+taken_of remembered r = taken (heard remembered r)
+
+-- the number with these low 16 bits: with the rollover count that was set, else near the greatest that was taken
+abbrev pub number_with : Option ℕ → List ℕ → ℕ → ℕ
+number_with None l low = widen16 (greatest_of l) low
+number_with (Some roc) l low = roc * 65536 + low
+
+abbrev pub number_for : Option ℕ → RxRecord → ℕ → ℕ
+number_for remembered r low = number_with r.roc (taken_of remembered r) low
+
+-- that number, where it is fresh
+abbrev pub fresh_number : Option ℕ → RxRecord → ℕ → Option ℕ
+fresh_number remembered r low =
+    if is_fresh (taken_of remembered r) (number_for remembered r low) then Some (number_for remembered r low) else None
+
+-- a datagram opened under this number
+abbrev pub opened_as : Option ℕ → ℕ → RxRecord → RxRecord
+opened_as remembered n r = record r { roc = None; numbers = Some (came (heard remembered r) n) }
+
+-- the numbers are forgotten, and a rollover count was set
+abbrev pub restarted : ℕ → RxRecord → RxRecord
+restarted roc r = record r { roc = Some roc; numbers = None }
+
+-- there is a window exactly where the record says so, and it remembers what it was told
+abbrev pub Remembers : {W : Type 0} → (W → Heard → Type 0) → Option W → Option Heard → Type 0
+Remembers remembers None None = Unit {0}
+Remembers remembers None (Some past) = ⊥
+Remembers remembers (Some w) None = ⊥
+Remembers remembers (Some w) (Some past) = remembers w past
+
+pub record StandsFor {W : Type 0} (remembers : W → Heard → Type 0) (s : RxView W) (r : RxRecord) : Type 0 where
+  pub ssrc : s.ssrc ≡ r.ssrc
+  pub rtx : s.rtx ≡ r.rtx
+  pub mid : s.mid ≡ r.mid
+  pub rid : s.rid ≡ r.rid
+  pub roc : s.roc ≡ r.roc
+  pub window : Remembers remembers s.window r.numbers

@@ -1,0 +1,32 @@
+-- The streams of a session as a record, and what each call makes of it.
+use Rattle.std.specs.Prelude.{◌≡◌, ℕ, List, [], Option, slice_get, option_and_then}
+use Rattle.std.specs.Map.{values_of}
+use Rattle.repair_core.specs.Rounds.{Heard}
+use Rattle.stream_core.specs.RxRecord.{RxView, RxRecord, fresh_number, StandsFor as RxStandsFor}
+use Rattle.stream_core.specs.Tables.{place_of, Along}
+use Rattle.stream_core.specs.TxRecord.{TxRecord}
+
+-- the streams as their callers see them: each under its SSRC, in order of declaration
+pub record StreamsView (W : Type 0) : Type 0 where
+  pub rx : List (ℕ × RxView W)
+  pub tx : List (ℕ × TxRecord)
+
+pub record StreamsRecord : Type 0 where
+  pub rx : List (ℕ × RxRecord)
+  pub tx : List (ℕ × TxRecord)
+
+pub record StandsFor {W : Type 0} (remembers : W → Heard → Type 0) (s : StreamsView W) (r : StreamsRecord) : Type 0 where
+  pub rx : Along (RxStandsFor remembers) s.rx r.rx
+  pub tx : s.tx ≡ r.tx
+
+abbrev pub no_streams : StreamsRecord
+no_streams = record { rx = []; tx = [] }
+
+-- the value under a key, if it has one
+abbrev pub value_under : {X : Type 0} → ℕ → List (ℕ × X) → Option X
+value_under k es = option_and_then (slice_get (values_of es)) (place_of k es)
+
+-- the number under which a datagram of this SSRC with these low 16 bits may open, where a greatest number may be remembered
+-- of the SSRC
+abbrev pub accepted : Option ℕ → List (ℕ × RxRecord) → ℕ → ℕ → Option ℕ
+accepted remembered rs ssrc low = option_and_then (λ r. fresh_number remembered r low) (value_under ssrc rs)

@@ -1,0 +1,82 @@
+-- The record of an outgoing stream, and what each call makes of it.
+use Rattle.std.specs.Prelude.{◌≡◌, ℕ, ◌<◌, ◌≤◌, ◌^◌, ◌%◌, Bool, false, Option, List, [], ◌∷◌, ◌++◌, length, map, ◌==◌, ◌&&◌, ◌||◌, is_some, is_none, if◌then◌else◌}
+use Rattle.std.specs.Option.{option_map}
+use Rattle.rtp_base.specs.declared.reception_report.ReceptionReport.{ReceptionReport}
+use Rattle.rtp_wire.specs.declared.header.RtpHeader.{RtpHeader}
+use Rattle.rtp_wire.specs.Header.{header_bytes}
+use Rattle.stream_core.specs.declared.packet.RtpPacket.{RtpPacket}
+use Rattle.stream_core.specs.declared.stream_tx.PacketReceipt.{PacketReceipt}
+use Rattle.stream_core.specs.declared.transport.Transport.{Transport}
+use Rattle.stream_core.specs.Queue.{with_stamp, next_of, rest_of}
+use Rattle.stream_core.specs.Sealing.{sealed_values, with_values, after_packet}
+use Rattle.stream_core.specs.Write.{WriteRecord, packet_of}
+
+-- an outgoing stream: its SSRC and that of its repairs, the media section and the stream in it, whether the peer has
+-- acknowledged its SSRC, and the packets that wait, in order
+pub record TxRecord : Type 0 where
+  pub ssrc : ℕ
+  pub rtx : Option ℕ
+  pub mid : List ℕ
+  pub rid : Option (List ℕ)
+  pub acknowledged : Bool
+  pub queue : List RtpPacket
+
+-- a stream on which nothing was written
+abbrev pub declared : ℕ → Option ℕ → List ℕ → Option (List ℕ) → TxRecord
+declared ssrc rtx mid rid = record { ssrc = ssrc; rtx = rtx; mid = mid; rid = rid; acknowledged = false; queue = [] }
+
+-- a write puts its packet behind those that wait
+abbrev pub written : WriteRecord → TxRecord → TxRecord
+written w r = record r { queue = r.queue ++ packet_of r.ssrc w ∷ [] }
+
+-- a tick stamps each packet that has no stamp
+abbrev pub after_timeout : ℕ → TxRecord → TxRecord
+after_timeout now r = record r { queue = map (with_stamp now) r.queue }
+
+-- a reception block tells that the peer knows the SSRC that it reports on: a stream without repairs is then acknowledged
+abbrev pub acknowledges : ℕ → TxRecord → Bool
+acknowledges ssrc r = is_none r.rtx && ssrc == r.ssrc
+
+abbrev pub after_reception : ReceptionReport → TxRecord → TxRecord
+after_reception b r = record r { acknowledged = r.acknowledged || acknowledges b.ssrc r }
+
+-- the causes for which a packet is not written, the first of them
+abbrev pub IsTooBig : WriteRecord → Type 0
+IsTooBig w = 2 ^ 48 ≤ w.seq_no
+
+abbrev pub IsTooLong : WriteRecord → Type 0
+IsTooLong w = (w.seq_no < 2 ^ 48) × (1400 < length w.payload)
+
+abbrev pub Fits : WriteRecord → Type 0
+Fits w = (w.seq_no < 2 ^ 48) × (length w.payload ≤ 1400)
+
+-- the header of a packet of the stream that is sealed at a moment
+abbrev pub sealed_header : TxRecord → Transport → ℕ → RtpPacket → RtpHeader
+sealed_header r t now p = with_values t p.header (sealed_values t now r.acknowledged r.mid r.rid p.header.ext_vals)
+
+-- what there is to seal for a packet: its header, its number, and the header's bytes with the payload behind them
+abbrev pub receipt_of : TxRecord → Transport → ℕ → RtpPacket → PacketReceipt
+receipt_of r t now p = record {
+  header = sealed_header r t now p;
+  seq_no = p.seq_no;
+  plain = header_bytes t.exts (sealed_header r t now p) ++ p.payload;
+}
+
+-- what a stream gives to be sealed at a moment: the packet at the front, if there was a tick since its write
+abbrev pub polled : TxRecord → Transport → ℕ → Option PacketReceipt
+polled r t now = option_map (receipt_of r t now) (next_of r.queue)
+
+-- the stream and the transport after that
+abbrev pub after_poll : TxRecord → TxRecord
+after_poll r = record r { queue = rest_of r.queue }
+
+abbrev pub transport_after_poll : TxRecord → Transport → Transport
+transport_after_poll r t = if is_some (next_of r.queue) then after_packet t else t
+
+-- a packet that may be sealed: its number has 48 bits, of which its header has the low 16, and its plain is the header and
+-- at most 1,400 bytes behind it
+pub record IsSealable (p : PacketReceipt) : Type 0 where
+  pub number : p.seq_no < 2 ^ 48
+  pub low : p.seq_no % 65536 ≡ p.header.sequence_number
+  pub header : p.header.header_len ≤ length p.plain
+  pub small : length p.plain ≤ 1560

@@ -1,0 +1,23 @@
+//! The streams of a session: what is written and waits to be sealed, and the numbers that were taken.
+//! Each is told by the SSRC of its packets (RFC 3550 section 3).
+#![tactic(auto)]
+
+mod packet;
+mod payload;
+mod send_queue;
+mod ssrc_table;
+mod stream_rx;
+mod stream_tx;
+mod streams;
+mod transport;
+mod write;
+
+pub use packet::RtpPacket;
+pub use payload::Payload;
+pub use send_queue::SendQueue;
+pub use ssrc_table::SsrcTable;
+pub use stream_rx::StreamRx;
+pub use stream_tx::{PacketReceipt, StreamTx};
+pub use streams::Streams;
+pub use transport::Transport;
+pub use write::{RtpWrite, WriteError};

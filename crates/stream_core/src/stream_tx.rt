@@ -1,0 +1,251 @@
+ghost use Rattle.std.specs.Prelude.{◌≡◌, ◌↔◌, ◌++◌, ◌==◌, ◌≤◌, length, IfOk, IfSome, OnOk, OnErr, IsErrOf};
+ghost use Rattle.rtp_wire.specs.Header.{header_bytes};
+ghost use Rattle.rtp_wire.specs.HeaderLaws.{IsReadAgain};
+ghost use Rattle.stream_core.specs.Queue.{needs_tick};
+ghost use Rattle.stream_core.specs.Sealing.{sealed_values};
+
+use crate::packet::RtpPacket;
+use crate::send_queue::SendQueue;
+use crate::transport::Transport;
+use crate::write::{RtpWrite, WriteError};
+use media_base::{Bytes, Instant};
+use rtp_base::{Mid, MidRid, ReceptionReport, Rid, SeqNo, Ssrc};
+use rtp_wire::{Extension, ExtensionMap, ExtensionValues, RtpHeader};
+use std::alloc::{AllocError, Global};
+use std::marker::Model;
+
+/// Extended sequence numbers are below it.
+const NUMBER_LIMIT: u64 = 1 << 48;
+
+/// The most bytes of a payload that is written.
+const MAX_PAYLOAD_LEN: usize = 1400;
+
+/// The most bytes of a header.
+const MAX_HEADER_LEN: usize = 160;
+
+/// A packet that is to be sealed under its number.
+#[derive(Debug, Drop)]
+pub struct PacketReceipt {
+    /// Its header, as it is sealed.
+    pub header: RtpHeader,
+    /// Its extended sequence number.
+    pub seq_no: SeqNo,
+    /// The bytes of its header, and its payload behind them.
+    pub plain: Bytes,
+}
+
+/// A stream that a session sends (RFC 3550 section 3). Contracts see the record of what it says of
+/// itself and of the packets that wait.
+#[derive(Debug, Drop)]
+pub struct StreamTx {
+    ssrc: Ssrc,
+    rtx: Option<Ssrc>,
+    mid: Mid,
+    rid: Option<Rid>,
+    acknowledged: bool,
+    queue: SendQueue,
+}
+
+impl Model for StreamTx {
+    ghost use Rattle.stream_core.specs.TxRecord.{TxRecord};
+
+    ghost Value = { TxRecord };
+
+    ghost view = { λ s. record { ssrc = s.ssrc; rtx = s.rtx; mid = s.mid; rid = s.rid; acknowledged = s.acknowledged; queue = s.queue } };
+}
+
+/// The header and its length, and the header's bytes with the payload behind them.
+fn receipt(
+    alloc: Global,
+    header: &RtpHeader,
+    exts: &ExtensionMap,
+    packet: &RtpPacket,
+) -> Result<PacketReceipt, AllocError>
+    requires few_sources { header.now.csrc_count ≤ 15 }
+    requires payload { length packet.now.payload ≤ 1400 }
+    ensures header { IfOk result (λ r. r.header ≡ record header.now { header_len = length (header_bytes exts.now header.now) }) }
+    ensures number { IfOk result (λ r. r.seq_no ≡ packet.now.seq_no) }
+    ensures plain { IfOk result (λ r. r.plain ≡ header_bytes exts.now header.now ++ packet.now.payload) }
+    ensures few { IfOk result (λ r. r.header.header_len ≤ 160) }
+    ensures reads { OnOk result (IsReadAgain exts.now header.now) }
+{
+    let mut front = [0; MAX_HEADER_LEN];
+    let header_len = header.write_to(&mut front, exts);
+    let mut plain = Vec::with_capacity(alloc, header_len + packet.payload.len())?;
+    plain.extend_from_slice(&front[..header_len])?;
+    plain.extend_from_slice(packet.payload.as_slice())?;
+    Ok(PacketReceipt {
+        header: RtpHeader {
+            header_len,
+            ..*header
+        },
+        seq_no: packet.seq_no,
+        plain: Bytes::from_vec(plain),
+    })
+}
+
+impl StreamTx {
+    ghost use Rattle.stream_core.specs.TxRecord.{declared, written, after_timeout, after_reception, IsTooBig, IsTooLong, Fits, polled, after_poll, transport_after_poll, IsSealable};
+
+    /// A stream of an SSRC and of that of its repairs, for a media section or one stream of it, on which
+    /// nothing was written.
+    pub fn new(alloc: Global, ssrc: Ssrc, rtx: Option<Ssrc>, mid_rid: MidRid) -> Self
+        ensures { result ≡ declared ssrc rtx mid_rid.0 mid_rid.1 }
+    {
+        StreamTx {
+            ssrc,
+            rtx,
+            mid: mid_rid.0,
+            rid: mid_rid.1,
+            acknowledged: false,
+            queue: SendQueue::new(alloc),
+        }
+    }
+
+    /// The SSRC of its packets.
+    pub fn ssrc(&self) -> Ssrc
+        ensures { result ≡ self.now.ssrc }
+    {
+        self.ssrc
+    }
+
+    /// The SSRC of its repairs (RFC 4588), if it has one.
+    pub fn rtx(&self) -> Option<Ssrc>
+        ensures { result ≡ self.now.rtx }
+    {
+        self.rtx
+    }
+
+    /// The media section that it belongs to (RFC 9143).
+    pub fn mid(&self) -> Mid
+        ensures { result ≡ self.now.mid }
+    {
+        self.mid
+    }
+
+    /// Which stream of its media section it is, if that has several (RFC 8852).
+    pub fn rid(&self) -> Option<Rid>
+        ensures { result ≡ self.now.rid }
+    {
+        self.rid
+    }
+
+    /// Puts a packet behind those that wait. It is sealed after the next tick.
+    ///
+    /// # Errors
+    /// `NumberTooBig` where its number is 2^48 or more; `PayloadTooLong` where its payload has more than
+    /// 1,400 bytes; `Memory`. The stream is then as it was.
+    pub fn write_rtp(&mut self, write: RtpWrite) -> Result<(), WriteError>
+        ensures ok { OnOk result (self.new ≡ written write self.old) }
+        ensures fits { OnOk result (Fits write) }
+        ensures number { IsErrOf result WriteError.NumberTooBig ↔ IsTooBig write }
+        ensures payload { IsErrOf result WriteError.PayloadTooLong ↔ IsTooLong write }
+        ensures err { OnErr result (self.new ≡ self.old) }
+    {
+        if u64::from(write.seq_no()) >= NUMBER_LIMIT {
+            return Err(WriteError::NumberTooBig);
+        }
+        if write.payload_len() > MAX_PAYLOAD_LEN {
+            return Err(WriteError::PayloadTooLong);
+        }
+        match self.queue.push(write.into_packet(self.ssrc)) {
+            Ok(()) => Ok(()),
+            Err(_) => Err(WriteError::Memory),
+        }
+    }
+
+    /// A tick: the packets that were written since the last one may be sealed from then on.
+    pub fn handle_timeout(&mut self, now: Instant)
+        ensures { self.new ≡ after_timeout now self.old }
+    {
+        self.queue.handle_timeout(now);
+    }
+
+    /// Whether some packet was written since the last tick.
+    pub fn need_timeout(&self) -> bool
+        ensures { result ≡ needs_tick self.now.queue }
+    {
+        self.queue.need_timeout()
+    }
+
+    /// A reception block (RFC 3550 section 6.4.1): on the stream's SSRC it tells that the peer knows it,
+    /// and a stream without repairs then leaves mid and rid out of its headers.
+    pub fn handle_reception_report(&mut self, report: &ReceptionReport)
+        ensures { self.new ≡ after_reception report.now self.old }
+    {
+        if self.rtx.is_none() && report.ssrc == self.ssrc {
+            self.acknowledged = true;
+        }
+    }
+
+    /// The values of a packet that is sealed at a moment.
+    fn sealed_values(
+        &self,
+        values: ExtensionValues,
+        now: Instant,
+        transport: &Transport,
+    ) -> ExtensionValues
+        ensures { result ≡ sealed_values transport.now now self.now.acknowledged self.now.mid self.now.rid values }
+    {
+        ExtensionValues {
+            mid: if self.acknowledged {
+                values.mid
+            } else {
+                Some(self.mid)
+            },
+            rid: if self.acknowledged {
+                values.rid
+            } else {
+                self.rid
+            },
+            rid_repair: None,
+            abs_send_time: if transport.has_id(Extension::AbsoluteSendTime) {
+                Some(transport.send_time(now))
+            } else {
+                values.abs_send_time
+            },
+            transport_cc: if transport.has_id(Extension::TransportSequenceNumber) {
+                Some((transport.twcc % 65536) as u16)
+            } else {
+                values.transport_cc
+            },
+            ..values
+        }
+    }
+
+    /// What is to be sealed next: the packet at the front of those that wait, if there was a tick since
+    /// it was written. Its header is made for this moment. It is taken out, and the transport counts it.
+    /// Without memory nothing changes.
+    pub fn poll_packet(
+        &mut self,
+        alloc: Global,
+        now: Instant,
+        transport: &mut Transport,
+    ) -> Result<Option<PacketReceipt>, AllocError>
+        ensures polled { IfOk result (λ receipt. receipt ≡ polled self.old transport.old now) }
+        ensures after { OnOk result (self.new ≡ after_poll self.old) }
+        ensures counted { OnOk result (transport.new ≡ transport_after_poll self.old transport.old) }
+        ensures small { IfOk result (λ receipt. IfSome receipt IsSealable) }
+        ensures reads { IfOk result (λ receipt. IfSome receipt (λ r. IsReadAgain transport.old.exts r.header)) }
+        ensures err { OnErr result ((self.new ≡ self.old) × (transport.new ≡ transport.old)) }
+    {
+        let Some(packet) = self.queue.peek() else {
+            return Ok(None);
+        };
+        let header = RtpHeader {
+            ext_vals: self.sealed_values(packet.header.ext_vals, now, transport),
+            ..packet.header
+        };
+        let receipt = receipt(alloc, &header, &transport.exts, packet)?;
+        self.queue.pop();
+        transport.count();
+        Ok(Some(receipt))
+    }
+
+    /// Whether no packet waits.
+    pub fn is_idle(&self) -> bool
+        ensures { result ≡ (length self.now.queue == 0) }
+    {
+        self.queue.is_empty()
+    }
+}
