@@ -5,8 +5,6 @@ mod calls;
 pub mod laws;
 mod queues;
 mod reader;
-#[cfg(test)]
-mod tests;
 mod text;
 mod words;
 

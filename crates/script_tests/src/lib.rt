@@ -3,6 +3,8 @@
 #![tactic(auto)]
 
 #[cfg(test)]
+mod pace_scripts;
+#[cfg(test)]
 mod scripts;
 #[cfg(test)]
 mod srtp_contexts;

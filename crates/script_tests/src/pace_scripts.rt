@@ -1,7 +1,7 @@
 // What no clause says: that scripts are read, with ample memory, and the text of a run.
-use crate::{log_text, read_pace_script, write_pace_log};
 use media_script::ScriptError;
 use pace_core::{are_short, pace_run};
+use pace_script::{log_text, read_pace_script, write_pace_log};
 use std::alloc::Global;
 use std::test::Fail;
 
