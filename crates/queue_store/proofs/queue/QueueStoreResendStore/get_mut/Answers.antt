@@ -19,8 +19,7 @@ unfolding with_value
 returns g c =
     let q = c.args.self.now in
     let p = c.args.position in
-    let is : Some c.in_ok-index.index ≡ index_of q.stamps p = c.in_ok-index.ensures in
-    (
+    let is : Some c.in_ok-index.index ≡ index_of q.stamps p = c.in_ok-index.ensures in (
       ap (λ (o : Option ℕ). read_of (ghost_name_of c.get_mut.result) (with_item q o) q) is,
       record {
         writes_back = tt;

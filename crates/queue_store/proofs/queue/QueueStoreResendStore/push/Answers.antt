@@ -8,10 +8,10 @@ use Rattle.queue_store.proofs.queue.QueueStoreResendStore.push.Goals as goal
 
 pub returns-then-not-takes-clause-ok : goal.returns-then-not-takes-clause-ok
 returns-then-not-takes-clause-ok g c = λ past h. (
-      false,
-      (λ m. absurd (let no : false ≡ true = sym c.if-not-takes.true ∙ c.takes.ensures ∙ must_take c.args.self.now past c.args.position c.args.timestamp h m in cc)),
-      ignored_stands c.args.self.now past c.args.position c.args.timestamp c.args.value h,
-    )
+  false,
+  (λ m. absurd (let no : false ≡ true = sym c.if-not-takes.true ∙ c.takes.ensures ∙ must_take c.args.self.now past c.args.position c.args.timestamp h m in cc)),
+  ignored_stands c.args.self.now past c.args.position c.args.timestamp c.args.value h,
+)
 
 pub returns-clause-ok : goal.returns-clause-ok
 returns-clause-ok g c = λ past h.
