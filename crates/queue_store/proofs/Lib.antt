@@ -1,3 +1,4 @@
 pub mod QueueLaws
 pub mod RowLaws
 pub mod StampLaws
+pub mod StepLaws

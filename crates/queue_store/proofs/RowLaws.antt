@@ -2,7 +2,7 @@
 use Rattle.std.proofs.Common.{◌≡◌, ◌≢◌, ℕ, zero, suc, ◌<◌, ◌≤◌, Bool, true, false, cond, eqb, List, [], ◌∷◌, refl, sym, ap, ◌∙◌, arith, length, drop, ⊎_elim, Option, Some, None, Result, Ok, Err}
 use Rattle.std.specs.Prelude.{slice_set, option_map}
 use Rattle.std.specs.Option.{OnSome}
-use Rattle.std.specs.Result.{OnOk, OnErr, is_err}
+use Rattle.std.specs.Result.{IfOk, IfErr, OnOk, OnErr, is_err, result_ok}
 use Rattle.std.specs.List.{insert, remove}
 use Rattle.std.proofs.lemmas.Bool.{cases_lt}
 use Rattle.queue_store.specs.declared.stamps.Stamp.{Stamp}
@@ -141,3 +141,8 @@ err_when P (Err x) h e = h
 pub some_when : {A : Type 0} (P : Type 0) (o : Option A) → P → OnSome o P
 some_when P None h = tt
 some_when P (Some x) h = h
+
+-- the index that a search found
+pub index_is : (l : List Stamp) (p : ℕ) (r : Result ℕ ℕ) → IfOk r (IsFound l p) → IfErr r (IsPlace l p) → result_ok r ≡ index_of l p
+index_is l p (Ok i) found missed = sym (found_index l p i found)
+index_is l p (Err i) found missed = sym (missed_index l p i missed)

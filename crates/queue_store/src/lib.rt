@@ -4,6 +4,8 @@
 
 mod queue;
 mod stamps;
+mod steps;
 mod values;
 
 pub use queue::QueueStore;
+pub use steps::Steps;

@@ -1,4 +1,4 @@
-ghost use Rattle.std.specs.Prelude.{◌≡◌, ℕ, ◌+◌, ◌-◌, ◌<◌, ◌≤◌, ◌⊎◌, Bool, Option, Some, None, true, is_some, option_and_then, drop, length, unwrap_or, OnSome, OnOk, OnErr, IfOk, IsOk};
+ghost use Rattle.std.specs.Prelude.{◌≡◌, ℕ, ◌+◌, ◌*◌, ◌^◌, ◌-◌, ◌<◌, ◌≤◌, ◌⊎◌, Bool, Option, Some, None, true, is_some, option_and_then, drop, length, unwrap_or, OnSome, OnOk, OnErr, IfOk, IsOk};
 ghost use Rattle.std.specs.Option.{option_copied};
 ghost use Rattle.std.specs.Borrow.{sem};
 ghost use Rattle.std.specs.Bool.{OnTrue};
@@ -8,10 +8,12 @@ ghost use Rattle.queue_store.specs.Queue.{StandsFor, value_at, with_value, takes
 ghost use Rattle.queue_store.specs.Lending.{LendsValue};
 
 use crate::stamps::{Stamp, Stamps};
+use crate::steps::Steps;
 use crate::values::Values;
 use media_base::{Duration, Instant};
 use resend_core::ResendStore;
 use std::alloc::{AllocError, Global};
+use std::sync::ledger::Ledger;
 
 /// Values under rising positions, each until it is too old or its room is needed: a queue in which a
 /// position is found by halving. It holds no position that is its size or more below the greatest.
@@ -53,6 +55,16 @@ impl<T: Drop> QueueStore<T> {
         self.last = Some(position);
         self.mark = Some(self.mark.unwrap_or(position));
         Ok(())
+    }
+
+    /// The value of a position, where it is held, as `get` finds it: each comparison of positions is a
+    /// step.
+    pub fn get_counted<L: Ledger>(&self, position: u64, steps: &mut Steps<L>) -> Option<&T>
+        ensures value { option_copied result ≡ value_at self.now position }
+        ensures cost { 2 ^ (steps.new - steps.old) ≤ 2 * length self.now.stamps + 1 }
+    {
+        let index = self.stamps.index_counted(position, steps)?;
+        self.values.get(index)
     }
 
     /// Drops the value of the lowest position.

@@ -3,11 +3,13 @@ ghost use Rattle.std.specs.List.{insert};
 ghost use Rattle.queue_store.specs.Queue.{index_of};
 ghost use Rattle.queue_store.specs.Stamps.{stamp_at, first_of, IsFound, IsPlace, AllAbove, IsGreatest};
 
+use crate::steps::Steps;
 use media_base::Instant;
 use std::alloc::{AllocError, Global};
 use std::cmp::Ordering;
 use std::collections::VecDeque;
-use std::marker::Model;
+use std::marker::{Brand, Model};
+use std::sync::ledger::{Blank, Ledger};
 
 /// A position, and when its value was stored.
 #[derive(Clone, Copy, Debug)]
@@ -43,15 +45,22 @@ impl Stamps {
         }
     }
 
-    /// The index of a position, else the index where it would stand.
-    pub fn search(&self, position: u64) -> Result<usize, usize>
+    /// The index of a position, else the index where it would stand, found by halving. Each comparison is
+    /// a step.
+    pub fn search_counted<L: Ledger>(
+        &self,
+        position: u64,
+        steps: &mut Steps<L>,
+    ) -> Result<usize, usize>
         ensures found { IfOk result (IsFound self.now position) }
         ensures missed { IfErr result (IsPlace self.now position) }
+        ensures cost { 2 ^ (steps.new - steps.old) ≤ 2 * length self.now + 1 }
     {
         let mut low = 0;
         let mut high = self.all.len();
         while low < high {
             let middle = low + (high - low) / 2;
+            steps.tick();
             match self.all[middle].position.cmp(&position) {
                 Ordering::Less => low = middle + 1,
                 Ordering::Equal => return Ok(middle),
@@ -61,12 +70,39 @@ impl Stamps {
         Err(low)
     }
 
+    fn search_on<L: Ledger>(&self, position: u64, blank: Blank) -> Result<usize, usize>
+        requires name { blank.name ≡ L.name }
+        requires parts { blank.parts ≡ L.parts }
+        requires some { 0 < L.parts }
+        ensures found { IfOk result (IsFound self.now position) }
+        ensures missed { IfErr result (IsPlace self.now position) }
+    {
+        let mut steps: Steps<L> = Steps::new(blank);
+        self.search_counted(position, &mut steps)
+    }
+
+    /// The index of a position, else the index where it would stand.
+    pub fn search(&self, position: u64) -> Result<usize, usize>
+        ensures found { IfOk result (IsFound self.now position) }
+        ensures missed { IfErr result (IsPlace self.now position) }
+    {
+        self.search_on::<Brand>(position, Blank::new(1))
+    }
+
     /// The index of a position, where it stands here.
     #[tactic(auto, using(crate::proofs::RowLaws::found_index, crate::proofs::RowLaws::missed_index))]
     pub fn index(&self, position: u64) -> Option<usize>
         ensures { result ≡ index_of self.now position }
     {
         self.search(position).ok()
+    }
+
+    /// The index of a position, where it stands here. Each comparison is a step.
+    pub fn index_counted<L: Ledger>(&self, position: u64, steps: &mut Steps<L>) -> Option<usize>
+        ensures value { result ≡ index_of self.now position }
+        ensures cost { 2 ^ (steps.new - steps.old) ≤ 2 * length self.now + 1 }
+    {
+        self.search_counted(position, steps).ok()
     }
 
     /// Puts a stamp at its place. Without memory nothing changes.

@@ -1,14 +1,4 @@
-use Rattle.std.proofs.Common.{ℕ, ◌-◌, ◌<◌, ◌≤◌, length}
-use Rattle.queue_store.specs.Stamps.{stamp_at}
 use Rattle.queue_store.proofs.stamps.Stamps.search.Given as goal
 
-abbrev pub invariant-loop-low : goal.invariant-loop-low
-invariant-loop-low l = record {
-  ordered : l.low ≤ l.high;
-  within : l.high ≤ length l.self-inside.all.items;
-  below : (k : ℕ) → k < l.low → (stamp_at l.self-inside.all.items k).position < l.position;
-  above : (k : ℕ) → l.high ≤ k → k < length l.self-inside.all.items → l.position < (stamp_at l.self-inside.all.items k).position;
-}
-
-abbrev pub decreases-loop-low : goal.decreases-loop-low
-decreases-loop-low l = l.high - l.low
+abbrev pub ghosts-search_on : goal.ghosts-search_on
+ghosts-search_on a = record { name = a.blank.name; parts = a.blank.parts }
