@@ -7,9 +7,8 @@ use Rattle.repair_core.specs.Rounds.{Heard}
 use Rattle.stream_core.specs.RxRecord.{RxView, RxRecord, StandsFor as RxStandsFor}
 use Rattle.stream_core.specs.StreamsRecord.{StreamsView, StreamsRecord, StandsFor}
 use Rattle.stream_core.specs.Tables.{place_of, with_new, without_key, change_at, Along}
-use Rattle.stream_core.specs.TxRecord.{TxRecord}
 use Rattle.stream_core.proofs.Alongside.{change_at_along}
-use Rattle.stream_core.proofs.TableSteps.{with_new_there, with_new_absent, along_there, along_new, without_along}
+use Rattle.stream_core.proofs.TableSteps.{along_there, along_new, without_along}
 
 module _ {W : Type 0} (remembers : W → Heard → Type 0) (ssrc : ℕ) where
   -- there is such a stream
@@ -54,17 +53,3 @@ module _ {W : Type 0} (remembers : W → Heard → Type 0) (ssrc : ℕ) where
             (change_at_along (RxStandsFor remembers) inside.rx r.rx ssrc i x new f mine.rx found at step);
         tx = mine.tx;
       }
-
-module _ {W : Type 0} (s inside : StreamsView W) (ssrc : ℕ) (y : TxRecord) (view : inside ≡ s) (found : Option ℕ) (place : found ≡ place_of ssrc inside.tx) where
-  -- there is such a stream
-  pub tx_there : is_some found ≡ true → s ≡ record s { tx = with_new ssrc y s.tx }
-  tx_there is =
-      let here : is_some (place_of ssrc s.tx) ≡ true = ap (λ (v : StreamsView W). is_some (place_of ssrc v.tx)) (sym view) ∙ sym (ap is_some place) ∙ is in
-      let same : s.tx ≡ with_new ssrc y s.tx = sym (with_new_there ssrc y s.tx here) in
-      λ j. record { rx = s.rx; tx = same j }
-
-  -- a new stream is put behind the others
-  pub tx_new : (tx : List (ℕ × TxRecord)) → is_some found ≡ false → tx ≡ inside.tx ++ (ssrc, y) ∷ [] → record inside { tx = tx } ≡ record s { tx = with_new ssrc y s.tx }
-  tx_new tx is added =
-      let grown : tx ≡ with_new ssrc y inside.tx = added ∙ sym (with_new_absent ssrc y inside.tx (sym (ap is_some place) ∙ is)) in
-      λ j. record { rx = (view j).rx; tx = (grown ∙ ap (λ (v : StreamsView W). with_new ssrc y v.tx) view) j }

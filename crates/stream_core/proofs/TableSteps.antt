@@ -42,10 +42,6 @@ with_new_there k x es h = there (place_of k es) es (es ++ (k, x) ∷ []) h
 pub with_new_absent : {X : Type 0} (k : ℕ) (x : X) (es : List (ℕ × X)) → is_some (place_of k es) ≡ false → with_new k x es ≡ es ++ (k, x) ∷ []
 with_new_absent k x es h = absent (place_of k es) es (es ++ (k, x) ∷ []) h
 
-pub no_place : (o : Option ℕ) → is_some o ≡ false → o ≡ None
-no_place None h = refl
-no_place (Some i) h = absurd cc
-
 module _ {A B : Type 0} (R : A → B → Type 0) where
   same_place : (xs : List (ℕ × A)) (ys : List (ℕ × B)) (k : ℕ) (b : Bool) → Along R xs ys → is_some (place_of k xs) ≡ b → is_some (place_of k ys) ≡ b
   same_place xs ys k b h e = ap is_some (sym (place_along R xs ys k h)) ∙ e

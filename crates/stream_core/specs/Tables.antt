@@ -1,5 +1,5 @@
 -- Values under keys, in order.
-use Rattle.std.specs.Prelude.{◌≡◌, ℕ, zero, suc, nat_eq, position, Option, Some, slice_get, List, [], ◌∷◌, ◌++◌, map}
+use Rattle.std.specs.Prelude.{◌≡◌, ℕ, zero, suc, nat_eq, position, Option, List, [], ◌∷◌, ◌++◌, map}
 use Rattle.std.specs.List.{AllZip}
 use Rattle.std.specs.Map.{keys_of, remove_entry}
 use Rattle.std.specs.Option.{option_map_or}
@@ -36,7 +36,3 @@ Under R a b = (a.0 ≡ b.0) × R a.1 b.1
 
 abbrev pub Along : {A B : Type 0} → (A → B → Type 0) → List (ℕ × A) → List (ℕ × B) → Type 0
 Along R xs ys = AllZip (Under R) xs ys
-
--- no key stands twice
-abbrev pub Apart : {X : Type 0} → List (ℕ × X) → Type 0
-Apart es = (i j k : ℕ) → slice_get (keys_of es) i ≡ Some k → slice_get (keys_of es) j ≡ Some k → i ≡ j
