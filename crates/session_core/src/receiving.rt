@@ -141,12 +141,7 @@ pub fn take<W: GapWindow>(
 }
 
 /// The packet of a datagram that came. Its RTP time is in ticks of 1 s, since its clock is not known.
-pub fn packet_from(
-    now: Instant,
-    header: &RtpHeader,
-    number: SeqNo,
-    payload: Payload,
-) -> RtpPacket
+pub fn packet_from(now: Instant, header: &RtpHeader, number: SeqNo, payload: Payload) -> RtpPacket
     ensures { result ≡ packet_from now header.now number payload }
 {
     RtpPacket {

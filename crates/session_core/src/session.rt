@@ -5,7 +5,7 @@ ghost use Rattle.srtp_core.specs.Keys.{material_len};
 ghost use Rattle.session_core.specs.Sending.{next_datagram, after_datagram, after_timeout, all_waiting, DrainsTo, Drains};
 ghost use Rattle.session_core.specs.SessionRecord.{SessionRecord, SessionState, StandsFor};
 ghost use Rattle.session_core.specs.Receiving.{Receives};
-ghost use Rattle.session_core.specs.Calls.{fresh_session, app_answer, after_event, next_event, told, wake_of, media_of, has_media};
+ghost use Rattle.session_core.specs.Calls.{fresh_session, probe_mid, after_event, next_event, told, wake_of, media_of, has_media, has_other_mid, has_other_place};
 
 use crate::config::{PayloadTypes, SessionConfig};
 use crate::datagram::{Datagram, DrainFault, Drained, Event, Opened};
@@ -66,6 +66,17 @@ impl<C: SrtpCipher, W: GapWindow> Model for Session<C, W> {
       rx = s.streams.rx;
       probes = s.probes;
     } };
+}
+
+/// The media section that the stream of probes is told to have.
+fn probes_mid() -> MidRid
+    ensures mid { result.0 ≡ probe_mid }
+    ensures rid { result.1 ≡ None }
+{
+    match Mid::from_slice(b"0") {
+        Some(mid) => MidRid(mid, None),
+        None => unreachable!(),
+    }
 }
 
 /// The contexts of one end: the one that seals and the one that opens.
@@ -166,7 +177,13 @@ impl<C: SrtpCipher, W: GapWindow> Session<C, W> {
         let Some(opening) = open(self.alloc, &mut self.opening, bytes, &header, number)? else {
             return Ok(None);
         };
-        take(&mut self.streams, &mut self.probes, found.0, number, remembered)?;
+        take(
+            &mut self.streams,
+            &mut self.probes,
+            found.0,
+            number,
+            remembered,
+        )?;
         self.seen.put(header.ssrc, number)?;
         if !header.ssrc.is_probe() {
             self.packet = Some(packet_from(now, &header, number, opening.payload));
@@ -222,7 +239,13 @@ impl<C: SrtpCipher, W: GapWindow> Session<C, W> {
         let Some(place) = first_due(&self.streams, self.medias.as_slice()) else {
             return Ok(None);
         };
-        let polled = poll_place(self.alloc, &mut self.streams, place, now, &mut self.transport)?;
+        let polled = poll_place(
+            self.alloc,
+            &mut self.streams,
+            place,
+            now,
+            &mut self.transport,
+        )?;
         let Some(receipt) = polled else {
             return Ok(None);
         };
@@ -501,7 +524,8 @@ impl<C: SrtpCipher, W: GapWindow> Session<C, W> {
     /// `MidChanged` where another mid was set, else `IndexChanged` where another place was. Nothing
     /// changes then.
     pub fn set_app(&mut self, mid: Mid, index: usize) -> Result<(), AppError>
-        ensures answer { result ≡ app_answer mid index self.old.state.app }
+        ensures mid { IsErrOf result AppError.MidChanged ↔ IsTrue (has_other_mid mid self.old.state.app) }
+        ensures place { IsErrOf result AppError.IndexChanged ↔ IsTrue (has_other_place mid index self.old.state.app) }
         ensures ok { OnOk result (self.new ≡ record self.old { state = record self.old.state { app = Some (mid, index) } }) }
         ensures err { OnErr result (self.new ≡ self.old) }
     {
@@ -527,7 +551,7 @@ impl<C: SrtpCipher, W: GapWindow> Session<C, W> {
 
     /// The streams, to be changed.
     pub fn streams(&mut self) -> &mut Streams<W>
-        ensures* writes_back { sem 𝓛 (LendsStreams C.row C.Key128.row C.Key256.row C.SrtpCipher W.row W.GapWindow self.entry result) }
+        ensures* writes_back { sem 𝓛 (LendsStreams C.row C.Key128.row C.Key256.row W.row C.SrtpCipher W.GapWindow self.entry result) }
         ensures rx { result.now.rx ≡ self.old.rx }
         ensures tx { result.now.tx ≡ self.old.state.tx }
     {
