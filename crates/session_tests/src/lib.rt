@@ -1,0 +1,5 @@
+//! The tests of two sessions that exchange packets.
+#![tactic(auto)]
+
+#[cfg(test)]
+mod exchange;
