@@ -1,5 +1,4 @@
-ghost use Rattle.std.specs.Prelude.{◌≡◌, ◌==◌};
-ghost use Rattle.std.specs.Cmp.Lexicographic.{pointwise};
+ghost use Rattle.std.specs.Prelude.{◌≡◌};
 
 use media_base::Bytes;
 use payload_core::MediaKind;
@@ -7,7 +6,7 @@ use rtp_base::Mid;
 use std::marker::Model;
 
 /// A media section (RFC 8866 section 5.14). Contracts see the record of its mid, its kind and its CNAME.
-#[derive(Debug, PartialEq, Eq, Drop)]
+#[derive(Debug, Drop)]
 pub struct Media {
     mid: Mid,
     kind: MediaKind,
@@ -20,8 +19,6 @@ impl Model for Media {
     ghost Value = { MediaRecord };
 
     ghost view = { λ m. record { mid = m.mid; kind = m.kind; cname = m.cname } };
-
-    ghost inverse = { λ m. record { mid = m.mid; kind = m.kind; cname = m.cname } };
 }
 
 impl Media {

@@ -3,16 +3,16 @@ ghost use Rattle.std.specs.Option.{ForSome, option_map};
 ghost use Rattle.srtp_core.specs.Seals.{OpensTo};
 ghost use Rattle.stream_core.specs.RxRecord.{RxRecord, StandsFor};
 ghost use Rattle.stream_core.specs.Tables.{Along, place_of};
-ghost use Rattle.session_core.specs.Receiving.{Unpads, OpensIn, IsOpening, cut, number_of, rx_opened, probes_opened, seen_of, saw, packet_from};
+ghost use Rattle.session_core.specs.Receiving.{Unpads, OpensIn, IsOpening, cut, number_of, rx_opened, probes_opened, packet_from};
 
 use media_base::{Bytes, Instant};
 use repair_core::GapWindow;
-use rtp_base::{Frequency, MediaTime, SeqNo, Ssrc};
+use rtp_base::{Frequency, MediaTime, SeqNo};
 use rtp_wire::RtpHeader;
 use srtp_core::laws::rtp_opens_once;
 use srtp_core::{SrtpCipher, SrtpContext};
 use std::alloc::{AllocError, Global};
-use stream_core::{Payload, RtpPacket, SsrcTable, StreamRx, Streams};
+use stream_core::{Payload, RtpPacket, StreamRx, Streams};
 
 /// What bytes opened to.
 #[derive(Debug, Drop)]
@@ -109,7 +109,7 @@ pub fn accepts<W: GapWindow>(
         };
     }
     match streams.accepts(header.ssrc, header.sequence_number, remembered) {
-        Some((place, number)) => Some((Some(place), number)),
+        Some(found) => Some((Some(found.0), found.1)),
         None => None,
     }
 }

@@ -1,4 +1,4 @@
-ghost use Rattle.std.specs.Prelude.{◌≡◌, ◌↔◌, ◌||◌, ◌<◌, ◌++◌, ◌∷◌, ℕ, [], None, Some, false, not, length, is_some, is_err, vec_capacity, IsTrue, IfOk, IfErr, IfSome, IfNone, OnOk, OnErr, IsErrOf};
+ghost use Rattle.std.specs.Prelude.{◌≡◌, ◌≢◌, ◌↔◌, ◌||◌, ◌<◌, ◌++◌, ◌∷◌, ℕ, [], None, Some, false, not, length, is_some, is_err, vec_capacity, IsTrue, IfOk, IfErr, IfSome, IfNone, OnOk, OnErr, IsErrOf};
 ghost use Rattle.std.specs.Option.{option_copied};
 ghost use Rattle.srtp_core.specs.Contexts.{new_state};
 ghost use Rattle.srtp_core.specs.Keys.{material_len};
@@ -80,24 +80,31 @@ fn probes_mid() -> MidRid
 }
 
 /// The contexts of one end: the one that seals and the one that opens.
+#[derive(Drop)]
+struct Contexts<C: SrtpCipher> {
+    sealing: SrtpContext<C>,
+    opening: SrtpContext<C>,
+}
+
 fn contexts<C: SrtpCipher>(
     alloc: Global,
     cipher: C,
     profile: SrtpProfile,
     material: &KeyingMaterial,
     left: bool,
-) -> Result<(SrtpContext<C>, SrtpContext<C>), SrtpError>
-    ensures sealing { IfOk result (λ both. both.0 ≡ new_state C.meaning profile material.now left 0) }
-    ensures opening { IfOk result (λ both. both.1 ≡ new_state C.meaning profile material.now (not left) 0) }
-    ensures length { (length material.now ≡ material_len profile → ⊥) ↔ IsErrOf result SrtpError.KeyLength }
+) -> Result<Contexts<C>, SrtpError>
+    ensures sealing { IfOk result (λ both. both.sealing ≡ new_state C.meaning profile material.now left 0) }
+    ensures opening { IfOk result (λ both. both.opening ≡ new_state C.meaning profile material.now (not left) 0) }
+    ensures key_length { length material.now ≢ material_len profile → IsErrOf result SrtpError.KeyLength }
+    ensures memory { length material.now ≡ material_len profile → IfErr result (λ e. e ≡ SrtpError.Memory) }
 {
     let sealing = SrtpContext::new(alloc, cipher, profile, material, left)?;
     let opening = SrtpContext::new(alloc, cipher, profile, material, !left)?;
-    Ok((sealing, opening))
+    Ok(Contexts { sealing, opening })
 }
 
 impl<C: SrtpCipher, W: GapWindow> Session<C, W> {
-    ghost use Rattle.session_core.specs.declared.error.RtcError.TheVariants.{Stopped, Memory, KeyLength};
+    ghost use Rattle.session_core.specs.declared.error.RtcError.TheVariants.{Stopped, Memory};
 
     /// A session without keys, streams and media sections. Takes no memory.
     pub fn new(alloc: Global, config: SessionConfig) -> Self
@@ -143,7 +150,7 @@ impl<C: SrtpCipher, W: GapWindow> Session<C, W> {
         ensures unopened { IfOk result (λ opened. IfNone opened (self.new ≡ self.old)) }
         ensures latch { self.new.state.stopped ≡ self.old.state.stopped || is_err result }
         ensures unchanged { IsErrOf result Stopped → self.new ≡ self.old }
-        ensures no_length { IsErrOf result KeyLength → ⊥ }
+        ensures memory { self.old.state.stopped ≡ false → IfErr result (λ e. e ≡ Memory) }
     {
         if self.stopped {
             return Err(RtcError::Stopped);
@@ -198,7 +205,7 @@ impl<C: SrtpCipher, W: GapWindow> Session<C, W> {
 }
 
 impl<C: SrtpCipher, W: GapWindow> Session<C, W> {
-    ghost use Rattle.session_core.specs.declared.error.RtcError.TheVariants.{Stopped, KeyLength};
+    ghost use Rattle.session_core.specs.declared.error.RtcError.TheVariants.{Stopped, Memory};
 
     /// The datagram that leaves next: of the first stream, in order of declaration, that has a packet
     /// written before the last tick and whose mid is a media section's. None where there is no such
@@ -213,7 +220,7 @@ impl<C: SrtpCipher, W: GapWindow> Session<C, W> {
         ensures latch { self.new.state.stopped ≡ self.old.state.stopped || is_err result }
         ensures unchanged { IsErrOf result Stopped → self.new ≡ self.old }
         ensures fewer { IfOk result (λ d. IfSome d (λ s. all_waiting self.new.state.tx < all_waiting self.old.state.tx)) }
-        ensures no_length { IsErrOf result KeyLength → ⊥ }
+        ensures memory { self.old.state.stopped ≡ false → IfErr result (λ e. e ≡ Memory) }
     {
         if self.stopped {
             return Err(RtcError::Stopped);
@@ -265,7 +272,7 @@ fn push<T: Drop>(values: &mut Vec<T>, value: T)
 }
 
 impl<C: SrtpCipher, W: GapWindow> Session<C, W> {
-    ghost use Rattle.session_core.specs.declared.error.RtcError.TheVariants.{Stopped, Memory, KeyLength};
+    ghost use Rattle.session_core.specs.declared.error.RtcError.TheVariants.{Stopped, Memory};
 
     /// Takes all datagrams that leave, behind those before. Room is reserved before each poll.
     fn drain_datagrams(&mut self, now: Instant, sofar: &mut Vec<Datagram>) -> Result<(), RtcError>
@@ -426,7 +433,7 @@ impl<C: SrtpCipher, W: GapWindow> Session<C, W> {
     ) -> Result<(), RtcError>
         ensures stopped { IsErrOf result Stopped ↔ IsTrue self.old.state.stopped }
         ensures ok { OnOk result (self.new ≡ record self.old { state = keyed C.meaning profile material.now left self.old.state }) }
-        ensures length { IsErrOf result KeyLength ↔ ((self.old.state.stopped ≡ false) × (length material.now ≡ material_len profile → ⊥)) }
+        ensures length { IsErrOf result KeyLength ↔ ((self.old.state.stopped ≡ false) × (length material.now ≢ material_len profile)) }
         ensures unchanged { IsErrOf result KeyLength → self.new ≡ self.old }
         ensures still { IsErrOf result Stopped → self.new ≡ self.old }
         ensures memory { IsErrOf result Memory → self.new ≡ record self.old { state = record self.old.state { stopped = true } } }
@@ -435,7 +442,7 @@ impl<C: SrtpCipher, W: GapWindow> Session<C, W> {
             return Err(RtcError::Stopped);
         }
         match contexts(self.alloc, cipher, profile, material, left) {
-            Ok((sealing, opening)) => {
+            Ok(Contexts { sealing, opening }) => {
                 self.sealing = Some(sealing);
                 self.opening = Some(opening);
                 Ok(())
@@ -456,7 +463,7 @@ impl<C: SrtpCipher, W: GapWindow> Session<C, W> {
         ensures stopped { IsErrOf result Stopped ↔ IsTrue self.old.state.stopped }
         ensures ok { OnOk result (self.new ≡ record self.old { state = record self.old.state { medias = self.old.state.medias ++ media ∷ [] } }) }
         ensures err { OnErr result (self.new ≡ record self.old { state = record self.old.state { stopped = true } }) }
-        ensures no_length { IsErrOf result KeyLength → ⊥ }
+        ensures memory { self.old.state.stopped ≡ false → IfErr result (λ e. e ≡ Memory) }
     {
         if self.stopped {
             return Err(RtcError::Stopped);
