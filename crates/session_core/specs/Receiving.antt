@@ -79,14 +79,14 @@ packet_from now h n payload = record {
 
 -- the packet that waits to be told after a datagram opened: on SSRC 0 the one before
 abbrev pub packet_after : ℕ → RtpHeader → ℕ → List ℕ → Option RtpPacket → Option RtpPacket
-packet_after now h n payload before = if h.ssrc == 0 then before else Some (packet_from now h n (cut h payload))
+packet_after now h n payload before = if h.ssrc == 0 then before else Some (packet_from now h n payload)
 
 -- the session after a datagram opened
 abbrev pub after_opened : ℕ → RtpHeader → ℕ → List ℕ → SessionRecord → SessionRecord
 after_opened now h n payload r = record {
   state = record r.state {
     seen = saw h.ssrc n r.state.seen;
-    packet = packet_after now h n payload r.state.packet;
+    packet = packet_after now h n (cut h payload) r.state.packet;
   };
   rx = rx_opened (seen_of h.ssrc r.state.seen) h.ssrc n r.rx;
   probes = probes_opened (seen_of h.ssrc r.state.seen) h.ssrc n r.probes;

@@ -1,6 +1,6 @@
 -- The record of a session.
 use Rattle.std.specs.Prelude.{◌≡◌, ℕ, Bool, Option, List}
-use Rattle.payload_core.specs.declared.codec.MediaKind.{MediaKind}
+use Rattle.session_core.specs.declared.media.MediaKind.{MediaKind}
 use Rattle.srtp_core.specs.Contexts.{SrtpState}
 use Rattle.repair_core.specs.Rounds.{Heard}
 use Rattle.stream_core.specs.declared.packet.RtpPacket.{RtpPacket}

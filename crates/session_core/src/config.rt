@@ -4,7 +4,6 @@ ghost use Rattle.stream_core.specs.Tables.{place_of};
 
 use indexmap::IndexMap;
 use media_base::Beginning;
-use payload_core::Codec;
 use rtp_base::{Frequency, Pt};
 use rtp_wire::ExtensionMap;
 use std::alloc::{AllocError, Global};
@@ -15,8 +14,6 @@ use std::marker::Model;
 pub struct TypeRow {
     /// Its number, at most 127 on the wire.
     pub pt: Pt,
-    /// What it carries.
-    pub codec: Codec,
     /// The clock of its RTP times.
     pub clock: Frequency,
 }

@@ -14,5 +14,5 @@ mod session;
 pub use config::{PayloadTypes, SessionConfig, TypeRow};
 pub use datagram::{Datagram, DrainFault, Drained, Event, Opened};
 pub use error::{AppError, RtcError};
-pub use media::Media;
+pub use media::{Media, MediaKind};
 pub use session::Session;

@@ -1,9 +1,17 @@
 ghost use Rattle.std.specs.Prelude.{◌≡◌};
 
 use media_base::Bytes;
-use payload_core::MediaKind;
 use rtp_base::Mid;
 use std::marker::Model;
+
+/// Whether media is heard or seen.
+#[derive(Clone, Copy, Debug, PartialEq, Eq)]
+pub enum MediaKind {
+    /// Sound.
+    Audio,
+    /// Pictures.
+    Video,
+}
 
 /// A media section (RFC 8866 section 5.14). Contracts see the record of its mid, its kind and its CNAME.
 #[derive(Debug, Drop)]

@@ -3,8 +3,9 @@ ghost use Rattle.std.specs.Option.{ForSome, option_map};
 ghost use Rattle.srtp_core.specs.Seals.{OpensTo};
 ghost use Rattle.stream_core.specs.RxRecord.{RxRecord, StandsFor};
 ghost use Rattle.stream_core.specs.Tables.{Along, place_of};
-ghost use Rattle.session_core.specs.Receiving.{Unpads, OpensIn, IsOpening, cut, number_of, rx_opened, probes_opened, packet_from};
+ghost use Rattle.session_core.specs.Receiving.{Unpads, OpensIn, IsOpening, cut, number_of, rx_opened, probes_opened, is_claimed, packet_from, packet_after};
 
+use crate::config::PayloadTypes;
 use media_base::{Bytes, Instant};
 use repair_core::GapWindow;
 use rtp_base::{Frequency, MediaTime, SeqNo};
@@ -21,6 +22,14 @@ pub struct Opening {
     pub plain: Bytes,
     /// The payload without its padding.
     pub payload: Payload,
+}
+
+/// Whether a datagram with this header may be taken: on SSRC 0 each, on another one those of the types
+/// that both ends know.
+pub fn is_claimed(types: &PayloadTypes, header: &RtpHeader) -> bool
+    ensures { result ≡ is_claimed types.now header.now }
+{
+    header.ssrc.is_probe() || types.has(header.payload_type)
 }
 
 /// The payload without its padding, None where it does not end in padding though it should.
@@ -141,7 +150,7 @@ pub fn take<W: GapWindow>(
 }
 
 /// The packet of a datagram that came. Its RTP time is in ticks of 1 s, since its clock is not known.
-pub fn packet_from(now: Instant, header: &RtpHeader, number: SeqNo, payload: Payload) -> RtpPacket
+fn packet_from(now: Instant, header: &RtpHeader, number: SeqNo, payload: Payload) -> RtpPacket
     ensures { result ≡ packet_from now header.now number payload }
 {
     RtpPacket {
@@ -151,5 +160,22 @@ pub fn packet_from(now: Instant, header: &RtpHeader, number: SeqNo, payload: Pay
         payload,
         timestamp: Some(now),
         nackable: false,
+    }
+}
+
+/// The packet that waits to be told after a datagram opened: on SSRC 0 the one before.
+pub fn packet_after(
+    now: Instant,
+    header: &RtpHeader,
+    number: SeqNo,
+    payload: Payload,
+    before: Option<RtpPacket>,
+) -> Option<RtpPacket>
+    ensures { result ≡ packet_after now header.now number payload before }
+{
+    if header.ssrc.is_probe() {
+        before
+    } else {
+        Some(packet_from(now, header, number, payload))
     }
 }

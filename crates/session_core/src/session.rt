@@ -11,7 +11,7 @@ use crate::config::{PayloadTypes, SessionConfig};
 use crate::datagram::{Datagram, DrainFault, Drained, Event, Opened};
 use crate::error::{AppError, RtcError};
 use crate::media::Media;
-use crate::receiving::{accepts, open, packet_from, take};
+use crate::receiving::{Opening, accepts, is_claimed, open, packet_after, take};
 use crate::seen::Seen;
 use crate::sending::{first_due, has_mid, poll_place, seal};
 use media_base::{Instant, already_happened};
@@ -81,7 +81,7 @@ fn probes_mid() -> MidRid
 
 /// The contexts of one end: the one that seals and the one that opens.
 #[derive(Drop)]
-struct Contexts<C: SrtpCipher> {
+struct BothWays<C: SrtpCipher> {
     sealing: SrtpContext<C>,
     opening: SrtpContext<C>,
 }
@@ -92,7 +92,7 @@ fn contexts<C: SrtpCipher>(
     profile: SrtpProfile,
     material: &KeyingMaterial,
     left: bool,
-) -> Result<Contexts<C>, SrtpError>
+) -> Result<BothWays<C>, SrtpError>
     ensures sealing { IfOk result (λ both. both.sealing ≡ new_state C.meaning profile material.now left 0) }
     ensures opening { IfOk result (λ both. both.opening ≡ new_state C.meaning profile material.now (not left) 0) }
     ensures key_length { length material.now ≢ material_len profile → IsErrOf result SrtpError.KeyLength }
@@ -100,7 +100,7 @@ fn contexts<C: SrtpCipher>(
 {
     let sealing = SrtpContext::new(alloc, cipher, profile, material, left)?;
     let opening = SrtpContext::new(alloc, cipher, profile, material, !left)?;
-    Ok(Contexts { sealing, opening })
+    Ok(BothWays { sealing, opening })
 }
 
 impl<C: SrtpCipher, W: GapWindow> Session<C, W> {
@@ -173,7 +173,7 @@ impl<C: SrtpCipher, W: GapWindow> Session<C, W> {
         let Some(header) = RtpHeader::parse(bytes, &self.transport.exts) else {
             return Ok(None);
         };
-        if !header.ssrc.is_probe() && !self.types.has(header.payload_type) {
+        if !is_claimed(&self.types, &header) {
             return Ok(None);
         }
         let remembered = self.seen.get(header.ssrc);
@@ -192,14 +192,13 @@ impl<C: SrtpCipher, W: GapWindow> Session<C, W> {
             remembered,
         )?;
         self.seen.put(header.ssrc, number)?;
-        if !header.ssrc.is_probe() {
-            self.packet = Some(packet_from(now, &header, number, opening.payload));
-        }
+        let Opening { plain, payload } = opening;
+        self.packet = packet_after(now, &header, number, payload, self.packet.take());
         Ok(Some(Opened {
             kind: Kind::Rtp,
             ssrc: header.ssrc,
             index: number,
-            plain: opening.plain,
+            plain,
         }))
     }
 }
@@ -442,7 +441,7 @@ impl<C: SrtpCipher, W: GapWindow> Session<C, W> {
             return Err(RtcError::Stopped);
         }
         match contexts(self.alloc, cipher, profile, material, left) {
-            Ok(Contexts { sealing, opening }) => {
+            Ok(BothWays { sealing, opening }) => {
                 self.sealing = Some(sealing);
                 self.opening = Some(opening);
                 Ok(())

@@ -1,10 +1,9 @@
 use media_base::{Beginning, Bytes, Instant};
-use payload_core::{Codec, MediaKind};
 use repair_core::NackRegister;
 use rtp_base::{Frequency, Mid, MidRid, Pt, SeqNo, Ssrc};
 use rtp_wire::ExtensionMap;
 use srtp_core::{KeyingMaterial, SrtpProfile, ToyCipher};
-use session_core::{Event, Media, PayloadTypes, RtcError, Session, SessionConfig, TypeRow};
+use session_core::{Event, Media, MediaKind, PayloadTypes, RtcError, Session, SessionConfig, TypeRow};
 use std::alloc::Global;
 use std::test::Fail;
 use stream_core::{Payload, RtpWrite};
@@ -20,7 +19,6 @@ fn keyed(alloc: Global, left: bool) -> Result<Ends, RtcError> {
     let mut types = PayloadTypes::new(alloc);
     types.add(TypeRow {
         pt: Pt::from(96),
-        codec: Codec::Vp8,
         clock: Frequency::NINETY_KHZ,
     })?;
     let config = SessionConfig {
