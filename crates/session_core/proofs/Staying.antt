@@ -23,17 +23,17 @@ module _ (cipher : CipherMeaning) (r : SessionRecord) (bytes : List ℕ) where
         let yes : is_claimed r.state.types g ≡ true = ap (is_claimed r.state.types) e ∙ o.claimed in
         absurd cc
 
-    pub stays_unaccepted : number_of (seen_of g.ssrc r.state.seen) r.rx r.probes g ≡ None → Stays
+    pub stays_unaccepted : number_of (seen_of g.ssrc r.state.seen) r.rx r.probes g.ssrc g.sequence_number ≡ None → Stays
     stays_unaccepted none h n payload o =
         let e = same h o.reads in
-        let other : number_of (seen_of g.ssrc r.state.seen) r.rx r.probes g ≡ Some n = ap (λ (x : RtpHeader). number_of (seen_of x.ssrc r.state.seen) r.rx r.probes x) e ∙ o.accepts in
+        let other : number_of (seen_of g.ssrc r.state.seen) r.rx r.probes g.ssrc g.sequence_number ≡ Some n = ap (λ (x : RtpHeader). number_of (seen_of x.ssrc r.state.seen) r.rx r.probes x.ssrc x.sequence_number) e ∙ o.accepts in
         absurd cc
 
-    pub stays_sealed : (m : ℕ) → number_of (seen_of g.ssrc r.state.seen) r.rx r.probes g ≡ Some m
+    pub stays_sealed : (m : ℕ) → number_of (seen_of g.ssrc r.state.seen) r.rx r.probes g.ssrc g.sequence_number ≡ Some m
         → ((p : List ℕ) → OpensIn cipher r.state.opening g m bytes p → Unpads g p → ⊥) → Stays
     stays_sealed m accepts none h n payload o =
         let e = same h o.reads in
-        let other : number_of (seen_of g.ssrc r.state.seen) r.rx r.probes g ≡ Some n = ap (λ (x : RtpHeader). number_of (seen_of x.ssrc r.state.seen) r.rx r.probes x) e ∙ o.accepts in
+        let other : number_of (seen_of g.ssrc r.state.seen) r.rx r.probes g.ssrc g.sequence_number ≡ Some n = ap (λ (x : RtpHeader). number_of (seen_of x.ssrc r.state.seen) r.rx r.probes x.ssrc x.sequence_number) e ∙ o.accepts in
         let is : n ≡ m = cc in
         none payload
         (subst (λ k. OpensIn cipher r.state.opening g k bytes payload) is (subst (λ (x : RtpHeader). OpensIn cipher r.state.opening x n bytes payload) (sym e) o.opens))

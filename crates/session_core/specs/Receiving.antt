@@ -33,10 +33,9 @@ AreSmall seen = (i n : ℕ) → slice_get (values_of seen) i ≡ Some n → n < 
 abbrev pub is_claimed : List (ℕ × TypeRow) → RtpHeader → Bool
 is_claimed types h = h.ssrc == 0 || is_some (place_of h.payload_type types)
 
--- the number under which a datagram with this header may open
-abbrev pub number_of : Option ℕ → List (ℕ × RxRecord) → RxRecord → RtpHeader → Option ℕ
-number_of remembered rx probes h =
-    if h.ssrc == 0 then fresh_number remembered probes h.sequence_number else accepted remembered rx h.ssrc h.sequence_number
+-- the number under which a datagram of an SSRC with these low 16 bits may open
+abbrev pub number_of : Option ℕ → List (ℕ × RxRecord) → RxRecord → ℕ → ℕ → Option ℕ
+number_of remembered rx probes ssrc low = if ssrc == 0 then fresh_number remembered probes low else accepted remembered rx ssrc low
 
 -- the incoming streams after a datagram opened
 abbrev pub rx_opened : Option ℕ → ℕ → ℕ → List (ℕ × RxRecord) → List (ℕ × RxRecord)
@@ -101,7 +100,7 @@ module _ (cipher : CipherMeaning) (r : SessionRecord) (bytes : List ℕ) where
   pub record Opens (h : RtpHeader) (n : ℕ) (payload : List ℕ) : Type 0 where
     pub reads : header_of r.state.transport.exts bytes ≡ Some h
     pub claimed : is_claimed r.state.types h ≡ true
-    pub accepts : number_of (seen_of h.ssrc r.state.seen) r.rx r.probes h ≡ Some n
+    pub accepts : number_of (seen_of h.ssrc r.state.seen) r.rx r.probes h.ssrc h.sequence_number ≡ Some n
     pub opens : OpensIn cipher r.state.opening h n bytes payload
     pub unpads : Unpads h payload
 

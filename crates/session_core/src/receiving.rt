@@ -1,4 +1,4 @@
-ghost use Rattle.std.specs.Prelude.{◌≡◌, ◌==◌, ◌<◌, ◌^◌, ◌%◌, ℕ, List, ◌++◌, take, length, is_none, IfOk, IfSome, IfNone, OnOk, OnErr};
+ghost use Rattle.std.specs.Prelude.{◌≡◌, ◌==◌, ◌<◌, ◌^◌, ◌%◌, ℕ, List, ◌++◌, Some, take, length, is_none, IfOk, IfSome, IfNone, OnOk, OnErr};
 ghost use Rattle.std.specs.Option.{ForSome, option_map};
 ghost use Rattle.srtp_core.specs.Seals.{OpensTo};
 ghost use Rattle.stream_core.specs.RxRecord.{RxRecord, StandsFor};
@@ -8,7 +8,7 @@ ghost use Rattle.session_core.specs.Receiving.{Unpads, OpensIn, IsOpening, cut, 
 use crate::config::PayloadTypes;
 use media_base::{Bytes, Instant};
 use repair_core::GapWindow;
-use rtp_base::{Frequency, MediaTime, SeqNo};
+use rtp_base::{Frequency, MediaTime, SeqNo, Ssrc};
 use rtp_wire::RtpHeader;
 use srtp_core::laws::rtp_opens_once;
 use srtp_core::{SrtpCipher, SrtpContext};
@@ -95,29 +95,31 @@ pub fn open<C: SrtpCipher>(
     }
 }
 
-/// Where the stream of a header stands, None on SSRC 0, and the number under which its datagram may open.
+/// Where the stream of an SSRC stands, None on SSRC 0, and the number under which its datagram with these
+/// low 16 bits may open.
 pub fn accepts<W: GapWindow>(
     streams: &Streams<W>,
     probes: &StreamRx<W>,
-    header: &RtpHeader,
+    ssrc: Ssrc,
+    low: u16,
     remembered: Option<SeqNo>,
 ) -> Option<(Option<usize>, SeqNo)>
     requires { ForSome remembered (λ n. n < 2 ^ 48) }
     ensures number { (rx : List (ℕ × RxRecord)) (p : RxRecord) → Along (StandsFor W.remembers) streams.now.rx rx → StandsFor W.remembers probes.now p
-        → option_map (λ f. f.1) result ≡ number_of remembered rx p header.now }
-    ensures probe { IfSome result (λ f. is_none f.0 ≡ (header.now.ssrc == 0)) }
-    ensures place { IfSome result (λ f. IfSome f.0 (λ i. place_of header.now.ssrc streams.now.rx ≡ Some i)) }
+        → option_map (λ f. f.1) result ≡ number_of remembered rx p ssrc low }
+    ensures probe { IfSome result (λ f. is_none f.0 ≡ (ssrc == 0)) }
+    ensures place { IfSome result (λ f. IfSome f.0 (λ i. place_of ssrc streams.now.rx ≡ Some i)) }
     ensures within { IfSome result (λ f. IfSome f.0 (λ i. i < length streams.now.rx)) }
     ensures small { IfSome result (λ f. f.1 < 2 ^ 48) }
-    ensures low { IfSome result (λ f. f.1 % 65536 ≡ header.now.sequence_number) }
+    ensures low { IfSome result (λ f. f.1 % 65536 ≡ low) }
 {
-    if header.ssrc.is_probe() {
-        return match probes.accepts(header.sequence_number, remembered) {
+    if ssrc.is_probe() {
+        return match probes.accepts(low, remembered) {
             Some(number) => Some((None, number)),
             None => None,
         };
     }
-    match streams.accepts(header.ssrc, header.sequence_number, remembered) {
+    match streams.accepts(ssrc, low, remembered) {
         Some(found) => Some((Some(found.0), found.1)),
         None => None,
     }

@@ -1,4 +1,4 @@
-ghost use Rattle.std.specs.Prelude.{◌≡◌, ◌<◌, Some, length, slice_get, option_and_then, IfOk, IfSome, OnOk};
+ghost use Rattle.std.specs.Prelude.{◌≡◌, ◌==◌, ◌||◌, ◌<◌, Some, length, is_none, slice_get, option_and_then, IfOk, IfSome, OnOk};
 ghost use Rattle.std.specs.Map.{values_of};
 ghost use Rattle.std.specs.Option.{option_map_or};
 ghost use Rattle.stream_core.specs.Tables.{change_place};
@@ -7,7 +7,7 @@ ghost use Rattle.session_core.specs.Sending.{has_mid, is_due, first_due, sealed_
 
 use crate::datagram::Datagram;
 use crate::media::Media;
-use media_base::{Bytes, Instant};
+use media_base::{Bytes, Instant, already_happened};
 use repair_core::GapWindow;
 use rtp_base::{Kind, Mid};
 use srtp_core::{SrtpCipher, SrtpContext};
@@ -19,6 +19,13 @@ pub fn has_mid(medias: &[Media], mid: Mid) -> bool
     ensures { result ≡ has_mid mid medias.now }
 {
     medias.iter().any(|media| media.mid() == mid)
+}
+
+/// Whether nothing may leave: at moment 0, and without keys.
+pub fn is_silent<C: SrtpCipher>(now: Instant, sealing: &Option<SrtpContext<C>>) -> bool
+    ensures { result ≡ (now == 0 || is_none sealing.now) }
+{
+    now == already_happened() || sealing.is_none()
 }
 
 fn is_due(stream: &StreamTx, medias: &[Media]) -> bool

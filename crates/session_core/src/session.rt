@@ -1,4 +1,4 @@
-ghost use Rattle.std.specs.Prelude.{◌≡◌, ◌≢◌, ◌↔◌, ◌||◌, ◌<◌, ◌++◌, ◌∷◌, ℕ, [], None, Some, false, not, length, is_some, is_err, vec_capacity, IsTrue, IfOk, IfErr, IfSome, IfNone, OnOk, OnErr, IsErrOf};
+ghost use Rattle.std.specs.Prelude.{◌≡◌, ◌≢◌, ◌↔◌, ◌||◌, ◌<◌, ◌++◌, ◌∷◌, ℕ, [], None, Some, true, false, not, length, is_some, is_err, vec_capacity, IsTrue, IfOk, IfErr, IfSome, IfNone, OnOk, OnErr, IsErrOf};
 ghost use Rattle.std.specs.Option.{option_copied};
 ghost use Rattle.srtp_core.specs.Contexts.{new_state};
 ghost use Rattle.srtp_core.specs.Keys.{material_len};
@@ -13,7 +13,7 @@ use crate::error::{AppError, RtcError};
 use crate::media::Media;
 use crate::receiving::{Opening, accepts, is_claimed, open, packet_after, take};
 use crate::seen::Seen;
-use crate::sending::{first_due, has_mid, poll_place, seal};
+use crate::sending::{first_due, has_mid, is_silent, poll_place, seal};
 use media_base::{Instant, already_happened};
 use repair_core::GapWindow;
 use rtp_base::{Kind, Mid, MidRid, SessionId, Ssrc};
@@ -177,7 +177,13 @@ impl<C: SrtpCipher, W: GapWindow> Session<C, W> {
             return Ok(None);
         }
         let remembered = self.seen.get(header.ssrc);
-        let Some(found) = accepts(&self.streams, &self.probes, &header, remembered) else {
+        let Some(found) = accepts(
+            &self.streams,
+            &self.probes,
+            header.ssrc,
+            header.sequence_number,
+            remembered,
+        ) else {
             return Ok(None);
         };
         let number = found.1;
@@ -193,7 +199,8 @@ impl<C: SrtpCipher, W: GapWindow> Session<C, W> {
         )?;
         self.seen.put(header.ssrc, number)?;
         let Opening { plain, payload } = opening;
-        self.packet = packet_after(now, &header, number, payload, self.packet.take());
+        let before = self.packet.take();
+        self.packet = packet_after(now, &header, number, payload, before);
         Ok(Some(Opened {
             kind: Kind::Rtp,
             ssrc: header.ssrc,
@@ -239,7 +246,7 @@ impl<C: SrtpCipher, W: GapWindow> Session<C, W> {
         ensures runs { self.new.state.stopped ≡ self.old.state.stopped }
         ensures fewer { IfOk result (λ d. IfSome d (λ s. all_waiting self.new.state.tx < all_waiting self.old.state.tx)) }
     {
-        if now == already_happened() || self.sealing.is_none() {
+        if is_silent(now, &self.sealing) {
             return Ok(None);
         }
         let Some(place) = first_due(&self.streams, self.medias.as_slice()) else {
