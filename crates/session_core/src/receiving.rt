@@ -98,11 +98,11 @@ pub fn open<C: SrtpCipher>(
 /// Where the stream of an SSRC stands, None on SSRC 0, and the number under which its datagram with these
 /// low 16 bits may open.
 pub fn accepts<W: GapWindow>(
-    streams: &Streams<W>,
-    probes: &StreamRx<W>,
     ssrc: Ssrc,
     low: u16,
     remembered: Option<SeqNo>,
+    streams: &Streams<W>,
+    probes: &StreamRx<W>,
 ) -> Option<(Option<usize>, SeqNo)>
     requires { ForSome remembered (λ n. n < 2 ^ 48) }
     ensures number { (rx : List (ℕ × RxRecord)) (p : RxRecord) → Along (StandsFor W.remembers) streams.now.rx rx → StandsFor W.remembers probes.now p
@@ -127,11 +127,11 @@ pub fn accepts<W: GapWindow>(
 
 /// Has the stream at a place, or with none that of SSRC 0, take a number under which a datagram opened.
 pub fn take<W: GapWindow>(
-    streams: &mut Streams<W>,
-    probes: &mut StreamRx<W>,
     place: Option<usize>,
     number: SeqNo,
     remembered: Option<SeqNo>,
+    streams: &mut Streams<W>,
+    probes: &mut StreamRx<W>,
 ) -> Result<(), AllocError>
     requires place { IfSome place (λ i. i < length streams.old.rx) }
     requires number { number < 2 ^ 48 }

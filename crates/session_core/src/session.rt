@@ -178,11 +178,11 @@ impl<C: SrtpCipher, W: GapWindow> Session<C, W> {
         }
         let remembered = self.seen.get(header.ssrc);
         let Some(found) = accepts(
-            &self.streams,
-            &self.probes,
             header.ssrc,
             header.sequence_number,
             remembered,
+            &self.streams,
+            &self.probes,
         ) else {
             return Ok(None);
         };
@@ -191,11 +191,11 @@ impl<C: SrtpCipher, W: GapWindow> Session<C, W> {
             return Ok(None);
         };
         take(
-            &mut self.streams,
-            &mut self.probes,
             found.0,
             number,
             remembered,
+            &mut self.streams,
+            &mut self.probes,
         )?;
         self.seen.put(header.ssrc, number)?;
         let Opening { plain, payload } = opening;
