@@ -4,7 +4,8 @@ ghost use Rattle.srtp_core.specs.Contexts.{new_state};
 ghost use Rattle.srtp_core.specs.Keys.{material_len};
 ghost use Rattle.session_core.specs.Sending.{next_datagram, after_datagram, after_timeout, all_waiting, DrainsTo, Drains};
 ghost use Rattle.session_core.specs.SessionRecord.{SessionRecord, SessionState, StandsFor};
-ghost use Rattle.session_core.specs.Receiving.{Receives};
+ghost use Rattle.rtp_wire.specs.Header.{header_of};
+ghost use Rattle.session_core.specs.Receiving.{Receives, is_claimed};
 ghost use Rattle.session_core.specs.Calls.{fresh_session, probe_mid, after_event, next_event, told, wake_of, media_of, has_media, has_other_mid, has_other_place};
 
 use crate::config::{PayloadTypes, SessionConfig};
@@ -176,6 +177,22 @@ impl<C: SrtpCipher, W: GapWindow> Session<C, W> {
         if !is_claimed(&self.types, &header) {
             return Ok(None);
         }
+        self.receive_under(now, bytes, &header)
+    }
+
+    /// Takes in a datagram that begins with this header, of a type that is taken.
+    fn receive_under(
+        &mut self,
+        now: Instant,
+        bytes: &[u8],
+        header: &RtpHeader,
+    ) -> Result<Option<Opened>, AllocError>
+        ensures received { IfOk result (λ opened. (r : SessionRecord) → StandsFor W.remembers self.old r
+            → header_of r.state.transport.exts bytes.now ≡ Some header.now → is_claimed r.state.types header.now ≡ true
+            → (after : SessionRecord) × Receives C.meaning r bytes.now now after opened × StandsFor W.remembers self.new after) }
+        ensures unopened { IfOk result (λ opened. IfNone opened (self.new ≡ self.old)) }
+        ensures runs { self.new.state.stopped ≡ self.old.state.stopped }
+    {
         let remembered = self.seen.get(header.ssrc);
         let Some(found) = accepts(
             header.ssrc,
@@ -187,7 +204,7 @@ impl<C: SrtpCipher, W: GapWindow> Session<C, W> {
             return Ok(None);
         };
         let number = found.1;
-        let Some(opening) = open(self.alloc, &mut self.opening, bytes, &header, number)? else {
+        let Some(opening) = open(self.alloc, &mut self.opening, bytes, header, number)? else {
             return Ok(None);
         };
         take(
@@ -200,7 +217,7 @@ impl<C: SrtpCipher, W: GapWindow> Session<C, W> {
         self.seen.put(header.ssrc, number)?;
         let Opening { plain, payload } = opening;
         let before = self.packet.take();
-        self.packet = packet_after(now, &header, number, payload, before);
+        self.packet = packet_after(now, header, number, payload, before);
         Ok(Some(Opened {
             kind: Kind::Rtp,
             ssrc: header.ssrc,
