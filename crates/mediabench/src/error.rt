@@ -1,33 +1,20 @@
-// Why the program stopped.
+// How the program ends.
 ghost use Rattle.std.specs.Prelude.{◌≡◌};
+ghost use Rattle.mediabench.specs.Ends.{status_of};
 
 use media_base::Failed;
 use std::alloc::AllocError;
 use std::io;
 
-/// Why the program stopped.
+/// Why a command was not done.
 #[derive(Clone, Copy, Debug, PartialEq, Eq)]
 pub enum BenchError {
-    /// The words are no command.
-    Usage,
     /// Memory ran out.
     Memory,
     /// The clock could not be read.
     Clock,
     /// The sink failed.
     Sink,
-}
-
-impl BenchError {
-    /// The exit status.
-    pub fn status(self) -> u8 {
-        match self {
-            BenchError::Clock => 4,
-            BenchError::Sink => 5,
-            BenchError::Memory => 6,
-            BenchError::Usage => 64,
-        }
-    }
 }
 
 impl From<AllocError> for BenchError {
@@ -57,5 +44,31 @@ impl From<Failed> for BenchError {
 
     fn from(_: Failed) -> Self {
         BenchError::Sink
+    }
+}
+
+/// How the program ends.
+#[derive(Clone, Copy, Debug, PartialEq, Eq)]
+pub enum End {
+    /// The command was done.
+    Done,
+    /// The words are no command, or name no row.
+    Usage,
+    /// The command was not done to its end.
+    Stopped(BenchError),
+}
+
+impl End {
+    /// The exit status.
+    pub fn status(self) -> u8
+        ensures { result ≡ status_of self }
+    {
+        match self {
+            End::Done => 0,
+            End::Stopped(BenchError::Clock) => 4,
+            End::Stopped(BenchError::Sink) => 5,
+            End::Stopped(BenchError::Memory) => 6,
+            End::Usage => 64,
+        }
     }
 }

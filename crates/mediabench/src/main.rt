@@ -3,10 +3,17 @@
 #![tactic(auto)]
 
 mod bench_main;
+mod ciphers;
+mod command;
 mod error;
+mod feedback;
+mod headers;
+mod pacing;
 mod registers;
 mod report;
+mod stores;
 mod table;
+mod texts;
 mod timing;
 
 use media_base::WriterSink;
@@ -29,8 +36,6 @@ fn main(rt: HostRuntime) -> ExitCode {
         Err(_) => Vec::new(rt.alloc()),
     };
     let mut sink = WriterSink::new(io::writer(&rt));
-    match bench_main::bench_main(rt.alloc(), &rt, &words, &mut sink) {
-        Ok(()) => ExitCode::from(0),
-        Err(error) => ExitCode::from(error.status()),
-    }
+    let end = bench_main::bench_main(rt.alloc(), &rt, &table::ROWS, &words, &mut sink);
+    ExitCode::from(end.status())
 }
