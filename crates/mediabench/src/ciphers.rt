@@ -4,7 +4,7 @@ use srtp_core::{KeyingMaterial, SrtpContext, SrtpProfile, ToyCipher};
 use std::alloc::{AllocError, Global};
 
 /// What is done with a datagram whose payload has so many bytes.
-#[derive(Clone, Copy, Debug, PartialEq, Eq)]
+#[derive(Clone, Copy)]
 pub enum CipherWork {
     /// It is sealed.
     Seal(usize),

@@ -4,7 +4,7 @@ ghost use Rattle.mediabench.specs.declared.command.Command.{Command as Named};
 ghost use Rattle.mediabench.specs.Command.{IsCommand};
 
 /// What the program is to do.
-#[derive(Clone, Copy, Debug)]
+#[derive(Clone, Copy)]
 pub enum Command<'a> {
     /// Writes the names of the rows.
     Rows,

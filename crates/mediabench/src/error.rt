@@ -7,7 +7,7 @@ use std::alloc::AllocError;
 use std::io;
 
 /// Why a command was not done.
-#[derive(Clone, Copy, Debug, PartialEq, Eq)]
+#[derive(Clone, Copy)]
 pub enum BenchError {
     /// Memory ran out.
     Memory,
@@ -48,7 +48,7 @@ impl From<Failed> for BenchError {
 }
 
 /// How the program ends.
-#[derive(Clone, Copy, Debug, PartialEq, Eq)]
+#[derive(Clone, Copy)]
 pub enum End {
     /// The command was done.
     Done,

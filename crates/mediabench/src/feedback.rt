@@ -5,7 +5,7 @@ use std::alloc::{AllocError, Global};
 use twcc_core::{Twcc, TwccRecvRegister, read_twcc, write_twcc};
 
 /// What is done with feedback.
-#[derive(Clone, Copy, Debug, PartialEq, Eq)]
+#[derive(Clone, Copy)]
 pub enum FeedbackWork {
     /// A packet is taken, and after each 32 a report made.
     Take,

@@ -2,7 +2,7 @@
 use rtp_wire::{ExtensionMap, RtpHeader};
 
 /// What is done with a header.
-#[derive(Clone, Copy, Debug, PartialEq, Eq)]
+#[derive(Clone, Copy)]
 pub enum HeaderWork {
     /// A header with the values of four extensions is read.
     Read,

@@ -11,6 +11,7 @@ mod headers;
 mod pacing;
 mod registers;
 mod report;
+mod rtcp;
 mod stores;
 mod table;
 mod texts;

@@ -6,7 +6,7 @@ use rtp_base::{Mid, MidRid};
 use std::alloc::{AllocError, Global};
 
 /// What is done with a pacer over so many queues.
-#[derive(Clone, Copy, Debug, PartialEq, Eq)]
+#[derive(Clone, Copy)]
 pub enum PacerWork {
     /// A timeout, a poll and a packet of a leaky bucket pacer.
     Leaky(u16),

@@ -7,7 +7,7 @@ use rtp_base::{NackEntry, ReportList, SeqNo};
 use std::alloc::{AllocError, Global};
 
 /// Which numbers come.
-#[derive(Clone, Copy, Debug, PartialEq, Eq)]
+#[derive(Clone, Copy)]
 pub enum Numbers {
     /// Every number, in order.
     InOrder,
@@ -18,7 +18,7 @@ pub enum Numbers {
 }
 
 /// What is done with a register.
-#[derive(Clone, Copy, Debug, PartialEq, Eq)]
+#[derive(Clone, Copy)]
 pub enum RegisterWork {
     /// A number is tested and taken.
     Take(Numbers),

@@ -28,7 +28,7 @@ impl Cached for Packet {
 }
 
 /// What is done with a store.
-#[derive(Clone, Copy, Debug, PartialEq, Eq)]
+#[derive(Clone, Copy)]
 pub enum StoreWork {
     /// A value is pushed, into a store that grows from 10 to 2,000.
     Push,
@@ -39,7 +39,7 @@ pub enum StoreWork {
 }
 
 /// What is done with a cache of sent packets.
-#[derive(Clone, Copy, Debug, PartialEq, Eq)]
+#[derive(Clone, Copy)]
 pub enum CacheWork {
     /// A packet is cached, in a cache of this room.
     Put(usize),
@@ -104,7 +104,7 @@ impl StoreWork {
 }
 
 // The packet of a count.
-fn packet(count: u64) -> Packet
+fn sent_packet(count: u64) -> Packet
     ensures { result.size < 2000 }
 {
     Packet {
@@ -121,7 +121,10 @@ fn cached<S: ResendStore<Packet>>(
 ) -> Result<RtxCache<Packet, S>, AllocError> {
     let mut cache: RtxCache<Packet, S> = RtxCache::new(alloc, room, age(3))?;
     for i in 0..count {
-        cache.cache_sent_packet(packet(i), Instant::from_nanos(i.wrapping_mul(1_000_000)))?;
+        cache.cache_sent_packet(
+            sent_packet(i),
+            Instant::from_nanos(i.wrapping_mul(1_000_000)),
+        )?;
     }
     Ok(cache)
 }

@@ -5,7 +5,7 @@ use crate::headers::HeaderWork;
 use crate::pacing::PacerWork;
 use crate::registers::{Numbers, RegisterWork};
 use crate::stores::{CacheWork, Packet, StoreWork};
-use crate::texts;
+use crate::{rtcp, texts};
 use mask_register::MaskRegister;
 use queue_store::QueueStore;
 use repair_core::NackRegister;
@@ -13,7 +13,7 @@ use resend_core::EvictingBuffer;
 use std::alloc::{AllocError, Global};
 
 /// What a row does over and over.
-#[derive(Clone, Copy, Debug, PartialEq, Eq)]
+#[derive(Clone, Copy)]
 pub enum Work {
     /// Calls of the register of slots.
     Slots(RegisterWork),
@@ -35,6 +35,8 @@ pub enum Work {
     Toy(CipherWork),
     /// Transport-wide feedback.
     Feedback(FeedbackWork),
+    /// A compound packet of a sender report, a description and a NACK, read.
+    Rtcp,
     /// The line of a sealed datagram of so many bytes.
     Line(usize),
 }
@@ -54,13 +56,14 @@ impl Work {
             Work::Header(work) => Ok(work.play(count)),
             Work::Toy(work) => work.play(alloc, count),
             Work::Feedback(work) => work.play(alloc, count),
+            Work::Rtcp => rtcp::read(alloc, count),
             Work::Line(size) => texts::put_sealed(alloc, size, count),
         }
     }
 }
 
 /// A row of the table.
-#[derive(Clone, Copy, Debug)]
+#[derive(Clone, Copy)]
 pub struct Row {
     /// Its name.
     pub name: &'static str,
@@ -71,7 +74,7 @@ pub struct Row {
 }
 
 /// The rows, in the order in which they are timed.
-pub const ROWS: [Row; 53] = [
+pub const ROWS: [Row; 54] = [
     Row {
         name: "take-in-order-slots",
         work: Work::Slots(RegisterWork::Take(Numbers::InOrder)),
@@ -330,6 +333,11 @@ pub const ROWS: [Row; 53] = [
     Row {
         name: "feedback-write",
         work: Work::Feedback(FeedbackWork::Write),
+        count: 50_000,
+    },
+    Row {
+        name: "rtcp-read",
+        work: Work::Rtcp,
         count: 50_000,
     },
     Row {

@@ -7,7 +7,7 @@ use std::alloc::Global;
 use std::time::{Clock, Instant};
 
 /// What a row's rounds came to.
-#[derive(Clone, Copy, Debug, PartialEq, Eq)]
+#[derive(Clone, Copy)]
 pub struct Figure {
     /// The median time of a round, in tenths of a nanosecond an operation.
     pub tenths: u64,
