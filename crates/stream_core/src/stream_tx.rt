@@ -1,7 +1,7 @@
-ghost use Rattle.std.specs.Prelude.{◌≡◌, ◌↔◌, ◌++◌, ◌==◌, ◌≤◌, length, IfOk, IfSome, OnOk, OnErr, IsErrOf};
+ghost use Rattle.std.specs.Prelude.{◌≡◌, ◌↔◌, ◌++◌, ◌==◌, ◌≤◌, length, is_some, IfOk, IfSome, OnOk, OnErr, IsErrOf};
 ghost use Rattle.rtp_wire.specs.Header.{header_bytes};
 ghost use Rattle.rtp_wire.specs.HeaderLaws.{IsReadAgain};
-ghost use Rattle.stream_core.specs.Queue.{needs_tick};
+ghost use Rattle.stream_core.specs.Queue.{needs_tick, next_of};
 ghost use Rattle.stream_core.specs.Sealing.{sealed_values};
 
 use crate::packet::RtpPacket;
@@ -240,6 +240,13 @@ impl StreamTx {
         self.queue.pop();
         transport.count();
         Ok(Some(receipt))
+    }
+
+    /// Whether there is a packet to be sealed: there was a tick since the one at the front was written.
+    pub fn is_ready(&self) -> bool
+        ensures { result ≡ is_some (next_of self.now.queue) }
+    {
+        self.queue.peek().is_some()
     }
 
     /// Whether no packet waits.

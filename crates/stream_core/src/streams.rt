@@ -127,6 +127,14 @@ impl<W: GapWindow> Streams<W> {
         self.tx.place(ssrc)
     }
 
+    /// The stream at a place among those that send.
+    pub fn tx(&self, place: usize) -> &StreamTx
+        requires { place < length self.now.tx }
+        ensures { slice_get (values_of self.now.tx) place ≡ Some result.now }
+    {
+        self.tx.at(place)
+    }
+
     /// Where the stream stands that receives datagrams of an SSRC: one look-up in a hash table.
     pub fn rx_place(&self, ssrc: Ssrc) -> Option<usize>
         ensures place { result ≡ place_of ssrc self.now.rx }
@@ -175,6 +183,7 @@ impl<W: GapWindow> Streams<W> {
         requires remembered { ForSome remembered (λ n. n < 2 ^ 48) }
         ensures ok { OnOk result ((r : StreamsRecord) (ssrc : ℕ) → StandsFor W.remembers self.old r → place_of ssrc self.old.rx ≡ Some place
             → StandsFor W.remembers self.new (record r { rx = change_at ssrc (opened_as remembered number) r.rx })) }
+        ensures others { self.new.tx ≡ self.old.tx }
         ensures err { OnErr result (self.new ≡ self.old) }
     {
         self.rx.at_mut(place).take(number, remembered)?;

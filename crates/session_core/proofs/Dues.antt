@@ -1,0 +1,76 @@
+-- The first stream that is due, and what waits after its packet left.
+use Rattle.std.proofs.Common.{◌≡◌, ℕ, zero, suc, ◌+◌, ◌<◌, ◌≤◌, Bool, true, false, List, [], ◌∷◌, Option, Some, None, length, take, slice_get, refl, sym, ap, subst, ◌∙◌, add-one, arith}
+use Rattle.std.proofs.lemmas.List.{take_all}
+use Rattle.std.specs.Prelude.{if◌then◌else◌, option_and_then}
+use Rattle.std.specs.Map.{values_of}
+use Rattle.std.specs.Option.{option_map}
+use Rattle.indexmap.specs.IndexMap.{set_value_at}
+use Rattle.stream_core.specs.declared.packet.RtpPacket.{RtpPacket}
+use Rattle.stream_core.specs.declared.stream_tx.PacketReceipt.{PacketReceipt}
+use Rattle.stream_core.specs.declared.transport.Transport.{Transport}
+use Rattle.stream_core.specs.Queue.{next_of, rest_of, rest_after, if_stamped}
+use Rattle.stream_core.specs.Tables.{change_place}
+use Rattle.stream_core.specs.TxRecord.{TxRecord, polled, after_poll, receipt_of}
+use Rattle.session_core.specs.SessionRecord.{MediaRecord}
+use Rattle.session_core.specs.Sending.{is_due, first_due, all_waiting}
+
+none_here : (b : Bool) (o : Option ℕ) → (if b then Some zero else option_map suc o) ≡ None → (b ≡ false) × (o ≡ None)
+none_here true o h = absurd cc
+none_here false None h = (refl, refl)
+none_here false (Some i) h = absurd cc
+
+module _ (medias : List MediaRecord) where
+  none_suc : (es : List (ℕ × TxRecord)) (i : ℕ) (r : TxRecord) → first_due medias (take i es) ≡ None → slice_get (values_of es) i ≡ Some r → is_due medias r ≡ false
+      → first_due medias (take (suc i) es) ≡ None
+  none_suc [] i r h at due = absurd cc
+  none_suc (e ∷ es) zero r h at due =
+      let same : e.1 ≡ r = cc in
+      ap (λ b. if b then Some zero else None) (ap (is_due medias) same ∙ due)
+  none_suc (e ∷ es) (suc i) r h at due =
+      let k = none_here (is_due medias e.1) (first_due medias (take i es)) h in
+      let rest = none_suc es i r k.1 at due in
+      λ j. if k.0 j then Some zero else option_map suc (rest j)
+
+  -- one more stream is not due
+  pub none_more : (es : List (ℕ × TxRecord)) (i : ℕ) (r : TxRecord) → first_due medias (take i es) ≡ None → slice_get (values_of es) i ≡ Some r → is_due medias r ≡ false
+      → first_due medias (take (i + 1) es) ≡ None
+  none_more es i r h at due = ap (λ n. first_due medias (take n es)) (add-one i) ∙ none_suc es i r h at due
+
+  -- the stream at a place is the first
+  pub found_at : (es : List (ℕ × TxRecord)) (i : ℕ) (r : TxRecord) → first_due medias (take i es) ≡ None → slice_get (values_of es) i ≡ Some r → is_due medias r ≡ true
+      → Some i ≡ first_due medias es
+  found_at [] i r h at due = absurd cc
+  found_at (e ∷ es) zero r h at due =
+      let same : e.1 ≡ r = cc in
+      sym (ap (λ b. if b then Some zero else option_map suc (first_due medias es)) (ap (is_due medias) same ∙ due))
+  found_at (e ∷ es) (suc i) r h at due =
+      let k = none_here (is_due medias e.1) (first_due medias (take i es)) h in
+      let rest = found_at es i r k.1 at due in
+      λ j. if (sym k.0) j then Some zero else option_map suc (rest j)
+
+  -- none is due
+  pub found_none : (es : List (ℕ × TxRecord)) (i : ℕ) → first_due medias (take i es) ≡ None → length es ≤ i → None ≡ first_due medias es
+  found_none es i h long = sym h ∙ ap (first_due medias) (take_all i es long)
+
+stamped : (p q : RtpPacket) (ps : List RtpPacket) (o : Option ℕ) → if_stamped p o ≡ Some q → length (rest_after p ps o) < suc (length ps)
+stamped p q ps None h = absurd cc
+stamped p q ps (Some t) h = omega arith
+
+shorter : (ps : List RtpPacket) (q : RtpPacket) → next_of ps ≡ Some q → length (rest_of ps) < length ps
+shorter [] q h = absurd cc
+shorter (p ∷ ps) q h = stamped p q ps p.timestamp h
+
+given : {X Y : Type 0} (f : X → Y) (o : Option X) (y : Y) → option_map f o ≡ Some y → (x : X) × (o ≡ Some x)
+given f None y h = absurd cc
+given f (Some x) y h = (x, refl)
+
+-- one packet less waits
+pub fewer_wait : (es : List (ℕ × TxRecord)) (i now : ℕ) (t : Transport) (r : TxRecord) (p : PacketReceipt) → slice_get (values_of es) i ≡ Some r → polled r t now ≡ Some p
+    → all_waiting (change_place after_poll es i) < all_waiting es
+fewer_wait [] i now t r p at h = absurd cc
+fewer_wait (e ∷ es) zero now t r p at h =
+    let same : e.1 ≡ r = cc in
+    let some = given (receipt_of r t now) (next_of r.queue) p h in
+    let less = shorter e.1.queue some.0 (ap (λ (s : TxRecord). next_of s.queue) same ∙ some.1) in
+    omega arith
+fewer_wait (e ∷ es) (suc i) now t r p at h = let less = fewer_wait es i now t r p at h in omega arith

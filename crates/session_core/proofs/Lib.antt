@@ -1,0 +1,4 @@
+pub mod Dues
+pub mod Polls
+pub mod Staying
+pub mod Tables

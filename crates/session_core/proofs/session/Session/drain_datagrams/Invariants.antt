@@ -1,0 +1,13 @@
+use Rattle.std.proofs.Common.{◌≡◌, ℕ, false}
+use Rattle.session_core.specs.Sending.{all_waiting, DrainsTo}
+use Rattle.session_core.proofs.session.Session.drain_datagrams.Given as goal
+
+abbrev pub invariant-loop-now : goal.invariant-loop-now
+invariant-loop-now g l = record {
+  runs : l.self.state.stopped ≡ false;
+  others : l.self ≡ record l.fn.self { state = l.self.state };
+  drained : DrainsTo g.C.SrtpCipher.meaning l.now l.fn.self.state l.self.state l.sofar.items;
+}
+
+abbrev pub decreases-loop-now : goal.decreases-loop-now
+decreases-loop-now g l = all_waiting l.self.state.tx

@@ -1,0 +1,5 @@
+pub mod Calls
+pub mod LendingStreams
+pub mod Receiving
+pub mod Sending
+pub mod SessionRecord

@@ -1,0 +1,86 @@
+-- What a session sends.
+use Rattle.std.specs.Prelude.{◌≡◌, ◌==◌, ◌&&◌, ◌||◌, ℕ, zero, suc, ◌+◌, Bool, is_some, is_none, if◌then◌else◌, List, [], ◌∷◌, ◌++◌, length, Option, Some, None, option_and_then, slice_get}
+use Rattle.std.specs.List.{list_any}
+use Rattle.std.specs.Map.{values_of}
+use Rattle.std.specs.Option.{option_map, option_map_or}
+use Rattle.std.specs.Cmp.Lexicographic.{pointwise}
+use Rattle.rtp_base.specs.declared.kind.Kind.TheVariants.{Rtp}
+use Rattle.srtp_core.specs.Cipher.{CipherMeaning}
+use Rattle.srtp_core.specs.Contexts.{SrtpState}
+use Rattle.srtp_core.specs.Seals.{sealed_rtp}
+use Rattle.stream_core.specs.declared.stream_tx.PacketReceipt.{PacketReceipt}
+use Rattle.stream_core.specs.declared.transport.Transport.{Transport}
+use Rattle.stream_core.specs.Queue.{next_of}
+use Rattle.stream_core.specs.Tables.{each, change_place}
+use Rattle.stream_core.specs.TxRecord.{TxRecord, polled, after_poll, transport_after_poll, after_timeout as stream_after_timeout}
+use Rattle.session_core.specs.declared.datagram.Datagram.{Datagram}
+use Rattle.session_core.specs.SessionRecord.{MediaRecord, SessionState}
+
+-- some media section has this mid
+abbrev pub has_mid : List ℕ → List MediaRecord → Bool
+has_mid mid medias = list_any (λ m. pointwise ◌==◌ m.mid mid) medias
+
+-- the stream has a packet to be sealed, and its mid is a media section's
+abbrev pub is_due : List MediaRecord → TxRecord → Bool
+is_due medias r = has_mid r.mid medias && is_some (next_of r.queue)
+
+-- the place of the first stream that is due
+abbrev pub first_due : List MediaRecord → List (ℕ × TxRecord) → Option ℕ
+first_due medias [] = None
+first_due medias (e ∷ es) = if is_due medias e.1 then Some zero else option_map suc (first_due medias es)
+
+-- the place of the stream whose packet leaves next: none without keys and at moment 0
+abbrev pub next_place : ℕ → SessionState → Option ℕ
+next_place now s = if now == 0 || is_none s.sealing then None else first_due s.medias s.tx
+
+-- what a stream gives as a datagram
+abbrev pub sealed_as : CipherMeaning → SrtpState → PacketReceipt → Datagram
+sealed_as cipher state p = record {
+  kind = Rtp;
+  ssrc = p.header.ssrc;
+  index = p.seq_no;
+  plain = p.plain;
+  bytes = sealed_rtp cipher state.profile state.keys p.header.ssrc p.seq_no p.header.header_len p.plain;
+}
+
+abbrev pub sealed_by : CipherMeaning → Option SrtpState → Option PacketReceipt → Option Datagram
+sealed_by cipher None p = None
+sealed_by cipher (Some state) p = option_map (sealed_as cipher state) p
+
+-- the packet at the front of the stream at a place, with its header
+abbrev pub receipt_at : ℕ → SessionState → Option ℕ → Option PacketReceipt
+receipt_at now s place = option_and_then (λ r. polled r s.transport now) (option_and_then (slice_get (values_of s.tx)) place)
+
+-- the datagram that leaves next
+abbrev pub next_datagram : CipherMeaning → ℕ → SessionState → Option Datagram
+next_datagram cipher now s = sealed_by cipher s.sealing (receipt_at now s (next_place now s))
+
+abbrev pub transport_after : SessionState → ℕ → Transport
+transport_after s i = option_map_or (λ r. transport_after_poll r s.transport) (slice_get (values_of s.tx) i) s.transport
+
+abbrev pub without_front : SessionState → ℕ → SessionState
+without_front s i = record s { tx = change_place after_poll s.tx i; transport = transport_after s i }
+
+-- the session after that datagram left
+abbrev pub after_datagram : ℕ → SessionState → SessionState
+after_datagram now s = option_map_or (without_front s) (next_place now s) s
+
+-- how many packets wait
+abbrev pub all_waiting : List (ℕ × TxRecord) → ℕ
+all_waiting [] = 0
+all_waiting (e ∷ es) = length e.1.queue + all_waiting es
+
+-- polls that gave these datagrams, in order
+pub data DrainsTo (cipher : CipherMeaning) (now : ℕ) (s : SessionState) : SessionState → List Datagram → Type 0 where
+  start : DrainsTo cipher now s s []
+  more : (between : SessionState) (done : List Datagram) (d : Datagram) → DrainsTo cipher now s between done
+      → next_datagram cipher now between ≡ Some d → DrainsTo cipher now s (after_datagram now between) (done ++ d ∷ [])
+
+-- polls that gave these, and one that gave none
+pub record Drains (cipher : CipherMeaning) (now : ℕ) (s after : SessionState) (all : List Datagram) : Type 0 where
+  pub sent : DrainsTo cipher now s after all
+  pub ended : next_datagram cipher now after ≡ None
+
+-- a tick
+abbrev pub after_timeout : ℕ → SessionState → SessionState
+after_timeout now s = record s { tx = each (stream_after_timeout now) s.tx }

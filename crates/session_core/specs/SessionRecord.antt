@@ -1,0 +1,50 @@
+-- The record of a session.
+use Rattle.std.specs.Prelude.{◌≡◌, ℕ, Bool, Option, List}
+use Rattle.session_core.specs.declared.media.MediaKind.{MediaKind}
+use Rattle.srtp_core.specs.Contexts.{SrtpState}
+use Rattle.repair_core.specs.Rounds.{Heard}
+use Rattle.stream_core.specs.declared.packet.RtpPacket.{RtpPacket}
+use Rattle.stream_core.specs.declared.transport.Transport.{Transport}
+use Rattle.stream_core.specs.RxRecord.{RxView, RxRecord, StandsFor as RxStandsFor}
+use Rattle.stream_core.specs.Tables.{Along}
+use Rattle.stream_core.specs.TxRecord.{TxRecord}
+use Rattle.session_core.specs.declared.config.TypeRow.{TypeRow}
+
+-- a media section: its mid, its kind, and the canonical name of its sources
+pub record MediaRecord : Type 0 where
+  pub mid : List ℕ
+  pub kind : MediaKind
+  pub cname : List ℕ
+
+-- all of a session but what its incoming streams were told: its identification; mid and place of the data channel; the
+-- payload types, each under its number; the media sections; the contexts that seal and open, once there are keys; the
+-- greatest number that opened under each SSRC; the outgoing streams, each under its SSRC, and what they share; the packet
+-- that came and waits to be told; and whether want of memory stopped it
+pub record SessionState : Type 0 where
+  pub id : ℕ
+  pub app : Option (List ℕ × ℕ)
+  pub types : List (ℕ × TypeRow)
+  pub medias : List MediaRecord
+  pub sealing : Option SrtpState
+  pub opening : Option SrtpState
+  pub seen : List (ℕ × ℕ)
+  pub tx : List (ℕ × TxRecord)
+  pub transport : Transport
+  pub packet : Option RtpPacket
+  pub stopped : Bool
+
+-- a session as its callers see it: incoming streams each under its SSRC, and the one of SSRC 0, on which probes come
+pub record SessionView (W : Type 0) : Type 0 where
+  pub state : SessionState
+  pub rx : List (ℕ × RxView W)
+  pub probes : RxView W
+
+pub record SessionRecord : Type 0 where
+  pub state : SessionState
+  pub rx : List (ℕ × RxRecord)
+  pub probes : RxRecord
+
+pub record StandsFor {W : Type 0} (remembers : W → Heard → Type 0) (s : SessionView W) (r : SessionRecord) : Type 0 where
+  pub state : s.state ≡ r.state
+  pub rx : Along (RxStandsFor remembers) s.rx r.rx
+  pub probes : RxStandsFor remembers s.probes r.probes

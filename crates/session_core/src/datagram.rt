@@ -1,0 +1,59 @@
+use crate::error::RtcError;
+use media_base::{Bytes, Instant};
+use rtp_base::{Kind, SeqNo, Ssrc};
+use stream_core::RtpPacket;
+
+/// What a datagram opened to.
+#[derive(Debug, PartialEq, Eq, Drop)]
+pub struct Opened {
+    /// Whether it is RTP or RTCP.
+    pub kind: Kind,
+    /// The SSRC of its header.
+    pub ssrc: Ssrc,
+    /// For RTP the extended sequence number.
+    pub index: SeqNo,
+    /// The datagram as it was before it was sealed.
+    pub plain: Bytes,
+}
+
+/// A datagram that leaves.
+#[derive(Debug, PartialEq, Eq, Drop)]
+pub struct Datagram {
+    /// Whether it is RTP or RTCP.
+    pub kind: Kind,
+    /// The SSRC of its header.
+    pub ssrc: Ssrc,
+    /// For RTP the extended sequence number.
+    pub index: SeqNo,
+    /// The datagram before it was sealed.
+    pub plain: Bytes,
+    /// The sealed bytes.
+    pub bytes: Bytes,
+}
+
+/// What a session tells.
+#[derive(Debug, PartialEq, Eq, Drop)]
+pub enum Event {
+    /// A packet came on a stream.
+    RtpPacket(RtpPacket),
+}
+
+/// All that a session had to give.
+#[derive(Debug, Drop)]
+pub struct Drained {
+    /// What it tells, in order.
+    pub events: Vec<Event>,
+    /// What leaves, in order.
+    pub datagrams: Vec<Datagram>,
+    /// When it wants a tick next, None where it waits for nothing.
+    pub wake: Option<Instant>,
+}
+
+/// A drain that did not come to its end.
+#[derive(Debug, Drop)]
+pub struct DrainFault {
+    /// Why it did not.
+    pub error: RtcError,
+    /// What the session gave before, with no wake.
+    pub sofar: Drained,
+}

@@ -1,0 +1,18 @@
+//! A session: what it seals and opens, the streams that it sends and receives, and their media sections
+//! (RFC 3550 section 3, RFC 3711).
+#![tactic(auto)]
+
+mod config;
+mod datagram;
+mod error;
+mod media;
+mod receiving;
+mod seen;
+mod sending;
+mod session;
+
+pub use config::{PayloadTypes, SessionConfig, TypeRow};
+pub use datagram::{Datagram, DrainFault, Drained, Event, Opened};
+pub use error::{AppError, RtcError};
+pub use media::{Media, MediaKind};
+pub use session::Session;

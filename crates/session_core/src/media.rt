@@ -1,0 +1,61 @@
+ghost use Rattle.std.specs.Prelude.{◌≡◌};
+
+use media_base::Bytes;
+use rtp_base::Mid;
+use std::marker::Model;
+
+/// Whether media is heard or seen.
+#[derive(Clone, Copy, Debug, PartialEq, Eq)]
+pub enum MediaKind {
+    /// Sound.
+    Audio,
+    /// Pictures.
+    Video,
+}
+
+/// A media section (RFC 8866 section 5.14). Contracts see the record of its mid, its kind and its CNAME.
+#[derive(Debug, Drop)]
+pub struct Media {
+    mid: Mid,
+    kind: MediaKind,
+    cname: Bytes,
+}
+
+impl Model for Media {
+    ghost use Rattle.session_core.specs.SessionRecord.{MediaRecord};
+
+    ghost Value = { MediaRecord };
+
+    ghost view = { λ m. record { mid = m.mid; kind = m.kind; cname = m.cname } };
+}
+
+impl Media {
+    /// A section of a mid, for sound or pictures, with the canonical name of its sources (RFC 3550
+    /// section 6.5.1).
+    pub fn new(mid: Mid, kind: MediaKind, cname: Bytes) -> Self
+        ensures { result ≡ record { mid = mid; kind = kind; cname = cname } }
+    {
+        Media { mid, kind, cname }
+    }
+
+    /// Its identification (RFC 9143).
+    pub fn mid(&self) -> Mid
+        ensures { result ≡ self.now.mid }
+    {
+        self.mid
+    }
+
+    /// Whether it is of sound or of pictures.
+    pub fn kind(&self) -> MediaKind
+        ensures { result ≡ self.now.kind }
+    {
+        self.kind
+    }
+
+    /// The canonical name of its sources.
+    pub fn cname(&self) -> &[u8]
+        ensures { result.now ≡ self.now.cname }
+    {
+        self.cname.as_slice()
+    }
+}

@@ -1,0 +1,183 @@
+ghost use Rattle.std.specs.Prelude.{◌≡◌, ◌==◌, ◌<◌, ◌^◌, ◌%◌, ℕ, List, ◌++◌, Some, take, length, is_none, IfOk, IfSome, IfNone, OnOk, OnErr};
+ghost use Rattle.std.specs.Option.{ForSome, option_map};
+ghost use Rattle.srtp_core.specs.Seals.{OpensTo};
+ghost use Rattle.stream_core.specs.RxRecord.{RxRecord, StandsFor};
+ghost use Rattle.stream_core.specs.Tables.{Along, place_of};
+ghost use Rattle.session_core.specs.Receiving.{Unpads, OpensIn, IsOpening, cut, number_of, rx_opened, probes_opened, is_claimed, packet_from, packet_after};
+
+use crate::config::PayloadTypes;
+use media_base::{Bytes, Instant};
+use repair_core::GapWindow;
+use rtp_base::{Frequency, MediaTime, SeqNo, Ssrc};
+use rtp_wire::RtpHeader;
+use srtp_core::laws::rtp_opens_once;
+use srtp_core::{SrtpCipher, SrtpContext};
+use std::alloc::{AllocError, Global};
+use stream_core::{Payload, RtpPacket, StreamRx, Streams};
+
+/// What bytes opened to.
+#[derive(Debug, Drop)]
+pub struct Opening {
+    /// The header's bytes, and the payload with its padding.
+    pub plain: Bytes,
+    /// The payload without its padding.
+    pub payload: Payload,
+}
+
+/// Whether a datagram with this header may be taken: on SSRC 0 each, on another one those of the types
+/// that both ends know.
+pub fn is_claimed(types: &PayloadTypes, header: &RtpHeader) -> bool
+    ensures { result ≡ is_claimed types.now header.now }
+{
+    header.ssrc.is_probe() || types.has(header.payload_type)
+}
+
+/// The payload without its padding, None where it does not end in padding though it should.
+fn cut_payload<'a>(header: &RtpHeader, payload: &'a [u8]) -> Option<&'a [u8]>
+    ensures some { IfSome result (λ p. (p.now ≡ cut header.now payload.now) × Unpads header.now payload.now) }
+    ensures none { IfNone result (Unpads header.now payload.now → ⊥) }
+{
+    if header.has_padding {
+        RtpHeader::unpad_payload(payload)
+    } else {
+        Some(payload)
+    }
+}
+
+/// Opens bytes under a number.
+fn open_with<C: SrtpCipher>(
+    alloc: Global,
+    context: &mut SrtpContext<C>,
+    bytes: &[u8],
+    header: &RtpHeader,
+    number: SeqNo,
+) -> Result<Option<Opening>, AllocError>
+    requires index { number < 2 ^ 48 }
+    requires low { number % 65536 ≡ header.now.sequence_number }
+    ensures opened { IfOk result (λ r. IfSome r (λ o. IsOpening C.meaning (Some context.old) header.now number bytes.now o.plain o.payload)) }
+    ensures none { IfOk result (λ r. IfNone r ((p : List ℕ) → OpensIn C.meaning (Some context.old) header.now number bytes.now p → Unpads header.now p → ⊥)) }
+    ensures same { context.new ≡ context.old }
+{
+    rtp_opens_once::<C>();
+    let front = header.header_len;
+    let Some(payload) = context.unprotect_rtp(bytes, header, u64::from(number)) else {
+        return Ok(None);
+    };
+    let Some(cut) = cut_payload(header, payload) else {
+        return Ok(None);
+    };
+    let mut plain = Vec::with_capacity(alloc, bytes.len())?;
+    plain.extend_from_slice(&bytes[..front])?;
+    plain.extend_from_slice(payload)?;
+    Ok(Some(Opening {
+        plain: Bytes::from_vec(plain),
+        payload: Payload::from_slice(alloc, cut)?,
+    }))
+}
+
+/// Opens bytes under a number, where there are keys.
+pub fn open<C: SrtpCipher>(
+    alloc: Global,
+    opening: &mut Option<SrtpContext<C>>,
+    bytes: &[u8],
+    header: &RtpHeader,
+    number: SeqNo,
+) -> Result<Option<Opening>, AllocError>
+    requires index { number < 2 ^ 48 }
+    requires low { number % 65536 ≡ header.now.sequence_number }
+    ensures opened { IfOk result (λ r. IfSome r (λ o. IsOpening C.meaning opening.old header.now number bytes.now o.plain o.payload)) }
+    ensures none { IfOk result (λ r. IfNone r ((p : List ℕ) → OpensIn C.meaning opening.old header.now number bytes.now p → Unpads header.now p → ⊥)) }
+    ensures same { opening.new ≡ opening.old }
+{
+    match opening {
+        Some(context) => open_with(alloc, context, bytes, header, number),
+        None => Ok(None),
+    }
+}
+
+/// Where the stream of an SSRC stands, None on SSRC 0, and the number under which its datagram with these
+/// low 16 bits may open.
+pub fn accepts<W: GapWindow>(
+    ssrc: Ssrc,
+    low: u16,
+    remembered: Option<SeqNo>,
+    streams: &Streams<W>,
+    probes: &StreamRx<W>,
+) -> Option<(Option<usize>, SeqNo)>
+    requires { ForSome remembered (λ n. n < 2 ^ 48) }
+    ensures number { (rx : List (ℕ × RxRecord)) (p : RxRecord) → Along (StandsFor W.remembers) streams.now.rx rx → StandsFor W.remembers probes.now p
+        → option_map (λ f. f.1) result ≡ number_of remembered rx p ssrc low }
+    ensures probe { IfSome result (λ f. is_none f.0 ≡ (ssrc == 0)) }
+    ensures place { IfSome result (λ f. IfSome f.0 (λ i. place_of ssrc streams.now.rx ≡ Some i)) }
+    ensures within { IfSome result (λ f. IfSome f.0 (λ i. i < length streams.now.rx)) }
+    ensures small { IfSome result (λ f. f.1 < 2 ^ 48) }
+    ensures low { IfSome result (λ f. f.1 % 65536 ≡ low) }
+{
+    if ssrc.is_probe() {
+        return match probes.accepts(low, remembered) {
+            Some(number) => Some((None, number)),
+            None => None,
+        };
+    }
+    match streams.accepts(ssrc, low, remembered) {
+        Some(found) => Some((Some(found.0), found.1)),
+        None => None,
+    }
+}
+
+/// Has the stream at a place, or with none that of SSRC 0, take a number under which a datagram opened.
+pub fn take<W: GapWindow>(
+    place: Option<usize>,
+    number: SeqNo,
+    remembered: Option<SeqNo>,
+    streams: &mut Streams<W>,
+    probes: &mut StreamRx<W>,
+) -> Result<(), AllocError>
+    requires place { IfSome place (λ i. i < length streams.old.rx) }
+    requires number { number < 2 ^ 48 }
+    requires remembered { ForSome remembered (λ n. n < 2 ^ 48) }
+    ensures rx { OnOk result ((rx : List (ℕ × RxRecord)) (ssrc : ℕ) → Along (StandsFor W.remembers) streams.old.rx rx
+        → is_none place ≡ (ssrc == 0) → IfSome place (λ i. place_of ssrc streams.old.rx ≡ Some i)
+        → Along (StandsFor W.remembers) streams.new.rx (rx_opened remembered ssrc number rx)) }
+    ensures probes { OnOk result ((p : RxRecord) (ssrc : ℕ) → StandsFor W.remembers probes.old p → is_none place ≡ (ssrc == 0)
+        → StandsFor W.remembers probes.new (probes_opened remembered ssrc number p)) }
+    ensures tx { streams.new.tx ≡ streams.old.tx }
+    ensures err { OnErr result ((streams.new ≡ streams.old) × (probes.new ≡ probes.old)) }
+{
+    match place {
+        Some(place) => streams.take_at(place, number, remembered)?,
+        None => probes.take(number, remembered)?,
+    }
+    Ok(())
+}
+
+/// The packet of a datagram that came. Its RTP time is in ticks of 1 s, since its clock is not known.
+fn packet_from(now: Instant, header: &RtpHeader, number: SeqNo, payload: Payload) -> RtpPacket
+    ensures { result ≡ packet_from now header.now number payload }
+{
+    RtpPacket {
+        seq_no: number,
+        time: MediaTime::new(u64::from(header.timestamp), Frequency::SECONDS),
+        header: *header,
+        payload,
+        timestamp: Some(now),
+        nackable: false,
+    }
+}
+
+/// The packet that waits to be told after a datagram opened: on SSRC 0 the one before.
+pub fn packet_after(
+    now: Instant,
+    header: &RtpHeader,
+    number: SeqNo,
+    payload: Payload,
+    before: Option<RtpPacket>,
+) -> Option<RtpPacket>
+    ensures { result ≡ packet_after now header.now number payload before }
+{
+    if header.ssrc.is_probe() {
+        before
+    } else {
+        Some(packet_from(now, header, number, payload))
+    }
+}
