@@ -2,3 +2,5 @@ pub mod Dues
 pub mod Polls
 pub mod Staying
 pub mod Tables
+pub mod Wakes
+pub mod Others

@@ -1,5 +1,5 @@
 -- What a session sends.
-use Rattle.std.specs.Prelude.{◌≡◌, ◌==◌, ◌&&◌, ◌||◌, ℕ, zero, suc, ◌+◌, Bool, is_some, is_none, if◌then◌else◌, List, [], ◌∷◌, ◌++◌, length, Option, Some, None, option_and_then, slice_get}
+use Rattle.std.specs.Prelude.{◌≡◌, ◌==◌, ◌&&◌, ◌||◌, ℕ, zero, suc, ◌+◌, Bool, is_some, is_none, if◌then◌else◌, List, [], ◌∷◌, ◌++◌, length, take, Option, Some, None, option_and_then, slice_get}
 use Rattle.std.specs.List.{list_any}
 use Rattle.std.specs.Map.{values_of}
 use Rattle.std.specs.Option.{option_map, option_map_or}
@@ -28,6 +28,10 @@ is_due medias r = has_mid r.mid medias && is_some (next_of r.queue)
 abbrev pub first_due : List MediaRecord → List (ℕ × TxRecord) → Option ℕ
 first_due medias [] = None
 first_due medias (e ∷ es) = if is_due medias e.1 then Some zero else option_map suc (first_due medias es)
+
+-- no stream before a place is due
+abbrev pub PollsFrom : ℕ → List MediaRecord → List (ℕ × TxRecord) → Type 0
+PollsFrom place medias es = first_due medias (take place es) ≡ None
 
 -- the place of the stream whose packet leaves next: none without keys and at moment 0
 abbrev pub next_place : ℕ → SessionState → Option ℕ

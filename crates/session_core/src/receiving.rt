@@ -100,13 +100,13 @@ pub fn open<C: SrtpCipher>(
 pub fn accepts<W: GapWindow>(
     ssrc: Ssrc,
     low: u16,
-    remembered: Option<SeqNo>,
+    remembered: &Option<SeqNo>,
     streams: &Streams<W>,
     probes: &StreamRx<W>,
 ) -> Option<(Option<usize>, SeqNo)>
-    requires { ForSome remembered (λ n. n < 2 ^ 48) }
+    requires { ForSome remembered.now (λ n. n < 2 ^ 48) }
     ensures number { (rx : List (ℕ × RxRecord)) (p : RxRecord) → Along (StandsFor W.remembers) streams.now.rx rx → StandsFor W.remembers probes.now p
-        → option_map (λ f. f.1) result ≡ number_of remembered rx p ssrc low }
+        → option_map (λ f. f.1) result ≡ number_of remembered.now rx p ssrc low }
     ensures probe { IfSome result (λ f. is_none f.0 ≡ (ssrc == 0)) }
     ensures place { IfSome result (λ f. IfSome f.0 (λ i. place_of ssrc streams.now.rx ≡ Some i)) }
     ensures within { IfSome result (λ f. IfSome f.0 (λ i. i < length streams.now.rx)) }
@@ -114,12 +114,12 @@ pub fn accepts<W: GapWindow>(
     ensures low { IfSome result (λ f. f.1 % 65536 ≡ low) }
 {
     if ssrc.is_probe() {
-        return match probes.accepts(low, remembered) {
+        return match probes.accepts(low, *remembered) {
             Some(number) => Some((None, number)),
             None => None,
         };
     }
-    match streams.accepts(ssrc, low, remembered) {
+    match streams.accepts(ssrc, low, *remembered) {
         Some(found) => Some((Some(found.0), found.1)),
         None => None,
     }
@@ -129,24 +129,24 @@ pub fn accepts<W: GapWindow>(
 pub fn take<W: GapWindow>(
     place: Option<usize>,
     number: SeqNo,
-    remembered: Option<SeqNo>,
+    remembered: &Option<SeqNo>,
     streams: &mut Streams<W>,
     probes: &mut StreamRx<W>,
 ) -> Result<(), AllocError>
     requires place { IfSome place (λ i. i < length streams.old.rx) }
     requires number { number < 2 ^ 48 }
-    requires remembered { ForSome remembered (λ n. n < 2 ^ 48) }
+    requires remembered { ForSome remembered.now (λ n. n < 2 ^ 48) }
     ensures rx { OnOk result ((rx : List (ℕ × RxRecord)) (ssrc : ℕ) → Along (StandsFor W.remembers) streams.old.rx rx
         → is_none place ≡ (ssrc == 0) → IfSome place (λ i. place_of ssrc streams.old.rx ≡ Some i)
-        → Along (StandsFor W.remembers) streams.new.rx (rx_opened remembered ssrc number rx)) }
+        → Along (StandsFor W.remembers) streams.new.rx (rx_opened remembered.now ssrc number rx)) }
     ensures probes { OnOk result ((p : RxRecord) (ssrc : ℕ) → StandsFor W.remembers probes.old p → is_none place ≡ (ssrc == 0)
-        → StandsFor W.remembers probes.new (probes_opened remembered ssrc number p)) }
+        → StandsFor W.remembers probes.new (probes_opened remembered.now ssrc number p)) }
     ensures tx { streams.new.tx ≡ streams.old.tx }
     ensures err { OnErr result ((streams.new ≡ streams.old) × (probes.new ≡ probes.old)) }
 {
     match place {
-        Some(place) => streams.take_at(place, number, remembered)?,
-        None => probes.take(number, remembered)?,
+        Some(place) => streams.take_at(place, number, *remembered)?,
+        None => probes.take(number, *remembered)?,
     }
     Ok(())
 }

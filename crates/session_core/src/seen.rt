@@ -53,7 +53,7 @@ impl Seen {
         match self.greatest.place(ssrc) {
             Some(place) => {
                 let greatest = self.greatest.at_mut(place);
-                if *greatest < number {
+                if u64::from(*greatest) < u64::from(number) {
                     *greatest = number;
                 }
                 Ok(())

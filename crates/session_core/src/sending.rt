@@ -1,4 +1,4 @@
-ghost use Rattle.std.specs.Prelude.{◌≡◌, ◌==◌, ◌||◌, ◌<◌, Some, length, is_none, slice_get, option_and_then, IfOk, IfSome, OnOk};
+ghost use Rattle.std.specs.Prelude.{◌≡◌, ◌==◌, ◌||◌, ◌<◌, Some, None, length, take, is_none, slice_get, option_and_then, IfOk, IfSome, OnOk};
 ghost use Rattle.std.specs.Map.{values_of};
 ghost use Rattle.std.specs.Option.{option_map_or};
 ghost use Rattle.stream_core.specs.Tables.{change_place};
@@ -34,13 +34,16 @@ fn is_due(stream: &StreamTx, medias: &[Media]) -> bool
     has_mid(medias, stream.mid()) && stream.is_ready()
 }
 
-/// The place of the first stream that has a packet to be sealed and whose mid is a media section's. The
-/// time grows with the number of streams before it, and with that of the media sections.
-pub fn first_due<W: GapWindow>(streams: &Streams<W>, medias: &[Media]) -> Option<usize>
+/// The place of the first stream that has a packet to be sealed and whose mid is a media section's,
+/// where none before `from` has. The time grows with the number of streams from there to it, and with
+/// that of the media sections.
+pub fn first_due<W: GapWindow>(streams: &Streams<W>, medias: &[Media], from: usize) -> Option<usize>
+    requires { first_due medias.now (take from streams.now.tx) ≡ None }
     ensures place { result ≡ first_due medias.now streams.now.tx }
     ensures within { IfSome result (λ i. i < length streams.now.tx) }
+    ensures before { IfSome result (λ i. first_due medias.now (take i streams.now.tx) ≡ None) }
 {
-    for place in 0..streams.tx_len() {
+    for place in from..streams.tx_len() {
         if is_due(streams.tx(place), medias) {
             return Some(place);
         }
@@ -63,6 +66,7 @@ pub fn poll_place<W: GapWindow>(
         ≡ option_map_or (λ r. transport_after_poll r transport.old) (slice_get (values_of streams.old.tx) place) transport.old) }
     ensures sealable { IfOk result (λ p. IfSome p IsSealable) }
     ensures fewer { IfOk result (λ p. IfSome p (λ r. all_waiting streams.new.tx < all_waiting streams.old.tx)) }
+    ensures before { take place streams.new.tx ≡ take place streams.old.tx }
 {
     streams.tx_at(place).poll_packet(alloc, now, transport)
 }

@@ -6,7 +6,7 @@ ghost use Rattle.session_core.specs.Sending.{next_datagram, after_datagram, afte
 ghost use Rattle.session_core.specs.SessionRecord.{SessionRecord, SessionState, StandsFor};
 ghost use Rattle.rtp_wire.specs.Header.{header_of};
 ghost use Rattle.session_core.specs.Receiving.{Receives, is_claimed};
-ghost use Rattle.session_core.specs.Calls.{fresh_session, probe_mid, after_event, next_event, told, wake_of, media_of, has_media, has_other_mid, has_other_place};
+ghost use Rattle.session_core.specs.Calls.{fresh_session, probe_mid, after_event, next_event, told, wake_of, IsCutOff, media_of, has_media, has_other_mid, has_other_place};
 
 use crate::config::{PayloadTypes, SessionConfig};
 use crate::datagram::{Datagram, DrainFault, Drained, Event, Opened};
@@ -43,10 +43,13 @@ pub struct Session<C: SrtpCipher, W: GapWindow> {
     transport: Transport,
     packet: Option<RtpPacket>,
     stopped: bool,
+    // Where polling stands: no stream before this place is due.
+    next_stream: usize,
 }
 
 impl<C: SrtpCipher, W: GapWindow> Model for Session<C, W> {
     ghost use Rattle.session_core.specs.SessionRecord.{SessionView};
+    ghost use Rattle.session_core.specs.Sending.{PollsFrom};
 
     ghost Value = { SessionView W };
 
@@ -67,6 +70,8 @@ impl<C: SrtpCipher, W: GapWindow> Model for Session<C, W> {
       rx = s.streams.rx;
       probes = s.probes;
     } };
+
+    ghost invariant = { λ s. PollsFrom s.next_stream s.medias.items s.streams.tx };
 }
 
 /// The media section that the stream of probes is told to have.
@@ -129,6 +134,7 @@ impl<C: SrtpCipher, W: GapWindow> Session<C, W> {
             },
             packet: None,
             stopped: false,
+            next_stream: 0,
         }
     }
 
@@ -197,7 +203,7 @@ impl<C: SrtpCipher, W: GapWindow> Session<C, W> {
         let Some(found) = accepts(
             header.ssrc,
             header.sequence_number,
-            remembered,
+            &remembered,
             &self.streams,
             &self.probes,
         ) else {
@@ -210,7 +216,7 @@ impl<C: SrtpCipher, W: GapWindow> Session<C, W> {
         take(
             found.0,
             number,
-            remembered,
+            &remembered,
             &mut self.streams,
             &mut self.probes,
         )?;
@@ -266,9 +272,12 @@ impl<C: SrtpCipher, W: GapWindow> Session<C, W> {
         if is_silent(now, &self.sealing) {
             return Ok(None);
         }
-        let Some(place) = first_due(&self.streams, self.medias.as_slice()) else {
+        let medias = self.medias.as_slice();
+        let Some(place) = first_due(&self.streams, medias, self.next_stream) else {
+            self.next_stream = self.streams.tx_len();
             return Ok(None);
         };
+        self.next_stream = place;
         let polled = poll_place(
             self.alloc,
             &mut self.streams,
@@ -376,6 +385,7 @@ impl<C: SrtpCipher, W: GapWindow> Session<C, W> {
         if self.stopped {
             return Err(RtcError::Stopped);
         }
+        self.next_stream = 0;
         self.streams.handle_timeout(now);
         Ok(())
     }
@@ -398,6 +408,21 @@ fn cut_off(error: RtcError, events: Vec<Event>, datagrams: Vec<Datagram>) -> Dra
 impl<C: SrtpCipher, W: GapWindow> Session<C, W> {
     ghost use Rattle.session_core.specs.declared.error.RtcError.TheVariants.{Stopped, Memory};
 
+    /// Takes all that the session tells. Without memory nothing changes.
+    fn take_events(&mut self) -> Result<Vec<Event>, AllocError>
+        ensures events { IfOk result (λ events. events.items ≡ told self.old.state) }
+        ensures after { OnOk result (self.new ≡ record self.old { state = after_event self.old.state }) }
+        ensures err { OnErr result (self.new ≡ self.old) }
+    {
+        let mut events = Vec::new(self.alloc);
+        events.reserve(1)?;
+        match self.poll_event() {
+            Some(event) => push(&mut events, event),
+            None => {}
+        }
+        Ok(events)
+    }
+
     /// Takes all that the session tells and all that leaves, and when it wants a tick next.
     ///
     /// # Errors
@@ -409,23 +434,21 @@ impl<C: SrtpCipher, W: GapWindow> Session<C, W> {
         ensures datagrams { IfOk result (λ all. Drains C.meaning now (after_event self.old.state) self.new.state all.datagrams.items) }
         ensures others { OnOk result (self.new ≡ record self.old { state = self.new.state }) }
         ensures wake { IfOk result (λ all. all.wake ≡ wake_of self.new.state) }
-        ensures sofar { IfErr result (λ fault. (after : SessionState)
-            × DrainsTo C.meaning now (after_event self.old.state) after fault.sofar.datagrams.items) }
+        ensures sofar { IfErr result (λ fault.
+            IsCutOff C.meaning now self.old.state fault.error fault.sofar.events.items fault.sofar.datagrams.items) }
         ensures no_wake { IfErr result (λ fault. fault.sofar.wake ≡ None) }
     {
-        let mut events = Vec::new(self.alloc);
         let mut datagrams = Vec::new(self.alloc);
         if self.stopped {
-            return Err(cut_off(RtcError::Stopped, events, datagrams));
+            return Err(cut_off(RtcError::Stopped, Vec::new(self.alloc), datagrams));
         }
-        if events.reserve(1).is_err() {
-            self.stopped = true;
-            return Err(cut_off(RtcError::Memory, events, datagrams));
-        }
-        match self.poll_event() {
-            Some(event) => push(&mut events, event),
-            None => {}
-        }
+        let events = match self.take_events() {
+            Ok(events) => events,
+            Err(_) => {
+                self.stopped = true;
+                return Err(cut_off(RtcError::Memory, Vec::new(self.alloc), datagrams));
+            }
+        };
         match self.drain_datagrams(now, &mut datagrams) {
             Ok(()) => Ok(Drained {
                 events,
@@ -491,6 +514,7 @@ impl<C: SrtpCipher, W: GapWindow> Session<C, W> {
         if self.stopped {
             return Err(RtcError::Stopped);
         }
+        self.next_stream = 0;
         match self.medias.push(media) {
             Ok(()) => Ok(()),
             Err(_) => {
@@ -585,6 +609,7 @@ impl<C: SrtpCipher, W: GapWindow> Session<C, W> {
         ensures rx { result.now.rx ≡ self.old.rx }
         ensures tx { result.now.tx ≡ self.old.state.tx }
     {
+        self.next_stream = 0;
         &mut self.streams
     }
 }

@@ -6,7 +6,8 @@ use Rattle.rtp_base.specs.declared.kind.Kind.TheVariants.{Rtp}
 use Rattle.stream_core.specs.RxRecord.{StandsFor as StreamStandsFor}
 use Rattle.stream_core.specs.Tables.{Along}
 use Rattle.session_core.specs.SessionRecord.{SessionState, StandsFor}
-use Rattle.session_core.specs.Receiving.{Unpads, OpensIn, IsOpening, Receives, number_of, seen_of, rx_opened, probes_opened, after_opened, opened, stays}
+use Rattle.session_core.specs.Receiving.{Unpads, OpensIn, IsOpening, Receives, number_of, seen_of, rx_opened, probes_opened, after_opened, packet_after, cut, opened, stays}
+use Rattle.session_core.proofs.Others.{opening_kept, opened_state}
 use Rattle.session_core.proofs.Staying.{stays_unaccepted, stays_sealed}
 use Rattle.session_core.proofs.session.Session.receive_under.Goals as goal
 
@@ -16,8 +17,8 @@ returns-in_default-clause-received g c = λ r h reads claimed.
     let x = c.args.header.now in
     let none : number_of (seen_of x.ssrc r.state.seen) r.rx r.probes x.ssrc x.sequence_number ≡ None =
     ap (λ (s : SessionState). number_of (seen_of x.ssrc s.seen) r.rx r.probes x.ssrc x.sequence_number) (sym mine.state)
-        ∙ ap (λ o. number_of o r.rx r.probes x.ssrc x.sequence_number) (sym c.get-remembered.ensures.value)
-        ∙ sym (c.in_default.ensures.number r.rx r.probes mine.rx mine.probes) in
+    ∙ ap (λ o. number_of o r.rx r.probes x.ssrc x.sequence_number) (sym c.get-remembered.ensures.value)
+    ∙ sym (c.in_default.ensures.number r.rx r.probes mine.rx mine.probes) in
     (r, stays (stays_unaccepted g.C.SrtpCipher.meaning r c.args.bytes.now x reads none), h)
 
 pub returns-in_default-2-clause-received : goal.returns-in_default-2-clause-received
@@ -28,14 +29,14 @@ returns-in_default-2-clause-received g c = λ r h reads claimed.
     let n = c.in-Some.found.1 in
     let number : number_of (seen_of x.ssrc r.state.seen) r.rx r.probes x.ssrc x.sequence_number ≡ Some n =
     ap (λ (s : SessionState). number_of (seen_of x.ssrc s.seen) r.rx r.probes x.ssrc x.sequence_number) (sym mine.state)
-        ∙ ap (λ o. number_of o r.rx r.probes x.ssrc x.sequence_number) (sym c.get-remembered.ensures.value)
-        ∙ sym (c.in-Some.ensures.number r.rx r.probes mine.rx mine.probes) in
+    ∙ ap (λ o. number_of o r.rx r.probes x.ssrc x.sequence_number) (sym c.get-remembered.ensures.value)
+    ∙ sym (c.in-Some.ensures.number r.rx r.probes mine.rx mine.probes) in
     let none : (p : List ℕ) → OpensIn K.meaning c.self.inside.opening x n c.args.bytes.now p → Unpads x p → ⊥ = rw c.in_default-2.is at c.in_ok-opening.ensures.none in (
       r,
       stays (stays_sealed K.meaning r c.args.bytes.now x reads n number
           (subst (λ (s : SessionState). (p : List ℕ) → OpensIn K.meaning s.opening x n c.args.bytes.now p → Unpads x p → ⊥) mine.state none)),
       record {
-        state = ap (λ (o : Option SrtpState). record c.self.now.state { opening = o }) (c.open.ensures.same) ∙ mine.state;
+        state = opening_kept _ r.state c.open.new.opening mine.state c.open.ensures.same;
         rx = mine.rx;
         probes = mine.probes;
       },
@@ -52,12 +53,14 @@ returns-clause-received g c = λ r h reads claimed.
     let number : number_of (seen_of x.ssrc r.state.seen) r.rx r.probes x.ssrc x.sequence_number ≡ Some n =
     ap (λ o. number_of o r.rx r.probes x.ssrc x.sequence_number) (sym memory) ∙ sym (c.in-Some.ensures.number r.rx r.probes mine.rx mine.probes) in
     let o : IsOpening K.meaning c.self.inside.opening x n c.args.bytes.now c.in-Some-2.opening.plain c.in-Some-2.opening.payload = rw c.in-Some-2.is at c.in_ok-opening.ensures.opened in
-    let opens = subst (λ (s : SessionState). OpensIn K.meaning s.opening x n c.args.bytes.now o.payload) mine.state o.opens in (
+    let opens = subst (λ (s : SessionState). OpensIn K.meaning s.opening x n c.args.bytes.now o.payload) mine.state o.opens in
+    let packet : c.packet_after.result ≡ packet_after c.args.now x n (cut x o.payload) c.self.inside.packet =
+    c.packet_after.ensures ∙ ap (λ p. packet_after c.args.now x n p c.take-before.result) o.cuts ∙ ap (packet_after c.args.now x n (cut x o.payload)) c.take-before.ensures.value in (
       after_opened c.args.now x n o.payload r,
       subst (λ l. Receives K.meaning r c.args.bytes.now c.args.now (after_opened c.args.now x n o.payload r) (Some (record { kind = Rtp; ssrc = x.ssrc; index = n; plain = l }))) (sym o.whole)
           (opened x n o.payload (record { reads = reads; claimed = claimed; accepts = number; opens = opens; unpads = o.unpads })),
       record {
-        state = ?;
+        state = opened_state _ r.state c.open.new.opening c.put.new.self c.take.new.streams.tx c.packet_after.result x.ssrc n (packet_after c.args.now x n (cut x o.payload)) mine.state c.open.ensures.same c.in_ok-put.ensures.ok c.in_ok-take.ensures.tx packet;
         rx = subst (λ m. Along R c.take.new.streams.rx (rx_opened m x.ssrc n r.rx)) memory (c.in_ok-take.ensures.rx r.rx x.ssrc mine.rx c.in-Some.ensures.probe c.in-Some.ensures.place);
         probes = subst (λ m. R c.take.new.probes (probes_opened m x.ssrc n r.probes)) memory (c.in_ok-take.ensures.probes r.probes x.ssrc mine.probes c.in-Some.ensures.probe);
       },
