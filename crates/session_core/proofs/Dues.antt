@@ -1,10 +1,9 @@
 -- The first stream that is due, and what waits after its packet left.
-use Rattle.std.proofs.Common.{◌≡◌, ℕ, zero, suc, ◌+◌, ◌<◌, ◌≤◌, Bool, true, false, List, [], ◌∷◌, Option, Some, None, length, take, slice_get, refl, sym, ap, subst, ◌∙◌, add-one, arith}
+use Rattle.std.proofs.Common.{◌≡◌, ℕ, zero, suc, ◌+◌, ◌<◌, ◌≤◌, Bool, true, false, List, [], ◌∷◌, Option, Some, None, length, take, slice_get, refl, sym, ap, ◌∙◌, add-one, arith}
 use Rattle.std.proofs.lemmas.List.{take_all}
-use Rattle.std.specs.Prelude.{if◌then◌else◌, option_and_then}
+use Rattle.std.specs.Prelude.{if◌then◌else◌}
 use Rattle.std.specs.Map.{values_of}
 use Rattle.std.specs.Option.{option_map}
-use Rattle.indexmap.specs.IndexMap.{set_value_at}
 use Rattle.stream_core.specs.declared.packet.RtpPacket.{RtpPacket}
 use Rattle.stream_core.specs.declared.stream_tx.PacketReceipt.{PacketReceipt}
 use Rattle.stream_core.specs.declared.transport.Transport.{Transport}

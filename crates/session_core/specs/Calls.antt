@@ -1,5 +1,5 @@
 -- What the calls of a session answer, and what they leave.
-use Rattle.std.specs.Prelude.{◌==◌, ◌&&◌, ◌||◌, ℕ, Bool, true, false, not, is_none, if◌then◌else◌, List, [], ◌∷◌, find, Option, Some, None}
+use Rattle.std.specs.Prelude.{◌==◌, ◌&&◌, ◌||◌, ℕ, Bool, false, not, is_none, if◌then◌else◌, List, [], ◌∷◌, find, Option, Some, None}
 use Rattle.std.specs.List.{list_any}
 use Rattle.std.specs.Option.{option_map, option_to_list}
 use Rattle.std.specs.Cmp.Lexicographic.{pointwise}

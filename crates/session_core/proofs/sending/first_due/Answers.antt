@@ -1,4 +1,4 @@
-use Rattle.std.proofs.Common.{◌≡◌, ◌≤◌, length, sym, ◌∙◌, arith}
+use Rattle.std.proofs.Common.{◌≤◌, length, sym, ◌∙◌, arith}
 use Rattle.session_core.proofs.Dues.{none_more, found_at, found_none}
 use Rattle.session_core.proofs.sending.first_due.Goals as goal
 

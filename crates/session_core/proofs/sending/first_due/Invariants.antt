@@ -1,4 +1,4 @@
-use Rattle.std.proofs.Common.{◌≡◌, ◌≤◌, None, length, take}
+use Rattle.std.proofs.Common.{◌≡◌, None, take}
 use Rattle.session_core.specs.Sending.{first_due}
 use Rattle.session_core.proofs.sending.first_due.Given as goal
 

@@ -6,7 +6,6 @@ use Rattle.std.specs.declared.alloc.AllocError.{AllocError}
 use Rattle.indexmap.specs.IndexMap.{set_value_at}
 use Rattle.stream_core.specs.declared.stream_tx.PacketReceipt.{PacketReceipt}
 use Rattle.stream_core.specs.declared.transport.Transport.{Transport}
-use Rattle.stream_core.specs.Tables.{change_place}
 use Rattle.stream_core.specs.TxRecord.{TxRecord, polled, after_poll}
 use Rattle.session_core.specs.Sending.{all_waiting}
 use Rattle.session_core.proofs.Dues.{fewer_wait}

@@ -1,6 +1,5 @@
-use Rattle.std.proofs.Common.{◌≡◌, ◌<◌, ◌≤◌, ◌^◌, ℕ, [], ◌∷◌, ◌++◌, List, Some, Ok, Err, arith, slice_get, sym, ap, subst, ◌∙◌}
+use Rattle.std.proofs.Common.{◌≡◌, ◌<◌, ◌≤◌, ◌^◌, ℕ, [], ◌∷◌, ◌++◌, List, Some, Ok, Err, arith, sym, ap, subst, ◌∙◌}
 use Rattle.std.specs.Prelude.{Result, OnOk, OnErr}
-use Rattle.std.specs.Map.{values_of}
 use Rattle.std.specs.declared.alloc.AllocError.{AllocError}
 use Rattle.indexmap.specs.IndexMap.{set_value_at}
 use Rattle.stream_core.specs.Tables.{place_of}

@@ -1,4 +1,4 @@
-use Rattle.std.proofs.Common.{◌≡◌, ◌++◌, ◌∷◌, [], ℕ, Some, None, ap, sym, subst, ◌∙◌, false, refl}
+use Rattle.std.proofs.Common.{◌≡◌, ◌++◌, ◌∷◌, [], Some, None, ap, sym, subst, ◌∙◌, false, refl}
 use Rattle.std.specs.Prelude.{◌||◌, List}
 use Rattle.session_core.specs.declared.datagram.Datagram.{Datagram}
 use Rattle.session_core.specs.SessionRecord.{SessionState, SessionView}

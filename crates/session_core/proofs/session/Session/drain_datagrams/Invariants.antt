@@ -1,4 +1,4 @@
-use Rattle.std.proofs.Common.{◌≡◌, ℕ, false}
+use Rattle.std.proofs.Common.{◌≡◌, false}
 use Rattle.session_core.specs.Sending.{all_waiting, DrainsTo}
 use Rattle.session_core.proofs.session.Session.drain_datagrams.Given as goal
 

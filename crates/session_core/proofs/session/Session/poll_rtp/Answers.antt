@@ -1,4 +1,4 @@
-use Rattle.std.proofs.Common.{◌≡◌, ℕ, false, Some, None, Ok, Err, slice_get, sym, ap, ◌∙◌}
+use Rattle.std.proofs.Common.{◌≡◌, false, Some, Ok, Err, slice_get, sym, ap, ◌∙◌}
 use Rattle.std.specs.Prelude.{◌==◌, ◌||◌, is_none, Option, Result, IfOk, option_and_then}
 use Rattle.std.specs.Map.{values_of}
 use Rattle.std.specs.declared.alloc.AllocError.{AllocError}

@@ -1,7 +1,4 @@
 use Rattle.std.proofs.Common.{◌≡◌, ℕ, List, Some, None, sym, ap, subst, ◌∙◌}
-use Rattle.rtp_wire.specs.declared.header.RtpHeader.{RtpHeader}
-use Rattle.srtp_core.specs.Contexts.{SrtpState}
-use Rattle.std.specs.Prelude.{Option}
 use Rattle.rtp_base.specs.declared.kind.Kind.TheVariants.{Rtp}
 use Rattle.stream_core.specs.RxRecord.{StandsFor as StreamStandsFor}
 use Rattle.stream_core.specs.Tables.{Along}
