@@ -1,5 +1,5 @@
 -- What a null pacer answers, read off what it was told.
-use Rattle.std.specs.Prelude.{ℕ, ◌+◌, ◌-◌, ◌==◌, ◌&&◌, not, Bool, true, if◌then◌else◌, List, [], ◌∷◌, Option, Some, None, option_map, slice_get, slice_set}
+use Rattle.std.specs.Prelude.{◌≡◌, ℕ, ◌+◌, ◌-◌, ◌==◌, ◌&&◌, not, Bool, true, if◌then◌else◌, List, [], ◌∷◌, Option, Some, None, option_map, slice_get, slice_set}
 use Rattle.rtp_base.specs.declared.ids.MidRid.{MidRid}
 use Rattle.pace_units.specs.declared.queue.QueueState.{QueueState}
 use Rattle.pace_units.specs.declared.queue.PaddingRequest.{PaddingRequest}
@@ -24,6 +24,11 @@ null_queue sends q = record {
 abbrev pub null_queues : List (MidRid × ℕ) → List QueueState → List NullQueue
 null_queues sends [] = []
 null_queues sends (q ∷ qs) = null_queue sends q ∷ null_queues sends qs
+
+-- at each of these queues stands when it was sent on last
+abbrev pub AreNoted : List (MidRid × ℕ) → List NullQueue → Type 0
+AreNoted sends [] = Unit {0}
+AreNoted sends (q ∷ qs) = (q.last_sent ≡ last_of sends q.midrid) × AreNoted sends qs
 
 -- a queue that was sent on
 abbrev pub marked_one : MidRid → ℕ → NullQueue → NullQueue

@@ -6,12 +6,14 @@ ghost use Rattle.pace_core.specs.Null.{
   goes_first,
   least_from,
   null_queues,
+  AreNoted,
   marked,
   asks_none,
   given_in,
   wake_in,
 };
 ghost use Rattle.pace_core.specs.NullPacer.{StandsFor};
+ghost use Rattle.pace_core.specs.Sends.{last_of};
 
 use crate::pacer::Pacer;
 use crate::queues::is_before;
@@ -87,23 +89,34 @@ fn mark(queues: &mut [NullQueue], key: &MidRid, now: Instant)
     }
 }
 
-// The queues of a timeout.
+// When a queue was sent on last: as is noted at its place, where it stands there, else as the sends tell.
+fn last_sent(noted: &[NullQueue], place: usize, sends: &Sends, key: &MidRid) -> Option<Instant>
+    ensures { AreNoted sends.now noted.now → result ≡ last_of sends.now key.now }
+{
+    if place < noted.len() && same_queue(&noted[place].midrid, key) {
+        return noted[place].last_sent;
+    }
+    sends.last(key)
+}
+
+// The queues of a timeout, after those of the one before.
 fn put_queues(
     all: &mut Vec<NullQueue>,
     sends: &Sends,
+    noted: &[NullQueue],
     queues: &[QueueState],
 ) -> Result<(), AllocError>
-    ensures { OnOk result (all.new.items ≡ null_queues sends.now queues.now) }
+    ensures { OnOk result (AreNoted sends.now noted.now → all.new.items ≡ null_queues sends.now queues.now) }
 {
     // The check has to meet the types that a queue may hold.
     let _none: (Option<MidRid>, Option<Instant>) = (None, None);
     all.clear();
-    for queue in queues {
+    for (i, queue) in queues.iter().enumerate() {
         all.push(NullQueue {
             midrid: queue.midrid,
             packet_count: queue.snapshot.packet_count,
             created_at: queue.snapshot.created_at,
-            last_sent: sends.last(&queue.midrid),
+            last_sent: last_sent(noted, i, sends, &queue.midrid),
         })?;
     }
     Ok(())
@@ -141,13 +154,14 @@ impl Pacer for NullPacer {
         (self.unsent_since, Reason::Pacer(PacerReason::Handle))
     }
 
-    /// It asks for no padding. For each queue it looks through those that were sent on.
+    /// It asks for no padding. A queue that does not stand where it did at the timeout before is looked for
+    /// among those that were sent on.
     fn handle_timeout(
         &mut self,
         _now: Instant,
         queues: &[QueueState],
     ) -> Result<Option<PaddingRequest>, AllocError> {
-        put_queues(&mut self.spare, &self.sends, queues)?;
+        put_queues(&mut self.spare, &self.sends, self.queues.as_slice(), queues)?;
         mem::swap(&mut self.queues, &mut self.spare);
         self.unsent_since = None;
         Ok(None)

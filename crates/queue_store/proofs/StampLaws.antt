@@ -1,12 +1,13 @@
 -- Positions that rise stay in order.
-use Rattle.std.proofs.Common.{◌≡◌, ℕ, zero, suc, ◌+◌, ◌-◌, ◌<◌, ◌≤◌, List, [], ◌∷◌, sym, ap, subst, arith, length, drop, ⊎_elim, Result, Ok, Err}
+use Rattle.std.proofs.Common.{◌≡◌, ℕ, zero, suc, ◌+◌, ◌-◌, ◌<◌, ◌≤◌, List, [], ◌∷◌, ◌++◌, cond, sym, ap, ◌∙◌, subst, arith, length, drop, ⊎_elim, Result, Ok, Err}
 use Rattle.std.specs.Prelude.{slice_set}
-use Rattle.std.specs.Result.{OnOk, OnErr}
+use Rattle.std.specs.Result.{OnOk, OnErr, is_ok}
 use Rattle.std.specs.Option.{IfSome}
 use Rattle.std.specs.List.{insert}
 use Rattle.std.proofs.lemmas.Bool.{cases_lt}
+use Rattle.std.proofs.lemmas.List.Edits.{insert_end}
 use Rattle.queue_store.specs.declared.stamps.Stamp.{Stamp}
-use Rattle.queue_store.specs.Stamps.{Rises, stamp_at, first_of, IsPlace, AllAbove, IsGreatest}
+use Rattle.queue_store.specs.Stamps.{Rises, stamp_at, first_of, IsFound, IsPlace, AllAbove, IsGreatest}
 
 pub rises_weaker : (m n : ℕ) (l : List Stamp) → m ≤ n → Rises n l → Rises m l
 rises_weaker m n [] le h = tt
@@ -89,3 +90,13 @@ rises_inserted X (Err e) old new i s h place ok err = subst (λ (l : List Stamp)
 pub above_first : (n : ℕ) (l : List Stamp) → Rises n l → IfSome (first_of l) (λ s. AllAbove s.position (drop 1 l))
 above_first n [] h = tt
 above_first n (s ∷ ss) h = λ k lt. let from : s.position + 1 ≤ (stamp_at ss k).position = rises_from (s.position + 1) ss k h.1 lt in omega arith
+
+-- a position is found where it stands
+pub found_at : (l : List Stamp) (p i : ℕ) → Rises 0 l → i < length l → (stamp_at l i).position ≡ p → IsFound l p i
+found_at l p i h lt here = record { within = lt; here = here; below = λ k at. let order = rises_order 0 l k i h at lt in omega arith }
+
+-- after a stamp was put at the end
+pub rises_pushed : {A B : Type 0} (r : Result A B) (old new : List Stamp) (i : ℕ) (s : Stamp) → Rises 0 old → IsPlace old s.position i → i ≡ length old → new ≡ cond (is_ok r) (old ++ s ∷ []) old → Rises 0 new
+rises_pushed (Ok x) old new i s h place end is =
+    subst (λ (l : List Stamp). Rises 0 l) (ap (λ (n : ℕ). insert old n s) end ∙ insert_end old s ∙ sym is) (rises_insert 0 old i s h (omega arith) place)
+rises_pushed (Err e) old new i s h place end is = subst (λ (l : List Stamp). Rises 0 l) (sym is) h

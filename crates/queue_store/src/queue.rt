@@ -16,7 +16,8 @@ use std::alloc::{AllocError, Global};
 use std::sync::ledger::Ledger;
 
 /// Values under rising positions, each until it is too old or its room is needed: a queue in which a
-/// position is found by halving. It holds no position that is its size or more below the greatest.
+/// position is found at once where all between it and the greatest are held, else by halving. It holds
+/// no position that is its size or more below the greatest.
 #[derive(Debug, Drop)]
 pub struct QueueStore<T> {
     stamps: Stamps,
@@ -57,8 +58,8 @@ impl<T: Drop> QueueStore<T> {
         Ok(())
     }
 
-    /// The value of a position, where it is held, as `get` finds it: each comparison of positions is a
-    /// step.
+    /// The value of a position, where it is held, found by halving alone: each comparison of positions is
+    /// a step.
     pub fn get_counted<L: Ledger>(&self, position: u64, steps: &mut Steps<L>) -> Option<&T>
         ensures value { option_copied result ≡ value_at self.now position }
         ensures cost { 2 ^ (steps.new - steps.old) ≤ 2 * length self.now.stamps + 1 }

@@ -81,12 +81,38 @@ impl Stamps {
         self.search_counted(position, &mut steps)
     }
 
-    /// The index of a position, else the index where it would stand.
+    // The index of a position that stands so far before the greatest, where none between them is left out.
+    fn index_from_end(&self, position: u64, distance: u64) -> Option<usize>
+        ensures { IfSome result (IsFound self.now position) }
+    {
+        let count = self.all.len();
+        if count as u64 <= distance {
+            return None;
+        }
+        let index = count - 1 - distance as usize;
+        if self.all[index].position == position {
+            Some(index)
+        } else {
+            None
+        }
+    }
+
+    /// The index of a position, else the index where it would stand: at once where it is above all, or
+    /// where all between it and the greatest stand here, else by halving.
     pub fn search(&self, position: u64) -> Result<usize, usize>
         ensures found { IfOk result (IsFound self.now position) }
         ensures missed { IfErr result (IsPlace self.now position) }
     {
-        self.search_on::<Brand>(position, Blank::new(1))
+        let Some(last) = self.last() else {
+            return Err(0);
+        };
+        let Some(distance) = last.position.checked_sub(position) else {
+            return Err(self.all.len());
+        };
+        match self.index_from_end(position, distance) {
+            Some(index) => Ok(index),
+            None => self.search_on::<Brand>(position, Blank::new(1)),
+        }
     }
 
     /// The index of a position, where it stands here.
@@ -97,7 +123,7 @@ impl Stamps {
         self.search(position).ok()
     }
 
-    /// The index of a position, where it stands here. Each comparison is a step.
+    /// The index of a position, where it stands here, found by halving. Each comparison is a step.
     pub fn index_counted<L: Ledger>(&self, position: u64, steps: &mut Steps<L>) -> Option<usize>
         ensures value { result ≡ index_of self.now position }
         ensures cost { 2 ^ (steps.new - steps.old) ≤ 2 * length self.now + 1 }
@@ -105,16 +131,19 @@ impl Stamps {
         self.search_counted(position, steps).ok()
     }
 
-    /// Puts a stamp at its place. Without memory nothing changes.
+    /// Puts a stamp at its place, at the end without moving another. Without memory nothing changes.
+    #[tactic(auto, using(std::proofs::lemmas::List::Edits::insert_end))]
     pub fn insert(&mut self, index: usize, stamp: Stamp) -> Result<(), AllocError>
         requires { IsPlace self.old stamp.position index }
         ensures ok { OnOk result (self.new ≡ insert self.old index stamp) }
         ensures err { OnErr result (self.new ≡ self.old) }
     {
-        match self.all.insert(index, stamp) {
-            Ok(()) => Ok(()),
-            Err(_) => Err(AllocError),
+        if index == self.all.len() {
+            self.all.push_back(stamp)?;
+            return Ok(());
         }
+        self.all.insert(index, stamp)?;
+        Ok(())
     }
 
     /// Changes the moment of a position.

@@ -31,16 +31,19 @@ impl<T: Drop> Values<T> {
         }
     }
 
-    /// Puts a value at an index. Without memory nothing changes.
+    /// Puts a value at an index, at the end without moving another. Without memory nothing changes.
+    #[tactic(auto, using(std::proofs::lemmas::List::Edits::insert_end))]
     pub fn insert(&mut self, index: usize, value: T) -> Result<(), AllocError>
         requires { index ≤ length self.old }
         ensures ok { OnOk result (self.new ≡ insert self.old index value) }
         ensures err { OnErr result (self.new ≡ self.old) }
     {
-        match self.all.insert(index, value) {
-            Ok(()) => Ok(()),
-            Err(_) => Err(AllocError),
+        if index == self.all.len() {
+            self.all.push_back(value)?;
+            return Ok(());
         }
+        self.all.insert(index, value)?;
+        Ok(())
     }
 
     /// Takes a value out.

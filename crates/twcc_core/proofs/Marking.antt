@@ -1,7 +1,5 @@
 -- What a loop does to each place of a list, one after another.
-use Rattle.std.proofs.Common.{◌≡◌, ℕ, zero, suc, ◌+◌, ◌<◌, ◌≤◌, List, [], ◌∷◌, ◌++◌, length, take, drop, map, set, get_or, refl, ap, ◌∙◌, arith}
-use Rattle.std.proofs.lemmas.List.{append-nil, take_all}
-use Rattle.std.proofs.Math.ListN.{drop_of_length-le}
+use Rattle.std.proofs.Common.{◌≡◌, ℕ, zero, suc, ◌+◌, ◌<◌, List, [], ◌∷◌, ◌++◌, length, take, drop, map, set, get_or, refl, ap, ◌∙◌, arith}
 
 -- the places below i are done
 pub record IsDone {X : Type 0} (f : X → X) (i : ℕ) (xs now : List X) : Type 0 where
@@ -13,16 +11,10 @@ done_at f i [] d lt = absurd (omega (arith, lt))
 done_at f zero (x ∷ xs) d lt = refl
 done_at f (suc i) (x ∷ xs) d lt = let k : suc i + 1 ≡ suc (i + 1) = omega arith in rw k (ap (λ ys. f x ∷ ys) (done_at f i xs d (omega arith)))
 
-pub done_more : {X : Type 0} (f : X → X) (i : ℕ) (xs now : List X) (d : X) (new : X) → i < length xs → new ≡ f (get_or now i d) → IsDone f i xs now → IsDone f (i + 1) xs (set now i new)
+done_more : {X : Type 0} (f : X → X) (i : ℕ) (xs now : List X) (d : X) (new : X) → i < length xs → new ≡ f (get_or now i d) → IsDone f i xs now → IsDone f (i + 1) xs (set now i new)
 done_more f i xs now d new lt is h =
     let at : set now i (f (get_or now i d)) ≡ map f (take (i + 1) xs) ++ drop (i + 1) xs = rw h.so_far (done_at f i xs d lt) in
     record { so_far = rw is at }
-
-pub done_ends : {X : Type 0} (f : X → X) (i : ℕ) (xs now : List X) → length xs ≤ i → IsDone f i xs now → now ≡ map f xs
-done_ends f i xs now le h =
-    let whole : take i xs ≡ xs = take_all i xs le in
-    let none : drop i xs ≡ [] = drop_of_length-le xs le in
-    h.so_far ∙ rw (whole, none) (append-nil (map f xs))
 
 pub done_next : {X : Type 0} (f : X → X) (i : ℕ) (xs now : List X) (new old : X) → i < length xs → old ≡ get_or now i old → new ≡ f old → IsDone f i xs now → IsDone f (i + 1) xs (set now i new)
 done_next f i xs now new old lt e is h = done_more f i xs now old new lt (is ∙ ap f e) h

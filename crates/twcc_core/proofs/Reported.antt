@@ -3,7 +3,7 @@ use Rattle.std.proofs.Common.{◌≡◌, ℕ, ◌+◌, ◌-◌, ◌%◌, ◌<◌
 use Rattle.std.specs.Prelude.{slice_get}
 use Rattle.twcc_core.specs.declared.status.PacketStatus.{PacketStatus}
 use Rattle.twcc_core.specs.declared.feedback.Twcc.{Twcc}
-use Rattle.twcc_core.specs.Reports.{Receiving, Kept, StandsFor, kept_of, unreported, report_rows, report_with, report_of, after_rows, after_report}
+use Rattle.twcc_core.specs.Reports.{Receiving, Kept, StandsFor, kept_of, report_rows, report_with, report_of, after_report}
 use Rattle.twcc_core.proofs.Keeping.{due_rows, report_stands, pending_told}
 use Rattle.twcc_core.proofs.Reporting.{nothing_due, something_due, no_rows, some_rows}
 

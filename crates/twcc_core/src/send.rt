@@ -6,7 +6,7 @@ ghost use Rattle.twcc_core.specs.Sending.{IsRising, IsWithin, last_number, first
 
 use crate::{Share, Twcc, arrivals};
 use media_base::{DataSize, Duration, Instant, Listed};
-use rtp_base::{TwccPacketId, widen16};
+use rtp_base::{TwccClusterId, TwccPacketId, widen16};
 use std::alloc::{AllocError, Global};
 use std::collections::VecDeque;
 use std::marker::Model;
@@ -71,12 +71,23 @@ impl TwccSendRecord {
     }
 }
 
-// Puts down in each record what moments tell of it.
-fn mark(records: &mut [TwccSendRecord], first: u64, moments: &[Option<Instant>], now: Instant)
-    ensures { records.new ≡ map (after_told first moments.now now) records.old }
+// Puts down in each record what moments tell of it: those that they tell stand between two places.
+fn mark(
+    records: &mut VecDeque<TwccSendRecord>,
+    places: (usize, usize),
+    first: u64,
+    moments: &[Option<Instant>],
+    now: Instant,
+)
+    requires { IsWithin first (length moments.now) records.old.items places.0 places.1 }
+    ensures { records.new.items ≡ map (after_told first moments.now now) records.old.items }
 {
-    for record in records.iter_mut() {
-        *record = record.told(first, moments, now).unwrap_or(*record);
+    // The check has to meet the types that a record may hold.
+    let _none: (Option<TwccPacketId>, Option<TwccClusterId>) = (None, None);
+    let (start, end) = places;
+    for i in start..end {
+        let record = records[i];
+        records[i] = record.told(first, moments, now).unwrap_or(record);
     }
 }
 
@@ -262,9 +273,9 @@ impl TwccSendRegister {
 
     /// Takes in a report, whose first number is the one nearest to the last that was sent, and gives the
     /// records of the packets that it tells and that are still held, in order of sending. It finds these by
-    /// halving where numbers rose in the order of sending, and goes over all that are held, at most 1,000,
-    /// to note what it tells of them. Without memory nothing changes.
-    #[tactic(auto, using(crate::proofs::Rising::told_rise), unfolding(crate::specs::Sending::told_by, crate::specs::Sending::after_applied))]
+    /// halving where numbers rose in the order of sending, else among all that are held, at most 1,000, and
+    /// notes what it tells of them. Without memory nothing changes.
+    #[tactic(auto, unfolding(crate::specs::Sending::told_by, crate::specs::Sending::after_applied))]
     pub fn apply_report(
         &mut self,
         alloc: Global,
@@ -280,7 +291,7 @@ impl TwccSendRegister {
         let moments = moments.as_slice();
         let places = self.places(first, moments.len());
         let told = self.told(alloc, places, first, moments, now)?;
-        mark(self.records.make_contiguous(), first, moments, now);
+        mark(&mut self.records, places, first, moments, now);
         self.trip = trip(&told, now);
         Ok(Listed::from_vec(told))
     }

@@ -1,8 +1,4 @@
-use Rattle.std.proofs.Common.{◌≡◌, ◌∙◌, List, ℕ, Result, Ok, Err, sym}
-use Rattle.std.specs.Result.{IfOk, IfErr, result_ok}
-use Rattle.queue_store.specs.declared.stamps.Stamp.{Stamp}
-use Rattle.queue_store.specs.Stamps.{IsFound, IsPlace}
-use Rattle.queue_store.specs.Queue.{index_of}
+use Rattle.std.proofs.Common.{◌∙◌}
 use Rattle.queue_store.proofs.RowLaws.{index_is}
 use Rattle.queue_store.proofs.stamps.Stamps.index.Goals as goal
 

@@ -1,4 +1,4 @@
-use Rattle.std.proofs.Common.{◌≡◌, ◌≤◌, ◌+◌, List, [], ◌∷◌, ◌++◌, None, ap, ◌∙◌, arith}
+use Rattle.std.proofs.Common.{◌≡◌, ◌≤◌, ◌+◌, None, ap, arith}
 use Rattle.twcc_core.specs.declared.send.TwccSendRecord.{TwccSendRecord}
 use Rattle.twcc_core.specs.Sending.{Sending}
 use Rattle.twcc_core.proofs.Rising.{held_sent, kept_sent}
