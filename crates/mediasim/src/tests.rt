@@ -135,13 +135,23 @@ fn one_write_by_the_other_cipher(rt: HostRuntime) -> Result<(), Fail> {
     for profile in ["cm", "gcm128", "gcm256"] {
         let lines = format!(in alloc; "cipher sha\nprofile {profile}\n")?;
         let mut steps = ONE_WRITE.to_string(alloc)?;
-        steps.push_str("foreign B 1 rtp 80600002000000000000002a0380600002002a00020000002803000001\n")?;
+        steps.push_str(
+            "foreign B 1 rtp 80600002000000000000002a0380600002002a00020000002803000001\n",
+        )?;
         let (report, sink) = ran_on(alloc, script_with(alloc, lines.as_str(), steps.as_str())?)?;
         assert_eq!(rt; report.end, End::Done, "at {profile}");
         assert_eq!(rt; lines_with(sink.bytes(), "got B rtp"), 2, "at {profile}");
         assert_eq!(rt; lines_with(sink.bytes(), "yielded B"), 1, "at {profile}");
-        assert_eq!(rt; lines_with(sink.bytes(), "yielded B 42 1 96 0 0 0102"), 1, "at {profile}");
-        assert_eq!(rt; lines_with(sink.bytes(), "end genuine=yes"), 1, "at {profile}");
+        assert_eq!(rt;
+            lines_with(sink.bytes(), "yielded B 42 1 96 0 0 0102"),
+            1,
+            "at {profile}"
+        );
+        assert_eq!(rt;
+            lines_with(sink.bytes(), "end genuine=yes"),
+            1,
+            "at {profile}"
+        );
     }
     Ok(())
 }
@@ -365,7 +375,11 @@ fn key_length_by_profile(rt: HostRuntime) -> Result<(), Fail> {
         assert_eq!(rt; report.end, End::Done, "at {profile}");
         for other in [bytes.saturating_sub(1), bytes.saturating_add(1)] {
             let (report, _) = ran_on(alloc, key_script(alloc, profile, other)?)?;
-            assert_eq!(rt; report.end, End::Setup(SetupFault::KeyLength), "at {profile}");
+            assert_eq!(rt;
+                report.end,
+                End::Setup(SetupFault::KeyLength),
+                "at {profile}"
+            );
         }
     }
     Ok(())

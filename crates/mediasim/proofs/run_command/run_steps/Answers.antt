@@ -28,8 +28,8 @@ pub returns-in-Sha : goal.returns-in-Sha
 returns-in-Sha c =
     let setup = c.args.setup.now in
     let steps = c.args.steps.now in
-    let r = c.media_run-2.result in
-    let e = c.media_run-2.ensures in
+    let r = c.media_run-in-Sha.result in
+    let e = c.media_run-in-Sha.ensures in
     let is = sym c.in-Sha.is in
     record {
       played = subst (λ (n : CipherName). IfOk r (λ t. (setup_fault setup ≡ None) × Played (sealing_of (meaning_of n) setup) setup steps t)) is e.played;
