@@ -13,6 +13,8 @@ use std::alloc::{AllocError, Global};
 pub enum CipherName {
     /// XOR with the key, which is not secure.
     Toy,
+    /// SHA-1 of the key and what is enciphered, which is not secure.
+    Sha,
 }
 
 /// The keying material of a run: left key, right key, left salt, right salt (RFC 5764 section 4.2).

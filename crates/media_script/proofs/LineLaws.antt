@@ -1,15 +1,11 @@
 -- What a setup line says is how it is spelled, and the other way round.
 use Rattle.std.proofs.Common.{◌≡◌, ℕ, ◌^◌, lit≤, List, [], ◌∷◌, Some, refl, ap, ◌∙◌}
 use Rattle.std.specs.Prelude.{codes}
-use Rattle.media_model.specs.declared.setup.CipherName.{CipherName}
-use Rattle.media_model.specs.declared.setup.CipherName.TheVariants.{Toy}
 use Rattle.media_script.specs.declared.setup_line.SetupLine.{SetupLine}
 use Rattle.media_script.specs.declared.setup_line.SetupLine.TheVariants as line
 use Rattle.media_script.specs.Grammar.{cipher_line, profile_line, key_line, type_line, media_line, stream_line, no_other, named_kinds, named_line_of, setup_kinds, setup_line_of, in_few}
-use Rattle.media_script.specs.Names.{cipher_text}
 use Rattle.media_script.specs.Spelling.{IsSetupLine}
-use Rattle.media_script.specs.Words.{one_of}
-use Rattle.media_script.proofs.WordLaws.{one_spelled, narrow_spelled, narrow_again, side_spelled, side_again, profile_spelled, profile_again, key_spelled, key_again, codec_spelled, codec_again, media_kind_spelled, media_kind_again, rate_spelled, rate_again, name_spelled, name_again, rtx_spelled, rtx_again, rid_spelled, rid_again}
+use Rattle.media_script.proofs.WordLaws.{narrow_spelled, narrow_again, side_spelled, side_again, cipher_spelled, cipher_again, profile_spelled, profile_again, key_spelled, key_again, codec_spelled, codec_again, media_kind_spelled, media_kind_again, rate_spelled, rate_again, name_spelled, name_again, rtx_spelled, rtx_again, rid_spelled, rid_again}
 use Rattle.media_script.proofs.KindLaws.{Tells, done_tells, then_tells, look_up_tells, none_tells}
 
 -- the words behind this first word
@@ -17,10 +13,10 @@ abbrev Behind : List ℕ → List (List ℕ) → SetupLine → Type 0
 Behind text words said = IsSetupLine (text ∷ words) said
 
 cipher_tells : Tells cipher_line (Behind (codes "cipher"))
-cipher_tells = then_tells (one_spelled cipher_text (Toy ∷ [])) (λ w cipher is. done_tells (λ i. codes "cipher" ∷ is i ∷ []))
+cipher_tells = then_tells cipher_spelled (λ w cipher is. done_tells (λ i. codes "cipher" ∷ is i ∷ []))
 
 profile_tells : Tells profile_line (Behind (codes "profile"))
-profile_tells = then_tells profile_spelled (λ w profile is. done_tells (is.1, λ i. codes "profile" ∷ is.0 i ∷ []))
+profile_tells = then_tells profile_spelled (λ w profile is. done_tells (λ i. codes "profile" ∷ is i ∷ []))
 
 key_tells : Tells key_line (Behind (codes "key"))
 key_tells = then_tells key_spelled (λ w key is. done_tells (w, is, refl))
@@ -41,9 +37,6 @@ stream_tells =
     then_tells rtx_spelled (λ w rtx again. then_tells rid_spelled (λ v rid layer.
     done_tells (w, v, of.1, is.1, again, layer, λ i. codes "stream" ∷ from i ∷ of.0 i ∷ is.0 i ∷ w ∷ v ∷ []))))))
 
-cipher_again : (cipher : CipherName) → one_of cipher_text (Toy ∷ []) (cipher_text cipher) ≡ Some cipher
-cipher_again Toy = refl
-
 named_line_spelled : (words : List (List ℕ)) (said : SetupLine) → named_line_of words ≡ Some said → IsSetupLine words said
 unfolding named_line_of
 named_line_spelled = look_up_tells IsSetupLine no_other named_kinds (media_tells, (stream_tells, tt)) (none_tells IsSetupLine)
@@ -57,7 +50,7 @@ setup_line_spelled = look_up_tells IsSetupLine named_line_of setup_kinds (cipher
 pub setup_line_again : (words : List (List ℕ)) (said : SetupLine) → IsSetupLine words said → in_few setup_line_of words ≡ Some said
 unfolding setup_line_of named_line_of
 setup_line_again words (line.Cipher cipher) is = ap (in_few setup_line_of) is ∙ rw (cipher_again cipher) refl
-setup_line_again words (line.Profile profile) is = ap (in_few setup_line_of) is.1 ∙ rw (profile_again profile is.0) refl
+setup_line_again words (line.Profile profile) is = ap (in_few setup_line_of) is ∙ rw (profile_again profile) refl
 setup_line_again words (line.Key key) is = ap (in_few setup_line_of) is.2 ∙ rw (key_again is.0 key is.1) refl
 setup_line_again words (line.Type t) is =
     ap (in_few setup_line_of) is.3 ∙ rw (narrow_again (2 ^ 8) t.pt (lit≤ tt) is.0, codec_again t.codec, rate_again t.rate is.1 is.2) refl

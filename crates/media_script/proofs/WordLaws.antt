@@ -16,20 +16,22 @@ use Rattle.std.specs.List.{list_all}
 use Rattle.std.proofs.lemmas.List.Sums.{AllPass-from_list_all, list_all-from_AllPass}
 use Rattle.hex.specs.Hex.{decode_of, decode_pairs}
 use Rattle.srtp_core.specs.declared.profile.SrtpProfile.{SrtpProfile}
-use Rattle.srtp_core.specs.declared.profile.SrtpProfile.TheVariants.{AeadAes128Gcm}
+use Rattle.srtp_core.specs.declared.profile.SrtpProfile.TheVariants.{Aes128CmSha1_80, AeadAes128Gcm, AeadAes256Gcm}
 use Rattle.hex.specs.declared.error.FromHexError.{FromHexError}
 use Rattle.media_model.specs.declared.entry.Side.{Side}
 use Rattle.media_model.specs.declared.entry.Side.TheVariants.{A, B}
 use Rattle.rtp_base.specs.declared.kind.Kind.{Kind}
 use Rattle.rtp_base.specs.declared.kind.Kind.TheVariants.{Rtp}
+use Rattle.media_model.specs.declared.setup.CipherName.{CipherName}
+use Rattle.media_model.specs.declared.setup.CipherName.TheVariants.{Toy, Sha}
 use Rattle.media_model.specs.declared.setup.Codec.{Codec}
 use Rattle.media_model.specs.declared.setup.Codec.TheVariants.{Opus, Pcmu, Pcma, Telephone, Vp8, Vp9, H264, H265, H266, Av1}
 use Rattle.media_model.specs.declared.setup.Key.{Key}
 use Rattle.media_model.specs.declared.setup.Key.TheVariants.{Zero, Given}
 use Rattle.media_model.specs.declared.setup.MediaKind.{MediaKind}
 use Rattle.media_model.specs.declared.setup.MediaKind.TheVariants.{Audio, Video}
-use Rattle.media_script.specs.Words.{◌>>=◌, below, plain_front, is_number, number_of, narrow_of, has_ms, time_of, side_of, flag_of, hex_of, kind_of, profile_of, key_of, one_of, codecs, codec_of, media_kind_of, rate_of, is_name, name_of, optional}
-use Rattle.media_script.specs.Names.{side_text, flag_text, kind_text, profile_text, codec_text, media_kind_text}
+use Rattle.media_script.specs.Words.{◌>>=◌, below, plain_front, is_number, number_of, narrow_of, has_ms, time_of, side_of, flag_of, hex_of, kind_of, key_of, one_of, ciphers, cipher_of, profiles, profile_of, codecs, codec_of, media_kind_of, rate_of, is_name, name_of, optional}
+use Rattle.media_script.specs.Names.{side_text, flag_text, kind_text, cipher_text, profile_text, codec_text, media_kind_text}
 use Rattle.media_script.specs.Spelling.{IsTime, IsHex, IsName, IsKey, IsOptional, IsSsrc, IsNamed}
 
 own : IsNumeralModel (λ ds. all_ascii_digits ds ≡ true) (digits_value 10)
@@ -200,16 +202,6 @@ pub kind_again : (kind : Kind) → kind ≡ Rtp → kind_of (kind_text kind) ≡
 unfolding kind_of
 kind_again kind is = let P : Kind → Type 0 = λ k. kind_of (kind_text k) ≡ Some k in subst P (sym is) refl
 
-pub profile_spelled : (word : List ℕ) (profile : SrtpProfile) → profile_of word ≡ Some profile → (word ≡ profile_text profile) × (profile ≡ AeadAes128Gcm)
-unfolding profile_of
-profile_spelled word profile e =
-    let a = if_some (bytes_eq word (codes "gcm128")) AeadAes128Gcm profile e in
-    (equal word (codes "gcm128") a.0 ∙ ap profile_text a.1, sym a.1)
-
-pub profile_again : (profile : SrtpProfile) → profile ≡ AeadAes128Gcm → profile_of (profile_text profile) ≡ Some profile
-unfolding profile_of
-profile_again profile is = let P : SrtpProfile → Type 0 = λ p. profile_of (profile_text p) ≡ Some p in subst P (sym is) refl
-
 pub key_spelled : (word : List ℕ) (key : Key) → key_of word ≡ Some key → IsKey word key
 unfolding key_of
 key_spelled word key e = first (bytes_eq word (codes "zero")) refl e where
@@ -239,6 +231,25 @@ one_spelled {X} text (y ∷ xs) word x e = go (one_spelled text xs word x) (byte
   go : (one_of text xs word ≡ Some x → word ≡ text x) → (b : Bool) → bytes_eq word (text y) ≡ b → cond b (Some y) (one_of text xs word) ≡ Some x → word ≡ text x
   go next true p e' = let is : y ≡ x = cc in equal word (text y) p ∙ ap text is
   go next false p e' = next e'
+
+pub cipher_spelled : (word : List ℕ) (cipher : CipherName) → cipher_of word ≡ Some cipher → word ≡ cipher_text cipher
+unfolding cipher_of
+cipher_spelled word cipher e = one_spelled cipher_text ciphers word cipher e
+
+pub cipher_again : (cipher : CipherName) → cipher_of (cipher_text cipher) ≡ Some cipher
+unfolding cipher_of
+cipher_again Toy = refl
+cipher_again Sha = refl
+
+pub profile_spelled : (word : List ℕ) (profile : SrtpProfile) → profile_of word ≡ Some profile → word ≡ profile_text profile
+unfolding profile_of
+profile_spelled word profile e = one_spelled profile_text profiles word profile e
+
+pub profile_again : (profile : SrtpProfile) → profile_of (profile_text profile) ≡ Some profile
+unfolding profile_of
+profile_again Aes128CmSha1_80 = refl
+profile_again AeadAes128Gcm = refl
+profile_again AeadAes256Gcm = refl
 
 pub codec_spelled : (word : List ℕ) (codec : Codec) → codec_of word ≡ Some codec → word ≡ codec_text codec
 unfolding codec_of

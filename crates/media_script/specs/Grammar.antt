@@ -11,12 +11,10 @@ use Rattle.media_script.specs.declared.setup_line.SetupLine.{SetupLine}
 use Rattle.media_script.specs.declared.setup_line.SetupLine.TheVariants as line
 use Rattle.media_model.specs.declared.step.Step.{Step}
 use Rattle.media_model.specs.declared.step.Step.TheVariants as step
-use Rattle.media_model.specs.declared.setup.CipherName.TheVariants.{Toy}
 use Rattle.media_script.specs.Draft.{setup_of}
-use Rattle.media_script.specs.Names.{cipher_text}
 use Rattle.media_script.specs.Order.{none_said, with_line}
 use Rattle.media_script.specs.Spelling.{words_of, is_passed_over}
-use Rattle.media_script.specs.Words.{◌>>=◌, number_of, narrow_of, time_of, side_of, flag_of, hex_of, kind_of, one_of, profile_of, key_of, codec_of, media_kind_of, rate_of, name_of, optional}
+use Rattle.media_script.specs.Words.{◌>>=◌, number_of, narrow_of, time_of, side_of, flag_of, hex_of, kind_of, cipher_of, profile_of, key_of, codec_of, media_kind_of, rate_of, name_of, optional}
 
 -- the words without where they lie in memory
 abbrev pub texts : List (Bor (List ℕ)) → List (List ℕ)
@@ -53,7 +51,7 @@ no_other words = None
 -- ---- setup lines, without their first word
 
 abbrev pub cipher_line : List (List ℕ) → Option SetupLine
-cipher_line = and_then (one_of cipher_text (Toy ∷ [])) (λ cipher. done (line.Cipher cipher))
+cipher_line = and_then cipher_of (λ cipher. done (line.Cipher cipher))
 
 abbrev pub profile_line : List (List ℕ) → Option SetupLine
 profile_line = and_then profile_of (λ profile. done (line.Profile profile))

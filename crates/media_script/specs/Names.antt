@@ -7,7 +7,7 @@ use Rattle.media_model.specs.declared.entry.Side.TheVariants.{A, B}
 use Rattle.rtp_base.specs.declared.kind.Kind.{Kind}
 use Rattle.rtp_base.specs.declared.kind.Kind.TheVariants.{Rtp, Rtcp}
 use Rattle.media_model.specs.declared.setup.CipherName.{CipherName}
-use Rattle.media_model.specs.declared.setup.CipherName.TheVariants.{Toy}
+use Rattle.media_model.specs.declared.setup.CipherName.TheVariants.{Toy, Sha}
 use Rattle.media_model.specs.declared.setup.Codec.{Codec}
 use Rattle.media_model.specs.declared.setup.Codec.TheVariants.{Opus, Pcmu, Pcma, Telephone, Vp8, Vp9, H264, H265, H266, Av1}
 use Rattle.media_model.specs.declared.setup.MediaKind.{MediaKind}
@@ -27,6 +27,7 @@ flag_text true = codes "1"
 
 abbrev pub cipher_text : CipherName → List ℕ
 cipher_text Toy = codes "toy"
+cipher_text Sha = codes "sha"
 
 abbrev pub profile_text : SrtpProfile → List ℕ
 profile_text Aes128CmSha1_80 = codes "cm"

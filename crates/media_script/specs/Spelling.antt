@@ -4,7 +4,6 @@ use Rattle.std.specs.Char.{is_ascii_alphanumeric}
 use Rattle.std.specs.Fmt.{decimal}
 use Rattle.std.specs.List.{slice_split, flat_map, AllByRecursion, AllPass}
 use Rattle.hex.specs.Hex.{decode_of}
-use Rattle.srtp_core.specs.declared.profile.SrtpProfile.TheVariants.{AeadAes128Gcm}
 use Rattle.rtp_base.specs.declared.kind.Kind.TheVariants.{Rtp}
 use Rattle.media_model.specs.declared.entry.Write.{Write}
 use Rattle.media_model.specs.declared.setup.Key.{Key}
@@ -52,7 +51,7 @@ IsNamed word rid = (word ≡ rid) × IsName 16 rid
 -- the words of a setup line
 abbrev pub IsSetupLine : List (List ℕ) → SetupLine → Type 0
 IsSetupLine words (line.Cipher cipher) = words ≡ codes "cipher" ∷ cipher_text cipher ∷ []
-IsSetupLine words (line.Profile profile) = (profile ≡ AeadAes128Gcm) × (words ≡ codes "profile" ∷ profile_text profile ∷ [])
+IsSetupLine words (line.Profile profile) = words ≡ codes "profile" ∷ profile_text profile ∷ []
 IsSetupLine words (line.Key key) = (k : List ℕ) × IsKey k key × (words ≡ codes "key" ∷ k ∷ [])
 IsSetupLine words (line.Type t) =
     (t.pt < 2 ^ 8) × (0 < t.rate) × (t.rate < 2 ^ 32) × (words ≡ codes "type" ∷ decimal t.pt ∷ codec_text t.codec ∷ decimal t.rate ∷ [])

@@ -7,18 +7,20 @@ use Rattle.std.specs.Str.Parse.{digits_value}
 use Rattle.std.specs.Result.{result_ok}
 use Rattle.hex.specs.Hex.{decode_of}
 use Rattle.srtp_core.specs.declared.profile.SrtpProfile.{SrtpProfile}
-use Rattle.srtp_core.specs.declared.profile.SrtpProfile.TheVariants.{AeadAes128Gcm}
+use Rattle.srtp_core.specs.declared.profile.SrtpProfile.TheVariants.{Aes128CmSha1_80, AeadAes128Gcm, AeadAes256Gcm}
 use Rattle.media_model.specs.declared.entry.Side.{Side}
 use Rattle.media_model.specs.declared.entry.Side.TheVariants.{A, B}
 use Rattle.rtp_base.specs.declared.kind.Kind.{Kind}
 use Rattle.rtp_base.specs.declared.kind.Kind.TheVariants.{Rtp}
+use Rattle.media_model.specs.declared.setup.CipherName.{CipherName}
+use Rattle.media_model.specs.declared.setup.CipherName.TheVariants.{Toy, Sha}
 use Rattle.media_model.specs.declared.setup.Codec.{Codec}
 use Rattle.media_model.specs.declared.setup.Codec.TheVariants.{Opus, Pcmu, Pcma, Telephone, Vp8, Vp9, H264, H265, H266, Av1}
 use Rattle.media_model.specs.declared.setup.Key.{Key}
 use Rattle.media_model.specs.declared.setup.Key.TheVariants.{Zero, Given}
 use Rattle.media_model.specs.declared.setup.MediaKind.{MediaKind}
 use Rattle.media_model.specs.declared.setup.MediaKind.TheVariants.{Audio, Video}
-use Rattle.media_script.specs.Names.{codec_text, media_kind_text}
+use Rattle.media_script.specs.Names.{cipher_text, profile_text, codec_text, media_kind_text}
 
 infixl 10 ◌>>=◌
 abbrev pub ◌>>=◌ : {A B : Type 0} → Option A → (A → Option B) → Option B
@@ -72,9 +74,6 @@ hex_of word =
 unfoldable pub kind_of : List ℕ → Option Kind
 kind_of word = if bytes_eq word (codes "rtp") then Some Rtp else None
 
-unfoldable pub profile_of : List ℕ → Option SrtpProfile
-profile_of word = if bytes_eq word (codes "gcm128") then Some AeadAes128Gcm else None
-
 unfoldable pub key_of : List ℕ → Option Key
 key_of word =
     if bytes_eq word (codes "zero") then Some Zero
@@ -84,6 +83,18 @@ key_of word =
 abbrev pub one_of : {X : Type 0} → (X → List ℕ) → List X → List ℕ → Option X
 one_of text [] word = None
 one_of text (x ∷ xs) word = if bytes_eq word (text x) then Some x else one_of text xs word
+
+abbrev pub ciphers : List CipherName
+ciphers = Toy ∷ Sha ∷ []
+
+unfoldable pub cipher_of : List ℕ → Option CipherName
+cipher_of word = one_of cipher_text ciphers word
+
+abbrev pub profiles : List SrtpProfile
+profiles = Aes128CmSha1_80 ∷ AeadAes128Gcm ∷ AeadAes256Gcm ∷ []
+
+unfoldable pub profile_of : List ℕ → Option SrtpProfile
+profile_of word = one_of profile_text profiles word
 
 abbrev pub codecs : List Codec
 codecs = Opus ∷ Pcmu ∷ Pcma ∷ Telephone ∷ Vp8 ∷ Vp9 ∷ H264 ∷ H265 ∷ H266 ∷ Av1 ∷ []

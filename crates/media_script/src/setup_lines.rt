@@ -8,11 +8,11 @@ use crate::error::LineError;
 use crate::lines::{is_long, words};
 use crate::setup_line::SetupLine;
 use crate::words::{
-    codec, key as key_word, media_kind, mid, name, number_8, number_32, optional_32, optional_name,
-    profile as profile_word, rate, rid, side,
+    cipher as cipher_word, codec, key as key_word, media_kind, mid, name, number_8, number_32,
+    optional_32, optional_name, profile as profile_word, rate, rid, side,
 };
 use media_base::Bytes;
-use media_model::{CipherName, PayloadType, Stream};
+use media_model::{PayloadType, Stream};
 use rtp_wire::{Pt, Ssrc};
 use std::alloc::Global;
 
@@ -20,7 +20,7 @@ fn cipher(words: &[&[u8]]) -> Result<SetupLine, LineError>
     ensures { Gives (λ l. l) result (cipher_line (texts words.now)) }
 {
     match words {
-        [word] if *word == b"toy".as_slice() => Ok(SetupLine::Cipher(CipherName::Toy)),
+        [cipher] => Ok(SetupLine::Cipher(cipher_word(cipher)?)),
         _ => Err(LineError::Outside),
     }
 }

@@ -3,13 +3,13 @@ ghost use Rattle.std.specs.Prelude.{◌≡◌, ◌^◌, IsTrue, IfOk};
 ghost use Rattle.std.specs.Option.{ForSome, option_copied};
 ghost use Rattle.std.specs.Char.{is_ascii_alphanumeric};
 ghost use Rattle.std.specs.List.{list_all};
-ghost use Rattle.media_script.specs.Words.{plain_front, number_of, narrow_of, time_of, side_of, flag_of, hex_of, kind_of, profile_of, key_of, codec_of, media_kind_of, rate_of, is_name, name_of, optional};
+ghost use Rattle.media_script.specs.Words.{plain_front, number_of, narrow_of, time_of, side_of, flag_of, hex_of, kind_of, cipher_of, profile_of, key_of, codec_of, media_kind_of, rate_of, is_name, name_of, optional};
 ghost use Rattle.media_script.specs.Gives.{Gives};
 
 use crate::error::LineError;
 use hex::FromHexError;
 use media_base::Bytes;
-use media_model::{Codec, Key, Kind, MediaKind, Side};
+use media_model::{CipherName, Codec, Key, Kind, MediaKind, Side};
 use rtp_wire::{Mid, Rid};
 use srtp_core::SrtpProfile;
 use std::alloc::Global;
@@ -141,12 +141,29 @@ pub fn kind(word: &[u8]) -> Result<Kind, LineError>
     }
 }
 
+#[tactic(auto, unfolding(crate::specs::Words::cipher_of))]
+pub fn cipher(word: &[u8]) -> Result<CipherName, LineError>
+    ensures { Gives (λ c. c) result (cipher_of word.now) }
+{
+    if word == b"toy".as_slice() {
+        Ok(CipherName::Toy)
+    } else if word == b"sha".as_slice() {
+        Ok(CipherName::Sha)
+    } else {
+        Err(LineError::Outside)
+    }
+}
+
 #[tactic(auto, unfolding(crate::specs::Words::profile_of))]
 pub fn profile(word: &[u8]) -> Result<SrtpProfile, LineError>
     ensures { Gives (λ p. p) result (profile_of word.now) }
 {
-    if word == b"gcm128".as_slice() {
+    if word == b"cm".as_slice() {
+        Ok(SrtpProfile::Aes128CmSha1_80)
+    } else if word == b"gcm128".as_slice() {
         Ok(SrtpProfile::AeadAes128Gcm)
+    } else if word == b"gcm256".as_slice() {
+        Ok(SrtpProfile::AeadAes256Gcm)
     } else {
         Err(LineError::Outside)
     }

@@ -7,6 +7,7 @@ use Rattle.std.proofs.lemmas.List.{take_all}
 use Rattle.media_model.specs.declared.entry.Entry.{Entry}
 use Rattle.media_model.specs.declared.setup.Setup.{Setup as Given}
 use Rattle.media_model.specs.declared.step.Step.{Step as Act}
+use Rattle.media_model.specs.declared.transcript.Transcript.{Transcript}
 use Rattle.media_model.specs.Genuine.{is_genuine, repairs_widen}
 use Rattle.media_script.specs.declared.error.ScriptError.{ScriptError}
 use Rattle.media_script.specs.declared.error.ScriptError.TheVariants as script
@@ -16,14 +17,25 @@ use Rattle.media_script.specs.Spelling.{IsScript}
 use Rattle.media_script.specs.Text.{entries_text, end_text}
 use Rattle.media_play.specs.declared.fault.StepFault.{StepFault}
 use Rattle.media_play.specs.declared.fault.RunError.TheVariants as error
-use Rattle.media_play.specs.Headline.{HoldsOfRun}
+use Rattle.media_play.specs.declared.fault.RunFault.{RunFault}
+use Rattle.media_play.specs.Headline.{HoldsOfRun, StepsAreAnswered, SealsAreRight, NoNonceTwice, SendsWrites, YieldsWrites, NoPacketTwice, FirstSendingsAreYielded}
+use Rattle.media_play.specs.Opening.{Sealing}
 use Rattle.media_play.specs.Play.{Played}
-use Rattle.media_play.specs.Running.{HasCause}
+use Rattle.media_play.specs.Running.{HasCause, OfRun}
 use Rattle.media_play.specs.SetupRules.{setup_fault}
 use Rattle.mediasim.specs.declared.ends.End.{End}
 use Rattle.mediasim.specs.declared.ends.End.TheVariants.{Done, Setup, Step, Call, ReadFault, WriteFault, Memory, Syntax, TooLong, Usage}
 use Rattle.mediasim.specs.Lines.{memory_line, IsLastLine, reported}
-use Rattle.mediasim.specs.RunCommand.{toy_sealing, syntax_line, step_line, AreOfRun, RunEnds, RunMakes, IsNoScript}
+use Rattle.mediasim.specs.RunCommand.{script_sealing, syntax_line, step_line, AreOfRun, RunEnds, RunMakes, IsNoScript}
+
+-- all that holds of a run, whether it came to its end or not
+pub all_holds : (seal : Sealing) (setup : Given) (r : Result Transcript RunFault)
+    → OfRun r (StepsAreAnswered seal setup) → OfRun r (SealsAreRight seal setup) → OfRun r NoNonceTwice → OfRun r (SendsWrites setup) → OfRun r YieldsWrites
+    → OfRun r NoPacketTwice → OfRun r FirstSendingsAreYielded → OfRun r (HoldsOfRun seal setup)
+all_holds seal setup (Ok entries) steps seals nonces sendings yields once exactly =
+    record { steps = steps; seals = seals; nonces = nonces; sendings = sendings; yields = yields; once = once; exactly = exactly }
+all_holds seal setup (Err fault) steps seals nonces sendings yields once exactly =
+    record { steps = steps; seals = seals; nonces = nonces; sendings = sendings; yields = yields; once = once; exactly = exactly }
 
 -- all entries are a front of themselves
 all_told : (entries : List Entry) (last : List ℕ) → last ≡ memory_line → entries_text entries ++ last ≡ entries_text (take (length entries) entries) ++ memory_line
@@ -35,7 +47,7 @@ all_told entries last is =
 pub step_ends : {X : Type 0} (view : X → List ℕ) (setup : Given) (steps : List Act) (number : ℕ) (fault : StepFault) (entries told : List Entry)
     (line : Result X AllocError) (ended : End) (last : List ℕ)
     → IsLastLine view (Step number fault) line ended last → IfOk line (λ text. view text ≡ step_line number fault) → told ≡ entries
-    → HasCause (toy_sealing setup) setup steps entries (error.Step number fault) → HoldsOfRun (toy_sealing setup) setup entries
+    → HasCause (script_sealing setup) setup steps entries (error.Step number fault) → HoldsOfRun (script_sealing setup) setup entries
     → RunEnds setup steps ended (reported ended told) (entries_text told ++ last)
 step_ends view setup steps number fault entries told (Ok text) ended last is said same cause holds =
     subst (λ (es : List Entry). RunEnds setup steps ended (reported ended es) (entries_text es ++ last)) (sym same)
@@ -50,7 +62,7 @@ step_ends view setup steps number fault entries told (Err e) ended last is said 
 pub done_ends : {X : Type 0} (view : X → List ℕ) (setup : Given) (steps : List Act) (entries told : List Entry)
     (line : Result X AllocError) (ended : End) (last : List ℕ)
     → IsLastLine view Done line ended last → IfOk line (λ text. view text ≡ end_text (is_genuine entries) (repairs_widen setup entries)) → told ≡ entries
-    → setup_fault setup ≡ None → Played (toy_sealing setup) setup steps entries → HoldsOfRun (toy_sealing setup) setup entries
+    → setup_fault setup ≡ None → Played (script_sealing setup) setup steps entries → HoldsOfRun (script_sealing setup) setup entries
     → RunEnds setup steps ended (reported ended told) (entries_text told ++ last)
 done_ends view setup steps entries told (Ok text) ended last is said same fine played holds =
     subst (λ (es : List Entry). RunEnds setup steps ended (reported ended es) (entries_text es ++ last)) (sym same)
@@ -63,7 +75,7 @@ done_ends view setup steps entries told (Err e) ended last is said same fine pla
 
 -- a run that ended for want of memory
 pub memory_ends : (setup : Given) (steps : List Act) (entries told : List Entry) (ended : End) (last : List ℕ)
-    → ended ≡ Memory → last ≡ memory_line → told ≡ entries → HasCause (toy_sealing setup) setup steps entries error.Memory
+    → ended ≡ Memory → last ≡ memory_line → told ≡ entries → HasCause (script_sealing setup) setup steps entries error.Memory
     → RunEnds setup steps ended (reported ended told) (entries_text told ++ last)
 memory_ends setup steps entries told ended last is line same cause =
     subst (λ (es : List Entry). RunEnds setup steps ended (reported ended es) (entries_text es ++ last)) (sym same)

@@ -21,7 +21,7 @@ use Rattle.mediasim.specs.Command.{IsCommand, Makes, Carries}
 use Rattle.mediasim.specs.Ends.{Tells}
 use Rattle.mediasim.specs.Lines.{memory_line}
 use Rattle.mediasim.specs.MediaMain.{Cause, Answers, TellsScript, RunsScript, AnswersScript, IsInOrder}
-use Rattle.mediasim.specs.RunCommand.{toy_sealing, RunEnds, RunMakes, EndsInRun, PlaysToEnd, PlaysAll}
+use Rattle.mediasim.specs.RunCommand.{script_sealing, RunEnds, RunMakes, EndsInRun, PlaysToEnd, PlaysAll}
 use Rattle.mediasim.proofs.Texts.{front_of_second}
 
 -- what is read to the end of input is all that the source tells
@@ -204,7 +204,7 @@ none_holds (Some entries) P is = absurd cc
 
 -- the laws hold for the setup that was read
 holds_in : (setup : Given) (steps : List Act) (end : End) (transcript : Option (List Entry)) (text : List ℕ) → EndsInRun setup steps end transcript text
-    → IfSome transcript (HoldsOfRun (toy_sealing setup) setup)
+    → IfSome transcript (HoldsOfRun (script_sealing setup) setup)
 holds_in setup steps Done None text h = tt
 holds_in setup steps Done (Some entries) text h = h.2
 holds_in setup steps (Setup fault) None text h = tt
@@ -225,13 +225,13 @@ if_some_weaker None P Q says h = tt
 if_some_weaker (Some entries) P Q says h = says entries h
 
 pub script_holds : (held held' : Option (List ℕ)) (setup : Given) (steps : List Act) (answer : End) (answered : Option (List Entry)) (Q : List Entry → Type 0)
-    → ((entries : List Entry) → HoldsOfRun (toy_sealing setup) setup entries → Q entries)
+    → ((entries : List Entry) → HoldsOfRun (script_sealing setup) setup entries → Q entries)
     → AnswersScript setup steps held held' answer answered → IfSome answered Q
 script_holds held held' setup steps answer answered Q says a =
     elim a.tells [
       | inl t ↦
           subst (λ (o : Option (List Entry)). IfSome o Q) (sym t.1)
-          (if_some_weaker a.transcript (HoldsOfRun (toy_sealing setup) setup) Q says (holds_in setup steps a.end a.transcript a.text a.run))
+          (if_some_weaker a.transcript (HoldsOfRun (script_sealing setup) setup) Q says (holds_in setup steps a.end a.transcript a.text a.run))
       | inr t ↦ none_holds answered Q t.1
     ]
 
@@ -240,11 +240,11 @@ plays_in : ((seal : Sealing) (setup : Given) (steps : List Act) (entries : List 
     → (setup : Given) (steps : List Act) (end : End) (transcript : Option (List Entry)) (text : List ℕ) → EndsInRun setup steps end transcript text
     → PlaysToEnd steps end transcript
 plays_in law setup steps Done None text h = absurd h
-plays_in law setup steps Done (Some entries) text h = law (toy_sealing setup) setup steps entries h.1
+plays_in law setup steps Done (Some entries) text h = law (script_sealing setup) setup steps entries h.1
 plays_in law setup steps (Setup fault) None text h = refl
 plays_in law setup steps (Setup fault) (Some entries) text h = absurd h
 plays_in law setup steps (Step number fault) None text h = absurd h
-plays_in law setup steps (Step number fault) (Some entries) text h = let r = h.0.1 in (r.0, r.2, law (toy_sealing setup) setup (take r.0 steps) entries r.4)
+plays_in law setup steps (Step number fault) (Some entries) text h = let r = h.0.1 in (r.0, r.2, law (script_sealing setup) setup (take r.0 steps) entries r.4)
 plays_in law setup steps (Syntax line) transcript text h = absurd h
 plays_in law setup steps (Call number) transcript text h = absurd h
 plays_in law setup steps ReadFault transcript text h = h
@@ -272,11 +272,11 @@ always_made : (read : List ℕ) (end : End) (transcript : Option (List Entry)) (
 always_made read end transcript text Pace Q says h = none_holds transcript Q h.0
 always_made read (Call number) transcript text Run Q says h = absurd h
 always_made read Done None text Run Q says h = tt
-always_made read Done (Some entries) text Run Q says h = says (toy_sealing h.setup) h.setup entries h.run.2
+always_made read Done (Some entries) text Run Q says h = says (script_sealing h.setup) h.setup entries h.run.2
 always_made read (Setup fault) None text Run Q says h = tt
 always_made read (Setup fault) (Some entries) text Run Q says h = absurd h.run
 always_made read (Step number fault) None text Run Q says h = tt
-always_made read (Step number fault) (Some entries) text Run Q says h = says (toy_sealing h.setup) h.setup entries h.run.1
+always_made read (Step number fault) (Some entries) text Run Q says h = says (script_sealing h.setup) h.setup entries h.run.1
 always_made read (Syntax line) None text Run Q says h = tt
 always_made read (Syntax line) (Some entries) text Run Q says h = absurd h
 always_made read Memory None text Run Q says h = tt

@@ -3,8 +3,12 @@ use Rattle.std.specs.Prelude.{ℕ, ◌≡◌, ◌⊎◌, ◌+◌, List, ◌++◌
 use Rattle.std.specs.Fmt.{decimal}
 use Rattle.std.specs.declared.option.Option.{Option}
 use Rattle.std.specs.declared.option.Option.TheVariants.{Some, None}
+use Rattle.srtp_core.specs.Cipher.{CipherMeaning}
+use Rattle.srtp_core.specs.Sha.{sha_meaning}
 use Rattle.srtp_core.specs.Toy.{toy_meaning}
 use Rattle.media_model.specs.declared.entry.Entry.{Entry}
+use Rattle.media_model.specs.declared.setup.CipherName.{CipherName}
+use Rattle.media_model.specs.declared.setup.CipherName.TheVariants.{Toy, Sha}
 use Rattle.media_model.specs.declared.setup.Setup.{Setup as Given}
 use Rattle.media_model.specs.declared.step.Step.{Step as Act}
 use Rattle.media_script.specs.FirstWrong.{IsFirstWrong}
@@ -25,9 +29,14 @@ use Rattle.mediasim.specs.Lines.{memory_line}
 use Rattle.mediasim.specs.declared.ends.End.{End}
 use Rattle.mediasim.specs.declared.ends.End.TheVariants.{Done, Setup, Step, ReadFault, Memory, Syntax, TooLong, Usage}
 
--- how the sides of a setup seal with the toy cipher
-abbrev pub toy_sealing : Given → Sealing
-toy_sealing setup = sealing_of toy_meaning setup
+-- what the cipher of a name means
+abbrev pub meaning_of : CipherName → CipherMeaning
+meaning_of Toy = toy_meaning
+meaning_of Sha = sha_meaning
+
+-- how the sides of a setup seal: with the cipher that it names
+abbrev pub script_sealing : Given → Sealing
+script_sealing setup = sealing_of (meaning_of setup.cipher) setup
 
 -- the fault lines that name a line, a rule of setups, or a step and a rule of steps
 abbrev pub syntax_line : ℕ → List ℕ
@@ -42,7 +51,7 @@ step_line number fault = codes "fault step " ++ decimal number ++ codes " " ++ s
 -- the entries of a run of this setup and these steps: of all its steps, or those before it ended
 abbrev pub AreOfRun : Given → List Act → List Entry → Type 0
 AreOfRun setup steps entries =
-    Played (toy_sealing setup) setup steps entries ⊎ ((cause : RunError) × HasCause (toy_sealing setup) setup steps entries cause)
+    Played (script_sealing setup) setup steps entries ⊎ ((cause : RunError) × HasCause (script_sealing setup) setup steps entries cause)
 
 -- the lines of some entries at the front, and the fault line behind them
 abbrev pub StopsAmong : List Entry → List ℕ → Type 0
@@ -52,12 +61,12 @@ StopsAmong entries text = (count : ℕ) × (text ≡ entries_text (take count en
 -- the first one that breaks a rule are played; or memory runs out, and what was told ends with a line
 abbrev pub RunEnds : Given → List Act → End → Option (List Entry) → List ℕ → Type 0
 RunEnds setup steps Done (Some entries) text =
-    (setup_fault setup ≡ None) × Played (toy_sealing setup) setup steps entries
-    × HoldsOfRun (toy_sealing setup) setup entries × (text ≡ text_of setup entries)
+    (setup_fault setup ≡ None) × Played (script_sealing setup) setup steps entries
+    × HoldsOfRun (script_sealing setup) setup entries × (text ≡ text_of setup entries)
 RunEnds setup steps (Setup fault) None text = (setup_fault setup ≡ Some fault) × (text ≡ setup_line fault)
 RunEnds setup steps (Step number fault) (Some entries) text =
-    HasCause (toy_sealing setup) setup steps entries (error.Step number fault)
-    × HoldsOfRun (toy_sealing setup) setup entries × (text ≡ entries_text entries ++ step_line number fault)
+    HasCause (script_sealing setup) setup steps entries (error.Step number fault)
+    × HoldsOfRun (script_sealing setup) setup entries × (text ≡ entries_text entries ++ step_line number fault)
 RunEnds setup steps Memory None text = (entries : List Entry) × AreOfRun setup steps entries × StopsAmong entries text
 RunEnds setup steps end transcript text = ⊥
 
@@ -100,6 +109,6 @@ PlaysToEnd steps end transcript = transcript ≡ None
 
 -- all steps were played, or memory ran out
 abbrev pub PlaysAll : Given → List Act → End → Option (List Entry) → Type 0
-PlaysAll setup steps Done (Some entries) = Played (toy_sealing setup) setup steps entries
+PlaysAll setup steps Done (Some entries) = Played (script_sealing setup) setup steps entries
 PlaysAll setup steps Memory None = Unit {0}
 PlaysAll setup steps end transcript = ⊥

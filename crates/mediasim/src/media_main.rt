@@ -8,7 +8,7 @@ ghost use Rattle.mediasim.specs.Ends.{status_of};
 ghost use Rattle.mediasim.specs.MediaMain.{Answers, AnswersScript, RunsScript, IsInOrder, RunsCalls, ArePaced};
 ghost use Rattle.mediasim.specs.PaceCommand.{AnswersCalls, PlaysAllCalls};
 ghost use Rattle.pace_core.specs.declared.run.PaceCall.{PaceCall as Told};
-ghost use Rattle.mediasim.specs.RunCommand.{toy_sealing, PlaysToEnd, PlaysAll};
+ghost use Rattle.mediasim.specs.RunCommand.{script_sealing, PlaysToEnd, PlaysAll};
 
 use crate::command::{Command, command_of};
 use crate::ends::{End, Report, tell_line};
@@ -52,8 +52,8 @@ fn answer<S: Source, K: Sink>(
 }
 
 /// Does what the words behind the program's name say, with the input that the source gives, and
-/// writes what came of it to the sink. `run` plays a script between two sessions with the toy cipher,
-/// `pace` plays a pace script on a leaky bucket pacer.
+/// writes what came of it to the sink. `run` plays a script between two sessions with the cipher that
+/// the script names, `pace` plays a pace script on a leaky bucket pacer.
 ///
 /// What is written is the text of the transcript, or one fault line, with the text of the steps that
 /// were played before it where a step broke a rule, and whole lines at the front of the text where
@@ -108,11 +108,11 @@ pub fn media_main<S: Source, K: Sink>(
     // exactly where it opens, and its packet yielded.
     ensures steps { (setup : Given) (acts : List Act)
         → RunsScript (map string_bytes words.now) (S.left source.old) setup acts
-        → IfSome result.transcript (StepsAreAnswered (toy_sealing setup) setup) }
+        → IfSome result.transcript (StepsAreAnswered (script_sealing setup) setup) }
     // Each sealed datagram is a seal under its side's keys.
     ensures seals { (setup : Given) (acts : List Act)
         → RunsScript (map string_bytes words.now) (S.left source.old) setup acts
-        → IfSome result.transcript (SealsAreRight (toy_sealing setup) setup) }
+        → IfSome result.transcript (SealsAreRight (script_sealing setup) setup) }
     // The write of a delivered first sending is yielded exactly where its number widens to itself and is
     // fresh.
     ensures exactly { (setup : Given) (acts : List Act)

@@ -1,20 +1,24 @@
 // The command run: what it makes of a whole input.
-ghost use Rattle.std.specs.Prelude.{◌≡◌, ◌++◌, ℕ, None, take, string_bytes, IfOk};
+ghost use Rattle.std.specs.Prelude.{◌≡◌, ◌++◌, ℕ, None, take, string_bytes, IfOk, IfErr};
 ghost use Rattle.media_base.specs.Causes.{Rose};
+ghost use Rattle.media_play.specs.Headline.{HoldsOfRun};
+ghost use Rattle.media_play.specs.Play.{Played};
+ghost use Rattle.media_play.specs.Running.{HasCause, OfRun};
+ghost use Rattle.media_play.specs.SetupRules.{setup_fault};
 ghost use Rattle.media_script.specs.Text.{entries_text};
 ghost use Rattle.mediasim.specs.declared.command.Command.TheVariants.{Run};
 ghost use Rattle.mediasim.specs.Command.{Carries};
 ghost use Rattle.mediasim.specs.Ends.{status_of};
 ghost use Rattle.mediasim.specs.Lines.{bytes_of, memory_line, IsLastLine, reported};
-ghost use Rattle.mediasim.specs.RunCommand.{syntax_line, setup_line, step_line, AreOfRun, RunEnds, RunMakes};
+ghost use Rattle.mediasim.specs.RunCommand.{script_sealing, syntax_line, setup_line, step_line, AreOfRun, RunEnds, RunMakes};
 
 use crate::ends::{End, Report, tell_line};
 use crate::lines::{LastLine, TextError, write_text};
 use media_base::Sink;
-use media_model::{Setup, Step, Transcript};
-use media_play::{RunError, SetupFault, StepFault, media_run};
+use media_model::{CipherName, Setup, Step, Transcript};
+use media_play::{RunError, RunFault, SetupFault, StepFault, media_run};
 use media_script::{ScriptError, end_line, read_script};
-use srtp_core::ToyCipher;
+use srtp_core::{ShaCipher, ToyCipher};
 use std::alloc::{AllocError, Global};
 use std::fmt::Write;
 
@@ -89,13 +93,27 @@ fn step_line(alloc: Global, number: u64, fault: StepFault) -> Result<String, All
     Ok(text)
 }
 
+// Plays a setup and its steps with the cipher that the setup names.
+fn run_steps(alloc: Global, setup: &Setup, steps: &[Step]) -> Result<Transcript, RunFault>
+    ensures played { IfOk result (λ t. (setup_fault setup.now ≡ None)
+        × Played (script_sealing setup.now) setup.now steps.now t) }
+    ensures cause { IfErr result (λ f.
+        HasCause (script_sealing setup.now) setup.now steps.now f.sofar f.cause) }
+    ensures holds { OfRun result (HoldsOfRun (script_sealing setup.now) setup.now) }
+{
+    match setup.cipher {
+        CipherName::Toy => media_run(alloc, setup, &ToyCipher, steps),
+        CipherName::Sha => media_run(alloc, setup, &ShaCipher, steps),
+    }
+}
+
 // Plays a setup and its steps.
 fn play_steps(alloc: Global, setup: &Setup, steps: &[Step]) -> Ending
     ensures ended { RunEnds setup.now steps.now result.end (reported result.end result.entries)
         (entries_text result.entries ++ bytes_of result.last) }
     ensures entries { AreOfRun setup.now steps.now result.entries }
 {
-    let fault = match media_run(alloc, setup, &ToyCipher, steps) {
+    let fault = match run_steps(alloc, setup, steps) {
         Ok(transcript) => {
             let line = end_line(alloc, setup, &transcript);
             return Ending::new(End::Done, transcript, line);
@@ -133,8 +151,8 @@ fn play_script(alloc: Global, bytes: &[u8]) -> Ending
     }
 }
 
-/// Plays the script that these bytes spell between two sessions with the toy cipher, and writes the
-/// text of what happened.
+/// Plays the script that these bytes spell between two sessions, with the cipher that it names, and
+/// writes the text of what happened.
 pub fn run_command<K: Sink>(alloc: Global, bytes: &[u8], sink: &mut K) -> Report
     ensures status { result.status ≡ status_of result.end }
     ensures carries { Carries Run bytes.now (K.written sink.old) (K.written sink.new) result.end result.transcript }

@@ -2,13 +2,13 @@
 use crate::ends::{End, Report};
 use crate::media_main::media_main;
 use media_base::{MemSink, MemSource};
-use media_play::StepFault;
+use media_play::{SetupFault, StepFault};
 use std::alloc::Global;
 use std::fmt::Write;
 use std::test::Fail;
 
-const HEAD: &str =
-    "str0m-media 1\nkey zero\ntype 96 vp8 90000\nmedia v video cam\nstream A v 42 - -\nbegin\n";
+const SETUP: &str =
+    "str0m-media 1\nkey zero\ntype 96 vp8 90000\nmedia v video cam\nstream A v 42 - -\n";
 
 const ONE_WRITE: &str = "write A 1 42 1 96 0 0 0 0102\ntick A 1\ndeliver B 1 1\n";
 
@@ -22,12 +22,19 @@ fn words(alloc: Global, word: &str) -> Result<Vec<String>, Fail> {
     Ok(vec![in alloc; word.to_string(alloc)?]?)
 }
 
-// A script of these steps, with its last line.
-fn script(alloc: Global, steps: &str) -> Result<Vec<u8>, Fail> {
-    let mut text = HEAD.to_string(alloc)?;
+// A script with these setup lines more, and these steps.
+fn script_with(alloc: Global, lines: &str, steps: &str) -> Result<Vec<u8>, Fail> {
+    let mut text = SETUP.to_string(alloc)?;
+    text.push_str(lines)?;
+    text.push_str("begin\n")?;
     text.push_str(steps)?;
     text.push_str("end\n")?;
     Ok(text.into_bytes())
+}
+
+// A script of these steps.
+fn script(alloc: Global, steps: &str) -> Result<Vec<u8>, Fail> {
+    script_with(alloc, "", steps)
 }
 
 // The call of a command on these bytes, with ends that do not fail.
@@ -91,6 +98,61 @@ fn one_write(rt: HostRuntime) -> Result<(), Fail> {
         return Err(Fail::from("no transcript"));
     };
     assert_eq!(rt; transcript.entries().len(), 6);
+    Ok(())
+}
+
+// Setup lines and steps, and the text of the run: AEAD_AES_256_GCM, whose session key ends with the
+// number of the second round; and AES_CM_128_HMAC_SHA1_80, whose tag is HMAC-SHA1 (RFC 2104) under the
+// key 0000000000000001000000000000000000000001.
+const BY_PROFILE: [(&str, &str, &str); 2] = [
+    (
+        "profile gcm256\n",
+        ONE_WRITE,
+        "wrote A 42 1\nticked A 1\nsealed A rtp 42 1 80600001000000000000002a010280600001002a00020000002b01020000\ngot B rtp 30\nopened B rtp 42 1\nyielded B 42 1 96 0 0 0102\nend genuine=yes repairs=yes\n",
+    ),
+    (
+        "profile cm\n",
+        "write A 1 42 1 96 0 0 0 0000000000000000\ntick A 1\ndeliver B 1 1\n",
+        "wrote A 42 1\nticked A 1\nsealed A rtp 42 1 80600001000000000000002a0000000000000028b075b497ef97be322f0d\ngot B rtp 30\nopened B rtp 42 1\nyielded B 42 1 96 0 0 0000000000000000\nend genuine=yes repairs=yes\n",
+    ),
+];
+
+#[test]
+fn one_write_by_profile(rt: HostRuntime) -> Result<(), Fail> {
+    let alloc = rt.alloc();
+    for (lines, steps, text) in BY_PROFILE {
+        let (report, sink) = ran_on(alloc, script_with(alloc, lines, steps)?)?;
+        assert_eq!(rt; report.end, End::Done, "at {lines}");
+        assert_eq!(rt; sink.bytes(), text.as_bytes(), "at {lines}");
+    }
+    Ok(())
+}
+
+// A seal of the toy cipher stands among the steps, which opens under no other.
+#[test]
+fn one_write_by_the_other_cipher(rt: HostRuntime) -> Result<(), Fail> {
+    let alloc = rt.alloc();
+    for profile in ["cm", "gcm128", "gcm256"] {
+        let lines = format!(in alloc; "cipher sha\nprofile {profile}\n")?;
+        let mut steps = ONE_WRITE.to_string(alloc)?;
+        steps.push_str(
+            "foreign B 1 rtp 80600002000000000000002a0380600002002a00020000002803000001\n",
+        )?;
+        let (report, sink) = ran_on(alloc, script_with(alloc, lines.as_str(), steps.as_str())?)?;
+        assert_eq!(rt; report.end, End::Done, "at {profile}");
+        assert_eq!(rt; lines_with(sink.bytes(), "got B rtp"), 2, "at {profile}");
+        assert_eq!(rt; lines_with(sink.bytes(), "yielded B"), 1, "at {profile}");
+        assert_eq!(rt;
+            lines_with(sink.bytes(), "yielded B 42 1 96 0 0 0102"),
+            1,
+            "at {profile}"
+        );
+        assert_eq!(rt;
+            lines_with(sink.bytes(), "end genuine=yes"),
+            1,
+            "at {profile}"
+        );
+    }
     Ok(())
 }
 
@@ -202,7 +264,8 @@ fn faults(rt: HostRuntime) -> Result<(), Fail> {
     let (report, sink) = ran(alloc, "tick A 0\n")?;
     assert_eq!(rt; report.status, 2);
     assert_eq!(rt; sink.bytes(), b"fault step 1 TimeZero\n".as_slice());
-    let mut cut = HEAD.to_string(alloc)?;
+    let mut cut = SETUP.to_string(alloc)?;
+    cut.push_str("begin\n")?;
     cut.push_str(ONE_WRITE)?;
     let (report, sink) = ran_on(alloc, cut.into_bytes())?;
     assert_eq!(rt; report.status, 7);
@@ -292,6 +355,35 @@ const SETUP_FAULTS: [(&str, &str); 9] = [
         "RtxLater",
     ),
 ];
+
+// How many bytes of keying material each profile asks for.
+const MATERIAL: [(&str, u64); 3] = [("cm", 60), ("gcm128", 56), ("gcm256", 88)];
+
+// A script under this profile, with so many zeros for its key.
+fn key_script(alloc: Global, profile: &str, bytes: u64) -> Result<Vec<u8>, Fail> {
+    let mut lines = format!(in alloc; "profile {profile}\nkey ")?;
+    push_zeros(&mut lines, bytes)?;
+    lines.push('\n')?;
+    setup_script(alloc, lines.as_str())
+}
+
+#[test]
+fn key_length_by_profile(rt: HostRuntime) -> Result<(), Fail> {
+    let alloc = rt.alloc();
+    for (profile, bytes) in MATERIAL {
+        let (report, _) = ran_on(alloc, key_script(alloc, profile, bytes)?)?;
+        assert_eq!(rt; report.end, End::Done, "at {profile}");
+        for other in [bytes.saturating_sub(1), bytes.saturating_add(1)] {
+            let (report, _) = ran_on(alloc, key_script(alloc, profile, other)?)?;
+            assert_eq!(rt;
+                report.end,
+                End::Setup(SetupFault::KeyLength),
+                "at {profile}"
+            );
+        }
+    }
+    Ok(())
+}
 
 #[test]
 fn setup_faults(rt: HostRuntime) -> Result<(), Fail> {

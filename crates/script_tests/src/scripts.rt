@@ -13,6 +13,41 @@ stream B a 4294967295 0 hi\nkey 00Ff\nprofile gcm128\nstream B v 7 - lo\nbegin\n
 write A 5ms 42 18446744073709551615 96 4294967295 1 0 8060Ff\ntick B 1000\ndeliver A 0 3\n\
 foreign B 1 rtp 80\n#\nend\n\n# end\n";
 
+// Setup lines, the cipher and the profile that they say, and the length of the material of `key zero`.
+const CIPHERS: [(&str, CipherName, SrtpProfile, usize); 6] = [
+    ("", CipherName::Toy, SrtpProfile::AeadAes128Gcm, 56),
+    (
+        "cipher toy\n",
+        CipherName::Toy,
+        SrtpProfile::AeadAes128Gcm,
+        56,
+    ),
+    (
+        "cipher sha\n",
+        CipherName::Sha,
+        SrtpProfile::AeadAes128Gcm,
+        56,
+    ),
+    (
+        "profile cm\n",
+        CipherName::Toy,
+        SrtpProfile::Aes128CmSha1_80,
+        60,
+    ),
+    (
+        "profile gcm128\n",
+        CipherName::Toy,
+        SrtpProfile::AeadAes128Gcm,
+        56,
+    ),
+    (
+        "profile gcm256\ncipher sha\n",
+        CipherName::Sha,
+        SrtpProfile::AeadAes256Gcm,
+        88,
+    ),
+];
+
 fn syntax(alloc: Global, text: &[u8]) -> Option<ScriptError> {
     read_script(alloc, text).err()
 }
@@ -60,6 +95,19 @@ fn each_line_is_read(rt: HostRuntime) -> Result<(), Fail> {
 }
 
 #[test]
+fn each_cipher_and_profile_is_read(rt: HostRuntime) -> Result<(), Fail> {
+    let alloc = rt.alloc();
+    for (lines, cipher, profile, material) in CIPHERS {
+        let text = format!(in alloc; "str0m-media 1\n{lines}key zero\nbegin\nend\n")?;
+        let (setup, _) = read_script(alloc, text.as_bytes()).ok().ok_or("a script")?;
+        assert_eq!(rt; setup.cipher, cipher, "at {lines}");
+        assert_eq!(rt; setup.profile, profile, "at {lines}");
+        assert_eq!(rt; setup.material(alloc)?.len(), material, "at {lines}");
+    }
+    Ok(())
+}
+
+#[test]
 fn first_line_outside_is_told(rt: HostRuntime) {
     let alloc = rt.alloc();
     for (text, line) in [
@@ -80,8 +128,8 @@ fn first_line_outside_is_told(rt: HostRuntime) {
             "str0m-media 1\nkey zero\nbegin\ntype 96 vp8 90000\nend\n",
             4,
         ),
-        ("str0m-media 1\ncipher sha\n", 2),
-        ("str0m-media 1\nprofile cm\n", 2),
+        ("str0m-media 1\ncipher aes\n", 2),
+        ("str0m-media 1\nprofile gcm192\n", 2),
         ("str0m-media 1\nprofile gcm128\nprofile gcm128\n", 3),
         ("str0m-media 1\ntype 256 vp8 90000\n", 2),
         ("str0m-media 1\ntype 96 vp8 0\n", 2),

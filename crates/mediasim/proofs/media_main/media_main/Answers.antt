@@ -1,5 +1,5 @@
 use Rattle.media_play.specs.Headline.{StepsAreAnswered, SealsAreRight, FirstSendingsAreYielded, NoNonceTwice, SendsWrites, SendsInSome, YieldsWrites, NoPacketTwice}
-use Rattle.mediasim.specs.RunCommand.{toy_sealing}
+use Rattle.mediasim.specs.RunCommand.{script_sealing}
 use Rattle.mediasim.proofs.Whole.{answers_script, plays_all, script_holds, script_plays, always_holds}
 use Rattle.mediasim.proofs.PaceWhole.{answers_calls, plays_all_calls}
 use Rattle.mediasim.proofs.media_main.media_main.Goals as goal
@@ -17,12 +17,12 @@ returns-clause-played g c setup acts told =
 
 pub returns-clause-steps : goal.returns-clause-steps
 returns-clause-steps g c setup acts told =
-    script_holds _ _ setup acts _ _ (StepsAreAnswered (toy_sealing setup) setup) (λ entries h. h.steps)
+    script_holds _ _ setup acts _ _ (StepsAreAnswered (script_sealing setup) setup) (λ entries h. h.steps)
     (answers_script _ _ _ _ _ _ setup acts _ _ c.script_spells_one.ensures c.answer.ensures.answers told)
 
 pub returns-clause-seals : goal.returns-clause-seals
 returns-clause-seals g c setup acts told =
-    script_holds _ _ setup acts _ _ (SealsAreRight (toy_sealing setup) setup) (λ entries h. h.seals)
+    script_holds _ _ setup acts _ _ (SealsAreRight (script_sealing setup) setup) (λ entries h. h.seals)
     (answers_script _ _ _ _ _ _ setup acts _ _ c.script_spells_one.ensures c.answer.ensures.answers told)
 
 pub returns-clause-exactly : goal.returns-clause-exactly

@@ -1,0 +1,39 @@
+use Rattle.std.proofs.Common.{◌≡◌, None, sym, subst}
+use Rattle.std.specs.Prelude.{IfOk, IfErr}
+use Rattle.media_model.specs.declared.setup.CipherName.{CipherName}
+use Rattle.media_play.specs.Headline.{HoldsOfRun}
+use Rattle.media_play.specs.Play.{Played}
+use Rattle.media_play.specs.Running.{HasCause, OfRun}
+use Rattle.media_play.specs.Sessions.{sealing_of}
+use Rattle.media_play.specs.SetupRules.{setup_fault}
+use Rattle.mediasim.specs.RunCommand.{meaning_of}
+use Rattle.mediasim.proofs.Runs.{all_holds}
+use Rattle.mediasim.proofs.run_command.run_steps.Goals as goal
+
+pub returns-in-Toy : goal.returns-in-Toy
+returns-in-Toy c =
+    let setup = c.args.setup.now in
+    let steps = c.args.steps.now in
+    let r = c.media_run.result in
+    let e = c.media_run.ensures in
+    let is = sym c.in-Toy.is in
+    record {
+      played = subst (λ (n : CipherName). IfOk r (λ t. (setup_fault setup ≡ None) × Played (sealing_of (meaning_of n) setup) setup steps t)) is e.played;
+      cause = subst (λ (n : CipherName). IfErr r (λ f. HasCause (sealing_of (meaning_of n) setup) setup steps f.sofar f.cause)) is e.cause;
+      holds = subst (λ (n : CipherName). OfRun r (HoldsOfRun (sealing_of (meaning_of n) setup) setup)) is
+          (all_holds _ setup r e.steps e.seals e.nonces e.sendings e.yields e.once e.exactly);
+    }
+
+pub returns-in-Sha : goal.returns-in-Sha
+returns-in-Sha c =
+    let setup = c.args.setup.now in
+    let steps = c.args.steps.now in
+    let r = c.media_run-in-Sha.result in
+    let e = c.media_run-in-Sha.ensures in
+    let is = sym c.in-Sha.is in
+    record {
+      played = subst (λ (n : CipherName). IfOk r (λ t. (setup_fault setup ≡ None) × Played (sealing_of (meaning_of n) setup) setup steps t)) is e.played;
+      cause = subst (λ (n : CipherName). IfErr r (λ f. HasCause (sealing_of (meaning_of n) setup) setup steps f.sofar f.cause)) is e.cause;
+      holds = subst (λ (n : CipherName). OfRun r (HoldsOfRun (sealing_of (meaning_of n) setup) setup)) is
+          (all_holds _ setup r e.steps e.seals e.nonces e.sendings e.yields e.once e.exactly);
+    }
