@@ -3,6 +3,7 @@ use Rattle.std.proofs.Common.{◌≡◌, ℕ, zero, suc, ◌+◌, ◌<◌, ◌�
 use Rattle.std.proofs.lemmas.List.{take_all}
 use Rattle.std.specs.Prelude.{if◌then◌else◌}
 use Rattle.std.specs.Map.{values_of}
+use Rattle.indexmap.specs.IndexMap.{set_value_at}
 use Rattle.std.specs.Option.{option_map}
 use Rattle.stream_core.specs.declared.packet.RtpPacket.{RtpPacket}
 use Rattle.stream_core.specs.declared.stream_tx.PacketReceipt.{PacketReceipt}
@@ -73,3 +74,9 @@ fewer_wait (e ∷ es) zero now t r p at h =
     let less = shorter e.1.queue some.0 (ap (λ (s : TxRecord). next_of s.queue) same ∙ some.1) in
     omega arith
 fewer_wait (e ∷ es) (suc i) now t r p at h = let less = fewer_wait es i now t r p at h in omega arith
+
+-- a value is written over by itself
+pub set_same : {X : Type 0} (es : List (ℕ × X)) (i : ℕ) (x new : X) → slice_get (values_of es) i ≡ Some x → new ≡ x → set_value_at es i new ≡ es
+set_same [] i x new at same = refl
+set_same (e ∷ es) zero x new at same = let is : new ≡ e.1 = cc in λ j. (e.0, is j) ∷ es
+set_same (e ∷ es) (suc i) x new at same = ap (λ l. e ∷ l) (set_same es i x new at same)

@@ -1,3 +1,4 @@
+pub mod Cuts
 pub mod Dues
 pub mod Polls
 pub mod Staying

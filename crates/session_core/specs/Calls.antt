@@ -10,13 +10,10 @@ use Rattle.srtp_core.specs.declared.profile.SrtpProfile.{SrtpProfile}
 use Rattle.stream_core.specs.Queue.{needs_tick}
 use Rattle.stream_core.specs.RxRecord.{expected}
 use Rattle.session_core.specs.declared.config.SessionConfig.{SessionConfig}
-use Rattle.session_core.specs.declared.error.RtcError.{RtcError}
-use Rattle.session_core.specs.declared.error.RtcError.TheVariants.{Memory}
-use Rattle.session_core.specs.declared.datagram.Datagram.{Datagram}
 use Rattle.session_core.specs.declared.datagram.Event.{Event}
 use Rattle.session_core.specs.declared.datagram.Event.TheVariants.{RtpPacket}
 use Rattle.session_core.specs.SessionRecord.{MediaRecord, SessionState, SessionRecord}
-use Rattle.session_core.specs.Sending.{has_mid, DrainsTo}
+use Rattle.session_core.specs.Sending.{has_mid}
 
 -- the mid of the stream on which probes come: the text 0
 abbrev pub probe_mid : List ℕ
@@ -58,12 +55,6 @@ after_event s = record s { packet = if is_none s.sealing || is_none s.opening th
 
 abbrev pub told : SessionState → List Event
 told s = option_to_list (next_event s)
-
--- what a drain told and sent before it was cut off: nothing, as where it was stopped before; or all that is told and
--- then datagrams, in order
-pub data IsCutOff (cipher : CipherMeaning) (now : ℕ) (s : SessionState) : RtcError → List Event → List Datagram → Type 0 where
-  at_once : (error : RtcError) → IsCutOff cipher now s error [] []
-  between : (after : SessionState) (sent : List Datagram) → DrainsTo cipher now (after_event s) after sent → IsCutOff cipher now s Memory (told s) sent
 
 -- a tick is wanted at once where some packet was written since the last one
 abbrev pub wake_of : SessionState → Option ℕ

@@ -1,4 +1,5 @@
 pub mod Calls
+pub mod Draining
 pub mod LendingStreams
 pub mod Receiving
 pub mod Sending

@@ -1,4 +1,4 @@
-ghost use Rattle.std.specs.Prelude.{◌≡◌, ◌==◌, ◌||◌, ◌<◌, Some, None, length, take, is_none, slice_get, option_and_then, IfOk, IfSome, OnOk};
+ghost use Rattle.std.specs.Prelude.{◌≡◌, ◌==◌, ◌||◌, ◌<◌, Some, None, length, take, is_none, slice_get, option_and_then, IfOk, IfSome, OnOk, OnErr};
 ghost use Rattle.std.specs.Map.{values_of};
 ghost use Rattle.std.specs.Option.{option_map_or};
 ghost use Rattle.stream_core.specs.Tables.{change_place};
@@ -51,7 +51,7 @@ pub fn first_due<W: GapWindow>(streams: &Streams<W>, medias: &[Media], from: usi
     None
 }
 
-/// What the stream at a place gives to be sealed.
+/// What the stream at a place gives to be sealed. Without memory nothing changes.
 pub fn poll_place<W: GapWindow>(
     alloc: Global,
     streams: &mut Streams<W>,
@@ -67,6 +67,7 @@ pub fn poll_place<W: GapWindow>(
     ensures sealable { IfOk result (λ p. IfSome p IsSealable) }
     ensures fewer { IfOk result (λ p. IfSome p (λ r. all_waiting streams.new.tx < all_waiting streams.old.tx)) }
     ensures before { take place streams.new.tx ≡ take place streams.old.tx }
+    ensures err { OnErr result ((streams.new ≡ streams.old) × (transport.new ≡ transport.old)) }
 {
     streams.tx_at(place).poll_packet(alloc, now, transport)
 }

@@ -1,12 +1,13 @@
-ghost use Rattle.std.specs.Prelude.{◌≡◌, ◌≢◌, ◌↔◌, ◌||◌, ◌<◌, ◌++◌, ◌∷◌, ℕ, [], None, Some, true, false, not, length, is_some, is_err, vec_capacity, IsTrue, IfOk, IfErr, IfSome, IfNone, OnOk, OnErr, IsErrOf};
+ghost use Rattle.std.specs.Prelude.{◌≡◌, ◌≢◌, ◌↔◌, ◌||◌, ◌<◌, ◌++◌, ◌∷◌, ℕ, [], None, Some, true, false, not, length, is_some, is_err, vec_capacity, IsTrue, IsErrAnd, IfOk, IfErr, IfSome, IfNone, OnOk, OnErr, IsErrOf};
 ghost use Rattle.std.specs.Option.{option_copied};
 ghost use Rattle.srtp_core.specs.Contexts.{new_state};
 ghost use Rattle.srtp_core.specs.Keys.{material_len};
 ghost use Rattle.session_core.specs.Sending.{next_datagram, after_datagram, after_timeout, all_waiting, DrainsTo, Drains};
+ghost use Rattle.session_core.specs.Draining.{IsPollLeft, PollFails, IsCutOff};
 ghost use Rattle.session_core.specs.SessionRecord.{SessionRecord, SessionState, StandsFor};
 ghost use Rattle.rtp_wire.specs.Header.{header_of};
 ghost use Rattle.session_core.specs.Receiving.{Receives, is_claimed};
-ghost use Rattle.session_core.specs.Calls.{fresh_session, probe_mid, after_event, next_event, told, wake_of, IsCutOff, media_of, has_media, has_other_mid, has_other_place};
+ghost use Rattle.session_core.specs.Calls.{fresh_session, probe_mid, after_event, next_event, told, wake_of, media_of, has_media, has_other_mid, has_other_place};
 
 use crate::config::{PayloadTypes, SessionConfig};
 use crate::datagram::{Datagram, DrainFault, Drained, Event, Opened};
@@ -250,6 +251,8 @@ impl<C: SrtpCipher, W: GapWindow> Session<C, W> {
         ensures unchanged { IsErrOf result Stopped → self.new ≡ self.old }
         ensures fewer { IfOk result (λ d. IfSome d (λ s. all_waiting self.new.state.tx < all_waiting self.old.state.tx)) }
         ensures memory { self.old.state.stopped ≡ false → IfErr result (λ e. e ≡ Memory) }
+        ensures failed { IsErrOf result Memory → PollFails now self.old.state self.new.state }
+        ensures others { self.new ≡ record self.old { state = self.new.state } }
     {
         if self.stopped {
             return Err(RtcError::Stopped);
@@ -268,6 +271,8 @@ impl<C: SrtpCipher, W: GapWindow> Session<C, W> {
         ensures after { OnOk result (self.new ≡ record self.old { state = after_datagram now self.old.state }) }
         ensures runs { self.new.state.stopped ≡ self.old.state.stopped }
         ensures fewer { IfOk result (λ d. IfSome d (λ s. all_waiting self.new.state.tx < all_waiting self.old.state.tx)) }
+        ensures failed { OnErr result (IsPollLeft now self.old.state self.new.state) }
+        ensures others { self.new ≡ record self.old { state = self.new.state } }
     {
         if is_silent(now, &self.sealing) {
             return Ok(None);
@@ -311,8 +316,9 @@ impl<C: SrtpCipher, W: GapWindow> Session<C, W> {
         requires runs { self.old.state.stopped ≡ false }
         requires none { sofar.old.items ≡ [] }
         ensures drained { OnOk result (Drains C.meaning now self.old.state self.new.state sofar.new.items) }
-        ensures others { OnOk result (self.new ≡ record self.old { state = self.new.state }) }
-        ensures sofar { OnErr result ((after : SessionState) × DrainsTo C.meaning now self.old.state after sofar.new.items) }
+        ensures others { self.new ≡ record self.old { state = self.new.state } }
+        ensures sofar { OnErr result ((between : SessionState)
+            × DrainsTo C.meaning now self.old.state between sofar.new.items × PollFails now between self.new.state) }
         ensures latch { self.new.state.stopped ≡ is_err result }
         ensures memory { IfErr result (λ e. e ≡ Memory) }
     {
@@ -428,14 +434,16 @@ impl<C: SrtpCipher, W: GapWindow> Session<C, W> {
     /// # Errors
     /// `Stopped` where an earlier call met want of memory; `Memory`, with what was taken before.
     pub fn drain(&mut self, now: Instant) -> Result<Drained, DrainFault>
-        ensures stopped { IfErr result (λ fault. fault.error ≡ Stopped ↔ IsTrue self.old.state.stopped) }
+        ensures stopped { IsTrue self.old.state.stopped → IsErrAnd result (λ fault. (fault.error ≡ Stopped)
+            × (fault.sofar.events.items ≡ []) × (fault.sofar.datagrams.items ≡ [])) }
+        ensures still { IsTrue self.old.state.stopped → self.new ≡ self.old }
         ensures latch { self.new.state.stopped ≡ self.old.state.stopped || is_err result }
         ensures events { IfOk result (λ all. all.events.items ≡ told self.old.state) }
         ensures datagrams { IfOk result (λ all. Drains C.meaning now (after_event self.old.state) self.new.state all.datagrams.items) }
-        ensures others { OnOk result (self.new ≡ record self.old { state = self.new.state }) }
+        ensures others { self.new ≡ record self.old { state = self.new.state } }
         ensures wake { IfOk result (λ all. all.wake ≡ wake_of self.new.state) }
-        ensures sofar { IfErr result (λ fault.
-            IsCutOff C.meaning now self.old.state fault.error fault.sofar.events.items fault.sofar.datagrams.items) }
+        ensures sofar { self.old.state.stopped ≡ false → IfErr result (λ fault. (fault.error ≡ Memory)
+            × IsCutOff C.meaning now self.old.state self.new.state fault.sofar.events.items fault.sofar.datagrams.items) }
         ensures no_wake { IfErr result (λ fault. fault.sofar.wake ≡ None) }
     {
         let mut datagrams = Vec::new(self.alloc);

@@ -7,8 +7,9 @@ use Rattle.indexmap.specs.IndexMap.{set_value_at}
 use Rattle.stream_core.specs.declared.stream_tx.PacketReceipt.{PacketReceipt}
 use Rattle.stream_core.specs.declared.transport.Transport.{Transport}
 use Rattle.stream_core.specs.TxRecord.{TxRecord, polled, after_poll}
+use Rattle.std.proofs.lemmas.Result.{on_err_weaker}
 use Rattle.session_core.specs.Sending.{all_waiting}
-use Rattle.session_core.proofs.Dues.{fewer_wait}
+use Rattle.session_core.proofs.Dues.{fewer_wait, set_same}
 use Rattle.session_core.proofs.Tables.{set_change, take_set}
 use Rattle.session_core.proofs.sending.poll_place.Goals as goal
 
@@ -37,3 +38,10 @@ returns-clause-fewer g c =
 
 pub returns-clause-before : goal.returns-clause-before
 returns-clause-before g c = take_set c.args.streams.now.tx c.args.place c.poll_packet.new.self
+
+pub returns-clause-err : goal.returns-clause-err
+returns-clause-err g c =
+    on_err_weaker c.poll_packet.result
+    (λ (h : (c.poll_packet.new.self ≡ c.tx_at.result.now) × (c.poll_packet.new.transport ≡ c.args.transport.now)).
+    (ap (λ l. record { rx = c.args.streams.now.rx; tx = l }) (set_same c.args.streams.now.tx c.args.place c.tx_at.result.now c.poll_packet.new.self c.tx_at.ensures.value h.0), h.1))
+    c.poll_packet.ensures.err

@@ -3,6 +3,8 @@ use Rattle.std.specs.Prelude.{◌||◌, List}
 use Rattle.session_core.specs.declared.datagram.Datagram.{Datagram}
 use Rattle.session_core.specs.SessionRecord.{SessionState, SessionView}
 use Rattle.session_core.specs.Sending.{next_datagram, after_datagram, DrainsTo, start, more}
+use Rattle.session_core.specs.Draining.{kept}
+use Rattle.session_core.proofs.Cuts.{stopped_left}
 use Rattle.session_core.proofs.Others.{others_more, quiet}
 use Rattle.session_core.proofs.session.Session.drain_datagrams.Goals as goal
 
@@ -42,3 +44,11 @@ returns-in-Ok-None-clause-drained g c =
           (subst (λ (l : List Datagram). DrainsTo K now c.args.self.now.state s l) (sym c.reserve.ensures.items) c.loop-now.invariant.drained);
       ended = ap (next_datagram K now) same ∙ none;
     }
+
+pub returns-then-is_err-clause-sofar : goal.returns-then-is_err-clause-sofar
+returns-then-is_err-clause-sofar g c =
+    let s = c.loop-now.self.state in (
+      s,
+      subst (λ (l : List Datagram). DrainsTo g.C.SrtpCipher.meaning c.args.now c.args.self.now.state s l) (sym c.reserve.ensures.items) c.loop-now.invariant.drained,
+      stopped_left c.args.now s _ s (ap (λ (v : SessionView g.row.W.Denot). v.state) c.self.view_is) kept,
+    )

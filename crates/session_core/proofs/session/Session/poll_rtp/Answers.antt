@@ -2,10 +2,12 @@ use Rattle.std.proofs.Common.{◌≡◌, false, Some, Ok, Err, slice_get, sym, a
 use Rattle.std.specs.Prelude.{◌==◌, ◌||◌, is_none, Option, Result, IfOk, option_and_then}
 use Rattle.std.specs.Map.{values_of}
 use Rattle.std.specs.declared.alloc.AllocError.{AllocError}
+use Rattle.stream_core.specs.StreamsRecord.{StreamsView}
 use Rattle.stream_core.specs.TxRecord.{polled}
 use Rattle.session_core.specs.declared.datagram.Datagram.{Datagram}
 use Rattle.session_core.specs.SessionRecord.{SessionState, SessionView}
-use Rattle.session_core.specs.Sending.{first_due, sealed_by, next_datagram}
+use Rattle.session_core.specs.Sending.{first_due, next_place, sealed_by, next_datagram}
+use Rattle.session_core.proofs.Cuts.{on_err, kept_state, lost_state}
 use Rattle.session_core.proofs.Polls.{first_else, given_at}
 use Rattle.session_core.proofs.session.Session.poll_rtp.Goals as goal
 
@@ -28,3 +30,23 @@ returns-clause-polled g c =
     given_as c.seal.result (sealed_by K c.self.inside.sealing (Some c.in-Some-polled.receipt)) (next_datagram K now s)
     (ap (λ (t : SessionState). sealed_by K t.sealing (Some c.in-Some-polled.receipt)) mine ∙ ap (sealed_by K s.sealing) receipt ∙ given_at now s K i (first_else now s (Some i) silent first))
     c.seal.ensures.sealed
+
+pub returns-in_err-polled-clause-failed : goal.returns-in_err-polled-clause-failed
+returns-in_err-polled-clause-failed g c =
+    let mine = ap (λ (v : SessionView g.row.W.Denot). v.state) c.self.view_is in
+    on_err c.from_residual.result _
+    (kept_state c.args.now _ c.args.self.now.state c.poll_place.new.streams.tx c.poll_place.new.transport mine
+    (ap (λ (v : StreamsView g.row.W.Denot). v.tx) c.in_err-polled.ensures.err.0) c.in_err-polled.ensures.err.1)
+
+pub returns-clause-failed : goal.returns-clause-failed
+returns-clause-failed g c =
+    let now = c.args.now in
+    let s = c.args.self.now.state in
+    let i = c.in-Some.place in
+    let mine = ap (λ (v : SessionView g.row.W.Denot). v.state) c.self.view_is in
+    let silent : (now == 0 || is_none s.sealing) ≡ false = ap (λ (t : SessionState). now == 0 || is_none t.sealing) (sym mine) ∙ sym c.is_silent.ensures ∙ c.if-is_silent.false in
+    let first : first_due s.medias s.tx ≡ Some i =
+    ap (λ (t : SessionState). first_due t.medias t.tx) (sym mine) ∙ ap (λ m. first_due m c.self.inside.streams.tx) (sym c.as_slice-medias.ensures.value) ∙ sym c.first_due.ensures.place ∙ c.in-Some.is in
+    on_err c.seal.result _
+    (lost_state now _ s i c.seal.new.sealing c.poll_place.new.streams.tx c.poll_place.new.transport mine (first_else now s (Some i) silent first) c.seal.ensures.same
+    (ap (λ (v : StreamsView g.row.W.Denot). v.tx) c.in_ok-polled.ensures.after) c.in_ok-polled.ensures.counted)
