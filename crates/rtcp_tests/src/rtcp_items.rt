@@ -93,7 +93,7 @@ fn both_ways(rt: &impl Abort, alloc: Global, bytes: &[u8], item: Rtcp) -> Result
 #[test]
 #[tactic(auto, unfolding(rtcp_wire::specs::Reports::sender_report_body, rtcp_wire::specs::Reports::sender_info_text, rtcp_wire::specs::Rows::report_text))]
 fn sender_report(rt: HostRuntime) -> Result<(), Fail> {
-    let mut reports = ReportList::new();
+    let mut reports = Listed::new(rt.alloc());
     reports.push(ReceptionReport {
         ssrc: Ssrc::from(8),
         fraction_lost: 5,
@@ -102,7 +102,7 @@ fn sender_report(rt: HostRuntime) -> Result<(), Fail> {
         jitter: 3,
         last_sr_time: 4,
         last_sr_delay: 6,
-    });
+    })?;
     let item = Rtcp::SenderReport(SenderReport {
         sender_info: SenderInfo {
             ssrc: Ssrc::from(7),
@@ -121,7 +121,7 @@ fn sender_report(rt: HostRuntime) -> Result<(), Fail> {
 fn receiver_report_and_goodbye(rt: HostRuntime) -> Result<(), Fail> {
     let item = Rtcp::ReceiverReport(ReceiverReport {
         sender_ssrc: Ssrc::from(1),
-        reports: ReportList::new(),
+        reports: Listed::new(rt.alloc()),
     });
     both_ways(&rt, rt.alloc(), &EMPTY_REPORT, item)?;
     let mut reports = ReportList::new();
@@ -215,7 +215,7 @@ fn written_between(rt: &impl Abort, alloc: Global, item: Rtcp, bytes: &[u8]) -> 
     let mut items = VecDeque::new(alloc);
     items.push_back(Rtcp::ReceiverReport(ReceiverReport {
         sender_ssrc: Ssrc::from(1),
-        reports: ReportList::new(),
+        reports: Listed::new(alloc),
     }))?;
     items.push_back(item)?;
     let mut reports = ReportList::new();

@@ -1,5 +1,5 @@
 -- What the definitions of reading and writing owe each other.
-use Rattle.std.specs.Prelude.{◌≡◌, ℕ, ℤ, pos, negsuc, ◌*◌, min, map, take, ◌%◌, ◌^◌, ◌<◌, ◌≤◌, List, ◌++◌, length, Some, false}
+use Rattle.std.specs.Prelude.{◌≡◌, ℕ, ◌*◌, min, map, take, ◌%◌, ◌^◌, ◌<◌, ◌≤◌, List, ◌++◌, length, Some, false}
 use Rattle.std.specs.List.{flat_map, AllByRecursion}
 use Rattle.rtcp_wire.specs.declared.packet.Rtcp.{Rtcp}
 use Rattle.rtcp_wire.specs.declared.packet.Rtcp.TheVariants.{SenderReport, ReceiverReport, SourceDescription, Goodbye, ExtendedReport, Nack, Pli, Fir, Twcc, Remb, AppSpecificFeedback}

@@ -114,8 +114,12 @@ impl Rtcp {
     {
         let (count, body) = (frame.count, frame.body);
         match frame.kind {
-            200 => Ok(item_or_short(read_sender_report(count, body).map(Rtcp::SenderReport))),
-            201 => Ok(item_or_short(read_receiver_report(count, body).map(Rtcp::ReceiverReport))),
+            200 => Ok(item_or_short(read_sender_report(alloc, count, body)?.map(
+                Rtcp::SenderReport,
+            ))),
+            201 => Ok(item_or_short(read_receiver_report(alloc, count, body)?.map(
+                Rtcp::ReceiverReport,
+            ))),
             202 => Ok(item_or_short(read_descriptions(alloc, count, body)?.map(
                 Rtcp::SourceDescription,
             ))),
@@ -244,8 +248,8 @@ impl Rtcp {
         ensures { result ≡ count_of self.now }
     {
         match self {
-            Rtcp::SenderReport(report) => report.reports.len() as u8,
-            Rtcp::ReceiverReport(report) => report.reports.len() as u8,
+            Rtcp::SenderReport(report) => report.reports.as_slice().len() as u8,
+            Rtcp::ReceiverReport(report) => report.reports.as_slice().len() as u8,
             Rtcp::SourceDescription(described) => described.reports.as_slice().len() as u8,
             Rtcp::Goodbye(goodbye) => goodbye.reports.len() as u8,
             Rtcp::ExtendedReport(_) => 0,

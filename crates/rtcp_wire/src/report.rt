@@ -1,13 +1,14 @@
 //! Reports on what was sent and received (RFC 3550 section 6.4).
-ghost use Rattle.std.specs.Prelude.{◌≡◌, ◌<◌, ◌≤◌, length};
+ghost use Rattle.std.specs.Prelude.{◌≡◌, ◌<◌, ◌≤◌, length, IfOk};
 ghost use Rattle.rtp_base.specs.Fields.{signed24};
 ghost use Rattle.rtcp_wire.specs.Wire.{Puts};
 ghost use Rattle.rtcp_wire.specs.Reports.{receiver_report_of, receiver_report_body, sender_info_at, sender_info_text, sender_report_of, sender_report_body};
 
-use crate::row::{Put, Row, read_rows, write_rows};
+use crate::row::{Put, Row, read_many, write_rows};
 use crate::wire::{double, put, word};
-use media_base::{SystemTime, SystemTimeExt};
-use rtp_base::{ReceptionReport, ReportList, Ssrc};
+use media_base::{Listed, SystemTime, SystemTimeExt};
+use rtp_base::{ReceptionReport, Ssrc};
+use std::alloc::{AllocError, Global};
 
 impl Row for ReceptionReport {
     ghost use Rattle.rtcp_wire.specs.Rows.{report_at, report_text};
@@ -73,24 +74,27 @@ fn signed(bits: u32) -> i32
 pub struct ReceiverReport {
     /// Who sends the report.
     pub sender_ssrc: Ssrc,
-    /// How each other source is received.
-    pub reports: ReportList<ReceptionReport>,
+    /// How each other source is received; at most 31 have room.
+    pub reports: Listed<ReceptionReport>,
 }
 
 #[tactic(auto, unfolding(crate::specs::Reports::receiver_report_of))]
-pub(crate) fn read_receiver_report(count: u8, body: &[u8]) -> Option<ReceiverReport>
-    requires { count ≤ 31 }
-    ensures { result ≡ receiver_report_of count body.now }
+pub(crate) fn read_receiver_report(
+    alloc: Global,
+    count: u8,
+    body: &[u8],
+) -> Result<Option<ReceiverReport>, AllocError>
+    ensures { IfOk result (λ r. r ≡ receiver_report_of count body.now) }
 {
     let count = usize::from(count);
     if body.len() < 4 + count * 24 {
-        return None;
+        return Ok(None);
     }
     let (_, rows) = body.split_at(4);
-    Some(ReceiverReport {
+    Ok(Some(ReceiverReport {
         sender_ssrc: word(body, 0).into(),
-        reports: read_rows(rows, count),
-    })
+        reports: read_many(alloc, rows, count)?,
+    }))
 }
 
 #[tactic(auto, unfolding(crate::specs::Reports::receiver_report_body))]
@@ -121,8 +125,8 @@ pub struct SenderInfo {
 pub struct SenderReport {
     /// What it sent.
     pub sender_info: SenderInfo,
-    /// How each other source is received.
-    pub reports: ReportList<ReceptionReport>,
+    /// How each other source is received; at most 31 have room.
+    pub reports: Listed<ReceptionReport>,
 }
 
 #[tactic(auto, unfolding(crate::specs::Reports::sender_info_at))]
@@ -154,19 +158,22 @@ fn write_sender_info(info: &SenderInfo, out: &mut [u8]) -> Option<usize>
 }
 
 #[tactic(auto, unfolding(crate::specs::Reports::sender_report_of))]
-pub(crate) fn read_sender_report(count: u8, body: &[u8]) -> Option<SenderReport>
-    requires { count ≤ 31 }
-    ensures { result ≡ sender_report_of count body.now }
+pub(crate) fn read_sender_report(
+    alloc: Global,
+    count: u8,
+    body: &[u8],
+) -> Result<Option<SenderReport>, AllocError>
+    ensures { IfOk result (λ r. r ≡ sender_report_of count body.now) }
 {
     let count = usize::from(count);
     if body.len() < 24 + count * 24 {
-        return None;
+        return Ok(None);
     }
     let (_, rows) = body.split_at(24);
-    Some(SenderReport {
+    Ok(Some(SenderReport {
         sender_info: read_sender_info(body),
-        reports: read_rows(rows, count),
-    })
+        reports: read_many(alloc, rows, count)?,
+    }))
 }
 
 #[tactic(auto, unfolding(crate::specs::Reports::sender_report_body))]

@@ -59,19 +59,19 @@ pub fn read_rows<T: Row + Default>(bytes: &[u8], count: usize) -> ReportList<T>
     rows
 }
 
-// The first rows of some bytes, on the heap.
+// The first rows of some bytes, in just the memory that they need.
 pub fn read_many<T: Row>(alloc: Global, bytes: &[u8], count: usize) -> Result<Listed<T>, AllocError>
     requires { count * T.size ≤ length bytes.now }
     ensures { IfOk result (λ rows. rows ≡ rows_of T.row_of T.size count bytes.now) }
 {
-    let mut rows = Listed::new(alloc);
+    let mut rows = Vec::with_capacity(alloc, count)?;
     let mut rest = bytes;
     for _ in 0..count {
         rows.push(T::read(rest))?;
         let (_, after) = rest.split_at(T::size());
         rest = after;
     }
-    Ok(rows)
+    Ok(Listed::from_vec(rows))
 }
 
 // Puts values one after another, or says that there is no room for them.

@@ -5,5 +5,5 @@ use Rattle.rtcp_wire.proofs.row.read_many.Given as goal
 abbrev pub invariant-loop : goal.invariant-loop
 invariant-loop g l = record {
   long : (l.count - l.counter) * g.T.Row.size ≤ length l.rest;
-  so_far : l.rows ++ rows_of g.T.Row.row_of g.T.Row.size (l.count - l.counter) l.rest ≡ rows_of g.T.Row.row_of g.T.Row.size l.count l.bytes;
+  so_far : l.rows.items ++ rows_of g.T.Row.row_of g.T.Row.size (l.count - l.counter) l.rest ≡ rows_of g.T.Row.row_of g.T.Row.size l.count l.bytes;
 }
