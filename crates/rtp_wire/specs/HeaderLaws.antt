@@ -1,5 +1,5 @@
 -- A header is read off its own bytes, and what is written is read again.
-use Rattle.std.proofs.Common.{◌≡◌, ℕ, zero, suc, ◌+◌, ◌-◌, ◌*◌, ◌/◌, ◌%◌, ◌<◌, ◌≤◌, ◌^◌, Bool, true, false, cond, List, [], ◌∷◌, ◌++◌, length, take, drop, get_or, replicate, refl, sym, ap, ◌∙◌, append_assoc, arith, length-append}
+use Rattle.std.proofs.Common.{◌≡◌, ℕ, zero, suc, ◌+◌, ◌-◌, ◌*◌, ◌/◌, ◌%◌, ◌<◌, ◌≤◌, ◌^◌, Bool, true, false, cond, List, [], ◌∷◌, ◌++◌, length, take, drop, get_or, replicate, refl, sym, ap, ◌∙◌, append_assoc, arith, length-append, length-take}
 use Rattle.std.specs.Prelude.{Some, None, nat_lt, ◌==◌, if◌then◌else◌}
 use Rattle.std.specs.List.{flat_map}
 use Rattle.std.specs.Int.{w16, w32, from_be_bytes, to_be_bytes}
@@ -415,3 +415,22 @@ pub has_fixed_bytes : HasFixedBytes
 unfolding header_bytes
 has_fixed_bytes exts h =
     omega (arith, length-append (flat_map (to_be_bytes w32) (csrc_of h)) (extension_bytes exts h.ext_vals))
+
+-- Each header of at most 15 sources has at most 160 bytes.
+abbrev pub HasFewBytes : Type 0
+HasFewBytes = (exts : ExtensionMap) (h : RtpHeader) → h.csrc_count ≤ 15 → length (header_bytes exts h) ≤ 160
+
+data_fits : (bytes : List ℕ) → length bytes ≤ 75 → length (with_data bytes) ≤ 80
+data_fits [] few = omega arith
+data_fits (b ∷ bytes) few =
+    let n : ℕ = words_for (length (b ∷ bytes)) in
+    let more : ℕ = 4 * n - length (b ∷ bytes) in
+    omega (arith, few, length-append (b ∷ bytes) (replicate more 0), length-replicate {A = ℕ} more 0)
+
+pub has_few_bytes : HasFewBytes
+unfolding header_bytes extension_bytes
+has_few_bytes exts h few =
+    let sources = csrc_of h in
+    let extension = extension_bytes exts h.ext_vals in
+    let fits : length extension ≤ 80 = data_fits (written_data exts h.ext_vals) (data_bound exts h.ext_vals) in
+    omega (arith, few, fits, length-append (flat_map (to_be_bytes w32) sources) extension, length-flat_words sources, length-take h.csrc_count h.csrc)

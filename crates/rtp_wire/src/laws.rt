@@ -1,4 +1,4 @@
-ghost use Rattle.rtp_wire.specs.HeaderLaws.{ReadsOwnBytes, WrittenIsReadAgain, PlainIsReadAgain, PlainIsAsLong, HasFixedBytes};
+ghost use Rattle.rtp_wire.specs.HeaderLaws.{ReadsOwnBytes, WrittenIsReadAgain, PlainIsReadAgain, PlainIsAsLong, HasFixedBytes, HasFewBytes};
 
 /// The header at the front of some bytes is read off its own bytes alone.
 pub fn header_reads_own_bytes()
@@ -16,8 +16,10 @@ pub fn plain_header_is_read_again()
     ensures { PlainIsReadAgain }
 {}
 
-/// A header without values has twelve bytes and four for each source, and each header at least twelve.
+/// A header without values has twelve bytes and four for each source; each header has at least twelve
+/// bytes, and at most 160 where it has at most 15 sources.
 pub fn headers_are_as_long()
     ensures plain { PlainIsAsLong }
     ensures fixed { HasFixedBytes }
+    ensures few { HasFewBytes }
 {}

@@ -539,6 +539,13 @@ impl<C: SrtpCipher, W: GapWindow> Session<C, W> {
         self.medias.as_slice()
     }
 
+    /// The payload types that both ends know.
+    pub fn payload_types(&self) -> &PayloadTypes
+        ensures { result.now ≡ self.now.state.types }
+    {
+        &self.types
+    }
+
     /// Whether some media section, or the data channel, has this mid.
     pub fn has_mid(&self, mid: Mid) -> bool
         ensures { result ≡ has_media mid self.now.state }
