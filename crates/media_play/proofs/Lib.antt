@@ -1,5 +1,6 @@
 pub mod Places
 pub mod Lists
+pub mod Keys
 pub mod Genuineness
 pub mod Readings
 pub mod Appends
@@ -11,10 +12,15 @@ pub mod Sendings
 pub mod Fronts
 pub mod Steps
 pub mod Wire
+pub mod Draining
 pub mod Receiving
+pub mod Takes
+pub mod Arrivals
 pub mod Knowings
 pub mod OthersReceive
 pub mod Others
 pub mod Soundness
+pub mod StartingLists
+pub mod StartingSteps
 pub mod Playing
 pub mod Ticks
