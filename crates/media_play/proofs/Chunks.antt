@@ -69,7 +69,7 @@ EachStep-played P p q r start = tt
 EachStep-played {seal} {setup} P p q r (turn {steps} {entries} h step new e o) = go (EachStep-played P p q r h) o
   where
     go : EachStep P entries → {step : Step} {new : List Entry} → Outcome seal setup entries step new → EachStep P (entries ++ new)
-    go each (wrote side time w a b) = EachStep-more P entries (Wrote side time w) [] each refl tt (p entries side time w)
+    go each (wrote side time w a b c) = EachStep-more P entries (Wrote side time w) [] each refl tt (p entries side time w)
     go each (ticked side time sealed all) = EachStep-more P entries (Ticked side time) sealed each refl (seals_only all) (q entries side time sealed all)
     go each (got came chunk at received) = EachStep-more P entries (Got came) chunk each refl (received_only received) (r steps entries h came chunk received)
 

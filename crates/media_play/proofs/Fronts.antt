@@ -115,7 +115,7 @@ module _ {seal : Sealing} {setup : Setup} (wire : WireLaws seal setup) where
 
   front_owed : {entries : List Entry} {step : Step} {new : List Entry} → Stands seal setup entries → Outcome seal setup entries step new → (front rest : List Entry) → front ++ rest ≡ new
       → EachFrom HasSeal entries front → EachFrom IsOwedTo entries front
-  front_owed {entries} h (wrote side time w a b) front rest e genuine =
+  front_owed {entries} h (wrote side time w a b c) front rest e genuine =
       front_owes_nothing entries front rest (Wrote side time w ∷ []) e (λ s p i. elim i [ inl is ↦ absurd (cc is) | inr other ↦ other ])
   front_owed {entries} h (ticked side time sealed all) front rest e genuine =
       front_owes_nothing entries front rest (Ticked side time ∷ sealed) e (λ s p i. elim i [ inl is ↦ absurd (cc is) | inr j ↦ seals_yield_none all s p j ])

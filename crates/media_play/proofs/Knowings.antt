@@ -25,7 +25,7 @@ use Rattle.media_model.specs.declared.setup.Setup.{Setup}
 use Rattle.media_model.specs.Entries.{writes_on, queued}
 use Rattle.media_model.specs.Setup.{streams_of, types_of}
 use Rattle.media_model.specs.Sides.{same_side, peer_of}
-use Rattle.media_play.specs.declared.fault.StepFault.TheVariants.{UnknownStream, UnknownType, NumberTooBig, NumberUsed, PayloadTooLong}
+use Rattle.media_play.specs.declared.fault.StepFault.TheVariants.{UnknownStream, UnknownType, NumberTooBig, NumberUsed, PayloadTooLong, TooManySources}
 use Rattle.media_play.specs.declared.numbers.Numbers.{Numbers}
 use Rattle.media_play.specs.Knowing.{SendsAs, TakesAs, Knows, UsedAs, AreUsed, has_number, has_written, IsNoted}
 use Rattle.media_play.specs.Listing.{IsIn, NoRepeat}
@@ -68,8 +68,15 @@ rule_long setup entries side w stream type number used long = rw (stream, type, 
 
 pub rule_none : (setup : Setup) (entries : List Entry) (side : Side) (w : Writing) → has (streams_of side setup) w.ssrc ≡ true → has (types_of setup) w.pt ≡ true
     → leb (2 ^ 48) w.number ≡ false → list_any (λ u. u.number == w.number) (writes_on side w.ssrc entries) ≡ false → ltb 1400 (length w.payload) ≡ false
+    → ltb 15 (length w.csrc) ≡ false
     → write_fault setup entries side w ≡ None
-rule_none setup entries side w stream type number used long = rw (stream, type, number, used, long) refl
+rule_none setup entries side w stream type number used long many = rw (stream, type, number, used, long, many) refl
+
+pub rule_sources : (setup : Setup) (entries : List Entry) (side : Side) (w : Writing) → has (streams_of side setup) w.ssrc ≡ true → has (types_of setup) w.pt ≡ true
+    → leb (2 ^ 48) w.number ≡ false → list_any (λ u. u.number == w.number) (writes_on side w.ssrc entries) ≡ false → ltb 1400 (length w.payload) ≡ false
+    → ltb 15 (length w.csrc) ≡ true
+    → write_fault setup entries side w ≡ Some TooManySources
+rule_sources setup entries side w stream type number used long many = rw (stream, type, number, used, long, many) refl
 
 pub unused : (setup : Setup) (entries : List Entry) (side : Side) (w : Writing) → write_fault setup entries side w ≡ None
     → list_any (λ u. u.number == w.number) (writes_on side w.ssrc entries) ≡ false
@@ -77,7 +84,7 @@ unused setup entries side w e =
     let e1 = cond_none (not (has (streams_of side setup) w.ssrc)) UnknownStream _ e in
     let e2 = cond_none (not (has (types_of setup) w.pt)) UnknownType _ e1.1 in
     let e3 = cond_none (leb (2 ^ 48) w.number) NumberTooBig _ e2.1 in
-    let e4 = cond_none (list_any (λ u. u.number == w.number) (writes_on side w.ssrc entries)) NumberUsed (cond (ltb 1400 (length w.payload)) (Some PayloadTooLong) None) e3.1 in
+    let e4 = cond_none (list_any (λ u. u.number == w.number) (writes_on side w.ssrc entries)) NumberUsed _ e3.1 in
     e4.0
 
 -- what an end that knows the entries tells of a write

@@ -2,6 +2,7 @@
 use Rattle.std.proofs.Common.{◌≡◌, ℕ, ◌<◌, ◌^◌, false, not, List, [], ◌∷◌, ◌++◌, Option, None, Result, Ok, Err, IfErr, refl, sym, ap, ◌∙◌, subst}
 use Rattle.std.specs.Prelude.{filter}
 use Rattle.std.specs.Result.{IsErrAnd}
+use Rattle.rtp_wire.specs.BytesLaws.{AreWords}
 use Rattle.srtp_core.specs.Cipher.{CipherMeaning}
 use Rattle.media_model.specs.declared.entry.Side.{Side}
 use Rattle.media_model.specs.declared.entry.Side.TheVariants.{A, B}
@@ -54,10 +55,10 @@ handed_on P (Err d) e is h = subst P (sym is) h
 pub running_wrote : (cipher : CipherMeaning) (setup : Setup) (run : RunState) (steps : List Step) (side : Side) (time : ℕ) (w : Writing)
     (a b : EndState) (log : List Entry)
     → IsRunOf cipher setup steps run → log ≡ run.log ++ Wrote side time w ∷ [] → time_fault run.log time ≡ None → write_fault setup run.log side w ≡ None
-    → w.ssrc < 2 ^ 32 → w.rtp_time < 2 ^ 32
+    → w.ssrc < 2 ^ 32 → w.rtp_time < 2 ^ 32 → AreWords w.csrc
     → Ready cipher setup A a (run.log ++ Wrote side time w ∷ []) → Ready cipher setup B b (run.log ++ Wrote side time w ∷ [])
     → PlaysOn cipher setup steps run (Write side time w) (record { a = a; b = b; log = log; latest = time })
-running_wrote cipher setup run steps side time w a b log h is in_time no_fault small_ssrc small_time a_knows b_knows =
+running_wrote cipher setup run steps side time w a b log h is in_time no_fault small_ssrc small_time words a_knows b_knows =
     runs_on cipher setup run steps h (Write side time w) (Wrote side time w ∷ []) a b log time
     (or_else_first (time_fault run.log time) (write_fault setup run.log side w) in_time ∙ no_fault)
-    (wrote side time w small_ssrc small_time) a_knows b_knows (last_time-wrote run.log side time w) is
+    (wrote side time w small_ssrc small_time words) a_knows b_knows (last_time-wrote run.log side time w) is

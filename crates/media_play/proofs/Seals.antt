@@ -42,7 +42,7 @@ Each-played P p q r g start = tt
 Each-played {seal} {setup} P p q r g (turn {steps} {entries} h step new e o) = EachFrom-append P [] entries new (Each-played P p q r g h) (go o)
   where
     go : {step : Step} {new : List Entry} → Outcome seal setup entries step new → EachFrom P entries new
-    go (wrote side time w a b) = (p entries side time w, tt)
+    go (wrote side time w a b c) = (p entries side time w, tt)
     go (ticked side time sealed all) = (q entries side time, r steps entries h side time sealed all)
     go (got came chunk at received) = g steps entries h came chunk received
 

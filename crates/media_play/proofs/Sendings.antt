@@ -53,14 +53,13 @@ packet_of_write : {exts : ExtensionMap} {plain : List ℕ} (w : Writing) (c : Ca
 packet_of_write {exts} {plain} w c =
     let h = c.header in
     let whole : cut h (drop h.header_len plain) ≡ w.payload = ap (λ (b : Bool). cond b (unwrap_or (unpadded (drop h.header_len plain)) (drop h.header_len plain)) (drop h.header_len plain)) c.no_padding ∙ c.payload in
-    let none : take h.csrc_count h.csrc ≡ [] = ap (λ n. take n h.csrc) c.no_sources in
     λ i. record {
       ssrc = c.ssrc i;
       number = w.number;
       pt = c.type i;
       rtp_time = c.time i;
       marker = c.marker i;
-      csrc = none i;
+      csrc = c.sources i;
       payload = whole i;
     }
 
@@ -170,7 +169,7 @@ yields_owed {seal} {setup} wire (turn {steps} {entries} h step new e o) genuine 
     EachFrom-append IsOwedTo [] entries new (yields_owed wire h (EachFrom-left HasSeal [] entries new genuine)) (go o (EachFrom-right HasSeal [] entries new genuine))
   where
     go : {step : Step} {new : List Entry} → Outcome seal setup entries step new → EachFrom HasSeal entries new → EachFrom IsOwedTo entries new
-    go (wrote side time w a b) g = (tt, tt)
+    go (wrote side time w a b c) g = (tt, tt)
     go (ticked side time sealed all) g = (tt, seals_owe_nothing (entries ++ Ticked side time ∷ []) all)
     go (got came chunk at received) g = owed_received wire (stands h) received g
 

@@ -12,11 +12,11 @@ use Rattle.srtp_core.specs.Keys.{material_len}
 use Rattle.media_model.specs.Setup.{material_of, streams_of, streams_in, main_in, types_of}
 use Rattle.media_model.specs.Sides.{same_side}
 use Rattle.media_play.specs.declared.fault.SetupFault.{SetupFault}
-use Rattle.media_play.specs.declared.fault.SetupFault.TheVariants.{KeyLength, TypeTwice, SsrcZero, SsrcTwice}
+use Rattle.media_play.specs.declared.fault.SetupFault.TheVariants.{KeyLength, Times, ExtId, TypeTwice, SsrcZero, SsrcTwice}
 use Rattle.media_play.specs.Listing.{IsIn, NoRepeat}
 use Rattle.media_play.specs.Rules.{has}
 use Rattle.media_play.specs.SetupFacts.{IsSound}
-use Rattle.media_play.specs.SetupRules.{setup_fault, repeats, stream_ssrcs, local_ssrcs, all_streams, both_of}
+use Rattle.media_play.specs.SetupRules.{setup_fault, repeats, any_ext_wrong, stream_ssrcs, local_ssrcs, all_streams, both_of}
 use Rattle.media_play.proofs.Lists.{IsIn-right, tested, any-from_in, in-from_any}
 
 fault_none : (b : Bool) (fault : SetupFault) (other : Option SetupFault) → cond b (Some fault) other ≡ None → (b ≡ false) × (other ≡ None)
@@ -77,7 +77,9 @@ small_types types pt small e =
 pub sound_setup : (setup : Setup) → setup_fault setup ≡ None → IsSound setup
 sound_setup setup e =
     let key = fault_none (not (length (material_of setup) == material_len setup.profile)) KeyLength _ e in
-    let type = fault_none (list_any (nat_lt 127) (types_of setup) || repeats (types_of setup)) TypeTwice _ key.1 in
+    let time = fault_none (nat_lt 2075000000 setup.beginning.unix_secs) Times _ key.1 in
+    let ids = fault_none (any_ext_wrong setup.exts) ExtId _ time.1 in
+    let type = fault_none (list_any (nat_lt 127) (types_of setup) || repeats (types_of setup)) TypeTwice _ ids.1 in
     let zero = fault_none (has (stream_ssrcs setup) 0) SsrcZero _ type.1 in
     let twice = fault_none (repeats (local_ssrcs ++ stream_ssrcs setup)) SsrcTwice _ zero.1 in
     let once = NoRepeat-right local_ssrcs (stream_ssrcs setup) (no_repeats (local_ssrcs ++ stream_ssrcs setup) twice.0) in

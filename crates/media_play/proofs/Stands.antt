@@ -5,6 +5,7 @@ use Rattle.std.specs.List.{list_any}
 use Rattle.std.proofs.lemmas.List.{append-nil, map-append}
 use Rattle.std.proofs.lemmas.List.Concat.{flat_map-append}
 use Rattle.std.proofs.lemmas.Bool.{and_parts, eqb-true, eq-eqb, false≢true, not-false, leb-false, ltb-false}
+use Rattle.rtp_wire.specs.BytesLaws.{AreWords}
 use Rattle.media_model.specs.declared.entry.Side.{Side}
 use Rattle.media_model.specs.declared.entry.Write.{Write as Writing}
 use Rattle.media_model.specs.declared.entry.Got.{Got as GotEntry}
@@ -33,6 +34,8 @@ pub record IsWriting (setup : Setup) (side : Side) (w : Writing) : Type 0 where
   pub payload : length w.payload ≤ 1400
   pub ssrc : w.ssrc < 2 ^ 32
   pub time : w.rtp_time < 2 ^ 32
+  pub few : length w.csrc ≤ 15
+  pub sources : AreWords w.csrc
 
 pub or_else_none : (a b : Option StepFault) → or_else a b ≡ None → (a ≡ None) × (b ≡ None)
 or_else_none (Some fault) b e = absurd cc
@@ -43,16 +46,17 @@ cond_none true fault other e = absurd cc
 cond_none false fault other e = (refl, e)
 
 -- what the rules say of a write, and that its number is not used yet
-pub allowed : (setup : Setup) (entries : List Entry) (side : Side) (time : ℕ) (w : Writing) → w.ssrc < 2 ^ 32 → w.rtp_time < 2 ^ 32
+pub allowed : (setup : Setup) (entries : List Entry) (side : Side) (time : ℕ) (w : Writing) → w.ssrc < 2 ^ 32 → w.rtp_time < 2 ^ 32 → AreWords w.csrc
     → step_fault setup entries (Write side time w) ≡ None
     → IsWriting setup side w × (list_any (λ u. u.number == w.number) (writes_on side w.ssrc entries) ≡ false)
-allowed setup entries side time w small_ssrc small_time e =
+allowed setup entries side time w small_ssrc small_time words e =
     let e0 = (or_else_none (time_fault entries time) (write_fault setup entries side w) e).1 in
     let e1 = cond_none _ _ _ e0 in
     let e2 = cond_none _ _ _ e1.1 in
     let e3 = cond_none _ _ _ e2.1 in
     let e4 = cond_none _ _ _ e3.1 in
-    let e5 = cond_none _ _ _ e4.1 in (
+    let e5 = cond_none _ _ _ e4.1 in
+    let e6 = cond_none _ _ _ e5.1 in (
       record {
         stream = not-false _ e1.0;
         type = not-false _ e2.0;
@@ -60,6 +64,8 @@ allowed setup entries side time w small_ssrc small_time e =
         payload = ltb-false _ _ e5.0;
         ssrc = small_ssrc;
         time = small_time;
+        few = ltb-false _ _ e6.0;
+        sources = words;
       },
       e4.0,
     )
@@ -119,10 +125,10 @@ sealed_by_tick {seal} {setup} entries side sealed h s i =
 more : (seal : Sealing) (setup : Setup) (entries new : List Entry) (s : SealedEntry) → IsOfWrite seal setup entries s → IsOfWrite seal setup (entries ++ new) s
 more seal setup entries new s h = (h.0, stays_write s.side s.ssrc entries new h.0 h.1, h.2)
 
-after_write : (seal : Sealing) (setup : Setup) (entries : List Entry) (side : Side) (time : ℕ) (w : Writing) → w.ssrc < 2 ^ 32 → w.rtp_time < 2 ^ 32
+after_write : (seal : Sealing) (setup : Setup) (entries : List Entry) (side : Side) (time : ℕ) (w : Writing) → w.ssrc < 2 ^ 32 → w.rtp_time < 2 ^ 32 → AreWords w.csrc
     → step_fault setup entries (Write side time w) ≡ None → Stands seal setup entries → Stands seal setup (entries ++ Wrote side time w ∷ [])
-after_write seal setup entries side time w a b e h =
-    let ok = allowed setup entries side time w a b e in
+after_write seal setup entries side time w a b c e h =
+    let ok = allowed setup entries side time w a b c e in
     record {
       fits = λ s r u i.
           elim (IsIn-append u (writes_on s r entries) (cond (same_side s side && (w.ssrc == r)) (w ∷ []) []) (rw (writes_on-wrote s r entries side time w) at i)) [
@@ -176,7 +182,7 @@ after_other seal setup entries new same seals h = record {
 
 after_step : {seal : Sealing} {setup : Setup} {entries : List Entry} {step : Step} {new : List Entry} → Outcome seal setup entries step new → step_fault setup entries step ≡ None
     → Stands seal setup entries → Stands seal setup (entries ++ new)
-after_step {seal} {setup} {entries} (wrote side time w a b) e h = after_write seal setup entries side time w a b e h
+after_step {seal} {setup} {entries} (wrote side time w a b c) e h = after_write seal setup entries side time w a b c e h
 after_step {seal} {setup} {entries} (ticked side time sealed all) e h =
     after_other seal setup entries (Ticked side time ∷ sealed) (λ s r. writes_on-ticked s r entries side time sealed all)
     (λ s j. elim j [ inl is ↦ absurd (cc is) | inr l ↦ sealed_by_tick entries side sealed all s l ]) h

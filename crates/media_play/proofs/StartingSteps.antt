@@ -6,7 +6,6 @@ use Rattle.std.specs.Map.{keys_of}
 use Rattle.std.proofs.lemmas.List.{append-nil}
 use Rattle.std.specs.Cmp.Lexicographic.{pointwise, bytes_decides}
 use Rattle.std.specs.Prelude.{◌==◌}
-use Rattle.rtp_wire.specs.Extensions.{no_extensions}
 use Rattle.mask_register.specs.declared.register.MaskRegister.{MaskRegister}
 use Rattle.mask_register.specs.MaskRegister.{Remembers}
 use Rattle.repair_core.specs.Rounds.{taken as taken_in}
@@ -58,9 +57,8 @@ has_last medias m mid is = any_last (λ (n : MediaRecord). pointwise ◌==◌ n.
 module _ (cipher : CipherMeaning) (setup : Setup) (side : Side) where
   -- with keys
 
-  keyed_begins : (config : SessionConfig) → config.exts ≡ no_extensions → ((pt : ℕ) → is_some (place_of pt config.types) ≡ has (types_of setup) pt)
+  keyed_begins : (config : SessionConfig) → config.exts ≡ extensions_of setup → ((pt : ℕ) → is_some (place_of pt config.types) ≡ has (types_of setup) pt)
       → Begun cipher setup side [] [] (record (fresh_session config) { state = keyed cipher setup.profile (material_of setup) (is_left side) (fresh_session config).state })
-  unfolding extensions_of
   keyed_begins config exts types =
       record {
         seals = refl;
@@ -77,7 +75,7 @@ module _ (cipher : CipherMeaning) (setup : Setup) (side : Side) where
         probes = record { roc = refl; numbers = refl };
       }
 
-  pub starts_keyed : (config : SessionConfig) (v new : SessionView MaskRegister) (material : List ℕ) (left : Bool) → config.exts ≡ no_extensions
+  pub starts_keyed : (config : SessionConfig) (v new : SessionView MaskRegister) (material : List ℕ) (left : Bool) → config.exts ≡ extensions_of setup
       → ((pt : ℕ) → is_some (place_of pt config.types) ≡ has (types_of setup) pt) → material ≡ material_of setup → left ≡ is_left side → StandsFor Remembers v (fresh_session config)
       → new ≡ record v { state = keyed cipher setup.profile material left v.state } → Starts cipher setup side [] [] new
   starts_keyed config v new material left exts types key l h is =

@@ -54,7 +54,7 @@ received_plays_none past (stays none) = refl
 
 one_step : {seal : Sealing} {setup : Setup} {entries : List Entry} {step : Step} {new : List Entry} → Outcome seal setup entries step new → step_fault setup entries step ≡ None
     → PlaysFrom entries (step ∷ []) new
-one_step (wrote side time w a b) e = ([], refl, refl)
+one_step (wrote side time w a b c) e = ([], refl, refl)
 one_step {seal} {setup} {entries} (ticked side time sealed all) e = ([], refl, seals_play_none (entries ++ Ticked side time ∷ []) all)
 one_step {seal} {setup} {entries} (got {step} came chunk at received) e = (step, [], refl, at, received_plays_none (entries ++ Got came ∷ []) received)
 

@@ -84,7 +84,7 @@ module _ (side : Side) (entries : List Entry) (medias : List MediaRecord) (time 
 -- what leaves are seals
 
 fits_header : {setup : Setup} {side : Side} {w : Writing} → IsSound setup → IsWriting setup side w → FitsHeader w
-fits_header {w = w} sound fits = record { ssrc = fits.ssrc; time = fits.time; pt = sound.types w.pt fits.type }
+fits_header {w = w} sound fits = record { ssrc = fits.ssrc; time = fits.time; pt = sound.types w.pt fits.type; few = fits.few; sources = fits.sources }
 
 module _ (cipher : CipherMeaning) (setup : Setup) (side : Side) (again : WrittenIsReadAgain) (time : ℕ) where
   abbrev keyed : SrtpState

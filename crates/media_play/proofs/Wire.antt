@@ -1,11 +1,11 @@
 -- What headers and seals give to the laws of a run, and that a write's packet is carried as it is sealed.
-use Rattle.std.proofs.Common.{◌≡◌, ℕ, zero, suc, ◌+◌, ◌≤◌, List, [], ◌++◌, length, take, drop, replicate, Some, refl, sym, ap, ◌∙◌, subst, arith}
-use Rattle.std.proofs.lemmas.List.{length-append, drop_at}
+use Rattle.std.proofs.Common.{◌≡◌, ℕ, zero, suc, ◌+◌, ◌-◌, ◌≤◌, List, [], ◌∷◌, ◌++◌, length, take, drop, replicate, Some, refl, sym, ap, ◌∙◌, subst, arith}
+use Rattle.std.proofs.lemmas.List.{length-append, length-replicate, take_at, drop_at}
 use Rattle.rtp_wire.specs.declared.extension.ExtensionMap.{ExtensionMap}
 use Rattle.rtp_wire.specs.declared.header.RtpHeader.{RtpHeader}
 use Rattle.rtp_wire.specs.declared.values.ExtensionValues.{ExtensionValues}
 use Rattle.rtp_wire.specs.BytesLaws.{AreWords}
-use Rattle.rtp_wire.specs.Header.{header_bytes, wire_form}
+use Rattle.rtp_wire.specs.Header.{csrc_of, header_bytes, wire_form}
 use Rattle.rtp_wire.specs.HeaderLaws.{ReadsOwnBytes, WrittenIsReadAgain, HasFewBytes, IsHeader}
 use Rattle.srtp_core.specs.Cipher.{CipherMeaning}
 use Rattle.srtp_core.specs.Keys.{session_keys}
@@ -28,6 +28,10 @@ use Rattle.media_play.specs.WireLaws.{WireLaws}
 zeros_fit : (n : ℕ) → AreWords (replicate n 0)
 zeros_fit zero = tt
 zeros_fit (suc n) = (omega arith, zeros_fit n)
+
+words_fit : (xs ys : List ℕ) → AreWords xs → AreWords ys → AreWords (xs ++ ys)
+words_fit [] ys h k = k
+words_fit (x ∷ xs) ys h k = (h.0, words_fit xs ys h.1 k)
 
 -- a write's packet that waits, after a tick
 abbrev pub stamped : ℕ → Writing → RtpPacket
@@ -52,11 +56,25 @@ module _ (setup : Setup) (again : WrittenIsReadAgain) (w : Writing) (f : FitsHea
   abbrev head : RtpHeader
   head = sealed_header r t now (stamped time w)
 
+  abbrev zeros : List ℕ
+  zeros = replicate (15 - length w.csrc) 0
+
+  -- the sources of the header are those of the write
+  own_sources : csrc_of head ≡ w.csrc
+  own_sources = take_at w.csrc zeros (length w.csrc) refl
+
   abbrev plain : List ℕ
   plain = (receipt_of r t now (stamped time w)).plain
 
   fits : IsHeader head
-  fits = record { number = omega arith; time = f.time; source = f.ssrc; few = omega arith; room = refl; words = zeros_fit 15 }
+  fits = record {
+    number = omega arith;
+    time = f.time;
+    source = f.ssrc;
+    few = f.few;
+    room = let few = f.few in omega (arith, few, length-append w.csrc zeros, length-replicate {A = ℕ} (15 - length w.csrc) 0);
+    words = words_fit w.csrc zeros f.sources (zeros_fit (15 - length w.csrc));
+  }
 
   written : plain ≡ header_bytes (extensions_of setup) head ++ w.payload
   written = ap (λ (x : ExtensionMap). header_bytes x head ++ w.payload) ids
@@ -75,7 +93,8 @@ module _ (setup : Setup) (again : WrittenIsReadAgain) (w : Writing) (f : FitsHea
     time = refl;
     marker = refl;
     no_padding = refl;
-    no_sources = refl;
+    few = f.few;
+    sources = ap (λ (l : List ℕ). take (length w.csrc) (l ++ zeros)) own_sources ∙ take_at w.csrc zeros (length w.csrc) refl;
     payload =
         let n : ℕ = length (header_bytes (extensions_of setup) head) in
         ap (drop n) written ∙ drop_at (header_bytes (extensions_of setup) head) w.payload n refl;
@@ -94,9 +113,10 @@ module _ (setup : Setup) (again : WrittenIsReadAgain) (w : Writing) (f : FitsHea
 is_short : HasFewBytes → (setup : Setup) (plain : List ℕ) (w : Writing) → Carries (extensions_of setup) plain w → length plain ≤ 160 + length w.payload
 is_short few setup plain w c =
     let exts : ExtensionMap = extensions_of setup in
-    let none : c.sealed.csrc_count ≡ 0 = sym (wire_count exts c.sealed) ∙ ap (λ (h : RtpHeader). h.csrc_count) (sym c.wire) ∙ c.no_sources in
+    let count : c.sealed.csrc_count ≡ c.header.csrc_count = sym (wire_count exts c.sealed) ∙ ap (λ (h : RtpHeader). h.csrc_count) (sym c.wire) in
+    let at_most = c.few in
     let all : length plain ≡ length (header_bytes exts c.sealed) + length w.payload = ap length c.written ∙ length-append (header_bytes exts c.sealed) w.payload in
-    let short : length (header_bytes exts c.sealed) ≤ 160 = few exts c.sealed (omega (arith, none)) in
+    let short : length (header_bytes exts c.sealed) ≤ 160 = few exts c.sealed (omega (arith, count, at_most)) in
     omega (arith, all, short)
 
 module _ (cipher : CipherMeaning) (setup : Setup) where

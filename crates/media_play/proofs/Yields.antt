@@ -107,7 +107,7 @@ apart start s = record { once = tt; took = λ p i. absurd i }
 apart {seal} {setup} (turn {steps} {entries} h step new e o) s = go (apart h s) o
   where
     go : Apart s entries → {step : Step} {new : List Entry} → Outcome seal setup entries step new → Apart s (entries ++ new)
-    go a (wrote side time w x y) =
+    go a (wrote side time w x y z) =
         same_apart s entries (entries ++ Wrote side time w ∷ []) (same_reading (packet_by s) entries (Wrote side time w ∷ []) refl) (λ r. taken-wrote s r entries side time w) a
     go a (ticked side time sealed all) =
         same_apart s entries (entries ++ Ticked side time ∷ sealed)

@@ -1,5 +1,6 @@
 -- Packets on their way through a session.
-use Rattle.std.specs.Prelude.{ℕ, ◌<◌, ◌^◌, List, [], map, Option, Some, None}
+use Rattle.std.specs.Prelude.{ℕ, ◌<◌, ◌≤◌, ◌^◌, List, [], length, map, Option, Some, None}
+use Rattle.rtp_wire.specs.BytesLaws.{AreWords}
 use Rattle.rtp_wire.specs.Header.{csrc_of}
 use Rattle.rtp_wire.specs.Extensions.{no_values}
 use Rattle.stream_core.specs.declared.packet.RtpPacket.{RtpPacket}
@@ -19,6 +20,8 @@ pub record FitsHeader (w : Writing) : Type 0 where
   pub ssrc : w.ssrc < 2 ^ 32
   pub time : w.rtp_time < 2 ^ 32
   pub pt : w.pt < 2 ^ 7
+  pub few : length w.csrc ≤ 15
+  pub sources : AreWords w.csrc
 
 -- a write as it is handed to its stream, at a moment
 abbrev pub write_at : ℕ → Writing → WriteRecord
@@ -31,7 +34,7 @@ write_at time w = record {
   ext_vals = no_values;
   nackable = w.nackable;
   payload = w.payload;
-  csrc = [];
+  csrc = w.csrc;
 }
 
 -- the packet that waits after it, whatever the moment

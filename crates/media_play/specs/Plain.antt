@@ -1,16 +1,12 @@
 -- A write as a plain datagram carries it, and as a packet.
-use Rattle.std.specs.Prelude.{◌≡◌, ℕ, ◌%◌, false, Option, Some, None, List, [], ◌++◌, drop}
+use Rattle.std.specs.Prelude.{◌≡◌, ◌≤◌, ℕ, ◌%◌, false, Option, Some, None, List, ◌++◌, drop}
 use Rattle.rtp_wire.specs.declared.extension.ExtensionMap.{ExtensionMap}
 use Rattle.rtp_wire.specs.declared.header.RtpHeader.{RtpHeader}
-use Rattle.rtp_wire.specs.Extensions.{no_extensions}
-use Rattle.rtp_wire.specs.Header.{header_of, header_bytes, wire_form}
+use Rattle.rtp_wire.specs.Header.{header_of, header_bytes, wire_form, csrc_of}
 use Rattle.media_model.specs.declared.setup.Setup.{Setup}
+pub use Rattle.media_model.specs.Setup.{extensions_of}
 use Rattle.media_model.specs.declared.entry.Write.{Write as Writing}
 use Rattle.media_model.specs.declared.entry.Packet.{Packet}
-
--- which id names which extension in a run of a setup: none so far
-unfoldable pub extensions_of : Setup → ExtensionMap
-extensions_of setup = no_extensions
 
 -- the header at the front of the bytes, if one stands there
 abbrev pub read_header : Setup → List ℕ → Option RtpHeader
@@ -22,7 +18,7 @@ len_of None = 0
 len_of (Some header) = header.header_len
 
 -- A plain datagram carries a write: under this map it reads with the write's SSRC, the low 16 bits
--- of its number, its type, time and marker, without padding and contributing sources; it is a header
+-- of its number, its type, time, marker and contributing sources, without padding; it is a header
 -- as it is written (RFC 3550 section 5.1), which is read again as its wire form, and behind it
 -- stands the write's payload.
 pub record Carries (exts : ExtensionMap) (plain : List ℕ) (w : Writing) : Type 0 where
@@ -34,7 +30,8 @@ pub record Carries (exts : ExtensionMap) (plain : List ℕ) (w : Writing) : Type
   pub time : header.timestamp ≡ w.rtp_time
   pub marker : header.marker ≡ w.marker
   pub no_padding : header.has_padding ≡ false
-  pub no_sources : header.csrc_count ≡ 0
+  pub few : header.csrc_count ≤ 15
+  pub sources : csrc_of header ≡ w.csrc
   pub payload : drop header.header_len plain ≡ w.payload
   pub sealed : RtpHeader
   pub wire : header ≡ wire_form exts sealed
@@ -48,6 +45,6 @@ as_packet w = record {
   pt = w.pt;
   rtp_time = w.rtp_time;
   marker = w.marker;
-  csrc = [];
+  csrc = w.csrc;
   payload = w.payload;
 }

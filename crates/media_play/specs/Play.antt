@@ -1,6 +1,7 @@
 -- What a run brings, step by step.
 use Rattle.std.specs.Prelude.{◌≡◌, ◌<◌, ◌≤◌, ◌-◌, ◌^◌, ℕ, List, [], ◌∷◌, ◌++◌, slice_get, Some, None}
 use Rattle.std.specs.List.{flat_map}
+use Rattle.rtp_wire.specs.BytesLaws.{AreWords}
 use Rattle.media_model.specs.declared.entry.Side.{Side}
 use Rattle.rtp_base.specs.declared.kind.Kind.TheVariants.{Rtp}
 use Rattle.media_model.specs.declared.entry.Write.{Write as Writing}
@@ -57,7 +58,7 @@ pub data Brings (entries : List Entry) : GotEntry → Step → Type 0 where
 pub data Outcome (seal : Sealing) (setup : Setup) (entries : List Entry)
     : Step → List Entry → Type 0 where
   wrote : (side : Side) (time : ℕ) (w : Writing) → w.ssrc < 2 ^ 32 → w.rtp_time < 2 ^ 32
-      → Outcome seal setup entries (Write side time w) (Wrote side time w ∷ [])
+      → AreWords w.csrc → Outcome seal setup entries (Write side time w) (Wrote side time w ∷ [])
   ticked : (side : Side) (time : ℕ) (sealed : List Entry) → Seals seal setup side entries sealed
       → Outcome seal setup entries (Tick side time) (Ticked side time ∷ sealed)
   got : {step : Step} (came : GotEntry) (brought : List Entry) → Brings entries came step

@@ -10,7 +10,7 @@ use Rattle.media_model.specs.declared.setup.Setup.{Setup}
 use Rattle.media_model.specs.Sides.{peer_of}
 use Rattle.media_model.specs.Setup.{streams_of, types_of}
 use Rattle.media_play.specs.declared.fault.StepFault.{StepFault}
-use Rattle.media_play.specs.declared.fault.StepFault.TheVariants.{TimeZero, TimeBack, TimeBeyond, UnknownStream, UnknownDatagram, UnknownType, NumberTooBig, NumberUsed, PayloadTooLong}
+use Rattle.media_play.specs.declared.fault.StepFault.TheVariants.{TimeZero, TimeBack, TimeBeyond, UnknownStream, UnknownDatagram, UnknownType, NumberTooBig, NumberUsed, PayloadTooLong, TooManySources}
 use Rattle.media_model.specs.Entries.{last_time, writes_on, datagrams}
 
 abbrev pub has : List ℕ → ℕ → Bool
@@ -39,7 +39,8 @@ write_rules setup entries side w =
     ∷ (not (has (types_of setup) w.pt), UnknownType)
     ∷ (nat_le (2 ^ 48) w.number, NumberTooBig)
     ∷ (list_any (λ u. u.number == w.number) (writes_on side w.ssrc entries), NumberUsed)
-    ∷ (nat_lt 1400 (length w.payload), PayloadTooLong) ∷ []
+    ∷ (nat_lt 1400 (length w.payload), PayloadTooLong)
+    ∷ (nat_lt 15 (length w.csrc), TooManySources) ∷ []
 
 -- a datagram that the other side sealed, counted from 1
 abbrev pub deliver_rules : List Entry → Side → ℕ → List (Bool × StepFault)

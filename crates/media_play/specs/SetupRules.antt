@@ -2,20 +2,31 @@
 use Rattle.std.specs.Prelude.{ℕ, Bool, true, false, not, ◌||◌, ◌&&◌, ◌==◌, nat_lt, List, [], ◌∷◌, ◌++◌, length, option_to_list, Option, Some, is_some}
 use Rattle.std.specs.List.{flat_map, list_any}
 use Rattle.std.specs.Str.{bytes_eq}
+use Rattle.rtp_wire.specs.Extensions.{extension_number}
+use Rattle.media_model.specs.declared.setup.NamedExtension.{NamedExtension}
 use Rattle.media_model.specs.declared.setup.Stream.{Stream}
 use Rattle.media_model.specs.declared.setup.Media.{Media}
 use Rattle.media_model.specs.declared.setup.Setup.{Setup}
 use Rattle.srtp_core.specs.Keys.{material_len}
-use Rattle.media_model.specs.Setup.{material_of, types_of}
+use Rattle.media_model.specs.Setup.{material_of, types_of, is_extension_id}
 use Rattle.media_model.specs.Sides.{same_side}
 use Rattle.media_play.specs.declared.fault.SetupFault.{SetupFault}
-use Rattle.media_play.specs.declared.fault.SetupFault.TheVariants.{KeyLength, TypeTwice, SsrcZero, SsrcTwice, RidTwice, RtxLater}
+use Rattle.media_play.specs.declared.fault.SetupFault.TheVariants.{KeyLength, Times, ExtId, TypeTwice, SsrcZero, SsrcTwice, RidTwice, RtxLater}
 use Rattle.media_play.specs.Rules.{has, first_fault}
 
 -- a number stands twice
 abbrev pub repeats : List ℕ → Bool
 repeats [] = false
 repeats (x ∷ xs) = has xs x || repeats xs
+
+-- two lines share an id or an extension
+abbrev pub clash : NamedExtension → NamedExtension → Bool
+clash m n = m.id == n.id || extension_number m.extension == extension_number n.extension
+
+-- an id is outside 1 to 14, or two lines share an id or an extension
+abbrev pub any_ext_wrong : List NamedExtension → Bool
+any_ext_wrong [] = false
+any_ext_wrong (n ∷ ns) = not (is_extension_id n.id) || list_any (clash n) ns || any_ext_wrong ns
 
 -- the streams of both sides, in order
 abbrev pub all_streams : Setup → List Stream
@@ -62,6 +73,8 @@ media_rules media =
 abbrev pub setup_rules : Setup → List (Bool × SetupFault)
 setup_rules setup =
     (not (length (material_of setup) == material_len setup.profile), KeyLength)
+    ∷ (nat_lt 2075000000 setup.beginning.unix_secs, Times)
+    ∷ (any_ext_wrong setup.exts, ExtId)
     ∷ (list_any (nat_lt 127) (types_of setup) || repeats (types_of setup), TypeTwice)
     ∷ (has (stream_ssrcs setup) 0, SsrcZero)
     ∷ (repeats (local_ssrcs ++ stream_ssrcs setup), SsrcTwice)

@@ -1,4 +1,4 @@
-ghost use Rattle.std.specs.Prelude.{◌≡◌, ◌≢◌, ◌∷◌, ◌++◌, ◌<◌, List, [], length, Some, None, IfOk, OnOk};
+ghost use Rattle.std.specs.Prelude.{◌≡◌, ◌≢◌, ◌∷◌, ◌++◌, ◌<◌, ◌≤◌, List, [], length, Some, None, IfOk, OnOk};
 ghost use Rattle.std.specs.Result.{result_err};
 ghost use Rattle.rtp_wire.specs.Header.{csrc_of};
 ghost use Rattle.stream_core.specs.Tables.{place_of, change_place};
@@ -32,6 +32,9 @@ const NUMBER_LIMIT: u64 = 1 << 48;
 /// The most bytes of a payload that is written.
 const MAX_PAYLOAD_LEN: usize = 1400;
 
+/// The most contributing sources of a packet (RFC 3550 section 5.1).
+const MAX_SOURCES: usize = 15;
+
 /// What a datagram opened to, and the packet that it gives the application.
 #[derive(Drop)]
 pub struct Received {
@@ -63,13 +66,15 @@ impl<C: SrtpCipher> Model for End<C> {
 
 /// A write as it is handed to its stream.
 fn rtp_write(alloc: Global, time: Instant, write: &Write) -> Result<RtpWrite, AllocError>
+    requires { length write.now.csrc ≤ 15 }
     ensures { IfOk result (λ w. w ≡ write_at time write.now) }
 {
     let payload = Payload::from_slice(alloc, write.payload.as_slice())?;
     Ok(
         RtpWrite::new(write.pt, write.number, write.rtp_time, time, payload)
             .marker(write.marker)
-            .nackable(write.nackable),
+            .nackable(write.nackable)
+            .csrc(write.csrc.as_slice()),
     )
 }
 
@@ -184,6 +189,7 @@ impl<C: SrtpCipher> End<C> {
     pub fn check_write(&mut self, write: &Write) -> Result<usize, StepFault>
         ensures place { IfOk result (λ at. place_of write.now.ssrc self.old.session.state.tx ≡ Some at) }
         ensures within { IfOk result (λ at. at < length self.old.session.state.tx) }
+        ensures sources { IfOk result (λ at. length write.now.csrc ≤ 15) }
         ensures rule { (setup : Given) (side : Party) (entries : List Entry)
             → Ready C.meaning setup side self.old entries
             → write_fault setup entries side write.now ≡ result_err result }
@@ -203,6 +209,9 @@ impl<C: SrtpCipher> End<C> {
         }
         if write.payload.len() > MAX_PAYLOAD_LEN {
             return Err(StepFault::PayloadTooLong);
+        }
+        if write.csrc.as_slice().len() > MAX_SOURCES {
+            return Err(StepFault::TooManySources);
         }
         Ok(place)
     }
@@ -226,7 +235,8 @@ impl<C: SrtpCipher> End<C> {
         time: Instant,
         write: &Write,
     ) -> Result<(), AllocError>
-        requires { place < length self.old.session.state.tx }
+        requires place { place < length self.old.session.state.tx }
+        requires sources { length write.now.csrc ≤ 15 }
         ensures { OnOk result ((seal : Sealing) (setup : Given) (steps : List Step) (side : Party)
             (entries : List Entry)
             → Played seal setup steps entries → Ready C.meaning setup side self.old entries

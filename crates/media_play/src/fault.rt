@@ -10,6 +10,11 @@ use std::fmt;
 pub enum SetupFault {
     /// The key material has another length than the profile's.
     KeyLength,
+    /// The Unix time of the moment 0 is above 2,075,000,000 s.
+    Times,
+    /// An id of a header extension is outside 1 to 14, or stands twice, or an extension stands
+    /// twice.
+    ExtId,
     /// A payload type is claimed twice, or is above 127.
     TypeTwice,
     /// An SSRC is 0.
@@ -44,6 +49,8 @@ pub enum StepFault {
     NumberUsed,
     /// The payload has more than 1,400 bytes.
     PayloadTooLong,
+    /// There are more than 15 contributing sources, of which no script tells.
+    TooManySources,
 }
 
 impl fmt::Display for SetupFault {
@@ -52,6 +59,8 @@ impl fmt::Display for SetupFault {
     fn fmt<W: fmt::Write>(&self, f: &mut fmt::Formatter<W>) -> fmt::Result {
         match self {
             SetupFault::KeyLength => write!(f, "KeyLength"),
+            SetupFault::Times => write!(f, "Times"),
+            SetupFault::ExtId => write!(f, "ExtId"),
             SetupFault::TypeTwice => write!(f, "TypeTwice"),
             SetupFault::SsrcZero => write!(f, "SsrcZero"),
             SetupFault::SsrcTwice => write!(f, "SsrcTwice"),
@@ -75,6 +84,7 @@ impl fmt::Display for StepFault {
             StepFault::NumberTooBig => write!(f, "NumberTooBig"),
             StepFault::NumberUsed => write!(f, "NumberUsed"),
             StepFault::PayloadTooLong => write!(f, "PayloadTooLong"),
+            StepFault::TooManySources => write!(f, "TooManySources"),
         }
     }
 }

@@ -1,4 +1,5 @@
 ghost use Rattle.std.specs.Prelude.{◌≡◌, ◌≢◌, ◌∷◌, ◌++◌, ◌-◌, ◌<◌, ◌≤◌, ◌^◌, List, [], slice_get, length, Some, None, IfOk, IfErr, OnOk, MatchResult};
+ghost use Rattle.rtp_wire.specs.BytesLaws.{AreWords};
 ghost use Rattle.media_model.specs.declared.entry.Entry.{Entry as Happening};
 ghost use Rattle.media_model.specs.declared.entry.Entry.TheVariants.{Wrote};
 ghost use Rattle.media_model.specs.declared.step.Step.{Step as Act};
@@ -18,7 +19,7 @@ ghost use Rattle.media_play.specs.Sessions.{Ready, sealing_of, received_entries}
 use crate::end::{End, Received};
 use crate::fault::{StepError, StepFault};
 use crate::log::Log;
-use media_base::{Bytes, Instant};
+use media_base::{Bytes, Instant, Listed};
 use media_model::{Entry, Got, Kind, Opened, Setup, Side, Step, Transcript, Write};
 use srtp_core::SrtpCipher;
 use std::alloc::{AllocError, Global};
@@ -263,8 +264,16 @@ fn copied(alloc: Global, write: &Write) -> Result<Write, AllocError>
         rtp_time: write.rtp_time,
         marker: write.marker,
         nackable: write.nackable,
+        csrc: Listed::from_vec(write.csrc.as_slice().to_vec(alloc)?),
         payload: Bytes::from_slice(alloc, write.payload.as_slice())?,
     })
+}
+
+/// Each of these numbers has 32 bits, as its type says.
+fn are_words(words: &[u32])
+    ensures { AreWords words.now }
+{
+    let _count = words.len();
 }
 
 fn write_step<C: SrtpCipher>(
@@ -286,11 +295,13 @@ fn write_step<C: SrtpCipher>(
         → Ready C.meaning setup side end.old entries
         → IsCauseAt (write_fault setup entries side write.now) e) }
     ensures wrote { OnOk result (log.new ≡ log.old ++ Wrote side time write.now ∷ []) }
-    ensures fits { OnOk result ((write.now.ssrc < 2 ^ 32) × (write.now.rtp_time < 2 ^ 32)) }
+    ensures fits { OnOk result ((write.now.ssrc < 2 ^ 32) × (write.now.rtp_time < 2 ^ 32)
+        × AreWords write.now.csrc) }
     ensures longer { OnlyAdds log.old log.new }
 {
     let _ssrc = u32::from(write.ssrc);
     let _rtp_time = write.rtp_time;
+    are_words(write.csrc.as_slice());
     let place = end.check_write(write)?;
     end.put(alloc, place, time, write)?;
     log.push(Entry::Wrote(side, time, copied(alloc, write)?))?;

@@ -4,15 +4,18 @@ ghost use Rattle.std.specs.List.{list_any, flat_map};
 ghost use Rattle.srtp_core.specs.Keys.{material_len};
 ghost use Rattle.media_model.specs.Setup.{material_of, types_of};
 ghost use Rattle.media_play.specs.Rules.{has};
-ghost use Rattle.media_play.specs.SetupRules.{repeats, both_of, stream_ssrcs, local_ssrcs, any_mid_again, rids_meet, meets, any_rid_again, has_rtx, media_fault, setup_fault};
+ghost use Rattle.media_play.specs.SetupRules.{repeats, clash, any_ext_wrong, both_of, stream_ssrcs, local_ssrcs, any_mid_again, rids_meet, meets, any_rid_again, has_rtx, media_fault, setup_fault};
 
 use crate::fault::SetupFault;
-use media_model::{Media, Setup, Stream};
+use media_model::{Media, NamedExtension, Setup, Stream};
 use rtp_wire::{Mid, Pt, Rid};
 use std::alloc::{AllocError, Global};
 
 /// The greatest payload type.
 const MAX_PT: u8 = 127;
+
+/// The greatest Unix time of the moment 0, in seconds: the NTP seconds of every step fit 32 bits.
+const MAX_UNIX_SECS: u64 = 2_075_000_000;
 
 fn has_number(numbers: &[u32], number: u32) -> bool
     ensures { result ≡ has numbers.now number }
@@ -54,10 +57,22 @@ fn any_type_above(types: &[Pt]) -> bool
     types.iter().any(|pt| u8::from(*pt) > MAX_PT)
 }
 
-fn any_type_wrong(types: &[Pt]) -> bool
-    ensures { result ≡ (list_any (nat_lt 127) types.now || repeats types.now) }
+fn clashes(exts: &[NamedExtension], named: &NamedExtension) -> bool
+    ensures { result ≡ list_any (clash named.now) exts.now }
 {
-    any_type_above(types) || any_type_again(types)
+    exts.iter().any(|n| named.id == n.id || named.extension as u8 == n.extension as u8)
+}
+
+fn any_ext_wrong(exts: &[NamedExtension]) -> bool
+    ensures { result ≡ any_ext_wrong exts.now }
+{
+    for (i, named) in exts.iter().enumerate() {
+        let has_id = named.id >= 1 && named.id <= 14;
+        if !has_id || clashes(&exts[i + 1..], named) {
+            return true;
+        }
+    }
+    false
 }
 
 fn add_ssrcs(ssrcs: &mut Vec<u32>, streams: &[Stream]) -> Result<(), AllocError>
@@ -170,7 +185,13 @@ pub fn check_setup(alloc: Global, setup: &Setup) -> Result<Option<SetupFault>, A
     if material.len() != setup.profile.keying_material_len() {
         return Ok(Some(SetupFault::KeyLength));
     }
-    if any_type_wrong(&types) {
+    if setup.beginning.unix_secs > MAX_UNIX_SECS {
+        return Ok(Some(SetupFault::Times));
+    }
+    if any_ext_wrong(setup.exts.as_slice()) {
+        return Ok(Some(SetupFault::ExtId));
+    }
+    if any_type_above(&types) || any_type_again(&types) {
         return Ok(Some(SetupFault::TypeTwice));
     }
     if has_number(&ssrcs[2..], 0) {

@@ -18,34 +18,24 @@ ghost use Rattle.media_play.specs.Starting.{Starts};
 
 use crate::numbers::Numbers;
 use mask_register::MaskRegister;
-use media_base::{Beginning, Bytes};
+use media_base::Bytes;
 use media_model::{Media, MediaKind, Setup, Side, Stream};
-use rtp_wire::{ExtensionMap, Frequency, Mid, MidRid};
+use rtp_wire::{Frequency, Mid, MidRid};
 use session_core::{
     Media as Section, MediaKind as SectionKind, PayloadTypes, Session, SessionConfig, TypeRow,
 };
 use srtp_core::{KeyingMaterial, SrtpCipher};
 use std::alloc::{AllocError, Global};
 
-/// The clock of a payload type, in ticks of 1 s where it has no rate.
-fn clock(rate: u32) -> Frequency {
-    match Frequency::new(rate) {
-        Some(frequency) => frequency,
-        None => Frequency::SECONDS,
-    }
-}
-
-/// The payload types of a setup.
+/// The payload types of a setup. The clock of one without a rate has ticks of 1 s.
 fn payload_types(alloc: Global, setup: &Setup) -> Result<PayloadTypes, AllocError>
     ensures { IfOk result (λ types. (pt : ℕ)
         → is_some (place_of pt types) ≡ has (types_of setup.now) pt) }
 {
     let mut types = PayloadTypes::new(alloc);
     for row in setup.types.as_slice() {
-        types.add(TypeRow {
-            pt: row.pt,
-            clock: clock(row.rate),
-        })?;
+        let clock = Frequency::new(row.rate).unwrap_or(Frequency::SECONDS);
+        types.add(TypeRow { pt: row.pt, clock })?;
     }
     Ok(types)
 }
@@ -90,8 +80,8 @@ fn with_keys<C: SrtpCipher>(
         alloc,
         SessionConfig {
             id: identification(side),
-            beginning: Beginning { unix_secs: 0 },
-            exts: ExtensionMap::empty(),
+            beginning: setup.beginning,
+            exts: setup.extension_map(),
             types: payload_types(alloc, setup)?,
         },
     );

@@ -102,9 +102,10 @@ fn one_write(rt: HostRuntime) -> Result<(), Fail> {
 }
 
 // Setup lines and steps, and the text of the run: AEAD_AES_256_GCM, whose session key ends with the
-// number of the second round; and AES_CM_128_HMAC_SHA1_80, whose tag is HMAC-SHA1 (RFC 2104) under the
-// key 0000000000000001000000000000000000000001.
-const BY_PROFILE: [(&str, &str, &str); 2] = [
+// number of the second round; AES_CM_128_HMAC_SHA1_80, whose tag is HMAC-SHA1 (RFC 2104) under the
+// key 0000000000000001000000000000000000000001; and the mid v under the id 1 (RFC 8285 section 4.2),
+// with a datagram of an SSRC that no stream has.
+const BY_SETUP: [(&str, &str, &str); 3] = [
     (
         "profile gcm256\n",
         ONE_WRITE,
@@ -115,12 +116,17 @@ const BY_PROFILE: [(&str, &str, &str); 2] = [
         "write A 1 42 1 96 0 0 0 0000000000000000\ntick A 1\ndeliver B 1 1\n",
         "wrote A 42 1\nticked A 1\nsealed A rtp 42 1 80600001000000000000002a0000000000000028b075b497ef97be322f0d\ngot B rtp 30\nopened B rtp 42 1\nyielded B 42 1 96 0 0 0000000000000000\nend genuine=yes repairs=yes\n",
     ),
+    (
+        "ext 1 mid\n",
+        "write A 1 42 1 96 0 0 0 0102\ntick A 1\ndeliver B 1 1\nforeign B 1 rtp 906000010000000000000063bede000110760000010280160001012800020000002bbede0000\n",
+        "wrote A 42 1\nticked A 1\nsealed A rtp 42 1 90600001000000000000002abede000110760000010280160001012800020000002bbede0000\ngot B rtp 38\nopened B rtp 42 1\nyielded B 42 1 96 0 0 0102\ngot B rtp 38\nend genuine=yes repairs=yes\n",
+    ),
 ];
 
 #[test]
-fn one_write_by_profile(rt: HostRuntime) -> Result<(), Fail> {
+fn one_write_by_setup(rt: HostRuntime) -> Result<(), Fail> {
     let alloc = rt.alloc();
-    for (lines, steps, text) in BY_PROFILE {
+    for (lines, steps, text) in BY_SETUP {
         let (report, sink) = ran_on(alloc, script_with(alloc, lines, steps)?)?;
         assert_eq!(rt; report.end, End::Done, "at {lines}");
         assert_eq!(rt; sink.bytes(), text.as_bytes(), "at {lines}");
@@ -323,8 +329,21 @@ fn setup_script(alloc: Global, lines: &str) -> Result<Vec<u8>, Fail> {
 }
 
 // Setup lines, and the first rule that they break: each rule alone.
-const SETUP_FAULTS: [(&str, &str); 9] = [
+const SETUP_FAULTS: [(&str, &str); 16] = [
     (SHORT_KEY, "KeyLength"),
+    ("key 00\nunix 2075000001\next 15 mid\n", "KeyLength"),
+    ("key zero\nunix 2075000001\n", "Times"),
+    (
+        "key zero\nunix 2075000001\next 15 mid\ntype 128 vp8 90000\n",
+        "Times",
+    ),
+    ("key zero\nunix 2075000000\next 0 mid\n", "ExtId"),
+    ("key zero\next 14 rid\next 15 mid\n", "ExtId"),
+    ("key zero\next 3 mid\next 1 rid\next 3 twcc\n", "ExtId"),
+    (
+        "key zero\next 3 mid\next 4 mid\ntype 128 vp8 90000\n",
+        "ExtId",
+    ),
     (
         "key zero\ntype 96 vp8 90000\ntype 96 vp9 90000\n",
         "TypeTwice",

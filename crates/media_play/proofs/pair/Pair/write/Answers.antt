@@ -65,7 +65,7 @@ returns-clause-played g c setup steps is_run =
           rw w.self-inside-is
           (subst (λ (r : RunState). PlaysOn K.meaning setup steps r (Write side time write) new) c.self.view_is
           (running_wrote K.meaning setup run steps side time write w.write_step.new.end c.self.inside.b w.write_step.new.log here
-          w.in_ok-write_step-in-A.ensures.wrote in_time (w.in_ok-write_step-in-A.ensures.valid setup run.log ready) w.in_ok-write_step-in-A.ensures.fits.0 w.in_ok-write_step-in-A.ensures.fits.1
+          w.in_ok-write_step-in-A.ensures.wrote in_time (w.in_ok-write_step-in-A.ensures.valid setup run.log ready) w.in_ok-write_step-in-A.ensures.fits.0 w.in_ok-write_step-in-A.ensures.fits.1 w.in_ok-write_step-in-A.ensures.fits.2
           (subst (λ (s : Side). Ready K.meaning setup s w.write_step.new.end (run.log ++ Wrote side time write ∷ [])) w.in-A.is (w.in_ok-write_step-in-A.ensures.ready seal setup steps run.log here.played sound ready))
           (ready_wrote_other K.meaning setup B side c.self.inside.b run.log time write (ap (same_side B) w.in-A.is) here.b_knows)))
       | in-B+in_ok-write_step-in-B w ↦
@@ -74,7 +74,7 @@ returns-clause-played g c setup steps is_run =
           rw w.self-inside-is
           (subst (λ (r : RunState). PlaysOn K.meaning setup steps r (Write side time write) new) c.self.view_is
           (running_wrote K.meaning setup run steps side time write c.self.inside.a w.write_step-in-B.new.end w.write_step-in-B.new.log here
-          w.in_ok-write_step-in-B.ensures.wrote in_time (w.in_ok-write_step-in-B.ensures.valid setup run.log ready) w.in_ok-write_step-in-B.ensures.fits.0 w.in_ok-write_step-in-B.ensures.fits.1
+          w.in_ok-write_step-in-B.ensures.wrote in_time (w.in_ok-write_step-in-B.ensures.valid setup run.log ready) w.in_ok-write_step-in-B.ensures.fits.0 w.in_ok-write_step-in-B.ensures.fits.1 w.in_ok-write_step-in-B.ensures.fits.2
           (ready_wrote_other K.meaning setup A side c.self.inside.a run.log time write (ap (same_side A) w.in-B.is) here.a_knows)
           (subst (λ (s : Side). Ready K.meaning setup s w.write_step-in-B.new.end (run.log ++ Wrote side time write ∷ [])) w.in-B.is (w.in_ok-write_step-in-B.ensures.ready seal setup steps run.log here.played sound ready))))
     ]
