@@ -1,7 +1,7 @@
 -- What an end of a run knows after a write.
-use Rattle.std.proofs.Common.{◌≡◌, inl, inr, ℕ, zero, suc, ◌<◌, ◌≤◌, ◌^◌, Bool, true, false, cond, not, ◌&&◌, ◌||◌, leb, ltb, List, [], ◌∷◌, ◌++◌, length, map, set, get_or, slice_get, nat_eq, Option, Some, None, is_some, refl, sym, ap, ◌∙◌, subst, arith}
+use Rattle.std.proofs.Common.{◌≡◌, inl, inr, ℕ, zero, suc, ◌<◌, ◌≤◌, ◌^◌, Bool, true, false, cond, not, ◌&&◌, ◌||◌, leb, ltb, List, [], ◌∷◌, ◌++◌, length, map, set, get_or, slice_get, Some, None, is_some, refl, sym, ap, ◌∙◌, subst, arith}
 use Rattle.std.specs.Prelude.{◌==◌}
-use Rattle.std.specs.List.{list_any, AllByRecursion, AllZip}
+use Rattle.std.specs.List.{list_any, AllZip}
 use Rattle.std.specs.BTreeSet.{contains}
 use Rattle.std.specs.Map.{keys_of}
 use Rattle.std.specs.Ordering.{nat_cmp}
@@ -24,10 +24,10 @@ use Rattle.media_model.specs.declared.step.Step.{Step}
 use Rattle.media_model.specs.declared.setup.Setup.{Setup}
 use Rattle.media_model.specs.Entries.{writes_on, queued}
 use Rattle.media_model.specs.Setup.{streams_of, types_of}
-use Rattle.media_model.specs.Sides.{same_side, peer_of}
+use Rattle.media_model.specs.Sides.{same_side}
 use Rattle.media_play.specs.declared.fault.StepFault.TheVariants.{UnknownStream, UnknownType, NumberTooBig, NumberUsed, PayloadTooLong, TooManySources}
 use Rattle.media_play.specs.declared.numbers.Numbers.{Numbers}
-use Rattle.media_play.specs.Knowing.{SendsAs, TakesAs, Knows, UsedAs, AreUsed, has_number, has_written, IsNoted}
+use Rattle.media_play.specs.Knowing.{SendsAs, TakesAs, Knows, UsedAs, has_number, has_written, IsNoted}
 use Rattle.media_play.specs.Listing.{IsIn, NoRepeat}
 use Rattle.media_play.specs.Opening.{Sealing}
 use Rattle.media_play.specs.Packets.{write_at, waiting_of}

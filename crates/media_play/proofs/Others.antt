@@ -15,7 +15,7 @@ use Rattle.media_model.specs.declared.setup.Setup.{Setup}
 use Rattle.media_model.specs.Sides.{same_side}
 use Rattle.media_play.specs.declared.fault.StepFault.{StepFault}
 use Rattle.media_play.specs.declared.fault.StepError.{StepError}
-use Rattle.media_model.specs.Entries.{write_on, writes_on, sealed_numbers, is_sealed, queued, taken}
+use Rattle.media_model.specs.Entries.{write_on, writes_on, sealed_numbers, is_sealed}
 use Rattle.media_play.specs.Errors.{IsCauseAt}
 use Rattle.media_play.specs.Play.{wrote}
 use Rattle.media_play.specs.Rules.{or_else, time_fault, write_fault}

@@ -1,5 +1,5 @@
 -- What a session opens is what opens, and what does not open to it does not open.
-use Rattle.std.proofs.Common.{◌≡◌, inl, inr, ℕ, ◌<◌, ◌≤◌, Bool, true, false, cond, not, ◌&&◌, ◌||◌, List, [], ◌∷◌, ◌++◌, length, take, drop, slice_get, nat_eq, position, Option, Some, None, is_some, is_none, refl, sym, ap, ◌∙◌, subst, arith}
+use Rattle.std.proofs.Common.{◌≡◌, inl, inr, ℕ, ◌≤◌, Bool, true, false, cond, List, [], ◌++◌, length, take, drop, slice_get, Option, Some, None, refl, sym, ap, ◌∙◌, subst}
 use Rattle.std.specs.Prelude.{◌==◌, if◌then◌else◌, option_and_then}
 use Rattle.std.specs.Map.{keys_of, values_of}
 use Rattle.std.proofs.lemmas.Bool.{eqb-true, false≢true}
@@ -16,8 +16,7 @@ use Rattle.srtp_core.specs.Seals.{sealed_rtp, OpensTo}
 use Rattle.stream_core.specs.RxRecord.{RxRecord, taken_of, number_with, fresh_number as fresh_on}
 use Rattle.stream_core.specs.StreamsRecord.{value_under}
 use Rattle.stream_core.specs.Tables.{place_of}
-use Rattle.session_core.specs.declared.datagram.Opened.{Opened as OpenedHere}
-use Rattle.session_core.specs.Receiving.{seen_of, is_claimed, number_of, Unpads, OpensIn, Opens as OpensHere, Receives as ReceivesHere, after_opened, opening_of}
+use Rattle.session_core.specs.Receiving.{seen_of, is_claimed, number_of, Unpads, OpensIn, Opens as OpensHere}
 use Rattle.session_core.specs.SessionRecord.{SessionRecord}
 use Rattle.media_model.specs.declared.entry.Side.{Side}
 use Rattle.rtp_base.specs.declared.kind.Kind.TheVariants.{Rtp}
@@ -32,7 +31,7 @@ use Rattle.media_play.specs.Opening.{Sealing, Opens, is_known, fresh_number}
 use Rattle.media_play.specs.Plain.{extensions_of, read_header, len_of}
 use Rattle.media_play.specs.Rules.{has}
 use Rattle.media_play.specs.Sessions.{is_left, sealing_of, OpensAs}
-use Rattle.media_play.proofs.Keys.{key_absent, has_from_get, key_at, key_found, all_at}
+use Rattle.media_play.proofs.Keys.{has_from_get, key_at, key_found, all_at}
 use Rattle.media_play.proofs.Lists.{tested}
 
 -- the number under which a datagram may open

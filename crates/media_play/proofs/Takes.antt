@@ -1,13 +1,12 @@
 -- What an end of a run knows after bytes came.
-use Rattle.std.proofs.Common.{◌≡◌, inl, inr, ℕ, zero, suc, ◌<◌, ◌≤◌, Bool, true, false, cond, not, ltb, List, [], ◌∷◌, ◌++◌, length, map, take, slice_get, nat_eq, position, Option, Some, None, is_some, is_none, refl, sym, ap, ◌∙◌, subst, arith}
+use Rattle.std.proofs.Common.{◌≡◌, inl, inr, ℕ, zero, suc, Bool, true, false, cond, not, List, [], ◌∷◌, ◌++◌, map, slice_get, nat_eq, Option, Some, None, refl, sym, ap, ◌∙◌, subst}
 use Rattle.std.specs.Prelude.{◌==◌, if◌then◌else◌, option_and_then, nat_lt, filter}
-use Rattle.std.specs.List.{list_any, AllByRecursion, AllZip, position_or_len}
+use Rattle.std.specs.List.{list_any, AllByRecursion}
 use Rattle.std.specs.Map.{keys_of, values_of}
 use Rattle.std.specs.Option.{option_map, option_map_or}
-use Rattle.std.proofs.lemmas.Bool.{eqb-true, eq-eqb, false≢true, ltb-true}
+use Rattle.std.proofs.lemmas.Bool.{eqb-true, eq-eqb, false≢true}
 use Rattle.std.proofs.lemmas.List.{append-nil}
-use Rattle.std.proofs.lemmas.Option.{none-some, same_Some}
-use Rattle.mask_register.specs.MaskRegister.{Remembers}
+use Rattle.std.proofs.lemmas.Option.{same_Some}
 use Rattle.rtp_wire.specs.declared.header.RtpHeader.{RtpHeader}
 use Rattle.repair_core.specs.Fresh.{is_fresh, with_number}
 use Rattle.srtp_core.specs.Cipher.{CipherMeaning}
@@ -16,7 +15,7 @@ use Rattle.stream_core.specs.StreamsRecord.{value_under}
 use Rattle.stream_core.specs.Tables.{place_of, change_place, change_at}
 use Rattle.stream_core.specs.TxRecord.{TxRecord}
 use Rattle.session_core.specs.Receiving.{seen_of, saw, rx_opened, probes_opened}
-use Rattle.session_core.specs.SessionRecord.{MediaRecord, SessionState, SessionRecord}
+use Rattle.session_core.specs.SessionRecord.{MediaRecord, SessionRecord}
 use Rattle.media_model.specs.declared.entry.Side.{Side}
 use Rattle.media_model.specs.declared.entry.Write.{Write as Writing}
 use Rattle.media_model.specs.declared.entry.Got.{Got as GotEntry}
@@ -28,7 +27,7 @@ use Rattle.media_model.specs.Setup.{streams_of}
 use Rattle.media_model.specs.Sides.{peer_of}
 use Rattle.media_play.specs.declared.numbers.Numbers.{Numbers}
 use Rattle.media_play.specs.Knowing.{SendsAs, TakesAs, Knows, UsedAs, AreUsed}
-use Rattle.media_play.specs.Listing.{IsIn, NoRepeat}
+use Rattle.media_play.specs.Listing.{NoRepeat}
 use Rattle.media_play.specs.Packets.{waiting_of}
 use Rattle.media_play.specs.Rules.{has}
 use Rattle.media_play.specs.Sessions.{EndState, Ready}

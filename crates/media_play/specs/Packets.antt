@@ -1,5 +1,5 @@
 -- Packets on their way through a session.
-use Rattle.std.specs.Prelude.{ℕ, ◌<◌, ◌≤◌, ◌^◌, List, [], length, map, Option, Some, None}
+use Rattle.std.specs.Prelude.{ℕ, ◌<◌, ◌≤◌, ◌^◌, List, length, map, Option, Some, None}
 use Rattle.rtp_wire.specs.BytesLaws.{AreWords}
 use Rattle.rtp_wire.specs.Header.{csrc_of}
 use Rattle.rtp_wire.specs.Extensions.{no_values}

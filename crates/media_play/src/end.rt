@@ -21,7 +21,6 @@ use media_model::{Kind, Packet, Sealed, Setup, Side, Write};
 use rtp_wire::{RtpHeader, SeqNo, Ssrc, header_reads_own_bytes, written_header_is_read_again};
 use session_core::{Datagram, Event, Session};
 use srtp_core::SrtpCipher;
-use srtp_core::laws::rtp_opens_once;
 use std::alloc::{AllocError, Global};
 use std::marker::Model;
 use stream_core::{Payload, RtpPacket, RtpWrite};
