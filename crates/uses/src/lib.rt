@@ -1,0 +1,14 @@
+//! Callers of each library crate, one in a file of its own: what a user writes, and what a contract may
+//! say of it.
+#![tactic(auto)]
+
+pub mod copy_bytes;
+pub mod exchange_a_packet;
+pub mod keep_for_resending;
+pub mod queue_a_packet;
+pub mod read_a_header;
+pub mod register_by_mask;
+pub mod register_numbers;
+pub mod seal_and_open;
+pub mod time_a_packet;
+pub mod widen_a_number;
