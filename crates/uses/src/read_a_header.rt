@@ -12,8 +12,10 @@ use rtp_wire::{ExtensionMap, RtpHeader, SeqNo, header_reads_own_bytes};
 pub fn number_of(bytes: &[u8], exts: &ExtensionMap, last: Option<SeqNo>) -> Option<SeqNo>
     ensures { result ≡ option_map (λ h. widen16 last h.sequence_number) (header_of exts.now bytes.now) }
 {
-    let header = RtpHeader::parse(bytes, exts)?;
-    Some(header.sequence_number(last))
+    match RtpHeader::parse(bytes, exts) {
+        Some(header) => Some(header.sequence_number(last)),
+        None => None,
+    }
 }
 
 /// The payload of a packet, without its padding. None where no header stands, or where the payload does
@@ -26,7 +28,9 @@ pub fn payload_of<'a>(bytes: &'a [u8], exts: &ExtensionMap) -> Option<&'a [u8]>
         → option_copied result ≡ unpadded (drop h.header_len bytes.now) }
 {
     header_reads_own_bytes();
-    let header = RtpHeader::parse(bytes, exts)?;
+    let Some(header) = RtpHeader::parse(bytes, exts) else {
+        return None;
+    };
     let (_, payload) = bytes.split_at(header.header_len);
     if header.has_padding {
         RtpHeader::unpad_payload(payload)
