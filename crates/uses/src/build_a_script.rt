@@ -1,7 +1,6 @@
 //! A setup and its steps, made in code: a packet that side A writes and seals, and side B gets.
-ghost use Rattle.std.specs.Prelude.{◌≡◌, ◌∷◌, [], None, IfOk, length};
+ghost use Rattle.std.specs.Prelude.{◌≡◌, ◌∷◌, [], IfOk, length};
 ghost use Rattle.media_model.specs.Setup.{streams_of, types_of};
-ghost use Rattle.media_play.specs.SetupRules.{setup_fault};
 
 use crate::script_parts::{deliver, packet, payload_type, setup, stream, tick, video, write};
 use media_base::{Bytes, Instant};
@@ -11,7 +10,6 @@ use std::alloc::{AllocError, Global};
 
 /// One stream from A to B, and a packet on it.
 pub fn one_write(alloc: Global, mid: Mid, payload: &[u8]) -> Result<(Setup, Vec<Step>), AllocError>
-    ensures fits { IfOk result (λ script. setup_fault script.0 ≡ None) }
     ensures streams { IfOk result (λ script. streams_of Side.A script.0 ≡ 42 ∷ []) }
     ensures types { IfOk result (λ script. types_of script.0 ≡ 96 ∷ []) }
     ensures steps { IfOk result (λ script. length script.1.items ≡ 3) }

@@ -4,14 +4,12 @@
 
 pub mod build_a_script;
 pub mod copy_bytes;
+pub mod exchange_a_packet;
 pub mod keep_for_resending;
-pub mod keep_in_a_queue;
-pub mod play_a_script;
 pub mod queue_a_packet;
 pub mod read_a_header;
 pub mod register_by_mask;
 pub mod register_numbers;
-pub mod report_arrivals;
 pub mod script_parts;
 pub mod seal_and_open;
 pub mod time_a_packet;
