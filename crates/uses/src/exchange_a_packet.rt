@@ -79,6 +79,7 @@ pub fn write(end: &mut End, packet: RtpWrite) -> Result<(), RtcError>
 }
 
 /// Has one end write a packet, and gives what the other one tells: a packet of that payload, if any.
+#[tactic(none)]
 pub fn exchange(
     alloc: Global,
     material: &KeyingMaterial,
