@@ -38,7 +38,7 @@ pub changed_first : {W : Type 0} (s : SessionView W) (lent : StreamsView W) (f :
     → record s { state = record s.state { tx = set_value_at lent.tx 0 is }; rx = lent.rx } ≡ record s { state = record s.state { tx = change_place f s.state.tx 0 } }
 changed_first s lent f was is rx tx at same =
     let list : set_value_at lent.tx 0 is ≡ change_place f s.state.tx 0 =
-        ap (set_value_at lent.tx 0) same ∙ set_change f lent.tx 0 was at ∙ ap (λ es. change_place f es 0) tx in
+    ap (set_value_at lent.tx 0) same ∙ set_change f lent.tx 0 was at ∙ ap (λ es. change_place f es 0) tx in
     λ j. record s { state = record s.state { tx = list j }; rx = rx j }
 
 -- a table that one stream was put into
@@ -69,12 +69,12 @@ module _ (material mid payload : List ℕ) where
   pub expects : {W : Type 0} (remembers : W → Heard → Type 0) (s : SessionView W) (lent left : StreamsView W) (ssrc : ℕ) → ssrc ≡ 42
       → StandsFor remembers s (end_of material mid false) → lent.rx ≡ s.rx → lent.tx ≡ s.state.tx
       → ((r : StreamsRecord) → StreamsStandsFor remembers lent r
-          → StreamsStandsFor remembers left (record r { rx = with_new ssrc (expected ssrc None mid None) r.rx }))
+      → StreamsStandsFor remembers left (record r { rx = with_new ssrc (expected ssrc None mid None) r.rx }))
       → StandsFor remembers (record s { state = record s.state { tx = left.tx }; rx = left.rx }) receiver
   expects remembers s lent left ssrc is made rx tx ok =
       let none : StreamsRecord = record { rx = []; tx = [] } in
       let before : StreamsStandsFor remembers lent none =
-          record { rx = subst (λ es. Along (RxStandsFor remembers) es []) (sym rx) made.rx; tx = tx ∙ ap (λ (x : SessionState). x.tx) made.state } in
+      record { rx = subst (λ es. Along (RxStandsFor remembers) es []) (sym rx) made.rx; tx = tx ∙ ap (λ (x : SessionState). x.tx) made.state } in
       let after = ok none before in
       let empty : left.tx ≡ [] = after.tx in
       record {
@@ -110,7 +110,7 @@ module _ (material mid payload : List ℕ) where
       → StandsFor remembers before receiver
       → (next_datagram toy_meaning now third ≡ None → (opened ≡ None) × (after ≡ before))
       → IfSome (next_datagram toy_meaning now third) (λ sent. (r : SessionRecord) → StandsFor remembers before r
-          → (left : SessionRecord) × Receives toy_meaning r sent.bytes now left opened × StandsFor remembers after left)
+      → (left : SessionRecord) × Receives toy_meaning r sent.bytes now left opened × StandsFor remembers after left)
       → event ≡ next_event after.state → IfSome event (λ e. payload_told e ≡ payload)
   unfolding writes ticks declares
   at_end remembers now ssrc w first list second third before after opened event again keeps apart is same start declared_list written_state ticked stands nothing received told_event =
@@ -123,11 +123,13 @@ module _ (material mid payload : List ℕ) where
     where
       waits : Expects toy_meaning key transport now mid payload receiver
       waits = record { opening = refl; transport = refl; rx = refl; seen = refl; packet = refl }
+
       idle : (s : SessionState) → s ≡ receiver.state → IfSome (next_event s) (λ e. payload_told e ≡ payload)
       idle s e = subst (λ (x : SessionState). IfSome (next_event x) (λ e. payload_told e ≡ payload)) (sym e) tt
+
       by_datagram : (o : Option Datagram) → (o ≡ None → (opened ≡ None) × (after ≡ before))
           → IfSome o (λ sent. (r : SessionRecord) → StandsFor remembers before r
-              → (left : SessionRecord) × Receives toy_meaning r sent.bytes now left opened × StandsFor remembers after left)
+          → (left : SessionRecord) × Receives toy_meaning r sent.bytes now left opened × StandsFor remembers after left)
           → ((d : Datagram) → next_datagram toy_meaning now third ≡ Some d → d.bytes ≡ packet_bytes toy_meaning key transport now mid payload)
           → next_datagram toy_meaning now third ≡ o
           → IfSome (next_event after.state) (λ e. payload_told e ≡ payload)

@@ -92,8 +92,8 @@ module _ (cipher : CipherMeaning) (k : SrtpState) (t : Transport) (now : ℕ) (m
   sent_bytes s d sealing transport tx next =
       let place : Option ℕ = next_place now s in
       let polls : (p : PacketReceipt) → receipt_at now s place ≡ Some p → p ≡ receipt = λ p e. polled_at place p
-          (ap (λ (u : Transport). option_and_then (λ r. polled r u now) (option_and_then (slice_get (values_of streams)) place)) (sym transport)
-          ∙ ap (λ (es : List (ℕ × TxRecord)). option_and_then (λ r. polled r s.transport now) (option_and_then (slice_get (values_of es)) place)) (sym tx) ∙ e) in
+      (ap (λ (u : Transport). option_and_then (λ r. polled r u now) (option_and_then (slice_get (values_of streams)) place)) (sym transport)
+      ∙ ap (λ (es : List (ℕ × TxRecord)). option_and_then (λ r. polled r s.transport now) (option_and_then (slice_get (values_of es)) place)) (sym tx) ∙ e) in
       ap (λ (x : Datagram). x.bytes) (from_receipt (receipt_at now s place) d polls (ap (λ o. sealed_by cipher o (receipt_at now s place)) (sym sealing) ∙ next)) ∙ bytes_are
 
   -- the header that is read off it
@@ -110,7 +110,7 @@ module _ (cipher : CipherMeaning) (k : SrtpState) (t : Transport) (now : ℕ) (m
   reads : (h : RtpHeader) → WrittenIsReadAgain → RtpSealKeepsHeader cipher → header_of t.exts packet_bytes ≡ Some h → Reads h
   reads h again keeps e =
       let same : wire_form t.exts header ≡ h =
-          some_same (wire_form t.exts header) h (sym (reads_header cipher k.profile k.keys 42 1 payload t.exts header again keeps is_header) ∙ e) in
+      some_same (wire_form t.exts header) h (sym (reads_header cipher k.profile k.keys 42 1 payload t.exts header again keeps is_header) ∙ e) in
       subst Reads same form_reads
 
   -- a session that expects the stream and was told nothing
@@ -136,7 +136,7 @@ module _ (cipher : CipherMeaning) (k : SrtpState) (t : Transport) (now : ℕ) (m
   number_is r h n x y e =
       let at : number_of (seen_of 42 []) ((42, expected 42 None mid None) ∷ []) r.probes 42 1 ≡ Some 1 = refl in
       let moved : number_of (seen_of h.ssrc r.state.seen) r.rx r.probes h.ssrc h.sequence_number ≡ number_of (seen_of 42 []) ((42, expected 42 None mid None) ∷ []) r.probes 42 1 =
-          cc (x.seen, x.rx, y.source, y.low) in
+      cc (x.seen, x.rx, y.source, y.low) in
       some_same n 1 (sym e ∙ moved ∙ at)
 
   -- what it opens to is the payload
@@ -145,8 +145,8 @@ module _ (cipher : CipherMeaning) (k : SrtpState) (t : Transport) (now : ℕ) (m
   opened_payload r h n other again keeps apart x o =
       let y : Reads h = reads h again keeps (ap (λ (m : ExtensionMap). header_of m packet_bytes) (sym x.transport) ∙ o.reads) in
       let opens : OpensTo cipher k.profile k.keys 42 1 (length (header_bytes t.exts header)) packet_bytes other =
-          opens_at h.ssrc 42 n 1 h.header_len (length (header_bytes t.exts header)) packet_bytes other y.source (number_is r h n x y o.accepts) y.long
-          (opens_same r.state.opening h n packet_bytes other x.opening o.opens) in
+      opens_at h.ssrc 42 n 1 h.header_len (length (header_bytes t.exts header)) packet_bytes other y.source (number_is r h n x y o.accepts) y.long
+      (opens_same r.state.opening h n packet_bytes other x.opening o.opens) in
       let kept : cut h other ≡ other = cut_plain h other y.plain in
       kept ∙ opens_to_it cipher k.profile k.keys 42 1 (header_bytes t.exts header) payload other keeps apart opens
     where

@@ -31,7 +31,7 @@ module _ (cipher : CipherMeaning) (profile : SrtpProfile) (keys : SessionKeys) (
       let same : take (length front) sealed_packet ++ other ≡ front ++ other = ap (λ (l : List ℕ). l ++ other) (begins keeps) in
       let long : length front ≤ length (front ++ other) = omega (arith, length-append front other) in
       let seals : sealed_rtp cipher profile keys ssrc index (length front) (front ++ other) ≡ sealed_packet =
-          ap (sealed_rtp cipher profile keys ssrc index (length front)) (sym same) ∙ opens.seal in
+      ap (sealed_rtp cipher profile keys ssrc index (length front)) (sym same) ∙ opens.seal in
       append_cancel_left front other payload (apart profile keys ssrc index (length front) (front ++ other) (front ++ payload) long within seals)
 
 -- the header that is read off it

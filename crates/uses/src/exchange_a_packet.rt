@@ -26,12 +26,7 @@ pub type End = Session<ToyCipher, MaskRegister>;
 
 /// An end with the keys of one side of the material, which knows payload type 96 and has one media
 /// section.
-pub fn end(
-    alloc: Global,
-    material: &KeyingMaterial,
-    mid: Mid,
-    left: bool,
-) -> Result<End, RtcError>
+pub fn end(alloc: Global, material: &KeyingMaterial, mid: Mid, left: bool) -> Result<End, RtcError>
     ensures made { IfOk result (λ s. StandsFor Remembers s (end_of material.now mid left)) }
 {
     let mut types = PayloadTypes::new(alloc);
@@ -39,7 +34,15 @@ pub fn end(
     types.add(TypeRow { pt, clock })?;
     let (id, unix_secs, exts) = (1, 1_700_000_000, ExtensionMap::empty());
     let beginning = Beginning { unix_secs };
-    let mut session = End::new(alloc, SessionConfig { id, beginning, exts, types });
+    let mut session = End::new(
+        alloc,
+        SessionConfig {
+            id,
+            beginning,
+            exts,
+            types,
+        },
+    );
     let cname = Bytes::from_slice(alloc, b"cam")?;
     session.add_media(Media::new(mid, MediaKind::Video, cname))?;
     session.set_keying_material(ToyCipher, SrtpProfile::AeadAes128Gcm, material, left)?;
@@ -79,7 +82,6 @@ pub fn write(end: &mut End, packet: RtpWrite) -> Result<(), RtcError>
 }
 
 /// Has one end write a packet, and gives what the other one tells: a packet of that payload, if any.
-#[tactic(none)]
 pub fn exchange(
     alloc: Global,
     material: &KeyingMaterial,
@@ -94,10 +96,14 @@ pub fn exchange(
     let (ssrc, now) = (Ssrc::from(42), Instant::from_nanos(1));
     let mut a = end(alloc, material, mid, true)?;
     let mut b = end(alloc, material, mid, false)?;
-    a.streams().declare_stream_tx(ssrc, None, MidRid(mid, None))?;
+    a.streams()
+        .declare_stream_tx(ssrc, None, MidRid(mid, None))?;
     b.streams().expect_stream_rx(ssrc, None, MidRid(mid, None))?;
     let payload = Payload::from_slice(alloc, payload)?;
-    write(&mut a, RtpWrite::new(Pt::from(96), SeqNo::from(1), 0, now, payload))?;
+    write(
+        &mut a,
+        RtpWrite::new(Pt::from(96), SeqNo::from(1), 0, now, payload),
+    )?;
     a.handle_timeout(now)?;
     hand_over(&mut a, &mut b, now)?;
     Ok(b.poll_event())

@@ -14,4 +14,3 @@ pub mod script_parts;
 pub mod seal_and_open;
 pub mod time_a_packet;
 pub mod widen_a_number;
-pub mod probe;

@@ -31,7 +31,7 @@ returns c =
     (ap (λ (s : SessionView _). s.state) c.in_ok-write.ensures)
     (ap (λ (s : SessionView _). s.state) c.in_ok-handle_timeout.ensures.ok)
     (expects c.args.material.now c.args.mid c.args.payload.now Remembers c.in_ok-b.b c.streams-2.result.now c.expect_stream_rx.new.self ssrc c.from-ssrc.ensures
-        c.in_ok-b.ensures.made c.streams-2.ensures.rx c.streams-2.ensures.tx c.in_ok-expect_stream_rx.ensures.ok)
+    c.in_ok-b.ensures.made c.streams-2.ensures.rx c.streams-2.ensures.tx c.in_ok-expect_stream_rx.ensures.ok)
     c.in_ok-hand_over.ensures.nothing
     c.in_ok-hand_over.ensures.received
     c.poll_event.ensures.event
