@@ -1,6 +1,6 @@
 -- What two ends exchange, from what each call leaves.
 use Rattle.std.proofs.Common.{◌≡◌, ◌<◌, ℕ, zero, suc, length, arith, false, true, List, [], ◌∷◌, Option, Some, None, refl, sym, ap, ◌∙◌, subst, slice_get}
-use Rattle.std.specs.Prelude.{IfSome, ◌||◌, is_none}
+use Rattle.std.specs.Prelude.{IfSome}
 use Rattle.std.specs.Map.{values_of}
 use Rattle.indexmap.specs.IndexMap.{set_value_at}
 use Rattle.repair_core.specs.Rounds.{Heard}
@@ -11,7 +11,7 @@ use Rattle.srtp_core.specs.Laws.{RtpSealsApart, RtpSealKeepsHeader}
 use Rattle.srtp_core.specs.Toy.{toy_meaning}
 use Rattle.srtp_core.specs.declared.profile.SrtpProfile.TheVariants.{AeadAes128Gcm}
 use Rattle.stream_core.specs.declared.transport.Transport.{Transport}
-use Rattle.stream_core.specs.RxRecord.{RxRecord, expected, StandsFor as RxStandsFor}
+use Rattle.stream_core.specs.RxRecord.{expected, StandsFor as RxStandsFor}
 use Rattle.stream_core.specs.StreamsRecord.{StreamsView, StreamsRecord, StandsFor as StreamsStandsFor}
 use Rattle.stream_core.specs.Tables.{Along, change_place, with_new}
 use Rattle.stream_core.specs.TxRecord.{TxRecord, declared, written}
@@ -24,7 +24,7 @@ use Rattle.session_core.specs.Receiving.{Receives}
 use Rattle.session_core.specs.Sending.{next_datagram, after_timeout}
 use Rattle.session_core.specs.SessionRecord.{SessionState, SessionView, SessionRecord, StandsFor}
 use Rattle.uses.specs.Exchange.{payload_told, first_write, end_of}
-use Rattle.uses.proofs.Exchanged.{Expects, streams, sent_bytes, packet_bytes, told, told_of}
+use Rattle.uses.proofs.Exchanged.{Expects, streams, sent_bytes, packet_bytes, told}
 
 -- a value is written over by what it changes to
 set_change : {X : Type 0} (f : X → X) (es : List (ℕ × X)) (i : ℕ) (x : X) → slice_get (values_of es) i ≡ Some x → set_value_at es i (f x) ≡ change_place f es i

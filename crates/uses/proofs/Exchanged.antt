@@ -1,5 +1,5 @@
 -- What a session tells of the packet that another one sealed.
-use Rattle.std.proofs.Common.{◌≡◌, ℕ, zero, suc, Bool, true, false, List, [], ◌∷◌, ◌++◌, length, Option, Some, None, refl, sym, ap, ◌∙◌, subst, arith, slice_get}
+use Rattle.std.proofs.Common.{◌≡◌, ℕ, zero, suc, Bool, true, false, List, [], ◌∷◌, length, Option, Some, None, refl, sym, ap, ◌∙◌, subst, arith, slice_get}
 use Rattle.std.specs.Prelude.{◌==◌, ◌||◌, IfSome, is_none, if◌then◌else◌, option_and_then}
 use Rattle.std.specs.Map.{values_of}
 use Rattle.std.specs.Option.{option_map}
@@ -7,23 +7,20 @@ use Rattle.std.specs.Prelude.{replicate}
 use Rattle.rtp_wire.specs.BytesLaws.{AreWords}
 use Rattle.rtp_wire.specs.declared.extension.ExtensionMap.{ExtensionMap}
 use Rattle.rtp_wire.specs.declared.header.RtpHeader.{RtpHeader}
-use Rattle.rtp_wire.specs.Extensions.{no_values}
 use Rattle.rtp_wire.specs.Header.{header_of, header_bytes, wire_form}
 use Rattle.rtp_wire.specs.HeaderLaws.{IsHeader, WrittenIsReadAgain}
 use Rattle.srtp_core.specs.Cipher.{CipherMeaning}
 use Rattle.srtp_core.specs.Contexts.{SrtpState}
-use Rattle.srtp_core.specs.Keys.{SessionKeys}
 use Rattle.srtp_core.specs.Laws.{RtpSealsApart, RtpSealKeepsHeader}
-use Rattle.srtp_core.specs.Seals.{sealed_rtp, OpensTo}
+use Rattle.srtp_core.specs.Seals.{OpensTo}
 use Rattle.stream_core.specs.declared.packet.RtpPacket.{RtpPacket}
 use Rattle.stream_core.specs.declared.stream_tx.PacketReceipt.{PacketReceipt}
 use Rattle.stream_core.specs.declared.transport.Transport.{Transport}
 use Rattle.stream_core.specs.Queue.{with_stamp}
-use Rattle.stream_core.specs.RxRecord.{RxRecord, expected}
+use Rattle.stream_core.specs.RxRecord.{expected}
 use Rattle.stream_core.specs.TxRecord.{TxRecord, declared, written, after_timeout, polled, receipt_of, sealed_header}
-use Rattle.stream_core.specs.Write.{WriteRecord, packet_of}
+use Rattle.stream_core.specs.Write.{packet_of}
 use Rattle.session_core.specs.declared.datagram.Datagram.{Datagram}
-use Rattle.session_core.specs.declared.datagram.Event.{Event}
 use Rattle.session_core.specs.declared.datagram.Event.TheVariants as event
 use Rattle.session_core.specs.declared.datagram.Opened.{Opened}
 use Rattle.session_core.specs.Calls.{next_event}

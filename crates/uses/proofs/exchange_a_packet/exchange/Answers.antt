@@ -1,10 +1,9 @@
-use Rattle.std.proofs.Common.{◌≡◌, None, ap, ◌∙◌}
+use Rattle.std.proofs.Common.{None, ap, ◌∙◌}
 use Rattle.mask_register.specs.MaskRegister.{Remembers}
 use Rattle.stream_core.specs.StreamsRecord.{StreamsView}
 use Rattle.stream_core.specs.Tables.{with_new}
 use Rattle.stream_core.specs.TxRecord.{declared}
 use Rattle.session_core.specs.SessionRecord.{SessionView, SessionState}
-use Rattle.uses.specs.Exchange.{first_write}
 use Rattle.uses.proofs.Ending.{at_end, expects, holds_one, write_is}
 use Rattle.uses.proofs.exchange_a_packet.exchange.Goals as goal
 
