@@ -227,6 +227,6 @@ fn the_queue_that_holds_a_packet_is_chosen(rt: HostRuntime) -> Result<(), Fail> 
         snapshot,
     };
     let chosen = send_next(&mut pacer, now, &[queue], DataSize::bytes(100))?;
-    assert!(rt; chosen == Some(MidRid(mid(), None)));
+    assert!(rt; chosen == Some(mid()));
     Ok(())
 }
