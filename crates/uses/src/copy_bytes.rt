@@ -18,7 +18,8 @@ pub fn copy_all<S: Source, K: Sink>(
     sink: &mut K,
 ) -> Result<usize, ReadError>
     ensures copied { IfOk result (λ count. (bytes : List ℕ) × (length bytes ≡ count)
-        × ReadsAll (S.left source.old) (S.left source.new) bytes × Appends (K.written sink.old) (K.written sink.new) bytes) }
+        × ReadsAll (S.left source.old) (S.left source.new) bytes
+        × Appends (K.written sink.old) (K.written sink.new) bytes) }
     ensures long { IsErrOf result TooLong → K.written sink.new ≡ K.written sink.old }
 {
     let bytes = read_all(alloc, source, 1_000_000)?;

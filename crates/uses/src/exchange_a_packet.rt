@@ -55,9 +55,12 @@ pub fn hand_over<C: SrtpCipher, W: GapWindow>(
     to: &mut Session<C, W>,
     now: Instant,
 ) -> Result<Option<Opened>, RtcError>
-    ensures sent { OnOk result (from.new ≡ record from.old { state = after_datagram now from.old.state }) }
-    ensures nothing { next_datagram C.meaning now from.old.state ≡ None → IfOk result (λ opened. (opened ≡ None) × (to.new ≡ to.old)) }
-    ensures received { IfOk result (λ opened. IfSome (next_datagram C.meaning now from.old.state) (λ sent.
+    ensures sent { OnOk result (from.new
+        ≡ record from.old { state = after_datagram now from.old.state }) }
+    ensures nothing { next_datagram C.meaning now from.old.state ≡ None
+        → IfOk result (λ opened. (opened ≡ None) × (to.new ≡ to.old)) }
+    ensures received { IfOk result (λ opened.
+        IfSome (next_datagram C.meaning now from.old.state) (λ sent.
         (r : SessionRecord) → StandsFor W.remembers to.old r → (after : SessionRecord)
         × Receives C.meaning r sent.bytes now after opened × StandsFor W.remembers to.new after)) }
 {
@@ -73,7 +76,9 @@ pub fn hand_over<C: SrtpCipher, W: GapWindow>(
 /// `Memory`, also for a packet that is not written for its number or its payload.
 pub fn write(end: &mut End, packet: RtpWrite) -> Result<(), RtcError>
     requires { 0 < length end.old.state.tx }
-    ensures { OnOk result (end.new ≡ record end.old { state = record end.old.state { tx = change_place (written packet) end.old.state.tx 0 } }) }
+    ensures { OnOk result (end.new ≡ record end.old {
+      state = record end.old.state { tx = change_place (written packet) end.old.state.tx 0 };
+    }) }
 {
     match end.streams().tx_at(0).write_rtp(packet) {
         Ok(()) => Ok(()),
@@ -81,7 +86,8 @@ pub fn write(end: &mut End, packet: RtpWrite) -> Result<(), RtcError>
     }
 }
 
-/// Has one end write a packet, and gives what the other one tells: a packet of that payload, if any.
+/// Has one end write a packet, and gives what the other one tells: if anything, a packet of that
+/// payload.
 pub fn exchange(
     alloc: Global,
     material: &KeyingMaterial,

@@ -9,8 +9,8 @@ use resend_core::{Cached, ResendStore, RtxCache};
 use rtp_base::SeqNo;
 use std::alloc::{AllocError, Global};
 
-/// Keeps a packet that was sent, and tells the length of the payload of the one that is asked for, if
-/// that is kept.
+/// Keeps a packet that was sent, and tells the length of the payload of the one that is asked for,
+/// if that is kept.
 pub fn keep_and_find<P: Cached, S: ResendStore<P>>(
     cache: &mut RtxCache<P, S>,
     packet: P,
@@ -18,7 +18,8 @@ pub fn keep_and_find<P: Cached, S: ResendStore<P>>(
     asked: SeqNo,
 ) -> Result<Option<usize>, AllocError>
     requires { P.size packet < 2000 }
-    ensures len { IfOk result (λ len. len ≡ option_map P.size (packet_at S.value_at cache.new asked)) }
+    ensures len { IfOk result (λ len. len
+        ≡ option_map P.size (packet_at S.value_at cache.new asked)) }
     ensures kept { OnOk result ((past : Past P) → StandsFor S.stands_for P.size cache.old past
         → IsCached S.stands_for P.size past (P.number packet) now packet cache.new) }
     ensures unchanged { OnErr result (cache.new ≡ cache.old) }

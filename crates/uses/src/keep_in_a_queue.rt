@@ -16,7 +16,8 @@ pub fn queue_of_one(
     now: Instant,
     value: u32,
 ) -> Result<QueueStore<u32>, AllocError>
-    ensures { IfOk result (λ queue. IsPushedInto StandsFor (made 10 3000000000 100) position now value queue) }
+    ensures { IfOk result (λ queue.
+        IsPushedInto StandsFor (made 10 3000000000 100) position now value queue) }
 {
     let mut queue = QueueStore::new(alloc, 10, Duration::from_secs(3), 100)?;
     queue.push(position, now, value)?;

@@ -1,5 +1,5 @@
-//! Callers of library crates, each in a file of its own: what a user writes, and what a contract may say
-//! of it.
+//! Callers of library crates, each in a file of its own: what a user writes, and what a contract
+//! may say of it.
 #![tactic(auto)]
 
 pub mod build_a_script;

@@ -8,8 +8,8 @@ use pace_core::{Pacer, QueueState};
 use rtp_base::Mid;
 use std::alloc::AllocError;
 
-/// Tells a pacer the queues, sends a packet of that size on the one that it chooses, if any, and tells
-/// whose media that is.
+/// Tells a pacer the queues, sends a packet of that size on the one that it chooses, if any, and
+/// tells whose media that is.
 pub fn send_next<P: Pacer>(
     pacer: &mut P,
     now: Instant,

@@ -15,8 +15,10 @@ pub fn write_and_poll(
     now: Instant,
     transport: &mut Transport,
 ) -> Result<Option<PacketReceipt>, WriteError>
-    ensures first { IfOk result (λ receipt. receipt ≡ polled (after_timeout now (written write stream.old)) transport.old now) }
-    ensures after { OnOk result (stream.new ≡ after_poll (after_timeout now (written write stream.old))) }
+    ensures first { IfOk result (λ receipt. receipt
+        ≡ polled (after_timeout now (written write stream.old)) transport.old now) }
+    ensures after { OnOk result (stream.new
+        ≡ after_poll (after_timeout now (written write stream.old))) }
     ensures long { IsTooLong write → IsErrOf result PayloadTooLong }
 {
     stream.write_rtp(write)?;

@@ -10,7 +10,8 @@ use rtp_wire::{ExtensionMap, RtpHeader, SeqNo, header_reads_own_bytes};
 
 /// The number of a packet, nearest to the last one of its source. None where no header stands.
 pub fn number_of(bytes: &[u8], exts: &ExtensionMap, last: Option<SeqNo>) -> Option<SeqNo>
-    ensures { result ≡ option_map (λ h. widen16 last h.sequence_number) (header_of exts.now bytes.now) }
+    ensures { result
+        ≡ option_map (λ h. widen16 last h.sequence_number) (header_of exts.now bytes.now) }
 {
     match RtpHeader::parse(bytes, exts) {
         Some(header) => Some(header.sequence_number(last)),
@@ -18,8 +19,8 @@ pub fn number_of(bytes: &[u8], exts: &ExtensionMap, last: Option<SeqNo>) -> Opti
     }
 }
 
-/// The payload of a packet, without its padding. None where no header stands, or where the payload does
-/// not end in the padding that it tells of.
+/// The payload of a packet, without its padding. None where no header stands, or where the payload
+/// does not end in the padding that it tells of.
 pub fn payload_of<'a>(bytes: &'a [u8], exts: &ExtensionMap) -> Option<&'a [u8]>
     ensures none { header_of exts.now bytes.now ≡ None → result ≡ None }
     ensures plain { (h : Head) → header_of exts.now bytes.now ≡ Some h → h.has_padding ≡ false

@@ -14,8 +14,10 @@ pub fn ask_for_missing<W: GapWindow>(
     now: Instant,
 ) -> ReportList<NackEntry>
     requires { number < 2 ^ 48 }
-    ensures entries { (past : Heard) → W.remembers window.old past → result ≡ packed None (due (came past number) now (wait_of None)) }
-    ensures after { (past : Heard) → W.remembers window.old past → W.remembers window.new (round (came past number) now (wait_of None)) }
+    ensures entries { (past : Heard) → W.remembers window.old past
+        → result ≡ packed None (due (came past number) now (wait_of None)) }
+    ensures after { (past : Heard) → W.remembers window.old past
+        → W.remembers window.new (round (came past number) now (wait_of None)) }
     ensures few { length result ≤ 6 }
 {
     let mut reports = ReportList::new();

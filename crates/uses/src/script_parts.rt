@@ -33,7 +33,12 @@ pub fn stream(side: Side, ssrc: u32) -> Stream
 
 /// A media section of pictures with its streams.
 pub fn video(mid: Mid, cname: Bytes, streams: Vec<Stream>) -> Media
-    ensures { result ≡ record { mid = mid; kind = MediaKind.Video; cname = cname; streams = streams.items } }
+    ensures { result ≡ record {
+      mid = mid;
+      kind = MediaKind.Video;
+      cname = cname;
+      streams = streams.items;
+    } }
 {
     Media {
         mid,
@@ -45,7 +50,13 @@ pub fn video(mid: Mid, cname: Bytes, streams: Vec<Stream>) -> Media
 
 /// A setup with the toy cipher, the profile of 128 bits and keys of zeros.
 pub fn setup(types: Vec<PayloadType>, media: Vec<Media>) -> Setup
-    ensures { result ≡ record { cipher = CipherName.Toy; profile = SrtpProfile.AeadAes128Gcm; key = Key.Zero; types = types.items; media = media.items } }
+    ensures { result ≡ record {
+      cipher = CipherName.Toy;
+      profile = SrtpProfile.AeadAes128Gcm;
+      key = Key.Zero;
+      types = types.items;
+      media = media.items;
+    } }
 {
     Setup {
         cipher: CipherName::Toy,
@@ -58,7 +69,15 @@ pub fn setup(types: Vec<PayloadType>, media: Vec<Media>) -> Setup
 
 /// A packet at RTP time 0, without marker, that is not sent again.
 pub fn packet(ssrc: u32, number: u64, pt: u8, payload: Bytes) -> Write
-    ensures { result ≡ record { ssrc = ssrc; number = number; pt = pt; rtp_time = 0; marker = false; nackable = false; payload = payload } }
+    ensures { result ≡ record {
+      ssrc = ssrc;
+      number = number;
+      pt = pt;
+      rtp_time = 0;
+      marker = false;
+      nackable = false;
+      payload = payload;
+    } }
 {
     Write {
         ssrc: Ssrc::from(ssrc),

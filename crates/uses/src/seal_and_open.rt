@@ -19,7 +19,8 @@ pub fn seal_and_open<C: SrtpCipher>(
 ) -> Result<Option<Vec<u8>>, SrtpError>
     requires header { header.now.header_len ≤ length datagram.now }
     requires short { length datagram.now ≤ 1984 }
-    ensures again { IfOk result (λ opened. IsSomeAnd opened (λ v. v.items ≡ drop header.now.header_len datagram.now)) }
+    ensures again { IfOk result (λ opened. IsSomeAnd opened (λ v.
+        v.items ≡ drop header.now.header_len datagram.now)) }
     ensures length { length material.now ≢ material_len profile → IsErrOf result KeyLength }
 {
     rtp_opens_sealed::<C>();
