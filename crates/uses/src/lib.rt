@@ -9,13 +9,23 @@ pub mod exchange_a_packet;
 pub mod keep_for_resending;
 pub mod keep_in_a_queue;
 pub mod pace_packets;
+pub mod play_a_script;
+pub mod put_into_order;
 pub mod queue_a_packet;
 pub mod read_a_header;
+pub mod read_a_pace_script;
+pub mod read_a_script;
+pub mod read_rtcp;
 pub mod register_by_mask;
 pub mod register_numbers;
+pub mod report_arrivals;
 pub mod script_parts;
 pub mod seal_and_open;
 #[cfg(test)]
 mod tests;
+#[cfg(test)]
+mod tests_of_scripts;
 pub mod time_a_packet;
+pub mod time_a_packet;
+pub mod widen_a_number;
 pub mod widen_a_number;
