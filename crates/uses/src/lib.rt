@@ -26,6 +26,4 @@ mod tests;
 #[cfg(test)]
 mod tests_of_scripts;
 pub mod time_a_packet;
-pub mod time_a_packet;
-pub mod widen_a_number;
 pub mod widen_a_number;
