@@ -1,5 +1,5 @@
 -- Lines of rows, one after another.
-use Rattle.std.proofs.Common.{◌≡◌, ℕ, ◌+◌, ◌<◌, ◌≤◌, List, [], ◌∷◌, ◌++◌, length, get_or, drop, refl, sym, ap, ◌∙◌, subst, arith}
+use Rattle.std.proofs.Common.{ℕ, ◌+◌, ◌<◌, ◌≤◌, List, [], ◌∷◌, ◌++◌, length, get_or, drop, refl, sym, subst}
 use Rattle.std.specs.declared.option.Option.{Option}
 use Rattle.std.specs.Io.KnownBytes.{Appends}
 use Rattle.std.proofs.KnownBytes.{Appends-nil, Appends-trans}
@@ -9,15 +9,14 @@ use Rattle.mediabench.specs.declared.timing.Figure.{Figure}
 use Rattle.mediabench.specs.Text.{row_line, TellsRows}
 
 -- a line of one row, and then lines of those behind it
-pub row_told : (rows : List Row) (i : ℕ) (row : Row) (figure : Figure) (a b c : Option (List ℕ)) → i < length rows → row ≡ get_or rows i row
-    → Appends a b (row_line row figure) → TellsRows (drop (i + 1) rows) b c → TellsRows (drop i rows) a c
-row_told rows i row figure a b c lt is wrote rest =
+pub row_told : (rows : List Row) (i : ℕ) (d : Row) (figure : Figure) (a b c : Option (List ℕ)) → i < length rows
+    → Appends a b (row_line (get_or rows i d) figure) → TellsRows (drop (i + 1) rows) b c → TellsRows (drop i rows) a c
+row_told rows i d figure a b c lt wrote rest =
     let Told : List Row → Type 0 = λ rs. TellsRows rs a c in
+    let row : Row = get_or rows i d in
     let whole : Told (row ∷ drop (i + 1) rows) =
     (row_line row figure ++ rest.0, (figure, rest.0, refl, rest.1), Appends-trans a b c (row_line row figure) rest.0 wrote rest.2) in
-    let parts : drop i rows ≡ row ∷ drop (i + 1) rows =
-    drop_more rows i row lt ∙ ap (λ (r : Row). r ∷ drop (i + 1) rows) (sym is) in
-    subst Told (sym parts) whole
+    subst Told (sym (drop_more rows i d lt)) whole
 
 -- no rows, and nothing was written
 pub none_told : (rows : List Row) (i : ℕ) (a : Option (List ℕ)) → length rows ≤ i → TellsRows (drop i rows) a a
