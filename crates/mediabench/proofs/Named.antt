@@ -15,8 +15,8 @@ one_more rows i d name lt none other row is =
     let Among : List Row → Type 0 = λ rs. Contains rs row in
     let among : Among (take i rows ++ get_or rows i d ∷ []) = subst Among (take_more rows i d lt) is.0 in
     elim (Contains-push_cases (take i rows) (get_or rows i d) row among) [
-      inl before ↦ none row (before, is.1)
-    | inr same ↦ other (ap (λ (r : Row). r.name.now) same ∙ is.1)
+      | inl before ↦ none row (before, is.1)
+      | inr same ↦ other (ap (λ (r : Row). r.name.now) same ∙ is.1)
     ]
 
 -- none of all rows has the name, where none of so many has it

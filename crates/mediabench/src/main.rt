@@ -3,19 +3,11 @@
 #![tactic(auto)]
 
 mod bench_main;
-mod ciphers;
 mod command;
 mod error;
-mod feedback;
 mod headers;
-mod memory;
-mod pacing;
-mod queues;
 mod registers;
 mod report;
-mod rtcp;
-mod runs;
-mod sessions;
 mod stores;
 mod table;
 mod timing;

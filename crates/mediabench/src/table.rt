@@ -1,15 +1,8 @@
 // The table of rows.
-use crate::ciphers::CipherWork;
-use crate::feedback::FeedbackWork;
 use crate::headers::HeaderWork;
-use crate::pacing::PacerWork;
 use crate::registers::{Numbers, RegisterWork};
-use crate::runs::RunWork;
-use crate::sessions::SessionWork;
 use crate::stores::{CacheWork, Packet, StoreWork};
-use crate::{queues, rtcp};
 use mask_register::MaskRegister;
-use queue_store::QueueStore;
 use repair_core::NackRegister;
 use resend_core::EvictingBuffer;
 use std::alloc::{AllocError, Global};
@@ -23,28 +16,10 @@ pub enum Work {
     Mask(RegisterWork),
     /// Calls of the ring of sent packets.
     Ring(StoreWork),
-    /// Calls of the queue of sent packets.
-    Queue(StoreWork),
     /// Calls of the cache over the ring.
     RingCache(CacheWork),
-    /// Calls of the cache over the queue.
-    QueueCache(CacheWork),
-    /// Calls of a pacer.
-    Pacer(PacerWork),
     /// Headers read and written.
     Header(HeaderWork),
-    /// Datagrams sealed and opened with the toy cipher.
-    Toy(CipherWork),
-    /// Transport-wide feedback.
-    Feedback(FeedbackWork),
-    /// A compound packet of a sender report, a description and a NACK, read.
-    Rtcp,
-    /// A packet pushed into the queue of those that wait, a tick, and the packet taken.
-    Waiting,
-    /// Calls of sessions.
-    Session(SessionWork),
-    /// Scripts read, played and told.
-    Run(RunWork),
 }
 
 impl Work {
@@ -55,17 +30,8 @@ impl Work {
             Work::Slots(work) => work.play::<NackRegister>(alloc, count),
             Work::Mask(work) => work.play::<MaskRegister>(alloc, count),
             Work::Ring(work) => work.play::<EvictingBuffer<u64>>(alloc, count),
-            Work::Queue(work) => work.play::<QueueStore<u64>>(alloc, count),
             Work::RingCache(work) => work.play::<EvictingBuffer<Packet>>(alloc, count),
-            Work::QueueCache(work) => work.play::<QueueStore<Packet>>(alloc, count),
-            Work::Pacer(work) => work.play(alloc, count),
             Work::Header(work) => Ok(work.play(count)),
-            Work::Toy(work) => work.play(alloc, count),
-            Work::Feedback(work) => work.play(alloc, count),
-            Work::Rtcp => rtcp::read(alloc, count),
-            Work::Waiting => queues::pass_all(alloc, count),
-            Work::Session(work) => work.play(alloc, count),
-            Work::Run(work) => work.play(alloc, count),
         }
     }
 }
@@ -82,7 +48,7 @@ pub struct Row {
 }
 
 /// The rows, in the order in which they are timed.
-pub const ROWS: [Row; 65] = [
+pub const ROWS: [Row; 26] = [
     Row {
         name: "take-in-order-slots",
         work: Work::Slots(RegisterWork::Take(Numbers::InOrder)),
@@ -204,91 +170,6 @@ pub const ROWS: [Row; 65] = [
         count: 400_000,
     },
     Row {
-        name: "push-queue",
-        work: Work::Queue(StoreWork::Push),
-        count: 400_000,
-    },
-    Row {
-        name: "push-and-evict-queue",
-        work: Work::Queue(StoreWork::PushAndEvict),
-        count: 400_000,
-    },
-    Row {
-        name: "get-queue",
-        work: Work::Queue(StoreWork::Get),
-        count: 400_000,
-    },
-    Row {
-        name: "cache-put-100-queue",
-        work: Work::QueueCache(CacheWork::Put(100)),
-        count: 100_000,
-    },
-    Row {
-        name: "cache-put-2000-queue",
-        work: Work::QueueCache(CacheWork::Put(2_000)),
-        count: 100_000,
-    },
-    Row {
-        name: "cache-put-32000-queue",
-        work: Work::QueueCache(CacheWork::Put(32_000)),
-        count: 100_000,
-    },
-    Row {
-        name: "cache-by-number-queue",
-        work: Work::QueueCache(CacheWork::ByNumber),
-        count: 400_000,
-    },
-    Row {
-        name: "cache-by-size-queue",
-        work: Work::QueueCache(CacheWork::BySize),
-        count: 400_000,
-    },
-    Row {
-        name: "leaky-pacer-1",
-        work: Work::Pacer(PacerWork::Leaky(1)),
-        count: 200_000,
-    },
-    Row {
-        name: "leaky-pacer-10",
-        work: Work::Pacer(PacerWork::Leaky(10)),
-        count: 100_000,
-    },
-    Row {
-        name: "leaky-pacer-100",
-        work: Work::Pacer(PacerWork::Leaky(100)),
-        count: 20_000,
-    },
-    Row {
-        name: "null-pacer-1",
-        work: Work::Pacer(PacerWork::Null(1)),
-        count: 200_000,
-    },
-    Row {
-        name: "null-pacer-10",
-        work: Work::Pacer(PacerWork::Null(10)),
-        count: 50_000,
-    },
-    Row {
-        name: "null-pacer-100",
-        work: Work::Pacer(PacerWork::Null(100)),
-        count: 2_000,
-    },
-    Row {
-        name: "null-pacer-poll-1",
-        work: Work::Pacer(PacerWork::NullPoll(1)),
-        count: 400_000,
-    },
-    Row {
-        name: "null-pacer-poll-10",
-        work: Work::Pacer(PacerWork::NullPoll(10)),
-        count: 400_000,
-    },
-    Row {
-        name: "null-pacer-poll-100",
-        work: Work::Pacer(PacerWork::NullPoll(100)),
-        count: 400_000,
-    },
-    Row {
         name: "header-read",
         work: Work::Header(HeaderWork::Read),
         count: 400_000,
@@ -297,115 +178,5 @@ pub const ROWS: [Row; 65] = [
         name: "header-write",
         work: Work::Header(HeaderWork::Write),
         count: 400_000,
-    },
-    Row {
-        name: "toy-seal-4",
-        work: Work::Toy(CipherWork::Seal(4)),
-        count: 50_000,
-    },
-    Row {
-        name: "toy-seal-100",
-        work: Work::Toy(CipherWork::Seal(100)),
-        count: 50_000,
-    },
-    Row {
-        name: "toy-seal-1200",
-        work: Work::Toy(CipherWork::Seal(1_200)),
-        count: 50_000,
-    },
-    Row {
-        name: "toy-open-4",
-        work: Work::Toy(CipherWork::Open(4)),
-        count: 50_000,
-    },
-    Row {
-        name: "toy-open-100",
-        work: Work::Toy(CipherWork::Open(100)),
-        count: 50_000,
-    },
-    Row {
-        name: "toy-open-1200",
-        work: Work::Toy(CipherWork::Open(1_200)),
-        count: 50_000,
-    },
-    Row {
-        name: "feedback-take",
-        work: Work::Feedback(FeedbackWork::Take),
-        count: 100_000,
-    },
-    Row {
-        name: "feedback-read",
-        work: Work::Feedback(FeedbackWork::Read),
-        count: 50_000,
-    },
-    Row {
-        name: "feedback-write",
-        work: Work::Feedback(FeedbackWork::Write),
-        count: 50_000,
-    },
-    Row {
-        name: "feedback-apply",
-        work: Work::Feedback(FeedbackWork::Apply),
-        count: 50_000,
-    },
-    Row {
-        name: "rtcp-read",
-        work: Work::Rtcp,
-        count: 50_000,
-    },
-    Row {
-        name: "send-queue",
-        work: Work::Waiting,
-        count: 400_000,
-    },
-    Row {
-        name: "session-send-4",
-        work: Work::Session(SessionWork::Send(4)),
-        count: 50_000,
-    },
-    Row {
-        name: "session-send-1200",
-        work: Work::Session(SessionWork::Send(1_200)),
-        count: 50_000,
-    },
-    Row {
-        name: "session-receive-4",
-        work: Work::Session(SessionWork::Receive(4)),
-        count: 50_000,
-    },
-    Row {
-        name: "session-receive-1200",
-        work: Work::Session(SessionWork::Receive(1_200)),
-        count: 50_000,
-    },
-    Row {
-        name: "script-line-4",
-        work: Work::Run(RunWork::Read(4)),
-        count: 10_000,
-    },
-    Row {
-        name: "script-line-1200",
-        work: Work::Run(RunWork::Read(1_200)),
-        count: 10_000,
-    },
-    Row {
-        name: "run-4",
-        work: Work::Run(RunWork::Play(4)),
-        count: 20_000,
-    },
-    Row {
-        name: "run-1200",
-        work: Work::Run(RunWork::Play(1_200)),
-        count: 20_000,
-    },
-    Row {
-        name: "run-and-print-4",
-        work: Work::Run(RunWork::Print(4)),
-        count: 20_000,
-    },
-    Row {
-        name: "line-1200",
-        work: Work::Run(RunWork::Line(1_200)),
-        count: 20_000,
     },
 ];
