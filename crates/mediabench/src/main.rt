@@ -3,9 +3,11 @@
 #![tactic(auto)]
 
 mod bench_main;
+mod ciphers;
 mod command;
 mod error;
 mod headers;
+mod queues;
 mod registers;
 mod report;
 mod stores;

@@ -1,5 +1,7 @@
 // The table of rows.
+use crate::ciphers::CipherWork;
 use crate::headers::HeaderWork;
+use crate::queues;
 use crate::registers::{Numbers, RegisterWork};
 use crate::stores::{CacheWork, Packet, StoreWork};
 use mask_register::MaskRegister;
@@ -20,6 +22,10 @@ pub enum Work {
     RingCache(CacheWork),
     /// Headers read and written.
     Header(HeaderWork),
+    /// Datagrams sealed and opened with the toy cipher.
+    Toy(CipherWork),
+    /// A packet pushed into the queue of those that wait, a tick, and the packet taken.
+    Waiting,
 }
 
 impl Work {
@@ -32,6 +38,8 @@ impl Work {
             Work::Ring(work) => work.play::<EvictingBuffer<u64>>(alloc, count),
             Work::RingCache(work) => work.play::<EvictingBuffer<Packet>>(alloc, count),
             Work::Header(work) => Ok(work.play(count)),
+            Work::Toy(work) => work.play(alloc, count),
+            Work::Waiting => queues::pass_all(alloc, count),
         }
     }
 }
@@ -48,7 +56,7 @@ pub struct Row {
 }
 
 /// The rows, in the order in which they are timed.
-pub const ROWS: [Row; 26] = [
+pub const ROWS: [Row; 33] = [
     Row {
         name: "take-in-order-slots",
         work: Work::Slots(RegisterWork::Take(Numbers::InOrder)),
@@ -177,6 +185,41 @@ pub const ROWS: [Row; 26] = [
     Row {
         name: "header-write",
         work: Work::Header(HeaderWork::Write),
+        count: 400_000,
+    },
+    Row {
+        name: "toy-seal-4",
+        work: Work::Toy(CipherWork::Seal(4)),
+        count: 50_000,
+    },
+    Row {
+        name: "toy-seal-100",
+        work: Work::Toy(CipherWork::Seal(100)),
+        count: 50_000,
+    },
+    Row {
+        name: "toy-seal-1200",
+        work: Work::Toy(CipherWork::Seal(1_200)),
+        count: 50_000,
+    },
+    Row {
+        name: "toy-open-4",
+        work: Work::Toy(CipherWork::Open(4)),
+        count: 50_000,
+    },
+    Row {
+        name: "toy-open-100",
+        work: Work::Toy(CipherWork::Open(100)),
+        count: 50_000,
+    },
+    Row {
+        name: "toy-open-1200",
+        work: Work::Toy(CipherWork::Open(1_200)),
+        count: 50_000,
+    },
+    Row {
+        name: "send-queue",
+        work: Work::Waiting,
         count: 400_000,
     },
 ];
