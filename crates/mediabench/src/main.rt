@@ -7,6 +7,7 @@ mod ciphers;
 mod command;
 mod error;
 mod headers;
+mod pacing;
 mod queues;
 mod registers;
 mod report;

@@ -32,6 +32,9 @@ pub enum RegisterWork {
     Report,
 }
 
+/// So many registers are asked in turn, so that no compiler asks one of them once for all.
+const REGISTERS: u64 = 16;
+
 // The number of a count, in 48 bits.
 fn at(count: u64) -> SeqNo
     ensures { result < 2 ^ 48 }
@@ -93,16 +96,28 @@ fn rounds<W: GapWindow>(alloc: Global, numbers: Numbers, count: u64) -> Result<u
     Ok(entries)
 }
 
-// Asks so often whether anything is missing, of a register that took 200 numbers.
-fn pending<W: GapWindow>(alloc: Global, count: u64) -> Result<u64, AllocError> {
-    let mut window = W::new(alloc, None)?;
-    for i in 0..200u64 {
-        let _ = window.update(at(i));
+// Registers that took 200 numbers each.
+fn full<W: GapWindow>(alloc: Global) -> Result<Vec<W>, AllocError> {
+    let mut windows = Vec::new(alloc);
+    for _r in 0..REGISTERS {
+        let mut window = W::new(alloc, None)?;
+        for i in 0..200u64 {
+            let _ = window.update(at(i));
+        }
+        windows.push(window)?;
     }
+    Ok(windows)
+}
+
+// Asks registers in turn, so often, whether anything is missing; tells how often nothing was.
+fn pending<W: GapWindow>(alloc: Global, count: u64) -> Result<u64, AllocError> {
+    let windows: Vec<W> = full(alloc)?;
     let mut quiet: u64 = 0;
-    for _i in 0..count {
-        if !window.has_pending_nacks() {
-            quiet = quiet.wrapping_add(1);
+    for i in 0..count {
+        if let Some(window) = windows.get((i % REGISTERS) as usize) {
+            if !window.has_pending_nacks() {
+                quiet = quiet.wrapping_add(1);
+            }
         }
     }
     Ok(quiet)
@@ -124,16 +139,35 @@ fn receive<W: GapWindow>(alloc: Global, count: u64) -> Result<u64, AllocError> {
     Ok(fresh)
 }
 
-// Makes so many reports of 200 packets; tells the sum of their greatest numbers.
-fn reports<W: GapWindow>(alloc: Global, count: u64) -> Result<u64, AllocError> {
-    let mut register: ReceiverRegister<W> = ReceiverRegister::new(alloc, None)?;
-    for i in 0..200u64 {
-        let _ = receive_next(&mut register, i);
+// Receiver's registers that took 200 packets each.
+fn receivers<W: GapWindow>(alloc: Global) -> Result<Vec<ReceiverRegister<W>>, AllocError> {
+    let mut registers = Vec::new(alloc);
+    for _r in 0..REGISTERS {
+        let mut register: ReceiverRegister<W> = ReceiverRegister::new(alloc, None)?;
+        for i in 0..200u64 {
+            let _ = receive_next(&mut register, i);
+        }
+        registers.push(register)?;
     }
+    Ok(registers)
+}
+
+// The greatest number of a register's report.
+fn report_of<W: GapWindow>(register: &mut ReceiverRegister<W>) -> u64 {
+    match register.reception_report() {
+        Some(report) => u64::from(report.max_seq),
+        None => 0,
+    }
+}
+
+// Has registers make their reports in turn, so often; tells the sum of the greatest numbers.
+fn reports<W: GapWindow>(alloc: Global, count: u64) -> Result<u64, AllocError> {
+    let mut registers: Vec<ReceiverRegister<W>> = receivers(alloc)?;
     let mut sum: u64 = 0;
-    for _i in 0..count {
-        if let Some(report) = register.reception_report() {
-            sum = sum.wrapping_add(u64::from(report.max_seq));
+    for i in 0..count {
+        let place = (i % REGISTERS) as usize;
+        if place < registers.len() {
+            sum = sum.wrapping_add(report_of(&mut registers[place]));
         }
     }
     Ok(sum)

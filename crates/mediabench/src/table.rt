@@ -1,10 +1,12 @@
 // The table of rows.
 use crate::ciphers::CipherWork;
 use crate::headers::HeaderWork;
+use crate::pacing::PacerWork;
 use crate::queues;
 use crate::registers::{Numbers, RegisterWork};
 use crate::stores::{CacheWork, Packet, StoreWork};
 use mask_register::MaskRegister;
+use queue_store::QueueStore;
 use repair_core::NackRegister;
 use resend_core::EvictingBuffer;
 use std::alloc::{AllocError, Global};
@@ -18,8 +20,14 @@ pub enum Work {
     Mask(RegisterWork),
     /// Calls of the ring of sent packets.
     Ring(StoreWork),
+    /// Calls of the queue of sent packets.
+    Queue(StoreWork),
     /// Calls of the cache over the ring.
     RingCache(CacheWork),
+    /// Calls of the cache over the queue.
+    QueueCache(CacheWork),
+    /// Calls of a pacer.
+    Pacer(PacerWork),
     /// Headers read and written.
     Header(HeaderWork),
     /// Datagrams sealed and opened with the toy cipher.
@@ -36,7 +44,10 @@ impl Work {
             Work::Slots(work) => work.play::<NackRegister>(alloc, count),
             Work::Mask(work) => work.play::<MaskRegister>(alloc, count),
             Work::Ring(work) => work.play::<EvictingBuffer<u64>>(alloc, count),
+            Work::Queue(work) => work.play::<QueueStore<u64>>(alloc, count),
             Work::RingCache(work) => work.play::<EvictingBuffer<Packet>>(alloc, count),
+            Work::QueueCache(work) => work.play::<QueueStore<Packet>>(alloc, count),
+            Work::Pacer(work) => work.play(alloc, count),
             Work::Header(work) => Ok(work.play(count)),
             Work::Toy(work) => work.play(alloc, count),
             Work::Waiting => queues::pass_all(alloc, count),
@@ -56,7 +67,7 @@ pub struct Row {
 }
 
 /// The rows, in the order in which they are timed.
-pub const ROWS: [Row; 33] = [
+pub const ROWS: [Row; 50] = [
     Row {
         name: "take-in-order-slots",
         work: Work::Slots(RegisterWork::Take(Numbers::InOrder)),
@@ -175,6 +186,91 @@ pub const ROWS: [Row; 33] = [
     Row {
         name: "cache-by-size-ring",
         work: Work::RingCache(CacheWork::BySize),
+        count: 400_000,
+    },
+    Row {
+        name: "push-queue",
+        work: Work::Queue(StoreWork::Push),
+        count: 400_000,
+    },
+    Row {
+        name: "push-and-evict-queue",
+        work: Work::Queue(StoreWork::PushAndEvict),
+        count: 400_000,
+    },
+    Row {
+        name: "get-queue",
+        work: Work::Queue(StoreWork::Get),
+        count: 400_000,
+    },
+    Row {
+        name: "cache-put-100-queue",
+        work: Work::QueueCache(CacheWork::Put(100)),
+        count: 100_000,
+    },
+    Row {
+        name: "cache-put-2000-queue",
+        work: Work::QueueCache(CacheWork::Put(2_000)),
+        count: 100_000,
+    },
+    Row {
+        name: "cache-put-32000-queue",
+        work: Work::QueueCache(CacheWork::Put(32_000)),
+        count: 100_000,
+    },
+    Row {
+        name: "cache-by-number-queue",
+        work: Work::QueueCache(CacheWork::ByNumber),
+        count: 400_000,
+    },
+    Row {
+        name: "cache-by-size-queue",
+        work: Work::QueueCache(CacheWork::BySize),
+        count: 400_000,
+    },
+    Row {
+        name: "leaky-pacer-1",
+        work: Work::Pacer(PacerWork::Leaky(1)),
+        count: 200_000,
+    },
+    Row {
+        name: "leaky-pacer-10",
+        work: Work::Pacer(PacerWork::Leaky(10)),
+        count: 100_000,
+    },
+    Row {
+        name: "leaky-pacer-100",
+        work: Work::Pacer(PacerWork::Leaky(100)),
+        count: 20_000,
+    },
+    Row {
+        name: "null-pacer-1",
+        work: Work::Pacer(PacerWork::Null(1)),
+        count: 200_000,
+    },
+    Row {
+        name: "null-pacer-10",
+        work: Work::Pacer(PacerWork::Null(10)),
+        count: 50_000,
+    },
+    Row {
+        name: "null-pacer-100",
+        work: Work::Pacer(PacerWork::Null(100)),
+        count: 2_000,
+    },
+    Row {
+        name: "null-pacer-poll-1",
+        work: Work::Pacer(PacerWork::NullPoll(1)),
+        count: 400_000,
+    },
+    Row {
+        name: "null-pacer-poll-10",
+        work: Work::Pacer(PacerWork::NullPoll(10)),
+        count: 400_000,
+    },
+    Row {
+        name: "null-pacer-poll-100",
+        work: Work::Pacer(PacerWork::NullPoll(100)),
         count: 400_000,
     },
     Row {
