@@ -6,6 +6,7 @@ mod bench_main;
 mod ciphers;
 mod command;
 mod error;
+mod feedback;
 mod headers;
 mod pacing;
 mod queues;

@@ -1,5 +1,6 @@
 // The table of rows.
 use crate::ciphers::CipherWork;
+use crate::feedback::FeedbackWork;
 use crate::headers::HeaderWork;
 use crate::pacing::PacerWork;
 use crate::queues;
@@ -32,6 +33,8 @@ pub enum Work {
     Header(HeaderWork),
     /// Datagrams sealed and opened with the toy cipher.
     Toy(CipherWork),
+    /// Transport-wide feedback.
+    Feedback(FeedbackWork),
     /// A packet pushed into the queue of those that wait, a tick, and the packet taken.
     Waiting,
 }
@@ -50,6 +53,7 @@ impl Work {
             Work::Pacer(work) => work.play(alloc, count),
             Work::Header(work) => Ok(work.play(count)),
             Work::Toy(work) => work.play(alloc, count),
+            Work::Feedback(work) => work.play(alloc, count),
             Work::Waiting => queues::pass_all(alloc, count),
         }
     }
@@ -67,7 +71,7 @@ pub struct Row {
 }
 
 /// The rows, in the order in which they are timed.
-pub const ROWS: [Row; 50] = [
+pub const ROWS: [Row; 54] = [
     Row {
         name: "take-in-order-slots",
         work: Work::Slots(RegisterWork::Take(Numbers::InOrder)),
@@ -311,6 +315,26 @@ pub const ROWS: [Row; 50] = [
     Row {
         name: "toy-open-1200",
         work: Work::Toy(CipherWork::Open(1_200)),
+        count: 50_000,
+    },
+    Row {
+        name: "feedback-take",
+        work: Work::Feedback(FeedbackWork::Take),
+        count: 100_000,
+    },
+    Row {
+        name: "feedback-read",
+        work: Work::Feedback(FeedbackWork::Read),
+        count: 50_000,
+    },
+    Row {
+        name: "feedback-write",
+        work: Work::Feedback(FeedbackWork::Write),
+        count: 50_000,
+    },
+    Row {
+        name: "feedback-apply",
+        work: Work::Feedback(FeedbackWork::Apply),
         count: 50_000,
     },
     Row {
