@@ -3,9 +3,11 @@ use crate::ciphers::CipherWork;
 use crate::feedback::FeedbackWork;
 use crate::headers::HeaderWork;
 use crate::pacing::PacerWork;
-use crate::queues;
 use crate::registers::{Numbers, RegisterWork};
+use crate::runs::RunWork;
+use crate::sessions::SessionWork;
 use crate::stores::{CacheWork, Packet, StoreWork};
+use crate::{queues, rtcp};
 use mask_register::MaskRegister;
 use queue_store::QueueStore;
 use repair_core::NackRegister;
@@ -35,8 +37,14 @@ pub enum Work {
     Toy(CipherWork),
     /// Transport-wide feedback.
     Feedback(FeedbackWork),
+    /// A compound packet of a sender report, a description and a NACK, read.
+    Rtcp,
     /// A packet pushed into the queue of those that wait, a tick, and the packet taken.
     Waiting,
+    /// Calls of sessions.
+    Session(SessionWork),
+    /// Scripts read, played and told.
+    Run(RunWork),
 }
 
 impl Work {
@@ -54,7 +62,10 @@ impl Work {
             Work::Header(work) => Ok(work.play(count)),
             Work::Toy(work) => work.play(alloc, count),
             Work::Feedback(work) => work.play(alloc, count),
+            Work::Rtcp => rtcp::read(alloc, count),
             Work::Waiting => queues::pass_all(alloc, count),
+            Work::Session(work) => work.play(alloc, count),
+            Work::Run(work) => work.play(alloc, count),
         }
     }
 }
@@ -71,7 +82,7 @@ pub struct Row {
 }
 
 /// The rows, in the order in which they are timed.
-pub const ROWS: [Row; 54] = [
+pub const ROWS: [Row; 65] = [
     Row {
         name: "take-in-order-slots",
         work: Work::Slots(RegisterWork::Take(Numbers::InOrder)),
@@ -338,8 +349,63 @@ pub const ROWS: [Row; 54] = [
         count: 50_000,
     },
     Row {
+        name: "rtcp-read",
+        work: Work::Rtcp,
+        count: 50_000,
+    },
+    Row {
         name: "send-queue",
         work: Work::Waiting,
         count: 400_000,
+    },
+    Row {
+        name: "session-send-4",
+        work: Work::Session(SessionWork::Send(4)),
+        count: 50_000,
+    },
+    Row {
+        name: "session-send-1200",
+        work: Work::Session(SessionWork::Send(1_200)),
+        count: 50_000,
+    },
+    Row {
+        name: "session-receive-4",
+        work: Work::Session(SessionWork::Receive(4)),
+        count: 50_000,
+    },
+    Row {
+        name: "session-receive-1200",
+        work: Work::Session(SessionWork::Receive(1_200)),
+        count: 50_000,
+    },
+    Row {
+        name: "script-line-4",
+        work: Work::Run(RunWork::Read(4)),
+        count: 10_000,
+    },
+    Row {
+        name: "script-line-1200",
+        work: Work::Run(RunWork::Read(1_200)),
+        count: 10_000,
+    },
+    Row {
+        name: "run-4",
+        work: Work::Run(RunWork::Play(4)),
+        count: 20_000,
+    },
+    Row {
+        name: "run-1200",
+        work: Work::Run(RunWork::Play(1_200)),
+        count: 20_000,
+    },
+    Row {
+        name: "run-and-print-4",
+        work: Work::Run(RunWork::Print(4)),
+        count: 20_000,
+    },
+    Row {
+        name: "line-1200",
+        work: Work::Run(RunWork::Line(1_200)),
+        count: 20_000,
     },
 ];
