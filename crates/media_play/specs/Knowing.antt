@@ -1,52 +1,87 @@
--- What the streams of a side know of the entries so far.
-use Rattle.std.specs.Prelude.{◌≡◌, ℕ, ◌==◌, if◌then◌else◌, List, [], ◌∷◌, map, Option, None}
-use Rattle.std.specs.List.{list_any, AllByRecursion}
+-- What a session knows of the entries so far.
+use Rattle.std.specs.Prelude.{◌≡◌, ℕ, zero, suc, ◌==◌, ◌||◌, Bool, true, false, if◌then◌else◌, List, [], ◌∷◌, map, slice_get, is_some, Option, Some, None}
+use Rattle.std.specs.List.{list_any, AllByRecursion, AllZip}
 use Rattle.std.specs.BTreeSet.{contains}
+use Rattle.std.specs.Map.{keys_of}
 use Rattle.std.specs.Ordering.{nat_cmp}
 use Rattle.rtp_wire.specs.declared.header.RtpHeader.{RtpHeader}
-use Rattle.repair_core.specs.NackRegister.{StandsFor}
+use Rattle.srtp_core.specs.Contexts.{SrtpState}
+use Rattle.stream_core.specs.RxRecord.{RxRecord, taken_of}
+use Rattle.stream_core.specs.Tables.{place_of}
+use Rattle.stream_core.specs.TxRecord.{TxRecord}
+use Rattle.session_core.specs.Receiving.{seen_of}
+use Rattle.session_core.specs.Sending.{has_mid}
+use Rattle.session_core.specs.SessionRecord.{MediaRecord, SessionRecord}
 use Rattle.media_model.specs.declared.entry.Side.{Side}
 use Rattle.media_model.specs.declared.entry.Entry.{Entry}
 use Rattle.media_model.specs.declared.setup.Setup.{Setup}
 use Rattle.media_model.specs.Sides.{peer_of}
 use Rattle.media_model.specs.Setup.{streams_of, types_of}
-use Rattle.media_play.specs.declared.stream.Outgoing.{Outgoing}
-use Rattle.media_play.specs.declared.stream.Incoming.{Incoming}
-use Rattle.media_play.specs.declared.streams.Streams.{Streams}
 use Rattle.media_model.specs.Entries.{queued, taken, writes_on}
+use Rattle.media_play.specs.declared.numbers.Numbers.{Numbers}
 use Rattle.media_play.specs.Opening.{is_known, fresh_number}
 use Rattle.media_play.specs.Packets.{waiting_of}
+use Rattle.media_play.specs.Plain.{extensions_of}
+use Rattle.media_play.specs.Rules.{has}
 
--- what waits is what is queued, and the used numbers are those that were written
-pub record SendsAs (side : Side) (entries : List Entry) (stream : Outgoing) : Type 0 where
-  pub queue : stream.queue ≡ map waiting_of (queued side stream.ssrc entries)
-  pub used : (n : ℕ) → contains nat_cmp stream.used n
-      ≡ list_any (λ w. w.number == n) (writes_on side stream.ssrc entries)
+-- an outgoing stream stands under its SSRC, some media section has its mid, and what waits is what
+-- is queued
+pub record SendsAs (side : Side) (entries : List Entry) (medias : List MediaRecord)
+    (e : ℕ × TxRecord) : Type 0 where
+  pub ssrc : e.1.ssrc ≡ e.0
+  pub mid : has_mid e.1.mid medias ≡ true
+  pub queue : e.1.queue ≡ map waiting_of (queued side e.0 entries)
 
-abbrev pub TakesAs : Side → List Entry → Incoming → Type 0
-TakesAs side entries stream = StandsFor stream.register (taken side stream.ssrc entries)
+-- an incoming stream has taken what the entries say, and no rollover count was set
+pub record TakesAs (side : Side) (entries : List Entry) (seen : List (ℕ × ℕ))
+    (e : ℕ × RxRecord) : Type 0 where
+  pub roc : e.1.roc ≡ None
+  pub numbers : taken_of (seen_of e.0 seen) e.1 ≡ taken side e.0 entries
 
-abbrev pub ssrc_of : Outgoing → ℕ
-ssrc_of stream = stream.ssrc
-
-abbrev pub source_of : Incoming → ℕ
-source_of stream = stream.ssrc
-
--- the streams are those of the setup, and each stands for what the entries say of it
-pub record Knows (setup : Setup) (side : Side) (streams : Streams)
+-- the streams are those of the setup, and each stands for what the entries say of it; no packet
+-- waits to be told
+pub record Knows (setup : Setup) (side : Side) (s : SessionRecord)
     (entries : List Entry) : Type 0 where
-  pub outgoing : map ssrc_of streams.outgoing.items ≡ streams_of side setup
-  pub sends : AllByRecursion (SendsAs side entries) streams.outgoing.items
-  pub incoming : map source_of streams.incoming.items ≡ 0 ∷ streams_of (peer_of side) setup
-  pub takes : AllByRecursion (TakesAs side entries) streams.incoming.items
-  pub types : streams.types.items ≡ types_of setup
+  pub runs : s.state.stopped ≡ false
+  pub told : s.state.packet ≡ None
+  pub types : (pt : ℕ) → is_some (place_of pt s.state.types) ≡ has (types_of setup) pt
+  pub exts : s.state.transport.exts ≡ extensions_of setup
+  pub outgoing : keys_of s.state.tx ≡ streams_of side setup
+  pub sends : AllByRecursion (SendsAs side entries s.state.medias) s.state.tx
+  pub incoming : keys_of s.rx ≡ streams_of (peer_of side) setup
+  pub takes : AllByRecursion (TakesAs side entries s.state.seen) s.rx
+  pub probes : TakesAs side entries s.state.seen (0, s.probes)
 
--- a stream without what waited on it
-abbrev pub emptied : Outgoing → Outgoing
-emptied stream = record stream { queue = [] }
+-- the numbers that were written under an SSRC
+abbrev pub UsedAs : Side → List Entry → ℕ → Numbers → Type 0
+UsedAs side entries ssrc used =
+    (n : ℕ) → contains nat_cmp used.all n
+    ≡ list_any (λ w. w.number == n) (writes_on side ssrc entries)
+
+-- the same for each stream of a side
+abbrev pub AreUsed : Setup → Side → List Entry → List Numbers → Type 0
+AreUsed setup side entries used = AllZip (UsedAs side entries) (streams_of side setup) used
 
 -- the number under which a datagram with this header may still open
 abbrev pub accepted : Setup → Side → List Entry → RtpHeader → Option ℕ
 accepted setup side entries header =
     if is_known setup side header
     then fresh_number (taken side header.ssrc entries) header.sequence_number else None
+
+-- a number was written on the stream at a place
+abbrev pub has_number : Option Numbers → ℕ → Bool
+has_number None n = false
+has_number (Some used) n = contains nat_cmp used.all n
+
+abbrev pub has_written : List Numbers → ℕ → ℕ → Bool
+has_written written place n = has_number (slice_get written place) n
+
+-- one number more is written there
+abbrev pub IsNoted : ℕ → ℕ → List Numbers → List Numbers → Type 0
+IsNoted place n [] new = new ≡ []
+IsNoted zero n (used ∷ old) [] = ⊥
+IsNoted zero n (used ∷ old) (now ∷ new) =
+    ((k : ℕ) → contains nat_cmp now.all k ≡ (contains nat_cmp used.all k || (n == k)))
+    × (new ≡ old)
+IsNoted (suc place) n (used ∷ old) [] = ⊥
+IsNoted (suc place) n (used ∷ old) (now ∷ new) = (now ≡ used) × IsNoted place n old new

@@ -12,6 +12,7 @@ pub mod Laws
 pub mod Packets
 pub mod Knowing
 pub mod Sessions
+pub mod Starting
 pub mod Running
 pub mod Errors
 pub mod FaultNames

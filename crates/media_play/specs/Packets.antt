@@ -1,19 +1,18 @@
 -- Packets on their way through a session.
-use Rattle.std.specs.Prelude.{ℕ, ◌%◌, ◌<◌, ◌^◌, false, List, ◌++◌, replicate}
-use Rattle.rtp_wire.specs.declared.header.RtpHeader.{RtpHeader}
-use Rattle.rtp_wire.specs.Extensions.{no_extensions, no_values}
-use Rattle.rtp_wire.specs.Header.{header_bytes}
-use Rattle.srtp_core.specs.Cipher.{CipherMeaning}
-use Rattle.srtp_core.specs.Contexts.{SrtpState}
-use Rattle.srtp_core.specs.Seals.{sealed_rtp}
+use Rattle.std.specs.Prelude.{ℕ, ◌<◌, ◌^◌, List, [], map, Option, Some, None}
+use Rattle.rtp_wire.specs.Header.{csrc_of}
+use Rattle.rtp_wire.specs.Extensions.{no_values}
+use Rattle.stream_core.specs.declared.packet.RtpPacket.{RtpPacket}
+use Rattle.stream_core.specs.Write.{WriteRecord, packet_of}
+use Rattle.session_core.specs.declared.datagram.Datagram.{Datagram}
+use Rattle.session_core.specs.declared.datagram.Event.{Event}
+use Rattle.session_core.specs.declared.datagram.Event.TheVariants.{RtpPacket as Told}
 use Rattle.media_model.specs.declared.entry.Side.{Side}
-use Rattle.rtp_base.specs.declared.kind.Kind.TheVariants.{Rtp}
+use Rattle.media_model.specs.declared.entry.Packet.{Packet}
 use Rattle.media_model.specs.declared.entry.Write.{Write as Writing}
 use Rattle.media_model.specs.declared.entry.Sealed.{Sealed as SealedEntry}
-
--- the bytes of a header without sources and extension (RFC 3550 section 5.1)
-abbrev pub fixed_len : ℕ
-fixed_len = 12
+use Rattle.media_model.specs.declared.entry.Entry.{Entry}
+use Rattle.media_model.specs.declared.entry.Entry.TheVariants.{Sealed}
 
 -- a write whose fields fit the header's
 pub record FitsHeader (w : Writing) : Type 0 where
@@ -21,46 +20,50 @@ pub record FitsHeader (w : Writing) : Type 0 where
   pub time : w.rtp_time < 2 ^ 32
   pub pt : w.pt < 2 ^ 7
 
--- the header with which a write waits: no padding, no contributing source, no extension
-abbrev pub header_of_write : Writing → RtpHeader
-header_of_write w = record {
-  has_padding = false;
+-- a write as it is handed to its stream, at a moment
+abbrev pub write_at : ℕ → Writing → WriteRecord
+write_at time w = record {
+  pt = w.pt;
+  seq_no = w.number;
+  time = w.rtp_time;
+  wallclock = time;
   marker = w.marker;
-  payload_type = w.pt;
-  sequence_number = w.number % 65536;
-  timestamp = w.rtp_time;
-  ssrc = w.ssrc;
-  csrc_count = 0;
-  csrc = replicate 15 0;
   ext_vals = no_values;
-  header_len = fixed_len;
+  nackable = w.nackable;
+  payload = w.payload;
+  csrc = [];
 }
 
--- a write as it waits: its header and its payload
-unfoldable pub plain_of : Writing → List ℕ
-plain_of w = header_bytes no_extensions (header_of_write w) ++ w.payload
+-- the packet that waits after it, whatever the moment
+abbrev pub waiting_of : Writing → RtpPacket
+waiting_of w = packet_of w.ssrc (write_at 0 w)
 
--- a packet that waits to be sealed
-pub record WaitingPacket : Type 0 where
-  pub header : RtpHeader
-  pub number : ℕ
-  pub plain : List ℕ
-
-abbrev pub waiting_of : Writing → WaitingPacket
-waiting_of w = record { header = header_of_write w; number = w.number; plain = plain_of w }
-
--- how a context seals
-abbrev pub seal_in : CipherMeaning → SrtpState → ℕ → ℕ → ℕ → List ℕ → List ℕ
-seal_in cipher state ssrc index n plain =
-    sealed_rtp cipher state.profile state.keys ssrc index n plain
-
--- the seal of a packet that waited
-abbrev pub sealed_packet : (ℕ → ℕ → ℕ → List ℕ → List ℕ) → Side → WaitingPacket → SealedEntry
-sealed_packet seal side w = record {
+-- a datagram that a session sends, as an entry of its side
+abbrev pub sealed_from : Side → Datagram → SealedEntry
+sealed_from side d = record {
   side = side;
-  kind = Rtp;
-  ssrc = w.header.ssrc;
-  index = w.number;
-  plain = w.plain;
-  bytes = seal w.header.ssrc w.number w.header.header_len w.plain;
+  kind = d.kind;
+  ssrc = d.ssrc;
+  index = d.index;
+  plain = d.plain;
+  bytes = d.bytes;
 }
+
+abbrev pub seals_from : Side → List Datagram → List Entry
+seals_from side datagrams = map (λ d. Sealed (sealed_from side d)) datagrams
+
+-- the packet that a session tells of
+abbrev pub packet_told : RtpPacket → Packet
+packet_told p = record {
+  ssrc = p.header.ssrc;
+  number = p.seq_no;
+  pt = p.header.payload_type;
+  rtp_time = p.header.timestamp;
+  marker = p.header.marker;
+  csrc = csrc_of p.header;
+  payload = p.payload;
+}
+
+abbrev pub told_packet : Option Event → Option Packet
+told_packet None = None
+told_packet (Some (Told p)) = Some (packet_told p)

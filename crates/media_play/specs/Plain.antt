@@ -3,7 +3,7 @@ use Rattle.std.specs.Prelude.{◌≡◌, ℕ, ◌%◌, false, Option, Some, None
 use Rattle.rtp_wire.specs.declared.extension.ExtensionMap.{ExtensionMap}
 use Rattle.rtp_wire.specs.declared.header.RtpHeader.{RtpHeader}
 use Rattle.rtp_wire.specs.Extensions.{no_extensions}
-use Rattle.rtp_wire.specs.Header.{header_of, header_bytes}
+use Rattle.rtp_wire.specs.Header.{header_of, header_bytes, wire_form}
 use Rattle.media_model.specs.declared.setup.Setup.{Setup}
 use Rattle.media_model.specs.declared.entry.Write.{Write as Writing}
 use Rattle.media_model.specs.declared.entry.Packet.{Packet}
@@ -22,8 +22,9 @@ len_of None = 0
 len_of (Some header) = header.header_len
 
 -- A plain datagram carries a write: under this map it reads with the write's SSRC, the low 16 bits
--- of its number, its type, time and marker, without padding and contributing sources; it is written
--- as that header is (RFC 3550 section 5.1), and behind it stands the write's payload.
+-- of its number, its type, time and marker, without padding and contributing sources; it is a header
+-- as it is written (RFC 3550 section 5.1), which is read again as its wire form, and behind it
+-- stands the write's payload.
 pub record Carries (exts : ExtensionMap) (plain : List ℕ) (w : Writing) : Type 0 where
   pub header : RtpHeader
   pub reads : header_of exts plain ≡ Some header
@@ -35,7 +36,9 @@ pub record Carries (exts : ExtensionMap) (plain : List ℕ) (w : Writing) : Type
   pub no_padding : header.has_padding ≡ false
   pub no_sources : header.csrc_count ≡ 0
   pub payload : drop header.header_len plain ≡ w.payload
-  pub written : plain ≡ header_bytes exts header ++ w.payload
+  pub sealed : RtpHeader
+  pub wire : header ≡ wire_form exts sealed
+  pub written : plain ≡ header_bytes exts sealed ++ w.payload
 
 -- the packet that a write is
 abbrev pub as_packet : Writing → Packet

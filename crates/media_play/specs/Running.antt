@@ -16,13 +16,13 @@ use Rattle.media_play.specs.Errors.{IsCauseAt}
 use Rattle.media_play.specs.Opening.{Sealing}
 use Rattle.media_play.specs.Play.{Outcome, Played}
 use Rattle.media_play.specs.Rules.{step_fault}
-use Rattle.media_play.specs.Sessions.{SessionState, Ready, sealing_of}
+use Rattle.media_play.specs.Sessions.{EndState, Ready, sealing_of}
 use Rattle.media_play.specs.SetupRules.{setup_fault}
 
--- the two sessions, the entries so far and the time of the last step
+-- the two ends, the entries so far and the time of the last step
 pub record RunState : Type 0 where
-  pub a : SessionState
-  pub b : SessionState
+  pub a : EndState
+  pub b : EndState
   pub log : List Entry
   pub latest : ℕ
 

@@ -6,6 +6,9 @@ use Rattle.srtp_core.specs.Contexts.{SrtpState, new_state}
 use Rattle.srtp_core.specs.Keys.{session_keys}
 use Rattle.srtp_core.specs.Seals.{sealed_rtp, OpensTo}
 use Rattle.srtp_core.specs.RtcpSeals.{sealed_rtcp}
+use Rattle.mask_register.specs.declared.register.MaskRegister.{MaskRegister}
+use Rattle.mask_register.specs.MaskRegister.{Remembers}
+use Rattle.session_core.specs.SessionRecord.{SessionView, SessionRecord, StandsFor}
 use Rattle.media_model.specs.declared.entry.Side.{Side}
 use Rattle.media_model.specs.declared.entry.Side.TheVariants.{A, B}
 use Rattle.rtp_base.specs.declared.kind.Kind.{Kind}
@@ -17,9 +20,9 @@ use Rattle.media_model.specs.declared.entry.Entry.TheVariants.{Got, Opened, Yiel
 use Rattle.media_model.specs.declared.setup.Setup.{Setup}
 use Rattle.media_model.specs.Setup.{material_of}
 use Rattle.media_model.specs.Sides.{peer_of}
-use Rattle.media_play.specs.declared.session.Received.{Received}
-use Rattle.media_play.specs.declared.streams.Streams.{Streams}
-use Rattle.media_play.specs.Knowing.{Knows}
+use Rattle.media_play.specs.declared.end.Received.{Received}
+use Rattle.media_play.specs.declared.numbers.Numbers.{Numbers}
+use Rattle.media_play.specs.Knowing.{Knows, AreUsed}
 use Rattle.media_play.specs.Opening.{Sealing, Receives}
 use Rattle.media_play.specs.SetupFacts.{IsSound}
 use Rattle.media_play.specs.Plain.{len_of, read_header}
@@ -40,20 +43,22 @@ sealing_of cipher setup side Rtcp ssrc index plain =
     sealed_rtcp cipher setup.profile
     (session_keys cipher setup.profile (material_of setup) (is_left side)) true index plain
 
--- the context that seals, the one that opens, and the streams
-pub record SessionState : Type 0 where
-  pub sealing : SrtpState
-  pub opening : SrtpState
-  pub streams : Streams
+-- one end of a run: its session, and the numbers that were written on each stream that it sends
+pub record EndState : Type 0 where
+  pub session : SessionView MaskRegister
+  pub written : List Numbers
 
--- the session seals with its side's keys and opens with its peer's, and its streams know the
--- entries
-pub record Ready (cipher : CipherMeaning) (setup : Setup) (side : Side) (session : SessionState)
+-- the session seals with its side's keys and opens with its peer's, and knows the entries
+pub record Ready (cipher : CipherMeaning) (setup : Setup) (side : Side) (end : EndState)
     (entries : List Entry) : Type 0 where
-  pub seals : session.sealing ≡ new_state cipher setup.profile (material_of setup) (is_left side) 0
-  pub opens : session.opening
-      ≡ new_state cipher setup.profile (material_of setup) (is_left (peer_of side)) 0
-  pub knows : Knows setup side session.streams entries
+  pub session : SessionRecord
+  pub stands : StandsFor Remembers end.session session
+  pub seals : session.state.sealing
+      ≡ Some (new_state cipher setup.profile (material_of setup) (is_left side) 0)
+  pub opens : session.state.opening
+      ≡ Some (new_state cipher setup.profile (material_of setup) (is_left (peer_of side)) 0)
+  pub knows : Knows setup side session entries
+  pub used : AreUsed setup side entries end.written
 
 -- the bytes open in this context to this plain datagram, whose header is that of the bytes
 abbrev pub OpensAs : CipherMeaning → SrtpState → RtpHeader → ℕ → List ℕ → List ℕ → Type 0
@@ -74,7 +79,7 @@ received_entries side (Some r) =
     ∷ yielded side r.packet
 
 -- the session takes in bytes of a kind that come to its side: this is what they open to
-abbrev pub TakesIn : CipherMeaning → SessionState → Kind → List ℕ → SessionState → Option Received
+abbrev pub TakesIn : CipherMeaning → EndState → Kind → List ℕ → EndState → Option Received
     → Type 0
 TakesIn cipher old kind bytes new received =
     (setup : Setup) (entries : List Entry) (came : GotEntry)

@@ -1,4 +1,4 @@
-ghost use Rattle.std.specs.Prelude.{◌≡◌, ◌∷◌, ◌++◌, ◌-◌, ◌<◌, ◌≤◌, ◌^◌, List, [], slice_get, length, Some, None, IfOk, IfErr, OnOk, MatchResult};
+ghost use Rattle.std.specs.Prelude.{◌≡◌, ◌≢◌, ◌∷◌, ◌++◌, ◌-◌, ◌<◌, ◌≤◌, ◌^◌, List, [], slice_get, length, Some, None, IfOk, IfErr, OnOk, MatchResult};
 ghost use Rattle.media_model.specs.declared.entry.Entry.{Entry as Happening};
 ghost use Rattle.media_model.specs.declared.entry.Entry.TheVariants.{Wrote};
 ghost use Rattle.media_model.specs.declared.step.Step.{Step as Act};
@@ -15,9 +15,9 @@ ghost use Rattle.media_play.specs.SetupFacts.{IsSound};
 ghost use Rattle.media_play.specs.SetupRules.{setup_fault};
 ghost use Rattle.media_play.specs.Sessions.{Ready, sealing_of, received_entries};
 
+use crate::end::{End, Received};
 use crate::fault::{StepError, StepFault};
 use crate::log::Log;
-use crate::session::{Received, Session};
 use media_base::{Bytes, Instant};
 use media_model::{Entry, Got, Kind, Opened, Setup, Side, Step, Transcript, Write};
 use srtp_core::SrtpCipher;
@@ -27,11 +27,11 @@ use std::marker::Model;
 /// The greatest time of a step, in nanoseconds.
 const LAST_TIME: u64 = 10_000_000_000_000_000;
 
-/// Two sessions, what happened so far, and the time of the last step.
+/// The two ends, what happened so far, and the time of the last step.
 #[derive(Drop)]
 pub struct Pair<C: SrtpCipher> {
-    a: Session<C>,
-    b: Session<C>,
+    a: End<C>,
+    b: End<C>,
     log: Log,
     latest: Instant,
 }
@@ -50,15 +50,15 @@ impl<C: SrtpCipher> Pair<C> {
     ghost use Rattle.media_play.specs.Rules.{time_fault, step_fault};
     ghost use Rattle.media_play.specs.Running.{IsRunOf, PlaysOn, Plays, Refuses};
 
-    /// The two sessions of a setup that breaks no rule, before any step.
+    /// The two ends of a setup that breaks no rule, before any step.
     pub fn new(alloc: Global, cipher: C, setup: &Setup) -> Result<Self, AllocError>
         requires { setup_fault setup.now ≡ None }
         ensures run { IfOk result (IsRunOf C.meaning setup.now []) }
         ensures empty { IfOk result (λ pair. pair.log ≡ []) }
     {
         Ok(Pair {
-            a: Session::new(alloc, cipher, setup, Side::A)?,
-            b: Session::new(alloc, cipher, setup, Side::B)?,
+            a: End::new(alloc, cipher, setup, Side::A)?,
+            b: End::new(alloc, cipher, setup, Side::B)?,
             log: Log::new(alloc),
             latest: Instant::from_nanos(0),
         })
@@ -98,6 +98,7 @@ impl<C: SrtpCipher> Pair<C> {
     fn check_time(&self, time: Instant) -> Result<(), StepFault>
         ensures { (entries : List Happening) → self.now.latest ≡ last_time entries
             → time_fault entries time ≡ result_err result }
+        ensures later { OnOk result (time ≢ 0) }
     {
         if time == Instant::from_nanos(0) {
             return Err(StepFault::TimeZero);
@@ -152,15 +153,15 @@ impl<C: SrtpCipher> Pair<C> {
         Ok(())
     }
 
-    fn tick(&mut self, alloc: Global, side: Side, time: Instant) -> Result<(), StepError>
+    fn tick(&mut self, side: Side, time: Instant) -> Result<(), StepError>
         ensures played { OnOk result (Plays C.meaning self.old (TickStep side time) self.new) }
         ensures refused { IfErr result (Refuses C.meaning self.old (TickStep side time)) }
         ensures longer { OnlyAdds self.old.log self.new.log }
     {
         self.check_time(time)?;
         match side {
-            Side::A => tick_step(alloc, &mut self.a, &mut self.log, side, time)?,
-            Side::B => tick_step(alloc, &mut self.b, &mut self.log, side, time)?,
+            Side::A => tick_step(&mut self.a, &mut self.log, side, time)?,
+            Side::B => tick_step(&mut self.b, &mut self.log, side, time)?,
         }
         self.latest = time;
         Ok(())
@@ -236,7 +237,7 @@ impl<C: SrtpCipher> Pair<C> {
     {
         match step {
             Step::Write { side, time, write } => self.write(alloc, *side, *time, write),
-            Step::Tick { side, time } => self.tick(alloc, *side, *time),
+            Step::Tick { side, time } => self.tick(*side, *time),
             Step::Deliver {
                 side,
                 time,
@@ -268,7 +269,7 @@ fn copied(alloc: Global, write: &Write) -> Result<Write, AllocError>
 
 fn write_step<C: SrtpCipher>(
     alloc: Global,
-    session: &mut Session<C>,
+    end: &mut End<C>,
     log: &mut Log,
     side: Side,
     time: Instant,
@@ -276,13 +277,13 @@ fn write_step<C: SrtpCipher>(
 ) -> Result<(), StepError>
     ensures ready { OnOk result ((seal : Sealing) (setup : Given) (steps : List Act)
         (entries : List Happening) → Played seal setup steps entries → IsSound setup
-        → Ready C.meaning setup side session.old entries
-        → Ready C.meaning setup side session.new (entries ++ Wrote side time write.now ∷ [])) }
+        → Ready C.meaning setup side end.old entries
+        → Ready C.meaning setup side end.new (entries ++ Wrote side time write.now ∷ [])) }
     ensures valid { OnOk result ((setup : Given) (entries : List Happening)
-        → Ready C.meaning setup side session.old entries
+        → Ready C.meaning setup side end.old entries
         → write_fault setup entries side write.now ≡ None) }
     ensures refused { IfErr result (λ e. (setup : Given) (entries : List Happening)
-        → Ready C.meaning setup side session.old entries
+        → Ready C.meaning setup side end.old entries
         → IsCauseAt (write_fault setup entries side write.now) e) }
     ensures wrote { OnOk result (log.new ≡ log.old ++ Wrote side time write.now ∷ []) }
     ensures fits { OnOk result ((write.now.ssrc < 2 ^ 32) × (write.now.rtp_time < 2 ^ 32)) }
@@ -290,34 +291,34 @@ fn write_step<C: SrtpCipher>(
 {
     let _ssrc = u32::from(write.ssrc);
     let _rtp_time = write.rtp_time;
-    let at = session.check_write(write)?;
-    session.put(alloc, at, write)?;
+    let at = end.check_write(write)?;
+    end.put(alloc, at, time, write)?;
     log.push(Entry::Wrote(side, time, copied(alloc, write)?))?;
     Ok(())
 }
 
 fn tick_step<C: SrtpCipher>(
-    alloc: Global,
-    session: &mut Session<C>,
+    end: &mut End<C>,
     log: &mut Log,
     side: Side,
     time: Instant,
 ) -> Result<(), AllocError>
+    requires { time ≢ 0 }
     ensures ready { OnOk result ((setup : Given) (steps : List Act) → IsSound setup
         → Played (sealing_of C.meaning setup) setup steps log.old
-        → Ready C.meaning setup side session.old log.old
+        → Ready C.meaning setup side end.old log.old
         → IsTick (sealing_of C.meaning setup) setup side time log.old log.new
-        × Ready C.meaning setup side session.new log.new) }
+        × Ready C.meaning setup side end.new log.new) }
     ensures longer { OnlyAdds log.old log.new }
 {
     log.push(Entry::Ticked(side, time))?;
-    session.tick(alloc, side, log)?;
+    end.tick(side, time, log)?;
     Ok(())
 }
 
 fn receive_step<C: SrtpCipher>(
     alloc: Global,
-    session: &mut Session<C>,
+    end: &mut End<C>,
     log: &mut Log,
     side: Side,
     time: Instant,
@@ -325,12 +326,12 @@ fn receive_step<C: SrtpCipher>(
     bytes: Bytes,
 ) -> Result<(), AllocError>
     ensures ready { OnOk result ((setup : Given) → IsSound setup
-        → Ready C.meaning setup side session.old log.old
+        → Ready C.meaning setup side end.old log.old
         → IsArrival (sealing_of C.meaning setup) setup (got_as side time kind bytes) log.old log.new
-        × Ready C.meaning setup side session.new log.new) }
+        × Ready C.meaning setup side end.new log.new) }
     ensures longer { OnlyAdds log.old log.new }
 {
-    let received = session.receive(alloc, kind, bytes.as_slice())?;
+    let received = end.receive(alloc, time, kind, bytes.as_slice())?;
     log.push(Entry::Got(Got {
         side,
         time,

@@ -1,0 +1,311 @@
+ghost use Rattle.std.specs.Prelude.{◌≡◌, ◌≢◌, ◌∷◌, ◌++◌, ◌<◌, List, [], length, Some, None, IfOk, OnOk};
+ghost use Rattle.std.specs.Result.{result_err};
+ghost use Rattle.rtp_wire.specs.Header.{csrc_of};
+ghost use Rattle.stream_core.specs.Tables.{place_of, change_place};
+ghost use Rattle.stream_core.specs.TxRecord.{written};
+ghost use Rattle.media_model.specs.declared.entry.Side.{Side as Party};
+ghost use Rattle.media_model.specs.declared.entry.Entry.{Entry};
+ghost use Rattle.media_model.specs.declared.setup.Setup.{Setup as Given};
+ghost use Rattle.media_model.specs.declared.step.Step.{Step};
+ghost use Rattle.media_play.specs.Listing.{OnlyAdds};
+ghost use Rattle.media_play.specs.Knowing.{has_written, IsNoted};
+ghost use Rattle.media_play.specs.Packets.{write_at, seals_from, packet_told, told_packet};
+
+use crate::fault::StepFault;
+use crate::log::Log;
+use crate::numbers::Numbers;
+use crate::starting::{no_numbers, start};
+use mask_register::MaskRegister;
+use media_base::{Bytes, Instant, Listed};
+use media_model::{Kind, Packet, Sealed, Setup, Side, Write};
+use rtp_wire::{
+    RtpHeader, SeqNo, Ssrc, header_reads_own_bytes, headers_are_as_long,
+    written_header_is_read_again,
+};
+use session_core::{Datagram, Event, Session};
+use srtp_core::SrtpCipher;
+use srtp_core::laws::rtp_opens_once;
+use std::alloc::{AllocError, Global};
+use std::marker::Model;
+use stream_core::{Payload, RtpPacket, RtpWrite};
+
+/// Numbers of packets are below it.
+const NUMBER_LIMIT: u64 = 1 << 48;
+
+/// The most bytes of a payload that is written.
+const MAX_PAYLOAD_LEN: usize = 1400;
+
+/// What a datagram opened to, and the packet that it gives the application.
+#[derive(Drop)]
+pub struct Received {
+    /// The SSRC of the datagram's header.
+    pub ssrc: Ssrc,
+    /// Its extended sequence number.
+    pub number: SeqNo,
+    /// The datagram as it was before it was sealed.
+    pub plain: Bytes,
+    /// None on SSRC 0, under which probes are sent.
+    pub packet: Option<Packet>,
+}
+
+/// One of the two ends of a run: its session, and the numbers that were written on each stream that
+/// it sends, in the order of the streams.
+#[derive(Drop)]
+pub struct End<C: SrtpCipher> {
+    session: Session<C, MaskRegister>,
+    written: Vec<Numbers>,
+}
+
+impl<C: SrtpCipher> Model for End<C> {
+    ghost use Rattle.media_play.specs.Sessions.{EndState};
+
+    ghost Value = { EndState };
+
+    ghost view = { λ e. record { session = e.session; written = e.written.items } };
+}
+
+/// A write as it is handed to its stream.
+fn rtp_write(alloc: Global, time: Instant, write: &Write) -> Result<RtpWrite, AllocError>
+    ensures { IfOk result (λ w. w ≡ write_at time write.now) }
+{
+    let payload = Payload::from_slice(alloc, write.payload.as_slice())?;
+    Ok(
+        RtpWrite::new(write.pt, write.number, write.rtp_time, time, payload)
+            .marker(write.marker)
+            .nackable(write.nackable),
+    )
+}
+
+/// Puts a write behind those that wait on the stream at this place.
+fn put<C: SrtpCipher>(
+    session: &mut Session<C, MaskRegister>,
+    place: usize,
+    write: RtpWrite,
+) -> Result<(), AllocError>
+    requires { place < length session.old.state.tx }
+    ensures { OnOk result (session.new ≡ record session.old {
+      state = record session.old.state {
+        tx = change_place (written write) session.old.state.tx place;
+      };
+    }) }
+{
+    match session.streams().tx_at(place).write_rtp(write) {
+        Ok(()) => Ok(()),
+        Err(_) => Err(AllocError),
+    }
+}
+
+/// The contributing sources of a header.
+fn sources(alloc: Global, header: &RtpHeader) -> Result<Vec<u32>, AllocError>
+    ensures { IfOk result (λ v. v.items ≡ csrc_of header.now) }
+{
+    header
+        .csrc
+        .iter()
+        .take(header.csrc_count)
+        .copied()
+        .collect(alloc)
+}
+
+/// A packet that a session tells.
+fn packet(alloc: Global, packet: &RtpPacket) -> Result<Packet, AllocError>
+    ensures { IfOk result (λ p. p ≡ packet_told packet.now) }
+{
+    let header = &packet.header;
+    Ok(Packet {
+        ssrc: header.ssrc,
+        number: packet.seq_no,
+        pt: header.payload_type,
+        rtp_time: header.timestamp,
+        marker: header.marker,
+        csrc: Listed::from_vec(sources(alloc, header)?),
+        payload: Bytes::from_slice(alloc, packet.payload.as_slice())?,
+    })
+}
+
+/// The same where there is one.
+fn packet_of(alloc: Global, event: &Option<Event>) -> Result<Option<Packet>, AllocError>
+    ensures { IfOk result (λ p. p ≡ told_packet event.now) }
+{
+    match event {
+        Some(Event::RtpPacket(told)) => Ok(Some(packet(alloc, told)?)),
+        None => Ok(None),
+    }
+}
+
+/// Adds the datagrams that a side sends to the log, in order.
+fn log_all(side: Side, datagrams: Vec<Datagram>, log: &mut Log) -> Result<(), AllocError>
+    ensures logged { OnOk result (log.new ≡ log.old ++ seals_from side datagrams.items) }
+    ensures longer { OnlyAdds log.old log.new }
+{
+    for datagram in datagrams {
+        log.push_sealed(Sealed {
+            side,
+            kind: datagram.kind,
+            ssrc: datagram.ssrc,
+            index: datagram.index,
+            plain: datagram.plain,
+            bytes: datagram.bytes,
+        })?;
+    }
+    Ok(())
+}
+
+impl<C: SrtpCipher> End<C> {
+    ghost use Rattle.media_model.specs.declared.entry.Entry.TheVariants.{Wrote, Ticked};
+    ghost use Rattle.media_model.specs.Setup.{material_of};
+    ghost use Rattle.media_play.specs.Opening.{Sealing};
+    ghost use Rattle.media_play.specs.Play.{Played, Seals};
+    ghost use Rattle.media_play.specs.Rules.{write_fault};
+    ghost use Rattle.media_play.specs.SetupFacts.{IsSound};
+    ghost use Rattle.media_play.specs.SetupRules.{setup_fault};
+    ghost use Rattle.media_play.specs.Sessions.{Ready, TakesIn, sealing_of};
+    ghost use Rattle.rtp_base.specs.declared.kind.Kind.TheVariants.{Rtp};
+
+    /// The end of a side of a setup that breaks no rule, before any step.
+    pub fn new(alloc: Global, cipher: C, setup: &Setup, side: Side) -> Result<Self, AllocError>
+        requires { setup_fault setup.now ≡ None }
+        ensures { IfOk result (λ end. Ready C.meaning setup.now side end []) }
+    {
+        Ok(End {
+            session: start(alloc, cipher, setup, side)?,
+            written: no_numbers(alloc, setup, side)?,
+        })
+    }
+
+    /// Whether a number was written on the stream at a place.
+    fn has_written(&self, place: usize, number: SeqNo) -> bool
+        ensures { result ≡ has_written self.now.written place number }
+    {
+        match self.written.get(place) {
+            Some(numbers) => numbers.has(number),
+            None => false,
+        }
+    }
+
+    /// The place of the stream of a write, or the first rule that the write breaks.
+    pub fn check_write(&mut self, write: &Write) -> Result<usize, StepFault>
+        ensures place { IfOk result (λ at. place_of write.now.ssrc self.old.session.state.tx ≡ Some at) }
+        ensures within { IfOk result (λ at. at < length self.old.session.state.tx) }
+        ensures rule { (setup : Given) (side : Party) (entries : List Entry)
+            → Ready C.meaning setup side self.old entries
+            → write_fault setup entries side write.now ≡ result_err result }
+        ensures same { self.new ≡ self.old }
+    {
+        let Some(place) = self.session.streams().tx_place(write.ssrc) else {
+            return Err(StepFault::UnknownStream);
+        };
+        if !self.session.payload_types().has(write.pt) {
+            return Err(StepFault::UnknownType);
+        }
+        if u64::from(write.number) >= NUMBER_LIMIT {
+            return Err(StepFault::NumberTooBig);
+        }
+        if self.has_written(place, write.number) {
+            return Err(StepFault::NumberUsed);
+        }
+        if write.payload.len() > MAX_PAYLOAD_LEN {
+            return Err(StepFault::PayloadTooLong);
+        }
+        Ok(place)
+    }
+
+    /// Remembers a number that is written on the stream at a place.
+    fn note(&mut self, place: usize, number: SeqNo) -> Result<(), AllocError>
+        ensures noted { OnOk result (IsNoted place number self.old.written self.new.written) }
+        ensures session { self.new.session ≡ self.old.session }
+    {
+        if place < self.written.len() {
+            self.written[place].insert(number)?;
+        }
+        Ok(())
+    }
+
+    /// Puts a write behind those that wait on the stream at this place.
+    pub fn put(
+        &mut self,
+        alloc: Global,
+        place: usize,
+        time: Instant,
+        write: &Write,
+    ) -> Result<(), AllocError>
+        requires { place < length self.old.session.state.tx }
+        ensures { OnOk result ((seal : Sealing) (setup : Given) (steps : List Step) (side : Party)
+            (entries : List Entry)
+            → Played seal setup steps entries → Ready C.meaning setup side self.old entries
+            → IsSound setup
+            → place_of write.now.ssrc self.old.session.state.tx ≡ Some place
+            → write_fault setup entries side write.now ≡ None
+            → Ready C.meaning setup side self.new (entries ++ Wrote side time write.now ∷ [])) }
+    {
+        let packet = rtp_write(alloc, time, write)?;
+        self.note(place, write.number)?;
+        put(&mut self.session, place, packet)
+    }
+
+    /// Takes in bytes, and tells what they open to.
+    pub fn receive(
+        &mut self,
+        alloc: Global,
+        time: Instant,
+        kind: Kind,
+        bytes: &[u8],
+    ) -> Result<Option<Received>, AllocError>
+        ensures { IfOk result (TakesIn C.meaning self.old kind bytes.now self.new) }
+    {
+        match kind {
+            Kind::Rtp => self.receive_rtp(alloc, time, bytes),
+            // No RTCP is opened yet.
+            Kind::Rtcp => Ok(None),
+        }
+    }
+
+    fn receive_rtp(
+        &mut self,
+        alloc: Global,
+        time: Instant,
+        bytes: &[u8],
+    ) -> Result<Option<Received>, AllocError>
+        ensures { IfOk result (TakesIn C.meaning self.old Rtp bytes.now self.new) }
+    {
+        header_reads_own_bytes();
+        let opened = match self.session.handle_rtp_receive(time, bytes) {
+            Ok(opened) => opened,
+            Err(_) => return Err(AllocError),
+        };
+        let Some(opened) = opened else {
+            return Ok(None);
+        };
+        let told = self.session.poll_event();
+        Ok(Some(Received {
+            ssrc: opened.ssrc,
+            number: opened.index,
+            plain: opened.plain,
+            packet: packet_of(alloc, &told)?,
+        }))
+    }
+
+    /// A tick: seals all packets that wait, stream by stream, into the log.
+    pub fn tick(&mut self, side: Side, time: Instant, log: &mut Log) -> Result<(), AllocError>
+        requires { time ≢ 0 }
+        ensures sealed { OnOk result ((setup : Given) (steps : List Step) (entries : List Entry)
+            → IsSound setup
+            → Played (sealing_of C.meaning setup) setup steps entries
+            → Ready C.meaning setup side self.old entries
+            → (sealed : List Entry) × Seals (sealing_of C.meaning setup) setup side entries sealed
+            × (log.new ≡ log.old ++ sealed)
+            × Ready C.meaning setup side self.new (entries ++ Ticked side time ∷ sealed)) }
+        ensures longer { OnlyAdds log.old log.new }
+    {
+        written_header_is_read_again();
+        headers_are_as_long();
+        match self.session.handle_timeout(time) {
+            Ok(()) => {}
+            Err(_) => return Err(AllocError),
+        }
+        match self.session.drain(time) {
+            Ok(drained) => log_all(side, drained.datagrams, log),
+            Err(_) => Err(AllocError),
+        }
+    }
+}
