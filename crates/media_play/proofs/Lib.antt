@@ -1,5 +1,6 @@
 pub mod Places
 pub mod Lists
+pub mod Keys
 pub mod Genuineness
 pub mod Readings
 pub mod Appends
@@ -12,9 +13,9 @@ pub mod Fronts
 pub mod Steps
 pub mod Wire
 pub mod Receiving
+pub mod Takes
 pub mod Knowings
 pub mod OthersReceive
 pub mod Others
 pub mod Soundness
 pub mod Playing
-pub mod Ticks

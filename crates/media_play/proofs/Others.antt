@@ -19,28 +19,21 @@ use Rattle.media_play.specs.Errors.{IsCauseAt}
 use Rattle.media_play.specs.Play.{wrote}
 use Rattle.media_play.specs.Rules.{or_else, time_fault, write_fault}
 use Rattle.media_play.specs.Running.{RunState, IsRunOf, PlaysOn}
-use Rattle.media_play.specs.Sessions.{SessionState, Ready}
+use Rattle.media_play.specs.Sessions.{EndState, Ready}
 use Rattle.media_play.proofs.Appends.{sealed_numbers-wrote, taken-wrote, last_time-wrote}
 use Rattle.media_play.proofs.Readings.{same_reading}
 use Rattle.media_play.proofs.OthersReceive.{runs_on}
-use Rattle.media_play.proofs.Receiving.{knows_still}
-
--- a session stays ready when the entries tell nothing new of its streams
-pub ready_still : (cipher : CipherMeaning) (setup : Setup) (side : Side) (session : SessionState) (old new : List Entry)
-    → ((r : ℕ) → queued side r new ≡ queued side r old) → ((r : ℕ) → writes_on side r new ≡ writes_on side r old) → ((r : ℕ) → taken side r new ≡ taken side r old)
-    → Ready cipher setup side session old → Ready cipher setup side session new
-ready_still cipher setup side session old new waits writes took h =
-    record { seals = h.seals; opens = h.opens; knows = knows_still setup side old new waits writes took session.streams h.knows }
+use Rattle.media_play.proofs.Takes.{ready_still}
 
 -- a write tells nothing of the other side
-pub ready_wrote_other : (cipher : CipherMeaning) (setup : Setup) (other side : Side) (session : SessionState) (entries : List Entry) (time : ℕ) (w : Writing)
+pub ready_wrote_other : (cipher : CipherMeaning) (setup : Setup) (other side : Side) (session : EndState) (entries : List Entry) (time : ℕ) (w : Writing)
     → same_side other side ≡ false → Ready cipher setup other session entries → Ready cipher setup other session (entries ++ Wrote side time w ∷ [])
 ready_wrote_other cipher setup other side session entries time w apart =
-    ready_still cipher setup other session entries (entries ++ Wrote side time w ∷ [])
+    ready_still setup other entries (entries ++ Wrote side time w ∷ [])
     (λ r. ap (λ (ns : List ℕ). filter (λ u. not (is_sealed ns u)) (writes_on other r (entries ++ Wrote side time w ∷ []))) (sealed_numbers-wrote other r entries side time w)
     ∙ ap (λ (ws : List Writing). filter (λ u. not (is_sealed (sealed_numbers other r entries) u)) ws) (writes r))
     writes
-    (λ r. taken-wrote other r entries side time w)
+    (λ r. taken-wrote other r entries side time w) cipher session
   where
     writes : (r : ℕ) → writes_on other r (entries ++ Wrote side time w ∷ []) ≡ writes_on other r entries
     writes r = same_reading (write_on other r) entries (Wrote side time w ∷ []) (rw apart refl)
@@ -59,7 +52,7 @@ handed_on P (Err d) e is h = subst P (sym is) h
 
 -- a run after a write that breaks no rule
 pub running_wrote : (cipher : CipherMeaning) (setup : Setup) (run : RunState) (steps : List Step) (side : Side) (time : ℕ) (w : Writing)
-    (a b : SessionState) (log : List Entry)
+    (a b : EndState) (log : List Entry)
     → IsRunOf cipher setup steps run → log ≡ run.log ++ Wrote side time w ∷ [] → time_fault run.log time ≡ None → write_fault setup run.log side w ≡ None
     → w.ssrc < 2 ^ 32 → w.rtp_time < 2 ^ 32
     → Ready cipher setup A a (run.log ++ Wrote side time w ∷ []) → Ready cipher setup B b (run.log ++ Wrote side time w ∷ [])

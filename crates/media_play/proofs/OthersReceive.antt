@@ -18,9 +18,9 @@ use Rattle.media_play.specs.Opening.{Sealing, Receives, opens, stays}
 use Rattle.media_play.specs.Play.{Seals, Outcome, ticked, got, Brings, IsTick, IsArrival, Played, turn}
 use Rattle.media_play.specs.Rules.{or_else, time_fault, step_fault}
 use Rattle.media_play.specs.Running.{RunState, IsRunOf, PlaysOn}
-use Rattle.media_play.specs.Sessions.{SessionState, Ready, sealing_of}
+use Rattle.media_play.specs.Sessions.{EndState, Ready, sealing_of}
 use Rattle.media_play.proofs.Appends.{queued-ticked_other, queued-got, taken-ticked, taken-stays, taken-opens, last_time-ticked, last_time-got}
-use Rattle.media_play.proofs.Receiving.{knows_still}
+use Rattle.media_play.proofs.Takes.{ready_still}
 use Rattle.media_play.proofs.Stands.{writes_on-ticked, writes_on-got}
 
 pub taken-got_other : {seal : Sealing} {setup : Setup} (s : Side) (r : ℕ) (entries : List Entry) (came : GotEntry) (brought : List Entry)
@@ -30,31 +30,25 @@ taken-got_other s r entries came brought other (opens header number plain o) =
     ∙ ap (λ b. taken s r entries ++ cond (b && (header.ssrc == r)) (number ∷ []) []) other ∙ append-nil (taken s r entries)
 taken-got_other s r entries came brought other (stays none) = taken-stays s r entries came
 
-pub ready_ticked_other : (cipher : CipherMeaning) {seal : Sealing} {setup : Setup} (s side : Side) (session : SessionState) (entries : List Entry) (time : ℕ) (sealed : List Entry)
+pub ready_ticked_other : (cipher : CipherMeaning) {seal : Sealing} {setup : Setup} (s side : Side) (session : EndState) (entries : List Entry) (time : ℕ) (sealed : List Entry)
     → same_side s side ≡ false → Seals seal setup side entries sealed → Ready cipher setup s session entries
     → Ready cipher setup s session (entries ++ Ticked side time ∷ sealed)
-ready_ticked_other cipher {seal} {setup} s side session entries time sealed other all h = record {
-  seals = h.seals;
-  opens = h.opens;
-  knows = knows_still setup s entries (entries ++ Ticked side time ∷ sealed)
-      (λ r. queued-ticked_other s r entries side time sealed other all) (λ r. writes_on-ticked s r entries side time sealed all)
-      (λ r. taken-ticked s r entries side time sealed all) session.streams h.knows;
-}
+ready_ticked_other cipher {seal} {setup} s side session entries time sealed other all h =
+    ready_still setup s entries (entries ++ Ticked side time ∷ sealed)
+    (λ r. queued-ticked_other s r entries side time sealed other all) (λ r. writes_on-ticked s r entries side time sealed all)
+    (λ r. taken-ticked s r entries side time sealed all) cipher session h
 
-pub ready_got_other : (cipher : CipherMeaning) {seal : Sealing} {setup : Setup} (s : Side) (session : SessionState) (entries : List Entry) (came : GotEntry) (brought : List Entry)
+pub ready_got_other : (cipher : CipherMeaning) {seal : Sealing} {setup : Setup} (s : Side) (session : EndState) (entries : List Entry) (came : GotEntry) (brought : List Entry)
     → same_side s came.side ≡ false → Receives seal setup entries came brought → Ready cipher setup s session entries
     → Ready cipher setup s session (entries ++ Got came ∷ brought)
-ready_got_other cipher {seal} {setup} s session entries came brought other received h = record {
-  seals = h.seals;
-  opens = h.opens;
-  knows = knows_still setup s entries (entries ++ Got came ∷ brought)
-      (λ r. queued-got s r entries came brought received) (λ r. writes_on-got s r entries came brought received)
-      (λ r. taken-got_other s r entries came brought other received) session.streams h.knows;
-}
+ready_got_other cipher {seal} {setup} s session entries came brought other received h =
+    ready_still setup s entries (entries ++ Got came ∷ brought)
+    (λ r. queued-got s r entries came brought received) (λ r. writes_on-got s r entries came brought received)
+    (λ r. taken-got_other s r entries came brought other received) cipher session h
 
 -- a run after one step more
 pub runs_on : (cipher : CipherMeaning) (setup : Setup) (run : RunState) (steps : List Step) → IsRunOf cipher setup steps run
-    → (step : Step) (new : List Entry) (a b : SessionState) (log : List Entry) (time : ℕ) → step_fault setup run.log step ≡ None
+    → (step : Step) (new : List Entry) (a b : EndState) (log : List Entry) (time : ℕ) → step_fault setup run.log step ≡ None
     → Outcome (sealing_of cipher setup) setup run.log step new
     → Ready cipher setup A a (run.log ++ new) → Ready cipher setup B b (run.log ++ new) → last_time (run.log ++ new) ≡ time → log ≡ run.log ++ new
     → PlaysOn cipher setup steps run step (record { a = a; b = b; log = log; latest = time })
@@ -77,7 +71,7 @@ no_fault a b e f = ap (λ x. or_else x b) e ∙ f
 
 module _ (cipher : CipherMeaning) (setup : Setup) (run : RunState) (steps : List Step) (h : IsRunOf cipher setup steps run)
     (side : Side) (time : ℕ) (fault : time_fault run.log time ≡ None) (log : List Entry) where
-  pub ticks_a : side ≡ A → (a : SessionState)
+  pub ticks_a : side ≡ A → (a : EndState)
       → (Ready cipher setup side run.a run.log → IsTick (sealing_of cipher setup) setup side time run.log log × Ready cipher setup side a log)
       → PlaysOn cipher setup steps run (Tick side time) (record { a = a; b = run.b; log = log; latest = time })
   ticks_a is a brings =
@@ -89,7 +83,7 @@ module _ (cipher : CipherMeaning) (setup : Setup) (run : RunState) (steps : List
       runs_on cipher setup run steps h (Tick side time) new a run.b log time fault (ticked side time d.sealed d.seals) mine others
       (last_time-ticked run.log side time d.sealed d.seals) d.added
 
-  pub ticks_b : side ≡ B → (b : SessionState)
+  pub ticks_b : side ≡ B → (b : EndState)
       → (Ready cipher setup side run.b run.log → IsTick (sealing_of cipher setup) setup side time run.log log × Ready cipher setup side b log)
       → PlaysOn cipher setup steps run (Tick side time) (record { a = run.a; b = b; log = log; latest = time })
   ticks_b is b brings =
@@ -104,7 +98,7 @@ module _ (cipher : CipherMeaning) (setup : Setup) (run : RunState) (steps : List
 -- a run after a datagram that came to a side
 module _ (cipher : CipherMeaning) (setup : Setup) (run : RunState) (steps : List Step) (h : IsRunOf cipher setup steps run)
     (came : GotEntry) (log : List Entry) (step : Step) (brings : Brings run.log came step) (fault : step_fault setup run.log step ≡ None) where
-  pub arrives_a : came.side ≡ A → (a : SessionState)
+  pub arrives_a : came.side ≡ A → (a : EndState)
       → (Ready cipher setup came.side run.a run.log → IsArrival (sealing_of cipher setup) setup came run.log log × Ready cipher setup came.side a log)
       → PlaysOn cipher setup steps run step (record { a = a; b = run.b; log = log; latest = came.time })
   arrives_a is a comes =
@@ -116,7 +110,7 @@ module _ (cipher : CipherMeaning) (setup : Setup) (run : RunState) (steps : List
       runs_on cipher setup run steps h step new a run.b log came.time fault (got came d.brought brings d.received) mine others
       (last_time-got run.log came d.brought d.received) d.added
 
-  pub arrives_b : came.side ≡ B → (b : SessionState)
+  pub arrives_b : came.side ≡ B → (b : EndState)
       → (Ready cipher setup came.side run.b run.log → IsArrival (sealing_of cipher setup) setup came run.log log × Ready cipher setup came.side b log)
       → PlaysOn cipher setup steps run step (record { a = run.a; b = b; log = log; latest = came.time })
   arrives_b is b comes =

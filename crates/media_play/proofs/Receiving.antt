@@ -1,62 +1,44 @@
--- What RTP bytes bring that come to a session, and what a session knows after them.
-use Rattle.std.proofs.Common.{◌≡◌, inl, inr, ℕ, ◌<◌, true, not, List, [], ◌∷◌, ◌++◌, length, map, take, drop, Option, Some, None, refl, sym, ap, ◌∙◌, subst, arith}
-use Rattle.std.specs.Prelude.{◌==◌, if◌then◌else◌, IsTrue, IsSome, IsNone, filter}
-use Rattle.std.specs.List.{AllByRecursion, list_any}
-use Rattle.std.proofs.lemmas.List.{take-append-drop}
+-- What a session opens is what opens, and what does not open to it does not open.
+use Rattle.std.proofs.Common.{◌≡◌, inl, inr, ℕ, ◌<◌, ◌≤◌, Bool, true, false, cond, not, ◌&&◌, ◌||◌, List, [], ◌∷◌, ◌++◌, length, take, drop, slice_get, nat_eq, position, Option, Some, None, is_some, is_none, refl, sym, ap, ◌∙◌, subst, arith}
+use Rattle.std.specs.Prelude.{◌==◌, if◌then◌else◌, option_and_then}
+use Rattle.std.specs.Map.{keys_of, values_of}
+use Rattle.std.proofs.lemmas.Bool.{eqb-true, false≢true}
+use Rattle.std.proofs.lemmas.List.{take-append-drop, length-take-le, take_at, drop_at}
 use Rattle.rtp_wire.specs.declared.header.RtpHeader.{RtpHeader}
+use Rattle.rtp_wire.specs.Header.{header_of}
 use Rattle.rtp_wire.specs.HeaderLaws.{ReadsOwnBytes}
-use Rattle.rtp_wire.specs.Padding.{unpadded}
 use Rattle.rtp_wire.specs.Widen.{widen16}
 use Rattle.repair_core.specs.Fresh.{greatest_of, is_fresh}
-use Rattle.repair_core.specs.NackRegister.{StandsFor}
 use Rattle.srtp_core.specs.Cipher.{CipherMeaning}
 use Rattle.srtp_core.specs.Contexts.{SrtpState, new_state}
 use Rattle.srtp_core.specs.Keys.{session_keys}
-use Rattle.srtp_core.specs.Laws.{RtpOpensOnce}
-use Rattle.srtp_core.specs.Seals.{sealed_rtp}
+use Rattle.srtp_core.specs.Seals.{sealed_rtp, OpensTo}
+use Rattle.stream_core.specs.RxRecord.{RxRecord, taken_of, number_with, fresh_number as fresh_on}
+use Rattle.stream_core.specs.StreamsRecord.{value_under}
+use Rattle.stream_core.specs.Tables.{place_of}
+use Rattle.session_core.specs.declared.datagram.Opened.{Opened as OpenedHere}
+use Rattle.session_core.specs.Receiving.{seen_of, is_claimed, number_of, Unpads, OpensIn, Opens as OpensHere, Receives as ReceivesHere, after_opened, opening_of}
+use Rattle.session_core.specs.SessionRecord.{SessionRecord}
 use Rattle.media_model.specs.declared.entry.Side.{Side}
 use Rattle.rtp_base.specs.declared.kind.Kind.TheVariants.{Rtp}
-use Rattle.media_model.specs.declared.entry.Write.{Write as Writing}
-use Rattle.media_model.specs.declared.entry.Packet.{Packet}
 use Rattle.media_model.specs.declared.entry.Got.{Got as GotEntry}
 use Rattle.media_model.specs.declared.entry.Entry.{Entry}
-use Rattle.media_model.specs.declared.entry.Entry.TheVariants.{Got}
 use Rattle.media_model.specs.declared.setup.Setup.{Setup}
-use Rattle.media_model.specs.Setup.{material_of}
+use Rattle.media_model.specs.Entries.{taken}
+use Rattle.media_model.specs.Setup.{material_of, streams_of, types_of}
 use Rattle.media_model.specs.Sides.{peer_of}
-use Rattle.media_play.specs.declared.stream.Outgoing.{Outgoing}
-use Rattle.media_play.specs.declared.stream.Incoming.{Incoming}
-use Rattle.media_play.specs.declared.streams.Streams.{Streams}
-use Rattle.media_model.specs.Entries.{write_on, writes_on, sealed_number_on, sealed_numbers, is_sealed, queued, taken_on, taken}
-use Rattle.media_play.specs.Knowing.{SendsAs, TakesAs, Knows, accepted}
-use Rattle.media_play.specs.Opening.{Sealing, Opens, Receives, stays, cut, packet_with, yields, is_known, fresh_number}
-use Rattle.media_play.specs.Packets.{waiting_of}
+use Rattle.media_play.specs.Knowing.{TakesAs, Knows, accepted}
+use Rattle.media_play.specs.Opening.{Sealing, Opens, is_known, fresh_number}
 use Rattle.media_play.specs.Plain.{extensions_of, read_header, len_of}
-use Rattle.media_play.specs.Sessions.{is_left, sealing_of, OpensAs, yielded, Ready, SessionState}
+use Rattle.media_play.specs.Rules.{has}
+use Rattle.media_play.specs.Sessions.{is_left, sealing_of, OpensAs}
+use Rattle.media_play.proofs.Keys.{key_absent, has_from_get, key_at, key_found, all_at}
 use Rattle.media_play.proofs.Lists.{tested}
-use Rattle.media_play.proofs.Readings.{same_reading}
 
--- bytes that open are short, begin with a header, and their number is accepted
-
-pub stays_short : {seal : Sealing} {setup : Setup} {entries : List Entry} {came : GotEntry} → 2000 < length came.bytes
-    → (header : RtpHeader) (number : ℕ) (plain : List ℕ) → Opens seal setup entries came header number plain → ⊥
-stays_short long header number plain o = let short = o.short in absurd (omega arith)
-
-pub stays_unread : {seal : Sealing} {setup : Setup} {entries : List Entry} {came : GotEntry} → read_header setup came.bytes ≡ None
-    → (header : RtpHeader) (number : ℕ) (plain : List ℕ) → Opens seal setup entries came header number plain → ⊥
-stays_unread {setup = setup} {came = came} none header number plain o =
-    let reads : read_header setup came.bytes ≡ Some header = o.reads in
-    let no : None ≡ Some header = sym none ∙ reads in
-    absurd (cc)
+-- the number under which a datagram may open
 
 one_header : (o : Option RtpHeader) (g h : RtpHeader) → o ≡ Some g → o ≡ Some h → g ≡ h
 one_header o g h a b = cc
-
-one_number : (o : Option ℕ) (m n : ℕ) → o ≡ Some m → o ≡ Some n → m ≡ n
-one_number o m n a b = cc
-
-no_number : (o : Option ℕ) (m : ℕ) → o ≡ None → o ≡ Some m → ⊥
-no_number o m a b = cc
 
 pub accepts_opens : {seal : Sealing} {setup : Setup} {entries : List Entry} {came : GotEntry} {header : RtpHeader} {number : ℕ} {plain : List ℕ}
     → Opens seal setup entries came header number plain → accepted setup came.side entries header ≡ Some number
@@ -91,17 +73,79 @@ accepted_parts setup side entries header number e =
       | inr t ↦ let found = rw t at e in absurd (cc)
     ]
 
-pub stays_unaccepted : {seal : Sealing} {setup : Setup} {entries : List Entry} {came : GotEntry} (h : RtpHeader) → read_header setup came.bytes ≡ Some h
-    → accepted setup came.side entries h ≡ None
-    → (header : RtpHeader) (number : ℕ) (plain : List ℕ) → Opens seal setup entries came header number plain → ⊥
-stays_unaccepted {setup = setup} {entries} {came} h reads none header number plain o =
-    let same : header ≡ h = one_header (read_header setup came.bytes) header h o.reads reads in
-    no_number (accepted setup came.side entries header) number (ap (accepted setup came.side entries) same ∙ none) (accepts_opens o)
+-- on one stream
+number_on : (side : Side) (entries : List Entry) (seen : List (ℕ × ℕ)) (e : ℕ × RxRecord) (low : ℕ) → TakesAs side entries seen e
+    → fresh_on (seen_of e.0 seen) e.1 low ≡ fresh_number (taken side e.0 entries) low
+number_on side entries seen e low h =
+    let number : Option ℕ → List ℕ → Option ℕ = λ roc l. if is_fresh l (number_with roc l low) then Some (number_with roc l low) else None in
+    ap (λ roc. number roc (taken_here)) h.roc ∙ ap (number None) h.numbers
+  where
+    taken_here : List ℕ
+    taken_here = taken_of (seen_of e.0 seen) e.1
 
-module _ (cipher : CipherMeaning) (setup : Setup) (came : GotEntry) (own : ReadsOwnBytes)
-    (state : SrtpState) (is : state ≡ new_state cipher setup.profile (material_of setup) (is_left (peer_of came.side)) 0) where
+no_value : {X : Type 0} (k : ℕ) (es : List (ℕ × X)) → has (keys_of es) k ≡ false → value_under k es ≡ None
+no_value k es none = go (place_of k es) refl
+  where
+    go : (o : Option ℕ) → place_of k es ≡ o → value_under k es ≡ None
+    go None e = ap (option_and_then (slice_get (values_of es))) e
+    go (Some i) e = absurd (false≢true (sym none ∙ has_from_get k (keys_of es) i (key_at k (keys_of es) i e)))
+
+module _ {setup : Setup} {side : Side} {s : SessionRecord} {entries : List Entry} (knows : Knows setup side s entries) (h : RtpHeader) where
+  abbrev number_here : Option ℕ
+  number_here = number_of (seen_of h.ssrc s.state.seen) s.rx s.probes h.ssrc h.sequence_number
+
+  abbrev accepted_here : Option ℕ
+  accepted_here = if is_claimed s.state.types h then number_here else None
+
+  on_probes : h.ssrc ≡ 0 → fresh_on (seen_of h.ssrc s.state.seen) s.probes h.sequence_number ≡ fresh_number (taken side h.ssrc entries) h.sequence_number
+  on_probes is =
+      subst (λ r. fresh_on (seen_of r s.state.seen) s.probes h.sequence_number ≡ fresh_number (taken side r entries) h.sequence_number) (sym is)
+      (number_on side entries s.state.seen (0, s.probes) h.sequence_number knows.probes)
+
+  on_stream : has (streams_of (peer_of side) setup) h.ssrc ≡ true
+      → option_and_then (λ r. fresh_on (seen_of h.ssrc s.state.seen) r h.sequence_number) (value_under h.ssrc s.rx) ≡ fresh_number (taken side h.ssrc entries) h.sequence_number
+  on_stream listed =
+      let found = key_found h.ssrc (keys_of s.rx) (subst (λ ns. has ns h.ssrc ≡ true) (sym knows.incoming) listed) in
+      let at = all_at (TakesAs side entries s.state.seen) s.rx found.0 h.ssrc (key_at h.ssrc (keys_of s.rx) found.0 found.1) knows.takes in
+      let value : value_under h.ssrc s.rx ≡ Some at.0.1 = ap (option_and_then (slice_get (values_of s.rx))) found.1 ∙ at.2 in
+      ap (option_and_then (λ r. fresh_on (seen_of h.ssrc s.state.seen) r h.sequence_number)) value
+      ∙ subst (λ r. fresh_on (seen_of r s.state.seen) at.0.1 h.sequence_number ≡ fresh_number (taken side r entries) h.sequence_number) at.1
+      (number_on side entries s.state.seen at.0 h.sequence_number at.3)
+
+  pub same_number : accepted_here ≡ accepted setup side entries h
+  same_number =
+      elim (tested (h.ssrc == 0)) [
+        | inl t ↦ rw t (on_probes (eqb-true h.ssrc 0 t))
+        | inr t ↦ elim (tested (has (types_of setup) h.payload_type)) [
+          | inr u ↦ elim (tested (has (streams_of (peer_of side) setup) h.ssrc)) [
+            | inl v ↦ rw (t, knows.types h.payload_type ∙ u, u, v) refl
+            | inr v ↦ rw (t, knows.types h.payload_type ∙ u, u, v) refl
+          ]
+          | inl u ↦ elim (tested (has (streams_of (peer_of side) setup) h.ssrc)) [
+            | inl v ↦ rw (t, knows.types h.payload_type ∙ u, u, v) (on_stream v)
+            | inr v ↦
+                let none : value_under h.ssrc s.rx ≡ None = no_value h.ssrc s.rx (subst (λ ns. has ns h.ssrc ≡ false) (sym knows.incoming) v) in
+                rw (t, knows.types h.payload_type ∙ u, u, v) (ap (option_and_then (λ r. fresh_on (seen_of h.ssrc s.state.seen) r h.sequence_number)) none)
+          ]
+        ]
+      ]
+
+  pub accepts_here : is_claimed s.state.types h ≡ true → {n : ℕ} → number_here ≡ Some n → accepted setup side entries h ≡ Some n
+  accepts_here claimed is = sym same_number ∙ ap (λ b. cond b number_here None) claimed ∙ is
+
+  pub claims_here : {n : ℕ} → accepted setup side entries h ≡ Some n → (is_claimed s.state.types h ≡ true) × (number_here ≡ Some n)
+  claims_here {n} is = go (is_claimed s.state.types h) refl
+    where
+      go : (b : Bool) → is_claimed s.state.types h ≡ b → (is_claimed s.state.types h ≡ true) × (number_here ≡ Some n)
+      go true e = (e, ap (λ b. cond b number_here None) (sym e) ∙ same_number ∙ is)
+      go false e = let none : None ≡ Some n = ap (λ b. cond b number_here None) (sym e) ∙ same_number ∙ is in absurd cc
+
+module _ (cipher : CipherMeaning) (setup : Setup) (came : GotEntry) (own : ReadsOwnBytes) where
   abbrev bytes : List ℕ
   bytes = came.bytes
+
+  abbrev state : SrtpState
+  state = new_state cipher setup.profile (material_of setup) (is_left (peer_of came.side)) 0
 
   back : (n : ℕ) (plain : List ℕ) → take n plain ≡ take n bytes → take n bytes ++ drop n plain ≡ plain
   back n plain front = ap (λ (l : List ℕ). l ++ drop n plain) (sym front) ∙ take-append-drop n plain
@@ -116,8 +160,7 @@ module _ (cipher : CipherMeaning) (setup : Setup) (came : GotEntry) (own : Reads
       → Opens (sealing_of cipher setup) setup entries came header number plain → OpensAs cipher state header number bytes plain
   opens_as entries header number plain o =
       let n = header.header_len in
-      let keys = session_keys cipher setup.profile (material_of setup) (is_left (peer_of came.side)) in
-      subst (λ (s : SrtpState). OpensAs cipher s header number bytes plain) (sym is) (
+      let keys = session_keys cipher setup.profile (material_of setup) (is_left (peer_of came.side)) in (
         o.front,
         record {
           within = o.short;
@@ -129,109 +172,61 @@ module _ (cipher : CipherMeaning) (setup : Setup) (came : GotEntry) (own : Reads
 
   pub opens_to : came.kind ≡ Rtp → (entries : List Entry) (header : RtpHeader) (number : ℕ) (plain : List ℕ) → read_header setup bytes ≡ Some header
       → accepted setup came.side entries header ≡ Some number → OpensAs cipher state header number bytes plain
-      → (IsTrue header.has_padding → IsSome (unpadded (drop header.header_len plain)))
+      → Unpads header (drop header.header_len plain)
       → Opens (sealing_of cipher setup) setup entries came header number plain
   opens_to rtp entries header number plain reads accepts opened unpads =
       let n = header.header_len in
       let keys = session_keys cipher setup.profile (material_of setup) (is_left (peer_of came.side)) in
-      let parts = accepted_parts setup came.side entries header number accepts in
-      let here : OpensAs cipher (new_state cipher setup.profile (material_of setup) (is_left (peer_of came.side)) 0) header number bytes plain =
-      subst (λ (s : SrtpState). OpensAs cipher s header number bytes plain) is opened in record {
+      let parts = accepted_parts setup came.side entries header number accepts in record {
         rtp = rtp;
-        short = here.1.within;
+        short = opened.1.within;
         reads = reads;
         known = parts.known;
         widened = parts.widened;
         fresh = parts.fresh;
-        front = here.0;
-        sealed = ap (λ (m : ℕ). sealed_rtp cipher setup.profile keys header.ssrc number m plain) (len_is header plain reads here.0)
-            ∙ ap (λ (l : List ℕ). sealed_rtp cipher setup.profile keys header.ssrc number n l) (sym (back n plain here.0)) ∙ here.1.seal;
+        front = opened.0;
+        sealed = ap (λ (m : ℕ). sealed_rtp cipher setup.profile keys header.ssrc number m plain) (len_is header plain reads opened.0)
+            ∙ ap (λ (l : List ℕ). sealed_rtp cipher setup.profile keys header.ssrc number n l) (sym (back n plain opened.0)) ∙ opened.1.seal;
         unpads = unpads;
       }
 
-  -- bytes that open do so under the header that stands there and under its number
-  only_so : (entries : List Entry) (h : RtpHeader) (n : ℕ) → read_header setup bytes ≡ Some h → accepted setup came.side entries h ≡ Some n
-      → (header : RtpHeader) (number : ℕ) (plain : List ℕ) → Opens (sealing_of cipher setup) setup entries came header number plain
-      → Opens (sealing_of cipher setup) setup entries came h n plain
-  only_so entries h n reads accepts header number plain o =
-      let seal = sealing_of cipher setup in
-      let same : header ≡ h = one_header (read_header setup bytes) header h o.reads reads in
-      let also : number ≡ n = one_number (accepted setup came.side entries h) number n (ap (accepted setup came.side entries) (sym same) ∙ accepts_opens o) accepts in
-      subst (λ (m : ℕ). Opens seal setup entries came h m plain) also (subst (λ (g : RtpHeader). Opens seal setup entries came g number plain) same o)
+  -- the plain datagram of a payload
+  abbrev plain_with : RtpHeader → List ℕ → List ℕ
+  plain_with h payload = take h.header_len bytes ++ payload
 
-  pub stays_sealed : (entries : List Entry) (h : RtpHeader) (n : ℕ) → read_header setup bytes ≡ Some h → accepted setup came.side entries h ≡ Some n
-      → ((plain : List ℕ) → OpensAs cipher state h n bytes plain → ⊥)
-      → (header : RtpHeader) (number : ℕ) (plain : List ℕ) → Opens (sealing_of cipher setup) setup entries came header number plain → ⊥
-  stays_sealed entries h n reads accepts none header number plain o =
-      none plain (opens_as entries h n plain (only_so entries h n reads accepts header number plain o))
+  plain_parts : (h : RtpHeader) (payload : List ℕ) → h.header_len ≤ length bytes
+      → (take h.header_len (plain_with h payload) ≡ take h.header_len bytes) × (drop h.header_len (plain_with h payload) ≡ payload)
+  plain_parts h payload within =
+      let long = length-take-le h.header_len bytes within in
+      (take_at (take h.header_len bytes) payload h.header_len long, drop_at (take h.header_len bytes) payload h.header_len long)
 
-  no_padding : (p : List ℕ) → IsSome (unpadded p) → IsNone (unpadded p) → ⊥
-  no_padding p = differ (unpadded p)
-    where
-      differ : (o : Option (List ℕ)) → IsSome o → IsNone o → ⊥
-      differ None a b = absurd (cc)
-      differ (Some x) a b = absurd (cc)
+  module _ {s : SessionRecord} {entries : List Entry} (knows : Knows setup came.side s entries) (keyed : s.state.opening ≡ Some state) where
+    reads_here : {h : RtpHeader} → header_of s.state.transport.exts bytes ≡ Some h → read_header setup bytes ≡ Some h
+    reads_here e = ap (λ x. header_of x bytes) (sym knows.exts) ∙ e
 
-  pub stays_padded : RtpOpensOnce cipher → (entries : List Entry) (h : RtpHeader) (n : ℕ) (p : List ℕ) → read_header setup bytes ≡ Some h
-      → accepted setup came.side entries h ≡ Some n → OpensAs cipher state h n bytes p → IsTrue h.has_padding → IsNone (unpadded (drop h.header_len p))
-      → (header : RtpHeader) (number : ℕ) (plain : List ℕ) → Opens (sealing_of cipher setup) setup entries came header number plain → ⊥
-  stays_padded once entries h n p reads accepts opened padded none header number plain o =
-      let here = only_so entries h n reads accepts header number plain o in
-      let same : drop h.header_len plain ≡ drop h.header_len p =
-      once state.profile state.keys h.ssrc n h.header_len bytes (drop h.header_len plain) (drop h.header_len p) (opens_as entries h n plain here).1 opened.1 in
-      no_padding (drop h.header_len p) (subst (λ (l : List ℕ). IsSome (unpadded l)) same (here.unpads padded)) none
+    -- what opens in the session
+    pub opened_here : came.kind ≡ Rtp → (h : RtpHeader) (n : ℕ) (payload : List ℕ) → OpensHere cipher s bytes h n payload
+        → Opens (sealing_of cipher setup) setup entries came h n (plain_with h payload)
+    opened_here rtp h n payload o =
+        let to : OpensTo cipher state.profile state.keys h.ssrc n h.header_len bytes payload = subst (λ k. OpensIn cipher k h n bytes payload) keyed o.opens in
+        let parts = plain_parts h payload to.header in
+        opens_to rtp entries h n (plain_with h payload) (reads_here o.reads) (accepts_here knows h o.claimed o.accepts)
+        (parts.0, subst (OpensTo cipher state.profile state.keys h.ssrc n h.header_len bytes) (sym parts.1) to)
+        (subst (Unpads h) (sym parts.1) o.unpads)
 
--- the packet of an opened datagram is what it yields
-pub packet_yields : (side : Side) (header : RtpHeader) (number : ℕ) (plain payload : List ℕ) (packet : Option Packet) → payload ≡ cut header (drop header.header_len plain)
-    → packet ≡ (if header.ssrc == 0 then None else Some (packet_with header number payload)) → yielded side packet ≡ yields side header number plain
-packet_yields side header number plain payload packet p e =
-    ap (yielded side) e ∙ elim (tested (header.ssrc == 0)) [ inl t ↦ rw t refl | inr t ↦ rw (t, p) refl ]
+    -- what opens, opens in the session
+    pub opens_here : (h : RtpHeader) (n : ℕ) (plain : List ℕ) → Opens (sealing_of cipher setup) setup entries came h n plain
+        → OpensHere cipher s bytes h n (drop h.header_len plain)
+    opens_here h n plain o =
+        let claims = claims_here knows h (accepts_opens o) in
+        record {
+          reads = ap (λ x. header_of x bytes) knows.exts ∙ o.reads;
+          claimed = claims.0;
+          accepts = claims.1;
+          opens = subst (λ k. OpensIn cipher k h n bytes (drop h.header_len plain)) (sym keyed) (opens_as entries h n plain o).1;
+          unpads = o.unpads;
+        }
 
--- what streams know, they know after each entry that tells nothing of them
-
-module _ (setup : Setup) (side : Side) (old new : List Entry)
-    (waits : (r : ℕ) → queued side r new ≡ queued side r old) (wrote : (r : ℕ) → writes_on side r new ≡ writes_on side r old) (took : (r : ℕ) → taken side r new ≡ taken side r old) where
-  sends_still : (streams : List Outgoing) → AllByRecursion (SendsAs side old) streams → AllByRecursion (SendsAs side new) streams
-  sends_still [] h = tt
-  sends_still (s ∷ ss) h = (
-    record {
-      queue = h.0.queue ∙ ap (map waiting_of) (sym (waits s.ssrc));
-      used = λ n. h.0.used n ∙ ap (λ (ws : List Writing). list_any (λ w. w.number == n) ws) (sym (wrote s.ssrc));
-    },
-    sends_still ss h.1,
-  )
-
-  takes_still : (streams : List Incoming) → AllByRecursion (TakesAs side old) streams → AllByRecursion (TakesAs side new) streams
-  takes_still [] h = tt
-  takes_still (s ∷ ss) h = (subst (StandsFor s.register) (sym (took s.ssrc)) h.0, takes_still ss h.1)
-
-  pub knows_still : (streams : Streams) → Knows setup side streams old → Knows setup side streams new
-  knows_still streams h = record {
-    outgoing = h.outgoing;
-    sends = sends_still streams.outgoing.items h.sends;
-    incoming = h.incoming;
-    takes = takes_still streams.incoming.items h.takes;
-    types = h.types;
-  }
-
--- a session of which only the streams changed
-pub ready_with : (cipher : CipherMeaning) (setup : Setup) (side : Side) (session : SessionState) (entries more : List Entry) (sealing opening : SrtpState) (streams : Streams)
-    → Ready cipher setup side session entries → sealing ≡ session.sealing → opening ≡ session.opening → Knows setup side streams more
-    → Ready cipher setup side (record { sealing = sealing; opening = opening; streams = streams }) more
-ready_with cipher setup side session entries more sealing opening streams ready s o k = record { seals = s ∙ ready.seals; opens = o ∙ ready.opens; knows = k }
-
-pub knows_got : (setup : Setup) (side : Side) (entries : List Entry) (came : GotEntry) (streams : Streams) → Knows setup side streams entries
-    → Knows setup side streams (entries ++ Got came ∷ [])
-knows_got setup side entries came =
-    let got = Got came ∷ [] in
-    knows_still setup side entries (entries ++ got)
-    (λ r. ap (λ (ns : List ℕ). filter (λ w. not (is_sealed ns w)) (writes_on side r (entries ++ got))) (same_reading (sealed_number_on side r) entries got refl)
-    ∙ ap (λ (ws : List Writing). filter (λ w. not (is_sealed (sealed_numbers side r entries) w)) ws) (same_reading (write_on side r) entries got refl))
-    (λ r. same_reading (write_on side r) entries got refl)
-    (λ r. same_reading (taken_on side r) entries got refl)
-
-pub nothing_received : (cipher : CipherMeaning) (seal : Sealing) (setup : Setup) (session : SessionState) (entries : List Entry) (came : GotEntry)
-    → Ready cipher setup came.side session entries → ((header : RtpHeader) (number : ℕ) (plain : List ℕ) → Opens seal setup entries came header number plain → ⊥)
-    → Receives seal setup entries came [] × Ready cipher setup came.side session (entries ++ Got came ∷ [])
-nothing_received cipher seal setup session entries came ready none =
-    (stays none, record { seals = ready.seals; opens = ready.opens; knows = knows_got setup came.side entries came session.streams ready.knows })
+    pub stays_here : ((h : RtpHeader) (n : ℕ) (payload : List ℕ) → OpensHere cipher s bytes h n payload → ⊥)
+        → (h : RtpHeader) (n : ℕ) (plain : List ℕ) → Opens (sealing_of cipher setup) setup entries came h n plain → ⊥
+    stays_here none h n plain o = none h n (drop h.header_len plain) (opens_here h n plain o)

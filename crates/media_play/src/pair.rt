@@ -96,7 +96,7 @@ impl<C: SrtpCipher> Pair<C> {
 
     /// The first rule of times that a step breaks.
     fn check_time(&self, time: Instant) -> Result<(), StepFault>
-        ensures { (entries : List Happening) → self.now.latest ≡ last_time entries
+        ensures fault { (entries : List Happening) → self.now.latest ≡ last_time entries
             → time_fault entries time ≡ result_err result }
         ensures later { OnOk result (time ≢ 0) }
     {

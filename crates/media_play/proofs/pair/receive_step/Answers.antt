@@ -13,7 +13,7 @@ returns-clause-ready g c setup sound ready =
     let came = got_as side c.args.time c.args.kind c.args.bytes in
     let session = c.receive.new.self in
     let brought = received_entries side c.in_ok-received.received in
-    let h = c.in_ok-received.ensures.received setup log came sound refl (sym c.as_slice.ensures) ready in
+    let h = c.in_ok-received.ensures setup log came sound refl (sym c.as_slice.ensures) ready in
     let added = c.in_ok-push_received.ensures.done ∙ ap (λ (l : List Entry). l ++ brought) c.in_ok-push.ensures.ok
     ∙ append_assoc log (Got came ∷ []) brought in (
       record { brought = brought; received = h.0; added = added },

@@ -9,7 +9,7 @@ returns-clause-ready g c setup steps sound played ready =
     let K = g.C.SrtpCipher in
     let side = c.args.side in
     let log = c.args.log.now in
-    let h = c.in_ok-tick.ensures.sealed setup steps log c.args.time sound played ready in
+    let h = c.in_ok-tick.ensures.sealed setup steps log sound played ready in
     let added = h.2 ∙ ap (λ (l : List Entry). l ++ h.0) c.in_ok-push.ensures.ok ∙ append_assoc log (Ticked side c.args.time ∷ []) h.0 in (
       record { sealed = h.0; seals = h.1; added = added },
       subst (λ (l : List Entry). Ready K.meaning setup side c.tick.new.self l) (sym added) h.3,

@@ -12,7 +12,7 @@ pub returns-in_err-at-clause-refused : goal.returns-in_err-at-clause-refused
 returns-in_err-at-clause-refused g c =
     let side = c.args.side in
     let write = c.args.write.now in
-    handed_on (λ e. (setup : Setup) (entries : List Entry) → Ready g.C.SrtpCipher.meaning setup side c.args.session.now entries
+    handed_on (λ e. (setup : Setup) (entries : List Entry) → Ready g.C.SrtpCipher.meaning setup side c.args.end.now entries
     → IsCauseAt (write_fault setup entries side write) e)
     c.from_residual.result (Rule c.in_err-at.field-0.0) c.from_residual.ensures.1
     (λ setup entries ready. c.in_err-at.ensures.rule setup side entries ready)

@@ -12,5 +12,5 @@ returns-clause-played g c setup steps is_run =
     let bytes = c.args.bytes.now in
     let log = c.args.self.now.log in
     c.in_ok-receive.ensures.played setup steps (Foreign side time kind bytes) is_run
-    (c.in_ok-check_time.ensures log is_run.time)
+    (c.in_ok-check_time.ensures.fault log is_run.time)
     (subst (λ (l : List ℕ). Brings log (got_as side time kind l) (Foreign side time kind bytes)) (sym (c.in_ok-bytes.ensures ∙ c.as_slice.ensures)) (foreign (got_as side time kind bytes)))

@@ -3,11 +3,7 @@ use Rattle.media_model.specs.declared.entry.Side.TheVariants.{A, B}
 use Rattle.media_model.specs.Entries.{last_time}
 use Rattle.media_play.specs.Play.{Played, start}
 use Rattle.media_play.specs.Sessions.{Ready, sealing_of}
-use Rattle.media_play.proofs.Soundness.{right_material}
 use Rattle.media_play.proofs.pair.Pair.new.Goals as goal
-
-pub new-requires : goal.new-requires
-new-requires g c = right_material c.args.setup.now c.requires
 
 pub returns-clause-run : goal.returns-clause-run
 returns-clause-run g c =

@@ -19,15 +19,15 @@ returns-clause-played g c setup steps step is_run fault brings =
     let fine : step_fault setup run.log step ≡ None = subst (λ (r : RunState). step_fault setup r.log step ≡ None) (sym c.self.view_is) fault in
     elim c.match-side.branch [
       | in-A+in_ok-receive_step-in-A w ↦
-          let new : RunState = record { a = w.receive_step.new.session; b = run.b; log = w.receive_step.new.log; latest = c.args.time } in
+          let new : RunState = record { a = w.receive_step.new.end; b = run.b; log = w.receive_step.new.log; latest = c.args.time } in
           rw w.self-inside-is
           (subst (λ (r : RunState). PlaysOn K.meaning setup steps r step new) c.self.view_is
-          (arrives_a K.meaning setup run steps before came w.receive_step.new.log step here fine w.in-A.is w.receive_step.new.session
+          (arrives_a K.meaning setup run steps before came w.receive_step.new.log step here fine w.in-A.is w.receive_step.new.end
           (w.in_ok-receive_step-in-A.ensures.ready setup sound)))
       | in-B+in_ok-receive_step-in-B w ↦
-          let new : RunState = record { a = run.a; b = w.receive_step-in-B.new.session; log = w.receive_step-in-B.new.log; latest = c.args.time } in
+          let new : RunState = record { a = run.a; b = w.receive_step-in-B.new.end; log = w.receive_step-in-B.new.log; latest = c.args.time } in
           rw w.self-inside-is
           (subst (λ (r : RunState). PlaysOn K.meaning setup steps r step new) c.self.view_is
-          (arrives_b K.meaning setup run steps before came w.receive_step-in-B.new.log step here fine w.in-B.is w.receive_step-in-B.new.session
+          (arrives_b K.meaning setup run steps before came w.receive_step-in-B.new.log step here fine w.in-B.is w.receive_step-in-B.new.end
           (w.in_ok-receive_step-in-B.ensures.ready setup sound)))
     ]

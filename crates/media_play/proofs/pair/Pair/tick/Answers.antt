@@ -16,16 +16,16 @@ returns-clause-played g c setup steps is_run =
     let sound = sound_setup setup is_run.valid in
     let before : IsRunOf K.meaning setup steps run = subst (λ (r : RunState). IsRunOf K.meaning setup steps r) (sym c.self.view_is) is_run in
     let fault : time_fault run.log time ≡ None =
-    subst (λ (r : RunState). time_fault r.log time ≡ None) (sym c.self.view_is) (c.in_ok-check_time.ensures c.args.self.now.log is_run.time) in
+    subst (λ (r : RunState). time_fault r.log time ≡ None) (sym c.self.view_is) (c.in_ok-check_time.ensures.fault c.args.self.now.log is_run.time) in
     elim c.match-side.branch [
       | in-A+in_ok-tick_step-in-A w ↦
-          let new : RunState = record { a = w.tick_step.new.session; b = run.b; log = w.tick_step.new.log; latest = time } in
+          let new : RunState = record { a = w.tick_step.new.end; b = run.b; log = w.tick_step.new.log; latest = time } in
           rw w.self-inside-is
           (subst (λ (r : RunState). PlaysOn K.meaning setup steps r (Tick side time) new) c.self.view_is
-          (ticks_a K.meaning setup run steps before side time fault w.tick_step.new.log w.in-A.is w.tick_step.new.session (w.in_ok-tick_step-in-A.ensures.ready setup steps sound before.played)))
+          (ticks_a K.meaning setup run steps before side time fault w.tick_step.new.log w.in-A.is w.tick_step.new.end (w.in_ok-tick_step-in-A.ensures.ready setup steps sound before.played)))
       | in-B+in_ok-tick_step-in-B w ↦
-          let new : RunState = record { a = run.a; b = w.tick_step-in-B.new.session; log = w.tick_step-in-B.new.log; latest = time } in
+          let new : RunState = record { a = run.a; b = w.tick_step-in-B.new.end; log = w.tick_step-in-B.new.log; latest = time } in
           rw w.self-inside-is
           (subst (λ (r : RunState). PlaysOn K.meaning setup steps r (Tick side time) new) c.self.view_is
-          (ticks_b K.meaning setup run steps before side time fault w.tick_step-in-B.new.log w.in-B.is w.tick_step-in-B.new.session (w.in_ok-tick_step-in-B.ensures.ready setup steps sound before.played)))
+          (ticks_b K.meaning setup run steps before side time fault w.tick_step-in-B.new.log w.in-B.is w.tick_step-in-B.new.end (w.in_ok-tick_step-in-B.ensures.ready setup steps sound before.played)))
     ]

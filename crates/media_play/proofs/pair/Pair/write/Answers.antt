@@ -24,7 +24,7 @@ returns-in_err-write_step-in-A-clause-refused g c =
     (λ setup steps is_run.
     let run : RunState = record { a = c.self.inside.a; b = c.self.inside.b; log = c.self.inside.log; latest = c.self.inside.latest } in
     let here = subst (λ (r : RunState). IsRunOf K.meaning setup steps r) (sym c.self.view_is) is_run in
-    let in_time : time_fault c.args.self.now.log c.args.time ≡ None = c.in_ok-check_time.ensures c.args.self.now.log is_run.time in
+    let in_time : time_fault c.args.self.now.log c.args.time ≡ None = c.in_ok-check_time.ensures.fault c.args.self.now.log is_run.time in
     let ready = subst (λ (s : Side). Ready K.meaning setup s c.self.inside.a run.log) (sym c.in-A.is) here.a_knows in
     refused_after e (time_fault c.args.self.now.log c.args.time) (write_fault setup c.args.self.now.log side write) in_time
     (subst (λ (r : RunState). IsCauseAt (write_fault setup r.log side write) e) c.self.view_is
@@ -41,7 +41,7 @@ returns-in_err-write_step-in-B-clause-refused g c =
     (λ setup steps is_run.
     let run : RunState = record { a = c.self.inside.a; b = c.self.inside.b; log = c.self.inside.log; latest = c.self.inside.latest } in
     let here = subst (λ (r : RunState). IsRunOf K.meaning setup steps r) (sym c.self.view_is) is_run in
-    let in_time : time_fault c.args.self.now.log c.args.time ≡ None = c.in_ok-check_time.ensures c.args.self.now.log is_run.time in
+    let in_time : time_fault c.args.self.now.log c.args.time ≡ None = c.in_ok-check_time.ensures.fault c.args.self.now.log is_run.time in
     let ready = subst (λ (s : Side). Ready K.meaning setup s c.self.inside.b run.log) (sym c.in-B.is) here.b_knows in
     refused_after e (time_fault c.args.self.now.log c.args.time) (write_fault setup c.args.self.now.log side write) in_time
     (subst (λ (r : RunState). IsCauseAt (write_fault setup r.log side write) e) c.self.view_is
@@ -57,24 +57,24 @@ returns-clause-played g c setup steps is_run =
     let write = c.args.write.now in
     let run : RunState = record { a = c.self.inside.a; b = c.self.inside.b; log = c.self.inside.log; latest = c.self.inside.latest } in
     let here = subst (λ (r : RunState). IsRunOf K.meaning setup steps r) (sym c.self.view_is) is_run in
-    let in_time : time_fault run.log time ≡ None = subst (λ (r : RunState). time_fault r.log time ≡ None) (sym c.self.view_is) (c.in_ok-check_time.ensures c.args.self.now.log is_run.time) in
+    let in_time : time_fault run.log time ≡ None = subst (λ (r : RunState). time_fault r.log time ≡ None) (sym c.self.view_is) (c.in_ok-check_time.ensures.fault c.args.self.now.log is_run.time) in
     elim c.match-side.branch [
       | in-A+in_ok-write_step-in-A w ↦
           let ready = subst (λ (s : Side). Ready K.meaning setup s c.self.inside.a run.log) (sym w.in-A.is) here.a_knows in
-          let new : RunState = record { a = w.write_step.new.session; b = run.b; log = w.write_step.new.log; latest = time } in
+          let new : RunState = record { a = w.write_step.new.end; b = run.b; log = w.write_step.new.log; latest = time } in
           rw w.self-inside-is
           (subst (λ (r : RunState). PlaysOn K.meaning setup steps r (Write side time write) new) c.self.view_is
-          (running_wrote K.meaning setup run steps side time write w.write_step.new.session c.self.inside.b w.write_step.new.log here
+          (running_wrote K.meaning setup run steps side time write w.write_step.new.end c.self.inside.b w.write_step.new.log here
           w.in_ok-write_step-in-A.ensures.wrote in_time (w.in_ok-write_step-in-A.ensures.valid setup run.log ready) w.in_ok-write_step-in-A.ensures.fits.0 w.in_ok-write_step-in-A.ensures.fits.1
-          (subst (λ (s : Side). Ready K.meaning setup s w.write_step.new.session (run.log ++ Wrote side time write ∷ [])) w.in-A.is (w.in_ok-write_step-in-A.ensures.ready seal setup steps run.log here.played sound ready))
+          (subst (λ (s : Side). Ready K.meaning setup s w.write_step.new.end (run.log ++ Wrote side time write ∷ [])) w.in-A.is (w.in_ok-write_step-in-A.ensures.ready seal setup steps run.log here.played sound ready))
           (ready_wrote_other K.meaning setup B side c.self.inside.b run.log time write (ap (same_side B) w.in-A.is) here.b_knows)))
       | in-B+in_ok-write_step-in-B w ↦
           let ready = subst (λ (s : Side). Ready K.meaning setup s c.self.inside.b run.log) (sym w.in-B.is) here.b_knows in
-          let new : RunState = record { a = run.a; b = w.write_step-in-B.new.session; log = w.write_step-in-B.new.log; latest = time } in
+          let new : RunState = record { a = run.a; b = w.write_step-in-B.new.end; log = w.write_step-in-B.new.log; latest = time } in
           rw w.self-inside-is
           (subst (λ (r : RunState). PlaysOn K.meaning setup steps r (Write side time write) new) c.self.view_is
-          (running_wrote K.meaning setup run steps side time write c.self.inside.a w.write_step-in-B.new.session w.write_step-in-B.new.log here
+          (running_wrote K.meaning setup run steps side time write c.self.inside.a w.write_step-in-B.new.end w.write_step-in-B.new.log here
           w.in_ok-write_step-in-B.ensures.wrote in_time (w.in_ok-write_step-in-B.ensures.valid setup run.log ready) w.in_ok-write_step-in-B.ensures.fits.0 w.in_ok-write_step-in-B.ensures.fits.1
           (ready_wrote_other K.meaning setup A side c.self.inside.a run.log time write (ap (same_side A) w.in-B.is) here.a_knows)
-          (subst (λ (s : Side). Ready K.meaning setup s w.write_step-in-B.new.session (run.log ++ Wrote side time write ∷ [])) w.in-B.is (w.in_ok-write_step-in-B.ensures.ready seal setup steps run.log here.played sound ready))))
+          (subst (λ (s : Side). Ready K.meaning setup s w.write_step-in-B.new.end (run.log ++ Wrote side time write ∷ [])) w.in-B.is (w.in_ok-write_step-in-B.ensures.ready seal setup steps run.log here.played sound ready))))
     ]

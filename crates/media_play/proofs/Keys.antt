@@ -1,0 +1,120 @@
+-- Values under keys, and where a key stands.
+use Rattle.std.proofs.Common.{◌≡◌, inl, inr, ℕ, zero, suc, ◌<◌, ◌≤◌, Bool, true, false, cond, ltb, List, [], ◌∷◌, ◌++◌, length, map, take, drop, slice_get, nat_eq, Option, Some, None, is_some, refl, sym, ap, ◌∙◌, subst, arith}
+use Rattle.std.specs.Prelude.{◌==◌, position}
+use Rattle.std.specs.List.{AllByRecursion, AllZip, position_or_len}
+use Rattle.std.specs.Map.{keys_of, values_of}
+use Rattle.std.proofs.lemmas.Bool.{eqb-true, eq-eqb, ltb-true, ltb-false, false≢true}
+use Rattle.std.proofs.lemmas.Option.{none-some, same_Some}
+use Rattle.stream_core.specs.Tables.{place_of, change_place}
+use Rattle.media_play.specs.Listing.{IsIn, NoRepeat}
+use Rattle.media_play.specs.Rules.{has}
+use Rattle.media_play.proofs.Lists.{tested, any-from_in, in-from_any}
+
+-- a key has a place exactly where it is there
+
+module _ (k : ℕ) where
+  abbrev first : List ℕ → ℕ
+  first ns = position_or_len (nat_eq k) ns
+
+  no_place : (ns : List ℕ) → length ns ≤ first ns → has ns k ≡ false
+  no_place [] past = refl
+  no_place (n ∷ ns) past =
+      elim (tested (nat_eq k n)) [
+        | inl t ↦ let none = rw t at past in absurd (omega arith)
+        | inr t ↦
+            let rest = rw t at past in
+            let other : (n == k) ≡ false = elim (tested (n == k)) [ inl e ↦ absurd (false≢true (sym t ∙ eq-eqb k n (sym (eqb-true n k e)))) | inr e ↦ e ] in
+            rw other (no_place ns (omega arith))
+      ]
+
+  at_place : (ns : List ℕ) → first ns < length ns → slice_get ns (first ns) ≡ Some k
+  at_place [] within = absurd (omega arith)
+  at_place (n ∷ ns) within =
+      elim (tested (nat_eq k n)) [
+        | inl t ↦ rw t (ap (λ (m : ℕ). Some m) (sym (eqb-true k n t)))
+        | inr t ↦ let rest = rw t at within in rw t (at_place ns (omega arith))
+      ]
+
+  pub key_at : (ns : List ℕ) (i : ℕ) → position (nat_eq k) ns ≡ Some i → slice_get ns i ≡ Some k
+  key_at ns i e =
+      elim (tested (ltb (first ns) (length ns))) [
+        | inl t ↦
+            let found = rw t at e in
+            let is : first ns ≡ i = same_Some (first ns) i found in
+            subst (λ j. slice_get ns j ≡ Some k) is (at_place ns (ltb-true _ _ t))
+        | inr t ↦ let found = rw t at e in absurd (none-some i found)
+      ]
+
+  pub key_absent : (ns : List ℕ) → position (nat_eq k) ns ≡ None → has ns k ≡ false
+  key_absent ns e =
+      elim (tested (ltb (first ns) (length ns))) [
+        | inl t ↦ let found = rw t at e in absurd (none-some (first ns) (sym found))
+        | inr t ↦ no_place ns (ltb-false _ _ t)
+      ]
+
+pub in_from_get : {X : Type 0} (x : X) (xs : List X) (at : ℕ) → slice_get xs at ≡ Some x → IsIn x xs
+in_from_get x [] at e = absurd (none-some x e)
+in_from_get x (y ∷ ys) zero e = inl (sym (same_Some y x e))
+in_from_get x (y ∷ ys) (suc at) e = inr (in_from_get x ys at e)
+
+pub has_from_get : (n : ℕ) (ns : List ℕ) (at : ℕ) → slice_get ns at ≡ Some n → has ns n ≡ true
+has_from_get n ns at e = any-from_in (λ x. x == n) n ns (in_from_get n ns at e) (eq-eqb n n refl)
+
+-- the place of a key that is there
+pub key_found : (k : ℕ) (ns : List ℕ) → has ns k ≡ true → (i : ℕ) × (position (nat_eq k) ns ≡ Some i)
+key_found k ns h = go (position (nat_eq k) ns) refl
+  where
+    go : (o : Option ℕ) → position (nat_eq k) ns ≡ o → (i : ℕ) × (position (nat_eq k) ns ≡ Some i)
+    go None e = absurd (false≢true (sym (key_absent k ns e) ∙ h))
+    go (Some i) e = (i, e)
+
+-- what holds of all holds where it is weaker
+pub all_weaker : {X : Type 0} (P Q : X → Type 0) (xs : List X) → ((x : X) → IsIn x xs → P x → Q x) → AllByRecursion P xs → AllByRecursion Q xs
+all_weaker P Q [] says h = tt
+all_weaker P Q (x ∷ xs) says h = (says x (inl refl) h.0, all_weaker P Q xs (λ y i. says y (inr i)) h.1)
+
+-- tables
+
+module _ {X : Type 0} where
+  pub keys_changed : (f : X → X) (es : List (ℕ × X)) (i : ℕ) → keys_of (change_place f es i) ≡ keys_of es
+  keys_changed f [] i = refl
+  keys_changed f (e ∷ es) zero = refl
+  keys_changed f (e ∷ es) (suc i) = ap (λ ns. e.0 ∷ ns) (keys_changed f es i)
+
+  pub key_in : (e : ℕ × X) (es : List (ℕ × X)) → IsIn e es → IsIn e.0 (keys_of es)
+  key_in e [] h = absurd h
+  key_in e (x ∷ es) (inl is) = inl (ap (λ (p : ℕ × X). p.0) is)
+  key_in e (x ∷ es) (inr i) = inr (key_in e es i)
+
+  -- the value under a key changes: what changes nothing at other keys holds of all after it
+  pub one_changes : (P Q : ℕ × X → Type 0) (f : X → X) (k : ℕ)
+      → ((e : ℕ × X) → (e.0 ≡ k → ⊥) → P e → Q e) → ((e : ℕ × X) → e.0 ≡ k → P e → Q (e.0, f e.1))
+      → (es : List (ℕ × X)) (i : ℕ) → NoRepeat (keys_of es) → slice_get (keys_of es) i ≡ Some k → AllByRecursion P es → AllByRecursion Q (change_place f es i)
+  one_changes P Q f k others here [] i distinct e h = absurd (none-some k e)
+  one_changes P Q f k others here (x ∷ es) zero distinct e h =
+      let is : x.0 ≡ k = same_Some x.0 k e in
+      (here x is h.0, all_weaker P Q es (λ z i. others z (λ same. distinct.0 (subst (λ n. IsIn n (keys_of es)) (same ∙ sym is) (key_in z es i)))) h.1)
+  one_changes P Q f k others here (x ∷ es) (suc i) distinct e h = (
+    others x (λ same. distinct.0 (subst (λ n. IsIn n (keys_of es)) (sym same) (in_from_get k (keys_of es) i e))) h.0,
+    one_changes P Q f k others here es i distinct.1 e h.1,
+  )
+
+  pub all_at : (P : ℕ × X → Type 0) (es : List (ℕ × X)) (i k : ℕ) → slice_get (keys_of es) i ≡ Some k → AllByRecursion P es
+      → (e : ℕ × X) × (e.0 ≡ k) × (slice_get (values_of es) i ≡ Some e.1) × P e
+  all_at P [] i k at h = absurd (none-some k at)
+  all_at P (e ∷ es) zero k at h = (e, same_Some e.0 k at, refl, h.0)
+  all_at P (e ∷ es) (suc i) k at h = all_at P es i k at h.1
+
+-- what goes along with a key
+pub zip_at : {A B : Type 0} (R : A → B → Type 0) (xs : List A) (ys : List B) (i : ℕ) (x : A) → slice_get xs i ≡ Some x → AllZip R xs ys
+    → (y : B) × (slice_get ys i ≡ Some y) × R x y
+zip_at R [] ys i x at h = absurd (none-some x at)
+zip_at R (z ∷ xs) [] i x at h = absurd h
+zip_at R (z ∷ xs) (y ∷ ys) zero x at h = (y, refl, subst (λ w. R w y) (same_Some z x at) h.0)
+zip_at R (z ∷ xs) (y ∷ ys) (suc i) x at h = zip_at R xs ys i x at h.1
+
+pub zip_weaker : {A B : Type 0} (R S : A → B → Type 0) (xs : List A) (ys : List B) → ((x : A) (y : B) → IsIn x xs → R x y → S x y) → AllZip R xs ys → AllZip S xs ys
+zip_weaker R S [] [] says h = h
+zip_weaker R S [] (y ∷ ys) says h = absurd h
+zip_weaker R S (x ∷ xs) [] says h = absurd h
+zip_weaker R S (x ∷ xs) (y ∷ ys) says h = (says x y (inl refl) h.0, zip_weaker R S xs ys (λ a b i. says a b (inr i)) h.1)

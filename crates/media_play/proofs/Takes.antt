@@ -1,0 +1,232 @@
+-- What an end of a run knows after bytes came.
+use Rattle.std.proofs.Common.{◌≡◌, inl, inr, ℕ, zero, suc, ◌<◌, ◌≤◌, Bool, true, false, cond, not, ltb, List, [], ◌∷◌, ◌++◌, length, map, take, slice_get, nat_eq, position, Option, Some, None, is_some, is_none, refl, sym, ap, ◌∙◌, subst, arith}
+use Rattle.std.specs.Prelude.{◌==◌, if◌then◌else◌, option_and_then, nat_lt, filter}
+use Rattle.std.specs.List.{list_any, AllByRecursion, AllZip, position_or_len}
+use Rattle.std.specs.Map.{keys_of, values_of}
+use Rattle.std.specs.Option.{option_map_or}
+use Rattle.std.proofs.lemmas.Bool.{eqb-true, eq-eqb, false≢true, ltb-true}
+use Rattle.std.proofs.lemmas.List.{append-nil}
+use Rattle.std.proofs.lemmas.Option.{none-some, same_Some}
+use Rattle.mask_register.specs.MaskRegister.{Remembers}
+use Rattle.rtp_wire.specs.declared.header.RtpHeader.{RtpHeader}
+use Rattle.repair_core.specs.Fresh.{is_fresh, with_number}
+use Rattle.srtp_core.specs.Cipher.{CipherMeaning}
+use Rattle.stream_core.specs.RxRecord.{RxRecord, taken_of, opened_as as heard_on}
+use Rattle.stream_core.specs.StreamsRecord.{value_under}
+use Rattle.stream_core.specs.Tables.{place_of, change_place, change_at}
+use Rattle.stream_core.specs.TxRecord.{TxRecord}
+use Rattle.session_core.specs.Receiving.{seen_of, saw, rx_opened, probes_opened}
+use Rattle.session_core.specs.SessionRecord.{MediaRecord, SessionState, SessionRecord}
+use Rattle.media_model.specs.declared.entry.Side.{Side}
+use Rattle.media_model.specs.declared.entry.Write.{Write as Writing}
+use Rattle.media_model.specs.declared.entry.Got.{Got as GotEntry}
+use Rattle.media_model.specs.declared.entry.Entry.{Entry}
+use Rattle.media_model.specs.declared.entry.Entry.TheVariants.{Got}
+use Rattle.media_model.specs.declared.setup.Setup.{Setup}
+use Rattle.media_model.specs.Entries.{write_on, writes_on, sealed_number_on, sealed_numbers, is_sealed, queued, taken_on, taken}
+use Rattle.media_model.specs.Setup.{streams_of}
+use Rattle.media_model.specs.Sides.{peer_of}
+use Rattle.media_play.specs.declared.numbers.Numbers.{Numbers}
+use Rattle.media_play.specs.Knowing.{SendsAs, TakesAs, Knows, UsedAs, AreUsed}
+use Rattle.media_play.specs.Listing.{IsIn, NoRepeat}
+use Rattle.media_play.specs.Packets.{waiting_of}
+use Rattle.media_play.specs.Rules.{has}
+use Rattle.media_play.specs.Sessions.{EndState, Ready}
+use Rattle.media_play.specs.SetupFacts.{IsSound}
+use Rattle.media_play.proofs.Appends.{opening, taken-opens, taken-opens_here}
+use Rattle.media_play.proofs.Keys.{key_at, key_absent, key_in, all_weaker, keys_changed, one_changes, zip_weaker}
+use Rattle.media_play.proofs.Knowings.{other_stream}
+use Rattle.media_play.proofs.Lists.{tested, any-from_in}
+use Rattle.media_play.proofs.Readings.{same_reading, yields_none}
+
+-- what is remembered of an SSRC
+
+under : {X : Type 0} (k : ℕ) (e : ℕ × X) (es : List (ℕ × X)) → value_under k (e ∷ es) ≡ (if nat_eq k e.0 then Some e.1 else value_under k es)
+under k e es =
+    elim (tested (nat_eq k e.0)) [
+      | inl t ↦ rw t refl
+      | inr t ↦ elim (tested (ltb (position_or_len (nat_eq k) (keys_of es)) (length (keys_of es)))) [ inl u ↦ rw (t, u) refl | inr u ↦ rw (t, u) refl ]
+    ]
+
+under_pushed : {X : Type 0} (k q : ℕ) (x : X) (es : List (ℕ × X)) → (k ≡ q → ⊥) → value_under k (es ++ (q, x) ∷ []) ≡ value_under k es
+under_pushed k q x [] other =
+    under k (q, x) [] ∙ elim (tested (nat_eq k q)) [ inl t ↦ absurd (other (eqb-true k q t)) | inr t ↦ rw t refl ]
+under_pushed k q x (e ∷ es) other =
+    under k e (es ++ (q, x) ∷ []) ∙ ap (λ v. if nat_eq k e.0 then Some e.1 else v) (under_pushed k q x es other) ∙ sym (under k e es)
+
+under_changed : {X : Type 0} (f : X → X) (k q i : ℕ) (es : List (ℕ × X)) → (k ≡ q → ⊥) → slice_get (keys_of es) i ≡ Some q → value_under k (change_place f es i) ≡ value_under k es
+under_changed f k q i [] other at = refl
+under_changed f k q zero (e ∷ es) other at =
+    let is : e.0 ≡ q = same_Some e.0 q at in
+    under k (e.0, f e.1) es
+    ∙ elim (tested (nat_eq k e.0)) as (λ r. (if nat_eq k e.0 then Some (f e.1) else value_under k es) ≡ (if nat_eq k e.0 then Some e.1 else value_under k es)) [
+      | inl t ↦ absurd (other (eqb-true k e.0 t ∙ is))
+      | inr t ↦ rw t refl
+    ]
+    ∙ sym (under k e es)
+under_changed f k q (suc i) (e ∷ es) other at =
+    under k e (change_place f es i) ∙ ap (λ v. if nat_eq k e.0 then Some e.1 else v) (under_changed f k q i es other at) ∙ sym (under k e es)
+
+pub seen_elsewhere : (k ssrc n : ℕ) (seen : List (ℕ × ℕ)) → (k ≡ ssrc → ⊥) → seen_of k (saw ssrc n seen) ≡ seen_of k seen
+seen_elsewhere k ssrc n seen other = go (place_of ssrc seen) refl
+  where
+    raised : ℕ → ℕ
+    raised m = if nat_lt m n then n else m
+
+    go : (o : Option ℕ) → place_of ssrc seen ≡ o → seen_of k (saw ssrc n seen) ≡ seen_of k seen
+    go None e = ap (λ o. seen_of k (option_map_or (change_place raised seen) o (seen ++ (ssrc, n) ∷ []))) e ∙ under_pushed k ssrc n seen other
+    go (Some i) e =
+        ap (λ o. seen_of k (option_map_or (change_place raised seen) o (seen ++ (ssrc, n) ∷ []))) e
+        ∙ under_changed raised k ssrc i seen other (key_at ssrc (keys_of seen) i e)
+
+-- what a session knows, it knows after each entry that tells nothing of it
+
+module _ (setup : Setup) (side : Side) (old new : List Entry)
+    (waits : (r : ℕ) → queued side r new ≡ queued side r old) (wrote : (r : ℕ) → writes_on side r new ≡ writes_on side r old) where
+  pub sends_still : (medias : List MediaRecord) (es : List (ℕ × TxRecord)) → AllByRecursion (SendsAs side old medias) es → AllByRecursion (SendsAs side new medias) es
+  sends_still medias es h =
+      all_weaker (SendsAs side old medias) (SendsAs side new medias) es
+      (λ e i k. record { ssrc = k.ssrc; mid = k.mid; queue = k.queue ∙ ap (map waiting_of) (sym (waits e.0)) }) h
+
+  pub used_still : (used : List Numbers) → AreUsed setup side old used → AreUsed setup side new used
+  used_still used h =
+      zip_weaker (UsedAs side old) (UsedAs side new) (streams_of side setup) used
+      (λ r u i k n. k n ∙ ap (λ (ws : List Writing). list_any (λ w. w.number == n) ws) (sym (wrote r))) h
+
+  module _ (took : (r : ℕ) → taken side r new ≡ taken side r old) where
+    takes_still : (seen : List (ℕ × ℕ)) (e : ℕ × RxRecord) → TakesAs side old seen e → TakesAs side new seen e
+    takes_still seen e h = record { roc = h.roc; numbers = h.numbers ∙ sym (took e.0) }
+
+    pub knows_still : (s : SessionRecord) → Knows setup side s old → Knows setup side s new
+    knows_still s h = record {
+      runs = h.runs;
+      told = h.told;
+      types = h.types;
+      exts = h.exts;
+      outgoing = h.outgoing;
+      sends = sends_still s.state.medias s.state.tx h.sends;
+      incoming = h.incoming;
+      takes = all_weaker (TakesAs side old s.state.seen) (TakesAs side new s.state.seen) s.rx (λ e i k. takes_still s.state.seen e k) h.takes;
+      probes = takes_still s.state.seen (0, s.probes) h.probes;
+    }
+
+    pub ready_still : (cipher : CipherMeaning) (end : EndState) → Ready cipher setup side end old → Ready cipher setup side end new
+    ready_still cipher end h = record {
+      session = h.session;
+      stands = h.stands;
+      seals = h.seals;
+      opens = h.opens;
+      knows = knows_still h.session h.knows;
+      used = used_still end.written h.used;
+    }
+
+pub ready_got : (cipher : CipherMeaning) (setup : Setup) (side : Side) (entries : List Entry) (came : GotEntry) (end : EndState) → Ready cipher setup side end entries
+    → Ready cipher setup side end (entries ++ Got came ∷ [])
+ready_got cipher setup side entries came =
+    let got = Got came ∷ [] in
+    ready_still setup side entries (entries ++ got)
+    (λ r. ap (λ (ns : List ℕ). filter (λ w. not (is_sealed ns w)) (writes_on side r (entries ++ got))) (same_reading (sealed_number_on side r) entries got refl)
+    ∙ ap (λ (ws : List Writing). filter (λ w. not (is_sealed (sealed_numbers side r entries) w)) ws) (same_reading (write_on side r) entries got refl))
+    (λ r. same_reading (write_on side r) entries got refl)
+    (λ r. same_reading (taken_on side r) entries got refl) cipher
+
+-- a datagram opens
+
+module _ (entries : List Entry) (came : GotEntry) (header : RtpHeader) (number : ℕ) (plain : List ℕ) where
+  abbrev opened : List Entry
+  opened = opening came header number plain
+
+  pub writes_on-opened : (s : Side) (r : ℕ) → writes_on s r (entries ++ opened) ≡ writes_on s r entries
+  writes_on-opened s r = same_reading (write_on s r) entries opened (yields_none (write_on s r) (λ s p. refl) came.side header number plain)
+
+  pub queued-opened : (s : Side) (r : ℕ) → queued s r (entries ++ opened) ≡ queued s r entries
+  queued-opened s r =
+      ap (λ ns. filter (λ w. not (is_sealed ns w)) (writes_on s r (entries ++ opened)))
+      (same_reading (sealed_number_on s r) entries opened (yields_none (sealed_number_on s r) (λ s p. refl) came.side header number plain))
+      ∙ ap (λ ws. filter (λ w. not (is_sealed (sealed_numbers s r entries) w)) ws) (writes_on-opened s r)
+
+  module _ (fresh : is_fresh (taken came.side header.ssrc entries) number ≡ true) (seen : List (ℕ × ℕ)) where
+    abbrev seen_after : List (ℕ × ℕ)
+    seen_after = saw header.ssrc number seen
+
+    took_elsewhere : (e : ℕ × RxRecord) → (e.0 ≡ header.ssrc → ⊥) → TakesAs came.side entries seen e → TakesAs came.side (entries ++ opened) seen_after e
+    took_elsewhere e other h = record {
+      roc = h.roc;
+      numbers = ap (λ o. taken_of o e.1) (seen_elsewhere e.0 header.ssrc number seen other) ∙ h.numbers
+          ∙ sym (taken-opens came.side e.0 entries came header number plain
+          ∙ ap (λ b. taken came.side e.0 entries ++ cond b (number ∷ []) []) (other_stream came.side e.0 header.ssrc other) ∙ append-nil (taken came.side e.0 entries));
+    }
+
+    took_here : (e : ℕ × RxRecord) → e.0 ≡ header.ssrc → TakesAs came.side entries seen e
+        → TakesAs came.side (entries ++ opened) seen_after (e.0, heard_on (seen_of header.ssrc seen) number e.1)
+    took_here e is h =
+        let added : with_number (taken came.side header.ssrc entries) number ≡ taken came.side header.ssrc entries ++ number ∷ [] = rw fresh refl in
+        record {
+          roc = refl;
+          numbers = ap (λ o. with_number (taken_of (seen_of o seen) e.1) number) (sym is)
+              ∙ ap (λ l. with_number l number) (h.numbers ∙ ap (λ r. taken came.side r entries) is) ∙ added
+              ∙ sym (taken-opens_here entries came header number plain) ∙ ap (λ r. taken came.side r (entries ++ opened)) (sym is);
+        }
+
+    takes_opened : (rx : List (ℕ × RxRecord)) → NoRepeat (keys_of rx) → has (keys_of rx) 0 ≡ false → AllByRecursion (TakesAs came.side entries seen) rx
+        → AllByRecursion (TakesAs came.side (entries ++ opened) seen_after) (rx_opened (seen_of header.ssrc seen) header.ssrc number rx)
+    takes_opened rx distinct nonzero h =
+        elim (tested (header.ssrc == 0)) [
+          | inl t ↦ rw t (all_weaker P Q rx (λ e i k. took_elsewhere e (λ same. absurd (false≢true (sym nonzero ∙ any-from_in (λ x. x == 0) e.0 (keys_of rx) (key_in e rx i) (eq-eqb e.0 0 (same ∙ eqb-true header.ssrc 0 t))))) k) h)
+          | inr t ↦ rw t (go (place_of header.ssrc rx) refl)
+        ]
+      where
+        P : ℕ × RxRecord → Type 0
+        P = TakesAs came.side entries seen
+
+        Q : ℕ × RxRecord → Type 0
+        Q = TakesAs came.side (entries ++ opened) seen_after
+
+        go : (o : Option ℕ) → place_of header.ssrc rx ≡ o → AllByRecursion Q (change_at header.ssrc (heard_on (seen_of header.ssrc seen) number) rx)
+        go None e =
+            subst (λ o. AllByRecursion Q (option_map_or (change_place (heard_on (seen_of header.ssrc seen) number) rx) o rx)) (sym e)
+            (all_weaker P Q rx (λ x i k. took_elsewhere x (λ same. absurd (false≢true (sym (key_absent header.ssrc (keys_of rx) e) ∙ any-from_in (λ y. y == header.ssrc) x.0 (keys_of rx) (key_in x rx i) (eq-eqb x.0 header.ssrc same)))) k) h)
+        go (Some at) e =
+            subst (λ o. AllByRecursion Q (option_map_or (change_place (heard_on (seen_of header.ssrc seen) number) rx) o rx)) (sym e)
+            (one_changes P Q (heard_on (seen_of header.ssrc seen) number) header.ssrc took_elsewhere took_here rx at distinct (key_at header.ssrc (keys_of rx) at e) h)
+
+    probes_after : (probes : RxRecord) → TakesAs came.side entries seen (0, probes)
+        → TakesAs came.side (entries ++ opened) seen_after (0, probes_opened (seen_of header.ssrc seen) header.ssrc number probes)
+    probes_after probes h =
+        elim (tested (header.ssrc == 0)) [
+          | inl t ↦ rw t (took_here (0, probes) (sym (eqb-true header.ssrc 0 t)) h)
+          | inr t ↦ rw t (took_elsewhere (0, probes) (λ same. false≢true (sym t ∙ eq-eqb header.ssrc 0 (sym same))) h)
+        ]
+
+    rx_keys : (rx : List (ℕ × RxRecord)) → keys_of (rx_opened (seen_of header.ssrc seen) header.ssrc number rx) ≡ keys_of rx
+    rx_keys rx = elim (tested (header.ssrc == 0)) [ inl t ↦ rw t refl | inr t ↦ rw t (go (place_of header.ssrc rx) refl) ]
+      where
+        go : (o : Option ℕ) → place_of header.ssrc rx ≡ o → keys_of (change_at header.ssrc (heard_on (seen_of header.ssrc seen) number) rx) ≡ keys_of rx
+        go None e = ap (λ o. keys_of (option_map_or (change_place (heard_on (seen_of header.ssrc seen) number) rx) o rx)) e
+        go (Some at) e =
+            ap (λ o. keys_of (option_map_or (change_place (heard_on (seen_of header.ssrc seen) number) rx) o rx)) e
+            ∙ keys_changed (heard_on (seen_of header.ssrc seen) number) rx at
+
+-- the record after it, and after the packet was told
+abbrev pub after_took : RtpHeader → ℕ → SessionRecord → SessionRecord
+after_took header number s = record {
+  state = record s.state { seen = saw header.ssrc number s.state.seen; packet = None };
+  rx = rx_opened (seen_of header.ssrc s.state.seen) header.ssrc number s.rx;
+  probes = probes_opened (seen_of header.ssrc s.state.seen) header.ssrc number s.probes;
+}
+
+pub knows_opened : (setup : Setup) (entries : List Entry) (came : GotEntry) (header : RtpHeader) (number : ℕ) (plain : List ℕ) (s : SessionRecord) → IsSound setup
+    → is_fresh (taken came.side header.ssrc entries) number ≡ true → Knows setup came.side s entries
+    → Knows setup came.side (after_took header number s) (entries ++ opening came header number plain)
+knows_opened setup entries came header number plain s sound fresh h = record {
+  runs = h.runs;
+  told = refl;
+  types = h.types;
+  exts = h.exts;
+  outgoing = h.outgoing;
+  sends = sends_still setup came.side entries (entries ++ opening came header number plain) (queued-opened entries came header number plain came.side) (writes_on-opened entries came header number plain came.side) s.state.medias s.state.tx h.sends;
+  incoming = rx_keys entries came header number plain fresh s.state.seen s.rx ∙ h.incoming;
+  takes = takes_opened entries came header number plain fresh s.state.seen s.rx
+      (subst NoRepeat (sym h.incoming) (sound.distinct (peer_of came.side))) (subst (λ ns. has ns 0 ≡ false) (sym h.incoming) (sound.nonzero (peer_of came.side))) h.takes;
+  probes = probes_after entries came header number plain fresh s.state.seen s.probes h.probes;
+}
