@@ -16,5 +16,7 @@ pub mod Knowings
 pub mod OthersReceive
 pub mod Others
 pub mod Soundness
+pub mod StartingLists
+pub mod StartingSteps
 pub mod Playing
 pub mod Ticks

@@ -108,7 +108,7 @@ fn add_stream<C: SrtpCipher>(
     mid: Mid,
     stream: &Stream,
 ) -> Result<(), AllocError>
-    ensures { OnOk result ((cipher : CipherMeaning) (setup : Given) (sent received : List ℕ)
+    ensures starts { OnOk result ((cipher : CipherMeaning) (setup : Given) (sent received : List ℕ)
         → has_mid mid session.old.state.medias ≡ true
         → NoRepeat (sent ++ option_to_list (main_in side stream.now))
         → NoRepeat (received ++ option_to_list (main_in (peer_of side) stream.now))
@@ -164,10 +164,10 @@ fn add_media<C: SrtpCipher>(
 {
     let cname = Bytes::from_slice(alloc, media.cname.as_slice())?;
     let section = Section::new(media.mid, section_kind(media.kind), cname);
-    if session.add_media(section).is_err() {
-        return Err(AllocError);
+    match session.add_media(section) {
+        Ok(()) => add_streams(session, side, media.mid, media.streams.as_slice()),
+        Err(_) => Err(AllocError),
     }
-    add_streams(session, side, media.mid, media.streams.as_slice())
 }
 
 /// The session of a side of a setup that breaks no rule, before any step.
