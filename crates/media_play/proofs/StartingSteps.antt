@@ -1,5 +1,5 @@
 -- A session that begins: with keys, with media sections, with streams.
-use Rattle.std.proofs.Common.{◌≡◌, ℕ, Bool, true, false, not, List, [], ◌∷◌, ◌++◌, map, Option, Some, None, is_some, refl, sym, ap, ◌∙◌, subst}
+use Rattle.std.proofs.Common.{◌≡◌, ℕ, Bool, true, false, not, List, [], ◌∷◌, ◌++◌, Option, Some, None, is_some, refl, sym, ap, ◌∙◌, subst}
 use Rattle.std.specs.Prelude.{option_to_list, if◌then◌else◌}
 use Rattle.std.specs.List.{AllByRecursion}
 use Rattle.std.specs.Map.{keys_of}
@@ -9,7 +9,7 @@ use Rattle.std.specs.Prelude.{◌==◌}
 use Rattle.rtp_wire.specs.Extensions.{no_extensions}
 use Rattle.mask_register.specs.declared.register.MaskRegister.{MaskRegister}
 use Rattle.mask_register.specs.MaskRegister.{Remembers}
-use Rattle.repair_core.specs.Rounds.{started_at, taken as taken_in}
+use Rattle.repair_core.specs.Rounds.{taken as taken_in}
 use Rattle.srtp_core.specs.Cipher.{CipherMeaning}
 use Rattle.srtp_core.specs.Contexts.{new_state}
 use Rattle.stream_core.specs.RxRecord.{RxRecord, expected, heard, taken_of}
@@ -25,7 +25,6 @@ use Rattle.media_model.specs.declared.entry.Side.{Side}
 use Rattle.media_model.specs.declared.entry.Side.TheVariants.{A, B}
 use Rattle.media_model.specs.declared.setup.Stream.{Stream}
 use Rattle.media_model.specs.declared.setup.Setup.{Setup}
-use Rattle.media_model.specs.Entries.{taken}
 use Rattle.media_model.specs.Setup.{material_of, types_of, streams_of, main_in}
 use Rattle.media_model.specs.Sides.{same_side, peer_of}
 use Rattle.media_play.specs.declared.numbers.Numbers.{Numbers}
@@ -134,7 +133,7 @@ module _ (cipher : CipherMeaning) (setup : Setup) (side : Side) where
           begun = begun_media h.session m h.begun;
         }
 
-  -- one stream more
+    -- one stream more
 
     begun_sends : (s : SessionRecord) (tx : List (ℕ × TxRecord)) (ssrc : ℕ) (mid : List ℕ) (rid : Option (List ℕ)) → has_mid mid s.state.medias ≡ true
         → tx ≡ s.state.tx ++ (ssrc, declared ssrc None mid rid) ∷ [] → Begun cipher setup side sent received s
