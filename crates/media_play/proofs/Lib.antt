@@ -18,4 +18,6 @@ pub mod Knowings
 pub mod OthersReceive
 pub mod Others
 pub mod Soundness
+pub mod StartingLists
+pub mod StartingSteps
 pub mod Playing

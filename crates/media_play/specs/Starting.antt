@@ -1,5 +1,5 @@
 -- A session before any step.
-use Rattle.std.specs.Prelude.{◌≡◌, ℕ, true, false, is_some, List, [], Option, Some, None}
+use Rattle.std.specs.Prelude.{◌≡◌, ℕ, true, false, is_some, List, [], Some, None}
 use Rattle.std.specs.List.{AllByRecursion}
 use Rattle.std.specs.Map.{keys_of}
 use Rattle.mask_register.specs.declared.register.MaskRegister.{MaskRegister}

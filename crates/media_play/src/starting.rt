@@ -108,7 +108,8 @@ fn add_stream<C: SrtpCipher>(
     mid: Mid,
     stream: &Stream,
 ) -> Result<(), AllocError>
-    ensures { OnOk result ((cipher : CipherMeaning) (setup : Given) (sent received : List ℕ)
+    ensures starts { OnOk result ((cipher : CipherMeaning) (setup : Given)
+        (sent received : List ℕ)
         → has_mid mid session.old.state.medias ≡ true
         → NoRepeat (sent ++ option_to_list (main_in side stream.now))
         → NoRepeat (received ++ option_to_list (main_in (peer_of side) stream.now))
@@ -164,10 +165,10 @@ fn add_media<C: SrtpCipher>(
 {
     let cname = Bytes::from_slice(alloc, media.cname.as_slice())?;
     let section = Section::new(media.mid, section_kind(media.kind), cname);
-    if session.add_media(section).is_err() {
-        return Err(AllocError);
+    match session.add_media(section) {
+        Ok(()) => add_streams(session, side, media.mid, media.streams.as_slice()),
+        Err(_) => Err(AllocError),
     }
-    add_streams(session, side, media.mid, media.streams.as_slice())
 }
 
 /// The session of a side of a setup that breaks no rule, before any step.
@@ -190,7 +191,8 @@ pub fn start<C: SrtpCipher>(
 
 /// No numbers for each of the streams that a side sends.
 pub fn no_numbers(alloc: Global, setup: &Setup, side: Side) -> Result<Vec<Numbers>, AllocError>
-    ensures { IfOk result (λ v. (of : Party) → AllZip (UsedAs of []) (streams_of side setup.now) v.items) }
+    ensures { IfOk result (λ v. (of : Party)
+        → AllZip (UsedAs of []) (streams_of side setup.now) v.items) }
 {
     let mut all = Vec::new(alloc);
     for _ in setup.streams(alloc, side)? {
