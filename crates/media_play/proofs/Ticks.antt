@@ -18,15 +18,15 @@ use Rattle.stream_core.specs.Tables.{each, place_of, Along}
 use Rattle.stream_core.specs.TxRecord.{TxRecord, receipt_of, after_timeout as stream_after_timeout}
 use Rattle.session_core.specs.declared.datagram.Datagram.{Datagram}
 use Rattle.session_core.specs.Calls.{after_event}
-use Rattle.session_core.specs.Sending.{has_mid, after_timeout, Drains}
-use Rattle.session_core.specs.SessionRecord.{MediaRecord, SessionState, SessionView, SessionRecord, StandsFor}
+use Rattle.session_core.specs.Sending.{after_timeout, Drains}
+use Rattle.session_core.specs.SessionRecord.{MediaRecord, SessionState, SessionView, SessionRecord}
 use Rattle.media_model.specs.declared.entry.Side.{Side}
 use Rattle.media_model.specs.declared.entry.Write.{Write as Writing}
 use Rattle.media_model.specs.declared.entry.Entry.{Entry}
 use Rattle.media_model.specs.declared.entry.Entry.TheVariants.{Ticked}
 use Rattle.media_model.specs.declared.setup.Setup.{Setup}
 use Rattle.media_model.specs.declared.step.Step.{Step}
-use Rattle.media_model.specs.Entries.{queued, writes_on}
+use Rattle.media_model.specs.Entries.{queued}
 use Rattle.media_model.specs.Setup.{material_of, streams_of}
 use Rattle.media_play.specs.declared.numbers.Numbers.{Numbers}
 use Rattle.media_play.specs.Knowing.{SendsAs, TakesAs, Knows, UsedAs}
@@ -39,8 +39,8 @@ use Rattle.media_play.specs.Rules.{has}
 use Rattle.media_play.specs.Sessions.{is_left, sealing_of, EndState, Ready}
 use Rattle.media_play.specs.SetupFacts.{IsSound}
 use Rattle.media_play.proofs.Appends.{queued-ticked, taken-ticked}
-use Rattle.media_play.proofs.Draining.{left, IsStamped, Goes, AllGo, Leaves, Kept, Sent, sent, ended, none_left}
-use Rattle.media_play.proofs.Lists.{IsIn-map, any-from_in, map-flat_map}
+use Rattle.media_play.proofs.Draining.{left, IsStamped, AllGo, Leaves, Kept, sent, ended, none_left}
+use Rattle.media_play.proofs.Lists.{any-from_in, map-flat_map}
 use Rattle.media_play.proofs.Readings.{to_seal_in}
 use Rattle.media_play.proofs.Stands.{IsWriting, stands, writes_on-ticked}
 use Rattle.media_play.proofs.Wire.{stamped, carries_packet, packet_len}
