@@ -11,6 +11,7 @@ pub mod Sendings
 pub mod Fronts
 pub mod Steps
 pub mod Wire
+pub mod Draining
 pub mod Receiving
 pub mod Knowings
 pub mod OthersReceive

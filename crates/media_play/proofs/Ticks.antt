@@ -216,24 +216,23 @@ module _ (cipher : CipherMeaning) (again : WrittenIsReadAgain) (setup : Setup) (
       }
 
   -- the end of a run after it
-  pub ready_ticked : {steps : List Step} {entries : List Entry} (old new : EndState) (middle : SessionView MaskRegister) (ds : List Datagram)
+  pub ready_ticked : {steps : List Step} {entries : List Entry} (old : EndState) (middle new : SessionView MaskRegister) (ds : List Datagram)
       → IsSound setup → Played (sealing_of cipher setup) setup steps entries → Ready cipher setup side old entries
       → middle ≡ record old.session { state = after_timeout time old.session.state }
-      → new.session ≡ record middle { state = new.session.state } → new.written ≡ old.written
-      → Drains cipher time (after_event middle.state) new.session.state ds
+      → new ≡ record middle { state = new.state }
+      → Drains cipher time (after_event middle.state) new.state ds
       → Seals (sealing_of cipher setup) setup side entries (seals_from side ds)
-      × Ready cipher setup side new (entries ++ Ticked side time ∷ seals_from side ds)
-  ready_ticked {steps} {entries} old new middle ds sound played r ticks others written drains =
+      × Ready cipher setup side (record { session = new; written = old.written }) (entries ++ Ticked side time ∷ seals_from side ds)
+  ready_ticked {steps} {entries} old middle new ds sound played r ticks others drains =
       let s : SessionRecord = r.session in
-      let after : SessionState = new.session.state in
       let starts : middle.state ≡ after_timeout time s.state = ap (λ (v : SessionView MaskRegister). v.state) ticks ∙ ap (after_timeout time) r.stands.state in
-      let t = is_tick sound played s r.seals r.knows after ds
-      (subst (λ (x : SessionState). Drains cipher time (after_event x) after ds) starts drains) in
-      let rx : old.session.rx ≡ new.session.rx = sym (ap (λ (v : SessionView MaskRegister). v.rx) others ∙ ap (λ (v : SessionView MaskRegister). v.rx) ticks) in
-      let probes : old.session.probes ≡ new.session.probes = sym (ap (λ (v : SessionView MaskRegister). v.probes) others ∙ ap (λ (v : SessionView MaskRegister). v.probes) ticks) in (
+      let t = is_tick sound played s r.seals r.knows new.state ds
+      (subst (λ (x : SessionState). Drains cipher time (after_event x) new.state ds) starts drains) in
+      let rx : old.session.rx ≡ new.rx = sym (ap (λ (v : SessionView MaskRegister). v.rx) others ∙ ap (λ (v : SessionView MaskRegister). v.rx) ticks) in
+      let probes : old.session.probes ≡ new.probes = sym (ap (λ (v : SessionView MaskRegister). v.probes) others ∙ ap (λ (v : SessionView MaskRegister). v.probes) ticks) in (
         t.seals,
         record {
-          session = record s { state = after };
+          session = record s { state = new.state };
           stands = record {
             state = refl;
             rx = subst (λ (x : List (ℕ × RxView MaskRegister)). Along (RxStandsFor Remembers) x s.rx) rx r.stands.rx;
@@ -242,8 +241,6 @@ module _ (cipher : CipherMeaning) (again : WrittenIsReadAgain) (setup : Setup) (
           seals = t.sealing ∙ r.seals;
           opens = t.opening ∙ r.opens;
           knows = t.knows;
-          used =
-              subst (λ (used : List Numbers). AllZip (UsedAs side (entries ++ Ticked side time ∷ seals_from side ds)) (streams_of side setup) used) (sym written)
-              (used_ticked (sealing_of cipher setup) setup side entries time (seals_from side ds) t.seals (streams_of side setup) old.written r.used);
+          used = used_ticked (sealing_of cipher setup) setup side entries time (seals_from side ds) t.seals (streams_of side setup) old.written r.used;
         },
       )
