@@ -12,6 +12,7 @@ pub mod Sendings
 pub mod Fronts
 pub mod Steps
 pub mod Wire
+pub mod Draining
 pub mod Receiving
 pub mod Takes
 pub mod Knowings
@@ -21,3 +22,4 @@ pub mod Soundness
 pub mod StartingLists
 pub mod StartingSteps
 pub mod Playing
+pub mod Ticks

@@ -5,7 +5,6 @@ use Rattle.std.specs.BTreeSet.{contains}
 use Rattle.std.specs.Map.{keys_of}
 use Rattle.std.specs.Ordering.{nat_cmp}
 use Rattle.rtp_wire.specs.declared.header.RtpHeader.{RtpHeader}
-use Rattle.srtp_core.specs.Contexts.{SrtpState}
 use Rattle.stream_core.specs.RxRecord.{RxRecord, taken_of}
 use Rattle.stream_core.specs.Tables.{place_of}
 use Rattle.stream_core.specs.TxRecord.{TxRecord}

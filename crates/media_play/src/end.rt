@@ -18,10 +18,7 @@ use crate::starting::{no_numbers, start};
 use mask_register::MaskRegister;
 use media_base::{Bytes, Instant, Listed};
 use media_model::{Kind, Packet, Sealed, Setup, Side, Write};
-use rtp_wire::{
-    RtpHeader, SeqNo, Ssrc, header_reads_own_bytes, headers_are_as_long,
-    written_header_is_read_again,
-};
+use rtp_wire::{RtpHeader, SeqNo, Ssrc, header_reads_own_bytes, written_header_is_read_again};
 use session_core::{Datagram, Event, Session};
 use srtp_core::SrtpCipher;
 use srtp_core::laws::rtp_opens_once;
@@ -298,7 +295,6 @@ impl<C: SrtpCipher> End<C> {
         ensures longer { OnlyAdds log.old log.new }
     {
         written_header_is_read_again();
-        headers_are_as_long();
         match self.session.handle_timeout(time) {
             Ok(()) => {}
             Err(_) => return Err(AllocError),

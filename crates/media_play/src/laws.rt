@@ -12,7 +12,7 @@ ghost use Rattle.media_play.specs.SetupFacts.{IsSound};
 ghost use Rattle.media_play.specs.SetupRules.{setup_fault};
 ghost use Rattle.media_play.specs.WireLaws.{WireLaws};
 
-use rtp_wire::header_reads_own_bytes;
+use rtp_wire::{header_reads_own_bytes, headers_are_as_long};
 use srtp_core::SrtpCipher;
 use srtp_core::laws::{rtp_seal_keeps_header, rtp_seals_apart};
 
@@ -29,6 +29,7 @@ pub fn holds_of_run<C: SrtpCipher>()
         → HoldsOfFront (sealing_of C.meaning setup) setup front }
 {
     header_reads_own_bytes();
+    headers_are_as_long();
     rtp_seals_apart::<C>();
     rtp_seal_keeps_header::<C>();
 }

@@ -6,11 +6,11 @@ use Rattle.media_play.proofs.laws.holds_of_run.Goals as goal
 
 pub returns-clause-whole : goal.returns-clause-whole
 returns-clause-whole g c setup steps entries fine played =
-    laws_of (wire_laws g.C.SrtpCipher.meaning setup c.header_reads_own_bytes.ensures c.rtp_seals_apart.ensures c.rtp_seal_keeps_header.ensures)
+    laws_of (wire_laws g.C.SrtpCipher.meaning setup c.header_reads_own_bytes.ensures c.headers_are_as_long.ensures.few c.rtp_seals_apart.ensures c.rtp_seal_keeps_header.ensures)
     (sound_setup setup fine) played
 
 pub returns-clause-front : goal.returns-clause-front
 returns-clause-front g c setup steps front rest fine played =
     holds_of_front front rest
-    (wire_laws g.C.SrtpCipher.meaning setup c.header_reads_own_bytes.ensures c.rtp_seals_apart.ensures c.rtp_seal_keeps_header.ensures)
+    (wire_laws g.C.SrtpCipher.meaning setup c.header_reads_own_bytes.ensures c.headers_are_as_long.ensures.few c.rtp_seals_apart.ensures c.rtp_seal_keeps_header.ensures)
     (sound_setup setup fine) played
