@@ -3,9 +3,11 @@ use Rattle.std.proofs.Common.{◌≡◌, inl, inr, ℕ, zero, suc, ◌<◌, ◌�
 use Rattle.std.specs.Prelude.{◌==◌, position}
 use Rattle.std.specs.List.{AllByRecursion, AllZip, position_or_len}
 use Rattle.std.specs.Map.{keys_of, values_of}
-use Rattle.std.proofs.lemmas.Bool.{eqb-true, eq-eqb, ltb-true, ltb-false, false≢true}
+use Rattle.std.specs.Option.{option_map}
+use Rattle.std.proofs.lemmas.Bool.{eqb-true, eq-eqb, lt-ltb, le-ltb, ltb-true, ltb-false, false≢true}
 use Rattle.std.proofs.lemmas.Option.{none-some, same_Some}
-use Rattle.stream_core.specs.Tables.{place_of, change_place}
+use Rattle.indexmap.specs.IndexMap.{set_value_at}
+use Rattle.stream_core.specs.Tables.{change_place}
 use Rattle.media_play.specs.Listing.{IsIn, NoRepeat}
 use Rattle.media_play.specs.Rules.{has}
 use Rattle.media_play.proofs.Lists.{tested, any-from_in, in-from_any}
@@ -32,7 +34,30 @@ module _ (k : ℕ) where
   at_place (n ∷ ns) within =
       elim (tested (nat_eq k n)) [
         | inl t ↦ rw t (ap (λ (m : ℕ). Some m) (sym (eqb-true k n t)))
-        | inr t ↦ let rest = rw t at within in rw t (at_place ns (omega arith))
+        | inr t ↦
+            let rest = rw t at within in
+            let more : first (n ∷ ns) ≡ suc (first ns) = rw t (omega arith) in
+            subst (λ i. slice_get (n ∷ ns) i ≡ Some k) (sym more) (at_place ns (omega arith))
+      ]
+
+  pub position_first : (n : ℕ) (ns : List ℕ) → nat_eq k n ≡ true → position (nat_eq k) (n ∷ ns) ≡ Some 0
+  position_first n ns t =
+      let at : first (n ∷ ns) ≡ 0 = rw t refl in
+      ap (λ m. cond (ltb m (length (n ∷ ns))) (Some m) None) at ∙ ap (λ b. cond b (Some 0) None) (lt-ltb 0 (length (n ∷ ns)) (omega arith))
+
+  pub position_next : (n : ℕ) (ns : List ℕ) → nat_eq k n ≡ false → position (nat_eq k) (n ∷ ns) ≡ option_map suc (position (nat_eq k) ns)
+  position_next n ns t =
+      let at : first (n ∷ ns) ≡ suc (first ns) = rw t (omega arith) in
+      ap (λ m. cond (ltb m (length (n ∷ ns))) (Some m) None) at
+      ∙ elim (tested (ltb (first ns) (length ns))) [
+        | inl u ↦
+            let less = ltb-true (first ns) (length ns) u in
+            ap (λ b. cond b (Some (suc (first ns))) None) (lt-ltb (suc (first ns)) (length (n ∷ ns)) (omega (arith, less)))
+            ∙ sym (ap (λ b. option_map suc (cond b (Some (first ns)) None)) u)
+        | inr u ↦
+            let more = ltb-false (first ns) (length ns) u in
+            ap (λ b. cond b (Some (suc (first ns))) None) (le-ltb (suc (first ns)) (length (n ∷ ns)) (omega (arith, more)))
+            ∙ sym (ap (λ b. option_map suc (cond b (Some (first ns)) None)) u)
       ]
 
   pub key_at : (ns : List ℕ) (i : ℕ) → position (nat_eq k) ns ≡ Some i → slice_get ns i ≡ Some k
@@ -118,3 +143,9 @@ zip_weaker R S [] [] says h = h
 zip_weaker R S [] (y ∷ ys) says h = absurd h
 zip_weaker R S (x ∷ xs) [] says h = absurd h
 zip_weaker R S (x ∷ xs) (y ∷ ys) says h = (says x y (inl refl) h.0, zip_weaker R S xs ys (λ a b i. says a b (inr i)) h.1)
+
+-- a value written over at its place is a value that changed there
+pub set_change : {X : Type 0} (f : X → X) (es : List (ℕ × X)) (i : ℕ) (x : X) → slice_get (values_of es) i ≡ Some x → set_value_at es i (f x) ≡ change_place f es i
+set_change f [] i x at = refl
+set_change f (e ∷ es) zero x at = ap (λ y. (e.0, f y) ∷ es) (sym (same_Some e.1 x at))
+set_change f (e ∷ es) (suc i) x at = ap (λ l. e ∷ l) (set_change f es i x at)

@@ -1,5 +1,5 @@
 -- What an end of a run knows after a write.
-use Rattle.std.proofs.Common.{◌≡◌, inl, inr, ℕ, zero, suc, ◌<◌, ◌≤◌, ◌^◌, Bool, true, false, cond, not, ◌&&◌, ◌||◌, leb, ltb, List, [], ◌∷◌, ◌++◌, length, map, slice_get, nat_eq, Option, Some, None, is_some, refl, sym, ap, ◌∙◌, subst}
+use Rattle.std.proofs.Common.{◌≡◌, inl, inr, ℕ, zero, suc, ◌<◌, ◌≤◌, ◌^◌, Bool, true, false, cond, not, ◌&&◌, ◌||◌, leb, ltb, List, [], ◌∷◌, ◌++◌, length, map, set, get_or, slice_get, nat_eq, Option, Some, None, is_some, refl, sym, ap, ◌∙◌, subst, arith}
 use Rattle.std.specs.Prelude.{◌==◌}
 use Rattle.std.specs.List.{list_any, AllByRecursion, AllZip}
 use Rattle.std.specs.BTreeSet.{contains}
@@ -103,6 +103,19 @@ module _ {cipher : CipherMeaning} {setup : Setup} {side : Side} {end : EndState}
   known_used ssrc at n place =
       let there = zip_at (UsedAs side entries) (streams_of side setup) end.written at ssrc (stream_at ssrc at place) ready.used in
       ap (λ o. has_number o n) there.1 ∙ there.2 n
+
+-- a number more on the stream at a place
+
+pub noted_at : (place n : ℕ) (old : List Numbers) (u new : Numbers) → place < length old → u ≡ get_or old place u
+    → ((k : ℕ) → contains nat_cmp new.all k ≡ (contains nat_cmp u.all k || (n == k))) → IsNoted place n old (set old place new)
+noted_at place n [] u new within is more = absurd (omega arith)
+noted_at zero n (v ∷ old) u new within is more = (λ k. more k ∙ ap (λ (w : Numbers). contains nat_cmp w.all k || (n == k)) is, refl)
+noted_at (suc place) n (v ∷ old) u new within is more = (refl, noted_at place n old u new (omega arith) is more)
+
+pub noted_past : (place n : ℕ) (old : List Numbers) → length old ≤ place → IsNoted place n old old
+noted_past place n [] past = refl
+noted_past zero n (v ∷ old) past = absurd (omega arith)
+noted_past (suc place) n (v ∷ old) past = (refl, noted_past place n old (omega arith))
 
 -- a write
 

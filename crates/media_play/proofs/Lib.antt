@@ -15,6 +15,7 @@ pub mod Wire
 pub mod Draining
 pub mod Receiving
 pub mod Takes
+pub mod Arrivals
 pub mod Knowings
 pub mod OthersReceive
 pub mod Others

@@ -191,10 +191,10 @@ module _ (cipher : CipherMeaning) (setup : Setup) (came : GotEntry) (own : Reads
       }
 
   -- the plain datagram of a payload
-  abbrev plain_with : RtpHeader → List ℕ → List ℕ
+  abbrev pub plain_with : RtpHeader → List ℕ → List ℕ
   plain_with h payload = take h.header_len bytes ++ payload
 
-  plain_parts : (h : RtpHeader) (payload : List ℕ) → h.header_len ≤ length bytes
+  pub plain_parts : (h : RtpHeader) (payload : List ℕ) → h.header_len ≤ length bytes
       → (take h.header_len (plain_with h payload) ≡ take h.header_len bytes) × (drop h.header_len (plain_with h payload) ≡ payload)
   plain_parts h payload within =
       let long = length-take-le h.header_len bytes within in

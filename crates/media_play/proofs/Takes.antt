@@ -3,7 +3,7 @@ use Rattle.std.proofs.Common.{◌≡◌, inl, inr, ℕ, zero, suc, ◌<◌, ◌�
 use Rattle.std.specs.Prelude.{◌==◌, if◌then◌else◌, option_and_then, nat_lt, filter}
 use Rattle.std.specs.List.{list_any, AllByRecursion, AllZip, position_or_len}
 use Rattle.std.specs.Map.{keys_of, values_of}
-use Rattle.std.specs.Option.{option_map_or}
+use Rattle.std.specs.Option.{option_map, option_map_or}
 use Rattle.std.proofs.lemmas.Bool.{eqb-true, eq-eqb, false≢true, ltb-true}
 use Rattle.std.proofs.lemmas.List.{append-nil}
 use Rattle.std.proofs.lemmas.Option.{none-some, same_Some}
@@ -34,38 +34,44 @@ use Rattle.media_play.specs.Rules.{has}
 use Rattle.media_play.specs.Sessions.{EndState, Ready}
 use Rattle.media_play.specs.SetupFacts.{IsSound}
 use Rattle.media_play.proofs.Appends.{opening, taken-opens, taken-opens_here}
-use Rattle.media_play.proofs.Keys.{key_at, key_absent, key_in, all_weaker, keys_changed, one_changes, zip_weaker}
+use Rattle.media_play.proofs.Keys.{position_first, position_next, key_at, key_absent, key_in, all_weaker, keys_changed, one_changes, zip_weaker}
 use Rattle.media_play.proofs.Knowings.{other_stream}
 use Rattle.media_play.proofs.Lists.{tested, any-from_in}
 use Rattle.media_play.proofs.Readings.{same_reading, yields_none}
 
 -- what is remembered of an SSRC
 
-under : {X : Type 0} (k : ℕ) (e : ℕ × X) (es : List (ℕ × X)) → value_under k (e ∷ es) ≡ (if nat_eq k e.0 then Some e.1 else value_under k es)
-under k e es =
-    elim (tested (nat_eq k e.0)) [
-      | inl t ↦ rw t refl
-      | inr t ↦ elim (tested (ltb (position_or_len (nat_eq k) (keys_of es)) (length (keys_of es)))) [ inl u ↦ rw (t, u) refl | inr u ↦ rw (t, u) refl ]
-    ]
+under_first : {X : Type 0} (k : ℕ) (e : ℕ × X) (es : List (ℕ × X)) → nat_eq k e.0 ≡ true → value_under k (e ∷ es) ≡ Some e.1
+under_first k e es t = ap (option_and_then (slice_get (values_of (e ∷ es)))) (position_first k e.0 (keys_of es) t)
+
+under_next : {X : Type 0} (k : ℕ) (e : ℕ × X) (es : List (ℕ × X)) → nat_eq k e.0 ≡ false → value_under k (e ∷ es) ≡ value_under k es
+under_next k e es t = ap (option_and_then (slice_get (values_of (e ∷ es)))) (position_next k e.0 (keys_of es) t) ∙ go (place_of k es)
+  where
+    go : (o : Option ℕ) → option_and_then (slice_get (values_of (e ∷ es))) (option_map suc o) ≡ option_and_then (slice_get (values_of es)) o
+    go None = refl
+    go (Some i) = refl
 
 under_pushed : {X : Type 0} (k q : ℕ) (x : X) (es : List (ℕ × X)) → (k ≡ q → ⊥) → value_under k (es ++ (q, x) ∷ []) ≡ value_under k es
 under_pushed k q x [] other =
-    under k (q, x) [] ∙ elim (tested (nat_eq k q)) [ inl t ↦ absurd (other (eqb-true k q t)) | inr t ↦ rw t refl ]
+    elim (tested (nat_eq k q)) [ inl t ↦ absurd (other (eqb-true k q t)) | inr t ↦ under_next k (q, x) [] t ]
 under_pushed k q x (e ∷ es) other =
-    under k e (es ++ (q, x) ∷ []) ∙ ap (λ v. if nat_eq k e.0 then Some e.1 else v) (under_pushed k q x es other) ∙ sym (under k e es)
+    elim (tested (nat_eq k e.0)) [
+      | inl t ↦ under_first k e (es ++ (q, x) ∷ []) t ∙ sym (under_first k e es t)
+      | inr t ↦ under_next k e (es ++ (q, x) ∷ []) t ∙ under_pushed k q x es other ∙ sym (under_next k e es t)
+    ]
 
 under_changed : {X : Type 0} (f : X → X) (k q i : ℕ) (es : List (ℕ × X)) → (k ≡ q → ⊥) → slice_get (keys_of es) i ≡ Some q → value_under k (change_place f es i) ≡ value_under k es
 under_changed f k q i [] other at = refl
 under_changed f k q zero (e ∷ es) other at =
-    let is : e.0 ≡ q = same_Some e.0 q at in
-    under k (e.0, f e.1) es
-    ∙ elim (tested (nat_eq k e.0)) as (λ r. (if nat_eq k e.0 then Some (f e.1) else value_under k es) ≡ (if nat_eq k e.0 then Some e.1 else value_under k es)) [
-      | inl t ↦ absurd (other (eqb-true k e.0 t ∙ is))
-      | inr t ↦ rw t refl
+    elim (tested (nat_eq k e.0)) [
+      | inl t ↦ absurd (other (eqb-true k e.0 t ∙ same_Some e.0 q at))
+      | inr t ↦ under_next k (e.0, f e.1) es t ∙ sym (under_next k e es t)
     ]
-    ∙ sym (under k e es)
 under_changed f k q (suc i) (e ∷ es) other at =
-    under k e (change_place f es i) ∙ ap (λ v. if nat_eq k e.0 then Some e.1 else v) (under_changed f k q i es other at) ∙ sym (under k e es)
+    elim (tested (nat_eq k e.0)) [
+      | inl t ↦ under_first k e (change_place f es i) t ∙ sym (under_first k e es t)
+      | inr t ↦ under_next k e (change_place f es i) t ∙ under_changed f k q i es other at ∙ sym (under_next k e es t)
+    ]
 
 pub seen_elsewhere : (k ssrc n : ℕ) (seen : List (ℕ × ℕ)) → (k ≡ ssrc → ⊥) → seen_of k (saw ssrc n seen) ≡ seen_of k seen
 seen_elsewhere k ssrc n seen other = go (place_of ssrc seen) refl
@@ -170,11 +176,7 @@ module _ (entries : List Entry) (came : GotEntry) (header : RtpHeader) (number :
 
     takes_opened : (rx : List (ℕ × RxRecord)) → NoRepeat (keys_of rx) → has (keys_of rx) 0 ≡ false → AllByRecursion (TakesAs came.side entries seen) rx
         → AllByRecursion (TakesAs came.side (entries ++ opened) seen_after) (rx_opened (seen_of header.ssrc seen) header.ssrc number rx)
-    takes_opened rx distinct nonzero h =
-        elim (tested (header.ssrc == 0)) [
-          | inl t ↦ rw t (all_weaker P Q rx (λ e i k. took_elsewhere e (λ same. absurd (false≢true (sym nonzero ∙ any-from_in (λ x. x == 0) e.0 (keys_of rx) (key_in e rx i) (eq-eqb e.0 0 (same ∙ eqb-true header.ssrc 0 t))))) k) h)
-          | inr t ↦ rw t (go (place_of header.ssrc rx) refl)
-        ]
+    takes_opened rx distinct nonzero h = by (header.ssrc == 0) refl
       where
         P : ℕ × RxRecord → Type 0
         P = TakesAs came.side entries seen
@@ -190,13 +192,20 @@ module _ (entries : List Entry) (came : GotEntry) (header : RtpHeader) (number :
             subst (λ o. AllByRecursion Q (option_map_or (change_place (heard_on (seen_of header.ssrc seen) number) rx) o rx)) (sym e)
             (one_changes P Q (heard_on (seen_of header.ssrc seen) number) header.ssrc took_elsewhere took_here rx at distinct (key_at header.ssrc (keys_of rx) at e) h)
 
+        by : (b : Bool) → (header.ssrc == 0) ≡ b → AllByRecursion Q (if b then rx else change_at header.ssrc (heard_on (seen_of header.ssrc seen) number) rx)
+        by true t =
+            all_weaker P Q rx
+            (λ e i. took_elsewhere e (λ same. false≢true (sym nonzero ∙ any-from_in (λ x. x == 0) e.0 (keys_of rx) (key_in e rx i) (eq-eqb e.0 0 (same ∙ eqb-true header.ssrc 0 t))))) h
+        by false t = go (place_of header.ssrc rx) refl
+
     probes_after : (probes : RxRecord) → TakesAs came.side entries seen (0, probes)
         → TakesAs came.side (entries ++ opened) seen_after (0, probes_opened (seen_of header.ssrc seen) header.ssrc number probes)
-    probes_after probes h =
-        elim (tested (header.ssrc == 0)) [
-          | inl t ↦ rw t (took_here (0, probes) (sym (eqb-true header.ssrc 0 t)) h)
-          | inr t ↦ rw t (took_elsewhere (0, probes) (λ same. false≢true (sym t ∙ eq-eqb header.ssrc 0 (sym same))) h)
-        ]
+    probes_after probes h = by (header.ssrc == 0) refl
+      where
+        by : (b : Bool) → (header.ssrc == 0) ≡ b
+            → TakesAs came.side (entries ++ opened) seen_after (0, (if b then heard_on (seen_of header.ssrc seen) number probes else probes))
+        by true t = took_here (0, probes) (sym (eqb-true header.ssrc 0 t)) h
+        by false t = took_elsewhere (0, probes) (λ same. false≢true (sym t ∙ eq-eqb header.ssrc 0 (sym same))) h
 
     rx_keys : (rx : List (ℕ × RxRecord)) → keys_of (rx_opened (seen_of header.ssrc seen) header.ssrc number rx) ≡ keys_of rx
     rx_keys rx = elim (tested (header.ssrc == 0)) [ inl t ↦ rw t refl | inr t ↦ rw t (go (place_of header.ssrc rx) refl) ]

@@ -291,8 +291,8 @@ fn write_step<C: SrtpCipher>(
 {
     let _ssrc = u32::from(write.ssrc);
     let _rtp_time = write.rtp_time;
-    let at = end.check_write(write)?;
-    end.put(alloc, at, time, write)?;
+    let place = end.check_write(write)?;
+    end.put(alloc, place, time, write)?;
     log.push(Entry::Wrote(side, time, copied(alloc, write)?))?;
     Ok(())
 }

@@ -1,0 +1,31 @@
+use Rattle.std.proofs.Common.{◌≡◌, List, ap, sym, subst, ◌∙◌}
+use Rattle.std.proofs.lemmas.Result.{on_ok_weaker}
+use Rattle.mask_register.specs.declared.register.MaskRegister.{MaskRegister}
+use Rattle.session_core.specs.SessionRecord.{SessionView}
+use Rattle.stream_core.specs.Tables.{change_place}
+use Rattle.stream_core.specs.TxRecord.{written}
+use Rattle.stream_core.specs.Write.{WriteRecord}
+use Rattle.media_play.specs.declared.numbers.Numbers.{Numbers}
+use Rattle.media_play.specs.Knowing.{IsNoted}
+use Rattle.media_play.specs.Packets.{write_at}
+use Rattle.media_play.specs.Sessions.{EndState}
+use Rattle.media_play.proofs.Knowings.{unused, ready_wrote}
+use Rattle.media_play.proofs.end.End.put.Goals as goal
+
+pub returns : goal.returns
+returns g c =
+    let old = c.args.self.now in
+    let place = c.args.place in
+    let w = c.args.write.now in
+    let session : c.self.inside.session ≡ old.session = ap (λ (e : EndState). e.session) c.self.view_is ∙ c.note.ensures.session in
+    let numbers : c.self.inside.written.items ≡ c.note.new.self.written = ap (λ (e : EndState). e.written) c.self.view_is in
+    let noted : IsNoted place w.number old.written c.self.inside.written.items =
+    subst (λ (l : List Numbers). IsNoted place w.number old.written l) (sym numbers) c.in_ok-note.ensures.noted in
+    on_ok_weaker c.put.result
+    (λ h seal setup steps side entries played ready sound at fault.
+    let is = h
+    ∙ ap {A = WriteRecord} {B = SessionView MaskRegister} (λ x. record c.self.inside.session { state = record c.self.inside.session.state { tx = change_place (written x) c.self.inside.session.state.tx place } }) c.in_ok-packet.ensures
+    ∙ ap {A = SessionView MaskRegister} {B = SessionView MaskRegister} (λ v. record v { state = record v.state { tx = change_place (written (write_at c.args.time w)) v.state.tx place } }) session in
+    ready_wrote played side c.args.time w (unused setup entries side w fault) g.C.SrtpCipher.meaning old (record { session = c.put.new.session; written = c.self.inside.written.items })
+    place sound at is noted ready)
+    c.put.ensures
