@@ -27,9 +27,9 @@ module _ {L : Type 0} where
         let p = bind_some (read word) (λ x. more x words) said e in
         (rest word p.0 (spelled word p.0 p.1)).tells words said p.2
 
-  pub rest_tells : {A : Type 0} {read : List (List ℕ) → Option A} {f : A → L} {Is : List (List ℕ) → L → Type 0}
+  pub rest_tells : {A : Type 0} {read : List (List ℕ) → Option A} {Is : List (List ℕ) → L → Type 0} (f : A → L)
       → ((words : List (List ℕ)) (x : A) → read words ≡ Some x → Is words (f x)) → Tells (λ words. read words >>= λ x. Some (f x)) Is
-  rest_tells {read = read} {f = f} {Is = Is} is = record { tells = go } where
+  rest_tells {read = read} {Is = Is} f is = record { tells = go } where
     go : (words : List (List ℕ)) (said : L) → (read words >>= λ x. Some (f x)) ≡ Some said → Is words said
     go words said e =
         let p = bind_some (read words) (λ x. Some (f x)) said e in

@@ -28,7 +28,7 @@ write_tells =
     then_tells side_spelled (λ s side by. then_tells time_spelled (λ t time at. then_tells (narrow_spelled (2 ^ 32)) (λ w3 ssrc n3.
     then_tells number_spelled (λ w4 number n4. then_tells (narrow_spelled (2 ^ 8)) (λ w5 pt n5. then_tells (narrow_spelled (2 ^ 32)) (λ w6 rtp_time n6.
     then_tells flag_spelled (λ w7 marker n7. then_tells flag_spelled (λ w8 nackable n8. then_tells hex_spelled (λ h payload is.
-    rest_tells (λ c csrc e. (
+    rest_tells _ (λ c csrc e. (
       t,
       h,
       c,
