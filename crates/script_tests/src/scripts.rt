@@ -154,7 +154,7 @@ fn beginning_is_read(rt: HostRuntime) -> Result<(), Fail> {
 fn ids_of_extensions(rt: HostRuntime) -> Result<(), Fail> {
     let alloc = rt.alloc();
     let text = b"str0m-media 1\nkey zero\next 0 mid\next 1 twcc\next 15 rid\next 3 abs\n\
-next 3 level\next 2 twcc\nbegin\nend\n";
+ext 3 level\next 2 twcc\nbegin\nend\n";
     let (setup, _) = read_script(alloc, text.as_slice()).ok().ok_or("a script")?;
     assert_eq!(rt; setup.exts.as_slice().len(), 6);
     let exts = setup.extension_map();
