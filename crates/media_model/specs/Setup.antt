@@ -1,6 +1,8 @@
 -- What a setup gives to a run.
-use Rattle.std.specs.Prelude.{ℕ, List, map, replicate, Option, Some, None, if◌then◌else◌}
-use Rattle.std.specs.List.{flat_map, filter_map}
+use Rattle.std.specs.Prelude.{ℕ, Bool, ◌&&◌, nat_le, List, map, replicate, Option, Some, None, if◌then◌else◌}
+use Rattle.std.specs.List.{flat_map, filter_map, fold}
+use Rattle.rtp_wire.specs.declared.extension.ExtensionMap.{ExtensionMap}
+use Rattle.rtp_wire.specs.Extensions.{no_extensions, with_extension}
 use Rattle.srtp_core.specs.declared.profile.SrtpProfile.{SrtpProfile}
 use Rattle.srtp_core.specs.Keys.{material_len}
 use Rattle.media_model.specs.declared.entry.Side.{Side}
@@ -9,6 +11,7 @@ use Rattle.media_model.specs.declared.setup.Key.TheVariants.{Zero, Given}
 use Rattle.media_model.specs.declared.setup.PayloadType.{PayloadType}
 use Rattle.media_model.specs.declared.setup.Stream.{Stream}
 use Rattle.media_model.specs.declared.setup.Media.{Media}
+use Rattle.media_model.specs.declared.setup.NamedExtension.{NamedExtension}
 use Rattle.media_model.specs.declared.setup.Setup.{Setup}
 use Rattle.media_model.specs.Sides.{same_side}
 
@@ -47,3 +50,16 @@ repairs_in media = filter_map rtx_in media.streams
 -- the SSRCs of repairs (RFC 4588 section 4)
 abbrev pub rtx_of : Setup → List ℕ
 rtx_of setup = flat_map repairs_in setup.media
+
+-- the ids that may name an extension
+abbrev pub is_extension_id : ℕ → Bool
+is_extension_id id = nat_le 1 id && nat_le id 14
+
+-- a map after a line: an id that may not name an extension names none
+abbrev pub with_named : ExtensionMap → NamedExtension → ExtensionMap
+with_named exts named = if is_extension_id named.id then with_extension exts named.id named.extension else exts
+
+-- Which id names which extension: what the lines say one after the other. (Where two lines share an id or an extension, the
+-- later one holds.)
+abbrev pub extensions_of : Setup → ExtensionMap
+extensions_of setup = fold with_named no_extensions setup.exts

@@ -38,6 +38,8 @@ pub struct Write {
     pub marker: bool,
     /// Whether it may be sent again when it is asked for.
     pub nackable: bool,
+    /// The contributing sources, at most 15 in a run.
+    pub csrc: Listed<u32>,
     /// At most 1,400 bytes in a run.
     pub payload: Bytes,
 }

@@ -9,6 +9,8 @@ mod transcript;
 
 pub use entry::{Entry, Got, Opened, Packet, Sealed, Side, Write};
 pub use rtp_wire::Kind;
-pub use setup::{CipherName, Codec, Key, Media, MediaKind, PayloadType, Setup, Stream};
+pub use setup::{
+    CipherName, Codec, Key, Media, MediaKind, NamedExtension, PayloadType, Setup, Stream,
+};
 pub use step::Step;
 pub use transcript::Transcript;

@@ -1,10 +1,10 @@
 ghost use Rattle.std.specs.Prelude.{◌≡◌, ◌++◌, IfOk, OnOk};
 ghost use Rattle.std.specs.List.{filter_map};
-ghost use Rattle.media_model.specs.Setup.{material_of, streams_of, types_of, main_in, rtx_in, rtx_of};
+ghost use Rattle.media_model.specs.Setup.{material_of, streams_of, types_of, main_in, rtx_in, rtx_of, is_extension_id, extensions_of};
 
 use crate::entry::Side;
-use media_base::{Bytes, Listed};
-use rtp_wire::{Mid, Pt, Rid, Ssrc};
+use media_base::{Beginning, Bytes, Listed};
+use rtp_wire::{Extension, ExtensionMap, Mid, Pt, Rid, Ssrc};
 use srtp_core::SrtpProfile;
 use std::alloc::{AllocError, Global};
 
@@ -87,6 +87,15 @@ pub struct Media {
     pub streams: Listed<Stream>,
 }
 
+/// A header extension and the id that names it (RFC 8285).
+#[derive(Clone, Copy, Debug, PartialEq, Eq)]
+pub struct NamedExtension {
+    /// From 1 to 14 in a run.
+    pub id: u8,
+    /// What it names.
+    pub extension: Extension,
+}
+
 /// What both sides know before a run begins.
 #[derive(Debug, PartialEq, Eq, Drop)]
 pub struct Setup {
@@ -96,6 +105,10 @@ pub struct Setup {
     pub profile: SrtpProfile,
     /// The keying material of both sides.
     pub key: Key,
+    /// The Unix time, in seconds, of the moment 0 of both sides.
+    pub beginning: Beginning,
+    /// The header extensions, in the order of their lines.
+    pub exts: Listed<NamedExtension>,
     /// The payload types, in the order of their lines.
     pub types: Listed<PayloadType>,
     /// The media sections, in the order of their lines.
@@ -135,12 +148,33 @@ impl Setup {
         Ok(ssrcs)
     }
 
+    /// Which id names which extension: what the lines say one after the other, where an id outside
+    /// 1 to 14 names nothing.
+    pub fn extension_map(&self) -> ExtensionMap
+        ensures { result ≡ extensions_of self.now }
+    {
+        let mut exts = ExtensionMap::empty();
+        for named in self.exts.as_slice() {
+            if is_extension_id(named.id) {
+                exts.set(named.id, named.extension);
+            }
+        }
+        exts
+    }
+
     /// The payload types that are claimed, in order.
     pub fn types(&self, alloc: Global) -> Result<Vec<Pt>, AllocError>
         ensures { IfOk result (λ v. v.items ≡ types_of self.now) }
     {
         self.types.as_slice().iter().map(|t| t.pt).collect(alloc)
     }
+}
+
+// Whether an id may name an extension.
+fn is_extension_id(id: u8) -> bool
+    ensures { result ≡ is_extension_id id }
+{
+    id >= 1 && id <= 14
 }
 
 // Adds the SSRCs of the streams' repairs.

@@ -18,7 +18,7 @@ ghost use Rattle.media_play.specs.Sessions.{Ready, sealing_of, received_entries}
 use crate::end::{End, Received};
 use crate::fault::{StepError, StepFault};
 use crate::log::Log;
-use media_base::{Bytes, Instant};
+use media_base::{Bytes, Instant, Listed};
 use media_model::{Entry, Got, Kind, Opened, Setup, Side, Step, Transcript, Write};
 use srtp_core::SrtpCipher;
 use std::alloc::{AllocError, Global};
@@ -263,6 +263,7 @@ fn copied(alloc: Global, write: &Write) -> Result<Write, AllocError>
         rtp_time: write.rtp_time,
         marker: write.marker,
         nackable: write.nackable,
+        csrc: Listed::from_vec(write.csrc.as_slice().to_vec(alloc)?),
         payload: Bytes::from_slice(alloc, write.payload.as_slice())?,
     })
 }

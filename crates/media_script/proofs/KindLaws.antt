@@ -27,6 +27,15 @@ module _ {L : Type 0} where
         let p = bind_some (read word) (λ x. more x words) said e in
         (rest word p.0 (spelled word p.0 p.1)).tells words said p.2
 
+  pub rest_tells : {A : Type 0} {read : List (List ℕ) → Option A} {Is : List (List ℕ) → L → Type 0} (f : A → L)
+      → ((words : List (List ℕ)) (x : A) → read words ≡ Some x → Is words (f x)) → Tells (λ words. read words >>= λ x. Some (f x)) Is
+  rest_tells {read = read} {Is = Is} f is = record { tells = go } where
+    go : (words : List (List ℕ)) (said : L) → (read words >>= λ x. Some (f x)) ≡ Some said → Is words said
+    go words said e =
+        let p = bind_some (read words) (λ x. Some (f x)) said e in
+        let same : f p.0 ≡ said = cc in
+        subst (Is words) same (is words p.0 p.1)
+
 module _ {L : Type 0} (Is : List (List ℕ) → L → Type 0) where
   -- the words behind this first word
   abbrev pub TellsBehind : List ℕ × (List (List ℕ) → Option L) → Type 0

@@ -3,9 +3,9 @@ use Rattle.std.proofs.Common.{◌≡◌, ℕ, ◌^◌, lit≤, List, [], ◌∷�
 use Rattle.std.specs.Prelude.{codes}
 use Rattle.media_script.specs.declared.setup_line.SetupLine.{SetupLine}
 use Rattle.media_script.specs.declared.setup_line.SetupLine.TheVariants as line
-use Rattle.media_script.specs.Grammar.{cipher_line, profile_line, key_line, type_line, media_line, stream_line, no_other, named_kinds, named_line_of, setup_kinds, setup_line_of, in_few}
+use Rattle.media_script.specs.Grammar.{cipher_line, profile_line, key_line, unix_line, ext_line, type_line, media_line, stream_line, no_other, named_kinds, named_line_of, setup_kinds, setup_line_of, in_few}
 use Rattle.media_script.specs.Spelling.{IsSetupLine}
-use Rattle.media_script.proofs.WordLaws.{narrow_spelled, narrow_again, side_spelled, side_again, cipher_spelled, cipher_again, profile_spelled, profile_again, key_spelled, key_again, codec_spelled, codec_again, media_kind_spelled, media_kind_again, rate_spelled, rate_again, name_spelled, name_again, rtx_spelled, rtx_again, rid_spelled, rid_again}
+use Rattle.media_script.proofs.WordLaws.{number_spelled, number_again, narrow_spelled, narrow_again, side_spelled, side_again, cipher_spelled, cipher_again, profile_spelled, profile_again, key_spelled, key_again, extension_spelled, extension_again, codec_spelled, codec_again, media_kind_spelled, media_kind_again, rate_spelled, rate_again, name_spelled, name_again, rtx_spelled, rtx_again, rid_spelled, rid_again}
 use Rattle.media_script.proofs.KindLaws.{Tells, done_tells, then_tells, look_up_tells, none_tells}
 
 -- the words behind this first word
@@ -20,6 +20,14 @@ profile_tells = then_tells profile_spelled (λ w profile is. done_tells (λ i. c
 
 key_tells : Tells key_line (Behind (codes "key"))
 key_tells = then_tells key_spelled (λ w key is. done_tells (w, is, refl))
+
+unix_tells : Tells unix_line (Behind (codes "unix"))
+unix_tells = then_tells number_spelled (λ w secs is. done_tells (is.1, λ i. codes "unix" ∷ is.0 i ∷ []))
+
+ext_tells : Tells ext_line (Behind (codes "ext"))
+ext_tells =
+    then_tells (narrow_spelled (2 ^ 8)) (λ n id is. then_tells extension_spelled (λ e extension has.
+    done_tells (is.1, λ i. codes "ext" ∷ is.0 i ∷ has i ∷ [])))
 
 type_tells : Tells type_line (Behind (codes "type"))
 type_tells =
@@ -44,7 +52,7 @@ named_line_spelled = look_up_tells IsSetupLine no_other named_kinds (media_tells
 -- what a setup line says is how it is spelled
 pub setup_line_spelled : (words : List (List ℕ)) (said : SetupLine) → setup_line_of words ≡ Some said → IsSetupLine words said
 unfolding setup_line_of
-setup_line_spelled = look_up_tells IsSetupLine named_line_of setup_kinds (cipher_tells, (profile_tells, (key_tells, (type_tells, tt)))) named_line_spelled
+setup_line_spelled = look_up_tells IsSetupLine named_line_of setup_kinds (cipher_tells, (profile_tells, (key_tells, (unix_tells, (ext_tells, (type_tells, tt)))))) named_line_spelled
 
 -- and what is spelled so is read
 pub setup_line_again : (words : List (List ℕ)) (said : SetupLine) → IsSetupLine words said → in_few setup_line_of words ≡ Some said
@@ -52,6 +60,9 @@ unfolding setup_line_of named_line_of
 setup_line_again words (line.Cipher cipher) is = ap (in_few setup_line_of) is ∙ rw (cipher_again cipher) refl
 setup_line_again words (line.Profile profile) is = ap (in_few setup_line_of) is ∙ rw (profile_again profile) refl
 setup_line_again words (line.Key key) is = ap (in_few setup_line_of) is.2 ∙ rw (key_again is.0 key is.1) refl
+setup_line_again words (line.Unix beginning) is = ap (in_few setup_line_of) is.1 ∙ rw (number_again beginning.unix_secs is.0) refl
+setup_line_again words (line.Ext named) is =
+    ap (in_few setup_line_of) is.1 ∙ rw (narrow_again (2 ^ 8) named.id (lit≤ tt) is.0, extension_again named.extension) refl
 setup_line_again words (line.Type t) is =
     ap (in_few setup_line_of) is.3 ∙ rw (narrow_again (2 ^ 8) t.pt (lit≤ tt) is.0, codec_again t.codec, rate_again t.rate is.1 is.2) refl
 setup_line_again words (line.Media mid kind cname) is =

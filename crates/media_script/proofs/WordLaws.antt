@@ -1,5 +1,5 @@
 -- What a word says is how it is spelled, and the other way round.
-use Rattle.std.proofs.Common.{◌≡◌, ◌⊎◌, lit<, lit≤, inl, inr, ℕ, zero, suc, ◌+◌, ◌-◌, ◌*◌, ◌^◌, ◌<◌, ◌≤◌, Bool, true, false, cond, not, ◌&&◌, eqb, leb, ltb, List, [], ◌∷◌, ◌++◌, length, take, get_or, Option, Some, None, Result, Ok, Err, refl, sym, ap, ◌∙◌, subst, arith}
+use Rattle.std.proofs.Common.{◌≡◌, ◌⊎◌, lit<, lit≤, inl, inr, ℕ, zero, suc, ◌+◌, ◌-◌, ◌*◌, ◌%◌, ◌^◌, ◌<◌, ◌≤◌, Bool, true, false, cond, not, ◌&&◌, eqb, leb, ltb, List, [], ◌∷◌, ◌++◌, length, take, drop, get_or, Option, Some, None, Result, Ok, Err, refl, sym, ap, ◌∙◌, subst, arith}
 use Rattle.std.specs.Prelude.{codes}
 use Rattle.std.specs.Fmt.{decimal}
 use Rattle.std.specs.Str.{all_ascii_digits, bytes_eq}
@@ -8,7 +8,7 @@ use Rattle.std.specs.Result.{result_ok}
 use Rattle.std.proofs.lemmas.Bool.{ltb-true, lt-ltb, eq-eqb}
 use Rattle.std.proofs.lemmas.Bool.Decides.{nat_tests, Decides-eqb}
 use Rattle.std.proofs.lemmas.List.{get_or_at, length-append, take_at}
-use Rattle.std.proofs.lemmas.Slice.Eq.{bytes_eq-Decides, ends_is}
+use Rattle.std.proofs.lemmas.Slice.Eq.{bytes_eq-Decides, starts_is, ends_is}
 use Rattle.std.proofs.lemmas.Fmt.{decimal-digits_value, digits_decimal, digits_value-decimal, decimal_nonempty, first_decimal, decimal_digit}
 use Rattle.std.proofs.lemmas.Str.Parse.{IsNumeralModel, digit_at, numerals_by_value, tells_all_ascii_digits}
 use Rattle.std.specs.Char.{is_ascii_alphanumeric}
@@ -30,9 +30,12 @@ use Rattle.media_model.specs.declared.setup.Key.{Key}
 use Rattle.media_model.specs.declared.setup.Key.TheVariants.{Zero, Given}
 use Rattle.media_model.specs.declared.setup.MediaKind.{MediaKind}
 use Rattle.media_model.specs.declared.setup.MediaKind.TheVariants.{Audio, Video}
-use Rattle.media_script.specs.Words.{◌>>=◌, below, plain_front, is_number, number_of, narrow_of, has_ms, time_of, side_of, flag_of, hex_of, kind_of, key_of, one_of, ciphers, cipher_of, profiles, profile_of, codecs, codec_of, media_kind_of, rate_of, is_name, name_of, optional}
-use Rattle.media_script.specs.Names.{side_text, flag_text, kind_text, cipher_text, profile_text, codec_text, media_kind_text}
-use Rattle.media_script.specs.Spelling.{IsTime, IsHex, IsName, IsKey, IsOptional, IsSsrc, IsNamed}
+use Rattle.rtp_wire.specs.Bytes.{words_of as numbers_in}
+use Rattle.rtp_wire.specs.declared.extension.Extension.{Extension}
+use Rattle.rtp_wire.specs.declared.extension.Extension.TheVariants.{AudioLevel, AbsoluteSendTime, TransportSequenceNumber, RtpMid, RtpStreamId, RepairedRtpStreamId, VideoOrientation, AbsoluteCaptureTime, PlayoutDelay}
+use Rattle.media_script.specs.Words.{◌>>=◌, below, plain_front, is_number, number_of, narrow_of, has_ms, time_of, side_of, flag_of, hex_of, kind_of, key_of, one_of, ciphers, cipher_of, profiles, profile_of, codecs, codec_of, media_kind_of, rate_of, is_name, name_of, extensions, extension_of, numbers_of, has_c, sources_of, optional}
+use Rattle.media_script.specs.Names.{side_text, flag_text, kind_text, cipher_text, profile_text, codec_text, media_kind_text, extension_text}
+use Rattle.media_script.specs.Spelling.{IsTime, IsHex, IsName, IsKey, IsOptional, IsSsrc, IsNamed, IsSources}
 
 own : IsNumeralModel (λ ds. all_ascii_digits ds ≡ true) (digits_value 10)
 own = numerals_by_value _ tells_all_ascii_digits
@@ -277,6 +280,22 @@ unfolding media_kind_of
 media_kind_again Audio = refl
 media_kind_again Video = refl
 
+pub extension_spelled : (word : List ℕ) (extension : Extension) → extension_of word ≡ Some extension → word ≡ extension_text extension
+unfolding extension_of
+extension_spelled word extension e = one_spelled extension_text extensions word extension e
+
+pub extension_again : (extension : Extension) → extension_of (extension_text extension) ≡ Some extension
+unfolding extension_of
+extension_again AudioLevel = refl
+extension_again AbsoluteSendTime = refl
+extension_again TransportSequenceNumber = refl
+extension_again RtpMid = refl
+extension_again RtpStreamId = refl
+extension_again RepairedRtpStreamId = refl
+extension_again VideoOrientation = refl
+extension_again AbsoluteCaptureTime = refl
+extension_again PlayoutDelay = refl
+
 pub rate_spelled : (word : List ℕ) (rate : ℕ) → rate_of word ≡ Some rate → (word ≡ decimal rate) × (0 < rate) × (rate < 2 ^ 32)
 unfolding rate_of
 rate_spelled word rate e =
@@ -295,6 +314,45 @@ unfolding rate_of
 rate_again rate some small =
     let not_zero : eqb rate 0 ≡ false = grind (arith, nat_tests) in
     rw (narrow_again (2 ^ 32) rate (lit≤ tt) small, not_zero) refl
+
+-- contributing sources
+c_is : (word : List ℕ) → (has_c word ≡ true → word ≡ codes "c=" ++ drop 2 word) × ((rest : List ℕ) → word ≡ codes "c=" ++ rest → has_c word ≡ true)
+c_is word = starts_is Decides-eqb word (codes "c=") (has_c word) refl
+
+-- whole numbers are a quarter of their bytes
+quarter : (bytes : List ℕ) → length bytes % 4 ≡ 0 → length bytes ≡ 4 * length (numbers_in bytes)
+quarter [] e = refl
+quarter (a ∷ []) e = absurd (omega arith)
+quarter (a ∷ b ∷ []) e = absurd (omega arith)
+quarter (a ∷ b ∷ c ∷ []) e = absurd (omega arith)
+quarter (a ∷ b ∷ c ∷ d ∷ bytes) e = omega (arith, quarter bytes (omega arith))
+
+pub sources_spelled : (word csrc : List ℕ) → sources_of word ≡ Some csrc → IsSources word csrc
+unfolding sources_of numbers_of
+sources_spelled word csrc e =
+    let a = if_then (has_c word) (hex_of (drop 2 word) >>= λ bytes. numbers_of bytes) csrc e in
+    let b = bind_some (hex_of (drop 2 word)) (λ bytes. numbers_of bytes) csrc a.1 in
+    let c = if_some (eqb (length b.0 % 4) 0 && leb (length b.0) 60) (numbers_in b.0) csrc b.2 in
+    let d = both (eqb (length b.0 % 4) 0) (leb (length b.0) 60) c.0 in
+    let whole : length b.0 ≡ 4 * length (numbers_in b.0) = quarter b.0 (grind (arith, nat_tests, d.0)) in
+    let small : length b.0 ≤ 60 = grind (arith, nat_tests, d.1) in
+    record {
+      digits = drop 2 word;
+      bytes = b.0;
+      spelled = (c_is word).0 a.0;
+      hex = hex_spelled (drop 2 word) b.0 b.1;
+      whole = whole ∙ ap (λ (ns : List ℕ). 4 * length ns) c.1;
+      few = omega (arith, whole, small, ap length c.1);
+      numbers = sym c.1;
+    }
+
+pub sources_again : (word csrc : List ℕ) → IsSources word csrc → sources_of word ≡ Some csrc
+unfolding sources_of numbers_of
+sources_again word csrc is =
+    let behind : drop 2 word ≡ is.digits = ap (drop 2) is.spelled in
+    let rest : eqb (length is.bytes % 4) 0 ≡ true = grind (arith, nat_tests, is.whole) in
+    let small : leb (length is.bytes) 60 ≡ true = grind (arith, nat_tests, is.whole, is.few) in
+    rw ((c_is word).1 is.digits is.spelled, behind, hex_again is.digits is.bytes is.hex, rest, small) (ap (λ (ns : List ℕ). Some ns) (sym is.numbers))
 
 -- names
 pub name_spelled : (most : ℕ) (word name : List ℕ) → name_of most word ≡ Some name → (word ≡ name) × IsName most name

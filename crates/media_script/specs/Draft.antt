@@ -23,13 +23,23 @@ with_stream mid stream (media ∷ rest) =
 
 -- what stands where no line says it
 abbrev pub blank : Draft
-blank = record { cipher = Toy; profile = AeadAes128Gcm; key = None; types = []; media = [] }
+blank = record {
+  cipher = Toy;
+  profile = AeadAes128Gcm;
+  key = None;
+  beginning = record { unix_secs = 1700000000 };
+  exts = [];
+  types = [];
+  media = [];
+}
 
 -- what one line more says
 abbrev pub told : Draft → SetupLine → Draft
 told draft (line.Cipher cipher) = record draft { cipher = cipher }
 told draft (line.Profile profile) = record draft { profile = profile }
 told draft (line.Key key) = record draft { key = Some key }
+told draft (line.Unix beginning) = record draft { beginning = beginning }
+told draft (line.Ext named) = record draft { exts = draft.exts ++ named ∷ [] }
 told draft (line.Type payload_type) = record draft { types = draft.types ++ payload_type ∷ [] }
 told draft (line.Media mid kind cname) =
     record draft { media = draft.media ++ record { mid = mid; kind = kind; cname = cname; streams = [] } ∷ [] }
@@ -41,6 +51,8 @@ setup_of draft = draft.key >>= λ key. Some (record {
   cipher = draft.cipher;
   profile = draft.profile;
   key = key;
+  beginning = draft.beginning;
+  exts = draft.exts;
   types = draft.types;
   media = draft.media;
 })

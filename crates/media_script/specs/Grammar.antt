@@ -14,7 +14,7 @@ use Rattle.media_model.specs.declared.step.Step.TheVariants as step
 use Rattle.media_script.specs.Draft.{setup_of}
 use Rattle.media_script.specs.Order.{none_said, with_line}
 use Rattle.media_script.specs.Spelling.{words_of, is_passed_over}
-use Rattle.media_script.specs.Words.{◌>>=◌, number_of, narrow_of, time_of, side_of, flag_of, hex_of, kind_of, cipher_of, profile_of, key_of, codec_of, media_kind_of, rate_of, name_of, optional}
+use Rattle.media_script.specs.Words.{◌>>=◌, number_of, narrow_of, time_of, side_of, flag_of, hex_of, kind_of, cipher_of, profile_of, key_of, codec_of, media_kind_of, rate_of, name_of, extension_of, sources_of, optional}
 
 -- the words without where they lie in memory
 abbrev pub texts : List (Bor (List ℕ)) → List (List ℕ)
@@ -59,6 +59,15 @@ profile_line = and_then profile_of (λ profile. done (line.Profile profile))
 abbrev pub key_line : List (List ℕ) → Option SetupLine
 key_line = and_then key_of (λ key. done (line.Key key))
 
+abbrev pub unix_line : List (List ℕ) → Option SetupLine
+unix_line = and_then number_of (λ secs. done (line.Unix (record { unix_secs = secs })))
+
+abbrev pub ext_line : List (List ℕ) → Option SetupLine
+ext_line =
+    and_then (narrow_of (2 ^ 8)) (λ id.
+    and_then extension_of (λ extension.
+    done (line.Ext (record { id = id; extension = extension }))))
+
 abbrev pub type_line : List (List ℕ) → Option SetupLine
 type_line =
     and_then (narrow_of (2 ^ 8)) (λ pt.
@@ -94,6 +103,8 @@ setup_kinds =
     (codes "cipher", cipher_line)
     ∷ (codes "profile", profile_line)
     ∷ (codes "key", key_line)
+    ∷ (codes "unix", unix_line)
+    ∷ (codes "ext", ext_line)
     ∷ (codes "type", type_line)
     ∷ []
 
@@ -102,6 +113,12 @@ unfoldable pub setup_line_of : List (List ℕ) → Option SetupLine
 setup_line_of words = look_up named_line_of setup_kinds words
 
 -- ---- steps, without their first word
+
+-- what the words behind a payload say: no sources, or those of one word
+abbrev pub sources_in : List (List ℕ) → Option (List ℕ)
+sources_in [] = Some []
+sources_in (word ∷ []) = sources_of word
+sources_in words = None
 
 -- behind the side and the time
 unfoldable pub packet_step : Side → ℕ → List (List ℕ) → Option Step
@@ -112,14 +129,15 @@ packet_step side time =
     and_then (narrow_of (2 ^ 32)) (λ rtp_time.
     and_then flag_of (λ marker.
     and_then flag_of (λ nackable.
-    and_then hex_of (λ payload.
-    done (step.Write side time (record {
+    and_then hex_of (λ payload words. sources_in words >>= λ csrc.
+    Some (step.Write side time (record {
       ssrc = ssrc;
       number = number;
       pt = pt;
       rtp_time = rtp_time;
       marker = marker;
       nackable = nackable;
+      csrc = csrc;
       payload = payload;
     })))))))))
 

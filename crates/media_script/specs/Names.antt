@@ -12,6 +12,8 @@ use Rattle.media_model.specs.declared.setup.Codec.{Codec}
 use Rattle.media_model.specs.declared.setup.Codec.TheVariants.{Opus, Pcmu, Pcma, Telephone, Vp8, Vp9, H264, H265, H266, Av1}
 use Rattle.media_model.specs.declared.setup.MediaKind.{MediaKind}
 use Rattle.media_model.specs.declared.setup.MediaKind.TheVariants.{Audio, Video}
+use Rattle.rtp_wire.specs.declared.extension.Extension.{Extension}
+use Rattle.rtp_wire.specs.declared.extension.Extension.TheVariants.{AudioLevel, AbsoluteSendTime, TransportSequenceNumber, RtpMid, RtpStreamId, RepairedRtpStreamId, VideoOrientation, AbsoluteCaptureTime, PlayoutDelay}
 
 abbrev pub side_text : Side → List ℕ
 side_text A = codes "A"
@@ -45,6 +47,17 @@ codec_text H264 = codes "h264"
 codec_text H265 = codes "h265"
 codec_text H266 = codes "h266"
 codec_text Av1 = codes "av1"
+
+abbrev pub extension_text : Extension → List ℕ
+extension_text AudioLevel = codes "level"
+extension_text AbsoluteSendTime = codes "abs"
+extension_text TransportSequenceNumber = codes "twcc"
+extension_text RtpMid = codes "mid"
+extension_text RtpStreamId = codes "rid"
+extension_text RepairedRtpStreamId = codes "rrid"
+extension_text VideoOrientation = codes "orient"
+extension_text AbsoluteCaptureTime = codes "capture"
+extension_text PlayoutDelay = codes "delay"
 
 abbrev pub media_kind_text : MediaKind → List ℕ
 media_kind_text Audio = codes "audio"

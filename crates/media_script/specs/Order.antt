@@ -21,12 +21,15 @@ abbrev pub word : SetupLine → List ℕ
 word (line.Cipher cipher) = codes "cipher"
 word (line.Profile profile) = codes "profile"
 word (line.Key key) = codes "key"
+word (line.Unix beginning) = codes "unix"
+word (line.Ext named) = codes "ext"
 word (line.Type payload_type) = codes "type"
 word (line.Media mid kind cname) = codes "media"
 word (line.Stream mid stream) = codes "stream"
 
 -- it may stand once in a script, for a side or for an SSRC; or any number of times
 abbrev pub per : SetupLine → Option Per
+per (line.Ext named) = None
 per (line.Type payload_type) = None
 per (line.Media mid kind cname) = None
 per (line.Stream mid stream) = None

@@ -13,7 +13,8 @@ use Rattle.media_script.specs.declared.setup_line.SetupLine.{SetupLine}
 use Rattle.media_script.specs.declared.setup_line.SetupLine.TheVariants as line
 use Rattle.media_model.specs.declared.step.Step.{Step}
 use Rattle.media_model.specs.declared.step.Step.TheVariants as step
-use Rattle.media_script.specs.Names.{side_text, kind_text, flag_text, cipher_text, profile_text, codec_text, media_kind_text}
+use Rattle.rtp_wire.specs.Bytes.{words_of as numbers_in}
+use Rattle.media_script.specs.Names.{side_text, kind_text, flag_text, cipher_text, profile_text, codec_text, media_kind_text, extension_text}
 use Rattle.media_script.specs.Draft.{setup_of}
 use Rattle.media_script.specs.Order.{AreInOrder, said_by}
 
@@ -53,6 +54,10 @@ abbrev pub IsSetupLine : List (List ℕ) → SetupLine → Type 0
 IsSetupLine words (line.Cipher cipher) = words ≡ codes "cipher" ∷ cipher_text cipher ∷ []
 IsSetupLine words (line.Profile profile) = words ≡ codes "profile" ∷ profile_text profile ∷ []
 IsSetupLine words (line.Key key) = (k : List ℕ) × IsKey k key × (words ≡ codes "key" ∷ k ∷ [])
+IsSetupLine words (line.Unix beginning) =
+    (beginning.unix_secs < 2 ^ 64) × (words ≡ codes "unix" ∷ decimal beginning.unix_secs ∷ [])
+IsSetupLine words (line.Ext named) =
+    (named.id < 2 ^ 8) × (words ≡ codes "ext" ∷ decimal named.id ∷ extension_text named.extension ∷ [])
 IsSetupLine words (line.Type t) =
     (t.pt < 2 ^ 8) × (0 < t.rate) × (t.rate < 2 ^ 32) × (words ≡ codes "type" ∷ decimal t.pt ∷ codec_text t.codec ∷ decimal t.rate ∷ [])
 IsSetupLine words (line.Media mid kind cname) =
@@ -68,15 +73,29 @@ pub record Fits (w : Write) : Type 0 where
   pub pt : w.pt < 2 ^ 8
   pub rtp_time : w.rtp_time < 2 ^ 32
 
+-- the hex of at most 15 numbers of 32 bits in network order, behind c=
+pub record IsSources (word csrc : List ℕ) : Type 0 where
+  pub digits : List ℕ
+  pub bytes : List ℕ
+  pub spelled : word ≡ codes "c=" ++ digits
+  pub hex : IsHex digits bytes
+  pub whole : length bytes ≡ 4 * length csrc
+  pub few : length csrc ≤ 15
+  pub numbers : csrc ≡ numbers_in bytes
+
+-- no word where there are no sources, or one word that says them
+abbrev pub AreSources : List (List ℕ) → List ℕ → Type 0
+AreSources words csrc = ((words ≡ []) × (csrc ≡ [])) ⊎ ((word : List ℕ) × (words ≡ word ∷ []) × IsSources word csrc)
+
 -- the words of a step
 abbrev pub IsStep : List (List ℕ) → Step → Type 0
 IsStep words (step.Tick side time) = (t : List ℕ) × IsTime t time × (words ≡ codes "tick" ∷ side_text side ∷ t ∷ [])
 IsStep words (step.Deliver side time k) =
     (t : List ℕ) × IsTime t time × (k < 2 ^ 64) × (words ≡ codes "deliver" ∷ side_text side ∷ t ∷ decimal k ∷ [])
 IsStep words (step.Write side time w) =
-    (t : List ℕ) × (h : List ℕ) × IsTime t time × IsHex h w.payload × Fits w
+    (t : List ℕ) × (h : List ℕ) × (c : List (List ℕ)) × IsTime t time × IsHex h w.payload × AreSources c w.csrc × Fits w
     × (words ≡ codes "write" ∷ side_text side ∷ t ∷ decimal w.ssrc ∷ decimal w.number ∷ decimal w.pt ∷ decimal w.rtp_time
-    ∷ flag_text w.marker ∷ flag_text w.nackable ∷ h ∷ [])
+    ∷ flag_text w.marker ∷ flag_text w.nackable ∷ h ∷ c)
 IsStep words (step.Foreign side time kind bytes) =
     (t : List ℕ) × (h : List ℕ) × IsTime t time × IsHex h bytes × (kind ≡ Rtp)
     × (words ≡ codes "foreign" ∷ side_text side ∷ t ∷ kind_text kind ∷ h ∷ [])

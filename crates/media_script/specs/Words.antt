@@ -1,7 +1,7 @@
 -- What the words of a line say.
-use Rattle.std.specs.Prelude.{ℕ, ◌-◌, ◌*◌, ◌^◌, List, [], ◌∷◌, length, take, Bool, true, false, not, ◌&&◌, ◌==◌, nat_lt, nat_le, nat_eq, if◌then◌else◌, Option, Some, None, codes}
+use Rattle.std.specs.Prelude.{ℕ, ◌-◌, ◌*◌, ◌%◌, ◌^◌, List, [], ◌∷◌, length, take, drop, Bool, true, false, not, ◌&&◌, ◌==◌, nat_lt, nat_le, nat_eq, if◌then◌else◌, Option, Some, None, codes}
 use Rattle.std.specs.Char.{is_ascii_alphanumeric}
-use Rattle.std.specs.List.{ends_with, list_all}
+use Rattle.std.specs.List.{starts_with, ends_with, list_all}
 use Rattle.std.specs.Str.{all_ascii_digits, bytes_eq}
 use Rattle.std.specs.Str.Parse.{digits_value}
 use Rattle.std.specs.Result.{result_ok}
@@ -20,7 +20,10 @@ use Rattle.media_model.specs.declared.setup.Key.{Key}
 use Rattle.media_model.specs.declared.setup.Key.TheVariants.{Zero, Given}
 use Rattle.media_model.specs.declared.setup.MediaKind.{MediaKind}
 use Rattle.media_model.specs.declared.setup.MediaKind.TheVariants.{Audio, Video}
-use Rattle.media_script.specs.Names.{cipher_text, profile_text, codec_text, media_kind_text}
+use Rattle.rtp_wire.specs.Bytes.{words_of as numbers_in}
+use Rattle.rtp_wire.specs.declared.extension.Extension.{Extension}
+use Rattle.rtp_wire.specs.declared.extension.Extension.TheVariants.{AudioLevel, AbsoluteSendTime, TransportSequenceNumber, RtpMid, RtpStreamId, RepairedRtpStreamId, VideoOrientation, AbsoluteCaptureTime, PlayoutDelay}
+use Rattle.media_script.specs.Names.{cipher_text, profile_text, codec_text, media_kind_text, extension_text}
 
 infixl 10 ◌>>=◌
 abbrev pub ◌>>=◌ : {A B : Type 0} → Option A → (A → Option B) → Option B
@@ -104,6 +107,33 @@ codec_of word = one_of codec_text codecs word
 
 unfoldable pub media_kind_of : List ℕ → Option MediaKind
 media_kind_of word = one_of media_kind_text (Audio ∷ Video ∷ []) word
+
+abbrev pub extensions : List Extension
+extensions =
+    AudioLevel
+    ∷ AbsoluteSendTime
+    ∷ TransportSequenceNumber
+    ∷ RtpMid
+    ∷ RtpStreamId
+    ∷ RepairedRtpStreamId
+    ∷ VideoOrientation
+    ∷ AbsoluteCaptureTime
+    ∷ PlayoutDelay
+    ∷ []
+
+unfoldable pub extension_of : List ℕ → Option Extension
+extension_of word = one_of extension_text extensions word
+
+-- at most 15 numbers of 32 bits, in network order
+unfoldable pub numbers_of : List ℕ → Option (List ℕ)
+numbers_of bytes = if (length bytes % 4 == 0) && nat_le (length bytes) 60 then Some (numbers_in bytes) else None
+
+abbrev pub has_c : List ℕ → Bool
+has_c word = starts_with nat_eq word (codes "c=")
+
+-- c= and contributing sources
+unfoldable pub sources_of : List ℕ → Option (List ℕ)
+sources_of word = if has_c word then (hex_of (drop 2 word) >>= λ bytes. numbers_of bytes) else None
 
 -- units of RTP time in a second
 unfoldable pub rate_of : List ℕ → Option ℕ

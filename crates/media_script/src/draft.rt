@@ -6,10 +6,13 @@ ghost use Rattle.media_script.specs.Draft.{blank, told, setup_of};
 use crate::error::LineError;
 use crate::media_list::MediaList;
 use crate::setup_line::SetupLine;
-use media_base::Listed;
-use media_model::{CipherName, Key, Media, PayloadType, Setup};
+use media_base::{Beginning, Listed};
+use media_model::{CipherName, Key, Media, NamedExtension, PayloadType, Setup};
 use srtp_core::SrtpProfile;
 use std::alloc::Global;
+
+// The Unix time at which a run begins where no line says it, in November 2023.
+const DEFAULT_UNIX_SECS: u64 = 1_700_000_000;
 
 /// What the setup lines so far say, and the default of each that does not stand.
 #[derive(Debug, Drop)]
@@ -18,6 +21,8 @@ pub struct Draft {
     pub profile: SrtpProfile,
     /// Required.
     pub key: Option<Key>,
+    pub beginning: Beginning,
+    pub exts: Listed<NamedExtension>,
     pub types: Listed<PayloadType>,
     pub media: MediaList,
 }
@@ -31,6 +36,10 @@ impl Draft {
             cipher: CipherName::Toy,
             profile: SrtpProfile::AeadAes128Gcm,
             key: None,
+            beginning: Beginning {
+                unix_secs: DEFAULT_UNIX_SECS,
+            },
+            exts: Listed::new(alloc),
             types: Listed::new(alloc),
             media: MediaList::new(alloc),
         }
@@ -44,6 +53,8 @@ impl Draft {
             SetupLine::Cipher(cipher) => self.cipher = cipher,
             SetupLine::Profile(profile) => self.profile = profile,
             SetupLine::Key(key) => self.key = Some(key),
+            SetupLine::Unix(beginning) => self.beginning = beginning,
+            SetupLine::Ext(named) => self.exts.push(named)?,
             SetupLine::Type(payload_type) => self.types.push(payload_type)?,
             SetupLine::Media { mid, kind, cname } => self.media.push(Media {
                 mid,
@@ -65,6 +76,8 @@ impl Draft {
             cipher: self.cipher,
             profile: self.profile,
             key,
+            beginning: self.beginning,
+            exts: self.exts,
             types: self.types,
             media: self.media.into_listed(),
         })

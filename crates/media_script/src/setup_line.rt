@@ -1,8 +1,8 @@
 ghost use Rattle.std.specs.Prelude.{◌≡◌};
 ghost use Rattle.media_script.specs.Order.{word, per, slot, needs, gives};
 
-use media_base::Bytes;
-use media_model::{CipherName, Key, MediaKind, PayloadType, Side, Stream};
+use media_base::{Beginning, Bytes};
+use media_model::{CipherName, Key, MediaKind, NamedExtension, PayloadType, Side, Stream};
 use rtp_wire::{Mid, Ssrc};
 use srtp_core::SrtpProfile;
 use std::marker::Model;
@@ -13,6 +13,8 @@ pub enum SetupLine {
     Cipher(CipherName),
     Profile(SrtpProfile),
     Key(Key),
+    Unix(Beginning),
+    Ext(NamedExtension),
     Type(PayloadType),
     Media {
         mid: Mid,
@@ -68,6 +70,8 @@ impl SetupLine {
             SetupLine::Cipher(_) => b"cipher",
             SetupLine::Profile(_) => b"profile",
             SetupLine::Key(_) => b"key",
+            SetupLine::Unix(_) => b"unix",
+            SetupLine::Ext(_) => b"ext",
             SetupLine::Type(_) => b"type",
             SetupLine::Media { .. } => b"media",
             SetupLine::Stream { .. } => b"stream",
@@ -79,7 +83,10 @@ impl SetupLine {
         ensures { result ≡ per self.now }
     {
         match self {
-            SetupLine::Type(_) | SetupLine::Media { .. } | SetupLine::Stream { .. } => None,
+            SetupLine::Ext(_)
+            | SetupLine::Type(_)
+            | SetupLine::Media { .. }
+            | SetupLine::Stream { .. } => None,
             _ => Some(Per::Script),
         }
     }

@@ -1,18 +1,18 @@
 // The words of a setup line.
 ghost use Rattle.std.specs.Prelude.{◌≡◌};
 ghost use Rattle.media_script.specs.Gives.{Gives};
-ghost use Rattle.media_script.specs.Grammar.{texts, cipher_line, profile_line, key_line, type_line, media_line, stream_line, named_line_of, setup_line_of, in_few};
+ghost use Rattle.media_script.specs.Grammar.{texts, cipher_line, profile_line, key_line, unix_line, ext_line, type_line, media_line, stream_line, named_line_of, setup_line_of, in_few};
 ghost use Rattle.media_script.specs.Spelling.{words_of};
 
 use crate::error::LineError;
 use crate::lines::{is_long, words};
 use crate::setup_line::SetupLine;
 use crate::words::{
-    cipher as cipher_word, codec, key as key_word, media_kind, mid, name, number_8, number_32,
-    optional_32, optional_name, profile as profile_word, rate, rid, side,
+    cipher as cipher_word, codec, extension, key as key_word, media_kind, mid, name, number,
+    number_8, number_32, optional_32, optional_name, profile as profile_word, rate, rid, side,
 };
-use media_base::Bytes;
-use media_model::{PayloadType, Stream};
+use media_base::{Beginning, Bytes};
+use media_model::{NamedExtension, PayloadType, Stream};
 use rtp_wire::{Pt, Ssrc};
 use std::alloc::Global;
 
@@ -39,6 +39,29 @@ fn key(alloc: Global, words: &[&[u8]]) -> Result<SetupLine, LineError>
 {
     match words {
         [key] => Ok(SetupLine::Key(key_word(alloc, key)?)),
+        _ => Err(LineError::Outside),
+    }
+}
+
+fn unix(words: &[&[u8]]) -> Result<SetupLine, LineError>
+    ensures { Gives (λ l. l) result (unix_line (texts words.now)) }
+{
+    match words {
+        [secs] => Ok(SetupLine::Unix(Beginning {
+            unix_secs: number(secs)?,
+        })),
+        _ => Err(LineError::Outside),
+    }
+}
+
+fn ext(words: &[&[u8]]) -> Result<SetupLine, LineError>
+    ensures { Gives (λ l. l) result (ext_line (texts words.now)) }
+{
+    match words {
+        [id, of] => Ok(SetupLine::Ext(NamedExtension {
+            id: number_8(id)?,
+            extension: extension(of)?,
+        })),
         _ => Err(LineError::Outside),
     }
 }
@@ -121,6 +144,10 @@ fn setup_line_in(alloc: Global, words: &[&[u8]]) -> Result<SetupLine, LineError>
                 profile(rest)
             } else if *kind == b"key".as_slice() {
                 key(alloc, rest)
+            } else if *kind == b"unix".as_slice() {
+                unix(rest)
+            } else if *kind == b"ext".as_slice() {
+                ext(rest)
             } else if *kind == b"type".as_slice() {
                 payload_type(rest)
             } else {

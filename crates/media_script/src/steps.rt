@@ -1,23 +1,45 @@
 // The words of a step.
 ghost use Rattle.std.specs.Prelude.{◌≡◌};
 ghost use Rattle.media_script.specs.Gives.{Gives};
-ghost use Rattle.media_script.specs.Grammar.{texts, packet_step, write_step, tick_step, deliver_step, foreign_step, step_of, in_few};
+ghost use Rattle.media_script.specs.Grammar.{texts, sources_in, packet_step, write_step, tick_step, deliver_step, foreign_step, step_of, in_few};
 ghost use Rattle.media_script.specs.Spelling.{words_of};
 
 use crate::error::LineError;
 use crate::lines::{is_long, words};
-use crate::words::{flag, hex, kind as kind_word, number, number_8, number_32, side, time};
-use media_base::{Bytes, Instant};
+use crate::words::{
+    flag, hex, kind as kind_word, number, number_8, number_32, side, sources as sources_word, time,
+};
+use media_base::{Bytes, Instant, Listed};
 use media_model::{Side, Step, Write};
 use rtp_wire::{Pt, SeqNo, Ssrc};
 use std::alloc::Global;
+
+// The contributing sources of a packet, which the words behind its payload say.
+fn sources(alloc: Global, words: &[&[u8]]) -> Result<Listed<u32>, LineError>
+    ensures { Gives (λ l. l) result (sources_in (texts words.now)) }
+{
+    match words {
+        [] => Ok(Listed::new(alloc)),
+        [word] => Ok(Listed::from_vec(sources_word(alloc, word)?)),
+        _ => Err(LineError::Outside),
+    }
+}
 
 #[tactic(auto, unfolding(crate::specs::Grammar::packet_step))]
 fn packet(alloc: Global, side: Side, at: u64, words: &[&[u8]]) -> Result<Step, LineError>
     ensures { Gives (λ s. s) result (packet_step side at (texts words.now)) }
 {
     match words {
-        [ssrc, sequence, pt, rtp_time, marker, nackable, payload] => Ok(Step::Write {
+        [
+            ssrc,
+            sequence,
+            pt,
+            rtp_time,
+            marker,
+            nackable,
+            payload,
+            rest @ ..,
+        ] => Ok(Step::Write {
             side,
             time: Instant::from_nanos(at),
             write: Write {
@@ -28,6 +50,7 @@ fn packet(alloc: Global, side: Side, at: u64, words: &[&[u8]]) -> Result<Step, L
                 marker: flag(marker)?,
                 nackable: flag(nackable)?,
                 payload: Bytes::from_vec(hex(alloc, payload)?),
+                csrc: sources(alloc, rest)?,
             },
         }),
         _ => Err(LineError::Outside),

@@ -3,14 +3,14 @@ ghost use Rattle.std.specs.Prelude.{◌≡◌, ◌^◌, IsTrue, IfOk};
 ghost use Rattle.std.specs.Option.{ForSome, option_copied};
 ghost use Rattle.std.specs.Char.{is_ascii_alphanumeric};
 ghost use Rattle.std.specs.List.{list_all};
-ghost use Rattle.media_script.specs.Words.{plain_front, number_of, narrow_of, time_of, side_of, flag_of, hex_of, kind_of, cipher_of, profile_of, key_of, codec_of, media_kind_of, rate_of, is_name, name_of, optional};
+ghost use Rattle.media_script.specs.Words.{plain_front, number_of, narrow_of, time_of, side_of, flag_of, hex_of, kind_of, cipher_of, profile_of, key_of, codec_of, media_kind_of, rate_of, is_name, name_of, extension_of, numbers_of, sources_of, optional};
 ghost use Rattle.media_script.specs.Gives.{Gives};
 
 use crate::error::LineError;
 use hex::FromHexError;
 use media_base::Bytes;
 use media_model::{CipherName, Codec, Key, Kind, MediaKind, Side};
-use rtp_wire::{Mid, Rid};
+use rtp_wire::{Extension, Mid, Rid};
 use srtp_core::SrtpProfile;
 use std::alloc::Global;
 
@@ -219,6 +219,66 @@ pub fn media_kind(word: &[u8]) -> Result<MediaKind, LineError>
         Ok(MediaKind::Video)
     } else {
         Err(LineError::Outside)
+    }
+}
+
+#[tactic(auto, unfolding(crate::specs::Words::extension_of))]
+pub fn extension(word: &[u8]) -> Result<Extension, LineError>
+    ensures { Gives (λ e. e) result (extension_of word.now) }
+{
+    if word == b"level".as_slice() {
+        Ok(Extension::AudioLevel)
+    } else if word == b"abs".as_slice() {
+        Ok(Extension::AbsoluteSendTime)
+    } else if word == b"twcc".as_slice() {
+        Ok(Extension::TransportSequenceNumber)
+    } else if word == b"mid".as_slice() {
+        Ok(Extension::RtpMid)
+    } else if word == b"rid".as_slice() {
+        Ok(Extension::RtpStreamId)
+    } else if word == b"rrid".as_slice() {
+        Ok(Extension::RepairedRtpStreamId)
+    } else if word == b"orient".as_slice() {
+        Ok(Extension::VideoOrientation)
+    } else if word == b"capture".as_slice() {
+        Ok(Extension::AbsoluteCaptureTime)
+    } else if word == b"delay".as_slice() {
+        Ok(Extension::PlayoutDelay)
+    } else {
+        Err(LineError::Outside)
+    }
+}
+
+// The most bytes of contributing sources: 15 of 32 bits (RFC 3550 section 5.1).
+const MOST_SOURCE_BYTES: usize = 60;
+
+#[tactic(auto, unfolding(crate::specs::Words::numbers_of))]
+fn numbers(alloc: Global, bytes: &[u8]) -> Result<Vec<u32>, LineError>
+    ensures { Gives (λ v. v.items) result (numbers_of bytes.now) }
+{
+    if bytes.len() % 4 != 0 || bytes.len() > MOST_SOURCE_BYTES {
+        return Err(LineError::Outside);
+    }
+    let mut numbers = Vec::new(alloc);
+    let mut rest = bytes;
+    while let [a, b, c, d, after @ ..] = rest {
+        numbers.push(u32::from_be_bytes([*a, *b, *c, *d]))?;
+        rest = after;
+    }
+    Ok(numbers)
+}
+
+// Contributing sources, in hex behind c=.
+#[tactic(auto, unfolding(crate::specs::Words::sources_of))]
+pub fn sources(alloc: Global, word: &[u8]) -> Result<Vec<u32>, LineError>
+    ensures { Gives (λ v. v.items) result (sources_of word.now) }
+{
+    match word.strip_prefix(b"c=".as_slice()) {
+        Some(digits) => {
+            let bytes = hex(alloc, digits)?;
+            numbers(alloc, bytes.as_slice())
+        }
+        None => Err(LineError::Outside),
     }
 }
 

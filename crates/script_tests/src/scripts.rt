@@ -1,16 +1,16 @@
 use media_base::{Bytes, Instant, Listed};
 use media_model::*;
 use media_script::{ScriptError, entries_text, read_script, write_transcript};
-use rtp_wire::{Pt, SeqNo, Ssrc};
+use rtp_wire::{Extension, Pt, SeqNo, Ssrc};
 use srtp_core::SrtpProfile;
 use std::alloc::Global;
 use std::test::Fail;
 
 // Each kind of line once, and a stream of each form.
 const EVERY_LINE: &[u8] = b"# all of it\n\nstr0m-media 1\ntype 96 vp8 90000\nmedia v video cam\n\
-media a audio mic2\nstream A v 42 - -\ncipher toy\ntype 255 telephone 4294967295\n\
+media a audio mic2\nstream A v 42 - -\next 14 delay\ncipher toy\nunix 5\next 0 mid\ntype 255 telephone 4294967295\n\
 stream B a 4294967295 0 hi\nkey 00Ff\nprofile gcm128\nstream B v 7 - lo\nbegin\n\
-write A 5ms 42 18446744073709551615 96 4294967295 1 0 8060Ff\ntick B 1000\ndeliver A 0 3\n\
+write A 5ms 42 18446744073709551615 96 4294967295 1 0 8060Ff c=0000002AffFFffff\ntick B 1000\ndeliver A 0 3\n\
 foreign B 1 rtp 80\n#\nend\n\n# end\n";
 
 // Setup lines, the cipher and the profile that they say, and the length of the material of `key zero`.
@@ -46,6 +46,19 @@ const CIPHERS: [(&str, CipherName, SrtpProfile, usize); 6] = [
         SrtpProfile::AeadAes256Gcm,
         88,
     ),
+];
+
+// The names of header extensions.
+const EXTENSIONS: [(&str, Extension); 9] = [
+    ("mid", Extension::RtpMid),
+    ("rid", Extension::RtpStreamId),
+    ("rrid", Extension::RepairedRtpStreamId),
+    ("twcc", Extension::TransportSequenceNumber),
+    ("abs", Extension::AbsoluteSendTime),
+    ("level", Extension::AudioLevel),
+    ("orient", Extension::VideoOrientation),
+    ("capture", Extension::AbsoluteCaptureTime),
+    ("delay", Extension::PlayoutDelay),
 ];
 
 fn syntax(alloc: Global, text: &[u8]) -> Option<ScriptError> {
@@ -108,6 +121,109 @@ fn each_cipher_and_profile_is_read(rt: HostRuntime) -> Result<(), Fail> {
 }
 
 #[test]
+fn each_extension_is_read(rt: HostRuntime) -> Result<(), Fail> {
+    let alloc = rt.alloc();
+    for (name, extension) in EXTENSIONS {
+        let text = format!(in alloc; "str0m-media 1\nkey zero\next 14 {name}\nbegin\nend\n")?;
+        let (setup, _) = read_script(alloc, text.as_bytes()).ok().ok_or("a script")?;
+        assert_eq!(rt;
+            setup.exts.as_slice(),
+            [NamedExtension { id: 14, extension }].as_slice()
+        );
+        assert_eq!(rt; setup.extension_map().id_of(extension), Some(14));
+    }
+    Ok(())
+}
+
+#[test]
+fn beginning_is_read(rt: HostRuntime) -> Result<(), Fail> {
+    let alloc = rt.alloc();
+    for (line, unix_secs) in [
+        ("", 1_700_000_000),
+        ("unix 0\n", 0),
+        ("unix 18446744073709551615\n", u64::MAX),
+    ] {
+        let text = format!(in alloc; "str0m-media 1\n{line}key zero\nbegin\nend\n")?;
+        let (setup, _) = read_script(alloc, text.as_bytes()).ok().ok_or("a script")?;
+        assert_eq!(rt; setup.beginning.unix_secs, unix_secs, "at {line}");
+    }
+    Ok(())
+}
+
+#[test]
+fn ids_of_extensions(rt: HostRuntime) -> Result<(), Fail> {
+    let alloc = rt.alloc();
+    let text = b"str0m-media 1\nkey zero\next 0 mid\next 1 twcc\next 15 rid\next 3 abs\n\
+ext 3 level\next 2 twcc\nbegin\nend\n";
+    let (setup, _) = read_script(alloc, text.as_slice()).ok().ok_or("a script")?;
+    assert_eq!(rt; setup.exts.as_slice().len(), 6);
+    let exts = setup.extension_map();
+    assert_eq!(rt; exts.id_of(Extension::RtpMid), None);
+    assert_eq!(rt; exts.id_of(Extension::RtpStreamId), None);
+    assert_eq!(rt; exts.id_of(Extension::AbsoluteSendTime), None);
+    assert_eq!(rt; exts.id_of(Extension::AudioLevel), Some(3));
+    assert_eq!(rt; exts.id_of(Extension::TransportSequenceNumber), Some(2));
+    Ok(())
+}
+
+// A script of one write, whose last words these are.
+fn one_write(alloc: Global, words: &str) -> Result<String, Fail> {
+    Ok(format!(in alloc; "str0m-media 1\nkey zero\nbegin\nwrite A 1 42 1 96 0 0 0 {words}\nend\n")?)
+}
+
+// Whether a write with these last words has these sources.
+fn has_sources(alloc: Global, words: &str, csrc: &[u32]) -> Result<bool, Fail> {
+    let text = one_write(alloc, words)?;
+    let (_, steps) = read_script(alloc, text.as_bytes()).ok().ok_or("a script")?;
+    match steps.first() {
+        Some(Step::Write { write, .. }) => Ok(write.csrc.as_slice() == csrc),
+        _ => Ok(false),
+    }
+}
+
+// A payload, and so many sources 7.
+fn many_sources(alloc: Global, count: u32) -> Result<String, Fail> {
+    let mut words = String::new(alloc);
+    words.push_str("01 c=")?;
+    for _ in 0..count {
+        words.push_str("00000007")?;
+    }
+    Ok(words)
+}
+
+#[test]
+fn sources_are_read(rt: HostRuntime) -> Result<(), Fail> {
+    let alloc = rt.alloc();
+    let fifteen = many_sources(alloc, 15)?;
+    assert!(rt; has_sources(alloc, "01", &[])?);
+    assert!(rt; has_sources(alloc, "- c=-", &[])?);
+    assert!(rt; has_sources(alloc, "01 c=0000002AffFFffff", &[42, u32::MAX])?);
+    assert!(rt; has_sources(alloc, fifteen.as_str(), &[7; 15])?);
+    Ok(())
+}
+
+#[test]
+fn sources_outside_are_told(rt: HostRuntime) -> Result<(), Fail> {
+    let alloc = rt.alloc();
+    let sixteen = many_sources(alloc, 16)?;
+    for words in [
+        sixteen.as_str(),
+        "01 c=",
+        "01 c=000000",
+        "01 00000007",
+        "c=00000007",
+    ] {
+        let text = one_write(alloc, words)?;
+        assert_eq!(rt;
+            syntax(alloc, text.as_bytes()),
+            Some(ScriptError::Syntax(4)),
+            "at {words}"
+        );
+    }
+    Ok(())
+}
+
+#[test]
 fn first_line_outside_is_told(rt: HostRuntime) {
     let alloc = rt.alloc();
     for (text, line) in [
@@ -131,6 +247,13 @@ fn first_line_outside_is_told(rt: HostRuntime) {
         ("str0m-media 1\ncipher aes\n", 2),
         ("str0m-media 1\nprofile gcm192\n", 2),
         ("str0m-media 1\nprofile gcm128\nprofile gcm128\n", 3),
+        ("str0m-media 1\nunix 1\nunix 1\n", 3),
+        ("str0m-media 1\nunix 1ms\n", 2),
+        ("str0m-media 1\nunix 18446744073709551616\n", 2),
+        ("str0m-media 1\next 256 mid\n", 2),
+        ("str0m-media 1\next 1 csrc\n", 2),
+        ("str0m-media 1\next 1\n", 2),
+        ("str0m-media 1\next mid 1\n", 2),
         ("str0m-media 1\ntype 256 vp8 90000\n", 2),
         ("str0m-media 1\ntype 96 vp8 0\n", 2),
         ("str0m-media 1\ntype 96 vp8 4294967296\n", 2),
@@ -146,7 +269,7 @@ fn first_line_outside_is_told(rt: HostRuntime) {
             4,
         ),
         (
-            "str0m-media 1\nkey zero\nbegin\nwrite A 1 42 1 96 0 0 0 01 c=-\nend\n",
+            "str0m-media 1\nkey zero\nbegin\nwrite A 1 42 1 96 0 0 0 01 c=- c=-\nend\n",
             4,
         ),
         ("str0m-media 1\nkey zero\nbegin\ndeliver A 1ms\nend\n", 4),
