@@ -1,0 +1,171 @@
+-- What a session tells of the packet that another one sealed.
+use Rattle.std.proofs.Common.{◌≡◌, ℕ, zero, suc, Bool, true, false, List, [], ◌∷◌, length, Option, Some, None, refl, sym, ap, ◌∙◌, subst, arith, slice_get}
+use Rattle.std.specs.Prelude.{◌==◌, ◌||◌, IfSome, is_none, if◌then◌else◌, option_and_then}
+use Rattle.std.specs.Map.{values_of}
+use Rattle.std.specs.Option.{option_map}
+use Rattle.std.specs.Prelude.{replicate}
+use Rattle.rtp_wire.specs.BytesLaws.{AreWords}
+use Rattle.rtp_wire.specs.declared.extension.ExtensionMap.{ExtensionMap}
+use Rattle.rtp_wire.specs.declared.header.RtpHeader.{RtpHeader}
+use Rattle.rtp_wire.specs.Header.{header_of, header_bytes, wire_form}
+use Rattle.rtp_wire.specs.HeaderLaws.{IsHeader, WrittenIsReadAgain}
+use Rattle.srtp_core.specs.Cipher.{CipherMeaning}
+use Rattle.srtp_core.specs.Contexts.{SrtpState}
+use Rattle.srtp_core.specs.Laws.{RtpSealsApart, RtpSealKeepsHeader}
+use Rattle.srtp_core.specs.Seals.{OpensTo}
+use Rattle.stream_core.specs.declared.packet.RtpPacket.{RtpPacket}
+use Rattle.stream_core.specs.declared.stream_tx.PacketReceipt.{PacketReceipt}
+use Rattle.stream_core.specs.declared.transport.Transport.{Transport}
+use Rattle.stream_core.specs.Queue.{with_stamp}
+use Rattle.stream_core.specs.RxRecord.{expected}
+use Rattle.stream_core.specs.TxRecord.{TxRecord, declared, written, after_timeout, polled, receipt_of, sealed_header}
+use Rattle.stream_core.specs.Write.{packet_of}
+use Rattle.session_core.specs.declared.datagram.Datagram.{Datagram}
+use Rattle.session_core.specs.declared.datagram.Event.TheVariants as event
+use Rattle.session_core.specs.declared.datagram.Opened.{Opened}
+use Rattle.session_core.specs.Calls.{next_event}
+use Rattle.session_core.specs.Receiving.{Receives, Opens, OpensIn, number_of, seen_of, packet_after, packet_from, cut, opened, stays}
+use Rattle.session_core.specs.Sending.{next_datagram, next_place, sealed_as, sealed_by, receipt_at}
+use Rattle.session_core.specs.SessionRecord.{SessionState, SessionRecord}
+use Rattle.uses.specs.Exchange.{payload_told, first_write}
+use Rattle.uses.proofs.Opening.{sealed_packet, opens_to_it, reads_header}
+
+some_same : {X : Type 0} (x y : X) → Some x ≡ Some y → x ≡ y
+some_same x y e = cc
+
+zeros : (n : ℕ) → AreWords (replicate n 0)
+zeros zero = tt
+zeros (suc n) = (omega arith, zeros n)
+
+-- what is told is a packet of this payload, where the packet that waits is one
+pub told_of : (payload : List ℕ) (silent : Bool) (waits : Option RtpPacket) → ((p : RtpPacket) → waits ≡ Some p → p.payload ≡ payload)
+    → IfSome (if silent then None else option_map event.RtpPacket waits) (λ e. payload_told e ≡ payload)
+told_of payload true waits h = tt
+told_of payload false None h = tt
+told_of payload false (Some p) h = h p refl
+
+module _ (cipher : CipherMeaning) (k : SrtpState) (t : Transport) (now : ℕ) (mid payload : List ℕ) where
+  -- the stream, with the packet that waits after a write and a tick
+  abbrev pub stream : TxRecord
+  stream = after_timeout now (written (first_write now payload) (declared 42 None mid None))
+
+  abbrev pub packet : RtpPacket
+  packet = with_stamp now (packet_of 42 (first_write now payload))
+
+  abbrev pub header : RtpHeader
+  header = sealed_header stream t now packet
+
+  abbrev pub receipt : PacketReceipt
+  receipt = receipt_of stream t now packet
+
+  is_header : IsHeader header
+  is_header = record { number = omega arith; time = omega arith; source = omega arith; few = omega arith; room = refl; words = zeros 15 }
+
+  abbrev pub streams : List (ℕ × TxRecord)
+  streams = (42, stream) ∷ []
+
+  -- what is polled at any place is its packet
+  polled_at : (place : Option ℕ) (p : PacketReceipt)
+      → option_and_then (λ r. polled r t now) (option_and_then (slice_get (values_of streams)) place) ≡ Some p → p ≡ receipt
+  polled_at None p e = absurd cc
+  polled_at (Some zero) p e = sym (some_same receipt p e)
+  polled_at (Some (suc i)) p e = absurd cc
+
+  from_receipt : (o : Option PacketReceipt) (d : Datagram) → ((p : PacketReceipt) → o ≡ Some p → p ≡ receipt) → sealed_by cipher (Some k) o ≡ Some d
+      → d ≡ sealed_as cipher k receipt
+  from_receipt None d h e = absurd cc
+  from_receipt (Some p) d h e = sym (some_same (sealed_as cipher k p) d e) ∙ ap (sealed_as cipher k) (h p refl)
+
+  abbrev pub packet_bytes : List ℕ
+  packet_bytes = sealed_packet cipher k.profile k.keys 42 1 (header_bytes t.exts header) payload
+
+  bytes_are : (sealed_as cipher k receipt).bytes ≡ packet_bytes
+  unfolding header_bytes
+  bytes_are = refl
+
+  -- what leaves is that packet, sealed
+  pub sent_bytes : (s : SessionState) (d : Datagram) → s.sealing ≡ Some k → s.transport ≡ t → s.tx ≡ streams → next_datagram cipher now s ≡ Some d
+      → d.bytes ≡ packet_bytes
+  sent_bytes s d sealing transport tx next =
+      let place : Option ℕ = next_place now s in
+      let polls : (p : PacketReceipt) → receipt_at now s place ≡ Some p → p ≡ receipt = λ p e. polled_at place p
+      (ap (λ (u : Transport). option_and_then (λ r. polled r u now) (option_and_then (slice_get (values_of streams)) place)) (sym transport)
+      ∙ ap (λ (es : List (ℕ × TxRecord)). option_and_then (λ r. polled r s.transport now) (option_and_then (slice_get (values_of es)) place)) (sym tx) ∙ e) in
+      ap (λ (x : Datagram). x.bytes) (from_receipt (receipt_at now s place) d polls (ap (λ o. sealed_by cipher o (receipt_at now s place)) (sym sealing) ∙ next)) ∙ bytes_are
+
+  -- the header that is read off it
+  record Reads (h : RtpHeader) : Type 0 where
+    source : h.ssrc ≡ 42
+    low : h.sequence_number ≡ 1
+    plain : h.has_padding ≡ false
+    long : h.header_len ≡ length (header_bytes t.exts header)
+
+  form_reads : Reads (wire_form t.exts header)
+  unfolding wire_form
+  form_reads = record { source = refl; low = refl; plain = refl; long = refl }
+
+  reads : (h : RtpHeader) → WrittenIsReadAgain → RtpSealKeepsHeader cipher → header_of t.exts packet_bytes ≡ Some h → Reads h
+  reads h again keeps e =
+      let same : wire_form t.exts header ≡ h =
+      some_same (wire_form t.exts header) h (sym (reads_header cipher k.profile k.keys 42 1 payload t.exts header again keeps is_header) ∙ e) in
+      subst Reads same form_reads
+
+  -- a session that expects the stream and was told nothing
+  pub record Expects (r : SessionRecord) : Type 0 where
+    pub opening : r.state.opening ≡ Some k
+    pub transport : r.state.transport.exts ≡ t.exts
+    pub rx : r.rx ≡ (42, expected 42 None mid None) ∷ []
+    pub seen : r.state.seen ≡ []
+    pub packet : r.state.packet ≡ None
+
+  opens_same : (o : Option SrtpState) (h : RtpHeader) (n : ℕ) (bytes other : List ℕ) → o ≡ Some k → OpensIn cipher o h n bytes other
+      → OpensTo cipher k.profile k.keys h.ssrc n h.header_len bytes other
+  opens_same o h n bytes other e = subst (λ (o : Option SrtpState). OpensIn cipher o h n bytes other → OpensTo cipher k.profile k.keys h.ssrc n h.header_len bytes other) (sym e) (λ x. x)
+
+  opens_at : (a b c d e f : ℕ) (bytes other : List ℕ) → a ≡ b → c ≡ d → e ≡ f → OpensTo cipher k.profile k.keys a c e bytes other → OpensTo cipher k.profile k.keys b d f bytes other
+  opens_at a b c d e f bytes other p q r =
+      subst (λ (x : ℕ). OpensTo cipher k.profile k.keys a c e bytes other → OpensTo cipher k.profile k.keys x d f bytes other) p
+      (subst (λ (x : ℕ). OpensTo cipher k.profile k.keys a c e bytes other → OpensTo cipher k.profile k.keys a x f bytes other) q
+      (subst (λ (x : ℕ). OpensTo cipher k.profile k.keys a c e bytes other → OpensTo cipher k.profile k.keys a c x bytes other) r (λ x. x)))
+
+  number_is : (r : SessionRecord) (h : RtpHeader) (n : ℕ) → Expects r → Reads h
+      → number_of (seen_of h.ssrc r.state.seen) r.rx r.probes h.ssrc h.sequence_number ≡ Some n → n ≡ 1
+  number_is r h n x y e =
+      let at : number_of (seen_of 42 []) ((42, expected 42 None mid None) ∷ []) r.probes 42 1 ≡ Some 1 = refl in
+      let moved : number_of (seen_of h.ssrc r.state.seen) r.rx r.probes h.ssrc h.sequence_number ≡ number_of (seen_of 42 []) ((42, expected 42 None mid None) ∷ []) r.probes 42 1 =
+      cc (x.seen, x.rx, y.source, y.low) in
+      some_same n 1 (sym e ∙ moved ∙ at)
+
+  -- what it opens to is the payload
+  opened_payload : (r : SessionRecord) (h : RtpHeader) (n : ℕ) (other : List ℕ) → WrittenIsReadAgain → RtpSealKeepsHeader cipher → RtpSealsApart cipher
+      → Expects r → Opens cipher r packet_bytes h n other → cut h other ≡ payload
+  opened_payload r h n other again keeps apart x o =
+      let y : Reads h = reads h again keeps (ap (λ (m : ExtensionMap). header_of m packet_bytes) (sym x.transport) ∙ o.reads) in
+      let opens : OpensTo cipher k.profile k.keys 42 1 (length (header_bytes t.exts header)) packet_bytes other =
+      opens_at h.ssrc 42 n 1 h.header_len (length (header_bytes t.exts header)) packet_bytes other y.source (number_is r h n x y o.accepts) y.long
+      (opens_same r.state.opening h n packet_bytes other x.opening o.opens) in
+      let kept : cut h other ≡ other = cut_plain h other y.plain in
+      kept ∙ opens_to_it cipher k.profile k.keys 42 1 (header_bytes t.exts header) payload other keeps apart opens
+    where
+      cut_plain : (h : RtpHeader) (other : List ℕ) → h.has_padding ≡ false → cut h other ≡ other
+      cut_plain h other e = rw e refl
+
+  waits_then : (h : RtpHeader) (n : ℕ) (carried : List ℕ) (before : Option RtpPacket) (p : RtpPacket) → before ≡ None → packet_after now h n carried before ≡ Some p → p.payload ≡ carried
+  waits_then h n carried before p none e = waits_by (h.ssrc == 0) none e
+    where
+      waits_by : (probe : Bool) → before ≡ None → (if probe then before else Some (packet_from now h n carried)) ≡ Some p → p.payload ≡ carried
+      waits_by true none e = absurd cc
+      waits_by false none e = ap (λ (q : RtpPacket). q.payload) (sym (some_same (packet_from now h n carried) p e))
+
+  -- what is told after it came is a packet of the payload
+  pub told : (r after : SessionRecord) (o : Option Opened) (bytes : List ℕ) → WrittenIsReadAgain → RtpSealKeepsHeader cipher → RtpSealsApart cipher
+      → Expects r → bytes ≡ packet_bytes → Receives cipher r bytes now after o → IfSome (next_event after.state) (λ e. payload_told e ≡ payload)
+  told r after o bytes again keeps apart x same (opened h n other opens) =
+      let at : Opens cipher r packet_bytes h n other = subst (λ (l : List ℕ). Opens cipher r l h n other) same opens in
+      let is : cut h other ≡ payload = opened_payload r h n other again keeps apart x at in
+      told_of payload (is_none r.state.sealing || is_none r.state.opening) (packet_after now h n (cut h other) r.state.packet) (λ p e. waits_then h n (cut h other) r.state.packet p x.packet e ∙ is)
+  told r after o bytes again keeps apart x same (stays refused) =
+      told_of payload (is_none r.state.sealing || is_none r.state.opening) r.state.packet (λ p e. absurd (none_here r.state.packet p x.packet e))
+    where
+      none_here : (waits : Option RtpPacket) (p : RtpPacket) → waits ≡ None → waits ≡ Some p → ⊥
+      none_here waits p h e = absurd cc

@@ -1,0 +1,28 @@
+//! All bytes of a source, written to a sink.
+ghost use Rattle.std.specs.Prelude.{◌≡◌, ◌<◌, List, ℕ, length, IfOk, IsErrOf};
+ghost use Rattle.std.specs.Io.KnownBytes.{Appends};
+ghost use Rattle.media_base.specs.Causes.{ReadsAll};
+ghost use Rattle.media_base.specs.declared.source.ReadError.TheVariants.{TooLong};
+
+use media_base::{ReadError, Sink, Source, read_all, write_all};
+use std::alloc::Global;
+
+/// Copies what a source has left to a sink, at most 1,000,000 bytes, and tells how many they are.
+///
+/// # Errors
+/// `TooLong` where there are more bytes, and then none is written; `Failed` where one of both ends
+/// failed; `Memory`.
+pub fn copy_all<S: Source, K: Sink>(
+    alloc: Global,
+    source: &mut S,
+    sink: &mut K,
+) -> Result<usize, ReadError>
+    ensures copied { IfOk result (λ count. (bytes : List ℕ) × (length bytes ≡ count)
+        × ReadsAll (S.left source.old) (S.left source.new) bytes
+        × Appends (K.written sink.old) (K.written sink.new) bytes) }
+    ensures long { IsErrOf result TooLong → K.written sink.new ≡ K.written sink.old }
+{
+    let bytes = read_all(alloc, source, 1_000_000)?;
+    write_all(sink, bytes.as_slice())?;
+    Ok(bytes.len())
+}

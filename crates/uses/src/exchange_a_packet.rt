@@ -1,0 +1,116 @@
+//! Two sessions that exchange a packet.
+ghost use Rattle.std.specs.Prelude.{◌≡◌, ◌≤◌, ◌<◌, ◌∷◌, [], length, IfOk, IfSome, OnOk, None};
+ghost use Rattle.mask_register.specs.MaskRegister.{Remembers};
+ghost use Rattle.session_core.specs.Receiving.{Receives};
+ghost use Rattle.session_core.specs.Sending.{next_datagram, after_datagram};
+ghost use Rattle.stream_core.specs.Tables.{change_place};
+ghost use Rattle.stream_core.specs.TxRecord.{written};
+ghost use Rattle.session_core.specs.SessionRecord.{SessionRecord, StandsFor};
+ghost use Rattle.uses.specs.Exchange.{end_of, payload_told};
+
+use mask_register::MaskRegister;
+use media_base::{Beginning, Bytes, Instant};
+use repair_core::GapWindow;
+use rtp_base::{Frequency, Mid, MidRid, Pt, SeqNo, Ssrc};
+use rtp_wire::{ExtensionMap, written_header_is_read_again};
+use session_core::{
+    Event, Media, MediaKind, Opened, PayloadTypes, RtcError, Session, SessionConfig, TypeRow,
+};
+use srtp_core::laws::{rtp_seal_keeps_header, rtp_seals_apart};
+use srtp_core::{KeyingMaterial, SrtpCipher, SrtpProfile, ToyCipher};
+use std::alloc::Global;
+use stream_core::{Payload, RtpWrite};
+
+/// One end, under the toy cipher.
+pub type End = Session<ToyCipher, MaskRegister>;
+
+/// An end with the keys of one side of the material, which knows payload type 96 and has one media
+/// section.
+pub fn end(alloc: Global, material: &KeyingMaterial, mid: Mid, left: bool) -> Result<End, RtcError>
+    ensures made { IfOk result (λ s. StandsFor Remembers s (end_of material.now mid left)) }
+{
+    let mut types = PayloadTypes::new(alloc);
+    let (pt, clock) = (Pt::from(96), Frequency::NINETY_KHZ);
+    types.add(TypeRow { pt, clock })?;
+    let (id, unix_secs, exts) = (1, 1_700_000_000, ExtensionMap::empty());
+    let beginning = Beginning { unix_secs };
+    let mut session = End::new(
+        alloc,
+        SessionConfig {
+            id,
+            beginning,
+            exts,
+            types,
+        },
+    );
+    let cname = Bytes::from_slice(alloc, b"cam")?;
+    session.add_media(Media::new(mid, MediaKind::Video, cname))?;
+    session.set_keying_material(ToyCipher, SrtpProfile::AeadAes128Gcm, material, left)?;
+    Ok(session)
+}
+
+/// Takes the datagram that one session sends next to another, and gives what that one opens it to.
+pub fn hand_over<C: SrtpCipher, W: GapWindow>(
+    from: &mut Session<C, W>,
+    to: &mut Session<C, W>,
+    now: Instant,
+) -> Result<Option<Opened>, RtcError>
+    ensures sent { OnOk result (from.new
+        ≡ record from.old { state = after_datagram now from.old.state }) }
+    ensures nothing { next_datagram C.meaning now from.old.state ≡ None
+        → IfOk result (λ opened. (opened ≡ None) × (to.new ≡ to.old)) }
+    ensures received { IfOk result (λ opened.
+        IfSome (next_datagram C.meaning now from.old.state) (λ sent.
+        (r : SessionRecord) → StandsFor W.remembers to.old r → (after : SessionRecord)
+        × Receives C.meaning r sent.bytes now after opened × StandsFor W.remembers to.new after)) }
+{
+    let Some(datagram) = from.poll_datagram(now)? else {
+        return Ok(None);
+    };
+    to.handle_rtp_receive(now, datagram.bytes.as_slice())
+}
+
+/// Writes a packet on the first stream of an end.
+///
+/// # Errors
+/// `Memory`, also for a packet that is not written for its number or its payload.
+pub fn write(end: &mut End, packet: RtpWrite) -> Result<(), RtcError>
+    requires { 0 < length end.old.state.tx }
+    ensures { OnOk result (end.new ≡ record end.old {
+      state = record end.old.state { tx = change_place (written packet) end.old.state.tx 0 };
+    }) }
+{
+    match end.streams().tx_at(0).write_rtp(packet) {
+        Ok(()) => Ok(()),
+        Err(_) => Err(RtcError::Memory),
+    }
+}
+
+/// Has one end write a packet, and gives what the other one tells: if anything, a packet of that
+/// payload.
+pub fn exchange(
+    alloc: Global,
+    material: &KeyingMaterial,
+    mid: Mid,
+    payload: &[u8],
+) -> Result<Option<Event>, RtcError>
+    ensures { IfOk result (λ told. IfSome told (λ e. payload_told e ≡ payload.now)) }
+{
+    written_header_is_read_again();
+    rtp_seal_keeps_header::<ToyCipher>();
+    rtp_seals_apart::<ToyCipher>();
+    let (ssrc, now) = (Ssrc::from(42), Instant::from_nanos(1));
+    let mut a = end(alloc, material, mid, true)?;
+    let mut b = end(alloc, material, mid, false)?;
+    a.streams()
+        .declare_stream_tx(ssrc, None, MidRid(mid, None))?;
+    b.streams().expect_stream_rx(ssrc, None, MidRid(mid, None))?;
+    let payload = Payload::from_slice(alloc, payload)?;
+    write(
+        &mut a,
+        RtpWrite::new(Pt::from(96), SeqNo::from(1), 0, now, payload),
+    )?;
+    a.handle_timeout(now)?;
+    hand_over(&mut a, &mut b, now)?;
+    Ok(b.poll_event())
+}

@@ -1,0 +1,21 @@
+//! Callers of library crates, each in a file of its own: what a user writes, and what a contract
+//! may say of it.
+#![tactic(auto)]
+
+pub mod build_a_script;
+pub mod copy_bytes;
+pub mod count_a_queue;
+pub mod exchange_a_packet;
+pub mod keep_for_resending;
+pub mod keep_in_a_queue;
+pub mod pace_packets;
+pub mod queue_a_packet;
+pub mod read_a_header;
+pub mod register_by_mask;
+pub mod register_numbers;
+pub mod script_parts;
+pub mod seal_and_open;
+#[cfg(test)]
+mod tests;
+pub mod time_a_packet;
+pub mod widen_a_number;

@@ -1,0 +1,116 @@
+//! The parts of a script, made in code, with what most of them have alike filled in.
+ghost use Rattle.std.specs.Prelude.{◌≡◌, None, false};
+
+use media_base::{Bytes, Instant, Listed};
+use media_model::{
+    CipherName, Codec, Key, Media, MediaKind, PayloadType, Setup, Side, Step, Stream, Write,
+};
+use rtp_wire::{Mid, Pt, SeqNo, Ssrc};
+use srtp_core::SrtpProfile;
+
+/// A payload type that both sides know, with its clock in ticks a second.
+pub fn payload_type(pt: u8, codec: Codec, rate: u32) -> PayloadType
+    ensures { result ≡ record { pt = pt; codec = codec; rate = rate } }
+{
+    PayloadType {
+        pt: Pt::from(pt),
+        codec,
+        rate,
+    }
+}
+
+/// A stream that a side sends, without repairs and without a name of its layer.
+pub fn stream(side: Side, ssrc: u32) -> Stream
+    ensures { result ≡ record { side = side; ssrc = ssrc; rtx = None; rid = None } }
+{
+    Stream {
+        side,
+        ssrc: Ssrc::from(ssrc),
+        rtx: None,
+        rid: None,
+    }
+}
+
+/// A media section of pictures with its streams.
+pub fn video(mid: Mid, cname: Bytes, streams: Vec<Stream>) -> Media
+    ensures { result ≡ record {
+      mid = mid;
+      kind = MediaKind.Video;
+      cname = cname;
+      streams = streams.items;
+    } }
+{
+    Media {
+        mid,
+        kind: MediaKind::Video,
+        cname,
+        streams: Listed::from_vec(streams),
+    }
+}
+
+/// A setup with the toy cipher, the profile of 128 bits and keys of zeros.
+pub fn setup(types: Vec<PayloadType>, media: Vec<Media>) -> Setup
+    ensures { result ≡ record {
+      cipher = CipherName.Toy;
+      profile = SrtpProfile.AeadAes128Gcm;
+      key = Key.Zero;
+      types = types.items;
+      media = media.items;
+    } }
+{
+    Setup {
+        cipher: CipherName::Toy,
+        profile: SrtpProfile::AeadAes128Gcm,
+        key: Key::Zero,
+        types: Listed::from_vec(types),
+        media: Listed::from_vec(media),
+    }
+}
+
+/// A packet at RTP time 0, without marker, that is not sent again.
+pub fn packet(ssrc: u32, number: u64, pt: u8, payload: Bytes) -> Write
+    ensures { result ≡ record {
+      ssrc = ssrc;
+      number = number;
+      pt = pt;
+      rtp_time = 0;
+      marker = false;
+      nackable = false;
+      payload = payload;
+    } }
+{
+    Write {
+        ssrc: Ssrc::from(ssrc),
+        number: SeqNo::from(number),
+        pt: Pt::from(pt),
+        rtp_time: 0,
+        marker: false,
+        nackable: false,
+        payload,
+    }
+}
+
+/// The step in which a side's application writes a packet.
+pub fn write(side: Side, time: Instant, write: Write) -> Step
+    ensures { result ≡ Step.Write side time write }
+{
+    Step::Write { side, time, write }
+}
+
+/// The step in which a side's time goes on.
+pub fn tick(side: Side, time: Instant) -> Step
+    ensures { result ≡ Step.Tick side time }
+{
+    Step::Tick { side, time }
+}
+
+/// The step in which a side gets what the other one sealed as its so manieth datagram, from 1.
+pub fn deliver(side: Side, time: Instant, datagram: u64) -> Step
+    ensures { result ≡ Step.Deliver side time datagram }
+{
+    Step::Deliver {
+        side,
+        time,
+        datagram,
+    }
+}

@@ -1,0 +1,232 @@
+use crate::build_a_script::one_write;
+use crate::copy_bytes::copy_all;
+use crate::count_a_queue::wait_of_both;
+use crate::exchange_a_packet::exchange;
+use crate::keep_for_resending::keep_and_find;
+use crate::keep_in_a_queue::{queue_of_one, replace};
+use crate::pace_packets::send_next;
+use crate::queue_a_packet::write_and_poll;
+use crate::read_a_header::{number_of, payload_of};
+use crate::register_by_mask::is_taken_twice;
+use crate::register_numbers::ask_for_missing;
+use crate::seal_and_open::seal_and_open;
+use crate::time_a_packet::leaves_at;
+use crate::widen_a_number::take_number;
+use mask_register::MaskRegister;
+use media_base::{MemSink, MemSource};
+use media_units::{Beginning, Bitrate, DataSize, Duration, Instant};
+use pace_core::{NullPacer, QueuePriority, QueueSnapshot, QueueState};
+use repair_core::{GapWindow, NackRegister};
+use resend_core::{Cached, ResendStore, RtxCache};
+use rtp_base::{Mid, MidRid, Pt, SeqNo, SeqNoWindow, Ssrc};
+use rtp_wire::{ExtensionMap, RtpHeader};
+use session_core::Event;
+use srtp_core::{KeyingMaterial, ShaCipher, SrtpError, SrtpProfile};
+use std::alloc::Global;
+use std::test::Fail;
+use stream_core::{Payload, RtpWrite, StreamTx, Transport};
+
+// A packet of SSRC 42 with number 1 and two bytes of payload (RFC 3550 section 5.1).
+const PACKET: [u8; 14] = [0x80, 0x60, 0, 1, 0, 0, 0, 0, 0, 0, 0, 0x2a, 1, 2];
+
+fn mid() -> Mid {
+    match Mid::from_slice(b"v") {
+        Some(mid) => mid,
+        None => unreachable!(),
+    }
+}
+
+#[test]
+fn a_packet_takes_its_time(rt: HostRuntime) {
+    let left = leaves_at(
+        Instant::from_nanos(5),
+        DataSize::bytes(1_250),
+        Bitrate::mbps(1),
+    );
+    assert_eq!(rt; left, Some(Instant::from_nanos(10_000_005)));
+}
+
+#[test]
+fn bytes_are_copied(rt: HostRuntime) -> Result<(), Fail> {
+    let bytes = vec![in rt.alloc(); 1, 2, 3]?;
+    let mut source = MemSource::new(bytes, 2, Vec::new(rt.alloc()));
+    let mut sink = MemSink::new(rt.alloc(), 8, 2, Vec::new(rt.alloc()))?;
+    let count = match copy_all(rt.alloc(), &mut source, &mut sink) {
+        Ok(count) => count,
+        Err(_) => 0,
+    };
+    assert_eq!(rt; count, 3);
+    assert!(rt; sink.bytes() == [1, 2, 3].as_slice());
+    Ok(())
+}
+
+#[test]
+fn a_number_wraps_once(rt: HostRuntime) {
+    let mut window = SeqNoWindow::new(SeqNo::from(65_535));
+    assert_eq!(rt; take_number(&mut window, 0), Some(SeqNo::from(65_536)));
+    assert_eq!(rt; take_number(&mut window, 0), None);
+}
+
+#[test]
+fn a_header_is_read(rt: HostRuntime) {
+    let exts = ExtensionMap::empty();
+    assert_eq!(rt; number_of(&PACKET, &exts, None), Some(SeqNo::from(1)));
+    assert!(rt; payload_of(&PACKET, &exts) == Some([1, 2].as_slice()));
+}
+
+// Whether the packet opens again after it was sealed.
+fn opens_again(alloc: Global, material: &KeyingMaterial) -> Result<bool, SrtpError> {
+    let Some(header) = RtpHeader::parse(&PACKET, &ExtensionMap::empty()) else {
+        return Ok(false);
+    };
+    if header.header_len > PACKET.len() {
+        return Ok(false);
+    }
+    let profile = SrtpProfile::AeadAes128Gcm;
+    let opened = seal_and_open(alloc, ShaCipher, profile, material, &header, &PACKET)?;
+    Ok(opened.is_some())
+}
+
+#[test]
+fn a_datagram_opens_again(rt: HostRuntime) -> Result<(), Fail> {
+    let material = KeyingMaterial::new(rt.alloc(), &[7; 56])?;
+    assert!(rt; opens_again(rt.alloc(), &material) == Ok(true));
+    Ok(())
+}
+
+#[derive(Debug, Drop)]
+struct Sent {
+    number: u64,
+}
+
+impl Cached for Sent {
+    ghost number = { λ s. s.number };
+
+    ghost size = { λ _. 8 };
+
+    fn seq_no(&self) -> SeqNo {
+        SeqNo::from(self.number)
+    }
+
+    fn payload_len(&self) -> usize {
+        8
+    }
+}
+
+#[test]
+fn a_packet_is_found_again(rt: HostRuntime) -> Result<(), Fail> {
+    let mut cache: RtxCache<Sent> = RtxCache::new(rt.alloc(), 20, Duration::from_secs(3))?;
+    let now = Instant::from_nanos(1);
+    let found = keep_and_find(&mut cache, Sent { number: 1 }, now, SeqNo::from(1))?;
+    assert_eq!(rt; found, Some(8));
+    Ok(())
+}
+
+fn asks_of<W: GapWindow>(window: &mut W) -> usize {
+    ask_for_missing(window, SeqNo::from(1), Instant::from_nanos(1));
+    ask_for_missing(window, SeqNo::from(4), Instant::from_nanos(1)).len()
+}
+
+#[test]
+fn both_registers_ask(rt: HostRuntime) -> Result<(), Fail> {
+    let mut register = NackRegister::new(rt.alloc(), None)?;
+    assert_eq!(rt; asks_of(&mut register), 1);
+    let mut mask: MaskRegister = MaskRegister::new(rt.alloc(), None)?;
+    assert_eq!(rt; asks_of(&mut mask), 1);
+    Ok(())
+}
+
+#[test]
+fn no_number_is_taken_twice(rt: HostRuntime) -> Result<(), Fail> {
+    let again = is_taken_twice(rt.alloc(), SeqNo::from(1), SeqNo::from(9))?;
+    assert!(rt; !again);
+    Ok(())
+}
+
+fn plain_len(alloc: Global, transport: &mut Transport) -> Result<usize, Fail> {
+    let mut stream = StreamTx::new(alloc, Ssrc::from(42), None, MidRid(mid(), None));
+    let now = Instant::from_nanos(1);
+    let payload = Payload::from_slice(alloc, &[1, 2])?;
+    let write = RtpWrite::new(Pt::from(96), SeqNo::from(1), 0, now, payload);
+    match write_and_poll(alloc, &mut stream, write, now, transport)? {
+        Some(receipt) => Ok(receipt.plain.len()),
+        None => Ok(0),
+    }
+}
+
+#[test]
+fn a_packet_is_queued(rt: HostRuntime) -> Result<(), Fail> {
+    let mut transport = Transport {
+        exts: ExtensionMap::empty(),
+        beginning: Beginning { unix_secs: 0 },
+        twcc: 0,
+    };
+    let len = plain_len(rt.alloc(), &mut transport)?;
+    assert_eq!(rt; len, 14);
+    Ok(())
+}
+
+#[test]
+fn a_packet_is_exchanged(rt: HostRuntime) -> Result<(), Fail> {
+    let material = KeyingMaterial::new(rt.alloc(), &[0; 56])?;
+    let told = match exchange(rt.alloc(), &material, mid(), &[1, 2]) {
+        Ok(told) => told,
+        Err(_) => None,
+    };
+    let payload = match &told {
+        Some(Event::RtpPacket(packet)) => packet.payload.as_slice(),
+        None => &[],
+    };
+    assert!(rt; payload == [1, 2].as_slice());
+    Ok(())
+}
+
+#[test]
+fn a_script_is_built(rt: HostRuntime) -> Result<(), Fail> {
+    let (setup, steps) = one_write(rt.alloc(), mid(), &[1, 2])?;
+    assert_eq!(rt; setup.media.as_slice().len(), 1);
+    assert_eq!(rt; steps.len(), 3);
+    Ok(())
+}
+
+#[test]
+fn a_value_is_replaced(rt: HostRuntime) -> Result<(), Fail> {
+    let mut queue = queue_of_one(rt.alloc(), 7, Instant::from_nanos(1), 1)?;
+    assert!(rt; replace(&mut queue, 7, 2));
+    assert!(rt; !replace(&mut queue, 8, 3));
+    assert_eq!(rt; queue.get(7).copied(), Some(2));
+    Ok(())
+}
+
+#[test]
+fn two_queues_wait(rt: HostRuntime) {
+    let one = QueueSnapshot {
+        created_at: Instant::from_nanos(10),
+        packet_count: 2,
+        ..QueueSnapshot::default()
+    };
+    let wait = wait_of_both(&one, &QueueSnapshot::default(), Instant::from_nanos(15));
+    assert_eq!(rt; wait, Duration::from_nanos(10));
+}
+
+#[test]
+fn the_queue_that_holds_a_packet_is_chosen(rt: HostRuntime) -> Result<(), Fail> {
+    let mut pacer = NullPacer::new(rt.alloc());
+    let now = Instant::from_nanos(1);
+    let snapshot = QueueSnapshot {
+        packet_count: 1,
+        byte_size: 100,
+        created_at: now,
+        priority: QueuePriority::Media,
+        ..QueueSnapshot::default()
+    };
+    let queue = QueueState {
+        midrid: MidRid(mid(), None),
+        unpaced: false,
+        use_for_padding: false,
+        snapshot,
+    };
+    let chosen = send_next(&mut pacer, now, &[queue], DataSize::bytes(100))?;
+    assert!(rt; chosen == Some(mid()));
+    Ok(())
+}

@@ -1,0 +1,19 @@
+//! When a packet has left at a rate.
+ghost use Rattle.std.specs.Prelude.{◌≡◌, ◌+◌, ◌*◌, ◌^◌, ◌-◌, min, None, IfSome};
+ghost use Rattle.std.specs.Int.{div_ceil};
+
+use media_units::{Bitrate, DataSize, Instant};
+
+/// When so many bytes have left at a rate, where they begin to leave now. None where nothing leaves
+/// at it, and where that is past the last moment.
+pub fn leaves_at(now: Instant, size: DataSize, rate: Bitrate) -> Option<Instant>
+    ensures still { rate ≡ 0 → result ≡ None }
+    ensures moment { IfSome result (λ t. t
+        ≡ now + min (div_ceil (size * 8000000000) rate) (2 ^ 64 - 1)) }
+{
+    if rate.is_zero() {
+        return None;
+    }
+    let owed = size.to_debt();
+    now.checked_add(owed.drain_time(rate))
+}
