@@ -48,11 +48,12 @@ fn end_of(done: Result<(), BenchError>) -> End
     }
 }
 
-/// Does what the words behind the program's name say: `rows` writes the names of the rows of the table, each on a
-/// line; `run` times all rows, and writes a line for each when it is known; `run NAME` does so for one.
+/// Does what the words behind the program's name say: `rows` writes the names of the rows of the
+/// table, each on a line; `run` times all rows, and writes a line for each when it is known; `run NAME`
+/// does so for one.
 ///
-/// It ends with `Usage` exactly where the words are none of these or no row has the name, and is `Stopped` where the
-/// clock cannot be read, memory runs out or the sink fails.
+/// It ends with `Usage` exactly where the words are none of these or no row has the name, and is
+/// `Stopped` where the clock cannot be read, memory runs out or the sink fails.
 pub fn bench_main<C: Clock, K: Sink>(
     alloc: Global,
     clock: &C,

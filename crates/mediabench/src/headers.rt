@@ -10,8 +10,8 @@ pub enum HeaderWork {
     Write,
 }
 
-// A header with an audio level, a send time, a transport number and the mid "ab" (RFC 3550 section 5.1, RFC 8285
-// section 4.2).
+// A header with an audio level, a send time, a transport number and the mid "ab" (RFC 3550
+// section 5.1, RFC 8285 section 4.2).
 const HEADER: [u8; 32] = [
     0x90, 0x60, 0, 1, 0, 0, 0, 0, 0, 0, 0, 0x2a, 0xbe, 0xde, 0, 4, 0x10, 0x85, 0x22, 1, 2, 3, 0x31,
     0x12, 0x34, 0x41, b'a', b'b', 0, 0, 0, 0,
@@ -33,7 +33,7 @@ fn read(count: u64) -> u64 {
     sum
 }
 
-// Writes a header with times that differ; tells the sum of the lengths and of a byte that was written.
+// Writes a header with times that differ; tells the sum of the lengths and of a byte of each.
 fn write_all(header: RtpHeader, count: u64) -> u64 {
     let exts = ExtensionMap::standard();
     let mut header = header;

@@ -40,8 +40,8 @@ pub enum Work {
 }
 
 impl Work {
-    /// Does so many operations, and tells a number that depends on what they answered, so that no compiler
-    /// leaves them out.
+    /// Does so many operations, and tells a number that depends on what they answered, so that no
+    /// compiler leaves them out.
     pub fn play(self, alloc: Global, count: u64) -> Result<u64, AllocError> {
         match self {
             Work::Slots(work) => work.play::<NackRegister>(alloc, count),
