@@ -4,7 +4,7 @@ ghost use Rattle.std.specs.Io.KnownBytes.{Appends};
 ghost use Rattle.std.specs.Option.{option_copied};
 ghost use Rattle.mediabench.specs.declared.error.End.{End as Ended};
 ghost use Rattle.mediabench.specs.declared.table.Row.{Row as Listed};
-ghost use Rattle.mediabench.specs.Command.{IsNamed, Writes, IsThere, Does, AsksForSome};
+ghost use Rattle.mediabench.specs.Command.{IsNamed, Does, AsksForSome};
 ghost use Rattle.mediabench.specs.Text.{names_text};
 
 use crate::command::{Command, command_of};

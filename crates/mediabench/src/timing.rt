@@ -1,5 +1,4 @@
 // Timing a row.
-ghost use Rattle.std.specs.Prelude.{ℕ, ◌≡◌, ◌≤◌, ◌<◌, ◌+◌, length, count_by};
 
 use crate::error::BenchError;
 use crate::table::Row;
