@@ -1,0 +1,41 @@
+//! Times the operations of the other crates: `rows` writes the names of the rows of the table, `run`
+//! times all of them, and `run NAME` one.
+#![tactic(auto)]
+
+mod bench_main;
+mod ciphers;
+mod command;
+mod error;
+mod feedback;
+mod headers;
+mod pacing;
+mod queues;
+mod registers;
+mod report;
+mod stores;
+mod table;
+mod timing;
+
+use media_base::WriterSink;
+use std::process::ExitCode;
+use std::{env, io};
+
+// The words behind the program's name.
+fn words(rt: &HostRuntime) -> io::Result<Vec<String>> {
+    let mut words = Vec::new(rt.alloc());
+    for word in env::args(rt)?.skip(1) {
+        words.push(word)?;
+    }
+    Ok(words)
+}
+
+fn main(rt: HostRuntime) -> ExitCode {
+    // Words that cannot be read are no command.
+    let words = match words(&rt) {
+        Ok(words) => words,
+        Err(_) => Vec::new(rt.alloc()),
+    };
+    let mut sink = WriterSink::new(io::writer(&rt));
+    let end = bench_main::bench_main(rt.alloc(), &rt, &table::ROWS, &words, &mut sink);
+    ExitCode::from(end.status())
+}

@@ -1,0 +1,187 @@
+// Rounds on the registers of received numbers.
+ghost use Rattle.std.specs.Prelude.{◌<◌, ◌^◌};
+
+use media_base::Instant;
+use repair_core::{GapWindow, ReceiverRegister};
+use rtp_base::{NackEntry, ReportList, SeqNo};
+use std::alloc::{AllocError, Global};
+
+/// Which numbers come.
+#[derive(Clone, Copy)]
+pub enum Numbers {
+    /// Every number, in order.
+    InOrder,
+    /// One number in ten is lost.
+    Lossy,
+    /// One number in ten comes five later.
+    Late,
+}
+
+/// What is done with a register.
+#[derive(Clone, Copy)]
+pub enum RegisterWork {
+    /// A number is tested and taken.
+    Take(Numbers),
+    /// 33 numbers are taken, and the missing ones asked for.
+    Round(Numbers),
+    /// Whether anything is to be asked for, where nothing is missing.
+    Pending,
+    /// A packet enters the receiver's register.
+    Receive,
+    /// The receiver's register makes its report.
+    Report,
+}
+
+/// So many registers are asked in turn, so that no compiler asks one of them once for all.
+const REGISTERS: u64 = 16;
+
+// The number of a count, in 48 bits.
+fn at(count: u64) -> SeqNo
+    ensures { result < 2 ^ 48 }
+{
+    SeqNo::from(count % 0x1_0000_0000_0000)
+}
+
+// The number that comes next, None where it is lost.
+fn arriving(numbers: Numbers, count: u64) -> Option<u64> {
+    match (numbers, count % 10) {
+        (Numbers::Lossy, 3) => None,
+        (Numbers::Late, 3) => Some(count.wrapping_add(5)),
+        (Numbers::Late, 8) => Some(count.wrapping_sub(5)),
+        _ => Some(count),
+    }
+}
+
+// Takes the number that comes next, and tells whether it was fresh.
+fn take_next<W: GapWindow>(window: &mut W, numbers: Numbers, count: u64) -> bool {
+    match arriving(numbers, count) {
+        Some(number) => {
+            let seq = at(number);
+            window.accepts(seq) && window.update(seq)
+        }
+        None => false,
+    }
+}
+
+// Takes so many numbers, and tells how many were fresh.
+fn take<W: GapWindow>(alloc: Global, numbers: Numbers, count: u64) -> Result<u64, AllocError> {
+    let mut window = W::new(alloc, None)?;
+    let mut fresh: u64 = 0;
+    for i in 0..count {
+        fresh = fresh.wrapping_add(u64::from(take_next(&mut window, numbers, i)));
+    }
+    Ok(fresh)
+}
+
+// Asks for what is missing after 33 numbers, and tells how many entries that takes.
+fn round<W: GapWindow>(window: &mut W, numbers: Numbers, round: u64) -> u64 {
+    for i in 0..33u64 {
+        let _ = take_next(window, numbers, round.wrapping_mul(33).wrapping_add(i));
+    }
+    let mut reports: ReportList<NackEntry> = ReportList::new();
+    if window.has_pending_nacks() {
+        let now = Instant::from_nanos(round.wrapping_mul(33_000_000));
+        window.nack_reports(now, None, &mut reports);
+    }
+    reports.len() as u64
+}
+
+// Plays so many rounds, and tells how many entries they took.
+fn rounds<W: GapWindow>(alloc: Global, numbers: Numbers, count: u64) -> Result<u64, AllocError> {
+    let mut window = W::new(alloc, None)?;
+    let mut entries: u64 = 0;
+    for i in 0..count {
+        entries = entries.wrapping_add(round(&mut window, numbers, i));
+    }
+    Ok(entries)
+}
+
+// Registers that took 200 numbers each.
+fn full<W: GapWindow>(alloc: Global) -> Result<Vec<W>, AllocError> {
+    let mut windows = Vec::new(alloc);
+    for _r in 0..REGISTERS {
+        let mut window = W::new(alloc, None)?;
+        for i in 0..200u64 {
+            let _ = window.update(at(i));
+        }
+        windows.push(window)?;
+    }
+    Ok(windows)
+}
+
+// Asks registers in turn, so often, whether anything is missing; tells how often nothing was.
+fn pending<W: GapWindow>(alloc: Global, count: u64) -> Result<u64, AllocError> {
+    let windows: Vec<W> = full(alloc)?;
+    let mut quiet: u64 = 0;
+    for i in 0..count {
+        if let Some(window) = windows.get((i % REGISTERS) as usize) {
+            if !window.has_pending_nacks() {
+                quiet = quiet.wrapping_add(1);
+            }
+        }
+    }
+    Ok(quiet)
+}
+
+// A packet comes every millisecond.
+fn receive_next<W: GapWindow>(register: &mut ReceiverRegister<W>, count: u64) -> bool {
+    let now = Instant::from_nanos(count.wrapping_mul(1_000_000));
+    register.update(at(count), now, (count % 0x1_0000) as u32, 90_000)
+}
+
+// So many packets come; tells how many were fresh.
+fn receive<W: GapWindow>(alloc: Global, count: u64) -> Result<u64, AllocError> {
+    let mut register: ReceiverRegister<W> = ReceiverRegister::new(alloc, None)?;
+    let mut fresh: u64 = 0;
+    for i in 0..count {
+        fresh = fresh.wrapping_add(u64::from(receive_next(&mut register, i)));
+    }
+    Ok(fresh)
+}
+
+// Receiver's registers that took 200 packets each.
+fn receivers<W: GapWindow>(alloc: Global) -> Result<Vec<ReceiverRegister<W>>, AllocError> {
+    let mut registers = Vec::new(alloc);
+    for _r in 0..REGISTERS {
+        let mut register: ReceiverRegister<W> = ReceiverRegister::new(alloc, None)?;
+        for i in 0..200u64 {
+            let _ = receive_next(&mut register, i);
+        }
+        registers.push(register)?;
+    }
+    Ok(registers)
+}
+
+// The greatest number of a register's report.
+fn report_of<W: GapWindow>(register: &mut ReceiverRegister<W>) -> u64 {
+    match register.reception_report() {
+        Some(report) => u64::from(report.max_seq),
+        None => 0,
+    }
+}
+
+// Has registers make their reports in turn, so often; tells the sum of the greatest numbers.
+fn reports<W: GapWindow>(alloc: Global, count: u64) -> Result<u64, AllocError> {
+    let mut registers: Vec<ReceiverRegister<W>> = receivers(alloc)?;
+    let mut sum: u64 = 0;
+    for i in 0..count {
+        let place = (i % REGISTERS) as usize;
+        if place < registers.len() {
+            sum = sum.wrapping_add(report_of(&mut registers[place]));
+        }
+    }
+    Ok(sum)
+}
+
+impl RegisterWork {
+    /// Does it so often with a register.
+    pub fn play<W: GapWindow>(self, alloc: Global, count: u64) -> Result<u64, AllocError> {
+        match self {
+            RegisterWork::Take(numbers) => take::<W>(alloc, numbers, count),
+            RegisterWork::Round(numbers) => rounds::<W>(alloc, numbers, count),
+            RegisterWork::Pending => pending::<W>(alloc, count),
+            RegisterWork::Receive => receive::<W>(alloc, count),
+            RegisterWork::Report => reports::<W>(alloc, count),
+        }
+    }
+}
