@@ -5,6 +5,7 @@ use crate::headers::HeaderWork;
 use crate::pacing::PacerWork;
 use crate::queues;
 use crate::registers::{Numbers, RegisterWork};
+use crate::sessions::SessionWork;
 use crate::stores::{CacheWork, Packet, StoreWork};
 use mask_register::MaskRegister;
 use queue_store::QueueStore;
@@ -37,6 +38,8 @@ pub enum Work {
     Feedback(FeedbackWork),
     /// A packet pushed into the queue of those that wait, a tick, and the packet taken.
     Waiting,
+    /// Calls of sessions.
+    Session(SessionWork),
 }
 
 impl Work {
@@ -55,6 +58,7 @@ impl Work {
             Work::Toy(work) => work.play(alloc, count),
             Work::Feedback(work) => work.play(alloc, count),
             Work::Waiting => queues::pass_all(alloc, count),
+            Work::Session(work) => work.play(alloc, count),
         }
     }
 }
@@ -71,7 +75,7 @@ pub struct Row {
 }
 
 /// The rows, in the order in which they are timed.
-pub const ROWS: [Row; 54] = [
+pub const ROWS: [Row; 58] = [
     Row {
         name: "take-in-order-slots",
         work: Work::Slots(RegisterWork::Take(Numbers::InOrder)),
@@ -341,5 +345,25 @@ pub const ROWS: [Row; 54] = [
         name: "send-queue",
         work: Work::Waiting,
         count: 400_000,
+    },
+    Row {
+        name: "session-send-4",
+        work: Work::Session(SessionWork::Send(4)),
+        count: 50_000,
+    },
+    Row {
+        name: "session-send-1200",
+        work: Work::Session(SessionWork::Send(1_200)),
+        count: 50_000,
+    },
+    Row {
+        name: "session-receive-4",
+        work: Work::Session(SessionWork::Receive(4)),
+        count: 50_000,
+    },
+    Row {
+        name: "session-receive-1200",
+        work: Work::Session(SessionWork::Receive(1_200)),
+        count: 50_000,
     },
 ];

@@ -1,0 +1,216 @@
+// Rounds on sessions: one stream, the toy cipher under AEAD_AES_128_GCM, and the register with a mask.
+ghost use Rattle.std.specs.Prelude.{◌<◌, length};
+
+use crate::memory::answer;
+use mask_register::MaskRegister;
+use media_base::{Beginning, Bytes, Instant};
+use rtp_base::{Frequency, Mid, MidRid, Pt, SeqNo, Ssrc};
+use rtp_wire::ExtensionMap;
+use session_core::{Datagram, Media, MediaKind, PayloadTypes, Session, SessionConfig, TypeRow};
+use srtp_core::{KeyingMaterial, SrtpProfile, ToyCipher};
+use std::alloc::{AllocError, Global};
+use stream_core::{Payload, RtpWrite, Streams};
+
+type End = Session<ToyCipher, MaskRegister>;
+
+/// What is done with a session, with payloads of so many bytes.
+#[derive(Clone, Copy)]
+pub enum SessionWork {
+    /// A packet is written, a tick comes, and all that leaves is taken.
+    Send(usize),
+    /// A datagram comes, and what it opened to is taken.
+    Receive(usize),
+}
+
+/// So many datagrams are sealed once, and come to each of several sessions.
+const SEALED: u64 = 500;
+
+fn mid_rid() -> Option<MidRid> {
+    Some(MidRid(Mid::from_slice(b"v")?, None))
+}
+
+fn config(alloc: Global) -> Result<SessionConfig, AllocError> {
+    let mut types = PayloadTypes::new(alloc);
+    types.add(TypeRow {
+        pt: Pt::from(96),
+        clock: Frequency::NINETY_KHZ,
+    })?;
+    Ok(SessionConfig {
+        id: 1,
+        beginning: Beginning {
+            unix_secs: 1_700_000_000,
+        },
+        exts: ExtensionMap::empty(),
+        types,
+    })
+}
+
+// A session with a media section, without keys and streams.
+fn fresh(alloc: Global, mid: Mid) -> Result<End, AllocError> {
+    let config = config(alloc)?;
+    let cname = Bytes::from_slice(alloc, b"cam")?;
+    let mut session = End::new(alloc, config);
+    answer(session.add_media(Media::new(mid, MediaKind::Video, cname)))?;
+    Ok(session)
+}
+
+fn give_keys(alloc: Global, session: &mut End, left: bool) -> Result<(), AllocError> {
+    let material = KeyingMaterial::new(alloc, &[0; 56])?;
+    let profile = SrtpProfile::AeadAes128Gcm;
+    answer(session.set_keying_material(ToyCipher, profile, &material, left))
+}
+
+fn declare(streams: &mut Streams<MaskRegister>, at: MidRid) -> Result<(), AllocError> {
+    streams.declare_stream_tx(Ssrc::from(42), None, at)
+}
+
+fn expect(streams: &mut Streams<MaskRegister>, at: MidRid) -> Result<(), AllocError> {
+    streams.expect_stream_rx(Ssrc::from(42), None, at)
+}
+
+fn sender(alloc: Global, at: MidRid) -> Result<End, AllocError> {
+    let mut session = fresh(alloc, at.0)?;
+    give_keys(alloc, &mut session, true)?;
+    declare(session.streams(), at)?;
+    Ok(session)
+}
+
+fn receiver(alloc: Global, at: MidRid) -> Result<End, AllocError> {
+    let mut session = fresh(alloc, at.0)?;
+    give_keys(alloc, &mut session, false)?;
+    expect(session.streams(), at)?;
+    Ok(session)
+}
+
+// Writes a packet on the first stream.
+fn write_first(streams: &mut Streams<MaskRegister>, write: RtpWrite) -> Result<(), AllocError> {
+    if streams.tx_len() == 0 {
+        return Ok(());
+    }
+    answer(streams.tx_at(0).write_rtp(write))
+}
+
+// A packet of type 96.
+fn packet(number: u64, now: Instant, payload: Payload) -> RtpWrite {
+    let seq = SeqNo::from(number % 0x1_0000_0000_0000);
+    RtpWrite::new(Pt::from(96), seq, 0, now, payload)
+}
+
+// Ticks, and takes what leaves.
+fn leave(session: &mut End, now: Instant) -> Result<Vec<Datagram>, AllocError> {
+    answer(session.handle_timeout(now))?;
+    let drained = answer(session.drain(now))?;
+    Ok(drained.datagrams)
+}
+
+// Writes a packet of these bytes, ticks, and takes what leaves.
+fn send_next(
+    alloc: Global,
+    session: &mut End,
+    number: u64,
+    bytes: &[u8],
+) -> Result<Vec<Datagram>, AllocError> {
+    let now = Instant::from_nanos(number.wrapping_mul(1_000).max(1));
+    let payload = Payload::from_slice(alloc, bytes)?;
+    write_first(session.streams(), packet(number, now, payload))?;
+    leave(session, now)
+}
+
+// The same; tells how many datagrams left.
+fn send_one(
+    alloc: Global,
+    session: &mut End,
+    number: u64,
+    bytes: &[u8],
+) -> Result<u64, AllocError> {
+    let datagrams = send_next(alloc, session, number, bytes)?;
+    Ok(datagrams.len() as u64)
+}
+
+// Sends so many packets; tells how many datagrams left.
+fn send_all(alloc: Global, session: &mut End, bytes: &[u8], count: u64) -> Result<u64, AllocError> {
+    let mut sent: u64 = 0;
+    for i in 0..count {
+        sent = sent.wrapping_add(send_one(alloc, session, i, bytes)?);
+    }
+    Ok(sent)
+}
+
+fn send(alloc: Global, at: MidRid, size: usize, count: u64) -> Result<u64, AllocError> {
+    let mut session = sender(alloc, at)?;
+    let bytes = vec![in alloc; 7; size]?;
+    send_all(alloc, &mut session, &bytes, count)
+}
+
+// Sends a packet, and puts the last datagram that leaves behind those before.
+fn seal_one(
+    alloc: Global,
+    session: &mut End,
+    number: u64,
+    bytes: &[u8],
+    all: &mut Vec<Datagram>,
+) -> Result<(), AllocError> {
+    let mut datagrams = send_next(alloc, session, number, bytes)?;
+    if let Some(datagram) = datagrams.pop() {
+        all.push(datagram)?;
+    }
+    Ok(())
+}
+
+fn seal_all(alloc: Global, session: &mut End, bytes: &[u8]) -> Result<Vec<Datagram>, AllocError> {
+    let mut all = Vec::new(alloc);
+    for i in 0..SEALED {
+        seal_one(alloc, session, i, bytes, &mut all)?;
+    }
+    Ok(all)
+}
+
+// Datagrams of the first numbers.
+fn datagrams(alloc: Global, at: MidRid, size: usize) -> Result<Vec<Datagram>, AllocError> {
+    let mut session = sender(alloc, at)?;
+    let bytes = vec![in alloc; 7; size]?;
+    seal_all(alloc, &mut session, &bytes)
+}
+
+// A datagram comes, and what it opened to is taken; tells whether it opened.
+fn receive_next(session: &mut End, bytes: &[u8]) -> Result<bool, AllocError> {
+    let opened = answer(session.handle_rtp_receive(Instant::from_nanos(1), bytes))?;
+    let drained = answer(session.drain(Instant::from_nanos(1)))?;
+    Ok(opened.is_some() && !drained.events.is_empty())
+}
+
+// The datagrams come; tells how many opened.
+fn receive_each(session: &mut End, datagrams: &[Datagram]) -> Result<u64, AllocError> {
+    let mut opened: u64 = 0;
+    for datagram in datagrams {
+        let next = receive_next(session, datagram.bytes.as_slice())?;
+        opened = opened.wrapping_add(u64::from(next));
+    }
+    Ok(opened)
+}
+
+// The datagrams come to a new session; tells how many opened.
+fn receive_all(alloc: Global, at: MidRid, datagrams: &[Datagram]) -> Result<u64, AllocError> {
+    let mut session = receiver(alloc, at)?;
+    receive_each(&mut session, datagrams)
+}
+
+fn receive(alloc: Global, at: MidRid, size: usize, count: u64) -> Result<u64, AllocError> {
+    let datagrams = datagrams(alloc, at, size)?;
+    let mut opened: u64 = 0;
+    for _i in 0..count / SEALED {
+        opened = opened.wrapping_add(receive_all(alloc, at, &datagrams)?);
+    }
+    Ok(opened)
+}
+
+impl SessionWork {
+    /// Does it so often.
+    pub fn play(self, alloc: Global, count: u64) -> Result<u64, AllocError> {
+        match (self, mid_rid()) {
+            (SessionWork::Send(size), Some(at)) => send(alloc, at, size, count),
+            (SessionWork::Receive(size), Some(at)) => receive(alloc, at, size, count),
+            (_, None) => Ok(0),
+        }
+    }
+}
