@@ -13,6 +13,7 @@ mod pacing;
 mod queues;
 mod registers;
 mod report;
+mod rtcp;
 mod sessions;
 mod stores;
 mod table;

@@ -3,10 +3,10 @@ use crate::ciphers::CipherWork;
 use crate::feedback::FeedbackWork;
 use crate::headers::HeaderWork;
 use crate::pacing::PacerWork;
-use crate::queues;
 use crate::registers::{Numbers, RegisterWork};
 use crate::sessions::SessionWork;
 use crate::stores::{CacheWork, Packet, StoreWork};
+use crate::{queues, rtcp};
 use mask_register::MaskRegister;
 use queue_store::QueueStore;
 use repair_core::NackRegister;
@@ -36,6 +36,8 @@ pub enum Work {
     Toy(CipherWork),
     /// Transport-wide feedback.
     Feedback(FeedbackWork),
+    /// A compound packet of a sender report, a description and a NACK, read.
+    Rtcp,
     /// A packet pushed into the queue of those that wait, a tick, and the packet taken.
     Waiting,
     /// Calls of sessions.
@@ -57,6 +59,7 @@ impl Work {
             Work::Header(work) => Ok(work.play(count)),
             Work::Toy(work) => work.play(alloc, count),
             Work::Feedback(work) => work.play(alloc, count),
+            Work::Rtcp => rtcp::read(alloc, count),
             Work::Waiting => queues::pass_all(alloc, count),
             Work::Session(work) => work.play(alloc, count),
         }
@@ -75,7 +78,7 @@ pub struct Row {
 }
 
 /// The rows, in the order in which they are timed.
-pub const ROWS: [Row; 58] = [
+pub const ROWS: [Row; 59] = [
     Row {
         name: "take-in-order-slots",
         work: Work::Slots(RegisterWork::Take(Numbers::InOrder)),
@@ -339,6 +342,11 @@ pub const ROWS: [Row; 58] = [
     Row {
         name: "feedback-apply",
         work: Work::Feedback(FeedbackWork::Apply),
+        count: 50_000,
+    },
+    Row {
+        name: "rtcp-read",
+        work: Work::Rtcp,
         count: 50_000,
     },
     Row {
