@@ -1,5 +1,5 @@
 -- The loop that reads the blocks of an extended report.
-use Rattle.std.proofs.Common.{◌≡◌, ℕ, zero, suc, ◌+◌, ◌-◌, ◌<◌, ◌≤◌, List, [], ◌∷◌, ◌++◌, length, Option, Some, None, refl, sym, ap, ◌∙◌, append_assoc, arith}
+use Rattle.std.proofs.Common.{◌≡◌, ℕ, zero, suc, ◌+◌, ◌-◌, ◌<◌, ◌≤◌, List, [], ◌∷◌, ◌++◌, length, Option, Some, None, refl, sym, ap, ◌∙◌, append_assoc, arith, length-append}
 use Rattle.std.specs.Option.{option_map, option_and_then}
 use Rattle.std.proofs.lemmas.List.{append-nil}
 use Rattle.rtcp_wire.specs.declared.extended.ReportBlock.{ReportBlock}
@@ -10,7 +10,7 @@ with_front front o = option_map (λ later. front ++ later) o
 
 -- the blocks read so far, and those of the rest
 pub record IsRead (now : List ReportBlock) (left : ℕ) (rest : List ℕ) (all : Option (List ReportBlock)) : Type 0 where
-  pub so_far : with_front now (blocks_within left rest) ≡ all
+  pub so_far : with_front now (blocks_within left (31 - length now) rest) ≡ all
 
 front_none : (o : Option (List ReportBlock)) → with_front [] o ≡ o
 front_none None = refl
@@ -20,54 +20,76 @@ regroup : (now new : List ReportBlock) (o : Option (List ReportBlock)) → with_
 regroup now new None = refl
 regroup now new (Some x) = ap (λ (t : List ReportBlock). Some t) (append_assoc now new x)
 
-one_more : (n : ℕ) (now new : List ReportBlock) (o : Option (List ReportBlock × List ℕ)) (after : List ℕ) → option_map (with_blocks now) o ≡ Some (kept new after)
-    → with_front now (option_and_then (λ x. option_map (λ later. x.0 ++ later) (blocks_within n x.1)) o) ≡ with_front new (blocks_within n after)
-one_more n now new None after e = absurd cc
-one_more n now new (Some x) after e =
+-- the blocks at the front and those behind them, where there is room for one more at least
+abbrev continued : ℕ → ℕ → Option (List ReportBlock × List ℕ) → Option (List ReportBlock)
+continued n room o = option_and_then (λ x. option_map (λ later. x.0 ++ later) (blocks_within n (suc room - length x.0) x.1)) o
+
+one_more : (n room : ℕ) (now new : List ReportBlock) (o : Option (List ReportBlock × List ℕ)) (after : List ℕ) → 31 - length now ≡ suc room → option_map (with_blocks now) o ≡ Some (kept new after)
+    → with_front now (continued n room o) ≡ with_front new (blocks_within n (31 - length new) after)
+one_more n room now new None after r e = absurd cc
+one_more n room now new (Some x) after r e =
     let both : with_blocks now x ≡ kept new after = cc in
     let a : now ++ x.0 ≡ new = ap (λ (t : List ReportBlock × List ℕ). t.0) both in
     let b : x.1 ≡ after = ap (λ (t : List ReportBlock × List ℕ). t.1) both in
-    rw (← a, ← b) (sym (regroup now x.0 (blocks_within n x.1)))
+    let c : 31 - length (now ++ x.0) ≡ suc room - length x.0 = omega (arith, r, length-append now x.0) in
+    rw (← a, ← b, c) (sym (regroup now x.0 (blocks_within n (suc room - length x.0) x.1)))
 
-none_more : (n : ℕ) (now : List ReportBlock) (o : Option (List ReportBlock × List ℕ)) → option_map (with_blocks now) o ≡ None
-    → with_front now (option_and_then (λ x. option_map (λ later. x.0 ++ later) (blocks_within n x.1)) o) ≡ None
-none_more n now None e = refl
-none_more n now (Some x) e = absurd cc
+none_more : (n room : ℕ) (now : List ReportBlock) (o : Option (List ReportBlock × List ℕ)) → option_map (with_blocks now) o ≡ None → with_front now (continued n room o) ≡ None
+none_more n room now None e = refl
+none_more n room now (Some x) e = absurd cc
 
-unrolled : (n : ℕ) (rest : List ℕ) → 0 < length rest → blocks_within (suc n) rest ≡ option_and_then (λ x. option_map (λ later. x.0 ++ later) (blocks_within n x.1)) (block_at rest)
-unrolled n [] lt = absurd (omega arith)
-unrolled n (b ∷ rest) lt = refl
+unrolled : (n room : ℕ) (rest : List ℕ) → 0 < length rest → blocks_within (suc n) (suc room) rest ≡ continued n room (block_at rest)
+unrolled n room [] lt = absurd (omega arith)
+unrolled n room (b ∷ rest) lt = refl
 
-pub read_starts : (bytes : List ℕ) → IsRead [] 31 bytes (blocks_of bytes)
+pub read_starts : (bytes : List ℕ) → IsRead [] (length bytes - 0) bytes (blocks_of bytes)
 unfolding blocks_of
-read_starts bytes = record { so_far = front_none (blocks_within 31 bytes) }
+read_starts bytes =
+    let k : length bytes - 0 ≡ length bytes = omega arith in
+    record { so_far = rw k (front_none (blocks_within (length bytes) 31 bytes)) }
 
-pub read_more : (now new : List ReportBlock) (i : ℕ) (rest after : List ℕ) (all : Option (List ReportBlock)) → i < 31 → 0 < length rest → option_map (with_blocks now) (block_at rest) ≡ Some (kept new after)
-    → IsRead now (31 - i) rest all → IsRead new (31 - (i + 1)) after all
-read_more now new i rest after all lt some e h =
-    let k : 31 - i ≡ suc (31 - (i + 1)) = omega arith in
-    let so_far = rw (k, unrolled (31 - (i + 1)) rest some) at h.so_far in
-    record { so_far = sym (one_more (31 - (i + 1)) now new (block_at rest) after e) ∙ so_far }
+pub read_more : (now new : List ReportBlock) (len i : ℕ) (rest after : List ℕ) (all : Option (List ReportBlock)) → i < len → 0 < length rest → length now < 31
+    → option_map (with_blocks now) (block_at rest) ≡ Some (kept new after) → IsRead now (len - i) rest all → IsRead new (len - (i + 1)) after all
+read_more now new len i rest after all lt some few e h =
+    let k : len - i ≡ suc (len - (i + 1)) = omega arith in
+    let room : 31 - length now ≡ suc (30 - length now) = omega arith in
+    let so_far = rw (k, room, unrolled (len - (i + 1)) (30 - length now) rest some) at h.so_far in
+    record { so_far = sym (one_more (len - (i + 1)) (30 - length now) now new (block_at rest) after room e) ∙ so_far }
 
-pub read_fails : (now : List ReportBlock) (i : ℕ) (rest : List ℕ) (all : Option (List ReportBlock)) → i < 31 → 0 < length rest → option_map (with_blocks now) (block_at rest) ≡ None
-    → IsRead now (31 - i) rest all → None ≡ all
-read_fails now i rest all lt some e h =
-    let k : 31 - i ≡ suc (31 - (i + 1)) = omega arith in
-    let so_far = rw (k, unrolled (31 - (i + 1)) rest some) at h.so_far in
-    sym (none_more (31 - (i + 1)) now (block_at rest) e) ∙ so_far
+pub read_fails : (now : List ReportBlock) (len i : ℕ) (rest : List ℕ) (all : Option (List ReportBlock)) → i < len → 0 < length rest → length now < 31
+    → option_map (with_blocks now) (block_at rest) ≡ None → IsRead now (len - i) rest all → None ≡ all
+read_fails now len i rest all lt some few e h =
+    let k : len - i ≡ suc (len - (i + 1)) = omega arith in
+    let room : 31 - length now ≡ suc (30 - length now) = omega arith in
+    let so_far = rw (k, room, unrolled (len - (i + 1)) (30 - length now) rest some) at h.so_far in
+    sym (none_more (len - (i + 1)) (30 - length now) now (block_at rest) e) ∙ so_far
 
-pub read_ends : (now : List ReportBlock) (i : ℕ) (rest : List ℕ) (all : Option (List ReportBlock)) → 31 ≤ i → IsRead now (31 - i) rest all → Some now ≡ all
-read_ends now i rest all le h =
-    let k : 31 - i ≡ 0 = omega arith in
-    let so_far = rw k at h.so_far in
+-- where the turns, the room or the bytes are over, the blocks read so far are all
+is_all : (now : List ReportBlock) (left : ℕ) (rest : List ℕ) (all : Option (List ReportBlock)) → blocks_within left (31 - length now) rest ≡ Some [] → IsRead now left rest all → Some now ≡ all
+is_all now left rest all e h =
+    let so_far = rw e at h.so_far in
     ap (λ (t : List ReportBlock). Some t) (sym (append-nil now)) ∙ so_far
 
-at_end : (n : ℕ) (rest : List ℕ) → length rest ≡ 0 → blocks_within n rest ≡ Some []
-at_end zero rest e = refl
-at_end (suc n) [] e = refl
-at_end (suc n) (b ∷ rest) e = absurd (omega arith)
+no_turns : (left room : ℕ) (rest : List ℕ) → left ≡ 0 → blocks_within left room rest ≡ Some []
+no_turns zero room rest e = refl
+no_turns (suc n) room rest e = absurd (omega arith)
+
+no_room : (left room : ℕ) (rest : List ℕ) → room ≡ 0 → blocks_within left room rest ≡ Some []
+no_room zero room rest e = refl
+no_room (suc n) zero rest e = refl
+no_room (suc n) (suc room) rest e = absurd (omega arith)
+
+at_end : (left room : ℕ) (rest : List ℕ) → length rest ≡ 0 → blocks_within left room rest ≡ Some []
+at_end zero room rest e = refl
+at_end (suc n) zero rest e = refl
+at_end (suc n) (suc room) [] e = refl
+at_end (suc n) (suc room) (b ∷ rest) e = absurd (omega arith)
+
+pub read_ends : (now : List ReportBlock) (len i : ℕ) (rest : List ℕ) (all : Option (List ReportBlock)) → len ≤ i → IsRead now (len - i) rest all → Some now ≡ all
+read_ends now len i rest all le h = is_all now (len - i) rest all (no_turns (len - i) (31 - length now) rest (omega arith)) h
+
+pub read_full : (now : List ReportBlock) (left : ℕ) (rest : List ℕ) (all : Option (List ReportBlock)) → 31 ≤ length now → IsRead now left rest all → Some now ≡ all
+read_full now left rest all le h = is_all now left rest all (no_room left (31 - length now) rest (omega arith)) h
 
 pub read_stops : (now : List ReportBlock) (left : ℕ) (rest : List ℕ) (all : Option (List ReportBlock)) → length rest ≡ 0 → IsRead now left rest all → Some now ≡ all
-read_stops now left rest all e h =
-    let so_far = rw (at_end left rest e) at h.so_far in
-    ap (λ (t : List ReportBlock). Some t) (sym (append-nil now)) ∙ so_far
+read_stops now left rest all e h = is_all now left rest all (at_end left (31 - length now) rest e) h

@@ -301,9 +301,14 @@ abbrev made_report : ℕ → List ReportBlock → ExtendedItem
 made_report s bs = record { ssrc = s; blocks = bs }
 
 -- a written block has bytes
-some_block : (n : ℕ) (b : ReportBlock) (rest : List ℕ) → blocks_within (suc n) (block_text b ++ rest) ≡ option_and_then (λ x. option_map (λ later. x.0 ++ later) (blocks_within n x.1)) (block_at (block_text b ++ rest))
+some_block : (n room : ℕ) (b : ReportBlock) (rest : List ℕ)
+    → blocks_within (suc n) (suc room) (block_text b ++ rest) ≡ option_and_then (λ x. option_map (λ later. x.0 ++ later) (blocks_within n (suc room - length x.0) x.1)) (block_at (block_text b ++ rest))
 unfolding block_text
-some_block n b rest = refl
+some_block n room b rest = refl
+
+block_len : (b : ReportBlock) → 4 ≤ length (block_text b)
+unfolding block_text
+block_len b = omega arith
 
 dlrr_item_again : (i : DlrrItem) (rest : List ℕ) → IsDlrrItem i → (dlrr_item_at (dlrr_item_text i ++ rest) ≡ i) × (drop 12 (dlrr_item_text i ++ rest) ≡ rest)
 unfolding dlrr_item_at dlrr_item_text
@@ -360,13 +365,17 @@ block_again b rest w =
     ∙ ap (λ (x : List ℕ). shape x (drop (length content) (content ++ rest))) front ∙ ap (shape content) back
     ∙ ap (option_map (λ blocks. kept blocks rest)) (content_again b w)
 
-blocks_again : (n : ℕ) (bs : List ReportBlock) → AllByRecursion IsBlock bs → blocks_within n (flat_map block_text bs) ≡ Some (map held_block (take n bs))
-blocks_again zero bs w = refl
-blocks_again (suc n) [] w = refl
-blocks_again (suc n) (b ∷ bs) w =
+blocks_again : (n room : ℕ) (bs : List ReportBlock) → length (flat_map block_text bs) ≤ n → AllByRecursion IsBlock bs → blocks_within n room (flat_map block_text bs) ≡ Some (map held_block (take room bs))
+blocks_again zero zero bs le w = refl
+blocks_again zero (suc room) [] le w = refl
+blocks_again zero (suc room) (b ∷ bs) le w = absurd (omega (arith, length-append (block_text b) (flat_map block_text bs), block_len b))
+blocks_again (suc n) zero bs le w = refl
+blocks_again (suc n) (suc room) [] le w = refl
+blocks_again (suc n) (suc room) (b ∷ bs) le w =
     let one = block_again b (flat_map block_text bs) w.0 in
-    let others = blocks_again n bs w.1 in
-    some_block n b (flat_map block_text bs) ∙ rw (one, others) refl
+    let others = blocks_again n room bs (omega (arith, length-append (block_text b) (flat_map block_text bs), block_len b)) w.1 in
+    let left : suc room - 1 ≡ room = omega arith in
+    some_block n room b (flat_map block_text bs) ∙ rw (one, left, others) refl
 
 extended_report_is : (body : List ℕ) → 4 ≤ length body → extended_report_of body ≡ option_map (λ blocks. made_report (word_at body 0) blocks) (blocks_of (drop 4 body))
 unfolding extended_report_of
@@ -379,7 +388,7 @@ unfolding extended_report_body blocks_of
 extended_report_again r s w =
     let a : from_be_bytes w32 (to_be_bytes w32 r.ssrc) ≡ r.ssrc = from_be_bytes-to_be_bytes_4 r.ssrc s in
     extended_report_is (extended_report_body r) (omega arith)
-    ∙ ap (option_map (λ blocks. made_report (word_at (extended_report_body r) 0) blocks)) (blocks_again 31 r.blocks w)
+    ∙ ap (option_map (λ blocks. made_report (word_at (extended_report_body r) 0) blocks)) (blocks_again (length (flat_map block_text r.blocks)) 31 r.blocks (omega arith) w)
     ∙ ap (λ (x : ℕ). Some (made_report x (map held_block (take 31 r.blocks)))) a
 
 -- ---- items

@@ -1,5 +1,5 @@
 -- Extended reports (RFC 3611).
-use Rattle.std.specs.Prelude.{ℕ, zero, suc, ◌/◌, ◌==◌, ◌||◌, List, [], ◌∷◌, ◌++◌, length, take, drop, slice_index, nat_lt, Option, Some, None, if◌then◌else◌}
+use Rattle.std.specs.Prelude.{ℕ, zero, suc, ◌-◌, ◌/◌, ◌==◌, ◌||◌, List, [], ◌∷◌, ◌++◌, length, take, drop, slice_index, nat_lt, Option, Some, None, if◌then◌else◌}
 use Rattle.std.specs.List.{flat_map}
 use Rattle.std.specs.Option.{option_map, option_and_then}
 use Rattle.std.specs.Int.{w16, w32, w64, to_be_bytes}
@@ -41,17 +41,20 @@ with_blocks front x = (front ++ x.0, x.1)
 abbrev pub kept : List ReportBlock → List ℕ → List ReportBlock × List ℕ
 kept blocks rest = (blocks, rest)
 
--- the first n blocks
-abbrev pub blocks_within : ℕ → List ℕ → Option (List ReportBlock)
-blocks_within zero bytes = Some []
-blocks_within (suc n) [] = Some []
-blocks_within (suc n) (b ∷ bytes) = option_and_then (λ x. option_map (λ later. x.0 ++ later) (blocks_within n x.1)) (block_at (b ∷ bytes))
+-- of the n blocks at the front the first of known types, as many as there is room for; what stands behind
+-- the last of these is not looked at
+abbrev pub blocks_within : ℕ → ℕ → List ℕ → Option (List ReportBlock)
+blocks_within zero room bytes = Some []
+blocks_within (suc n) zero bytes = Some []
+blocks_within (suc n) (suc room) [] = Some []
+blocks_within (suc n) (suc room) (b ∷ bytes) =
+    option_and_then (λ x. option_map (λ later. x.0 ++ later) (blocks_within n (suc room - length x.0) x.1)) (block_at (b ∷ bytes))
 
--- the first 31 blocks
+-- the first 31 blocks of known types; each block takes a word at least
 unfoldable pub blocks_of : List ℕ → Option (List ReportBlock)
-blocks_of bytes = blocks_within 31 bytes
+blocks_of bytes = blocks_within (length bytes) 31 bytes
 
--- type 207: the SSRC of the sender, and blocks, of which the first 31 are read
+-- type 207: the SSRC of the sender, and blocks, of which the first 31 of known types are read
 unfoldable pub extended_report_of : List ℕ → Option ExtendedReport
 extended_report_of body =
     if nat_lt (length body) 4 then None

@@ -16,7 +16,7 @@ use std::alloc::{AllocError, Global};
 pub struct ExtendedReport {
     /// Who sends the report.
     pub ssrc: Ssrc,
-    /// Of those read the first 31.
+    /// Of those read the first 31 of known types.
     pub blocks: Listed<ReportBlock>,
 }
 
@@ -139,14 +139,14 @@ fn read_first_block<'a>(
     }
 }
 
-// Reads the first 31 blocks, or None where one is too short.
+// Reads the first 31 blocks of known types, or None where a block before the last of these is too short.
 fn read_blocks(alloc: Global, bytes: &[u8]) -> Result<Option<Listed<ReportBlock>>, AllocError>
     ensures { IfOk result (λ blocks. blocks ≡ blocks_of bytes.now) }
 {
     let mut blocks = Listed::new(alloc);
     let mut rest = bytes;
-    for _ in 0..31usize {
-        if rest.is_empty() {
+    for _ in 0..bytes.len() {
+        if rest.is_empty() || blocks.as_slice().len() >= 31 {
             return Ok(Some(blocks));
         }
         match read_first_block(alloc, rest, &mut blocks) {
