@@ -16,13 +16,13 @@ use Rattle.rtcp_wire.specs.Remb.{remb_body}
 use Rattle.rtcp_wire.specs.Extended.{dlrr_item_text, block_text, block_content, extended_report_body}
 use Rattle.rtcp_wire.specs.Descriptions.{sdes_item_text, ended, sdes_text, descriptions_body}
 use Rattle.twcc_core.specs.Laws.{FeedbackIsWhole}
-use Rattle.rtcp_wire.specs.Texts.{IsWritable, LengthsFit, IsShortSdes}
+use Rattle.rtcp_wire.specs.Texts.{IsWritable, LengthsFit, IsShortSdes, SdesItemFits, SdesItemsFit}
 use Rattle.rtcp_wire.proofs.ReadBack.{rows_len, report_len, nack_entry_len, fir_entry_len, dlrr_item_len}
 
-items_few : (is : List SdesItem) → AllByRecursion (λ i. length i.text ≤ 255) is → length (flat_map sdes_item_text is) ≤ 257 * length is
+items_few : (is : List SdesItem) → AllByRecursion SdesItemFits is → length (flat_map sdes_item_text is) ≤ 257 * length is
 unfolding sdes_item_text
 items_few [] w = omega arith
-items_few (i ∷ is) w = omega (arith, length-append (sdes_item_text i) (flat_map sdes_item_text is), w.0, items_few is w.1)
+items_few (i ∷ is) w = omega (arith, length-append (sdes_item_text i) (flat_map sdes_item_text is), w.0.1, items_few is w.1)
 
 ended_whole : (t : List ℕ) → (length (ended t) % 4 ≡ 0) × (length (ended t) ≤ length t + 4)
 ended_whole t =
@@ -43,6 +43,10 @@ chunks_whole (s ∷ ss) w =
     let others = chunks_whole ss w.1 in
     (omega (arith, one.0, len, others.0), omega (arith, one.1, items, w.0.0, len, others.1))
 
+chunks_fit : (ss : List Sdes) → AllByRecursion IsShortSdes ss → AllByRecursion SdesItemsFit ss
+chunks_fit [] w = tt
+chunks_fit (s ∷ ss) w = (w.0.1, chunks_fit ss w.1)
+
 blocks_whole : (bs : List ReportBlock) → length (flat_map block_text bs) % 4 ≡ 0
 unfolding block_text block_content
 blocks_whole [] = refl
@@ -61,7 +65,7 @@ counted twcc (ReceiverReport r) few =
     record { inner = tt; count = few; size = omega (arith, len); whole = omega (arith, len) }
 counted twcc (SourceDescription d) w =
     let len = chunks_whole d.reports w.1 in
-    record { inner = tt; count = w.0; size = omega (arith, len.1, w.0); whole = len.0 }
+    record { inner = chunks_fit d.reports w.1; count = w.0; size = omega (arith, len.1, w.0); whole = len.0 }
 counted twcc (Goodbye g) few =
     let len = rows_len (to_be_bytes w32) 4 (λ n. refl) g.reports in
     record { inner = tt; count = few; size = omega (arith, len); whole = omega (arith, len) }

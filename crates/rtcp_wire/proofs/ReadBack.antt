@@ -396,7 +396,7 @@ extended_report_again r s w =
 reading_again : FeedbackReadsBack → (x : Rtcp) → IsHeld x → reading_of (kind_of x) (count_of x) (body_of x) ≡ Item (held x)
 unfolding reading_of transport_feedback_of payload_feedback_of
 reading_again twcc (ReceiverReport r) w = ap (item_or_short ReceiverReport) (receiver_report_again r w.fields.0 w.fields.1)
-reading_again twcc (SourceDescription d) w = ap (item_or_short SourceDescription) (descriptions_again d w.fields)
+reading_again twcc (SourceDescription d) w = ap (item_or_short SourceDescription) (descriptions_again d w.writable.inner w.fields)
 reading_again twcc (Goodbye g) w = ap (item_or_short Goodbye) (goodbye_again g w.fields)
 reading_again twcc (Nack n) w = ap (item_or_short Nack) (nack_again n w.fields.0 w.fields.1 w.fields.2 w.fields.3)
 reading_again twcc (Pli p) w = ap (item_or_short Pli) (pli_again p w.fields.0 w.fields.1)

@@ -80,10 +80,9 @@ abbrev pub IsBlock : ReportBlock → Type 0
 IsBlock (Rrtr r) = Unit {0}
 IsBlock (Dlrr d) = (length d.items ≤ 21845) × AllByRecursion IsDlrrItem d.items
 
--- the type is the one that its number names, which is not the zero that ends a list, and the length of the
--- text fits a byte
+-- the type is the one that its number names
 abbrev pub IsSdesItem : SdesItem → Type 0
-IsSdesItem i = (sdes_type_of (sdes_number i.kind) ≡ i.kind) × (0 < sdes_number i.kind) × (length i.text ≤ 255)
+IsSdesItem i = sdes_type_of (sdes_number i.kind) ≡ i.kind
 
 abbrev pub IsSdes : Sdes → Type 0
 IsSdes s = (s.ssrc < 2 ^ 32) × AllByRecursion IsSdesItem s.values

@@ -4,9 +4,10 @@ use Rattle.std.specs.List.{AllByRecursion}
 use Rattle.std.specs.Int.{w16, to_be_bytes}
 use Rattle.rtcp_wire.specs.declared.packet.Rtcp.{Rtcp}
 use Rattle.rtcp_wire.specs.declared.packet.Rtcp.TheVariants.{SenderReport, ReceiverReport, SourceDescription, Goodbye, ExtendedReport, Nack, Pli, Fir, Twcc, Remb, AppSpecificFeedback}
+use Rattle.rtcp_wire.specs.declared.source.SdesItem.{SdesItem}
 use Rattle.rtcp_wire.specs.declared.source.Sdes.{Sdes}
 use Rattle.rtcp_wire.specs.Reports.{sender_report_body, receiver_report_body, goodbye_body}
-use Rattle.rtcp_wire.specs.Descriptions.{descriptions_body}
+use Rattle.rtcp_wire.specs.Descriptions.{sdes_number, descriptions_body}
 use Rattle.rtcp_wire.specs.Remb.{remb_body}
 use Rattle.rtcp_wire.specs.Extended.{extended_report_body}
 use Rattle.rtcp_wire.specs.Feedback.{nack_body, pli_body, fir_body, app_feedback_body}
@@ -61,24 +62,34 @@ framed count kind body = (128 + count) ∷ kind ∷ to_be_bytes w16 (length body
 unfoldable pub text_of : Rtcp → List ℕ
 text_of x = framed (count_of x) (kind_of x) (body_of x)
 
--- the count of SSRCs of a REMB has 8 bits, that of the packets of transport-wide feedback 16
+-- an item of a source: its type is not the zero that ends a list, and the length of its text has 8 bits
+abbrev pub SdesItemFits : SdesItem → Type 0
+SdesItemFits i = (0 < sdes_number i.kind) × (length i.text ≤ 255)
+
+abbrev pub SdesItemsFit : Sdes → Type 0
+SdesItemsFit s = AllByRecursion SdesItemFits s.values
+
+-- the items of each source can be told, the count of SSRCs of a REMB has 8 bits, and that of the packets of
+-- transport-wide feedback 16
 abbrev pub CountFits : Rtcp → Type 0
+CountFits (SourceDescription d) = AllByRecursion SdesItemsFit d.reports
 CountFits (Twcc t) = length t.rows < 65536
 CountFits (Remb r) = length r.ssrcs ≤ 255
 CountFits _ = Unit {0}
 
--- counts and lengths fit their fields, and the body has whole words
+-- counts and lengths fit their fields, no item of a source has the type 0, and the body has whole words
 pub record IsWritable (x : Rtcp) : Type 0 where
   pub inner : CountFits x
   pub count : count_of x ≤ 31
   pub size : length (body_of x) < 2 ^ 18
   pub whole : length (body_of x) % 4 ≡ 0
 
--- at most 31 items, and texts whose lengths fit a byte
+-- at most 31 items, each of which can be told
 abbrev pub IsShortSdes : Sdes → Type 0
-IsShortSdes s = (length s.values ≤ 31) × AllByRecursion (λ i. length i.text ≤ 255) s.values
+IsShortSdes s = (length s.values ≤ 31) × SdesItemsFit s
 
--- the counts and lengths of an item alone, from which it follows that it can be written
+-- the counts and lengths of an item alone, and the types of a source's items, from which it follows that it
+-- can be written
 abbrev pub LengthsFit : Rtcp → Type 0
 LengthsFit (SenderReport r) = length r.reports ≤ 31
 LengthsFit (ReceiverReport r) = length r.reports ≤ 31

@@ -19,8 +19,8 @@ pub fn items_read_back()
 }
 
 /// Items whose counts and lengths fit their fields can be written: at most 31 entries, blocks, sources or
-/// items of a source, texts of at most 255 bytes, at most 255 SSRCs of a REMB, at most 65,535 packets of
-/// transport-wide feedback, whole words of an application.
+/// items of a source, texts of at most 255 bytes whose types have numbers other than 0, at most 255 SSRCs of
+/// a REMB, at most 65,535 packets of transport-wide feedback, whole words of an application.
 pub fn items_fit_by_lengths()
     ensures { ItemsFitByLengths }
 {
