@@ -421,7 +421,13 @@ fn lists_of_31_and_32(rt: HostRuntime) -> Result<(), Fail> {
 fn unknown_blocks_do_not_count(rt: HostRuntime) -> Result<(), Fail> {
     // So many blocks that nobody knows, and the RRTR.
     for count in [31, 32usize] {
-        let bytes = listing(rt.alloc(), &EXTENDED[..8], &[9, 0, 0, 0], count, &EXTENDED[8..20])?;
+        let bytes = listing(
+            rt.alloc(),
+            &EXTENDED[..8],
+            &[9, 0, 0, 0],
+            count,
+            &EXTENDED[8..20],
+        )?;
         let items = read(rt.alloc(), bytes.as_slice())?;
         assert_eq!(rt; kept(items.front()), 1);
     }

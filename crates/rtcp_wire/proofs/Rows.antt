@@ -35,6 +35,16 @@ flat_map_next : {T : Type 0} (text : T → List ℕ) (rows : List T) (i : ℕ) (
 flat_map_next text rows i x lt is =
     rw (take_more rows i x lt, flat_map-append, ← is) (ap (λ (t : List ℕ). flat_map text (take i rows) ++ t) (append-nil (text x)))
 
+-- a row's text and those before it, which are no longer than all
+pub len_more : {T : Type 0} (text : T → List ℕ) (rows : List T) (i : ℕ) (x : T) → i < length rows → x ≡ get_or rows i x
+    → (length (flat_map text (take (i + 1) rows)) ≡ length (flat_map text (take i rows)) + length (text x)) × (length (flat_map text (take (i + 1) rows)) ≤ length (flat_map text rows))
+len_more {T} text rows i x lt is =
+    let e = flat_map_next text rows i x lt is in
+    let whole = length-flat_map text rows in
+    let front = length-flat_map text (take (i + 1) rows) in
+    let le = sum_by-take-le (λ (y : T). length (text y)) rows (i + 1) in
+    (omega (arith, ap length e, length-append (flat_map text (take i rows)) (text x)), omega (arith, whole, front, le))
+
 pub puts_more : {T : Type 0} (text : T → List ℕ) (rows : List T) (i : ℕ) (x : T) (old : List ℕ) (at : ℕ) (now new : List ℕ) (end end' : ℕ) → i < length rows → x ≡ get_or rows i x
     → Puts old at (flat_map text (take i rows)) now (Some end) → Puts now end (text x) new (Some end')
     → Puts old at (flat_map text (take (i + 1) rows)) new (Some end')

@@ -27,6 +27,11 @@ abbrev pub Puts : List ℕ → ℕ → List ℕ → List ℕ → Option ℕ → 
 Puts old at text new None = length old < at + length text
 Puts old at text new (Some end) = (end ≡ at + length text) × (take end new ≡ take at old ++ text) × (end ≤ length new)
 
+-- what stands behind the text stays, and all where there is no room for it
+abbrev pub LeavesBehind : List ℕ → List ℕ → Option ℕ → Type 0
+LeavesBehind old new None = new ≡ old
+LeavesBehind old new (Some end) = drop end new ≡ drop end old
+
 -- the value, where there is one
 abbrev pub some_if : {T : Type 0} → Bool → T → Option T
 some_if true x = Some x

@@ -5,7 +5,7 @@ ghost use Rattle.std.specs.Option.{option_map};
 ghost use Rattle.rtcp_wire.specs.Wire.{Puts, some_if};
 ghost use Rattle.rtcp_wire.specs.Extended.{with_blocks, kept, block_of, block_at, block_kind, block_content, block_text, blocks_of, extended_report_of, extended_report_body};
 
-use crate::row::{Put, Row, read_many, write_rows};
+use crate::row::{Put, Row, read_many, rows_len, write_rows};
 use crate::wire::{double, half, put, word};
 use media_base::{Listed, SystemTime, SystemTimeExt};
 use rtp_base::Ssrc;
@@ -79,6 +79,11 @@ impl Put for DlrrItem {
     ghost use Rattle.rtcp_wire.specs.Extended.{dlrr_item_text};
 
     ghost text_of = { dlrr_item_text };
+
+    #[tactic(auto, unfolding(crate::specs::Extended::dlrr_item_text))]
+    fn len(&self) -> usize {
+        12
+    }
 
     #[tactic(auto, unfolding(crate::specs::Extended::dlrr_item_text))]
     fn write(&self, out: &mut [u8], at: usize) -> Option<usize> {
@@ -208,6 +213,14 @@ fn count_of_words(words: usize) -> [u8; 2]
 
 impl Put for ReportBlock {
     ghost text_of = { block_text };
+
+    #[tactic(auto, unfolding(crate::specs::Extended::block_text, crate::specs::Extended::block_content))]
+    fn len(&self) -> usize {
+        match self {
+            ReportBlock::Rrtr(_) => 12,
+            ReportBlock::Dlrr(dlrr) => 4 + rows_len(dlrr.items.as_slice()),
+        }
+    }
 
     #[tactic(auto, unfolding(crate::specs::Extended::block_text))]
     fn write(&self, out: &mut [u8], at: usize) -> Option<usize> {

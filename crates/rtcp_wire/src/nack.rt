@@ -44,6 +44,11 @@ impl Put for NackEntry {
     ghost text_of = { nack_entry_text };
 
     #[tactic(auto, unfolding(crate::specs::Rows::nack_entry_text))]
+    fn len(&self) -> usize {
+        4
+    }
+
+    #[tactic(auto, unfolding(crate::specs::Rows::nack_entry_text))]
     fn write(&self, out: &mut [u8], at: usize) -> Option<usize> {
         let at = put(out, at, &self.pid.to_be_bytes())?;
         put(out, at, &self.blp.to_be_bytes())

@@ -14,12 +14,13 @@ use crate::report::{
     write_sender_report,
 };
 use crate::request::{Fir, Pli, read_fir, read_pli, write_fir, write_pli};
+use crate::row::rows_len;
 use crate::source::{
     Descriptions, Goodbye, read_descriptions, read_goodbye, write_descriptions, write_goodbye,
 };
 use std::alloc::{AllocError, Global};
 use std::collections::VecDeque;
-use twcc_core::{Twcc, read_twcc, write_twcc};
+use twcc_core::{Twcc, read_twcc, twcc_len, write_twcc};
 
 /// An item of an RTCP datagram.
 #[derive(Debug, PartialEq, Eq, Drop)]
@@ -58,7 +59,7 @@ fn item_or_short(item: Option<Rtcp>) -> Reading
 impl Rtcp {
     ghost use Rattle.rtcp_wire.specs.Items.{reading_of, transport_feedback_of, payload_feedback_of, application_of, item_at, added_of, rest_of, items_of, items_within};
     ghost use Rattle.rtcp_wire.specs.Texts.{IsWritable, CountFits, text_of, body_of, count_of, kind_of, fitting};
-    ghost use Rattle.rtcp_wire.specs.Wire.{Puts};
+    ghost use Rattle.rtcp_wire.specs.Wire.{Puts, LeavesBehind};
     ghost use Rattle.rtcp_wire.specs.Remb.{is_remb};
 
     /// Reads the items of a datagram, in order, and adds them to a list. Reading stops at an item whose
@@ -169,12 +170,13 @@ impl Rtcp {
     }
 
     /// Writes items, whole and in order, while they fit, and takes them off the list. The answer is how
-    /// many bytes were written. Counts and lengths fit their fields, so a source's texts have at most 255
+    /// many bytes were written; what stands behind them stays. Counts and lengths fit their fields, so a source's texts have at most 255
     /// bytes; none of its items has the type 0, which ends their list; and bodies have whole words.
     pub fn write_packet(items: &mut VecDeque<Rtcp>, out: &mut [u8]) -> usize
         requires { AllByRecursion IsWritable items.old.items }
         ensures count { result ≡ length (flat_map text_of (take (fitting (length out.old) items.old.items) items.old.items)) }
         ensures bytes { take result out.new ≡ flat_map text_of (take (fitting (length out.old) items.old.items) items.old.items) }
+        ensures behind { drop result out.new ≡ drop result out.old }
         ensures within { result ≤ length out.old }
         ensures left { items.new.items ≡ drop (fitting (length out.old) items.old.items) items.old.items }
     {
@@ -197,17 +199,49 @@ impl Rtcp {
     fn write(&self, out: &mut [u8], at: usize) -> Option<usize>
         requires { IsWritable self.now }
         ensures text { Puts out.old at (text_of self.now) out.new result }
-        ensures before { take at out.new ≡ take at out.old }
+        ensures behind { LeavesBehind out.old out.new result }
     {
-        if out.len() < at || out.len() - at < 4 {
+        let len = 4 + self.body_len();
+        if out.len() < at || out.len() - at < len {
             return None;
         }
-        let (_, room) = out.split_at_mut(at);
+        let end = at + len;
+        self.fill(&mut out[at..end]);
+        Some(end)
+    }
+
+    // Writes the item into room that has its length.
+    #[tactic(auto, unfolding(crate::specs::Texts::text_of), using(crate::proofs::Writing::is_filled))]
+    fn fill(&self, room: &mut [u8])
+        requires writable { IsWritable self.now }
+        requires len { length room.old ≡ length (text_of self.now) }
+        ensures { room.new ≡ text_of self.now }
+    {
         let (head, body) = room.split_at_mut(4);
-        let len = self.write_body(body)?;
-        let words = ((len / 4) as u16).to_be_bytes();
+        let words = ((body.len() / 4) as u16).to_be_bytes();
         head.copy_from_slice(&[128 + self.count(), self.kind(), words[0], words[1]]);
-        Some(at + 4 + len)
+        let _end = self.write_body(body);
+    }
+
+    // How many bytes stand behind the header.
+    #[tactic(auto, unfolding(crate::specs::Reports::sender_report_body, crate::specs::Reports::sender_info_text, crate::specs::Reports::receiver_report_body, crate::specs::Reports::goodbye_body, crate::specs::Descriptions::descriptions_body, crate::specs::Extended::extended_report_body, crate::specs::Feedback::nack_body, crate::specs::Feedback::pli_body, crate::specs::Feedback::fir_body, crate::specs::Feedback::app_feedback_body, crate::specs::Remb::remb_body))]
+    fn body_len(&self) -> usize
+        requires { IsWritable self.now }
+        ensures { result ≡ length (body_of self.now) }
+    {
+        match self {
+            Rtcp::SenderReport(report) => 24 + rows_len(report.reports.as_slice()),
+            Rtcp::ReceiverReport(report) => 4 + rows_len(report.reports.as_slice()),
+            Rtcp::SourceDescription(described) => rows_len(described.reports.as_slice()),
+            Rtcp::Goodbye(goodbye) => rows_len(goodbye.reports.as_slice()),
+            Rtcp::ExtendedReport(report) => 4 + rows_len(report.blocks.as_slice()),
+            Rtcp::Nack(nack) => 8 + rows_len(nack.reports.as_slice()),
+            Rtcp::Pli(_) => 8,
+            Rtcp::Fir(fir) => 8 + rows_len(fir.reports.as_slice()),
+            Rtcp::Twcc(twcc) => twcc_len(twcc),
+            Rtcp::Remb(remb) => 16 + rows_len(remb.ssrcs.as_slice()),
+            Rtcp::AppSpecificFeedback(feedback) => 8 + feedback.payload.len(),
+        }
     }
 
     fn write_body(&self, out: &mut [u8]) -> Option<usize>

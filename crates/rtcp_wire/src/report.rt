@@ -42,6 +42,11 @@ impl Put for ReceptionReport {
     ghost text_of = { report_text };
 
     #[tactic(auto, unfolding(crate::specs::Rows::report_text))]
+    fn len(&self) -> usize {
+        24
+    }
+
+    #[tactic(auto, unfolding(crate::specs::Rows::report_text))]
     fn write(&self, out: &mut [u8], at: usize) -> Option<usize> {
         let lost = u32::from(self.fraction_lost) * 0x100_0000
             + self.packets_lost.cast_unsigned() % 0x100_0000;

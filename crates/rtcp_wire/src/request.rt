@@ -81,6 +81,11 @@ impl Put for FirEntry {
     ghost text_of = { fir_entry_text };
 
     #[tactic(auto, unfolding(crate::specs::Rows::fir_entry_text))]
+    fn len(&self) -> usize {
+        8
+    }
+
+    #[tactic(auto, unfolding(crate::specs::Rows::fir_entry_text))]
     fn write(&self, out: &mut [u8], at: usize) -> Option<usize> {
         let at = put(out, at, &u32::from(self.ssrc).to_be_bytes())?;
         put(out, at, &[self.seq_no, 0, 0, 0])

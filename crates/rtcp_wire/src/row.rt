@@ -1,5 +1,5 @@
 // Rows of fields of a fixed length.
-ghost use Rattle.std.specs.Prelude.{◌≡◌, ◌+◌, ◌*◌, ◌≤◌, List, ℕ, length, IfOk};
+ghost use Rattle.std.specs.Prelude.{◌≡◌, ◌+◌, ◌*◌, ◌^◌, ◌<◌, ◌≤◌, List, ℕ, length, IfOk};
 ghost use Rattle.std.specs.List.{flat_map};
 ghost use Rattle.rtcp_wire.specs.Wire.{rows_of, Puts};
 
@@ -12,6 +12,11 @@ use std::alloc::{AllocError, Global};
 pub trait Put {
     // The bytes of it.
     ghost text_of: { Self → List ℕ };
+
+    // How many bytes it takes.
+    fn len(&self) -> usize
+        requires { length (text_of self.now) < 2 ^ 18 }
+        ensures { result ≡ length (text_of self.now) };
 
     fn write(&self, out: &mut [u8], at: usize) -> Option<usize>
         ensures { Puts out.old at (text_of self.now) out.new result };
@@ -37,6 +42,10 @@ impl Put for u32 {
     ghost use Rattle.std.specs.Int.{w32, to_be_bytes};
 
     ghost text_of = { to_be_bytes w32 };
+
+    fn len(&self) -> usize {
+        4
+    }
 
     fn write(&self, out: &mut [u8], at: usize) -> Option<usize> {
         wire::put(out, at, &self.to_be_bytes())
@@ -72,6 +81,18 @@ pub fn read_many<T: Row>(alloc: Global, bytes: &[u8], count: usize) -> Result<Li
         rest = after;
     }
     Ok(Listed::from_vec(rows))
+}
+
+// How many bytes values take one after another.
+pub fn rows_len<T: Put>(rows: &[T]) -> usize
+    requires { length (flat_map T.text_of rows.now) < 2 ^ 18 }
+    ensures { result ≡ length (flat_map T.text_of rows.now) }
+{
+    let mut len = 0;
+    for row in rows {
+        len += row.len();
+    }
+    len
 }
 
 // Puts values one after another, or says that there is no room for them.

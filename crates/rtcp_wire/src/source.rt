@@ -5,7 +5,7 @@ ghost use Rattle.rtcp_wire.specs.Wire.{Puts};
 ghost use Rattle.rtcp_wire.specs.Reports.{goodbye_of, goodbye_body};
 ghost use Rattle.rtcp_wire.specs.Descriptions.{sdes_item_at, with_item, first_31, sdes_items_of, sdes_at, descriptions_of, descriptions_body};
 
-use crate::row::{Put, Row, read_rows, write_rows};
+use crate::row::{Put, Row, read_rows, rows_len, write_rows};
 use crate::wire::{put, word};
 use media_base::{Bytes, Listed};
 use rtp_base::{ReportList, Ssrc};
@@ -33,6 +33,10 @@ impl Put for Ssrc {
     ghost use Rattle.rtcp_wire.specs.Wire.{word_at};
 
     ghost text_of = { to_be_bytes w32 };
+
+    fn len(&self) -> usize {
+        4
+    }
 
     fn write(&self, out: &mut [u8], at: usize) -> Option<usize> {
         put(out, at, &u32::from(*self).to_be_bytes())
@@ -267,6 +271,11 @@ impl Put for SdesItem {
     ghost text_of = { sdes_item_text };
 
     #[tactic(auto, unfolding(crate::specs::Descriptions::sdes_item_text))]
+    fn len(&self) -> usize {
+        2 + self.text.len()
+    }
+
+    #[tactic(auto, unfolding(crate::specs::Descriptions::sdes_item_text))]
     fn write(&self, out: &mut [u8], at: usize) -> Option<usize> {
         let text = self.text.as_slice();
         let at = put(out, at, &[self.kind.into(), (text.len() % 256) as u8])?;
@@ -278,6 +287,12 @@ impl Put for Sdes {
     ghost use Rattle.rtcp_wire.specs.Descriptions.{sdes_text};
 
     ghost text_of = { sdes_text };
+
+    #[tactic(auto, unfolding(crate::specs::Descriptions::sdes_text))]
+    fn len(&self) -> usize {
+        let len = 4 + rows_len(self.values.as_slice());
+        len + 4 - len % 4
+    }
 
     #[tactic(auto, unfolding(crate::specs::Descriptions::sdes_text))]
     fn write(&self, out: &mut [u8], at: usize) -> Option<usize> {

@@ -1,4 +1,4 @@
-use Rattle.std.proofs.Common.{◌<◌, length, rules, arith}
+use Rattle.std.proofs.Common.{◌<◌, length, rules}
 use Rattle.rtcp_wire.proofs.Blocks.{read_starts, read_more}
 use Rattle.rtcp_wire.proofs.extended.read_blocks.Goals as goal
 
