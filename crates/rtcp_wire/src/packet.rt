@@ -170,8 +170,9 @@ impl Rtcp {
     }
 
     /// Writes items, whole and in order, while they fit, and takes them off the list. The answer is how
-    /// many bytes were written; what stands behind them stays. Counts and lengths fit their fields, so a source's texts have at most 255
-    /// bytes; none of its items has the type 0, which ends their list; and bodies have whole words.
+    /// many bytes were written; what stands behind them stays. Counts and lengths fit their fields, so a
+    /// source's texts have at most 255 bytes; none of its items has the type 0, which ends their list; and
+    /// bodies have whole words.
     pub fn write_packet(items: &mut VecDeque<Rtcp>, out: &mut [u8]) -> usize
         requires { AllByRecursion IsWritable items.old.items }
         ensures count { result ≡ length (flat_map text_of (take (fitting (length out.old) items.old.items) items.old.items)) }
