@@ -113,6 +113,25 @@ impl<C: SrtpCipher> SrtpContext<C> {
         })
     }
 
+    /// The profile of its keys.
+    pub fn profile(&self) -> SrtpProfile
+        ensures { result ≡ self.now.profile }
+    {
+        match self.keys {
+            Keys::Cm(_) => SrtpProfile::Aes128CmSha1_80,
+            Keys::Gcm128(_) => SrtpProfile::AeadAes128Gcm,
+            Keys::Gcm256(_) => SrtpProfile::AeadAes256Gcm,
+        }
+    }
+
+    /// The index of the next SRTCP datagram, at most 2^31; at 2^31 there is no further one.
+    pub fn srtcp_index(&self) -> u64
+        ensures index { result ≡ self.now.srtcp_index }
+        ensures bound { result ≤ 2 ^ 31 }
+    {
+        self.srtcp_index
+    }
+
     /// Seals an RTP datagram that begins with this header, under this index: 65,536 times the
     /// rollover count plus the header's sequence number (RFC 3711 section 3.3, RFC 7714 section 8).
     ///

@@ -8,6 +8,7 @@ mod cipher;
 mod cipher_key;
 mod cm;
 mod context;
+mod counter;
 mod error;
 mod gcm;
 mod gcm_rtcp;
@@ -23,6 +24,7 @@ mod toy;
 
 pub use cipher::SrtpCipher;
 pub use context::SrtpContext;
+pub use counter::Counter;
 pub use error::SrtpError;
 pub use hmac::sha1_hmac;
 pub use keying::{KeyingMaterial, SrtpKey};

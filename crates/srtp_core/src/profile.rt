@@ -1,7 +1,9 @@
-ghost use Rattle.std.specs.Prelude.{◌≡◌, Some};
+ghost use Rattle.std.specs.Prelude.{◌≡◌, ◌<◌, Some, length, IfSome, IfNone};
 ghost use Rattle.srtp_core.specs.Keys.{material_len};
 ghost use Rattle.srtp_core.specs.Names.{profile_name};
+ghost use Rattle.srtp_core.specs.RtcpSeals.{word_place, stated_index};
 
+use crate::srtcp::{E_BIT, WORD_LEN, number_of};
 use crate::{aead_aes_128_gcm as gcm_128, aead_aes_256_gcm as gcm_256, aes_128_cm_sha1_80 as cm};
 use std::fmt;
 
@@ -33,6 +35,31 @@ impl SrtpProfile {
             SrtpProfile::AeadAes128Gcm => 2 * (gcm_128::KEY_LEN + gcm_128::SALT_LEN),
             SrtpProfile::AeadAes256Gcm => 2 * (gcm_256::KEY_LEN + gcm_256::SALT_LEN),
         }
+    }
+
+    // How far before the end of an SRTCP datagram its word stands.
+    fn word_place(&self) -> usize
+        ensures { result ≡ word_place self.now }
+    {
+        match self {
+            SrtpProfile::Aes128CmSha1_80 => WORD_LEN + cm::HMAC_TAG_LEN,
+            SrtpProfile::AeadAes128Gcm | SrtpProfile::AeadAes256Gcm => WORD_LEN,
+        }
+    }
+
+    /// The index that an SRTCP datagram states (RFC 3711 section 3.4, RFC 7714 section 9), below 2^31.
+    /// `None` where it is too short to state one.
+    #[tactic(auto, unfolding(crate::specs::RtcpSeals::stated_word))]
+    pub fn stated_index(&self, datagram: &[u8]) -> Option<u32>
+        ensures some { IfSome result (λ i. i ≡ stated_index self.now datagram.now) }
+        ensures none { IfNone result (length datagram.now < word_place self.now) }
+    {
+        let place = self.word_place();
+        if datagram.len() < place {
+            return None;
+        }
+        let (_, word) = datagram.split_at(datagram.len() - place);
+        Some(number_of(word) % E_BIT)
     }
 }
 
