@@ -14,7 +14,8 @@ use Rattle.stream_core.specs.RxRecord.{StandsFor as RxStandsFor}
 use Rattle.stream_core.specs.Tables.{Along}
 use Rattle.session_core.specs.declared.datagram.Event.{Event}
 use Rattle.session_core.specs.declared.datagram.Event.TheVariants.{RtpPacket}
-use Rattle.session_core.specs.Calls.{next_event, after_event}
+use Rattle.rtcp_wire.specs.declared.feedback.AppSpecificFeedback.{AppSpecificFeedback}
+use Rattle.session_core.specs.Calls.{next_of, next_event, after_next, after_event}
 use Rattle.session_core.specs.declared.datagram.Opened.{Opened as OpenedHere}
 use Rattle.session_core.specs.Receiving.{Opens as OpensHere, Receives as ReceivesHere, opened, stays as stays_put, after_opened, opening_of, packet_after, cut as cut_here}
 use Rattle.session_core.specs.SessionRecord.{SessionState, SessionView, SessionRecord, StandsFor}
@@ -54,11 +55,14 @@ pub took : {cipher : CipherMeaning} {r : SessionRecord} {bytes : List ℕ} {now 
 took _ told (opened h n payload o) e = record { header = h; number = n; payload = payload; opens = o; left = refl; is = sym (same_Some _ told e) }
 took _ told (stays_put none) e = absurd (none-some told e)
 
-keys_there : (s : SessionState) {a b : SrtpState} → s.sealing ≡ Some a → s.opening ≡ Some b → (is_none s.sealing || is_none s.opening) ≡ false
+-- there are keys
+pub keys_there : (s : SessionState) {a b : SrtpState} → s.sealing ≡ Some a → s.opening ≡ Some b → (is_none s.sealing || is_none s.opening) ≡ false
 keys_there s seals keyed = ap (λ x. is_none x || is_none s.opening) seals ∙ ap is_none keyed
 
-pub told_once : (s : SessionState) → (is_none s.sealing || is_none s.opening) ≡ false → after_event s ≡ record s { packet = None }
-told_once s keys = ap {A = Bool} {B = SessionState} (λ b. record s { packet = cond b s.packet None }) keys
+pub told_once : (s : SessionState) → (is_none s.sealing || is_none s.opening) ≡ false → s.application ≡ None → after_event s ≡ record s { packet = None }
+told_once s keys none =
+    ap {A = Bool} {B = SessionState} (λ b. cond b s (after_next s.application s)) keys
+    ∙ ap {A = Option AppSpecificFeedback} {B = SessionState} (λ a. after_next a s) none
 
 module _ (cipher : CipherMeaning) (setup : Setup) (came : GotEntry) (own : ReadsOwnBytes) (sound : IsSound setup) (end : EndState) (entries : List Entry)
     (ready : Ready cipher setup came.side end entries) (time : ℕ) where
@@ -93,7 +97,8 @@ module _ (cipher : CipherMeaning) (setup : Setup) (came : GotEntry) (own : Reads
         let keys = keys_there session.state ready.seals ready.opens in
         let event : e ≡ option_map RtpPacket (packet_after time h n (cut_here h payload) None) =
         is ∙ ap next_event state
-        ∙ ap {A = Bool} {B = Option Event} (λ b. cond b None (option_map RtpPacket (packet_after time h n (cut_here h payload) session.state.packet))) keys
+        ∙ ap {A = Bool} {B = Option Event} (λ b. cond b None (next_of session.state.application (packet_after time h n (cut_here h payload) session.state.packet))) keys
+        ∙ ap {A = Option AppSpecificFeedback} {B = Option Event} (λ a. next_of a (packet_after time h n (cut_here h payload) session.state.packet)) ready.knows.application
         ∙ ap {A = Option RtpPacketRecord} {B = Option Event} (λ p. option_map RtpPacket (packet_after time h n (cut_here h payload) p)) ready.knows.told in
         ap (λ x. yielded came.side (told_packet x)) event
         ∙ elim (tested (h.ssrc == 0)) [
@@ -109,7 +114,7 @@ module _ (cipher : CipherMeaning) (setup : Setup) (came : GotEntry) (own : Reads
         let fresh = (accepted_parts setup came.side entries h n (accepts_opens here)).fresh in
         let after = after_took h n session in
         let state : final.state ≡ after.state =
-        ap {A = SessionView MaskRegister} {B = SessionState} (λ v. v.state) is ∙ ap after_event stands.state ∙ told_once (after_opened time h n payload session).state keys in
+        ap {A = SessionView MaskRegister} {B = SessionState} (λ v. v.state) is ∙ ap after_event stands.state ∙ told_once (after_opened time h n payload session).state keys ready.knows.application in
         let rx = ap {A = SessionView MaskRegister} (λ v. v.rx) is in
         let probes = ap {A = SessionView MaskRegister} (λ v. v.probes) is in (
           opens h n plain_of here,

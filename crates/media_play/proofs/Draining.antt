@@ -14,8 +14,9 @@ use Rattle.stream_core.specs.Sealing.{after_packet}
 use Rattle.stream_core.specs.Tables.{change_place}
 use Rattle.stream_core.specs.TxRecord.{TxRecord, receipt_of, polled, after_poll, transport_after_poll}
 use Rattle.session_core.specs.declared.datagram.Datagram.{Datagram}
+use Rattle.session_core.specs.Feedback.{due_of}
 use Rattle.session_core.specs.SessionRecord.{MediaRecord, SessionState}
-use Rattle.session_core.specs.Sending.{has_mid, first_due, next_place, sealed_as, sealed_by, receipt_at, next_datagram, transport_after, without_front, after_datagram, DrainsTo, start, more}
+use Rattle.session_core.specs.Sending.{has_mid, first_due, next_place, sealed_as, sealed_by, receipt_at, next_rtp, next_by, next_datagram, transport_after, without_front, after_rtp, after_by, after_datagram, DrainsTo, start, more}
 
 -- all packets that wait, stream by stream
 abbrev pub left : List (ℕ × TxRecord) → List RtpPacket
@@ -177,8 +178,17 @@ given None = inl refl
 given (Some x) = inr (x, refl)
 
 module _ (cipher : CipherMeaning) (now : ℕ) (state : SrtpState) (later : (now == 0) ≡ false) where
-  -- one poll, of a session with keys
-  module _ (b : SessionState) (keys : b.sealing ≡ Some state) where
+  -- one poll, of a session with keys in which no feedback waits
+  module _ (b : SessionState) (keys : b.sealing ≡ Some state) (quiet : b.feedback ≡ []) where
+    none_due : due_of now b ≡ []
+    none_due = ap (λ (t : Bool). if t then [] else b.feedback) later ∙ quiet
+
+    next_is : next_datagram cipher now b ≡ next_rtp cipher now b
+    next_is = ap (next_by cipher now b) none_due
+
+    after_is : after_datagram now b ≡ after_rtp now b
+    after_is = ap (after_by now b) none_due
+
     place : next_place now b ≡ first_due b.medias b.tx
     place =
         ap (λ (t : Bool). if t || is_none b.sealing then None else first_due b.medias b.tx) later
@@ -186,7 +196,8 @@ module _ (cipher : CipherMeaning) (now : ℕ) (state : SrtpState) (later : (now 
 
     says : (o : Option ℕ) → first_due b.medias b.tx ≡ o → next_datagram cipher now b ≡ option_map (sealed_as cipher state) (receipt_at now b o)
     says o e =
-        ap (λ (k : Option SrtpState). sealed_by cipher k (receipt_at now b (next_place now b))) keys
+        next_is
+        ∙ ap (λ (k : Option SrtpState). sealed_by cipher k (receipt_at now b (next_place now b))) keys
         ∙ ap (λ (p : Option ℕ). option_map (sealed_as cipher state) (receipt_at now b p)) (place ∙ e)
 
     gives : (i : ℕ) → first_due b.medias b.tx ≡ Some i → (f : Found b.tx i)
@@ -197,7 +208,11 @@ module _ (cipher : CipherMeaning) (now : ℕ) (state : SrtpState) (later : (now 
         ∙ ap (λ (o : Option RtpPacket). option_map (sealed_as cipher state) (option_map (receipt_of f.stream b.transport now) o)) f.next
 
     after : (i : ℕ) → first_due b.medias b.tx ≡ Some i → after_datagram now b ≡ without_front b i
-    after i e = ap (λ (o : Option ℕ). option_map_or (without_front b) o b) (place ∙ e)
+    after i e = after_is ∙ ap (λ (o : Option ℕ). option_map_or (without_front b) o b) (place ∙ e)
+
+    -- a poll that gives nothing changes nothing
+    unchanged : first_due b.medias b.tx ≡ None → after_datagram now b ≡ b
+    unchanged e = after_is ∙ ap (λ (o : Option ℕ). option_map_or (without_front b) o b) (place ∙ e)
 
   -- what was sent, from a session with keys in which each stream's packets may leave
   pub record Sent (s b : SessionState) (ds : List Datagram) : Type 0 where
@@ -206,9 +221,12 @@ module _ (cipher : CipherMeaning) (now : ℕ) (state : SrtpState) (later : (now 
     pub split : left s.tx ≡ packets ++ left b.tx
     pub leave : AllZip (Leaves cipher state s.transport.exts now) packets ds
 
-  module _ (s : SessionState) (keys : s.sealing ≡ Some state) (go : AllGo s.medias s.tx) where
+  module _ (s : SessionState) (keys : s.sealing ≡ Some state) (quiet : s.feedback ≡ []) (go : AllGo s.medias s.tx) where
     still_keys : (b : SessionState) → Kept s b → b.sealing ≡ Some state
     still_keys b k = ap (λ (x : SessionState). x.sealing) k.others ∙ keys
+
+    still_quiet : (b : SessionState) → Kept s b → b.feedback ≡ []
+    still_quiet b k = ap (λ (x : SessionState). x.feedback) k.others ∙ quiet
 
     still_go : (b : SessionState) → Kept s b → AllGo b.medias b.tx
     still_go b k = subst (λ (m : List MediaRecord). AllGo m b.tx) (sym (ap (λ (x : SessionState). x.medias) k.others)) k.go
@@ -225,10 +243,11 @@ module _ (cipher : CipherMeaning) (now : ℕ) (state : SrtpState) (later : (now 
         → first_due b.medias b.tx ≡ Some i → Sent s (after_datagram now b) (ds ++ d ∷ [])
     sent_one b ds d i h next e =
         let is_keys = still_keys b h.kept in
+        let is_quiet = still_quiet b h.kept in
         let f = found b.medias b.tx i (still_go b h.kept) e in
-        let is : Some d ≡ Some (sealed_as cipher state (receipt_of f.stream b.transport now f.packet)) = sym next ∙ gives b is_keys i e f in
+        let is : Some d ≡ Some (sealed_as cipher state (receipt_of f.stream b.transport now f.packet)) = sym next ∙ gives b is_keys is_quiet i e f in
         let same : d ≡ sealed_as cipher state (receipt_of f.stream b.transport now f.packet) = cc in
-        subst (λ (a : SessionState). Sent s a (ds ++ d ∷ [])) (sym (after b is_keys i e))
+        subst (λ (a : SessionState). Sent s a (ds ++ d ∷ [])) (sym (after b is_keys is_quiet i e))
         (record {
           kept = kept_on b i h.kept;
           packets = h.packets ++ f.packet ∷ [];
@@ -243,7 +262,7 @@ module _ (cipher : CipherMeaning) (now : ℕ) (state : SrtpState) (later : (now 
     sent_more b ds d h next =
         elim (given (first_due b.medias b.tx)) [
           | inl none ↦
-              let not : None ≡ Some d = sym (says b (still_keys b h.kept) None none) ∙ next in
+              let not : None ≡ Some d = sym (says b (still_keys b h.kept) (still_quiet b h.kept) None none) ∙ next in
               absurd cc
           | inr at ↦ sent_one b ds d at.0 h next at.1
         ]
@@ -255,7 +274,7 @@ module _ (cipher : CipherMeaning) (now : ℕ) (state : SrtpState) (later : (now 
       split = refl;
       leave = tt;
     }
-    sent (more between done d h next) = sent_more between done d (sent h) next
+    sent (more between done d h index next) = sent_more between done d (sent h) next
 
     -- at the end nothing waits
     pub ended : (b : SessionState) → Kept s b → next_datagram cipher now b ≡ None → AllByRecursion (λ (e : ℕ × TxRecord). e.1.queue ≡ []) b.tx
@@ -264,6 +283,17 @@ module _ (cipher : CipherMeaning) (now : ℕ) (state : SrtpState) (later : (now 
           | inl e ↦ none_waits b.medias b.tx (still_go b k) e
           | inr at ↦
               let f = found b.medias b.tx at.0 (still_go b k) at.1 in
-              let not : None ≡ Some (sealed_as cipher state (receipt_of f.stream b.transport now f.packet)) = sym none ∙ gives b (still_keys b k) at.0 at.1 f in
+              let not : None ≡ Some (sealed_as cipher state (receipt_of f.stream b.transport now f.packet)) = sym none ∙ gives b (still_keys b k) (still_quiet b k) at.0 at.1 f in
+              absurd cc
+        ]
+
+    -- and that poll changes nothing
+    pub left_there : (b : SessionState) → Kept s b → next_datagram cipher now b ≡ None → after_datagram now b ≡ b
+    left_there b k none =
+        elim (given (first_due b.medias b.tx)) [
+          | inl e ↦ unchanged b (still_keys b k) (still_quiet b k) e
+          | inr at ↦
+              let f = found b.medias b.tx at.0 (still_go b k) at.1 in
+              let not : None ≡ Some (sealed_as cipher state (receipt_of f.stream b.transport now f.packet)) = sym none ∙ gives b (still_keys b k) (still_quiet b k) at.0 at.1 f in
               absurd cc
         ]

@@ -170,6 +170,8 @@ module _ {seal : Sealing} {setup : Setup} {steps : List Step} {entries : List En
       → Knows setup side (record s { state = record s.state { tx = change_place (written (write_at time w)) s.state.tx at } }) after
   knows_wrote s at distinct there h = record {
     runs = h.runs;
+    feedback = h.feedback;
+    application = h.application;
     told = h.told;
     types = h.types;
     exts = h.exts;

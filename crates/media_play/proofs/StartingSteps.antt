@@ -57,13 +57,15 @@ has_last medias m mid is = any_last (λ (n : MediaRecord). pointwise ◌==◌ n.
 module _ (cipher : CipherMeaning) (setup : Setup) (side : Side) where
   -- with keys
 
-  keyed_begins : (config : SessionConfig) → config.exts ≡ extensions_of setup → ((pt : ℕ) → is_some (place_of pt config.types) ≡ has (types_of setup) pt)
+  keyed_begins : (config : SessionConfig) → config.srtcp_index ≡ 0 → config.exts ≡ extensions_of setup → ((pt : ℕ) → is_some (place_of pt config.types) ≡ has (types_of setup) pt)
       → Begun cipher setup side [] [] (record (fresh_session config) { state = keyed cipher setup.profile (material_of setup) (is_left side) (fresh_session config).state })
-  keyed_begins config exts types =
+  keyed_begins config index exts types =
       record {
-        seals = refl;
+        seals = ap (λ (i : ℕ). Some (new_state cipher setup.profile (material_of setup) (is_left side) i)) index;
         opens = ap (λ (l : Bool). Some (new_state cipher setup.profile (material_of setup) l 0)) (other_left side);
         runs = refl;
+        feedback = refl;
+        application = refl;
         told = refl;
         seen = refl;
         types = types;
@@ -75,10 +77,10 @@ module _ (cipher : CipherMeaning) (setup : Setup) (side : Side) where
         probes = record { roc = refl; numbers = refl };
       }
 
-  pub starts_keyed : (config : SessionConfig) (v new : SessionView MaskRegister) (material : List ℕ) (left : Bool) → config.exts ≡ extensions_of setup
+  pub starts_keyed : (config : SessionConfig) (v new : SessionView MaskRegister) (material : List ℕ) (left : Bool) → config.srtcp_index ≡ 0 → config.exts ≡ extensions_of setup
       → ((pt : ℕ) → is_some (place_of pt config.types) ≡ has (types_of setup) pt) → material ≡ material_of setup → left ≡ is_left side → StandsFor Remembers v (fresh_session config)
       → new ≡ record v { state = keyed cipher setup.profile material left v.state } → Starts cipher setup side [] [] new
-  starts_keyed config v new material left exts types key l h is =
+  starts_keyed config v new material left index exts types key l h is =
       let to = λ (s : SessionState). keyed cipher setup.profile (material_of setup) (is_left side) s in
       let state : new.state ≡ to (fresh_session config).state =
       ap (λ (w : SessionView MaskRegister). w.state) is
@@ -92,7 +94,7 @@ module _ (cipher : CipherMeaning) (setup : Setup) (side : Side) where
           rx = rw is h.rx;
           probes = rw is h.probes;
         };
-        begun = keyed_begins config exts types;
+        begun = keyed_begins config index exts types;
       }
 
   -- one media section more
@@ -105,6 +107,8 @@ module _ (cipher : CipherMeaning) (setup : Setup) (side : Side) where
           seals = b.seals;
           opens = b.opens;
           runs = b.runs;
+          feedback = b.feedback;
+          application = b.application;
           told = b.told;
           seen = b.seen;
           types = b.types;
@@ -141,6 +145,8 @@ module _ (cipher : CipherMeaning) (setup : Setup) (side : Side) where
           seals = b.seals;
           opens = b.opens;
           runs = b.runs;
+          feedback = b.feedback;
+          application = b.application;
           told = b.told;
           seen = b.seen;
           types = b.types;
@@ -181,6 +187,8 @@ module _ (cipher : CipherMeaning) (setup : Setup) (side : Side) where
           seals = b.seals;
           opens = b.opens;
           runs = b.runs;
+          feedback = b.feedback;
+          application = b.application;
           told = b.told;
           seen = b.seen;
           types = b.types;
@@ -282,6 +290,8 @@ module _ (cipher : CipherMeaning) (setup : Setup) (side : Side) where
         opens = b.opens;
         knows = record {
           runs = b.runs;
+          feedback = b.feedback;
+          application = b.application;
           told = b.told;
           types = b.types;
           exts = b.exts;

@@ -105,6 +105,8 @@ module _ (setup : Setup) (side : Side) (old new : List Entry)
     pub knows_still : (s : SessionRecord) → Knows setup side s old → Knows setup side s new
     knows_still s h = record {
       runs = h.runs;
+      feedback = h.feedback;
+      application = h.application;
       told = h.told;
       types = h.types;
       exts = h.exts;
@@ -228,6 +230,8 @@ pub knows_opened : (setup : Setup) (entries : List Entry) (came : GotEntry) (hea
     → Knows setup came.side (after_took header number s) (entries ++ opening came header number plain)
 knows_opened setup entries came header number plain s sound fresh h = record {
   runs = h.runs;
+  feedback = h.feedback;
+  application = h.application;
   told = refl;
   types = h.types;
   exts = h.exts;

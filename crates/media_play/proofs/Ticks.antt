@@ -1,6 +1,6 @@
 -- What a session sends at a tick are the seals of the writes that wait, and what the session knows then.
 use Rattle.std.proofs.Common.{◌≡◌, inl, inr, ℕ, ◌≢◌, Bool, true, false, List, [], ◌∷◌, ◌++◌, map, Option, Some, None, refl, sym, ap, ◌∙◌, subst}
-use Rattle.std.specs.Prelude.{◌==◌, if◌then◌else◌, is_some, is_none, ◌||◌}
+use Rattle.std.specs.Prelude.{◌==◌, if◌then◌else◌, is_some}
 use Rattle.std.specs.List.{flat_map, list_any, AllByRecursion, AllZip}
 use Rattle.std.specs.Map.{keys_of}
 use Rattle.std.proofs.lemmas.Bool.{eqb-true, eq-eqb, false_from_ne_true}
@@ -17,8 +17,8 @@ use Rattle.stream_core.specs.RxRecord.{RxView, RxRecord, StandsFor as RxStandsFo
 use Rattle.stream_core.specs.Tables.{each, place_of, Along}
 use Rattle.stream_core.specs.TxRecord.{TxRecord, receipt_of, after_timeout as stream_after_timeout}
 use Rattle.session_core.specs.declared.datagram.Datagram.{Datagram}
-use Rattle.session_core.specs.Calls.{after_event}
-use Rattle.session_core.specs.Sending.{after_timeout, Drains}
+use Rattle.session_core.specs.Calls.{lacks_keys, after_events}
+use Rattle.session_core.specs.Sending.{next_datagram, after_timeout, after_datagram, DrainsTo, Drains}
 use Rattle.session_core.specs.SessionRecord.{MediaRecord, SessionState, SessionView, SessionRecord}
 use Rattle.media_model.specs.declared.entry.Side.{Side}
 use Rattle.media_model.specs.declared.entry.Write.{Write as Writing}
@@ -39,7 +39,8 @@ use Rattle.media_play.specs.Rules.{has}
 use Rattle.media_play.specs.Sessions.{is_left, sealing_of, EndState, Ready}
 use Rattle.media_play.specs.SetupFacts.{IsSound}
 use Rattle.media_play.proofs.Appends.{queued-ticked, taken-ticked}
-use Rattle.media_play.proofs.Draining.{left, IsStamped, AllGo, Leaves, Kept, sent, ended, none_left}
+use Rattle.media_play.proofs.Arrivals.{keys_there}
+use Rattle.media_play.proofs.Draining.{left, IsStamped, AllGo, Leaves, Kept, sent, ended, left_there, none_left}
 use Rattle.media_play.proofs.Lists.{any-from_in, map-flat_map}
 use Rattle.media_play.proofs.Readings.{to_seal_in}
 use Rattle.media_play.proofs.Stands.{IsWriting, stands, writes_on-ticked}
@@ -117,9 +118,12 @@ module _ (cipher : CipherMeaning) (setup : Setup) (side : Side) (again : Written
 
 -- what the session knows then
 
-none_told : (b : Bool) (packet : Option RtpPacket) → packet ≡ None → (if b then packet else None) ≡ None
-none_told true packet e = e
-none_told false packet e = refl
+-- a session that told all
+abbrev told_all : SessionState → SessionState
+told_all s = record s { application = None; packet = None }
+
+all_told : (s : SessionState) → lacks_keys s ≡ false → after_events s ≡ told_all s
+all_told s keys = ap {A = Bool} {B = SessionState} (λ b. if b then s else told_all s) keys
 
 module _ (seal : Sealing) (setup : Setup) (side : Side) (entries : List Entry) (time : ℕ) (sealed : List Entry) (all : Seals seal setup side entries sealed) where
   abbrev ticked : List Entry
@@ -153,7 +157,7 @@ module _ (seal : Sealing) (setup : Setup) (side : Side) (entries : List Entry) (
     used_ticked rs us h.1,
   )
 
-  knows_ticked : (s : SessionRecord) (after : SessionState) → Kept (after_event (after_timeout time s.state)) after
+  knows_ticked : (s : SessionRecord) (after : SessionState) → Kept (told_all (after_timeout time s.state)) after
       → AllByRecursion (λ (e : ℕ × TxRecord). e.1.queue ≡ []) after.tx → Knows setup side s entries → Knows setup side (record s { state = after }) ticked
   knows_ticked s after k none h =
       let outgoing : keys_of after.tx ≡ streams_of side setup = k.keys ∙ same_keys time s.state.tx ∙ h.outgoing in
@@ -161,7 +165,9 @@ module _ (seal : Sealing) (setup : Setup) (side : Side) (entries : List Entry) (
       let medias : s.state.medias ≡ after.medias = sym (ap (λ (x : SessionState). x.medias) k.others) in
       record {
         runs = ap (λ (x : SessionState). x.stopped) k.others ∙ h.runs;
-        told = ap (λ (x : SessionState). x.packet) k.others ∙ none_told (is_none s.state.sealing || is_none s.state.opening) s.state.packet h.told;
+        feedback = ap (λ (x : SessionState). x.feedback) k.others ∙ h.feedback;
+        application = ap (λ (x : SessionState). x.application) k.others;
+        told = ap (λ (x : SessionState). x.packet) k.others;
         types = λ pt. ap (λ (x : SessionState). is_some (place_of pt x.types)) k.others ∙ h.types pt;
         exts = k.exts ∙ h.exts;
         outgoing = outgoing;
@@ -189,14 +195,15 @@ module _ (cipher : CipherMeaning) (again : WrittenIsReadAgain) (setup : Setup) (
     pub sealing : after.sealing ≡ s.state.sealing
     pub opening : after.opening ≡ s.state.opening
 
-  is_tick : {steps : List Step} {entries : List Entry} → IsSound setup → Played (sealing_of cipher setup) setup steps entries
+  is_last : {steps : List Step} {entries : List Entry} → IsSound setup → Played (sealing_of cipher setup) setup steps entries
       → (s : SessionRecord) → s.state.sealing ≡ Some keys → Knows setup side s entries
-      → (after : SessionState) (ds : List Datagram) → Drains cipher time (after_event (after_timeout time s.state)) after ds → IsTickOf s entries after ds
-  is_tick {steps} {entries} sound played s sealing h after ds drains =
-      let first : SessionState = after_event (after_timeout time s.state) in
+      → (after : SessionState) (ds : List Datagram) → DrainsTo cipher time (told_all (after_timeout time s.state)) after ds → next_datagram cipher time after ≡ None
+      → IsTickOf s entries after ds × (after_datagram time after ≡ after)
+  is_last {steps} {entries} sound played s sealing h after ds drains last =
+      let first : SessionState = told_all (after_timeout time s.state) in
       let go : AllGo first.medias first.tx = all_go side entries s.state.medias time s.state.tx h.sends in
-      let all_sent = sent cipher time keys not_zero first sealing go drains.sent in
-      let none : AllByRecursion (λ (e : ℕ × TxRecord). e.1.queue ≡ []) after.tx = ended cipher time keys not_zero first sealing go after all_sent.kept drains.ended in
+      let all_sent = sent cipher time keys not_zero first sealing h.feedback go drains in
+      let none : AllByRecursion (λ (e : ℕ × TxRecord). e.1.queue ≡ []) after.tx = ended cipher time keys not_zero first sealing h.feedback go after all_sent.kept last in
       let ws : List Writing = to_seal setup side entries in
       let is : map (stamped time) ws ≡ all_sent.packets =
       sym (waits side entries s.state.medias time s.state.tx h.sends
@@ -207,27 +214,37 @@ module _ (cipher : CipherMeaning) (again : WrittenIsReadAgain) (setup : Setup) (
       subst (λ (ps : List RtpPacket). AllZip (Leaves cipher keys (extensions_of setup) time) ps ds) (sym is)
       (subst (λ x. AllZip (Leaves cipher keys x time) all_sent.packets ds) h.exts all_sent.leave) in
       let seals : Seals (sealing_of cipher setup) setup side entries (seals_from side ds) =
-      all cipher setup side again time ws ds (λ w i. fits_header sound ((stands played).fits side w.ssrc w (to_seal_in setup side entries w i).0)) leave in
-      record {
-        seals = seals;
-        knows = knows_ticked (sealing_of cipher setup) setup side entries time (seals_from side ds) seals s after all_sent.kept none h;
-        sealing = ap (λ (x : SessionState). x.sealing) all_sent.kept.others;
-        opening = ap (λ (x : SessionState). x.opening) all_sent.kept.others;
-      }
+      all cipher setup side again time ws ds (λ w i. fits_header sound ((stands played).fits side w.ssrc w (to_seal_in setup side entries w i).0)) leave in (
+        record {
+          seals = seals;
+          knows = knows_ticked (sealing_of cipher setup) setup side entries time (seals_from side ds) seals s after all_sent.kept none h;
+          sealing = ap (λ (x : SessionState). x.sealing) all_sent.kept.others;
+          opening = ap (λ (x : SessionState). x.opening) all_sent.kept.others;
+        },
+        left_there cipher time keys not_zero first sealing h.feedback go after all_sent.kept last,
+      )
+
+  is_tick : {steps : List Step} {entries : List Entry} → IsSound setup → Played (sealing_of cipher setup) setup steps entries
+      → (s : SessionRecord) → s.state.sealing ≡ Some keys → Knows setup side s entries
+      → (after : SessionState) (ds : List Datagram) → Drains cipher time (told_all (after_timeout time s.state)) after ds → IsTickOf s entries after ds
+  is_tick {steps} {entries} sound played s sealing h after ds drains =
+      let t = is_last sound played s sealing h drains.last ds drains.sent drains.ended in
+      subst (λ (a : SessionState). IsTickOf s entries a ds) (sym (drains.leaves ∙ t.1)) t.0
 
   -- the end of a run after it
   pub ready_ticked : {steps : List Step} {entries : List Entry} (old : EndState) (middle new : SessionView MaskRegister) (ds : List Datagram)
       → IsSound setup → Played (sealing_of cipher setup) setup steps entries → Ready cipher setup side old entries
       → middle ≡ record old.session { state = after_timeout time old.session.state }
       → new ≡ record middle { state = new.state }
-      → Drains cipher time (after_event middle.state) new.state ds
+      → Drains cipher time (after_events middle.state) new.state ds
       → Seals (sealing_of cipher setup) setup side entries (seals_from side ds)
       × Ready cipher setup side (record { session = new; written = old.written }) (entries ++ Ticked side time ∷ seals_from side ds)
   ready_ticked {steps} {entries} old middle new ds sound played r ticks others drains =
       let s : SessionRecord = r.session in
       let starts : middle.state ≡ after_timeout time s.state = ap (λ (v : SessionView MaskRegister). v.state) ticks ∙ ap (after_timeout time) r.stands.state in
-      let t = is_tick sound played s r.seals r.knows new.state ds
-      (subst (λ (x : SessionState). Drains cipher time (after_event x) new.state ds) starts drains) in
+      let told : after_events middle.state ≡ told_all (after_timeout time s.state) =
+      ap after_events starts ∙ all_told (after_timeout time s.state) (keys_there s.state r.seals r.opens) in
+      let t = is_tick sound played s r.seals r.knows new.state ds (subst (λ (x : SessionState). Drains cipher time x new.state ds) told drains) in
       let rx : old.session.rx ≡ new.rx = sym (ap (λ (v : SessionView MaskRegister). v.rx) others ∙ ap (λ (v : SessionView MaskRegister). v.rx) ticks) in
       let probes : old.session.probes ≡ new.probes = sym (ap (λ (v : SessionView MaskRegister). v.probes) others ∙ ap (λ (v : SessionView MaskRegister). v.probes) ticks) in (
         t.seals,

@@ -37,11 +37,13 @@ pub record TakesAs (side : Side) (entries : List Entry) (seen : List (ℕ × ℕ
   pub roc : e.1.roc ≡ None
   pub numbers : taken_of (seen_of e.0 seen) e.1 ≡ taken side e.0 entries
 
--- the streams are those of the setup, and each stands for what the entries say of it; no packet
--- waits to be told
+-- the streams are those of the setup, and each stands for what the entries say of it; no feedback
+-- waits, and nothing waits to be told
 pub record Knows (setup : Setup) (side : Side) (s : SessionRecord)
     (entries : List Entry) : Type 0 where
   pub runs : s.state.stopped ≡ false
+  pub feedback : s.state.feedback ≡ []
+  pub application : s.state.application ≡ None
   pub told : s.state.packet ≡ None
   pub types : (pt : ℕ) → is_some (place_of pt s.state.types) ≡ has (types_of setup) pt
   pub exts : s.state.transport.exts ≡ extensions_of setup

@@ -7,7 +7,7 @@ use Rattle.stream_core.specs.declared.packet.RtpPacket.{RtpPacket}
 use Rattle.stream_core.specs.Write.{WriteRecord, packet_of}
 use Rattle.session_core.specs.declared.datagram.Datagram.{Datagram}
 use Rattle.session_core.specs.declared.datagram.Event.{Event}
-use Rattle.session_core.specs.declared.datagram.Event.TheVariants.{RtpPacket as Told}
+use Rattle.session_core.specs.declared.datagram.Event.TheVariants.{RtpPacket as Told, AppSpecificFeedback as Application}
 use Rattle.media_model.specs.declared.entry.Side.{Side}
 use Rattle.media_model.specs.declared.entry.Packet.{Packet}
 use Rattle.media_model.specs.declared.entry.Write.{Write as Writing}
@@ -70,3 +70,4 @@ packet_told p = record {
 abbrev pub told_packet : Option Event → Option Packet
 told_packet None = None
 told_packet (Some (Told p)) = Some (packet_told p)
+told_packet (Some (Application f)) = None

@@ -38,6 +38,8 @@ pub record Begun (cipher : CipherMeaning) (setup : Setup) (side : Side)
   pub opens : s.state.opening
       ≡ Some (new_state cipher setup.profile (material_of setup) (is_left (peer_of side)) 0)
   pub runs : s.state.stopped ≡ false
+  pub feedback : s.state.feedback ≡ []
+  pub application : s.state.application ≡ None
   pub told : s.state.packet ≡ None
   pub seen : s.state.seen ≡ []
   pub types : (pt : ℕ) → is_some (place_of pt s.state.types) ≡ has (types_of setup) pt

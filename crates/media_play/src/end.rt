@@ -130,7 +130,7 @@ fn packet_of(alloc: Global, event: &Option<Event>) -> Result<Option<Packet>, All
 {
     match event {
         Some(Event::RtpPacket(told)) => Ok(Some(packet(alloc, told)?)),
-        None => Ok(None),
+        Some(Event::AppSpecificFeedback(_)) | None => Ok(None),
     }
 }
 

@@ -22,7 +22,8 @@ use media_base::Bytes;
 use media_model::{Media, MediaKind, Setup, Side, Stream};
 use rtp_wire::{Frequency, Mid, MidRid};
 use session_core::{
-    Media as Section, MediaKind as SectionKind, PayloadTypes, Session, SessionConfig, TypeRow,
+    DATAGRAM_MTU, DATAGRAM_MTU_WARN, Media as Section, MediaKind as SectionKind, Mtu, PayloadTypes,
+    Session, SessionConfig, TypeRow,
 };
 use srtp_core::{KeyingMaterial, SrtpCipher};
 use std::alloc::{AllocError, Global};
@@ -81,6 +82,11 @@ fn with_keys<C: SrtpCipher>(
         SessionConfig {
             id: identification(side),
             beginning: setup.beginning,
+            mtu: Mtu {
+                target: DATAGRAM_MTU,
+                warn: DATAGRAM_MTU_WARN,
+            },
+            srtcp_index: 0,
             exts: setup.extension_map(),
             types: payload_types(alloc, setup)?,
         },

@@ -1,12 +1,15 @@
 // Rounds on sessions: one stream, the toy cipher under AEAD_AES_128_GCM, and the register with a mask.
-ghost use Rattle.std.specs.Prelude.{◌<◌, length};
+ghost use Rattle.std.specs.Prelude.{◌<◌, ◌≤◌, ◌^◌, length, IfOk};
 
 use crate::memory::answer;
 use mask_register::MaskRegister;
 use media_base::{Beginning, Bytes, Instant};
 use rtp_base::{Frequency, Mid, MidRid, Pt, SeqNo, Ssrc};
 use rtp_wire::ExtensionMap;
-use session_core::{Datagram, Media, MediaKind, PayloadTypes, Session, SessionConfig, TypeRow};
+use session_core::{
+    DATAGRAM_MTU, DATAGRAM_MTU_WARN, Datagram, Media, MediaKind, Mtu, PayloadTypes, Session,
+    SessionConfig, TypeRow,
+};
 use srtp_core::{KeyingMaterial, SrtpProfile, ToyCipher};
 use std::alloc::{AllocError, Global};
 use stream_core::{Payload, RtpWrite, Streams};
@@ -29,7 +32,12 @@ fn mid_rid() -> Option<MidRid> {
     Some(MidRid(Mid::from_slice(b"v")?, None))
 }
 
-fn config(alloc: Global) -> Result<SessionConfig, AllocError> {
+fn config(alloc: Global) -> Result<SessionConfig, AllocError>
+    ensures target { IfOk result (λ c. 900 ≤ c.mtu.target) }
+    ensures order { IfOk result (λ c. c.mtu.target ≤ c.mtu.warn) }
+    ensures warn { IfOk result (λ c. c.mtu.warn ≤ 1500) }
+    ensures index { IfOk result (λ c. c.srtcp_index ≤ 2 ^ 31) }
+{
     let mut types = PayloadTypes::new(alloc);
     types.add(TypeRow {
         pt: Pt::from(96),
@@ -40,6 +48,11 @@ fn config(alloc: Global) -> Result<SessionConfig, AllocError> {
         beginning: Beginning {
             unix_secs: 1_700_000_000,
         },
+        mtu: Mtu {
+            target: DATAGRAM_MTU,
+            warn: DATAGRAM_MTU_WARN,
+        },
+        srtcp_index: 0,
         exts: ExtensionMap::empty(),
         types,
     })

@@ -1,5 +1,5 @@
 -- What a session leaves where a poll or a drain wants memory.
-use Rattle.std.proofs.Common.{◌≡◌, ℕ, Bool, true, List, [], Option, Some, Ok, Err, sym, ap, subst, ◌∙◌}
+use Rattle.std.proofs.Common.{◌≡◌, ℕ, Bool, true, false, List, [], Option, Some, Ok, Err, refl, sym, ap, subst, ◌∙◌}
 use Rattle.std.specs.Prelude.{Result, OnErr}
 use Rattle.srtp_core.specs.Cipher.{CipherMeaning}
 use Rattle.srtp_core.specs.Contexts.{SrtpState}
@@ -9,9 +9,13 @@ use Rattle.stream_core.specs.TxRecord.{TxRecord, after_poll}
 use Rattle.session_core.specs.declared.datagram.Datagram.{Datagram}
 use Rattle.session_core.specs.declared.datagram.Event.{Event}
 use Rattle.session_core.specs.SessionRecord.{SessionState}
-use Rattle.session_core.specs.Sending.{next_place, transport_after, without_front, after_datagram, DrainsTo}
-use Rattle.session_core.specs.Calls.{after_event, told}
-use Rattle.session_core.specs.Draining.{stopped_from, IsPollLeft, kept, lost, PollFails, fails, IsCutOff, at_once, at_poll}
+use Rattle.srtp_core.specs.declared.counter.Counter.TheVariants.{Rtcp}
+use Rattle.session_core.specs.declared.error.RtcError.{RtcError}
+use Rattle.session_core.specs.Feedback.{exhausts}
+use Rattle.session_core.specs.declared.error.RtcError.TheVariants.{Memory, KeyExhausted}
+use Rattle.session_core.specs.Sending.{next_place, transport_after, without_front, DrainsTo}
+use Rattle.session_core.specs.Calls.{after_events, told}
+use Rattle.session_core.specs.Draining.{stopped_from, IsPacketLeft, packet_kept, packet_lost, IsPollLeft, PollFails, fails, IsDrainCut, at_poll, at_last_index, IsCutOff, at_once, later}
 use Rattle.session_core.proofs.Polls.{changed_at}
 
 -- what holds, holds at an error
@@ -20,17 +24,17 @@ on_err (Ok x) P p = tt
 on_err (Err e) P p = p
 
 -- nothing was taken out
-pub kept_state : (now : ℕ) (s r : SessionState) (tx : List (ℕ × TxRecord)) (t : Transport) → s ≡ r → tx ≡ s.tx → t ≡ s.transport → IsPollLeft now r (record s { tx = tx; transport = t })
+pub kept_state : (now : ℕ) (s r : SessionState) (tx : List (ℕ × TxRecord)) (t : Transport) → s ≡ r → tx ≡ s.tx → t ≡ s.transport → IsPacketLeft now r (record s { tx = tx; transport = t })
 kept_state now s r tx t same x y =
     let changed : record s { tx = tx; transport = t } ≡ s = λ j. record s { tx = x j; transport = y j } in
-    subst (IsPollLeft now r) (sym (changed ∙ same)) kept
+    subst (IsPacketLeft now r) (sym (changed ∙ same)) packet_kept
 
 -- the packet at the front of the stream at a place was taken out
 pub lost_state : (now : ℕ) (s r : SessionState) (i : ℕ) (sealing : Option SrtpState) (tx : List (ℕ × TxRecord)) (t : Transport) → s ≡ r → next_place now r ≡ Some i
-    → sealing ≡ s.sealing → tx ≡ change_place after_poll s.tx i → t ≡ transport_after s i → IsPollLeft now r (record s { sealing = sealing; tx = tx; transport = t })
+    → sealing ≡ s.sealing → tx ≡ change_place after_poll s.tx i → t ≡ transport_after s i → IsPacketLeft now r (record s { sealing = sealing; tx = tx; transport = t })
 lost_state now s r i sealing tx t same at e x y =
     let changed : record s { sealing = sealing; tx = tx; transport = t } ≡ without_front s i = λ j. record s { sealing = e j; tx = x j; transport = y j } in
-    subst (IsPollLeft now r) (sym (changed ∙ ap {A = SessionState} {B = SessionState} (λ a. without_front a i) same ∙ changed_at now r i at)) lost
+    subst (IsPacketLeft now r) (sym (changed ∙ ap {A = SessionState} {B = SessionState} (λ a. without_front a i) same ∙ changed_at now r i at)) packet_lost
 
 -- and then the session is stopped
 pub stopped_left : (now : ℕ) (s a b : SessionState) → a ≡ b → IsPollLeft now s b → PollFails now s (record a { stopped = true })
@@ -38,13 +42,32 @@ stopped_left now s a b same left = subst (PollFails now s) (sym (ap {A = Session
 
 module _ (cipher : CipherMeaning) (now : ℕ) (s : SessionState) where
   -- before anything was taken
-  pub cut_at_once : (a : SessionState) (events : List Event) (sent : List Datagram) → a ≡ s → events ≡ [] → sent ≡ [] → IsCutOff cipher now s (record a { stopped = true }) events sent
-  cut_at_once a events sent same e d =
-      subst (λ t. IsCutOff cipher now s t events sent) (sym (ap {A = SessionState} {B = SessionState} stopped_from same))
-      (subst (λ l. IsCutOff cipher now s (stopped_from s) l sent) (sym e) (subst (λ l. IsCutOff cipher now s (stopped_from s) [] l) (sym d) at_once))
+  pub cut_at_once : (a : SessionState) (error : RtcError) (events : List Event) (sent : List Datagram) → a ≡ s → error ≡ Memory → events ≡ [] → sent ≡ []
+      → IsCutOff cipher now s error (record a { stopped = true }) events sent
+  cut_at_once a error events sent same is e d =
+      subst (λ t. IsCutOff cipher now s error t events sent) (sym (ap {A = SessionState} {B = SessionState} stopped_from same))
+      (subst (λ x. IsCutOff cipher now s x (stopped_from s) events sent) (sym is)
+      (subst (λ l. IsCutOff cipher now s Memory (stopped_from s) l sent) (sym e) (subst (λ l. IsCutOff cipher now s Memory (stopped_from s) [] l) (sym d) at_once)))
 
   -- at a poll
-  pub cut_at_poll : (start after : SessionState) (events : List Event) (sent : List Datagram) → events ≡ told s → start ≡ after_event s
-      → (between : SessionState) × DrainsTo cipher now start between sent × PollFails now between after → IsCutOff cipher now s after events sent
-  cut_at_poll start after events sent e same d =
-      subst (λ l. IsCutOff cipher now s after l sent) (sym e) (at_poll d.0 after sent (subst (λ t. DrainsTo cipher now t d.0 sent) same d.1) d.2)
+  pub cut_later : (start after : SessionState) (error is : RtcError) (events : List Event) (sent : List Datagram) → events ≡ told s → start ≡ after_events s → is ≡ error
+      → IsDrainCut cipher now start error after sent → IsCutOff cipher now s is after events sent
+  cut_later start after error is events sent e same named d =
+      subst (λ x. IsCutOff cipher now s x after events sent) (sym named)
+      (subst (λ l. IsCutOff cipher now s error after l sent) (sym e) (later error after sent (subst (λ t. IsDrainCut cipher now t error after sent) same d)))
+
+module _ (cipher : CipherMeaning) (now : ℕ) (s between after : SessionState) (error : RtcError) (sent : List Datagram) (drains : DrainsTo cipher now s between sent) where
+  cut_by : (b : Bool) → exhausts now between ≡ b → (b ≡ true → (error ≡ KeyExhausted Rtcp) × (after ≡ stopped_from between))
+      → (b ≡ false → (error ≡ Memory) × PollFails now between after) → IsDrainCut cipher now s error after sent
+  cut_by true e key memory =
+      let k = key refl in
+      subst (λ x. IsDrainCut cipher now s x after sent) (sym k.0)
+      (subst (λ t. IsDrainCut cipher now s (KeyExhausted Rtcp) t sent) (sym k.1) (at_last_index between sent drains e))
+  cut_by false e key memory =
+      let m = memory refl in
+      subst (λ x. IsDrainCut cipher now s x after sent) (sym m.0) (at_poll between after sent drains m.1)
+
+  -- a poll failed, with an error that has its cause
+  pub drain_cut : (exhausts now between ≡ true → (error ≡ KeyExhausted Rtcp) × (after ≡ stopped_from between))
+      → (exhausts now between ≡ false → (error ≡ Memory) × PollFails now between after) → IsDrainCut cipher now s error after sent
+  drain_cut key memory = cut_by (exhausts now between) refl key memory

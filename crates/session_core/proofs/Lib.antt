@@ -1,5 +1,9 @@
+pub mod Compounds
 pub mod Cuts
 pub mod Dues
+pub mod Failing
+pub mod Fitting
+pub mod Heard
 pub mod Polls
 pub mod Staying
 pub mod Tables

@@ -11,7 +11,7 @@ use Rattle.stream_core.specs.Queue.{next_of}
 use Rattle.stream_core.specs.TxRecord.{TxRecord, polled, receipt_of}
 use Rattle.session_core.specs.Receiving.{saw}
 use Rattle.session_core.specs.SessionRecord.{MediaRecord, SessionState, SessionView}
-use Rattle.session_core.specs.Sending.{has_mid, is_due, first_due, next_place, sealed_by, receipt_at, next_datagram, without_front, after_datagram}
+use Rattle.session_core.specs.Sending.{has_mid, is_due, first_due, next_place, sealed_by, receipt_at, next_rtp, without_front, after_rtp}
 
 -- the state alone changed, once and then again
 pub others_more : {W : Type 0} (first between after : SessionView W) (x : SessionState) → between ≡ record first { state = between.state } → after ≡ record between { state = x }
@@ -87,5 +87,5 @@ module _ (cipher : CipherMeaning) (now : ℕ) (s : SessionState) where
       absurd (sealed_some cipher s.sealing (receipt_at now s (Some i)) (or_false_right (now == 0) (is_none s.sealing) k.0) receipt none)
 
   -- a poll that gives nothing changes nothing
-  pub quiet : next_datagram cipher now s ≡ None → after_datagram now s ≡ s
+  pub quiet : next_rtp cipher now s ≡ None → after_rtp now s ≡ s
   quiet none = no_place (next_place now s) refl none

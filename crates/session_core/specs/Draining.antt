@@ -1,27 +1,43 @@
--- What a session gave before memory ran out, and what it leaves then.
-use Rattle.std.specs.Prelude.{ℕ, true, List, []}
+-- What a session gave before an error ended a drain, and what it leaves then.
+use Rattle.std.specs.Prelude.{◌≡◌, ℕ, true, List, []}
 use Rattle.srtp_core.specs.Cipher.{CipherMeaning}
+use Rattle.srtp_core.specs.declared.counter.Counter.TheVariants.{Rtcp}
 use Rattle.session_core.specs.declared.datagram.Datagram.{Datagram}
 use Rattle.session_core.specs.declared.datagram.Event.{Event}
-use Rattle.session_core.specs.Calls.{after_event, told}
+use Rattle.session_core.specs.declared.error.RtcError.{RtcError}
+use Rattle.session_core.specs.declared.error.RtcError.TheVariants.{Memory, KeyExhausted}
+use Rattle.session_core.specs.Calls.{after_events, told}
+use Rattle.session_core.specs.Feedback.{due_of, exhausts}
 use Rattle.session_core.specs.SessionRecord.{SessionState}
-use Rattle.session_core.specs.Sending.{after_datagram, DrainsTo}
+use Rattle.session_core.specs.Sending.{after_rtp, lost_by, DrainsTo}
 
 abbrev pub stopped_from : SessionState → SessionState
 stopped_from s = record s { stopped = true }
 
--- a poll that wants memory leaves a session as it was, or without the packet that was to be sealed
+-- want of memory leaves a session as it was, or without the packet that was to be sealed
+pub data IsPacketLeft (now : ℕ) (s : SessionState) : SessionState → Type 0 where
+  packet_kept : IsPacketLeft now s s
+  packet_lost : IsPacketLeft now s (after_rtp now s)
+
+-- a poll that wants memory leaves a session as it was, or without the packet or the compound that was to be sealed
 pub data IsPollLeft (now : ℕ) (s : SessionState) : SessionState → Type 0 where
   kept : IsPollLeft now s s
-  lost : IsPollLeft now s (after_datagram now s)
+  lost : IsPollLeft now s (lost_by now s (due_of now s))
 
 -- and the session is stopped
 pub data PollFails (now : ℕ) (s : SessionState) : SessionState → Type 0 where
   fails : (left : SessionState) → IsPollLeft now s left → PollFails now s (stopped_from left)
 
--- memory ran out before anything was taken; or at a poll, after all that was told and these datagrams were taken: what the
--- session leaves says which of them were
-pub data IsCutOff (cipher : CipherMeaning) (now : ℕ) (s : SessionState) : SessionState → List Event → List Datagram → Type 0 where
-  at_once : IsCutOff cipher now s (stopped_from s) [] []
-  at_poll : (between after : SessionState) (sent : List Datagram) → DrainsTo cipher now (after_event s) between sent
-      → PollFails now between after → IsCutOff cipher now s after (told s) sent
+-- an error ended polls, and they leave a session: a poll wanted memory after these datagrams were taken, or the next
+-- datagram was one that no key can seal
+pub data IsDrainCut (cipher : CipherMeaning) (now : ℕ) (s : SessionState) : RtcError → SessionState → List Datagram → Type 0 where
+  at_poll : (between after : SessionState) (sent : List Datagram) → DrainsTo cipher now s between sent
+      → PollFails now between after → IsDrainCut cipher now s Memory after sent
+  at_last_index : (between : SessionState) (sent : List Datagram) → DrainsTo cipher now s between sent
+      → exhausts now between ≡ true → IsDrainCut cipher now s (KeyExhausted Rtcp) (stopped_from between) sent
+
+-- memory ran out before anything was taken, or all that was told and some datagrams were taken
+pub data IsCutOff (cipher : CipherMeaning) (now : ℕ) (s : SessionState) : RtcError → SessionState → List Event → List Datagram → Type 0 where
+  at_once : IsCutOff cipher now s Memory (stopped_from s) [] []
+  later : (error : RtcError) (after : SessionState) (sent : List Datagram) → IsDrainCut cipher now (after_events s) error after sent
+      → IsCutOff cipher now s error after (told s) sent

@@ -8,6 +8,8 @@ use Rattle.stream_core.specs.declared.transport.Transport.{Transport}
 use Rattle.stream_core.specs.RxRecord.{RxView, RxRecord, StandsFor as RxStandsFor}
 use Rattle.stream_core.specs.Tables.{Along}
 use Rattle.stream_core.specs.TxRecord.{TxRecord}
+use Rattle.rtcp_wire.specs.declared.packet.Rtcp.{Rtcp}
+use Rattle.rtcp_wire.specs.declared.feedback.AppSpecificFeedback.{AppSpecificFeedback}
 use Rattle.session_core.specs.declared.config.TypeRow.{TypeRow}
 
 -- a media section: its mid, its kind, and the canonical name of its sources
@@ -16,20 +18,26 @@ pub record MediaRecord : Type 0 where
   pub kind : MediaKind
   pub cname : List ℕ
 
--- all of a session but what its incoming streams were told: its identification; mid and place of the data channel; the
--- payload types, each under its number; the media sections; the contexts that seal and open, once there are keys; the
--- greatest number that opened under each SSRC; the outgoing streams, each under its SSRC, and what they share; the packet
--- that came and waits to be told; and whether want of memory stopped it
+-- all of a session but what its incoming streams were told: its identification; the target for the length of its
+-- datagrams; mid and place of the data channel; the payload types, each under its number; the media sections; the contexts
+-- that seal and open, once there are keys; the index of the first SRTCP datagram under the keys that are set next; the
+-- greatest number that opened under each SSRC; the outgoing streams, each under its SSRC, and what they share; the feedback
+-- that waits to be sent; the feedback of an application and the packet that came and wait to be told; and whether an error
+-- stopped it
 pub record SessionState : Type 0 where
   pub id : ℕ
+  pub target : ℕ
   pub app : Option (List ℕ × ℕ)
   pub types : List (ℕ × TypeRow)
   pub medias : List MediaRecord
   pub sealing : Option SrtpState
   pub opening : Option SrtpState
+  pub first_index : ℕ
   pub seen : List (ℕ × ℕ)
   pub tx : List (ℕ × TxRecord)
   pub transport : Transport
+  pub feedback : List Rtcp
+  pub application : Option AppSpecificFeedback
   pub packet : Option RtpPacket
   pub stopped : Bool
 

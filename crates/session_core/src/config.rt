@@ -61,6 +61,20 @@ impl PayloadTypes {
     }
 }
 
+/// The usual target for the length of datagrams, in bytes.
+pub const DATAGRAM_MTU: usize = 1150;
+/// The usual length above which a datagram may not reach its peer, in bytes.
+pub const DATAGRAM_MTU_WARN: usize = 1280;
+
+/// Lengths of datagrams, in bytes: 900 <= target <= warn <= 1,500.
+#[derive(Clone, Copy, Debug, PartialEq, Eq)]
+pub struct Mtu {
+    /// The most that a datagram of feedback has once it is sealed.
+    pub target: usize,
+    /// The most that an application should write; nothing is refused for it.
+    pub warn: usize,
+}
+
 /// What a session is made with.
 #[derive(Drop)]
 pub struct SessionConfig {
@@ -68,6 +82,10 @@ pub struct SessionConfig {
     pub id: u64,
     /// When its moment 0 was.
     pub beginning: Beginning,
+    /// The lengths of its datagrams.
+    pub mtu: Mtu,
+    /// The index of its first SRTCP datagram, at most 2^31; at 2^31 there is none.
+    pub srtcp_index: u64,
     /// The ids of the header extensions (RFC 8285).
     pub exts: ExtensionMap,
     /// The payload types that both ends know.

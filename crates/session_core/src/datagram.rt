@@ -1,5 +1,6 @@
 use crate::error::RtcError;
 use media_base::{Bytes, Instant};
+use rtcp_wire::AppSpecificFeedback;
 use rtp_base::{Kind, SeqNo, Ssrc};
 use stream_core::RtpPacket;
 
@@ -8,9 +9,9 @@ use stream_core::RtpPacket;
 pub struct Opened {
     /// Whether it is RTP or RTCP.
     pub kind: Kind,
-    /// The SSRC of its header.
+    /// The SSRC of its header; for RTCP that of the first item's sender.
     pub ssrc: Ssrc,
-    /// For RTP the extended sequence number.
+    /// For RTP the extended sequence number, for RTCP the index that it states.
     pub index: SeqNo,
     /// The datagram as it was before it was sealed.
     pub plain: Bytes,
@@ -21,9 +22,9 @@ pub struct Opened {
 pub struct Datagram {
     /// Whether it is RTP or RTCP.
     pub kind: Kind,
-    /// The SSRC of its header.
+    /// The SSRC of its header; for RTCP that of the first item's sender.
     pub ssrc: Ssrc,
-    /// For RTP the extended sequence number.
+    /// For RTP the extended sequence number, for RTCP its index.
     pub index: SeqNo,
     /// The datagram before it was sealed.
     pub plain: Bytes,
@@ -34,6 +35,8 @@ pub struct Datagram {
 /// What a session tells.
 #[derive(Debug, PartialEq, Eq, Drop)]
 pub enum Event {
+    /// Feedback of the peer's application came (RFC 4585 section 6.4).
+    AppSpecificFeedback(AppSpecificFeedback),
     /// A packet came on a stream.
     RtpPacket(RtpPacket),
 }

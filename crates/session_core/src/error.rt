@@ -1,6 +1,7 @@
 ghost use Rattle.std.specs.Prelude.{◌≡◌};
 ghost use Rattle.session_core.specs.declared.error.RtcError.TheVariants.{Memory};
 
+use srtp_core::Counter;
 use std::alloc::AllocError;
 
 /// Why a call of a session gives nothing.
@@ -8,8 +9,10 @@ use std::alloc::AllocError;
 pub enum RtcError {
     /// There is no memory left. The session is stopped then.
     Memory,
-    /// An earlier call met want of memory.
+    /// An earlier call answered `Memory` or `KeyExhausted`.
     Stopped,
+    /// A datagram was due behind the last number that its key can seal. The session is stopped then.
+    KeyExhausted(Counter),
     /// The keying material has another length than the profile's.
     KeyLength,
 }

@@ -5,13 +5,15 @@
 mod config;
 mod datagram;
 mod error;
+mod feedback;
+mod hearing;
 mod media;
 mod receiving;
 mod seen;
 mod sending;
 mod session;
 
-pub use config::{PayloadTypes, SessionConfig, TypeRow};
+pub use config::{DATAGRAM_MTU, DATAGRAM_MTU_WARN, Mtu, PayloadTypes, SessionConfig, TypeRow};
 pub use datagram::{Datagram, DrainFault, Drained, Event, Opened};
 pub use error::{AppError, RtcError};
 pub use media::{Media, MediaKind};

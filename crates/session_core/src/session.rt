@@ -1,47 +1,62 @@
-ghost use Rattle.std.specs.Prelude.{◌≡◌, ◌≢◌, ◌↔◌, ◌||◌, ◌<◌, ◌++◌, ◌∷◌, ℕ, [], None, Some, true, false, not, length, is_some, is_err, vec_capacity, IsTrue, IsErrAnd, IfOk, IfErr, IfSome, IfNone, OnOk, OnErr, IsErrOf};
-ghost use Rattle.std.specs.Option.{option_copied};
+ghost use Rattle.std.specs.Prelude.{◌≡◌, ◌≢◌, ◌≤◌, ◌^◌, ◌%◌, ◌↔◌, ◌||◌, ◌<◌, ◌+◌, ◌++◌, ◌∷◌, ℕ, [], None, Some, true, false, not, length, is_some, is_err, vec_capacity, IsTrue, IsErrAnd, IfOk, IfErr, IfSome, IfNone, OnOk, OnErr, IsErrOf};
+ghost use Rattle.std.specs.Option.{option_copied, option_to_list};
 ghost use Rattle.srtp_core.specs.Contexts.{new_state};
 ghost use Rattle.srtp_core.specs.Keys.{material_len};
-ghost use Rattle.session_core.specs.Sending.{next_datagram, after_datagram, after_timeout, all_waiting, DrainsTo, Drains};
-ghost use Rattle.session_core.specs.Draining.{IsPollLeft, PollFails, IsCutOff};
+ghost use Rattle.rtcp_wire.specs.declared.packet.Rtcp.TheVariants as item;
+ghost use Rattle.srtp_core.specs.declared.counter.Counter.TheVariants as counter;
+ghost use Rattle.session_core.specs.Feedback.{exhausts};
+ghost use Rattle.session_core.specs.Hearing.{ReceivesRtcp};
+ghost use Rattle.session_core.specs.Sending.{next_rtp, after_rtp, next_datagram, after_datagram, after_timeout, all_waiting, waiting_in, DrainsTo, Drains};
+ghost use Rattle.session_core.specs.Draining.{stopped_from, IsPacketLeft, IsPollLeft, PollFails, IsDrainCut, IsCutOff};
 ghost use Rattle.session_core.specs.SessionRecord.{SessionRecord, SessionState, StandsFor};
 ghost use Rattle.rtp_wire.specs.Header.{header_of};
 ghost use Rattle.session_core.specs.Receiving.{Receives, is_claimed};
-ghost use Rattle.session_core.specs.Calls.{fresh_session, probe_mid, after_event, next_event, told, wake_of, media_of, has_media, has_other_mid, has_other_place};
+ghost use Rattle.session_core.specs.Calls.{fresh_session, probe_mid, after_event, next_event, after_events, told, lacks_keys, with_feedback, wake_of, media_of, has_media, has_other_mid, has_other_place};
 
 use crate::config::{PayloadTypes, SessionConfig};
 use crate::datagram::{Datagram, DrainFault, Drained, Event, Opened};
 use crate::error::{AppError, RtcError};
+use crate::feedback::{poll_compound, sender};
+use crate::hearing::{RtcpOpening, feedback_in, hear, open_rtcp};
 use crate::media::Media;
 use crate::receiving::{Opening, accepts, is_claimed, open, packet_after, take};
 use crate::seen::Seen;
 use crate::sending::{first_due, has_mid, is_silent, poll_place, seal};
-use media_base::{Instant, already_happened};
+use media_base::{Bytes, Instant, already_happened};
 use repair_core::GapWindow;
-use rtp_base::{Kind, Mid, MidRid, SessionId, Ssrc};
+use rtcp_wire::{AppSpecificFeedback, Rtcp, items_fit_by_lengths};
+use rtp_base::{Kind, Mid, MidRid, SeqNo, SessionId, Ssrc};
 use rtp_wire::RtpHeader;
 use srtp_core::{KeyingMaterial, SrtpCipher, SrtpContext, SrtpError, SrtpProfile};
 use std::alloc::{AllocError, Global};
+use std::collections::VecDeque;
 use std::marker::Model;
 use stream_core::{RtpPacket, StreamRx, Streams, Transport};
 
 /// What one end of a connection sends and receives: contexts that seal and open, streams, and media
 /// sections. It does no input or output: it is handed the datagrams that come and the moments of ticks,
 /// and is asked for what leaves. Without keys nothing opens or leaves, and at moment 0 nothing leaves.
-/// After a call answered `RtcError::Memory` each call that can answer an `RtcError` answers `Stopped`.
+/// After a call answered `RtcError::Memory` or `KeyExhausted` each call that can answer an `RtcError`
+/// answers `Stopped`.
 #[derive(Drop)]
 pub struct Session<C: SrtpCipher, W: GapWindow> {
     alloc: Global,
     id: SessionId,
+    // The most bytes of a sealed compound.
+    target: usize,
     app: Option<(Mid, usize)>,
     types: PayloadTypes,
     medias: Vec<Media>,
     sealing: Option<SrtpContext<C>>,
     opening: Option<SrtpContext<C>>,
+    // The index of the first SRTCP datagram under the keys that are set next.
+    first_index: u64,
     streams: Streams<W>,
     probes: StreamRx<W>,
     seen: Seen,
     transport: Transport,
+    feedback: VecDeque<Rtcp>,
+    application: Option<AppSpecificFeedback>,
     packet: Option<RtpPacket>,
     stopped: bool,
     // Where polling stands: no stream before this place is due.
@@ -50,21 +65,25 @@ pub struct Session<C: SrtpCipher, W: GapWindow> {
 
 impl<C: SrtpCipher, W: GapWindow> Model for Session<C, W> {
     ghost use Rattle.session_core.specs.SessionRecord.{SessionView};
-    ghost use Rattle.session_core.specs.Sending.{PollsFrom};
+    ghost use Rattle.session_core.specs.Sending.{KeepsOrder};
 
     ghost Value = { SessionView W };
 
     ghost view = { λ s. record {
       state = record {
         id = s.id;
+        target = s.target;
         app = s.app;
         types = s.types;
         medias = s.medias.items;
         sealing = s.sealing;
         opening = s.opening;
+        first_index = s.first_index;
         seen = s.seen;
         tx = s.streams.tx;
         transport = s.transport;
+        feedback = s.feedback.items;
+        application = s.application;
         packet = s.packet;
         stopped = s.stopped;
       };
@@ -72,7 +91,7 @@ impl<C: SrtpCipher, W: GapWindow> Model for Session<C, W> {
       probes = s.probes;
     } };
 
-    ghost invariant = { λ s. PollsFrom s.next_stream s.medias.items s.streams.tx };
+    ghost invariant = { λ s. KeepsOrder s.next_stream s.target s.first_index s.medias.items s.streams.tx s.feedback.items };
 }
 
 /// The media section that the stream of probes is told to have.
@@ -99,13 +118,15 @@ fn contexts<C: SrtpCipher>(
     profile: SrtpProfile,
     material: &KeyingMaterial,
     left: bool,
+    first_index: u64,
 ) -> Result<BothWays<C>, SrtpError>
-    ensures sealing { IfOk result (λ both. both.sealing ≡ new_state C.meaning profile material.now left 0) }
+    requires { first_index ≤ 2 ^ 31 }
+    ensures sealing { IfOk result (λ both. both.sealing ≡ new_state C.meaning profile material.now left first_index) }
     ensures opening { IfOk result (λ both. both.opening ≡ new_state C.meaning profile material.now (not left) 0) }
     ensures key_length { length material.now ≢ material_len profile → IsErrOf result SrtpError.KeyLength }
     ensures memory { length material.now ≡ material_len profile → IfErr result (λ e. e ≡ SrtpError.Memory) }
 {
-    let sealing = SrtpContext::new(alloc, cipher, profile, material, left)?;
+    let sealing = SrtpContext::new_at(alloc, cipher, profile, material, left, first_index)?;
     let opening = SrtpContext::new(alloc, cipher, profile, material, !left)?;
     Ok(BothWays { sealing, opening })
 }
@@ -115,16 +136,22 @@ impl<C: SrtpCipher, W: GapWindow> Session<C, W> {
 
     /// A session without keys, streams and media sections. Takes no memory.
     pub fn new(alloc: Global, config: SessionConfig) -> Self
+        requires target { 900 ≤ config.mtu.target }
+        requires order { config.mtu.target ≤ config.mtu.warn }
+        requires warn { config.mtu.warn ≤ 1500 }
+        requires index { config.srtcp_index ≤ 2 ^ 31 }
         ensures { StandsFor W.remembers result (fresh_session config) }
     {
         Session {
             alloc,
             id: SessionId::new(config.id),
+            target: config.mtu.target,
             app: None,
             types: config.types,
             medias: Vec::new(alloc),
             sealing: None,
             opening: None,
+            first_index: config.srtcp_index,
             streams: Streams::new(alloc),
             probes: StreamRx::new(alloc, Ssrc::from(0), None, probes_mid()),
             seen: Seen::new(alloc),
@@ -133,6 +160,8 @@ impl<C: SrtpCipher, W: GapWindow> Session<C, W> {
                 beginning: config.beginning,
                 twcc: 0,
             },
+            feedback: VecDeque::new(alloc),
+            application: None,
             packet: None,
             stopped: false,
             next_stream: 0,
@@ -146,7 +175,7 @@ impl<C: SrtpCipher, W: GapWindow> Session<C, W> {
     /// are no keys, or it does not end in the padding that its header tells of.
     ///
     /// # Errors
-    /// `Stopped` where an earlier call met want of memory; `Memory`.
+    /// `Stopped` where an earlier call answered `Memory` or `KeyExhausted`; `Memory`.
     pub fn handle_rtp_receive(
         &mut self,
         now: Instant,
@@ -237,28 +266,32 @@ impl<C: SrtpCipher, W: GapWindow> Session<C, W> {
 impl<C: SrtpCipher, W: GapWindow> Session<C, W> {
     ghost use Rattle.session_core.specs.declared.error.RtcError.TheVariants.{Stopped, Memory};
 
-    /// The datagram that leaves next: of the first stream, in order of declaration, that has a packet
-    /// written before the last tick and whose mid is a media section's. None where there is no such
-    /// stream, at moment 0 and without keys.
+    /// Takes in an RTCP datagram that came, and tells what it opened to: its reception blocks acknowledge
+    /// streams without repairs, its last feedback of an application is told by `poll_event`. None where it
+    /// does not open, and then nothing changes: where it is shorter than a packet of 8 bytes and what seals
+    /// it, where its tag does not hold, and without keys. One that comes again opens again.
+    /// The time grows with its items.
     ///
     /// # Errors
-    /// `Stopped` where an earlier call met want of memory; `Memory`.
-    pub fn poll_datagram(&mut self, now: Instant) -> Result<Option<Datagram>, RtcError>
+    /// `Stopped` where an earlier call answered `Memory` or `KeyExhausted`; `Memory`.
+    pub fn handle_rtcp_receive(
+        &mut self,
+        now: Instant,
+        bytes: &[u8],
+    ) -> Result<Option<Opened>, RtcError>
         ensures stopped { IsErrOf result Stopped ↔ IsTrue self.old.state.stopped }
-        ensures polled { IfOk result (λ d. d ≡ next_datagram C.meaning now self.old.state) }
-        ensures after { OnOk result (self.new ≡ record self.old { state = after_datagram now self.old.state }) }
+        ensures received { IfOk result (ReceivesRtcp C.meaning self.old.state bytes.now self.new.state) }
+        ensures others { self.new ≡ record self.old { state = self.new.state } }
         ensures latch { self.new.state.stopped ≡ self.old.state.stopped || is_err result }
         ensures unchanged { IsErrOf result Stopped → self.new ≡ self.old }
-        ensures fewer { IfOk result (λ d. IfSome d (λ s. all_waiting self.new.state.tx < all_waiting self.old.state.tx)) }
         ensures memory { self.old.state.stopped ≡ false → IfErr result (λ e. e ≡ Memory) }
-        ensures failed { IsErrOf result Memory → PollFails now self.old.state self.new.state }
-        ensures others { self.new ≡ record self.old { state = self.new.state } }
+        ensures failed { IsErrOf result Memory → self.new.state ≡ stopped_from self.old.state }
     {
         if self.stopped {
             return Err(RtcError::Stopped);
         }
-        match self.poll_rtp(now) {
-            Ok(datagram) => Ok(datagram),
+        match self.receive_rtcp(bytes) {
+            Ok(opened) => Ok(opened),
             Err(_) => {
                 self.stopped = true;
                 Err(RtcError::Memory)
@@ -266,12 +299,148 @@ impl<C: SrtpCipher, W: GapWindow> Session<C, W> {
         }
     }
 
-    fn poll_rtp(&mut self, now: Instant) -> Result<Option<Datagram>, AllocError>
+    fn receive_rtcp(&mut self, bytes: &[u8]) -> Result<Option<Opened>, AllocError>
+        ensures received { IfOk result (ReceivesRtcp C.meaning self.old.state bytes.now self.new.state) }
+        ensures others { self.new ≡ record self.old { state = self.new.state } }
+        ensures runs { self.new.state.stopped ≡ self.old.state.stopped }
+        ensures err { OnErr result (self.new ≡ self.old) }
+    {
+        let Some(RtcpOpening { plain, index }) = open_rtcp(&mut self.opening, bytes)? else {
+            return Ok(None);
+        };
+        let feedback = feedback_in(self.alloc, plain.as_slice())?;
+        hear(feedback, &mut self.streams, &mut self.application);
+        self.next_stream = 0;
+        Ok(Some(Opened {
+            kind: Kind::Rtcp,
+            ssrc: sender(plain.as_slice()),
+            index: SeqNo::from(u64::from(index)),
+            plain: Bytes::from_vec(plain),
+        }))
+    }
+
+    /// Queues feedback of an application (RFC 4585 section 6.4): whole words of 4 bytes, at most 800 bytes.
+    /// It leaves at the next poll behind what waits.
+    ///
+    /// # Errors
+    /// `Stopped` where an earlier call answered `Memory` or `KeyExhausted`; `Memory`.
+    pub fn send_app_specific_feedback(
+        &mut self,
+        sender_ssrc: Ssrc,
+        media_ssrc: Ssrc,
+        payload: Bytes,
+    ) -> Result<(), RtcError>
+        requires whole { length payload % 4 ≡ 0 }
+        requires few { length payload ≤ 800 }
+        ensures stopped { IsErrOf result Stopped ↔ IsTrue self.old.state.stopped }
+        ensures ok { OnOk result (self.new ≡ record self.old {
+          state = with_feedback (item.AppSpecificFeedback (record {
+            sender_ssrc = sender_ssrc;
+            media_ssrc = media_ssrc;
+            payload = payload;
+          })) self.old.state;
+        }) }
+        ensures unchanged { IsErrOf result Stopped → self.new ≡ self.old }
+        ensures memory { self.old.state.stopped ≡ false → IfErr result (λ e. e ≡ Memory) }
+        ensures failed { IsErrOf result Memory → self.new ≡ record self.old { state = stopped_from self.old.state } }
+    {
+        if self.stopped {
+            return Err(RtcError::Stopped);
+        }
+        items_fit_by_lengths();
+        let feedback = AppSpecificFeedback {
+            sender_ssrc,
+            media_ssrc,
+            payload,
+        };
+        match self.feedback.push_back(Rtcp::AppSpecificFeedback(feedback)) {
+            Ok(()) => Ok(()),
+            Err(_) => {
+                self.stopped = true;
+                Err(RtcError::Memory)
+            }
+        }
+    }
+
+    /// Drops the feedback that waits to be sent.
+    pub fn clear_feedback(&mut self)
+        ensures { self.new ≡ record self.old { state = record self.old.state { feedback = [] } } }
+    {
+        self.feedback.clear();
+    }
+}
+
+impl<C: SrtpCipher, W: GapWindow> Session<C, W> {
+    ghost use Rattle.session_core.specs.declared.error.RtcError.TheVariants.{Stopped, Memory, KeyExhausted};
+
+    /// The datagram that leaves next: where feedback waits, the compound of the first items that fit the
+    /// target; else of the first stream, in order of declaration, that has a packet written before the last
+    /// tick and whose mid is a media section's. None where there is no such stream, at moment 0 and without
+    /// keys; a compound that is due without keys is lost.
+    ///
+    /// # Errors
+    /// `Stopped` where an earlier call answered `Memory` or `KeyExhausted`; `KeyExhausted` exactly where
+    /// feedback is due behind the last index of SRTCP datagrams; `Memory`.
+    pub fn poll_datagram(&mut self, now: Instant) -> Result<Option<Datagram>, RtcError>
+        ensures stopped { IsErrOf result Stopped ↔ IsTrue self.old.state.stopped }
+        ensures exhausted { IsErrOf result (KeyExhausted counter.Rtcp)
+            ↔ ((self.old.state.stopped ≡ false) × (exhausts now self.old.state ≡ true)) }
+        ensures polled { IfOk result (λ d. d ≡ next_datagram C.meaning now self.old.state) }
+        ensures after { OnOk result (self.new ≡ record self.old { state = after_datagram now self.old.state }) }
+        ensures latch { self.new.state.stopped ≡ self.old.state.stopped || is_err result }
+        ensures unchanged { IsErrOf result Stopped → self.new ≡ self.old }
+        ensures fewer { IfOk result (λ d. IfSome d (λ s. waiting_in self.new.state < waiting_in self.old.state)) }
+        ensures memory { self.old.state.stopped ≡ false → exhausts now self.old.state ≡ false
+            → IfErr result (λ e. e ≡ Memory) }
+        ensures ended { IsErrOf result (KeyExhausted counter.Rtcp) → self.new.state ≡ stopped_from self.old.state }
+        ensures failed { IsErrOf result Memory → PollFails now self.old.state self.new.state }
+        ensures others { self.new ≡ record self.old { state = self.new.state } }
+    {
+        if self.stopped {
+            return Err(RtcError::Stopped);
+        }
+        match self.poll_next(now) {
+            Ok(datagram) => Ok(datagram),
+            Err(error) => {
+                self.stopped = true;
+                Err(error)
+            }
+        }
+    }
+
+    fn poll_next(&mut self, now: Instant) -> Result<Option<Datagram>, RtcError>
+        ensures exhausted { IsErrOf result (KeyExhausted counter.Rtcp) ↔ IsTrue (exhausts now self.old.state) }
+        ensures memory { exhausts now self.old.state ≡ false → IfErr result (λ e. e ≡ Memory) }
         ensures polled { IfOk result (λ d. d ≡ next_datagram C.meaning now self.old.state) }
         ensures after { OnOk result (self.new ≡ record self.old { state = after_datagram now self.old.state }) }
         ensures runs { self.new.state.stopped ≡ self.old.state.stopped }
-        ensures fewer { IfOk result (λ d. IfSome d (λ s. all_waiting self.new.state.tx < all_waiting self.old.state.tx)) }
+        ensures fewer { IfOk result (λ d. IfSome d (λ s. waiting_in self.new.state < waiting_in self.old.state)) }
+        ensures ended { exhausts now self.old.state ≡ true → self.new.state ≡ self.old.state }
         ensures failed { OnErr result (IsPollLeft now self.old.state self.new.state) }
+        ensures others { self.new ≡ record self.old { state = self.new.state } }
+    {
+        if now == already_happened() {
+            return Ok(None);
+        }
+        if self.feedback.is_empty() {
+            Ok(self.poll_rtp(now)?)
+        } else {
+            poll_compound(
+                self.alloc,
+                self.target,
+                &mut self.feedback,
+                &mut self.sealing,
+            )
+        }
+    }
+
+    fn poll_rtp(&mut self, now: Instant) -> Result<Option<Datagram>, AllocError>
+        ensures polled { IfOk result (λ d. d ≡ next_rtp C.meaning now self.old.state) }
+        ensures after { OnOk result (self.new ≡ record self.old { state = after_rtp now self.old.state }) }
+        ensures runs { self.new.state.stopped ≡ self.old.state.stopped }
+        ensures feedback { self.new.state.feedback ≡ self.old.state.feedback }
+        ensures fewer { IfOk result (λ d. IfSome d (λ s. all_waiting self.new.state.tx < all_waiting self.old.state.tx)) }
+        ensures failed { OnErr result (IsPacketLeft now self.old.state self.new.state) }
         ensures others { self.new ≡ record self.old { state = self.new.state } }
     {
         if is_silent(now, &self.sealing) {
@@ -297,14 +466,16 @@ impl<C: SrtpCipher, W: GapWindow> Session<C, W> {
     }
 }
 
-/// Adds a value for which there is room.
-fn push<T: Drop>(values: &mut Vec<T>, value: T)
-    requires { length values.old.items < vec_capacity values.old }
-    ensures { values.new.items ≡ values.old.items ++ value ∷ [] }
+/// Adds an event, if there is one, to those for which there is room.
+fn push_some(events: &mut Vec<Event>, event: Option<Event>)
+    requires { length events.old.items < vec_capacity events.old }
+    ensures items { events.new.items ≡ events.old.items ++ option_to_list event }
+    ensures len { length events.new.items ≤ length events.old.items + 1 }
+    ensures capacity { vec_capacity events.old ≤ vec_capacity events.new }
 {
-    match values.push(value) {
-        Ok(()) => {}
-        Err(_) => unreachable!(),
+    match event {
+        Some(event) => events.push_reserved(event),
+        None => {}
     }
 }
 
@@ -317,10 +488,8 @@ impl<C: SrtpCipher, W: GapWindow> Session<C, W> {
         requires none { sofar.old.items ≡ [] }
         ensures drained { OnOk result (Drains C.meaning now self.old.state self.new.state sofar.new.items) }
         ensures others { self.new ≡ record self.old { state = self.new.state } }
-        ensures sofar { OnErr result ((between : SessionState)
-            × DrainsTo C.meaning now self.old.state between sofar.new.items × PollFails now between self.new.state) }
+        ensures sofar { IfErr result (λ e. IsDrainCut C.meaning now self.old.state e self.new.state sofar.new.items) }
         ensures latch { self.new.state.stopped ≡ is_err result }
-        ensures memory { IfErr result (λ e. e ≡ Memory) }
     {
         loop {
             if sofar.reserve(1).is_err() {
@@ -328,14 +497,15 @@ impl<C: SrtpCipher, W: GapWindow> Session<C, W> {
                 return Err(RtcError::Memory);
             }
             match self.poll_datagram(now) {
-                Ok(Some(datagram)) => push(sofar, datagram),
+                Ok(Some(datagram)) => sofar.push_reserved(datagram),
                 Ok(None) => return Ok(()),
                 Err(error) => return Err(error),
             }
         }
     }
 
-    /// What the session tells next: the packet that came last, if it was not told.
+    /// What the session tells next, where there are keys: the feedback of an application that came last,
+    /// then the packet that came last, each if it was not told.
     pub fn poll_event(&mut self) -> Option<Event>
         ensures event { result ≡ next_event self.old.state }
         ensures after { self.new ≡ record self.old { state = after_event self.old.state } }
@@ -343,16 +513,16 @@ impl<C: SrtpCipher, W: GapWindow> Session<C, W> {
         if self.sealing.is_none() || self.opening.is_none() {
             return None;
         }
-        match self.packet.take() {
-            Some(packet) => Some(Event::RtpPacket(packet)),
-            None => None,
+        if let Some(feedback) = self.application.take() {
+            return Some(Event::AppSpecificFeedback(feedback));
         }
+        self.packet.take().map(Event::RtpPacket)
     }
 
     /// What the session tells next of what may want memory: nothing yet.
     ///
     /// # Errors
-    /// `Stopped` where an earlier call met want of memory.
+    /// `Stopped` where an earlier call answered `Memory` or `KeyExhausted`.
     pub fn poll_event_fallible(&mut self) -> Result<Option<Event>, RtcError>
         ensures stopped { IsErrOf result Stopped ↔ IsTrue self.old.state.stopped }
         ensures only { IfErr result (λ e. e ≡ Stopped) }
@@ -381,7 +551,7 @@ impl<C: SrtpCipher, W: GapWindow> Session<C, W> {
     /// A tick: the packets that were written before it may leave from then on.
     ///
     /// # Errors
-    /// `Stopped` where an earlier call met want of memory.
+    /// `Stopped` where an earlier call answered `Memory` or `KeyExhausted`.
     pub fn handle_timeout(&mut self, now: Instant) -> Result<(), RtcError>
         ensures stopped { IsErrOf result Stopped ↔ IsTrue self.old.state.stopped }
         ensures only { IfErr result (λ e. e ≡ Stopped) }
@@ -417,33 +587,35 @@ impl<C: SrtpCipher, W: GapWindow> Session<C, W> {
     /// Takes all that the session tells. Without memory nothing changes.
     fn take_events(&mut self) -> Result<Vec<Event>, AllocError>
         ensures events { IfOk result (λ events. events.items ≡ told self.old.state) }
-        ensures after { OnOk result (self.new ≡ record self.old { state = after_event self.old.state }) }
+        ensures after { OnOk result (self.new ≡ record self.old { state = after_events self.old.state }) }
         ensures err { OnErr result (self.new ≡ self.old) }
     {
-        let mut events = Vec::new(self.alloc);
-        events.reserve(1)?;
-        match self.poll_event() {
-            Some(event) => push(&mut events, event),
-            None => {}
+        let mut events = Vec::with_capacity(self.alloc, 2)?;
+        if self.sealing.is_none() || self.opening.is_none() {
+            return Ok(events);
         }
+        let application = self.application.take();
+        push_some(&mut events, application.map(Event::AppSpecificFeedback));
+        push_some(&mut events, self.packet.take().map(Event::RtpPacket));
         Ok(events)
     }
 
     /// Takes all that the session tells and all that leaves, and when it wants a tick next.
     ///
     /// # Errors
-    /// `Stopped` where an earlier call met want of memory; `Memory`, with what was taken before.
+    /// `Stopped` where an earlier call answered `Memory` or `KeyExhausted`; `KeyExhausted` where feedback is
+    /// due behind the last index of SRTCP datagrams; `Memory`; each with what was taken before.
     pub fn drain(&mut self, now: Instant) -> Result<Drained, DrainFault>
         ensures stopped { IsTrue self.old.state.stopped → IsErrAnd result (λ fault. (fault.error ≡ Stopped)
             × (fault.sofar.events.items ≡ []) × (fault.sofar.datagrams.items ≡ [])) }
         ensures still { IsTrue self.old.state.stopped → self.new ≡ self.old }
         ensures latch { self.new.state.stopped ≡ self.old.state.stopped || is_err result }
         ensures events { IfOk result (λ all. all.events.items ≡ told self.old.state) }
-        ensures datagrams { IfOk result (λ all. Drains C.meaning now (after_event self.old.state) self.new.state all.datagrams.items) }
+        ensures datagrams { IfOk result (λ all. Drains C.meaning now (after_events self.old.state) self.new.state all.datagrams.items) }
         ensures others { self.new ≡ record self.old { state = self.new.state } }
         ensures wake { IfOk result (λ all. all.wake ≡ wake_of self.new.state) }
-        ensures sofar { self.old.state.stopped ≡ false → IfErr result (λ fault. (fault.error ≡ Memory)
-            × IsCutOff C.meaning now self.old.state self.new.state fault.sofar.events.items fault.sofar.datagrams.items) }
+        ensures sofar { self.old.state.stopped ≡ false → IfErr result (λ fault.
+            IsCutOff C.meaning now self.old.state fault.error self.new.state fault.sofar.events.items fault.sofar.datagrams.items) }
         ensures no_wake { IfErr result (λ fault. fault.sofar.wake ≡ None) }
     {
         let mut datagrams = Vec::new(self.alloc);
@@ -473,10 +645,11 @@ impl<C: SrtpCipher, W: GapWindow> Session<C, W> {
     ghost use Rattle.session_core.specs.Calls.{keyed};
 
     /// Sets the keys of both directions, in place of those before: with `left` it seals as the left side
-    /// of the material and opens as the right one.
+    /// of the material and opens as the right one. The index of SRTCP datagrams begins with the
+    /// configured one under the first keys, and with 0 under later ones.
     ///
     /// # Errors
-    /// `Stopped` where an earlier call met want of memory; `KeyLength` where the material has another
+    /// `Stopped` where an earlier call answered `Memory` or `KeyExhausted`; `KeyLength` where the material has another
     /// length than the profile's, and then nothing changes; `Memory`.
     pub fn set_keying_material(
         &mut self,
@@ -495,10 +668,18 @@ impl<C: SrtpCipher, W: GapWindow> Session<C, W> {
         if self.stopped {
             return Err(RtcError::Stopped);
         }
-        match contexts(self.alloc, cipher, profile, material, left) {
+        match contexts(
+            self.alloc,
+            cipher,
+            profile,
+            material,
+            left,
+            self.first_index,
+        ) {
             Ok(BothWays { sealing, opening }) => {
                 self.sealing = Some(sealing);
                 self.opening = Some(opening);
+                self.first_index = 0;
                 Ok(())
             }
             Err(SrtpError::KeyLength) => Err(RtcError::KeyLength),
@@ -512,7 +693,7 @@ impl<C: SrtpCipher, W: GapWindow> Session<C, W> {
     /// Adds a media section behind the others.
     ///
     /// # Errors
-    /// `Stopped` where an earlier call met want of memory; `Memory`.
+    /// `Stopped` where an earlier call answered `Memory` or `KeyExhausted`; `Memory`.
     pub fn add_media(&mut self, media: Media) -> Result<(), RtcError>
         ensures stopped { IsErrOf result Stopped ↔ IsTrue self.old.state.stopped }
         ensures ok { OnOk result (self.new ≡ record self.old { state = record self.old.state { medias = self.old.state.medias ++ media ∷ [] } }) }

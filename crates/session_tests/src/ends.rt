@@ -1,82 +1,92 @@
+ghost use Rattle.std.specs.Prelude.{◌≤◌, ◌^◌, IfOk};
+
 use mask_register::MaskRegister;
 use media_base::{Beginning, Bytes, Instant};
-use rtp_base::{Frequency, Mid, MidRid, Pt, SeqNo, Ssrc};
+use rtp_base::{Frequency, Mid, MidRid, Pt, Rid, Ssrc};
 use rtp_wire::ExtensionMap;
-use session_core::{Media, MediaKind, PayloadTypes, RtcError, Session, SessionConfig, TypeRow};
+use session_core::{
+    Media, MediaKind, Mtu, PayloadTypes, RtcError, Session, SessionConfig, TypeRow,
+};
 use srtp_core::{KeyingMaterial, SrtpProfile, ToyCipher};
 use std::alloc::Global;
-use std::test::Fail;
-use stream_core::{Payload, RtpWrite};
 
 /// One end with the toy cipher.
 pub type End = Session<ToyCipher, MaskRegister>;
 
-/// The moment of all calls.
+/// The moment of all calls: one second and a half after the beginning.
 pub fn moment() -> Instant {
-    Instant::from_nanos(1)
+    Instant::from_nanos(1_500_000_000)
 }
 
-fn mid() -> Mid {
+/// The media section of the stream.
+pub fn mid() -> Mid {
     match Mid::from_slice(b"v") {
         Some(mid) => mid,
         None => unreachable!(),
     }
 }
 
-/// A session that knows type 96 and has a media section, without keys and streams.
-pub fn end(alloc: Global, exts: ExtensionMap) -> Result<End, RtcError> {
+/// Which stream of its media section it is.
+pub fn rid() -> Rid {
+    match Rid::from_slice(b"hi") {
+        Some(rid) => rid,
+        None => unreachable!(),
+    }
+}
+
+/// What both ends are made with: they know type 96. The target for their feedback is cut to 900 to 1,500
+/// bytes, the first index of SRTCP datagrams to at most 2^31.
+pub fn config(
+    alloc: Global,
+    exts: ExtensionMap,
+    target: u16,
+    srtcp_index: u32,
+) -> Result<SessionConfig, RtcError>
+    ensures target { IfOk result (λ c. 900 ≤ c.mtu.target) }
+    ensures order { IfOk result (λ c. c.mtu.target ≤ c.mtu.warn) }
+    ensures warn { IfOk result (λ c. c.mtu.warn ≤ 1500) }
+    ensures index { IfOk result (λ c. c.srtcp_index ≤ 2 ^ 31) }
+{
     let mut types = PayloadTypes::new(alloc);
     types.add(TypeRow {
         pt: Pt::from(96),
         clock: Frequency::NINETY_KHZ,
     })?;
-    let mut session = End::new(
-        alloc,
-        SessionConfig {
-            id: 1,
-            beginning: Beginning {
-                unix_secs: 1_700_000_000,
-            },
-            exts,
-            types,
+    Ok(SessionConfig {
+        id: 1,
+        beginning: Beginning {
+            unix_secs: 1_700_000_000,
         },
-    );
-    let cname = Bytes::from_slice(alloc, b"cam")?;
-    session.add_media(Media::new(mid(), MediaKind::Video, cname))?;
-    Ok(session)
+        mtu: Mtu {
+            target: usize::from(target).clamp(900, 1500),
+            warn: 1500,
+        },
+        srtcp_index: u64::from(srtcp_index).min(2_147_483_648),
+        exts,
+        types,
+    })
 }
 
-/// Gives a session keys of zeros.
-pub fn give_keys(alloc: Global, session: &mut End, left: bool) -> Result<(), RtcError> {
+/// Gives an end keys of zeros.
+pub fn give_keys(alloc: Global, end: &mut End, left: bool) -> Result<(), RtcError> {
     let material = KeyingMaterial::new(alloc, &[0; 56])?;
-    session.set_keying_material(ToyCipher, SrtpProfile::AeadAes128Gcm, &material, left)
+    end.set_keying_material(ToyCipher, SrtpProfile::AeadAes128Gcm, &material, left)
 }
 
-/// A session with keys that sends on SSRC 42.
-pub fn sender(alloc: Global, exts: ExtensionMap) -> Result<End, RtcError> {
-    let mut session = end(alloc, exts)?;
-    give_keys(alloc, &mut session, true)?;
-    session
-        .streams()
-        .declare_stream_tx(Ssrc::from(42), None, MidRid(mid(), None))?;
-    Ok(session)
+/// Has a fresh end send on SSRC 42.
+pub fn prepare_sender(alloc: Global, end: &mut End) -> Result<(), RtcError> {
+    let cname = Bytes::from_slice(alloc, b"cam")?;
+    end.add_media(Media::new(mid(), MediaKind::Video, cname))?;
+    let mid_rid = MidRid(mid(), Some(rid()));
+    end.streams()
+        .declare_stream_tx(Ssrc::from(42), None, mid_rid)?;
+    Ok(())
 }
 
-/// A session that receives on SSRC 42, without keys.
-pub fn receiver(alloc: Global, exts: ExtensionMap) -> Result<End, RtcError> {
-    let mut session = end(alloc, exts)?;
-    session
-        .streams()
-        .expect_stream_rx(Ssrc::from(42), None, MidRid(mid(), None))?;
-    Ok(session)
-}
-
-/// Writes the packet numbered 1 with the payload 0102 on the first stream.
-pub fn write_one(alloc: Global, session: &mut End) -> Result<(), Fail> {
-    let payload = Payload::from_slice(alloc, &[1, 2])?;
-    let write = RtpWrite::new(Pt::from(96), SeqNo::from(1), 0, moment(), payload);
-    if session.streams().tx_len() > 0 {
-        session.streams().tx_at(0).write_rtp(write)?;
-    }
+/// Has an end receive on SSRC 42.
+pub fn expect_stream(end: &mut End) -> Result<(), RtcError> {
+    let mid_rid = MidRid(mid(), Some(rid()));
+    end.streams()
+        .expect_stream_rx(Ssrc::from(42), None, mid_rid)?;
     Ok(())
 }

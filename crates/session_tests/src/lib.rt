@@ -1,10 +1,18 @@
-//! The tests of sessions: that calls which take memory do not give up with ample memory, and worked
-//! datagrams. What a clause says is not tested.
+//! The tests of sessions: a table of what two of them seal, open and refuse, each call that takes
+//! memory having ample memory.
 #![tactic(auto)]
 
 #[cfg(test)]
+mod arriving;
+#[cfg(test)]
+mod carrying;
+#[cfg(test)]
 mod ends;
 #[cfg(test)]
-mod exchange;
+mod feedback;
 #[cfg(test)]
-mod refused;
+mod leaving;
+#[cfg(test)]
+mod packets;
+#[cfg(test)]
+mod table;

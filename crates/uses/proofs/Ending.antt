@@ -103,39 +103,25 @@ module _ (material mid payload : List ℕ) where
       ticked ∙ ap (ticks now) (written_state ∙ ap (writes w) (one ∙ ap (declares ssrc) start ∙ ap (λ n. declares n (end_of material mid true).state) is) ∙ ap (λ v. writes v (declares 42 (end_of material mid true).state)) same)
 
   pub at_end : {W : Type 0} (remembers : W → Heard → Type 0) (now ssrc : ℕ) (w : WriteRecord) (first : SessionState) (list : List (ℕ × TxRecord)) (second third : SessionState)
-      (before after : SessionView W) (opened : Option Opened) (event : Option Event)
+      (before after : SessionView W) (sent : Datagram) (bytes : List ℕ) (opened : Option Opened) (event : Option Event)
       → WrittenIsReadAgain → RtpSealKeepsHeader toy_meaning → RtpSealsApart toy_meaning → ssrc ≡ 42 → w ≡ first_write now payload
       → first ≡ (end_of material mid true).state → list ≡ with_new ssrc (declared ssrc None mid None) first.tx
       → second ≡ (let s : SessionState = record first { tx = list } in record s { tx = change_place (written w) s.tx 0 }) → third ≡ after_timeout now second
       → StandsFor remembers before receiver
-      → (next_datagram toy_meaning now third ≡ None → (opened ≡ None) × (after ≡ before))
-      → IfSome (next_datagram toy_meaning now third) (λ sent. (r : SessionRecord) → StandsFor remembers before r
-      → (left : SessionRecord) × Receives toy_meaning r sent.bytes now left opened × StandsFor remembers after left)
+      → Some sent ≡ next_datagram toy_meaning now third → bytes ≡ sent.bytes
+      → ((r : SessionRecord) → StandsFor remembers before r → (left : SessionRecord) × Receives toy_meaning r bytes now left opened × StandsFor remembers after left)
       → event ≡ next_event after.state → IfSome event (λ e. payload_told e ≡ payload)
   unfolding writes ticks declares
-  at_end remembers now ssrc w first list second third before after opened event again keeps apart is same start declared_list written_state ticked stands nothing received told_event =
+  at_end remembers now ssrc w first list second third before after sent bytes opened event again keeps apart is same start declared_list written_state ticked stands polled handed received told_event =
       let sender = sender_is now ssrc w first list second third is same start declared_list written_state ticked in
       let tx : third.tx ≡ streams toy_meaning key transport now mid payload = ap (λ (s : SessionState). s.tx) sender in
       let sealing : third.sealing ≡ Some key = ap (λ (s : SessionState). s.sealing) sender in
       let shares : third.transport ≡ transport = ap (λ (s : SessionState). s.transport) sender in
-      subst (λ (e : Option Event). IfSome e (λ e. payload_told e ≡ payload)) (sym told_event)
-      (by_datagram (next_datagram toy_meaning now third) nothing received (λ d e. sent_bytes toy_meaning key transport now mid payload third d sealing shares tx e) refl)
+      let feedback : third.feedback ≡ [] = ap (λ (s : SessionState). s.feedback) sender in
+      let sealed : bytes ≡ packet_bytes toy_meaning key transport now mid payload = handed ∙ sent_bytes toy_meaning key transport now mid payload third sent sealing shares tx feedback (sym polled) in
+      let came = received receiver stands in
+      subst (λ (e : Option Event). IfSome e (λ e. payload_told e ≡ payload)) (sym (told_event ∙ ap next_event came.2.state))
+      (told toy_meaning key transport now mid payload receiver came.0 opened bytes again keeps apart waits sealed came.1)
     where
       waits : Expects toy_meaning key transport now mid payload receiver
-      waits = record { opening = refl; transport = refl; rx = refl; seen = refl; packet = refl }
-
-      idle : (s : SessionState) → s ≡ receiver.state → IfSome (next_event s) (λ e. payload_told e ≡ payload)
-      idle s e = subst (λ (x : SessionState). IfSome (next_event x) (λ e. payload_told e ≡ payload)) (sym e) tt
-
-      by_datagram : (o : Option Datagram) → (o ≡ None → (opened ≡ None) × (after ≡ before))
-          → IfSome o (λ sent. (r : SessionRecord) → StandsFor remembers before r
-          → (left : SessionRecord) × Receives toy_meaning r sent.bytes now left opened × StandsFor remembers after left)
-          → ((d : Datagram) → next_datagram toy_meaning now third ≡ Some d → d.bytes ≡ packet_bytes toy_meaning key transport now mid payload)
-          → next_datagram toy_meaning now third ≡ o
-          → IfSome (next_event after.state) (λ e. payload_told e ≡ payload)
-      by_datagram None nothing received bytes e =
-          idle after.state (ap (λ (s : SessionView _). s.state) (nothing refl).1 ∙ stands.state)
-      by_datagram (Some d) nothing received bytes e =
-          let came = received receiver stands in
-          subst (λ (x : SessionState). IfSome (next_event x) (λ e. payload_told e ≡ payload)) (sym came.2.state)
-          (told toy_meaning key transport now mid payload receiver came.0 opened d.bytes again keeps apart waits (bytes d e) came.1)
+      waits = record { opening = refl; transport = refl; rx = refl; seen = refl; application = refl; packet = refl }

@@ -23,9 +23,11 @@ use Rattle.stream_core.specs.Write.{packet_of}
 use Rattle.session_core.specs.declared.datagram.Datagram.{Datagram}
 use Rattle.session_core.specs.declared.datagram.Event.TheVariants as event
 use Rattle.session_core.specs.declared.datagram.Opened.{Opened}
-use Rattle.session_core.specs.Calls.{next_event}
+use Rattle.session_core.specs.Calls.{next_of, next_event}
 use Rattle.session_core.specs.Receiving.{Receives, Opens, OpensIn, number_of, seen_of, packet_after, packet_from, cut, opened, stays}
-use Rattle.session_core.specs.Sending.{next_datagram, next_place, sealed_as, sealed_by, receipt_at}
+use Rattle.rtcp_wire.specs.declared.feedback.AppSpecificFeedback.{AppSpecificFeedback}
+use Rattle.session_core.specs.Feedback.{due_of}
+use Rattle.session_core.specs.Sending.{next_rtp, next_by, next_datagram, next_place, sealed_as, sealed_by, receipt_at}
 use Rattle.session_core.specs.SessionRecord.{SessionState, SessionRecord}
 use Rattle.uses.specs.Exchange.{payload_told, first_write}
 use Rattle.uses.proofs.Opening.{sealed_packet, opens_to_it, reads_header}
@@ -38,11 +40,21 @@ zeros zero = tt
 zeros (suc n) = (omega arith, zeros n)
 
 -- what is told is a packet of this payload, where the packet that waits is one
-pub told_of : (payload : List ℕ) (silent : Bool) (waits : Option RtpPacket) → ((p : RtpPacket) → waits ≡ Some p → p.payload ≡ payload)
-    → IfSome (if silent then None else option_map event.RtpPacket waits) (λ e. payload_told e ≡ payload)
-told_of payload true waits h = tt
-told_of payload false None h = tt
-told_of payload false (Some p) h = h p refl
+pub told_of : (payload : List ℕ) (silent : Bool) (application : Option AppSpecificFeedback) (waits : Option RtpPacket) → application ≡ None
+    → ((p : RtpPacket) → waits ≡ Some p → p.payload ≡ payload)
+    → IfSome (if silent then None else next_of application waits) (λ e. payload_told e ≡ payload)
+told_of payload true application waits none h = tt
+told_of payload false (Some f) waits none h = absurd cc
+told_of payload false None None none h = tt
+told_of payload false None (Some p) none h = h p refl
+
+-- no feedback is due where none waits
+none_due : (now : ℕ) (s : SessionState) → s.feedback ≡ [] → due_of now s ≡ []
+none_due now s none = by (now == 0)
+  where
+    by : (b : Bool) → (if b then [] else s.feedback) ≡ []
+    by true = refl
+    by false = none
 
 module _ (cipher : CipherMeaning) (k : SrtpState) (t : Transport) (now : ℕ) (mid payload : List ℕ) where
   -- the stream, with the packet that waits after a write and a tick
@@ -84,9 +96,10 @@ module _ (cipher : CipherMeaning) (k : SrtpState) (t : Transport) (now : ℕ) (m
   bytes_are = refl
 
   -- what leaves is that packet, sealed
-  pub sent_bytes : (s : SessionState) (d : Datagram) → s.sealing ≡ Some k → s.transport ≡ t → s.tx ≡ streams → next_datagram cipher now s ≡ Some d
+  pub sent_bytes : (s : SessionState) (d : Datagram) → s.sealing ≡ Some k → s.transport ≡ t → s.tx ≡ streams → s.feedback ≡ [] → next_datagram cipher now s ≡ Some d
       → d.bytes ≡ packet_bytes
-  sent_bytes s d sealing transport tx next =
+  sent_bytes s d sealing transport tx feedback given =
+      let next : next_rtp cipher now s ≡ Some d = sym (ap (next_by cipher now s) (none_due now s feedback)) ∙ given in
       let place : Option ℕ = next_place now s in
       let polls : (p : PacketReceipt) → receipt_at now s place ≡ Some p → p ≡ receipt = λ p e. polled_at place p
       (ap (λ (u : Transport). option_and_then (λ r. polled r u now) (option_and_then (slice_get (values_of streams)) place)) (sym transport)
@@ -116,6 +129,7 @@ module _ (cipher : CipherMeaning) (k : SrtpState) (t : Transport) (now : ℕ) (m
     pub transport : r.state.transport.exts ≡ t.exts
     pub rx : r.rx ≡ (42, expected 42 None mid None) ∷ []
     pub seen : r.state.seen ≡ []
+    pub application : r.state.application ≡ None
     pub packet : r.state.packet ≡ None
 
   opens_same : (o : Option SrtpState) (h : RtpHeader) (n : ℕ) (bytes other : List ℕ) → o ≡ Some k → OpensIn cipher o h n bytes other
@@ -163,9 +177,9 @@ module _ (cipher : CipherMeaning) (k : SrtpState) (t : Transport) (now : ℕ) (m
   told r after o bytes again keeps apart x same (opened h n other opens) =
       let at : Opens cipher r packet_bytes h n other = subst (λ (l : List ℕ). Opens cipher r l h n other) same opens in
       let is : cut h other ≡ payload = opened_payload r h n other again keeps apart x at in
-      told_of payload (is_none r.state.sealing || is_none r.state.opening) (packet_after now h n (cut h other) r.state.packet) (λ p e. waits_then h n (cut h other) r.state.packet p x.packet e ∙ is)
+      told_of payload (is_none r.state.sealing || is_none r.state.opening) r.state.application (packet_after now h n (cut h other) r.state.packet) x.application (λ p e. waits_then h n (cut h other) r.state.packet p x.packet e ∙ is)
   told r after o bytes again keeps apart x same (stays refused) =
-      told_of payload (is_none r.state.sealing || is_none r.state.opening) r.state.packet (λ p e. absurd (none_here r.state.packet p x.packet e))
+      told_of payload (is_none r.state.sealing || is_none r.state.opening) r.state.application r.state.packet x.application (λ p e. absurd (none_here r.state.packet p x.packet e))
     where
       none_here : (waits : Option RtpPacket) (p : RtpPacket) → waits ≡ None → waits ≡ Some p → ⊥
       none_here waits p h e = absurd cc

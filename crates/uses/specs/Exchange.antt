@@ -5,7 +5,7 @@ use Rattle.srtp_core.specs.Toy.{toy_meaning}
 use Rattle.srtp_core.specs.declared.profile.SrtpProfile.TheVariants.{AeadAes128Gcm}
 use Rattle.session_core.specs.declared.config.SessionConfig.{SessionConfig}
 use Rattle.session_core.specs.declared.datagram.Event.{Event}
-use Rattle.session_core.specs.declared.datagram.Event.TheVariants.{RtpPacket}
+use Rattle.session_core.specs.declared.datagram.Event.TheVariants.{RtpPacket, AppSpecificFeedback}
 use Rattle.session_core.specs.declared.media.MediaKind.TheVariants.{Video}
 use Rattle.session_core.specs.Calls.{fresh_session, keyed}
 use Rattle.session_core.specs.SessionRecord.{SessionState, SessionRecord}
@@ -14,6 +14,7 @@ use Rattle.stream_core.specs.Write.{WriteRecord}
 -- the payload of what is told
 abbrev pub payload_told : Event → List ℕ
 payload_told (RtpPacket packet) = packet.payload
+payload_told (AppSpecificFeedback feedback) = feedback.payload
 
 -- the packet numbered 1 of type 96 at a moment, without marker, header values and contributing sources
 abbrev pub first_write : ℕ → List ℕ → WriteRecord
@@ -33,7 +34,9 @@ first_write now payload = record {
 abbrev pub end_config : SessionConfig
 end_config = record {
   id = 1;
-  beginning = record { unix_secs = 1700000000 };
+  beginning = record { unix_secs = 0 };
+  mtu = record { target = 1150; warn = 1280 };
+  srtcp_index = 0;
   exts = no_extensions;
   types = (96, record { pt = 96; clock = 90000 }) ∷ [];
 }

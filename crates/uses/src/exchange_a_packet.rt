@@ -1,23 +1,21 @@
 //! Two sessions that exchange a packet.
-ghost use Rattle.std.specs.Prelude.{◌≡◌, ◌≤◌, ◌<◌, ◌∷◌, [], length, IfOk, IfSome, OnOk, None};
+ghost use Rattle.std.specs.Prelude.{◌≡◌, ◌<◌, length, IfOk, IfSome, OnOk};
 ghost use Rattle.mask_register.specs.MaskRegister.{Remembers};
-ghost use Rattle.session_core.specs.Receiving.{Receives};
-ghost use Rattle.session_core.specs.Sending.{next_datagram, after_datagram};
 ghost use Rattle.stream_core.specs.Tables.{change_place};
 ghost use Rattle.stream_core.specs.TxRecord.{written};
-ghost use Rattle.session_core.specs.SessionRecord.{SessionRecord, StandsFor};
+ghost use Rattle.session_core.specs.SessionRecord.{StandsFor};
 ghost use Rattle.uses.specs.Exchange.{end_of, payload_told};
 
 use mask_register::MaskRegister;
 use media_base::{Beginning, Bytes, Instant};
-use repair_core::GapWindow;
 use rtp_base::{Frequency, Mid, MidRid, Pt, SeqNo, Ssrc};
 use rtp_wire::{ExtensionMap, written_header_is_read_again};
 use session_core::{
-    Event, Media, MediaKind, Opened, PayloadTypes, RtcError, Session, SessionConfig, TypeRow,
+    DATAGRAM_MTU, DATAGRAM_MTU_WARN, Event, Media, MediaKind, Mtu, PayloadTypes, RtcError, Session,
+    SessionConfig, TypeRow,
 };
 use srtp_core::laws::{rtp_seal_keeps_header, rtp_seals_apart};
-use srtp_core::{KeyingMaterial, SrtpCipher, SrtpProfile, ToyCipher};
+use srtp_core::{KeyingMaterial, SrtpProfile, ToyCipher};
 use std::alloc::Global;
 use stream_core::{Payload, RtpWrite};
 
@@ -32,42 +30,20 @@ pub fn end(alloc: Global, material: &KeyingMaterial, mid: Mid, left: bool) -> Re
     let mut types = PayloadTypes::new(alloc);
     let (pt, clock) = (Pt::from(96), Frequency::NINETY_KHZ);
     types.add(TypeRow { pt, clock })?;
-    let (id, unix_secs, exts) = (1, 1_700_000_000, ExtensionMap::empty());
-    let beginning = Beginning { unix_secs };
-    let mut session = End::new(
-        alloc,
-        SessionConfig {
-            id,
-            beginning,
-            exts,
-            types,
-        },
-    );
+    let (target, warn) = (DATAGRAM_MTU, DATAGRAM_MTU_WARN);
+    let config = SessionConfig {
+        id: 1,
+        beginning: Beginning { unix_secs: 0 },
+        mtu: Mtu { target, warn },
+        srtcp_index: 0,
+        exts: ExtensionMap::empty(),
+        types,
+    };
+    let mut session = End::new(alloc, config);
     let cname = Bytes::from_slice(alloc, b"cam")?;
     session.add_media(Media::new(mid, MediaKind::Video, cname))?;
     session.set_keying_material(ToyCipher, SrtpProfile::AeadAes128Gcm, material, left)?;
     Ok(session)
-}
-
-/// Takes the datagram that one session sends next to another, and gives what that one opens it to.
-pub fn hand_over<C: SrtpCipher, W: GapWindow>(
-    from: &mut Session<C, W>,
-    to: &mut Session<C, W>,
-    now: Instant,
-) -> Result<Option<Opened>, RtcError>
-    ensures sent { OnOk result (from.new
-        ≡ record from.old { state = after_datagram now from.old.state }) }
-    ensures nothing { next_datagram C.meaning now from.old.state ≡ None
-        → IfOk result (λ opened. (opened ≡ None) × (to.new ≡ to.old)) }
-    ensures received { IfOk result (λ opened.
-        IfSome (next_datagram C.meaning now from.old.state) (λ sent.
-        (r : SessionRecord) → StandsFor W.remembers to.old r → (after : SessionRecord)
-        × Receives C.meaning r sent.bytes now after opened × StandsFor W.remembers to.new after)) }
-{
-    let Some(datagram) = from.poll_datagram(now)? else {
-        return Ok(None);
-    };
-    to.handle_rtp_receive(now, datagram.bytes.as_slice())
 }
 
 /// Writes a packet on the first stream of an end.
@@ -86,8 +62,8 @@ pub fn write(end: &mut End, packet: RtpWrite) -> Result<(), RtcError>
     }
 }
 
-/// Has one end write a packet, and gives what the other one tells: if anything, a packet of that
-/// payload.
+/// Has one end write a packet, takes the datagram that it sends to the other one, and gives what
+/// that one tells: if anything, a packet of that payload.
 pub fn exchange(
     alloc: Global,
     material: &KeyingMaterial,
@@ -106,11 +82,12 @@ pub fn exchange(
         .declare_stream_tx(ssrc, None, MidRid(mid, None))?;
     b.streams().expect_stream_rx(ssrc, None, MidRid(mid, None))?;
     let payload = Payload::from_slice(alloc, payload)?;
-    write(
-        &mut a,
-        RtpWrite::new(Pt::from(96), SeqNo::from(1), 0, now, payload),
-    )?;
+    let packet = RtpWrite::new(Pt::from(96), SeqNo::from(1), 0, now, payload);
+    write(&mut a, packet)?;
     a.handle_timeout(now)?;
-    hand_over(&mut a, &mut b, now)?;
+    let Some(sent) = a.poll_datagram(now)? else {
+        return Ok(None);
+    };
+    b.handle_rtp_receive(now, sent.bytes.as_slice())?;
     Ok(b.poll_event())
 }

@@ -1,4 +1,4 @@
-use Rattle.std.proofs.Common.{None, ap, ◌∙◌}
+use Rattle.std.proofs.Common.{None, sym, ap, ◌∙◌}
 use Rattle.mask_register.specs.MaskRegister.{Remembers}
 use Rattle.stream_core.specs.StreamsRecord.{StreamsView}
 use Rattle.stream_core.specs.Tables.{with_new}
@@ -19,18 +19,19 @@ pub returns : goal.returns
 returns c =
     let ssrc = c.from-ssrc.result in
     at_end c.args.material.now c.args.mid c.args.payload.now Remembers
-    c.from_nanos-now.result ssrc c.new.result
+    c.from_nanos-now.result ssrc c.new-packet.result
     c.in_ok-a.a.state c.declare_stream_tx.new.self.tx c.write.new.end.state c.handle_timeout.new.self.state
-    _ c.hand_over.new.to c.in_ok-hand_over.field-0 c.poll_event.result
+    _ c.handle_rtp_receive.new.self c.in-Some.sent c.as_slice.result.now c.in_ok-handle_rtp_receive.field-0 c.poll_event.result
     c.written_header_is_read_again.ensures c.rtp_seal_keeps_header.ensures c.rtp_seals_apart.ensures
     c.from-ssrc.ensures
-    (c.new.ensures ∙ write_is c.from.result c.from-2.result c.from_nanos-now.result c.in_ok-payload.payload c.args.payload.now c.from.ensures c.from-2.ensures c.in_ok-payload.ensures)
+    (c.new-packet.ensures ∙ write_is c.from.result c.from-2.result c.from_nanos-now.result c.in_ok-payload.payload c.args.payload.now c.from.ensures c.from-2.ensures c.in_ok-payload.ensures)
     c.in_ok-a.ensures.made.state
     (ap (λ (s : StreamsView _). s.tx) c.in_ok-declare_stream_tx.ensures.ok ∙ ap (with_new ssrc (declared ssrc None c.args.mid None)) c.streams.ensures.tx)
     (ap (λ (s : SessionView _). s.state) c.in_ok-write.ensures)
     (ap (λ (s : SessionView _). s.state) c.in_ok-handle_timeout.ensures.ok)
     (expects c.args.material.now c.args.mid c.args.payload.now Remembers c.in_ok-b.b c.streams-2.result.now c.expect_stream_rx.new.self ssrc c.from-ssrc.ensures
     c.in_ok-b.ensures.made c.streams-2.ensures.rx c.streams-2.ensures.tx c.in_ok-expect_stream_rx.ensures.ok)
-    c.in_ok-hand_over.ensures.nothing
-    c.in_ok-hand_over.ensures.received
+    (sym c.in-Some.is ∙ c.in_ok-sent.ensures.polled)
+    c.as_slice.ensures
+    c.in_ok-handle_rtp_receive.ensures.received
     c.poll_event.ensures.event

@@ -1,5 +1,5 @@
 use Rattle.std.proofs.Common.{◌≡◌, false}
-use Rattle.session_core.specs.Sending.{all_waiting, DrainsTo}
+use Rattle.session_core.specs.Sending.{waiting_in, DrainsTo}
 use Rattle.session_core.proofs.session.Session.drain_datagrams.Given as goal
 
 abbrev pub invariant-loop-now : goal.invariant-loop-now
@@ -10,4 +10,4 @@ invariant-loop-now g l = record {
 }
 
 abbrev pub decreases-loop-now : goal.decreases-loop-now
-decreases-loop-now g l = all_waiting l.self.state.tx
+decreases-loop-now g l = waiting_in l.self.state

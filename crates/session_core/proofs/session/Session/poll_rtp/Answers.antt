@@ -6,7 +6,7 @@ use Rattle.stream_core.specs.StreamsRecord.{StreamsView}
 use Rattle.stream_core.specs.TxRecord.{polled}
 use Rattle.session_core.specs.declared.datagram.Datagram.{Datagram}
 use Rattle.session_core.specs.SessionRecord.{SessionState, SessionView}
-use Rattle.session_core.specs.Sending.{first_due, next_place, sealed_by, next_datagram}
+use Rattle.session_core.specs.Sending.{first_due, sealed_by, next_rtp}
 use Rattle.session_core.proofs.Cuts.{on_err, kept_state, lost_state}
 use Rattle.session_core.proofs.Polls.{first_else, given_at}
 use Rattle.session_core.proofs.session.Session.poll_rtp.Goals as goal
@@ -27,7 +27,7 @@ returns-clause-polled g c =
     ap (λ (t : SessionState). first_due t.medias t.tx) (sym mine) ∙ ap (λ m. first_due m c.self.inside.streams.tx) (sym c.as_slice-medias.ensures.value) ∙ sym c.first_due.ensures.place ∙ c.in-Some.is in
     let receipt : Some c.in-Some-polled.receipt ≡ option_and_then (λ r. polled r s.transport now) (slice_get (values_of s.tx) i) =
     sym c.in-Some-polled.is ∙ c.in_ok-polled.ensures.polled ∙ ap (λ (t : SessionState). option_and_then (λ r. polled r t.transport now) (slice_get (values_of t.tx) i)) mine in
-    given_as c.seal.result (sealed_by K c.self.inside.sealing (Some c.in-Some-polled.receipt)) (next_datagram K now s)
+    given_as c.seal.result (sealed_by K c.self.inside.sealing (Some c.in-Some-polled.receipt)) (next_rtp K now s)
     (ap (λ (t : SessionState). sealed_by K t.sealing (Some c.in-Some-polled.receipt)) mine ∙ ap (sealed_by K s.sealing) receipt ∙ given_at now s K i (first_else now s (Some i) silent first))
     c.seal.ensures.sealed
 

@@ -1,0 +1,20 @@
+use Rattle.std.proofs.Common.{ℕ, List, sym, ap, ◌∙◌}
+use Rattle.std.specs.Prelude.{Option}
+use Rattle.std.specs.Option.{option_map_or}
+use Rattle.indexmap.specs.IndexMap.{set_value_at}
+use Rattle.rtcp_wire.specs.declared.rtcp_fb.RtcpFb.{RtcpFb}
+use Rattle.stream_core.specs.Tables.{change_place}
+use Rattle.stream_core.specs.TxRecord.{TxRecord, after_reception}
+use Rattle.session_core.specs.Hearing.{acknowledged_by}
+use Rattle.session_core.proofs.Tables.{set_change}
+use Rattle.session_core.proofs.hearing.acknowledge.Goals as goal
+
+pub returns-in-Some : goal.returns-in-Some
+returns-in-Some g c =
+    let es = c.args.streams.now.tx in
+    let told = after_reception c.in-ReceptionReport.report in
+    ap (λ (l : List (ℕ × TxRecord)). record { rx = c.args.streams.now.rx; tx = l })
+    (ap (set_value_at es c.in-Some.place) c.handle_reception_report.ensures
+    ∙ set_change told es c.in-Some.place c.tx_at.result.now c.tx_at.ensures.value
+    ∙ ap (λ (o : Option ℕ). option_map_or (change_place told es) o es) (sym (sym c.tx_place.ensures.place ∙ c.in-Some.is))
+    ∙ ap (λ (f : RtcpFb). acknowledged_by f es) (sym c.in-ReceptionReport.is))

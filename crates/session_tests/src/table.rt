@@ -1,0 +1,259 @@
+use crate::arriving::{Wanted, first_packet, refuses, tells};
+use crate::carrying::{EXTENSIONS, Ids, carries, map_of};
+use crate::ends::{End, config, expect_stream, give_keys, moment, prepare_sender};
+use crate::feedback::{Feedback, holds};
+use crate::leaving::{drains, is_silent, sends, write};
+use crate::packets::Incoming::{Changed, Cut, Long, Padded, SealOf};
+use crate::packets::{Incoming, SEALED, WITH_MID, bytes_of};
+use media_base::already_happened;
+use rtp_base::Ssrc;
+use rtp_wire::{Extension, ExtensionValues};
+use std::alloc::Global;
+use std::test::Fail;
+
+/// What is asked of two fresh ends, one that sends and one that receives.
+#[derive(Clone, Copy)]
+enum Row {
+    /// A packet is sealed as `SEALED`.
+    Seals,
+    /// A packet with its mid is sealed as `WITH_MID`.
+    SealsWithMid,
+    /// A drain gives `SEALED`.
+    Drains,
+    /// Nothing leaves before there are keys, nor at moment 0; then `SEALED` leaves.
+    WaitsToSend,
+    /// Nothing leaves once the stream was taken out.
+    StopsSending,
+    /// Packets carry the values of the extensions that have ids.
+    Carries(Ids),
+    /// The datagram is told with this much of the payload 0102 and zeros behind it.
+    Tells(Incoming, usize),
+    /// The datagram opens nothing; then `SEALED` opens.
+    Refuses(Incoming),
+    /// Nothing opens before there are keys; then `SEALED` opens.
+    WaitsForKeys,
+    /// Nothing opens once the stream was taken out; where it is expected again `SEALED` opens.
+    StopsReceiving,
+    /// `SEALED` opens nothing the second time; then the next packet opens.
+    Replays,
+    /// Feedback leaves, comes and is told so.
+    Feedback(Feedback),
+}
+
+const ROWS: [(&str, Row); 31] = [
+    ("a packet", Row::Seals),
+    ("a packet with its mid", Row::SealsWithMid),
+    ("a drain", Row::Drains),
+    ("no keys to send, and moment 0", Row::WaitsToSend),
+    ("no stream to send", Row::StopsSending),
+    ("no extension", Row::Carries(Ids::Nothing)),
+    ("all extensions", Row::Carries(Ids::All)),
+    ("the packet", Row::Tells(Cut(30), 2)),
+    ("one byte of padding", Row::Tells(Padded([0, 1]), 3)),
+    ("two bytes of padding", Row::Tells(Padded([0, 2]), 2)),
+    ("padding alone", Row::Tells(Padded([0, 4]), 0)),
+    ("padding of no bytes", Row::Refuses(Padded([0, 0]))),
+    ("too much padding", Row::Refuses(Padded([0, 5]))),
+    ("2,000 bytes", Row::Tells(Long(2000), 1972)),
+    ("2,001 bytes", Row::Refuses(Long(2001))),
+    ("an unknown SSRC", Row::Refuses(SealOf(11, 0x2b))),
+    ("an unclaimed type", Row::Refuses(SealOf(1, 0x61))),
+    ("a wrong tag", Row::Refuses(Changed(29, 2))),
+    ("another payload", Row::Refuses(Changed(12, 2))),
+    ("another version", Row::Refuses(Changed(0, 0x40))),
+    ("half a tag", Row::Refuses(Cut(22))),
+    ("half a header", Row::Refuses(Cut(11))),
+    ("no keys to receive", Row::WaitsForKeys),
+    ("no stream to receive", Row::StopsReceiving),
+    ("a second time", Row::Replays),
+    ("feedback", Row::Feedback(Feedback::Exchanged)),
+    ("feedback in the clear", Row::Feedback(Feedback::Clear)),
+    ("a reception block", Row::Feedback(Feedback::Acknowledges)),
+    ("cleared feedback", Row::Feedback(Feedback::Cleared)),
+    ("feedback without keys", Row::Feedback(Feedback::Lost)),
+    ("the last index", Row::Feedback(Feedback::LastIndex)),
+];
+
+// Writes the packet of `SEALED`.
+fn write_first(alloc: Global, a: &mut End) -> Result<(), Fail> {
+    write(alloc, a, 1, ExtensionValues::none())
+}
+
+fn seals(alloc: Global, a: &mut End, bytes: &[u8]) -> Result<bool, Fail> {
+    give_keys(alloc, a, true)?;
+    write_first(alloc, a)?;
+    sends(a, bytes)
+}
+
+fn gives_all(alloc: Global, a: &mut End) -> Result<bool, Fail> {
+    give_keys(alloc, a, true)?;
+    write_first(alloc, a)?;
+    drains(a, &SEALED)
+}
+
+fn waits_to_send(alloc: Global, a: &mut End) -> Result<bool, Fail> {
+    write_first(alloc, a)?;
+    let without_keys = is_silent(a, moment())?;
+    give_keys(alloc, a, true)?;
+    let at_0 = is_silent(a, already_happened())?;
+    let then = sends(a, &SEALED)?;
+    Ok(without_keys && at_0 && then)
+}
+
+fn stops_sending(alloc: Global, a: &mut End) -> Result<bool, Fail> {
+    give_keys(alloc, a, true)?;
+    write_first(alloc, a)?;
+    let removed = a.streams().remove_stream_tx(Ssrc::from(42));
+    let then = is_silent(a, moment())?;
+    Ok(removed && then)
+}
+
+fn exchanges(alloc: Global, a: &mut End, b: &mut End, ids: Ids) -> Result<bool, Fail> {
+    give_keys(alloc, a, true)?;
+    give_keys(alloc, b, false)?;
+    carries(alloc, a, b, ids)
+}
+
+fn is_told(alloc: Global, b: &mut End, incoming: Incoming, len: usize) -> Result<bool, Fail> {
+    give_keys(alloc, b, false)?;
+    let mut all = [0; 2000];
+    all[0] = 1;
+    all[1] = 2;
+    let wanted = Wanted {
+        payload: &all[..len.min(2000)],
+        ..first_packet()
+    };
+    let bytes = bytes_of(alloc, incoming)?;
+    tells(b, bytes.as_slice(), &wanted)
+}
+
+fn is_refused(alloc: Global, b: &mut End, incoming: Incoming) -> Result<bool, Fail> {
+    give_keys(alloc, b, false)?;
+    let bytes = bytes_of(alloc, incoming)?;
+    let refused = refuses(b, bytes.as_slice())?;
+    let then = tells(b, &SEALED, &first_packet())?;
+    Ok(refused && then)
+}
+
+fn waits_for_keys(alloc: Global, b: &mut End) -> Result<bool, Fail> {
+    let without_keys = refuses(b, &SEALED)?;
+    give_keys(alloc, b, false)?;
+    let then = tells(b, &SEALED, &first_packet())?;
+    Ok(without_keys && then)
+}
+
+fn stops_receiving(alloc: Global, b: &mut End) -> Result<bool, Fail> {
+    give_keys(alloc, b, false)?;
+    let removed = b.streams().remove_stream_rx(Ssrc::from(42));
+    let without_stream = refuses(b, &SEALED)?;
+    expect_stream(b)?;
+    let then = tells(b, &SEALED, &first_packet())?;
+    Ok(removed && without_stream && then)
+}
+
+fn opens_once(alloc: Global, b: &mut End) -> Result<bool, Fail> {
+    give_keys(alloc, b, false)?;
+    let first = tells(b, &SEALED, &first_packet())?;
+    let again = refuses(b, &SEALED)?;
+    let wanted = Wanted {
+        number: 2,
+        ..first_packet()
+    };
+    let next = bytes_of(alloc, SealOf(3, 2))?;
+    let then = tells(b, next.as_slice(), &wanted)?;
+    Ok(first && again && then)
+}
+
+// The ids with which a row's ends are made.
+fn ids_of(row: Row) -> Ids {
+    match row {
+        Row::Carries(ids) => ids,
+        Row::SealsWithMid | Row::Feedback(Feedback::Acknowledges) => {
+            Ids::Only(Extension::RtpMid)
+        }
+        _ => Ids::Nothing,
+    }
+}
+
+// The target for the feedback of a row's ends.
+fn target_of(row: Row) -> u16 {
+    match row {
+        Row::Feedback(Feedback::Cut(target)) => target,
+        _ => 1150,
+    }
+}
+
+// The first index of SRTCP datagrams of a row's ends.
+fn index_of(row: Row) -> u32 {
+    match row {
+        Row::Feedback(Feedback::LastIndex) => 2_147_483_647,
+        _ => 0,
+    }
+}
+
+fn hears(alloc: Global, a: &mut End, b: &mut End, asked: Feedback) -> Result<bool, Fail> {
+    match asked {
+        Feedback::Lost => {}
+        _ => give_keys(alloc, a, true)?,
+    }
+    give_keys(alloc, b, false)?;
+    holds(alloc, a, b, asked)
+}
+
+// Whether two fresh ends answer as a row says.
+fn hold(alloc: Global, a: &mut End, b: &mut End, row: Row) -> Result<bool, Fail> {
+    prepare_sender(alloc, a)?;
+    expect_stream(b)?;
+    match row {
+        Row::Seals => seals(alloc, a, &SEALED),
+        Row::SealsWithMid => seals(alloc, a, &WITH_MID),
+        Row::Drains => gives_all(alloc, a),
+        Row::WaitsToSend => waits_to_send(alloc, a),
+        Row::StopsSending => stops_sending(alloc, a),
+        Row::Carries(ids) => exchanges(alloc, a, b, ids),
+        Row::Tells(incoming, len) => is_told(alloc, b, incoming, len),
+        Row::Refuses(incoming) => is_refused(alloc, b, incoming),
+        Row::WaitsForKeys => waits_for_keys(alloc, b),
+        Row::StopsReceiving => stops_receiving(alloc, b),
+        Row::Replays => opens_once(alloc, b),
+        Row::Feedback(asked) => hears(alloc, a, b, asked),
+    }
+}
+
+// Makes two ends, and asks them a row: the one function that owns sessions, with one exit.
+fn play(alloc: Global, row: Row) -> Result<bool, Fail> {
+    let exts = map_of(ids_of(row));
+    let (target, index) = (target_of(row), index_of(row));
+    let sender = config(alloc, exts, target, index)?;
+    let receiver = config(alloc, exts, target, index)?;
+    let mut a = End::new(alloc, sender);
+    let mut b = End::new(alloc, receiver);
+    hold(alloc, &mut a, &mut b, row)
+}
+
+#[test]
+fn rows_hold(rt: HostRuntime) -> Result<(), Fail> {
+    for (name, row) in ROWS {
+        let held = play(rt.alloc(), row)?;
+        assert!(rt; held, "{name}");
+    }
+    Ok(())
+}
+
+#[test]
+fn each_extension_is_carried(rt: HostRuntime) -> Result<(), Fail> {
+    for extension in EXTENSIONS {
+        let held = play(rt.alloc(), Row::Carries(Ids::Only(extension)))?;
+        assert!(rt; held, "{extension:?}");
+    }
+    Ok(())
+}
+
+#[test]
+fn compounds_are_cut_at_each_target(rt: HostRuntime) -> Result<(), Fail> {
+    for target in 900..1501 {
+        let held = play(rt.alloc(), Row::Feedback(Feedback::Cut(target)))?;
+        assert!(rt; held, "{target}");
+    }
+    Ok(())
+}
