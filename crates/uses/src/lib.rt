@@ -13,6 +13,7 @@ pub mod queue_a_packet;
 pub mod read_a_header;
 pub mod read_a_pace_script;
 pub mod read_a_script;
+pub mod read_rtcp;
 pub mod register_by_mask;
 pub mod register_numbers;
 pub mod report_arrivals;

@@ -9,6 +9,7 @@ use crate::queue_a_packet::write_and_poll;
 use crate::read_a_header::{number_of, payload_of};
 use crate::read_a_pace_script::play_calls;
 use crate::read_a_script::count_steps;
+use crate::read_rtcp::read_feedback;
 use crate::register_by_mask::is_taken_twice;
 use crate::register_numbers::ask_for_missing;
 use crate::report_arrivals::{report_arrival, round_trip};
@@ -32,6 +33,9 @@ use twcc_core::{TwccRecvRegister, TwccSendRegister};
 
 // A packet of SSRC 42 with number 1 and two bytes of payload (RFC 3550 section 5.1).
 const PACKET: [u8; 14] = [0x80, 0x60, 0, 1, 0, 0, 0, 0, 0, 0, 0, 0x2a, 1, 2];
+
+// A receiver asks for a picture of SSRC 42 (RFC 4585 section 6.3.1).
+const ASKED: [u8; 12] = [0x81, 206, 0, 2, 0, 0, 0, 1, 0, 0, 0, 0x2a];
 
 fn mid() -> Mid {
     match Mid::from_slice(b"v") {
@@ -255,6 +259,17 @@ fn a_report_tells_the_round_trip(rt: HostRuntime) -> Result<(), Fail> {
     sent.register_seq(id, DataSize::bytes(100), Instant::from_nanos(5))?;
     let trip = trip(rt.alloc(), &mut sent)?;
     assert_eq!(rt; trip, Some(Duration::from_nanos(20)));
+    Ok(())
+}
+
+#[test]
+fn feedback_is_read(rt: HostRuntime) -> Result<(), Fail> {
+    let told = read_feedback(rt.alloc(), &ASKED)?;
+    let ssrc = match told.as_slice() {
+        [feedback] => Some(feedback.ssrc()),
+        _ => None,
+    };
+    assert_eq!(rt; ssrc, Some(Ssrc::from(42)));
     Ok(())
 }
 
