@@ -9,6 +9,7 @@ pub mod exchange_a_packet;
 pub mod keep_for_resending;
 pub mod keep_in_a_queue;
 pub mod pace_packets;
+pub mod put_into_order;
 pub mod queue_a_packet;
 pub mod read_a_header;
 pub mod read_a_pace_script;

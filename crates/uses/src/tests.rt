@@ -5,6 +5,7 @@ use crate::exchange_a_packet::exchange;
 use crate::keep_for_resending::keep_and_find;
 use crate::keep_in_a_queue::{queue_of_one, replace};
 use crate::pace_packets::send_next;
+use crate::put_into_order::next_frame;
 use crate::queue_a_packet::write_and_poll;
 use crate::read_a_header::{number_of, payload_of};
 use crate::read_a_pace_script::play_calls;
@@ -17,12 +18,15 @@ use crate::seal_and_open::seal_and_open;
 use crate::time_a_packet::leaves_at;
 use crate::widen_a_number::take_number;
 use mask_register::MaskRegister;
-use media_base::{MemSink, MemSource};
+use media_base::{Bytes, MemSink, MemSource};
 use media_units::{Beginning, Bitrate, DataSize, Duration, Instant};
 use pace_core::{NullPacer, QueuePriority, QueueSnapshot, QueueState};
+use payload_core::{
+    Arrival, Codec, CodecDepacketizer, CodecSpec, DepacketizingBuffer, FormatParams, RtpMeta,
+};
 use repair_core::{GapWindow, NackRegister};
 use resend_core::{Cached, ResendStore, RtxCache};
-use rtp_base::{Mid, MidRid, Pt, SeqNo, SeqNoWindow, Ssrc, TwccPacketId};
+use rtp_base::{Frequency, MediaTime, Mid, MidRid, Pt, SeqNo, SeqNoWindow, Ssrc, TwccPacketId};
 use rtp_wire::{ExtensionMap, RtpHeader};
 use session_core::Event;
 use srtp_core::{KeyingMaterial, ShaCipher, SrtpError, SrtpProfile};
@@ -236,6 +240,49 @@ fn the_queue_that_holds_a_packet_is_chosen(rt: HostRuntime) -> Result<(), Fail> 
     };
     let chosen = send_next(&mut pacer, now, &[queue], DataSize::bytes(100))?;
     assert!(rt; chosen == Some(mid()));
+    Ok(())
+}
+
+fn packet_of(alloc: Global, number: u64) -> Result<Option<Arrival<u8>>, AllocError> {
+    let Some(header) = RtpHeader::parse(&PACKET, &ExtensionMap::empty()) else {
+        return Ok(None);
+    };
+    let meta = RtpMeta {
+        received: Instant::from_nanos(1),
+        time: MediaTime::new(960, Frequency::FORTY_EIGHT_KHZ),
+        seq_no: SeqNo::from(number),
+        header,
+        last_sender_info: None,
+    };
+    let payload = Bytes::from_slice(alloc, &[1, 2])?;
+    Ok(Some(Arrival { meta, payload }))
+}
+
+// Whether a frame is given where a packet of that number comes.
+fn gives(
+    alloc: Global,
+    buffer: &mut DepacketizingBuffer<u8>,
+    number: u64,
+) -> Result<bool, AllocError> {
+    let Some(packet) = packet_of(alloc, number)? else {
+        return Ok(false);
+    };
+    let frame = next_frame(buffer, packet, Instant::from_nanos(1))?;
+    Ok(frame.is_some())
+}
+
+#[test]
+fn a_frame_waits_for_its_turn(rt: HostRuntime) -> Result<(), Fail> {
+    let depack = CodecDepacketizer::new(CodecSpec {
+        codec: Codec::Opus,
+        clock_rate: Frequency::FORTY_EIGHT_KHZ,
+        channels: None,
+        format: FormatParams::default(),
+    });
+    let mut buffer = DepacketizingBuffer::new(rt.alloc(), depack, 4);
+    let first = gives(rt.alloc(), &mut buffer, 1)?;
+    let third = gives(rt.alloc(), &mut buffer, 3)?;
+    assert!(rt; first && !third);
     Ok(())
 }
 
