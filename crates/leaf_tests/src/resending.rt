@@ -1,17 +1,10 @@
-ghost use Rattle.std.specs.Prelude.{◌<◌};
-
 use media_base::{Duration, Instant};
-use resend_core::{Cached, EvictingBuffer, RtxCache};
+use resend_core::{Cached, RtxCache};
 use rtp_base::SeqNo;
+use std::alloc::{AllocError, Global};
 use std::test::Fail;
 
-fn millis(count: u64) -> Instant
-    requires { count < 1000000 }
-{
-    Instant::from_nanos(count * 1_000_000)
-}
-
-#[derive(Debug, Drop)]
+#[derive(Drop)]
 struct Packet {
     number: u64,
     size: usize,
@@ -31,139 +24,129 @@ impl Cached for Packet {
     }
 }
 
-fn number_of(packet: Option<&Packet>) -> Option<u64> {
-    match packet {
-        Some(packet) => Some(packet.number),
-        None => None,
-    }
+/// What is done to a cache, and what it answers: packets by their numbers.
+#[derive(Clone, Copy)]
+enum Step {
+    /// A packet of a number and a size below 2,000 is cached, at so many milliseconds.
+    Cache(u64, usize, u64),
+    /// All goes.
+    Clear,
+    /// The packet that is smaller than this, at most 2,000.
+    Smaller(usize, Option<u64>),
+    /// The packet of a number.
+    Numbered(u64, Option<u64>),
+    /// The number that was cached last.
+    LastNumber(Option<u64>),
+    /// The packet that was cached last.
+    LastPacket(Option<u64>),
 }
 
-#[test]
-fn cache_of_one(rt: HostRuntime) -> Result<(), Fail> {
-    let mut cache: RtxCache<Packet> = RtxCache::new(rt.alloc(), 1, Duration::from_secs(3))?;
-    cache.cache_sent_packet(Packet { number: 1, size: 8 }, millis(1))?;
-    assert_eq!(rt;
-        number_of(cache.get_cached_packet_smaller_than(25)),
-        Some(1)
-    );
-    assert_eq!(rt; number_of(cache.get_cached_packet_smaller_than(24)), None);
-    Ok(())
-}
+use Step::{Cache, Clear, LastNumber, LastPacket, Numbered, Smaller};
+
+const OF_ONE: [Step; 3] = [Cache(1, 8, 1), Smaller(25, Some(1)), Smaller(24, None)];
 
 // The greatest class below the size, of which the packet cached last is held.
-#[test]
-fn by_size(rt: HostRuntime) -> Result<(), Fail> {
-    let mut cache: RtxCache<Packet> = RtxCache::new(rt.alloc(), 20, Duration::from_secs(3))?;
-    for (number, size) in [(1u64, 30usize), (2, 60), (3, 900), (4, 49), (5, 1_999)] {
-        cache.cache_sent_packet(
-            Packet {
+const BY_SIZE: [Step; 17] = [
+    Cache(1, 30, 1),
+    Cache(2, 60, 2),
+    Cache(3, 900, 3),
+    Cache(4, 49, 4),
+    Cache(5, 1_999, 5),
+    Smaller(2_000, Some(5)),
+    Smaller(1_975, Some(3)),
+    Smaller(900, Some(2)),
+    Smaller(74, Some(4)),
+    Smaller(49, None),
+    LastNumber(Some(5)),
+    Numbered(4, Some(4)),
+    Cache(6, 1, 4_000),
+    Smaller(2_000, Some(6)),
+    LastPacket(Some(6)),
+    Clear,
+    LastPacket(None),
+];
+
+const OF_TWO: [Step; 2] = [Cache(9, 1, 0), LastNumber(Some(9))];
+
+fn is_packet(packet: Option<&Packet>, number: Option<u64>) -> bool {
+    match (packet, number) {
+        (Some(packet), Some(number)) => packet.number == number,
+        (None, None) => true,
+        _ => false,
+    }
+}
+
+fn is_number(last: Option<SeqNo>, number: Option<u64>) -> bool {
+    match (last, number) {
+        (Some(last), Some(number)) => u64::from(last) == number,
+        (None, None) => true,
+        _ => false,
+    }
+}
+
+fn cache_packet(
+    cache: &mut RtxCache<Packet>,
+    number: u64,
+    size: usize,
+    time: u64,
+) -> Result<bool, AllocError> {
+    let now = Instant::from_nanos(time.saturating_mul(1_000_000));
+    let size = size.min(1_999);
+    cache.cache_sent_packet(Packet { number, size }, now)?;
+    Ok(true)
+}
+
+// Takes a step, and tells whether the cache answers so.
+fn takes(cache: &mut RtxCache<Packet>, step: Step) -> Result<bool, AllocError> {
+    let same = match step {
+        Cache(number, size, time) => return cache_packet(cache, number, size, time),
+        Clear => {
+            cache.clear();
+            true
+        }
+        Smaller(size, number) => {
+            is_packet(
+                cache.get_cached_packet_smaller_than(size.min(2_000)),
                 number,
-                size: size % 2_000,
-            },
-            millis(number),
-        )?;
+            )
+        }
+        Numbered(asked, number) => {
+            is_packet(
+                cache.get_cached_packet_by_seq_no(SeqNo::from(asked)),
+                number,
+            )
+        }
+        LastNumber(number) => is_number(cache.last_cached_seq_no(), number),
+        LastPacket(number) => is_packet(cache.last_packet(), number),
+    };
+    Ok(same)
+}
+
+fn take_all(cache: &mut RtxCache<Packet>, steps: &[Step]) -> Result<usize, AllocError> {
+    for (at, step) in steps.iter().enumerate() {
+        if !takes(cache, *step)? {
+            return Ok(at);
+        }
     }
-    for (size, number) in [
-        (2_000usize, Some(5u64)),
-        (1_975, Some(3)),
-        (900, Some(2)),
-        (74, Some(4)),
-        (49, None),
-    ] {
-        assert_eq!(rt;
-            number_of(cache.get_cached_packet_smaller_than(size.min(2_000))),
-            number,
-            "{size}"
-        );
+    Ok(steps.len())
+}
+
+// How many steps a fresh cache takes and answers, up to the first that it answers otherwise.
+fn taken(alloc: Global, packets: usize, seconds: u64, steps: &[Step]) -> Result<usize, AllocError> {
+    let mut cache = RtxCache::new(alloc, packets, Duration::from_secs(seconds))?;
+    take_all(&mut cache, steps)
+}
+
+#[test]
+fn caches_answer(rt: HostRuntime) -> Result<(), Fail> {
+    let rows = [
+        (1, 3, OF_ONE.as_slice()),
+        (20, 3, BY_SIZE.as_slice()),
+        (2, 1, OF_TWO.as_slice()),
+    ];
+    for (packets, seconds, steps) in rows {
+        let taken = taken(rt.alloc(), packets, seconds, steps)?;
+        assert_eq!(rt; taken, steps.len(), "steps of {packets} packets");
     }
-    assert_eq!(rt; cache.last_cached_seq_no(), Some(SeqNo::from(5)));
-    assert_eq!(rt;
-        number_of(cache.get_cached_packet_by_seq_no(SeqNo::from(4))),
-        Some(4)
-    );
-    cache.cache_sent_packet(Packet { number: 6, size: 1 }, millis(4_000))?;
-    assert_eq!(rt;
-        number_of(cache.get_cached_packet_smaller_than(2_000)),
-        Some(6)
-    );
-    assert_eq!(rt; number_of(cache.last_packet()), Some(6));
-    cache.clear();
-    assert_eq!(rt; number_of(cache.last_packet()), None);
-    Ok(())
-}
-
-// Each call that takes memory answers with ample memory.
-#[test]
-fn surface_ample(rt: HostRuntime) -> Result<(), Fail> {
-    let mut buffer = EvictingBuffer::new(rt.alloc(), 1, Duration::from_secs(1), 1)?;
-    assert!(rt; buffer.push(1, millis(0), 'A').is_ok());
-    if let Some(value) = buffer.get_mut(1) {
-        *value = 'B';
-    }
-    assert_eq!(rt; buffer.get(1).copied(), Some('B'));
-    let mut cache: RtxCache<Packet> = RtxCache::new(rt.alloc(), 2, Duration::from_secs(1))?;
-    assert!(rt;
-        cache
-            .cache_sent_packet(Packet { number: 9, size: 1 }, millis(0))
-            .is_ok()
-    );
-    assert_eq!(rt; cache.last_cached_seq_no(), Some(SeqNo::from(9)));
-    Ok(())
-}
-
-fn second(count: u64) -> Instant
-    requires { count < 100 }
-{
-    Instant::from_nanos(count * 1_000_000_000)
-}
-
-// It grows until each has a slot of its own.
-#[test]
-fn grows(rt: HostRuntime) -> Result<(), Fail> {
-    let mut buffer = EvictingBuffer::new(rt.alloc(), 2, Duration::from_nanos(10_000_000_000), 10)?;
-    buffer.push(2, second(0), 'A')?;
-    buffer.push(3, second(1), 'B')?;
-    buffer.push(4, second(2), 'C')?;
-    assert_eq!(rt; buffer.get(2).copied(), Some('A'));
-    assert_eq!(rt; buffer.get(3).copied(), Some('B'));
-    assert_eq!(rt; buffer.get(4).copied(), Some('C'));
-    assert_eq!(rt; buffer.last_position(), Some(4));
-    assert_eq!(rt; buffer.last().copied(), Some('C'));
-    buffer.clear();
-    assert_eq!(rt; buffer.last_position(), None);
-    assert!(rt; !buffer.contains(4));
-    Ok(())
-}
-
-// What is older than ten seconds goes.
-#[test]
-fn ages_out(rt: HostRuntime) -> Result<(), Fail> {
-    let mut buffer = EvictingBuffer::new(rt.alloc(), 4, Duration::from_nanos(10_000_000_000), 10)?;
-    buffer.push(5, second(0), 'A')?;
-    buffer.push(7, second(2), 'C')?;
-    buffer.push(8, second(3), 'D')?;
-    buffer.maybe_evict(second(13));
-    assert!(rt; !buffer.contains(5));
-    assert!(rt; !buffer.contains(7));
-    assert_eq!(rt; buffer.get(8).copied(), Some('D'));
-    buffer.push(7, second(14), 'E')?;
-    assert!(rt; !buffer.contains(7));
-    buffer.push(9, second(12), 'F')?;
-    assert!(rt; !buffer.contains(9));
-    Ok(())
-}
-
-// At the greatest size the greater position stays.
-#[test]
-fn full(rt: HostRuntime) -> Result<(), Fail> {
-    let mut buffer = EvictingBuffer::new(rt.alloc(), 1, Duration::from_nanos(10_000_000_000), 2)?;
-    buffer.push(1, second(0), 'A')?;
-    buffer.push(2, second(0), 'B')?;
-    buffer.push(3, second(0), 'C')?;
-    assert!(rt; !buffer.contains(1));
-    assert_eq!(rt; buffer.get(2).copied(), Some('B'));
-    assert_eq!(rt; buffer.get(3).copied(), Some('C'));
-    buffer.push(1, second(0), 'D')?;
-    assert_eq!(rt; buffer.get(3).copied(), Some('C'));
     Ok(())
 }

@@ -1,49 +1,190 @@
-ghost use Rattle.std.specs.Prelude.{◌<◌};
-
 use media_base::{Duration, Instant};
 use resend_core::EvictingBuffer;
+use std::alloc::{AllocError, Global};
 use std::test::Fail;
 
-fn millis(count: u64) -> Instant
-    requires { count < 1000000 }
-{
-    Instant::from_nanos(count * 1_000_000)
+/// What is done to a buffer, and what it answers. Times are milliseconds.
+#[derive(Clone, Copy)]
+enum Step {
+    /// The value is pushed under a position, at a time.
+    Push(u64, u64, char),
+    /// What is too old at a time goes.
+    Evict(u64),
+    /// All goes.
+    Clear,
+    /// The value under a position becomes this one.
+    Change(u64, char),
+    /// The position has this value.
+    Has(u64, char),
+    /// The position has no value.
+    Lacks(u64),
+    /// The greatest position is this one.
+    Last(Option<u64>),
+    /// The value under the greatest position is this one.
+    LastValue(char),
+}
+
+use Step::{Change, Clear, Evict, Has, Lacks, Last, LastValue, Push};
+
+/// A fresh buffer: its slots at first and at most, and its age in milliseconds.
+#[derive(Clone, Copy)]
+struct Made {
+    slots: usize,
+    age: u64,
+    most: usize,
 }
 
 // What is too old goes by its position, also where a young value stands in an earlier slot; the mark
 // then stands right above the greatest that went.
-#[test]
-fn evicts_by_position(rt: HostRuntime) -> Result<(), Fail> {
-    let mut buffer = EvictingBuffer::new(rt.alloc(), 10, Duration::from_secs(3), 10)?;
-    buffer.push(0, millis(0), 'A')?;
-    buffer.push(5, millis(0), 'B')?;
-    buffer.push(13, millis(2_000), 'C')?;
-    buffer.maybe_evict(millis(3_500));
-    assert!(rt; !buffer.contains(0));
-    assert!(rt; !buffer.contains(5));
-    assert_eq!(rt; buffer.get(13).copied(), Some('C'));
-    buffer.push(5, millis(3_500), 'D')?;
-    assert!(rt; !buffer.contains(5));
-    buffer.push(6, millis(3_500), 'E')?;
-    assert_eq!(rt; buffer.get(6).copied(), Some('E'));
-    Ok(())
-}
+const BY_POSITION: [Step; 11] = [
+    Push(0, 0, 'A'),
+    Push(5, 0, 'B'),
+    Push(13, 2_000, 'C'),
+    Evict(3_500),
+    Lacks(0),
+    Lacks(5),
+    Has(13, 'C'),
+    Push(5, 3_500, 'D'),
+    Lacks(5),
+    Push(6, 3_500, 'E'),
+    Has(6, 'E'),
+];
 
 // Positions far apart: what is too old goes, however far the next one is.
+const JUMPS: [Step; 12] = [
+    Push(1, 0, 'A'),
+    Push(1_000_002, 10, 'B'),
+    Push(5_000_003, 1_005, 'C'),
+    Evict(1_005),
+    Lacks(1),
+    Has(1_000_002, 'B'),
+    Evict(1_011),
+    Lacks(1_000_002),
+    Has(5_000_003, 'C'),
+    Evict(9_000),
+    Lacks(5_000_003),
+    Last(Some(5_000_003)),
+];
+
+// It grows until each has a slot of its own.
+const GROWS: [Step; 11] = [
+    Push(2, 0, 'A'),
+    Push(3, 1_000, 'B'),
+    Push(4, 2_000, 'C'),
+    Has(2, 'A'),
+    Has(3, 'B'),
+    Has(4, 'C'),
+    Last(Some(4)),
+    LastValue('C'),
+    Clear,
+    Last(None),
+    Lacks(4),
+];
+
+// What is older than ten seconds goes.
+const AGES_OUT: [Step; 11] = [
+    Push(5, 0, 'A'),
+    Push(7, 2_000, 'C'),
+    Push(8, 3_000, 'D'),
+    Evict(13_000),
+    Lacks(5),
+    Lacks(7),
+    Has(8, 'D'),
+    Push(7, 14_000, 'E'),
+    Lacks(7),
+    Push(9, 12_000, 'F'),
+    Lacks(9),
+];
+
+// At the greatest size the greater position stays.
+const FULL: [Step; 8] = [
+    Push(1, 0, 'A'),
+    Push(2, 0, 'B'),
+    Push(3, 0, 'C'),
+    Lacks(1),
+    Has(2, 'B'),
+    Has(3, 'C'),
+    Push(1, 0, 'D'),
+    Has(3, 'C'),
+];
+
+// A value is changed where it stands.
+const CHANGED: [Step; 3] = [Push(1, 0, 'A'), Change(1, 'B'), Has(1, 'B')];
+
+fn millis(count: u64) -> Instant {
+    Instant::from_nanos(count.saturating_mul(1_000_000))
+}
+
+fn change(buffer: &mut EvictingBuffer<char>, position: u64, value: char) -> bool {
+    match buffer.get_mut(position) {
+        Some(held) => {
+            *held = value;
+            true
+        }
+        None => false,
+    }
+}
+
+fn has(buffer: &EvictingBuffer<char>, position: u64, value: Option<char>) -> bool {
+    buffer.contains(position) == value.is_some() && buffer.get(position).copied() == value
+}
+
+fn push(
+    buffer: &mut EvictingBuffer<char>,
+    position: u64,
+    time: u64,
+    value: char,
+) -> Result<bool, AllocError> {
+    match buffer.push(position, millis(time), value) {
+        Ok(_) => Ok(true),
+        Err(error) => Err(error),
+    }
+}
+
+// Takes a step, and tells whether the buffer answers so.
+fn takes(buffer: &mut EvictingBuffer<char>, step: Step) -> Result<bool, AllocError> {
+    match step {
+        Push(position, time, value) => return push(buffer, position, time, value),
+        Evict(time) => buffer.maybe_evict(millis(time)),
+        Clear => buffer.clear(),
+        Change(position, value) => return Ok(change(buffer, position, value)),
+        Has(position, value) => return Ok(has(buffer, position, Some(value))),
+        Lacks(position) => return Ok(has(buffer, position, None)),
+        Last(position) => return Ok(buffer.last_position() == position),
+        LastValue(value) => return Ok(buffer.last().copied() == Some(value)),
+    }
+    Ok(true)
+}
+
+// How many steps a fresh buffer takes and answers, up to the first that it answers otherwise.
+fn taken(alloc: Global, made: Made, steps: &[Step]) -> Result<usize, AllocError> {
+    let age = Duration::from_millis(made.age);
+    let mut buffer = EvictingBuffer::new(alloc, made.slots, age, made.most)?;
+    take_all(&mut buffer, steps)
+}
+
+fn take_all(buffer: &mut EvictingBuffer<char>, steps: &[Step]) -> Result<usize, AllocError> {
+    for (at, step) in steps.iter().enumerate() {
+        if !takes(buffer, *step)? {
+            return Ok(at);
+        }
+    }
+    Ok(steps.len())
+}
+
 #[test]
-fn evicts_over_jumps(rt: HostRuntime) -> Result<(), Fail> {
-    let mut buffer = EvictingBuffer::new(rt.alloc(), 4, Duration::from_secs(1), 4)?;
-    buffer.push(1, millis(0), 'A')?;
-    buffer.push(1_000_002, millis(10), 'B')?;
-    buffer.push(5_000_003, millis(1_005), 'C')?;
-    buffer.maybe_evict(millis(1_005));
-    assert!(rt; !buffer.contains(1));
-    assert_eq!(rt; buffer.get(1_000_002).copied(), Some('B'));
-    buffer.maybe_evict(millis(1_011));
-    assert!(rt; !buffer.contains(1_000_002));
-    assert_eq!(rt; buffer.get(5_000_003).copied(), Some('C'));
-    buffer.maybe_evict(millis(9_000));
-    assert!(rt; !buffer.contains(5_000_003));
-    assert_eq!(rt; buffer.last_position(), Some(5_000_003));
+fn buffers_answer(rt: HostRuntime) -> Result<(), Fail> {
+    let rows = [
+        ((10, 3_000, 10), BY_POSITION.as_slice()),
+        ((4, 1_000, 4), JUMPS.as_slice()),
+        ((2, 10_000, 10), GROWS.as_slice()),
+        ((4, 10_000, 10), AGES_OUT.as_slice()),
+        ((1, 10_000, 2), FULL.as_slice()),
+        ((1, 1_000, 1), CHANGED.as_slice()),
+    ];
+    for ((slots, age, most), steps) in rows {
+        let taken = taken(rt.alloc(), Made { slots, age, most }, steps)?;
+        assert_eq!(rt; taken, steps.len(), "steps of {slots}, {age} and {most}");
+    }
     Ok(())
 }
