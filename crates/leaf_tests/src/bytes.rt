@@ -2,6 +2,7 @@ use media_base::{
     BitPattern, Bytes, Failed, Listed, MemSink, MemSource, ReadError, ReaderSource, Sink, Source,
     WriterSink, read_all, write_all,
 };
+use std::alloc::{AllocError, Global};
 use std::io::{self, Read, Write};
 use std::test::Fail;
 
@@ -40,100 +41,168 @@ impl<T: Write> Write for Halting<T> {
     }
 }
 
+// Whether a read into so many bytes of a room gives this count, or fails where there is none, and
+// leaves the room so.
+fn reads<S: Source>(source: &mut S, len: usize, count: Option<usize>, wanted: [u8; 6]) -> bool {
+    let mut room = [b'-'; 6];
+    let read = source.read(&mut room[..len.min(6)]);
+    let same = match (read, count) {
+        (Ok(read), Some(count)) => read == count,
+        (Err(_), None) => true,
+        _ => false,
+    };
+    same && room == wanted
+}
+
+// Whether reading to the end gives these bytes.
+fn reads_all<S: Source>(alloc: Global, source: &mut S, limit: u16, wanted: &[u8]) -> bool {
+    match read_all(alloc, source, usize::from(limit)) {
+        Ok(bytes) => bytes.as_slice() == wanted,
+        Err(_) => false,
+    }
+}
+
+// Why reading to the end fails, if it does.
+fn why_not_all<S: Source>(alloc: Global, source: &mut S, limit: u16) -> Option<ReadError> {
+    match read_all(alloc, source, usize::from(limit)) {
+        Ok(_) => None,
+        Err(error) => Some(error),
+    }
+}
+
+// Whether a write gives this count, or fails where there is none.
+fn writes<K: Sink>(sink: &mut K, bytes: &[u8], count: Option<usize>) -> bool {
+    match (sink.write(bytes), count) {
+        (Ok(written), Some(count)) => written == count,
+        (Err(_), None) => true,
+        _ => false,
+    }
+}
+
+// A source of bytes in pieces, whose calls of these numbers fail.
+fn source_of(
+    alloc: Global,
+    bytes: &[u8],
+    piece: usize,
+    failing: &[u64],
+) -> Result<MemSource, AllocError> {
+    let bytes = bytes.to_vec(alloc)?;
+    let failing = failing.to_vec(alloc)?;
+    Ok(MemSource::new(bytes, piece, failing))
+}
+
+fn fill(list: &mut Listed<u8>) -> Result<(), AllocError> {
+    list.push(7)?;
+    list.push(8)
+}
+
 #[test]
 fn surface_ample(rt: HostRuntime) -> Result<(), Fail> {
     let bytes = Bytes::from_slice(rt.alloc(), b"media")?;
-    assert_eq!(rt; bytes.as_slice(), b"media".as_slice());
-
-    let mut list = Listed::new(rt.alloc());
-    list.push(7u8)?;
-    list.push(8)?;
-    assert_eq!(rt; list.as_slice(), [7, 8].as_slice());
-
+    assert!(rt; bytes.as_slice() == b"media".as_slice());
     let mut source = MemSource::new(bytes.into_vec(), 2, Vec::new(rt.alloc()));
-    let read = read_all(rt.alloc(), &mut source, 5)?;
-    assert_eq!(rt; read.as_slice(), b"media".as_slice());
-    assert_eq!(rt; source.faults(), 0);
-
-    let mut sink = MemSink::new(rt.alloc(), 5, 2, Vec::new(rt.alloc()))?;
-    assert_eq!(rt; write_all(&mut sink, b"media"), Ok(()));
-    assert_eq!(rt; sink.bytes(), b"media".as_slice());
-    assert_eq!(rt; sink.faults(), 0);
+    assert!(rt; reads_all(rt.alloc(), &mut source, 5, b"media") && source.faults() == 0);
     Ok(())
 }
 
 #[test]
-fn patterns_ask_for_bits(rt: HostRuntime) -> Result<(), Fail> {
-    let pattern = BitPattern::new(*b"1x0x1x01").ok_or("a pattern")?;
-    assert!(rt; pattern.matches(0b1101_1001));
-    assert!(rt; !pattern.matches(0b1101_1011));
-    assert_eq!(rt; BitPattern::new(*b"1x0x1x02"), None);
-    let any = BitPattern::new(*b"xxxxxxxx").ok_or("a pattern")?;
-    assert!(rt; any.matches(0) && any.matches(255));
+fn lists_and_sinks_with_ample_memory(rt: HostRuntime) -> Result<(), Fail> {
+    let mut list = Listed::new(rt.alloc());
+    let filled = fill(&mut list);
+    assert!(rt; filled.is_ok() && list.as_slice() == [7, 8].as_slice());
+    let mut sink = MemSink::new(rt.alloc(), 5, 2, Vec::new(rt.alloc()))?;
+    assert!(rt; write_all(&mut sink, b"media").is_ok());
+    assert!(rt; sink.bytes() == b"media".as_slice() && sink.faults() == 0);
     Ok(())
 }
+
+fn matches(pattern: [u8; 8], byte: u8) -> Option<bool> {
+    match BitPattern::new(pattern) {
+        Some(pattern) => Some(pattern.matches(byte)),
+        None => None,
+    }
+}
+
+#[test]
+fn patterns_ask_for_bits(rt: HostRuntime) {
+    let rows = [
+        (*b"1x0x1x01", 0b1101_1001, Some(true)),
+        (*b"1x0x1x01", 0b1101_1011, Some(false)),
+        (*b"1x0x1x02", 0, None),
+        (*b"xxxxxxxx", 0, Some(true)),
+        (*b"xxxxxxxx", 255, Some(true)),
+    ];
+    for (pattern, byte, wanted) in rows {
+        assert!(rt; matches(pattern, byte) == wanted, "{byte} in {pattern:?}");
+    }
+}
+
+// Reads of a source of ten bytes in pieces of 4, whose second and fourth calls fail.
+const READS: [(usize, Option<usize>, [u8; 6]); 6] = [
+    (6, Some(4), *b"0123--"),
+    (6, None, *b"------"),
+    (3, Some(3), *b"456---"),
+    (6, None, *b"------"),
+    (6, Some(3), *b"789---"),
+    (6, Some(0), *b"------"),
+];
 
 #[test]
 fn a_source_in_memory_fails_in_mid_stream_and_goes_on(rt: HostRuntime) -> Result<(), Fail> {
-    let bytes = b"0123456789".to_vec(rt.alloc())?;
-    let mut source = MemSource::new(bytes, 4, [1, 3].to_vec(rt.alloc())?);
-    let mut buf = [b'-'; 6];
-    assert_eq!(rt; source.read(&mut buf), Ok(4));
-    assert_eq!(rt; source.read(&mut buf), Err(Failed));
-    assert_eq!(rt; &buf, b"0123--");
-    assert_eq!(rt; source.read(&mut buf[..3]), Ok(3));
-    assert_eq!(rt; &buf, b"4563--");
-    assert_eq!(rt; source.read(&mut buf), Err(Failed));
-    assert_eq!(rt; source.faults(), 2);
-    assert_eq!(rt; source.read(&mut buf), Ok(3));
-    assert_eq!(rt; source.read(&mut buf), Ok(0));
-    assert_eq!(rt; &buf, b"7893--");
-
-    let bytes = b"0123456789".to_vec(rt.alloc())?;
-    let mut source = MemSource::new(bytes, 4, [2].to_vec(rt.alloc())?);
-    let failed = read_all(rt.alloc(), &mut source, 100);
-    assert_eq!(rt; failed.err(), Some(ReadError::Failed));
-    assert_eq!(rt; source.faults(), 1);
-    let rest = read_all(rt.alloc(), &mut source, 100)?;
-    assert_eq!(rt; rest.as_slice(), b"89".as_slice());
+    let mut source = source_of(rt.alloc(), b"0123456789", 4, &[1, 3])?;
+    for (len, count, room) in READS {
+        assert!(rt; reads(&mut source, len, count, room), "{room:?}");
+    }
+    assert!(rt; source.faults() == 2);
     Ok(())
 }
 
 #[test]
-fn a_sink_in_memory_fails_in_mid_stream_and_when_full(rt: HostRuntime) -> Result<(), Fail> {
-    let mut sink = MemSink::new(rt.alloc(), 9, 4, [1].to_vec(rt.alloc())?)?;
-    assert_eq!(rt; write_all(&mut sink, b"0123456789"), Err(Failed));
-    assert_eq!(rt; sink.bytes(), b"0123".as_slice());
-    assert_eq!(rt; sink.write(b"4567"), Ok(4));
-    assert_eq!(rt; sink.write(b"89"), Err(Failed));
-    assert_eq!(rt; sink.faults(), 2);
-    assert_eq!(rt; sink.write(b"8"), Ok(1));
-    assert_eq!(rt; sink.write(b""), Ok(0));
-    assert_eq!(rt; sink.bytes(), b"012345678".as_slice());
+fn reading_all_fails_in_mid_stream_and_goes_on(rt: HostRuntime) -> Result<(), Fail> {
+    let mut source = source_of(rt.alloc(), b"0123456789", 4, &[2])?;
+    let failed = why_not_all(rt.alloc(), &mut source, 100);
+    assert!(rt; failed == Some(ReadError::Failed) && source.faults() == 1);
+    assert!(rt; reads_all(rt.alloc(), &mut source, 100, b"89"));
     Ok(())
 }
 
 #[test]
 fn limits_are_kept(rt: HostRuntime) -> Result<(), Fail> {
-    let bytes = b"0123456789".to_vec(rt.alloc())?;
-    let mut source = MemSource::new(bytes, 0, Vec::new(rt.alloc()));
-    let long = read_all(rt.alloc(), &mut source, 9);
-    assert_eq!(rt; long.err(), Some(ReadError::TooLong));
+    let mut source = source_of(rt.alloc(), b"0123456789", 0, &[])?;
+    let failed = why_not_all(rt.alloc(), &mut source, 9);
+    assert!(rt; failed == Some(ReadError::TooLong));
+    Ok(())
+}
+
+// Writes behind the first four bytes, to a sink of nine bytes in pieces of 4.
+const WRITES: [(&[u8], Option<usize>); 4] = [
+    (b"4567", Some(4)),
+    (b"89", None),
+    (b"8", Some(1)),
+    (b"", Some(0)),
+];
+
+#[test]
+fn a_sink_in_memory_fails_in_mid_stream_and_when_full(rt: HostRuntime) -> Result<(), Fail> {
+    let failing = [1].to_vec(rt.alloc())?;
+    let mut sink = MemSink::new(rt.alloc(), 9, 4, failing)?;
+    assert!(rt; write_all(&mut sink, b"0123456789").is_err());
+    assert!(rt; sink.bytes() == b"0123".as_slice());
+    for (bytes, count) in WRITES {
+        assert!(rt; writes(&mut sink, bytes, count), "{bytes:?}");
+    }
+    assert!(rt; sink.bytes() == b"012345678".as_slice() && sink.faults() == 2);
     Ok(())
 }
 
 #[test]
-fn a_reader_fails_in_mid_stream_and_goes_on(rt: HostRuntime) -> Result<(), Fail> {
+fn a_reader_fails_in_mid_stream_and_goes_on(rt: HostRuntime) {
     let inner = b"0123".as_slice();
     let mut source = ReaderSource::new(Halting { inner, calls: 0 });
-    let mut buf = [0; 3];
-    assert_eq!(rt; source.read(&mut buf), Ok(3));
-    assert_eq!(rt; source.read(&mut buf[..0]), Ok(0));
-    assert_eq!(rt; source.read(&mut buf), Err(Failed));
-    assert_eq!(rt; source.faults(), 1);
-    let rest = read_all(rt.alloc(), &mut source, 100)?;
-    assert_eq!(rt; rest.as_slice(), b"3".as_slice());
-    Ok(())
+    assert!(rt; reads(&mut source, 3, Some(3), *b"012---"));
+    assert!(rt; reads(&mut source, 0, Some(0), *b"------"));
+    assert!(rt; reads(&mut source, 3, None, *b"------") && source.faults() == 1);
+    assert!(rt; reads_all(rt.alloc(), &mut source, 100, b"3"));
 }
 
 #[test]
@@ -141,11 +210,8 @@ fn a_writer_that_fails_or_takes_nothing_is_at_fault(rt: HostRuntime) {
     let mut room = [b'-'; 4];
     let inner = room.as_mut_slice();
     let mut sink = WriterSink::new(Halting { inner, calls: 0 });
-    assert_eq!(rt; sink.write(b"01"), Ok(2));
-    assert_eq!(rt; sink.write(b""), Ok(0));
-    assert_eq!(rt; sink.write(b"23"), Err(Failed));
-    assert_eq!(rt; sink.faults(), 1);
-    assert_eq!(rt; sink.write(b"234"), Ok(2));
-    assert_eq!(rt; sink.write(b"4"), Err(Failed));
-    assert_eq!(rt; sink.faults(), 2);
+    assert!(rt; writes(&mut sink, b"01", Some(2)) && writes(&mut sink, b"", Some(0)));
+    assert!(rt; writes(&mut sink, b"23", None) && sink.faults() == 1);
+    assert!(rt; writes(&mut sink, b"234", Some(2)));
+    assert!(rt; writes(&mut sink, b"4", None) && sink.faults() == 2);
 }

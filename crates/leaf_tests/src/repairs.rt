@@ -46,8 +46,8 @@ fn is_fresh_in(taken: &[u64], number: u64) -> bool
     }
 }
 
-// Numbers that come one after another: jumps of 1, 100, 101, 102, 200, 201 and 65,536, numbers at both
-// ends of the window and below the first, replays, and numbers out of order.
+// Numbers that come one after another: jumps of 1, 100, 101, 102, 200, 201 and 65,536, numbers at
+// both ends of the window and below the first, replays, and numbers out of order.
 const CASES: [[u64; 6]; 40] = [
     [1_000, 1_001, 901, 900, 1_001, 1_000],
     [1_000, 1_050, 1_051, 951, 950, 1_050],
@@ -190,8 +190,8 @@ enum Step {
     Greatest(Option<u64>),
     /// At so many milliseconds it asks for missing numbers by these entries.
     Asks(u64, [Option<NackEntry>; 2]),
-    /// Up to this nanosecond the numbers from one up to another are waited for, behind a packet that came
-    /// after one nanosecond.
+    /// Up to this nanosecond the numbers from one up to another are waited for, behind a packet
+    /// that came after one nanosecond.
     Deadline(u64, u64, Option<u64>),
 }
 
@@ -334,7 +334,7 @@ enum Hears {
     Fresh(u64, bool),
     /// No report is made.
     Silence,
-    /// The report tells this fraction and number of lost packets, and the greatest number, with no jitter.
+    /// The report tells this fraction and count of lost packets, a greatest number, and no jitter.
     Report(u8, i32, u32),
     /// The jitter is this one.
     Jitter(u32),

@@ -14,13 +14,13 @@ const WITH_MID: [u8; 22] = [
 
 const ONE_SOURCE: [u8; 16] = [0x81, 0xe0, 0, 1, 0, 0, 0, 2, 0, 0, 0, 3, 0, 0, 1, 0];
 
-// The example of RFC 8285 section 4.2: elements of 1, 2 and 4 bytes, with padding between the last two.
+// The example of RFC 8285 section 4.2: elements of 1, 2 and 4 bytes, with padding before the last.
 const PADDED_ONE_BYTE: [u8; 30] = [
     0x90, 0x60, 0, 1, 0, 0, 0, 0, 0, 0, 0, 0x2a, 0xbe, 0xde, 0, 3, 0x10, 0x7f, 0x31, 1, 2, 0, 0,
     0x43, b'a', b'b', b'c', b'd', 9, 9,
 ];
 
-// The example of RFC 8285 section 4.3: elements of 0, 1 and 4 bytes, with padding between the last two.
+// The example of RFC 8285 section 4.3: elements of 0, 1 and 4 bytes, with padding before the last.
 const PADDED_TWO_BYTE: [u8; 28] = [
     0x90, 0x60, 0, 1, 0, 0, 0, 0, 0, 0, 0, 0x2a, 0x10, 0, 0, 3, 3, 0, 13, 1, 2, 0, 4, 4, b'a',
     b'b', b'c', b'd',
@@ -387,7 +387,7 @@ fn each_value_is_written(rt: HostRuntime) {
     }
 }
 
-// How many bytes these values take, under the ids 1 for the level and 2 for the delay, and their data.
+// How many bytes these values take, with the ids 1 of the level and 2 of the delay, and their data.
 fn written(values: &ExtensionValues) -> (usize, [u8; 88]) {
     let mut exts = ExtensionMap::empty();
     exts.set(1, Extension::AudioLevel);

@@ -2,85 +2,152 @@ use rtp_base::{
     Direction, Frequency, MediaTime, Mid, MidRid, Pt, Rid, SeqNo, SeqNoWindow, SessionId, Ssrc,
     TwccClusterId, TwccPacketId, widen16, widen32,
 };
-use std::test::Fail;
 
-// The edges of 16 bits: after no number, 0, 32767, 32768, 65535, 65536 and 2^47 (RFC 3711 appendix A).
+// The edges of 16 bits, after none, 0, 2^15 - 1, 2^15, 2^16 - 1, 2^16, 2^47 (RFC 3711 appendix A).
+const WIDE: [(Option<u64>, u16, u64); 17] = [
+    (None, 0, 0),
+    (None, 65535, 65535),
+    (Some(0), 32768, 32768),
+    (Some(0), 32769, 32769),
+    (Some(0), 65535, 65535),
+    (Some(32767), 65535, 65535),
+    (Some(32768), 0, 0),
+    (Some(32769), 0, 65536),
+    (Some(65535), 0, 65536),
+    (Some(65535), 32766, 98302),
+    (Some(65535), 32767, 32767),
+    (Some(65536), 65535, 65535),
+    (Some(65536), 32768, 98304),
+    (Some(65536), 32769, 32769),
+    (Some(0x8000_0000_0000), 1, 0x8000_0000_0001),
+    (Some(0x8000_0000_0000), 65535, 0x7fff_ffff_ffff),
+    (Some(0xffff_ffff_ffff), 0, 0xffff_ffff_0000),
+];
+
 #[test]
 fn numbers_widen(rt: HostRuntime) {
-    let rows = [
-        (None, 0, 0),
-        (None, 65535, 65535),
-        (Some(0), 32768, 32768),
-        (Some(0), 32769, 32769),
-        (Some(0), 65535, 65535),
-        (Some(32767), 65535, 65535),
-        (Some(32768), 0, 0),
-        (Some(32769), 0, 65536),
-        (Some(65535), 0, 65536),
-        (Some(65535), 32766, 98302),
-        (Some(65535), 32767, 32767),
-        (Some(65536), 65535, 65535),
-        (Some(65536), 32768, 98304),
-        (Some(65536), 32769, 32769),
-        (Some(1 << 47), 1, (1 << 47) + 1),
-        (Some(1 << 47), 65535, (1 << 47) - 1),
-        (Some((1 << 48) - 1), 0, (1 << 48) - 65536),
-    ];
-    for (last, low, wide) in rows {
-        assert_eq!(rt; widen16(last, low), wide);
+    for (last, low, wide) in WIDE {
+        assert!(rt; widen16(last, low) == wide, "{low} after {last:?}");
     }
-    assert_eq!(rt; widen32(Some(0xffff_ffff), 0), 0x1_0000_0000);
-    assert_eq!(rt; widen32(Some(0x1_0000_0000), 0xffff_ffff), 0xffff_ffff);
+    assert!(rt; widen32(Some(0xffff_ffff), 0) == 0x1_0000_0000);
+    assert!(rt; widen32(Some(0x1_0000_0000), 0xffff_ffff) == 0xffff_ffff);
+}
+
+/// A number that comes to a window, or is asked of it.
+#[derive(Clone, Copy)]
+enum Step {
+    /// It is taken, or is not.
+    Update(u64, bool),
+    /// It may be taken, or may not.
+    Accepts(u64, bool),
+    /// It is the greatest.
+    Greatest(u64),
+}
+
+use Step::{Accepts, Greatest, Update};
+
+const AT_1000: [Step; 8] = [
+    Accepts(1000, false),
+    Accepts(873, true),
+    Accepts(872, false),
+    Update(999, true),
+    Update(999, false),
+    Update(1127, true),
+    Greatest(1127),
+    Accepts(1000, false),
+];
+
+const AFTER_50: [Step; 5] = [
+    Update(50, false),
+    Greatest(50),
+    Update(60, true),
+    Accepts(49, false),
+    Accepts(55, true),
+];
+
+fn answers(window: &mut SeqNoWindow, step: Step) -> bool {
+    match step {
+        Update(number, taken) => window.update(SeqNo::from(number)) == taken,
+        Accepts(number, fresh) => window.accepts(SeqNo::from(number)) == fresh,
+        Greatest(number) => window.max_seq() == SeqNo::from(number),
+    }
+}
+
+// How many steps the window answers, up to the first that it answers otherwise.
+fn answered(mut window: SeqNoWindow, steps: &[Step]) -> usize {
+    for (at, step) in steps.iter().enumerate() {
+        if !answers(&mut window, *step) {
+            return at;
+        }
+    }
+    steps.len()
 }
 
 #[test]
 fn windows_of_repairs(rt: HostRuntime) {
-    let mut window = SeqNoWindow::new(SeqNo::from(1000));
-    assert!(rt; !window.accepts(SeqNo::from(1000)));
-    assert!(rt; window.accepts(SeqNo::from(873)));
-    assert!(rt; !window.accepts(SeqNo::from(872)));
-    assert!(rt; window.update(SeqNo::from(999)));
-    assert!(rt; !window.update(SeqNo::from(999)));
-    assert!(rt; window.update(SeqNo::from(1127)));
-    assert_eq!(rt; window.max_seq(), SeqNo::from(1127));
-    assert!(rt; !window.accepts(SeqNo::from(1000)));
-    let mut after = SeqNoWindow::new_after(SeqNo::from(50));
-    assert!(rt; !after.update(SeqNo::from(50)));
-    assert_eq!(rt; after.max_seq(), SeqNo::from(50));
-    assert!(rt; after.update(SeqNo::from(60)));
-    assert!(rt; !after.accepts(SeqNo::from(49)));
-    assert!(rt; after.accepts(SeqNo::from(55)));
+    assert_eq!(rt; answered(SeqNoWindow::new(SeqNo::from(1000)), &AT_1000), 8);
+    assert_eq!(rt;
+        answered(SeqNoWindow::new_after(SeqNo::from(50)), &AFTER_50),
+        5
+    );
 }
 
-// No call of this crate takes memory: what the tests above do not call is called here.
+// Whether these bytes are a mid and a rid, and are told by both.
+fn are_names(bytes: &[u8]) -> bool {
+    match (Mid::from_slice(bytes), Rid::from_slice(bytes)) {
+        (Some(mid), Some(rid)) => mid.as_slice() == bytes && rid.as_slice() == bytes,
+        _ => false,
+    }
+}
+
+// Whether one stream or all of the mid v are asked for by another.
+fn equals(asked: Option<Rid>, held: Option<Rid>) -> Option<bool> {
+    let mid = Mid::from_slice(b"v")?;
+    Some(MidRid(mid, asked).special_equals(&MidRid(mid, held)))
+}
+
 #[test]
-fn surface_ample(rt: HostRuntime) -> Result<(), Fail> {
-    let mid = Mid::from_slice(b"v").ok_or("a name")?;
-    assert_eq!(rt; Mid::from_slice(b""), None);
-    assert_eq!(rt; Mid::from_slice(b"12345678901234567"), None);
-    let rid = Rid::from_slice(b"q").ok_or("a name")?;
-    assert!(rt; MidRid(mid, None).special_equals(&MidRid(mid, Some(rid))));
-    assert!(rt; !MidRid(mid, Some(rid)).special_equals(&MidRid(mid, None)));
-    assert_eq!(rt; SessionId::new(u64::MAX).get(), u64::MAX / 4);
-    assert_eq!(rt; u64::from(TwccClusterId::from(3)), 3);
-    let packet = TwccPacketId::with_cluster(SeqNo::from(1), TwccClusterId::from(2));
-    assert_eq!(rt; packet.cluster, Some(TwccClusterId::from(2)));
-    assert_eq!(rt; TwccPacketId::new(SeqNo::from(1)).cluster, None);
-    assert!(rt; Direction::SendOnly.is_sending() && !Direction::SendOnly.is_receiving());
-    assert_eq!(rt; Direction::SendOnly.invert(), Direction::RecvOnly);
-    let time = MediaTime::new(3001, Frequency::NINETY_KHZ).rebase(Frequency::MILLIS);
-    assert_eq!(rt; time.numer(), 33);
-    assert_eq!(rt; time.frequency(), Frequency::MILLIS);
-    let long = MediaTime::new(u64::MAX, Frequency::SECONDS).rebase(Frequency::NANOS);
-    assert_eq!(rt; long.numer(), u64::MAX);
-    assert_eq!(rt; Frequency::new(0), None);
-    assert_eq!(rt; Frequency::MILLIS.get(), 1_000);
+fn names_have_1_to_16_bytes(rt: HostRuntime) {
+    assert!(rt; are_names(b"v") && are_names(b"q"));
+    assert!(rt; Mid::from_slice(b"").is_none());
+    assert!(rt; Mid::from_slice(b"12345678901234567").is_none());
+    let rid = Rid::from_slice(b"q");
+    assert!(rt; equals(None, rid) == Some(true) && equals(rid, None) == Some(false));
+}
+
+#[test]
+fn ids_are_told(rt: HostRuntime) {
+    assert!(rt; SessionId::new(u64::MAX).get() == u64::MAX / 4);
+    assert!(rt; u64::from(TwccClusterId::from(3)) == 3 && u8::from(Pt::from(96)) == 96);
     assert!(rt; Ssrc::from(0).is_probe() && !Ssrc::from(1).is_probe());
-    assert_eq!(rt; u8::from(Pt::from(96)), 96);
+}
+
+#[test]
+fn packets_have_clusters(rt: HostRuntime) {
+    let cluster = TwccClusterId::from(2);
+    let packet = TwccPacketId::with_cluster(SeqNo::from(1), cluster);
+    assert!(rt; packet.cluster == Some(cluster));
+    assert!(rt; TwccPacketId::new(SeqNo::from(1)).cluster.is_none());
+}
+
+#[test]
+fn numbers_and_directions_turn(rt: HostRuntime) {
     let mut number = SeqNo::from(65_535);
-    assert_eq!(rt; number.inc(), SeqNo::from(65_535));
-    assert_eq!(rt; number.roc(), 1);
-    assert_eq!(rt; mid.as_slice(), b"v".as_slice());
-    assert_eq!(rt; rid.as_slice(), b"q".as_slice());
-    Ok(())
+    assert!(rt; number.inc() == SeqNo::from(65_535) && number.roc() == 1);
+    let direction = Direction::SendOnly;
+    assert!(rt; direction.is_sending() && !direction.is_receiving());
+    assert!(rt; direction.invert() == Direction::RecvOnly);
+}
+
+#[test]
+fn times_are_rebased(rt: HostRuntime) {
+    let rows = [
+        (3001, Frequency::NINETY_KHZ, Frequency::MILLIS, 33),
+        (u64::MAX, Frequency::SECONDS, Frequency::NANOS, u64::MAX),
+    ];
+    for (count, from, to, wanted) in rows {
+        let time = MediaTime::new(count, from).rebase(to);
+        assert!(rt; time.numer() == wanted && time.frequency() == to, "{count}");
+    }
+    assert!(rt; Frequency::new(0).is_none() && Frequency::MILLIS.get() == 1_000);
 }

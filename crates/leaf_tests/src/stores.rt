@@ -34,8 +34,8 @@ struct Made {
     most: usize,
 }
 
-// What is too old goes by its position, also where a young value stands in an earlier slot; the mark
-// then stands right above the greatest that went.
+// What is too old goes by its position, also where a young value stands in an earlier slot; the
+// mark then stands right above the greatest that went.
 const BY_POSITION: [Step; 11] = [
     Push(0, 0, 'A'),
     Push(5, 0, 'B'),
