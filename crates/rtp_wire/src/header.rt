@@ -98,17 +98,17 @@ impl RtpHeader {
         end + 4 <= bytes.len() && Self::header_end(bytes) <= bytes.len()
     }
 
-    fn sources(bytes: &[u8]) -> [u32; 15]
+    // Puts the sources to the front of zeros.
+    fn put_sources(places: &mut [u32; 15], bytes: &[u8])
         requires fixed { 12 ≤ length bytes.now }
         requires whole { sources_end bytes.now ≤ length bytes.now }
-        ensures { result ≡ sources bytes.now ++ replicate (15 - source_count bytes.now) 0 }
+        requires zeros { places.old ≡ replicate 15 0 }
+        ensures { places.new ≡ sources bytes.now ++ replicate (15 - source_count bytes.now) 0 }
     {
         let count = usize::from(bytes[0] & 15);
-        let mut sources = [0; 15];
         for i in 0..count {
-            sources[i] = u32_at(bytes, 12 + 4 * i);
+            places[i] = u32_at(bytes, 12 + 4 * i);
         }
-        sources
     }
 
     /// The header at the front of the bytes. None exactly where fewer than 12 bytes stand, the version is not 2, or the
@@ -127,15 +127,7 @@ impl RtpHeader {
         requires { IsTrue (has_header bytes.now) }
         ensures { result ≡ fields_of exts.now bytes.now }
     {
-        let ext_vals = if Self::is_extended(bytes) {
-            let end = Self::sources_end(bytes);
-            let (_, rest) = bytes.split_at(end + 4);
-            let (data, _) = rest.split_at(4 * usize::from(u16_at(bytes, end + 2)));
-            ExtensionValues::read(exts, u16_at(bytes, end), data)
-        } else {
-            ExtensionValues::none()
-        };
-        RtpHeader {
+        let mut header = RtpHeader {
             has_padding: (bytes[0] >> 5) & 1 == 1,
             marker: bytes[1] >> 7 == 1,
             payload_type: Pt::from(bytes[1] & 0x7f),
@@ -143,10 +135,18 @@ impl RtpHeader {
             timestamp: u32_at(bytes, 4),
             ssrc: Ssrc::from(u32_at(bytes, 8)),
             csrc_count: usize::from(bytes[0] & 15),
-            csrc: Self::sources(bytes),
-            ext_vals,
+            csrc: [0; 15],
+            ext_vals: ExtensionValues::none(),
             header_len: Self::header_end(bytes),
+        };
+        Self::put_sources(&mut header.csrc, bytes);
+        if Self::is_extended(bytes) {
+            let end = Self::sources_end(bytes);
+            let (_, rest) = bytes.split_at(end + 4);
+            let (data, _) = rest.split_at(4 * usize::from(u16_at(bytes, end + 2)));
+            header.ext_vals.fill(exts, u16_at(bytes, end), data);
         }
+        header
     }
 
     fn fixed_bytes(&self, extended: bool) -> [u8; 12]

@@ -67,59 +67,56 @@ impl ExtensionValues {
         }
     }
 
-    // The values after an element of an extension.
-    fn with(self, extension: Option<Extension>, bytes: &[u8]) -> Self
-        ensures { result ≡ with_value self extension bytes.now }
+    // Takes in an element of an extension.
+    fn take_in(&mut self, extension: Option<Extension>, bytes: &[u8])
+        ensures { self.new ≡ with_value self.old extension bytes.now }
     {
         let Some(extension) = extension else {
-            return self;
+            return;
         };
         match extension {
-            Extension::AudioLevel => ExtensionValues {
-                audio_level: level_in(bytes).or(self.audio_level),
-                voice_activity: voice_in(bytes).or(self.voice_activity),
-                ..self
-            },
-            Extension::AbsoluteSendTime => ExtensionValues {
-                abs_send_time: send_time_in(bytes).or(self.abs_send_time),
-                ..self
-            },
-            Extension::TransportSequenceNumber => ExtensionValues {
-                transport_cc: transport_in(bytes).or(self.transport_cc),
-                ..self
-            },
-            Extension::RtpMid => ExtensionValues {
-                mid: Mid::from_slice(bytes).or(self.mid),
-                ..self
-            },
-            Extension::RtpStreamId => ExtensionValues {
-                rid: Rid::from_slice(bytes).or(self.rid),
-                ..self
-            },
-            Extension::RepairedRtpStreamId => ExtensionValues {
-                rid_repair: Rid::from_slice(bytes).or(self.rid_repair),
-                ..self
-            },
-            Extension::VideoOrientation => ExtensionValues {
-                video_orientation: turn_in(bytes).or(self.video_orientation),
-                ..self
-            },
-            Extension::AbsoluteCaptureTime => ExtensionValues {
-                abs_capture_time: capture_in(bytes).or(self.abs_capture_time),
-                ..self
-            },
-            Extension::PlayoutDelay => ExtensionValues {
-                play_delay_min: least_delay_in(bytes).or(self.play_delay_min),
-                play_delay_max: greatest_delay_in(bytes).or(self.play_delay_max),
-                ..self
-            },
+            Extension::AudioLevel => {
+                self.audio_level = level_in(bytes).or(self.audio_level);
+                self.voice_activity = voice_in(bytes).or(self.voice_activity);
+            }
+            Extension::AbsoluteSendTime => {
+                self.abs_send_time = send_time_in(bytes).or(self.abs_send_time);
+            }
+            Extension::TransportSequenceNumber => {
+                self.transport_cc = transport_in(bytes).or(self.transport_cc);
+            }
+            Extension::RtpMid => {
+                if let Some(mid) = Mid::from_slice(bytes) {
+                    self.mid = Some(mid);
+                }
+            }
+            Extension::RtpStreamId => {
+                if let Some(rid) = Rid::from_slice(bytes) {
+                    self.rid = Some(rid);
+                }
+            }
+            Extension::RepairedRtpStreamId => {
+                if let Some(rid) = Rid::from_slice(bytes) {
+                    self.rid_repair = Some(rid);
+                }
+            }
+            Extension::VideoOrientation => {
+                self.video_orientation = turn_in(bytes).or(self.video_orientation);
+            }
+            Extension::AbsoluteCaptureTime => {
+                self.abs_capture_time = capture_in(bytes).or(self.abs_capture_time);
+            }
+            Extension::PlayoutDelay => {
+                self.play_delay_min = least_delay_in(bytes).or(self.play_delay_min);
+                self.play_delay_max = greatest_delay_in(bytes).or(self.play_delay_max);
+            }
         }
     }
 
-    fn read_one_byte(exts: &ExtensionMap, bytes: &[u8]) -> Self
-        ensures { result ≡ with_elements exts.now no_values (one_byte_elements 0 bytes.now) }
+    // Takes in the elements of the one-byte form.
+    fn read_one_byte(&mut self, exts: &ExtensionMap, bytes: &[u8])
+        ensures { self.new ≡ with_elements exts.now self.old (one_byte_elements 0 bytes.now) }
     {
-        let mut values = ExtensionValues::none();
         let mut at = 0;
         while at < bytes.len() {
             let head = bytes[at];
@@ -131,22 +128,21 @@ impl ExtensionValues {
             let id = head / 16;
             let len = usize::from(head % 16) + 1;
             if id == 15 {
-                return values;
+                return;
             }
             if tail.len() < len {
-                return values;
+                return;
             }
             let (data, _) = tail.split_at(len);
-            values = values.with(exts.named_by(id), data);
+            self.take_in(exts.named_by(id), data);
             at += 1 + len;
         }
-        values
     }
 
-    fn read_two_byte(exts: &ExtensionMap, bytes: &[u8]) -> Self
-        ensures { result ≡ with_elements exts.now no_values (two_byte_elements 0 bytes.now) }
+    // Takes in the elements of the two-byte form.
+    fn read_two_byte(&mut self, exts: &ExtensionMap, bytes: &[u8])
+        ensures { self.new ≡ with_elements exts.now self.old (two_byte_elements 0 bytes.now) }
     {
-        let mut values = ExtensionValues::none();
         let mut at = 0;
         while at < bytes.len() {
             let id = bytes[at];
@@ -155,33 +151,40 @@ impl ExtensionValues {
                 continue;
             }
             if at + 1 == bytes.len() {
-                return values;
+                return;
             }
             let len = usize::from(bytes[at + 1]);
             let (_, tail) = bytes.split_at(at + 2);
             if tail.len() < len {
-                return values;
+                return;
             }
             let (data, _) = tail.split_at(len);
-            values = values.with(exts.named_by(id), data);
+            self.take_in(exts.named_by(id), data);
             at += 2 + len;
         }
-        values
+    }
+
+    /// Takes in the values of an extension of this profile, where there are none yet.
+    #[tactic(auto, unfolding(crate::specs::Extensions::values_of, crate::specs::Extensions::with_elements))]
+    pub(crate) fn fill(&mut self, exts: &ExtensionMap, profile: u16, bytes: &[u8])
+        requires { self.old ≡ no_values }
+        ensures { self.new ≡ values_of exts.now profile bytes.now }
+    {
+        if profile == 0xbede {
+            self.read_one_byte(exts, bytes);
+        } else if profile / 16 == 0x100 {
+            self.read_two_byte(exts, bytes);
+        }
     }
 
     /// The values that an extension of this profile has under a map (RFC 8285 sections 4.2 and 4.3): none where the profile
     /// is neither 0xBEDE nor one from 0x1000 to 0x100F.
-    #[tactic(auto, unfolding(crate::specs::Extensions::values_of, crate::specs::Extensions::with_elements))]
     pub fn read(exts: &ExtensionMap, profile: u16, bytes: &[u8]) -> Self
         ensures { result ≡ values_of exts.now profile bytes.now }
     {
-        if profile == 0xbede {
-            Self::read_one_byte(exts, bytes)
-        } else if profile / 16 == 0x100 {
-            Self::read_two_byte(exts, bytes)
-        } else {
-            ExtensionValues::none()
-        }
+        let mut values = ExtensionValues::none();
+        values.fill(exts, profile, bytes);
+        values
     }
 }
 

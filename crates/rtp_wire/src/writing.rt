@@ -121,42 +121,26 @@ impl ExtensionValues {
         }
     }
 
-    fn without(self, extension: Extension) -> Self
-        ensures { result ≡ without extension self }
+    // Takes out the value of an extension.
+    fn take_out(&mut self, extension: Extension)
+        ensures { self.new ≡ without extension self.old }
     {
         match extension {
-            Extension::AudioLevel => ExtensionValues {
-                audio_level: None,
-                voice_activity: None,
-                ..self
-            },
-            Extension::AbsoluteSendTime => ExtensionValues {
-                abs_send_time: None,
-                ..self
-            },
-            Extension::TransportSequenceNumber => ExtensionValues {
-                transport_cc: None,
-                ..self
-            },
-            Extension::RtpMid => ExtensionValues { mid: None, ..self },
-            Extension::RtpStreamId => ExtensionValues { rid: None, ..self },
-            Extension::RepairedRtpStreamId => ExtensionValues {
-                rid_repair: None,
-                ..self
-            },
-            Extension::VideoOrientation => ExtensionValues {
-                video_orientation: None,
-                ..self
-            },
-            Extension::AbsoluteCaptureTime => ExtensionValues {
-                abs_capture_time: None,
-                ..self
-            },
-            Extension::PlayoutDelay => ExtensionValues {
-                play_delay_min: None,
-                play_delay_max: None,
-                ..self
-            },
+            Extension::AudioLevel => {
+                self.audio_level = None;
+                self.voice_activity = None;
+            }
+            Extension::AbsoluteSendTime => self.abs_send_time = None,
+            Extension::TransportSequenceNumber => self.transport_cc = None,
+            Extension::RtpMid => self.mid = None,
+            Extension::RtpStreamId => self.rid = None,
+            Extension::RepairedRtpStreamId => self.rid_repair = None,
+            Extension::VideoOrientation => self.video_orientation = None,
+            Extension::AbsoluteCaptureTime => self.abs_capture_time = None,
+            Extension::PlayoutDelay => {
+                self.play_delay_min = None;
+                self.play_delay_max = None;
+            }
         }
     }
 
@@ -173,7 +157,7 @@ impl ExtensionValues {
             if let Some(extension) = exts.named_by(id) {
                 let (_, rest) = bytes.split_at_mut(at);
                 at += left.put_element(id, extension, rest);
-                left = left.without(extension);
+                left.take_out(extension);
             }
         }
         at

@@ -30,7 +30,7 @@ loop-id-preserved c =
           sofar_next c.args.exts.now c.args.self.now c.match-named_by.left c.args.bytes.now c.match-named_by.bytes (c.loop-id.id + 1) c.match-named_by.at _ _ _
           (w.bytes-is ∙ ap (λ (l : List ℕ). l ++ w.put_element-at.new.bytes) w.split_at_mut-rest.ensures.front)
           w.left-is w.at-is
-          (sofar_some c.args.exts.now c.args.self.now c.loop-id.left w.without-left.result c.args.bytes.now c.loop-id.bytes w.put_element-at.new.bytes c.loop-id.id c.loop-id.at w.put_element-at.result (Some w.in-Some.extension) c.loop-id-test.true (sym c.named_by.ensures ∙ w.in-Some.is) w.without-left.ensures w.put_element-at.ensures.len
+          (sofar_some c.args.exts.now c.args.self.now c.loop-id.left w.take_out.new.self c.args.bytes.now c.loop-id.bytes w.put_element-at.new.bytes c.loop-id.id c.loop-id.at w.put_element-at.result (Some w.in-Some.extension) c.loop-id-test.true (sym c.named_by.ensures ∙ w.in-Some.is) w.take_out.ensures w.put_element-at.ensures.len
           (w.put_element-at.ensures.bytes ∙ ap (λ (l : List ℕ). flat_map element_bytes (element_at c.loop-id.id (value_bytes w.in-Some.extension c.loop-id.left)) ++ drop w.put_element-at.result l) w.split_at_mut-rest.ensures.back)
           c.loop-id.invariant)
       | in_default w ↦

@@ -7,16 +7,16 @@ use Rattle.rtp_wire.proofs.values.ExtensionValues.read_one_byte.Goals as goal
 pub loop-at-preserved-then-head-eq0 : goal.loop-at-preserved-then-head-eq0
 loop-at-preserved-then-head-eq0 c = record {
   within = omega arith;
-  sofar = one_padding_at c.args.exts.now c.loop-at.values _ c.args.bytes.now c.loop-at.at c.loop-at-test.true c.if-head-eq0.true c.loop-at.invariant.sofar;
+  sofar = one_padding_at c.args.exts.now c.loop-at.self _ c.args.bytes.now c.loop-at.at c.loop-at-test.true c.if-head-eq0.true c.loop-at.invariant.sofar;
 }
 
 pub returns-then-id-eq15 : goal.returns-then-id-eq15
 returns-then-id-eq15 c =
-    one_stop_at c.args.exts.now c.loop-at.values _ c.args.bytes.now c.loop-at.at c.loop-at-test.true c.if-head-eq0.false c.if-id-eq15.true c.loop-at.invariant.sofar
+    one_stop_at c.args.exts.now c.loop-at.self _ c.args.bytes.now c.loop-at.at c.loop-at-test.true c.if-head-eq0.false c.if-id-eq15.true c.loop-at.invariant.sofar
 
 pub returns-then-tail-len : goal.returns-then-tail-len
 returns-then-tail-len c =
-    one_short_at c.args.exts.now c.loop-at.values _ c.args.bytes.now c.loop-at.at c.loop-at-test.true c.if-head-eq0.false (omega (arith, c.from-len.ensures, c.split_at.ensures.back_len)) c.loop-at.invariant.sofar
+    one_short_at c.args.exts.now c.loop-at.self _ c.args.bytes.now c.loop-at.at c.loop-at-test.true c.if-head-eq0.false (omega (arith, c.from-len.ensures, c.split_at.ensures.back_len)) c.loop-at.invariant.sofar
 
 pub loop-at-preserved : goal.loop-at-preserved
 loop-at-preserved c =
@@ -25,12 +25,12 @@ loop-at-preserved c =
     let id : ℕ = get_or bytes at 0 / 16 in
     let n : ℕ = c.from-len.result + 1 in
     let front : c.split_at-in-loop-at.result.0.now ≡ take n (drop (at + 1) bytes) = c.split_at-in-loop-at.ensures.front ∙ ap (take n) c.split_at.ensures.back in
-    let values : c.with-values.result ≡ with_value c.loop-at.values (named_by c.args.exts.now id) (take n (drop (at + 1) bytes)) = c.with-values.ensures ∙ ap (λ x. with_value c.loop-at.values x c.split_at-in-loop-at.result.0.now) c.named_by.ensures ∙ ap (with_value c.loop-at.values (named_by c.args.exts.now id)) front in
+    let values : c.take_in.new.self ≡ with_value c.loop-at.self (named_by c.args.exts.now id) (take n (drop (at + 1) bytes)) = c.take_in.ensures ∙ ap (λ x. with_value c.loop-at.self x c.split_at-in-loop-at.result.0.now) c.named_by.ensures ∙ ap (with_value c.loop-at.self (named_by c.args.exts.now id)) front in
     record {
       within = omega (arith, c.from-len.ensures, c.split_at.ensures.back_len);
       sofar = ap (λ (v : ExtensionValues). with_elements c.args.exts.now v (one_byte_elements 0 (drop (at + (1 + n)) bytes))) values
-          ∙ one_element_at c.args.exts.now c.loop-at.values _ bytes at n c.loop-at-test.true c.if-head-eq0.false c.if-id-eq15.false (omega (arith, c.from-len.ensures)) (omega (arith, c.split_at.ensures.back_len)) c.loop-at.invariant.sofar;
+          ∙ one_element_at c.args.exts.now c.loop-at.self _ bytes at n c.loop-at-test.true c.if-head-eq0.false c.if-id-eq15.false (omega (arith, c.from-len.ensures)) (omega (arith, c.split_at.ensures.back_len)) c.loop-at.invariant.sofar;
     }
 
 pub returns : goal.returns
-returns c = none_left_at c.args.exts.now c.loop-at.values _ c.args.bytes.now c.loop-at.at c.loop-at-test.false c.loop-at.invariant.sofar
+returns c = none_left_at c.args.exts.now c.loop-at.self _ c.args.bytes.now c.loop-at.at c.loop-at-test.false c.loop-at.invariant.sofar
