@@ -32,12 +32,9 @@ impl Waiting {
         requires { IsSendable packet }
         ensures { result ≡ unstamped packet }
     {
-        Waiting {
-            packet: RtpPacket {
-                timestamp: None,
-                ..packet
-            },
-        }
+        let mut packet = packet;
+        packet.timestamp = None;
+        Waiting { packet }
     }
 
     fn stamp_at(&mut self, now: Instant)

@@ -57,28 +57,26 @@ impl Model for StreamTx {
 /// The header and its length, and the header's bytes with the payload behind them.
 fn receipt(
     alloc: Global,
-    header: &RtpHeader,
+    header: RtpHeader,
     exts: &ExtensionMap,
     packet: &RtpPacket,
 ) -> Result<PacketReceipt, AllocError>
-    requires few_sources { header.now.csrc_count ≤ 15 }
+    requires few_sources { header.csrc_count ≤ 15 }
     requires payload { length packet.now.payload ≤ 1400 }
-    ensures header { IfOk result (λ r. r.header ≡ record header.now { header_len = length (header_bytes exts.now header.now) }) }
+    ensures header { IfOk result (λ r. r.header ≡ record header { header_len = length (header_bytes exts.now header) }) }
     ensures number { IfOk result (λ r. r.seq_no ≡ packet.now.seq_no) }
-    ensures plain { IfOk result (λ r. r.plain ≡ header_bytes exts.now header.now ++ packet.now.payload) }
+    ensures plain { IfOk result (λ r. r.plain ≡ header_bytes exts.now header ++ packet.now.payload) }
     ensures few { IfOk result (λ r. r.header.header_len ≤ 160) }
-    ensures reads { OnOk result (IsReadAgain exts.now header.now) }
+    ensures reads { OnOk result (IsReadAgain exts.now header) }
 {
+    let mut header = header;
     let mut front = [0; MAX_HEADER_LEN];
-    let header_len = header.write_to(&mut front, exts);
-    let mut plain = Vec::with_capacity(alloc, header_len + packet.payload.len())?;
-    plain.extend_from_slice(&front[..header_len])?;
+    header.header_len = header.write_to(&mut front, exts);
+    let mut plain = Vec::with_capacity(alloc, header.header_len + packet.payload.len())?;
+    plain.extend_from_slice(&front[..header.header_len])?;
     plain.extend_from_slice(packet.payload.as_slice())?;
     Ok(PacketReceipt {
-        header: RtpHeader {
-            header_len,
-            ..*header
-        },
+        header,
         seq_no: packet.seq_no,
         plain: Bytes::from_vec(plain),
     })
@@ -178,38 +176,20 @@ impl StreamTx {
         }
     }
 
-    /// The values of a packet that is sealed at a moment.
-    fn sealed_values(
-        &self,
-        values: ExtensionValues,
-        now: Instant,
-        transport: &Transport,
-    ) -> ExtensionValues
-        ensures { result ≡ sealed_values transport.now now self.now.acknowledged self.now.mid self.now.rid values }
+    /// Puts what a packet that is sealed at a moment says among its values.
+    fn put_sealed_values(&self, values: &mut ExtensionValues, now: Instant, transport: &Transport)
+        ensures { values.new ≡ sealed_values transport.now now self.now.acknowledged self.now.mid self.now.rid values.old }
     {
-        ExtensionValues {
-            mid: if self.acknowledged {
-                values.mid
-            } else {
-                Some(self.mid)
-            },
-            rid: if self.acknowledged {
-                values.rid
-            } else {
-                self.rid
-            },
-            rid_repair: None,
-            abs_send_time: if transport.has_id(Extension::AbsoluteSendTime) {
-                Some(transport.send_time(now))
-            } else {
-                values.abs_send_time
-            },
-            transport_cc: if transport.has_id(Extension::TransportSequenceNumber) {
-                Some((transport.twcc % 65536) as u16)
-            } else {
-                values.transport_cc
-            },
-            ..values
+        if !self.acknowledged {
+            values.mid = Some(self.mid);
+            values.rid = self.rid;
+        }
+        values.rid_repair = None;
+        if transport.has_id(Extension::AbsoluteSendTime) {
+            values.abs_send_time = Some(transport.send_time(now));
+        }
+        if transport.has_id(Extension::TransportSequenceNumber) {
+            values.transport_cc = Some((transport.twcc % 65536) as u16);
         }
     }
 
@@ -232,11 +212,9 @@ impl StreamTx {
         let Some(packet) = self.queue.peek() else {
             return Ok(None);
         };
-        let header = RtpHeader {
-            ext_vals: self.sealed_values(packet.header.ext_vals, now, transport),
-            ..packet.header
-        };
-        let receipt = receipt(alloc, &header, &transport.exts, packet)?;
+        let mut header = packet.header;
+        self.put_sealed_values(&mut header.ext_vals, now, transport);
+        let receipt = receipt(alloc, header, &transport.exts, packet)?;
         self.queue.pop();
         transport.count();
         Ok(Some(receipt))
