@@ -165,19 +165,17 @@ fn packet_from(now: Instant, header: &RtpHeader, number: SeqNo, payload: Payload
     }
 }
 
-/// The packet that waits to be told after a datagram opened: on SSRC 0 the one before.
-pub fn packet_after(
+/// Has the packet of a datagram that opened wait to be told, but on SSRC 0, where the one before stays.
+pub fn put_packet(
     now: Instant,
     header: &RtpHeader,
     number: SeqNo,
     payload: Payload,
-    before: Option<RtpPacket>,
-) -> Option<RtpPacket>
-    ensures { result ≡ packet_after now header.now number payload before }
+    packet: &mut Option<RtpPacket>,
+)
+    ensures { packet.new ≡ packet_after now header.now number payload packet.old }
 {
-    if header.ssrc.is_probe() {
-        before
-    } else {
-        Some(packet_from(now, header, number, payload))
+    if !header.ssrc.is_probe() {
+        *packet = Some(packet_from(now, header, number, payload));
     }
 }

@@ -19,7 +19,7 @@ use crate::error::{AppError, RtcError};
 use crate::feedback::{poll_compound, sender};
 use crate::hearing::{RtcpOpening, feedback_in, hear, open_rtcp};
 use crate::media::Media;
-use crate::receiving::{Opening, accepts, is_claimed, open, packet_after, take};
+use crate::receiving::{Opening, accepts, is_claimed, open, put_packet, take};
 use crate::seen::Seen;
 use crate::sending::{first_due, has_mid, is_silent, poll_place, seal};
 use media_base::{Bytes, Instant, already_happened};
@@ -207,13 +207,14 @@ impl<C: SrtpCipher, W: GapWindow> Session<C, W> {
         ensures unopened { IfOk result (λ opened. IfNone opened (self.new ≡ self.old)) }
         ensures runs { self.new.state.stopped ≡ self.old.state.stopped }
     {
-        let Some(header) = RtpHeader::parse(bytes, &self.transport.exts) else {
+        let read = RtpHeader::parse(bytes, &self.transport.exts);
+        let Some(header) = &read else {
             return Ok(None);
         };
-        if !is_claimed(&self.types, &header) {
+        if !is_claimed(&self.types, header) {
             return Ok(None);
         }
-        self.receive_under(now, bytes, &header)
+        self.receive_under(now, bytes, header)
     }
 
     /// Takes in a datagram that begins with this header, of a type that is taken.
@@ -252,8 +253,7 @@ impl<C: SrtpCipher, W: GapWindow> Session<C, W> {
         )?;
         self.seen.put(header.ssrc, number)?;
         let Opening { plain, payload } = opening;
-        let before = self.packet.take();
-        self.packet = packet_after(now, header, number, payload, before);
+        put_packet(now, header, number, payload, &mut self.packet);
         Ok(Some(Opened {
             kind: Kind::Rtp,
             ssrc: header.ssrc,
@@ -516,7 +516,8 @@ impl<C: SrtpCipher, W: GapWindow> Session<C, W> {
         if let Some(feedback) = self.application.take() {
             return Some(Event::AppSpecificFeedback(feedback));
         }
-        self.packet.take().map(Event::RtpPacket)
+        let packet = self.packet.take()?;
+        Some(Event::RtpPacket(packet))
     }
 
     /// What the session tells next of what may want memory: nothing yet.

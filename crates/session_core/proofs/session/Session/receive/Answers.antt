@@ -25,7 +25,7 @@ pub returns-in_default-clause-received : goal.returns-in_default-clause-received
 returns-in_default-clause-received g c = λ r h.
     let mine = subst (λ s. StandsFor g.W.GapWindow.remembers s r) (sym c.self.view_is) h in
     let none : header_of r.state.transport.exts c.args.bytes.now ≡ None =
-    ap (λ (s : SessionState). header_of s.transport.exts c.args.bytes.now) (sym mine.state) ∙ sym c.parse.ensures ∙ c.in_default.is in
+    ap (λ (s : SessionState). header_of s.transport.exts c.args.bytes.now) (sym mine.state) ∙ sym c.parse-read.ensures ∙ c.in_default.is in
     (r, stays (stays_unread g.C.SrtpCipher.meaning r c.args.bytes.now none), h)
 
 pub returns-then-not-is_claimed-clause-received : goal.returns-then-not-is_claimed-clause-received
@@ -33,7 +33,7 @@ returns-then-not-is_claimed-clause-received g c = λ r h.
     let mine = subst (λ s. StandsFor g.W.GapWindow.remembers s r) (sym c.self.view_is) h in
     let x = c.in-Some.header in
     let reads : header_of r.state.transport.exts c.args.bytes.now ≡ Some x =
-    ap (λ (s : SessionState). header_of s.transport.exts c.args.bytes.now) (sym mine.state) ∙ sym c.parse.ensures ∙ c.in-Some.is in
+    ap (λ (s : SessionState). header_of s.transport.exts c.args.bytes.now) (sym mine.state) ∙ sym c.parse-read.ensures ∙ c.in-Some.is in
     let none : is_claimed r.state.types x ≡ false = ap (λ (s : SessionState). is_claimed s.types x) (sym mine.state) ∙ sym c.is_claimed.ensures ∙ c.if-not-is_claimed.true in
     (r, stays (stays_unclaimed g.C.SrtpCipher.meaning r c.args.bytes.now x reads none), h)
 
@@ -45,6 +45,6 @@ returns-clause-received g c =
     let mine = subst (λ s. StandsFor g.W.GapWindow.remembers s r) (sym c.self.view_is) h in
     let x = c.in-Some.header in
     let reads : header_of r.state.transport.exts c.args.bytes.now ≡ Some x =
-    ap (λ (s : SessionState). header_of s.transport.exts c.args.bytes.now) (sym mine.state) ∙ sym c.parse.ensures ∙ c.in-Some.is in
+    ap (λ (s : SessionState). header_of s.transport.exts c.args.bytes.now) (sym mine.state) ∙ sym c.parse-read.ensures ∙ c.in-Some.is in
     let claimed : is_claimed r.state.types x ≡ true = ap (λ (s : SessionState). is_claimed s.types x) (sym mine.state) ∙ sym c.is_claimed.ensures ∙ c.if-not-is_claimed.false in
     (reads, claimed))

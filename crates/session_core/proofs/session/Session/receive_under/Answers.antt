@@ -51,13 +51,13 @@ returns-clause-received g c = λ r h reads claimed.
     ap (λ o. number_of o r.rx r.probes x.ssrc x.sequence_number) (sym memory) ∙ sym (c.in-Some.ensures.number r.rx r.probes mine.rx mine.probes) in
     let o : IsOpening K.meaning c.self.inside.opening x n c.args.bytes.now c.in-Some-2.opening.plain c.in-Some-2.opening.payload = rw c.in-Some-2.is at c.in_ok-opening.ensures.opened in
     let opens = subst (λ (s : SessionState). OpensIn K.meaning s.opening x n c.args.bytes.now o.payload) mine.state o.opens in
-    let packet : c.packet_after.result ≡ packet_after c.args.now x n (cut x o.payload) c.self.inside.packet =
-    c.packet_after.ensures ∙ ap (λ p. packet_after c.args.now x n p c.take-before.result) o.cuts ∙ ap (packet_after c.args.now x n (cut x o.payload)) c.take-before.ensures.value in (
+    let packet : c.put_packet.new.packet ≡ packet_after c.args.now x n (cut x o.payload) c.self.inside.packet =
+    c.put_packet.ensures ∙ ap (λ p. packet_after c.args.now x n p c.self.inside.packet) o.cuts in (
       after_opened c.args.now x n o.payload r,
       subst (λ l. Receives K.meaning r c.args.bytes.now c.args.now (after_opened c.args.now x n o.payload r) (Some (record { kind = Rtp; ssrc = x.ssrc; index = n; plain = l }))) (sym o.whole)
           (opened x n o.payload (record { reads = reads; claimed = claimed; accepts = number; opens = opens; unpads = o.unpads })),
       record {
-        state = opened_state _ r.state c.open.new.opening c.put.new.self c.take.new.streams.tx c.packet_after.result x.ssrc n (packet_after c.args.now x n (cut x o.payload)) mine.state c.open.ensures.same c.in_ok-put.ensures.ok c.in_ok-take.ensures.tx packet;
+        state = opened_state _ r.state c.open.new.opening c.put.new.self c.take.new.streams.tx c.put_packet.new.packet x.ssrc n (packet_after c.args.now x n (cut x o.payload)) mine.state c.open.ensures.same c.in_ok-put.ensures.ok c.in_ok-take.ensures.tx packet;
         rx = subst (λ m. Along R c.take.new.streams.rx (rx_opened m x.ssrc n r.rx)) memory (c.in_ok-take.ensures.rx r.rx x.ssrc mine.rx c.in-Some.ensures.probe c.in-Some.ensures.place);
         probes = subst (λ m. R c.take.new.probes (probes_opened m x.ssrc n r.probes)) memory (c.in_ok-take.ensures.probes r.probes x.ssrc mine.probes c.in-Some.ensures.probe);
       },
