@@ -1,17 +1,16 @@
 -- What a buffer stands for after each step.
 use Rattle.std.proofs.Common.{◌≡◌, ◌≢◌, ℕ, ◌+◌, ◌-◌, ◌*◌, ◌/◌, ◌%◌, ◌<◌, ◌≤◌, Bool, true, false, cond, eqb, leb, ltb, List, [], ◌∷◌, ◌++◌, refl, sym, ap, ◌∙◌, subst, arith, length, replicate, map, max, min, inl, inr, ⊎_elim, ◌⊎◌, Option, Some, None}
-use Rattle.std.specs.Prelude.{not, ◌&&◌, nat_eq, slice_index_or, unwrap_or, option_map}
-use Rattle.std.specs.List.{list_any}
+use Rattle.std.specs.Prelude.{not, ◌&&◌, slice_index_or, unwrap_or}
 use Rattle.std.proofs.lemmas.Bool.Decides.{nat_tests}
 use Rattle.std.proofs.lemmas.List.{length-replicate, length-map}
 use Rattle.std.proofs.lemmas.Bool.{cases_eq, cases_lt}
 use Rattle.std.proofs.Math.Nat.{mul-le-mul_left}
 use Rattle.resend_core.specs.declared.ring.Entry.{Entry}
 use Rattle.resend_core.specs.declared.rtx_cache_buf.EvictingBuffer.{EvictingBuffer}
-use Rattle.resend_core.specs.Ring.{slot_of, held, yields_to, has_room, is_other, put_in, settled_all, clashes, kept_from, IsIn, IsInPlace}
-use Rattle.resend_core.specs.ResendStore.{Event, pushed, evicted, Past, with_event, emptied, size_of, greatest_by, last_under, stored_at, stored_position, greatest_stored, after_pushed, next_position, evicted_at, latest_eviction, IsRising, MustStore, MayGo, HeldAs, mark_above, IsMarked, is_under, IsAtLeast, IsPassedOver, MarksPush}
-use Rattle.resend_core.specs.EvictingBuffer.{StandsFor, IsReady, Grows, Places, lowered, IsBounded, Drops, IsDone, IsPushed, takes_push}
-use Rattle.resend_core.proofs.RingLaws.{held_slot, held_in, in_held, slot_held, held_put_same, held_put_other, held_put_from, in_place_put, length-put, all_length, IsOutdone, no_use, no_clash, grown, grown_from, grown_in_place, dropped_in_place, dropped_from}
+use Rattle.resend_core.specs.Ring.{slot_of, held, yields_to, has_room, is_other, put_in, settled_all, kept_from, IsIn, IsInPlace}
+use Rattle.resend_core.specs.ResendStore.{Event, pushed, evicted, Past, with_event, emptied, size_of, greatest_by, last_under, stored_at, stored_position, greatest_stored, after_pushed, next_position, evicted_at, latest_eviction, IsRising, MustStore, MayGo, mark_above, IsMarked, is_under, IsAtLeast, IsPassedOver, MarksPush}
+use Rattle.resend_core.specs.EvictingBuffer.{StandsFor, IsReady, Grows, Spans, Places, lowered, IsBounded, Drops, IsDone, IsPushed, takes_push}
+use Rattle.resend_core.proofs.RingLaws.{held_slot, held_in, in_held, slot_held, held_put_same, held_put_other, held_put_from, in_place_put, length-put, all_length, IsOutdone, grown, grown_from, grown_in_place, dropped_in_place, dropped_from}
 use Rattle.resend_core.specs.EventLaws.{may_go_more, greatest_by-push, greatest_by_grows, last_by-push, under_same, under_other, under_ignored, under_evicted, rising_front, under_stored, under_next, rising_order}
 
 -- of two numbers with one remainder the greater is the divisor or more above
@@ -30,22 +29,19 @@ held_next : {T : Type 0} (b : EvictingBuffer T) (past : Past T) (f : Entry T) �
 held_next b past f h inb = under_next f.position past.events (f.moment, f.value) (h.true_to f.position f (in_held b.ring.items f h.in_place inb))
 
 -- a ring that grew
-grown_keeps : {T : Type 0} (b : EvictingBuffer T) (past : Past T) (p s : ℕ) → 0 < s → (clashes s (p % s ∷ []) b.ring.items ≡ false) ⊎ (s ≡ b.size) → StandsFor b past
+grown_keeps : {T : Type 0} (b : EvictingBuffer T) (past : Past T) (p s : ℕ) → 0 < s → Spans b p s ⊎ (s ≡ b.size) → StandsFor b past
     → (q : ℕ) (x : Entry T) → held b.ring.items q ≡ Some x → (held (settled_all (replicate s None) b.ring.items) q ≡ Some x) ⊎ (q + size_of past ≤ greatest_stored past.events)
 grown_keeps {T} b past p s some apart h q x is =
     ⊎_elim (λ (k : held (settled_all (replicate s None) b.ring.items) q ≡ Some x). inl k) (λ (w : IsOutdone s b.ring.items q). inr (far w)) (grown s b.ring.items some h.in_place q x is) where
       far : IsOutdone s b.ring.items q → q + size_of past ≤ greatest_stored past.events
       far w =
-          let at : x.position ≡ q = (held_slot b.ring.items q x is).1 in
           ⊎_elim
-          (λ (c : clashes s (p % s ∷ []) b.ring.items ≡ false).
-          let same : x.position % s ≡ w.0.position % s = ap (λ (i : ℕ). i % s) at ∙ w.3 in
-          let eq : x.position ≡ w.0.position = no_clash s (p % s ∷ []) b.ring.items x w.0 c (held_in b.ring.items q x is) w.1 same in
-          absurd (never q x.position w.0.position at eq w.2))
+          (λ (c : Spans b p s).
+          absurd (never q w.0.position p s b.low b.high (step_up s q w.0.position some w.2 w.3) c (h.low q x is) (h.high w.0.position w.0 (in_held b.ring.items w.0 h.in_place w.1))))
           (λ (e : s ≡ b.size). reach q s w.0.position (size_of past) (greatest_stored past.events) (step_up s q w.0.position some w.2 w.3) (e ∙ h.sized) (held_le b past w.0 h w.1))
           apart where
-            never : (a b c : ℕ) → b ≡ a → b ≡ c → a < c → ⊥
-            never a b c e f lt = omega arith
+            never : (q r p s l g : ℕ) → q + s ≤ r → max g p - min l p < s → l ≤ q → r ≤ g → ⊥
+            never q r p s l g i j k m = omega arith
 
             reach : (a s c n g : ℕ) → a + s ≤ c → s ≡ n → c ≤ g → a + n ≤ g
             reach a s c n g h e k = omega arith
@@ -91,25 +87,38 @@ pub grown_ready : {T : Type 0} (b b' : EvictingBuffer T) (past : Past T) (p : �
 grown_ready {T} b b' past p g h = λ f is.
     let some : 0 < g.slots = omega (arith, g.above) in
     ⊎_elim
-    (λ (c : clashes g.slots (p % g.slots ∷ []) b.ring.items ≡ false). absurd (free f is some c))
+    (λ (c : Spans b p g.slots). inl (free f is some c))
     (λ (e : g.slots ≡ b.size). inr (le b.size g.slots b'.size (length b'.ring.items) e (ap (λ (o : EvictingBuffer T). o.size) g.rest) (grown_long b b' p g)))
     g.apart where
       le : (a s c n : ℕ) → s ≡ a → c ≡ a → n ≡ s → c ≤ n
       le a s c n e f k = omega arith
 
-      clash : (a c : ℕ) → a ≡ c → list_any (nat_eq a) (c ∷ []) ≡ false → ⊥
-      clash a c e k = grind (arith, nat_tests)
-
-      free : (f : Entry T) → slot_of b'.ring.items p ≡ Some f → 0 < g.slots → clashes g.slots (p % g.slots ∷ []) b.ring.items ≡ false → ⊥
+      free : (f : Entry T) → slot_of b'.ring.items p ≡ Some f → 0 < g.slots → Spans b p g.slots → f.position ≡ p
       free f is some c =
           let place : IsInPlace b'.ring.items = rw g.items (grown_in_place g.slots b.ring.items some) in
           let rest : f.position % length b'.ring.items ≡ p % length b'.ring.items = place (p % length b'.ring.items) f is in
           let there : slot_of b'.ring.items f.position ≡ Some f = ap (λ (i : ℕ). slice_index_or b'.ring.items i None) rest ∙ is in
           let new : held b'.ring.items f.position ≡ Some f = slot_held b'.ring.items f there in
           let old : held b.ring.items f.position ≡ Some f = grown_from g.slots b.ring.items some h.in_place f.position f (ap (λ (r : List (Option (Entry T))). held r f.position) (sym g.items) ∙ new) in
-          let unused : list_any (nat_eq (f.position % g.slots)) (p % g.slots ∷ []) ≡ false = no_use g.slots (p % g.slots ∷ []) b.ring.items f c (held_in b.ring.items f.position f old) in
           let at : f.position % g.slots ≡ p % g.slots = ap (λ (n : ℕ). f.position % n) (sym (grown_long b b' p g)) ∙ rest ∙ ap (λ (n : ℕ). p % n) (grown_long b b' p g) in
-          clash (f.position % g.slots) (p % g.slots) at unused
+          let low : b.low ≤ f.position = h.low f.position f old in
+          let high : f.position ≤ b.high = h.high f.position f old in
+          ⊎_elim
+          (λ (lt : f.position < p). absurd (under f.position p g.slots b.low b.high (step_up g.slots f.position p some lt at) c low))
+          (λ (ge : p ≤ f.position).
+          ⊎_elim
+          (λ (lt : p < f.position). absurd (over f.position p g.slots b.low b.high (step_up g.slots p f.position some lt (sym at)) c high))
+          (λ (le : f.position ≤ p). both f.position p ge le)
+          (cases_lt p f.position))
+          (cases_lt f.position p) where
+            both : (a c : ℕ) → c ≤ a → a ≤ c → a ≡ c
+            both a c i j = omega arith
+
+            under : (f p s l g : ℕ) → f + s ≤ p → max g p - min l p < s → l ≤ f → ⊥
+            under f p s l g i j k = omega arith
+
+            over : (f p s l g : ℕ) → p + s ≤ f → max g p - min l p < s → f ≤ g → ⊥
+            over f p s l g i j k = omega arith
 
 -- a ring that has its greatest size, or no other entry in the slot
 pub full_ready : {T : Type 0} (b : EvictingBuffer T) (p : ℕ) → b.size ≤ length b.ring.items → IsReady b p

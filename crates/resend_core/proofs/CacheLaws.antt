@@ -261,3 +261,16 @@ below_same f g zero same = refl
 below_same {P} f g (suc class) same =
     ap (λ (o : Option P). latter (greatest_below f class) o) (same class (omega arith))
     ∙ ap (λ (o : Option P). latter o (g class)) (below_same f g class (λ k lt. same k (omega arith)))
+
+-- classes without a packet may be left out
+pub above_none : {P : Type 0} (f : ℕ → Option P) (m n : ℕ) → m ≤ n → ((k : ℕ) → m ≤ k → k < n → f k ≡ None) → greatest_below f m ≡ greatest_below f n
+above_none f m zero le gone = ap (greatest_below f) (nil m le) where
+  nil : (m : ℕ) → m ≤ 0 → m ≡ 0
+  nil m i = omega arith
+above_none {P} f m (suc n) le gone =
+    ⊎_elim
+    (λ (e : m ≡ suc n). ap (greatest_below f) e)
+    (λ (ne : m ≢ suc n).
+    let low : m ≤ n = omega arith in
+    above_none f m n low (λ k i j. gone k i (omega arith)) ∙ ap (λ (o : Option P). latter (greatest_below f n) o) (sym (gone n low (omega arith))))
+    (cases_eq m (suc n))

@@ -1,15 +1,15 @@
 -- What is left of a buffer after entries were dropped that are too old.
-use Rattle.std.proofs.Common.{◌≡◌, ◌≢◌, ℕ, ◌+◌, ◌-◌, ◌%◌, ◌<◌, ◌≤◌, ◌^◌, Bool, true, false, cond, leb, ltb, List, [], ◌∷◌, refl, sym, ap, ◌∙◌, subst, arith, length, map, max, min, inl, inr, ⊎_elim, ◌⊎◌, Option, Some, None}
-use Rattle.std.specs.Prelude.{◌&&◌, nat_lt, slice_index_or, slice_set, unwrap_or, option_map}
+use Rattle.std.proofs.Common.{◌≡◌, ◌≢◌, ℕ, ◌-◌, ◌%◌, ◌<◌, ◌≤◌, Bool, true, false, cond, ltb, List, [], ◌∷◌, refl, sym, ap, ◌∙◌, subst, arith, length, max, inl, inr, ⊎_elim, ◌⊎◌, Option, Some, None}
+use Rattle.std.specs.Prelude.{◌&&◌, slice_index_or, slice_set, unwrap_or, option_map}
 use Rattle.std.proofs.lemmas.Bool.Decides.{nat_tests}
 use Rattle.std.proofs.lemmas.List.{get_or-set_other, get_or-set_same, length-set, length-map}
 use Rattle.std.proofs.lemmas.Bool.{cases_eq, cases_lt}
 use Rattle.resend_core.specs.declared.ring.Entry.{Entry}
 use Rattle.resend_core.specs.declared.rtx_cache_buf.EvictingBuffer.{EvictingBuffer}
-use Rattle.resend_core.specs.Ring.{matching, slot_of, held, least_young, is_below, is_above, kept_from, raise, raised_all, IsIn, IsInPlace}
+use Rattle.resend_core.specs.Ring.{matching, slot_of, held, least_young, is_below, is_above, raise, raised_all, IsIn, IsInPlace}
 use Rattle.resend_core.specs.ResendStore.{mark_above, raised_to, IsMarked, MarksEviction}
-use Rattle.resend_core.specs.EvictingBuffer.{value_at, IsBounded, Drops, DropsLowest, Sweeps, IsDone, swept}
-use Rattle.resend_core.proofs.RingLaws.{held_slot, slot_held, held_in, in_held, matching_some, dropped_in_place, dropped_from, dropped_stays, IsYoungAt, least_at, least_le}
+use Rattle.resend_core.specs.EvictingBuffer.{IsBounded, Drops, DropsLowest, Sweeps, IsDone, swept}
+use Rattle.resend_core.proofs.RingLaws.{held_slot, held_in, in_held, dropped_in_place, dropped_from, dropped_stays, IsYoungAt, least_at, least_le}
 
 -- the mark
 same_some : (a b : ℕ) → Some a ≡ Some b → a ≡ b

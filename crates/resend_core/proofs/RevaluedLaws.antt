@@ -1,14 +1,13 @@
 -- What a buffer stands for in which a value was changed in its place.
-use Rattle.std.proofs.Common.{◌≡◌, ◌≢◌, ℕ, ◌+◌, ◌%◌, ◌<◌, ◌≤◌, Bool, true, false, cond, eqb, List, [], ◌∷◌, refl, sym, ap, ◌∙◌, subst, arith, length, map, max, inl, inr, ⊎_elim, ◌⊎◌, Option, Some, None}
+use Rattle.std.proofs.Common.{◌≡◌, ◌≢◌, ℕ, ◌+◌, ◌%◌, ◌<◌, ◌≤◌, Bool, true, false, cond, eqb, List, refl, sym, ap, ◌∙◌, subst, length, map, inl, inr, ⊎_elim, ◌⊎◌, Option, Some, None}
 use Rattle.std.specs.Prelude.{option_map, slice_index_or}
-use Rattle.std.proofs.lemmas.Bool.Decides.{nat_tests}
 use Rattle.std.proofs.lemmas.Bool.{cases_eq}
 use Rattle.resend_core.specs.declared.ring.Entry.{Entry}
 use Rattle.resend_core.specs.declared.rtx_cache_buf.EvictingBuffer.{EvictingBuffer}
 use Rattle.resend_core.specs.Ring.{matching, slot_of, held, place_in, put_in}
-use Rattle.resend_core.specs.ResendStore.{Event, pushed, evicted, Past, revalued_event, revalued, size_of, latter, greatest_by, last_by, stored_under, last_under, stored_at, stored_position, greatest_stored, after_pushed, evicted_at, latest_eviction, RisesFrom, IsRising, MayGo}
+use Rattle.resend_core.specs.ResendStore.{Past, revalued_event, revalued, stored_under, last_under, stored_at, after_pushed, evicted_at, latest_eviction, IsRising, MayGo}
 use Rattle.resend_core.specs.EvictingBuffer.{StandsFor, with_slot}
-use Rattle.resend_core.specs.EventLaws.{greatest_same, last_same, stored_position_same, after_same, evicted_same, at_same, rising_same, under_far, with_moment, under_all, may_go_same}
+use Rattle.resend_core.specs.EventLaws.{greatest_same, last_same, after_same, evicted_same, at_same, rising_same, under_far, with_moment, under_all, may_go_same}
 use Rattle.resend_core.proofs.RingLaws.{held_slot, slot_held, held_put_same, held_put_other, held_put_from, in_place_put, length-put}
 
 -- the index of a position is that of its slot, where its entry stands

@@ -1,15 +1,18 @@
 -- What a ring holds after an entry was put in, after it grew and after entries were dropped.
-use Rattle.std.proofs.Common.{◌≡◌, ◌≢◌, ℕ, zero, suc, ◌+◌, ◌-◌, ◌%◌, ◌<◌, ◌≤◌, Bool, true, false, cond, eqb, leb, List, [], ◌∷◌, refl, sym, ap, ◌∙◌, subst, arith, length, replicate, map, drop, inl, inr, add-one, ⊎_elim, ◌⊎◌, Option, Some, None}
-use Rattle.std.specs.Prelude.{◌||◌, nat_eq, slice_index_or, slice_set}
-use Rattle.std.specs.List.{list_any}
+use Rattle.std.proofs.Common.{◌≡◌, ◌≢◌, ℕ, zero, suc, ◌-◌, ◌%◌, ◌<◌, ◌≤◌, Bool, true, false, cond, leb, List, [], ◌∷◌, refl, sym, ap, ◌∙◌, subst, arith, length, replicate, map, inl, inr, ⊎_elim, ◌⊎◌, Option, Some, None}
+use Rattle.std.specs.Prelude.{slice_index_or}
 use Rattle.std.proofs.lemmas.Bool.Decides.{nat_tests}
-use Rattle.std.proofs.lemmas.List.{get_or-set_other, get_or-set_same, get_or-replicate, get_or_past, length-set, length-replicate, length-map}
-use Rattle.std.proofs.Math.Seq.{drop-cons}
+use Rattle.std.proofs.lemmas.List.{get_or-set_other, get_or-set_same, get_or-replicate, get_or_past, length-replicate, length-map}
+use Rattle.std.proofs.lemmas.Nat.{mod-mul-add}
 use Rattle.std.proofs.Math.ListN.{get_or-map}
 use Rattle.std.proofs.lemmas.Bool.{cases_eq, cases_lt}
 use Rattle.resend_core.specs.declared.ring.Entry.{Entry}
-use Rattle.resend_core.specs.Ring.{matching, slot_of, held, yields_below, put_in, settled, settled_all, clashes, lower, least_young, is_below, kept_from, IsIn, IsInPlace}
+use Rattle.resend_core.specs.Ring.{slot_of, held, yields_below, put_in, settled, settled_all, lower, least_young, is_below, kept_from, IsIn, IsInPlace}
 pub use Rattle.resend_core.specs.HeldLaws.{matching_same, matching_some, held_slot, slot_held, length-put, slot_put_same, held_put_same, held_put_other}
+
+-- a number below a divisor is its remainder
+pub low_rest : (p n : ℕ) → p < n → p % n ≡ p
+low_rest p n lt = grind (arith, mod-mul-add 0 n p lt)
 
 pub in_at : {T : Type 0} (ring : List (Option (Entry T))) (i : ℕ) (e : Entry T) → slice_index_or ring i None ≡ Some e → IsIn e ring
 in_at [] i e h = absurd (let no : None ≡ Some e = h in cc)
@@ -54,25 +57,6 @@ in_place_put {T} ring e some p = λ j x h.
     ap (λ (y : Entry T). y.position % length ring) eq ∙ sym is)
     (λ (far : j ≢ e.position % length ring). p j x (sym (get_or-set_other ring (e.position % length ring) j (Some e) None far) ∙ h))
     (cases_eq j (e.position % length ring)))
-
--- the marks of the slots in use
-pub marked : (used : List Bool) (us : List ℕ) (i : ℕ) → ((r : ℕ) → r < length used → slice_index_or used r false ≡ list_any (nat_eq r) us) → i < length used → (r : ℕ) → r < length used → slice_index_or (slice_set used i true) r false ≡ list_any (nat_eq r) (i ∷ us)
-marked used us i all within r h =
-    ⊎_elim
-    (λ (is : r ≡ i). rw (is, get_or-set_same used i true false within) (grind (arith, nat_tests)))
-    (λ (far : r ≢ i). get_or-set_other used i r true false far ∙ all r h ∙ grind (arith, nat_tests))
-    (cases_eq r i)
-
-pub first_mark : (size i : ℕ) (used : List Bool) → used ≡ replicate size false → i < size → (r : ℕ) → r < size → slice_index_or (slice_set used i true) r false ≡ list_any (nat_eq r) (i ∷ [])
-first_mark size i used is within r h =
-    rw is
-    (marked (replicate size false) [] i (λ k b. get_or-replicate size k false false (rw length-replicate at b)) (rw length-replicate within) r (rw length-replicate h))
-
-pub clash_none : {T : Type 0} (size : ℕ) (us : List ℕ) (ring : List (Option (Entry T))) (i : ℕ) → i < length ring → slice_index_or ring i None ≡ None → clashes size us (drop i ring) ≡ clashes size us (drop (i + 1) ring)
-clash_none size us ring i within is = rw (add-one, drop-cons ring i None within, is) refl
-
-pub clash_some : {T : Type 0} (size : ℕ) (us : List ℕ) (ring : List (Option (Entry T))) (i : ℕ) (e : Entry T) → i < length ring → slice_index_or ring i None ≡ Some e → list_any (nat_eq (e.position % size)) us ≡ false → clashes size us (drop i ring) ≡ clashes size (e.position % size ∷ us) (drop (i + 1) ring)
-clash_some size us ring i e within is free = rw (add-one, drop-cons ring i None within, is, free) refl
 
 -- an entry settles where no entry of a position no lower stands
 settled_length : {T : Type 0} (ring : List (Option (Entry T))) (o : Option (Entry T)) → length (settled ring o) ≡ length ring
@@ -195,47 +179,6 @@ all_arrive {T} n ring (o ∷ slots) all x long some p from sub once (inl h) =
       arrive : (b : Bool) → yields_below x.position (slot_of ring x.position) ≡ b → (held (settled_all (cond b (put_in ring x) ring) slots) x.position ≡ Some x) ⊎ IsOutdone n all x.position
       arrive true t = on (put_in ring x) (length-put ring x ∙ long) (held_put_same ring x (rw long some))
       arrive false t = blocked (slot_of ring x.position) refl t
-
--- where no two share a slot, none of a greater position takes one
-pub no_use : {T : Type 0} (n : ℕ) (us : List ℕ) (slots : List (Option (Entry T))) (f : Entry T) → clashes n us slots ≡ false → IsIn f slots → list_any (nat_eq (f.position % n)) us ≡ false
-no_use n us [] f c h = absurd h
-no_use n us (None ∷ slots) f c (inl h) = absurd (let no : None ≡ Some f = h in cc)
-no_use n us (None ∷ slots) f c (inr h) = no_use n us slots f c h
-no_use {T} n us (Some e ∷ slots) f c (inl h) =
-    let eq : e ≡ f = cc in
-    ap (λ (y : Entry T). list_any (nat_eq (y.position % n)) us) (sym eq) ∙ left (list_any (nat_eq (e.position % n)) us) (clashes n (e.position % n ∷ us) slots) c where
-      left : (a b : Bool) → (a || b) ≡ false → a ≡ false
-      left true b k = k
-      left false b k = refl
-no_use {T} n us (Some e ∷ slots) f c (inr h) =
-    last (nat_eq (f.position % n) (e.position % n)) (list_any (nat_eq (f.position % n)) us) (no_use n (e.position % n ∷ us) slots f (right (list_any (nat_eq (e.position % n)) us) (clashes n (e.position % n ∷ us) slots) c) h) where
-      right : (a b : Bool) → (a || b) ≡ false → b ≡ false
-      right true b k = absurd (let no : true ≡ false = k in cc)
-      right false b k = k
-
-      last : (a b : Bool) → (a || b) ≡ false → b ≡ false
-      last true b k = absurd (let no : true ≡ false = k in cc)
-      last false b k = k
-
-or_right : (a b : Bool) → (a || b) ≡ false → b ≡ false
-or_right true b k = absurd (let not_so : true ≡ false = k in cc)
-or_right false b k = k
-
-apart_head : {T : Type 0} (n : ℕ) (us : List ℕ) (e : Entry T) (slots : List (Option (Entry T))) (y z : Entry T) → clashes n us (Some e ∷ slots) ≡ false → e ≡ y → IsIn z slots → y.position % n ≡ z.position % n → ⊥
-apart_head {T} n us e slots y z c eq inz s =
-    let free : list_any (nat_eq (z.position % n)) (e.position % n ∷ us) ≡ false = no_use n (e.position % n ∷ us) slots z (or_right (list_any (nat_eq (e.position % n)) us) (clashes n (e.position % n ∷ us) slots) c) inz in
-    let at : e.position % n ≡ z.position % n = ap (λ (w : Entry T). w.position % n) eq ∙ s in
-    grind (arith, nat_tests)
-
-pub no_clash : {T : Type 0} (n : ℕ) (us : List ℕ) (slots : List (Option (Entry T))) (x f : Entry T) → clashes n us slots ≡ false → IsIn x slots → IsIn f slots → x.position % n ≡ f.position % n → x.position ≡ f.position
-no_clash n us [] x f c h k same = absurd h
-no_clash n us (None ∷ slots) x f c (inl h) k same = absurd (let no : None ≡ Some x = h in cc)
-no_clash n us (None ∷ slots) x f c (inr h) (inl k) same = absurd (let no : None ≡ Some f = k in cc)
-no_clash n us (None ∷ slots) x f c (inr h) (inr k) same = no_clash n us slots x f c h k same
-no_clash {T} n us (Some e ∷ slots) x f c (inl a) (inl b) same = let eq : x ≡ f = cc in ap (λ (w : Entry T). w.position) eq
-no_clash n us (Some e ∷ slots) x f c (inl a) (inr b) same = absurd (let eq : e ≡ x = cc in apart_head n us e slots x f c eq b same)
-no_clash n us (Some e ∷ slots) x f c (inr a) (inl b) same = absurd (let eq : e ≡ f = cc in apart_head n us e slots f x c eq a (sym same))
-no_clash n us (Some e ∷ slots) x f c (inr a) (inr b) same = no_clash n (e.position % n ∷ us) slots x f (or_right (list_any (nat_eq (e.position % n)) us) (clashes n (e.position % n ∷ us) slots) c) a b same
 
 -- a ring with no entry
 abbrev no_entry : (T : Type 0) → Option (Entry T)

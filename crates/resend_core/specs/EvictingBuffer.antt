@@ -1,9 +1,9 @@
 -- What an evicting buffer stands for.
-use Rattle.std.specs.Prelude.{◌≡◌, ℕ, ◌%◌, ◌+◌, ◌<◌, ◌≤◌, ◌⊎◌, ◌&&◌, Bool, true, false, nat_lt, nat_le, not, min, max, ◌-◌, if◌then◌else◌, Option, Some, None, unwrap_or, [], ◌∷◌, length, map, replicate, slice_set, option_map}
+use Rattle.std.specs.Prelude.{◌≡◌, ℕ, ◌%◌, ◌+◌, ◌<◌, ◌≤◌, ◌⊎◌, ◌&&◌, Bool, true, nat_lt, nat_le, not, min, max, ◌-◌, if◌then◌else◌, Option, Some, None, unwrap_or, length, map, replicate, slice_set, option_map}
 use Rattle.std.specs.Vec.{with_item}
 use Rattle.resend_core.specs.declared.ring.Entry.{Entry}
 use Rattle.resend_core.specs.declared.rtx_cache_buf.EvictingBuffer.{EvictingBuffer}
-use Rattle.resend_core.specs.Ring.{slot_of, held, put_in, settled_all, clashes, least_young, kept_from, raised_all, IsInPlace}
+use Rattle.resend_core.specs.Ring.{slot_of, held, put_in, settled_all, least_young, kept_from, raised_all, IsInPlace}
 use Rattle.resend_core.specs.ResendStore.{Past, pushed, with_event, size_of, MustStore, last_under, last_position, next_position, latest_eviction, IsRising, MayGo, mark_above, raised_to, IsMarked, is_under}
 
 -- the value that is held under a position
@@ -38,11 +38,15 @@ with_value b p w = with_slot b (p % length b.ring.items) (slot_of b.ring.items p
 abbrev pub IsReady : {T : Type 0} → EvictingBuffer T → ℕ → Type 0
 IsReady {T} b p = (f : Entry T) → slot_of b.ring.items p ≡ Some f → (f.position ≡ p) ⊎ (b.size ≤ length b.ring.items)
 
+-- from the lowest position that may be held to the greatest, and to one more, are no more positions than slots
+abbrev pub Spans : {T : Type 0} → EvictingBuffer T → ℕ → ℕ → Type 0
+Spans b p slots = max b.high p - min b.low p < slots
+
 -- the ring has grown, for a position
 pub record Grows {T : Type 0} (old new : EvictingBuffer T) (p : ℕ) : Type 0 where
   pub slots : ℕ
   pub above : length old.ring.items < slots
-  pub apart : (clashes slots (p % slots ∷ []) old.ring.items ≡ false) ⊎ (slots ≡ old.size)
+  pub apart : Spans old p slots ⊎ (slots ≡ old.size)
   pub items : new.ring.items ≡ settled_all (replicate slots None) old.ring.items
   pub rest : new ≡ record old { ring = new.ring }
 

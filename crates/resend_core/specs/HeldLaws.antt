@@ -1,13 +1,13 @@
 -- What a ring holds after an entry was put in, and what a buffer holds: laws of every store.
-use Rattle.std.specs.Prelude.{◌≡◌, ◌≢◌, ℕ, ◌%◌, ◌<◌, ◌⊎◌, Bool, true, false, cond, List, [], ◌∷◌, length, slice_index_or, slice_set, Option, Some, None, option_map}
-use Rattle.std.proofs.Common.{eqb, refl, sym, ap, ◌∙◌, subst, arith, ⊎_elim}
+use Rattle.std.specs.Prelude.{◌≡◌, ◌≢◌, ℕ, ◌%◌, ◌<◌, Bool, true, false, cond, List, [], ◌∷◌, length, slice_index_or, Option, Some, None, option_map}
+use Rattle.std.proofs.Common.{eqb, refl, sym, ap, ◌∙◌, arith, ⊎_elim}
 use Rattle.std.proofs.lemmas.Bool.Decides.{nat_tests}
 use Rattle.std.proofs.lemmas.Bool.{cases_eq}
 use Rattle.std.proofs.lemmas.List.{get_or-set_other, get_or-set_same, length-set}
 use Rattle.resend_core.specs.declared.ring.Entry.{Entry}
 use Rattle.resend_core.specs.declared.rtx_cache_buf.EvictingBuffer.{EvictingBuffer}
 use Rattle.resend_core.specs.Ring.{matching, slot_of, held, put_in}
-use Rattle.resend_core.specs.ResendStore.{Past, last_under, MayGo, HeldAs}
+use Rattle.resend_core.specs.ResendStore.{Past, MayGo, HeldAs}
 use Rattle.resend_core.specs.EvictingBuffer.{StandsFor, value_at, with_slot, with_value}
 
 pub matching_same : {T : Type 0} (e : Entry T) → matching e.position (Some e) ≡ Some e

@@ -1,6 +1,5 @@
 -- A ring of slots, in which an entry stands in the slot of its position's remainder.
-use Rattle.std.specs.Prelude.{◌≡◌, ℕ, ◌-◌, ◌%◌, Bool, true, false, not, ◌&&◌, ◌||◌, ◌==◌, ◌⊎◌, nat_eq, nat_lt, nat_le, if◌then◌else◌, length, List, [], ◌∷◌, slice_index_or, slice_set, Option, Some, None, option_map, fold}
-use Rattle.std.specs.List.{list_any}
+use Rattle.std.specs.Prelude.{◌≡◌, ℕ, ◌-◌, ◌%◌, Bool, true, false, not, ◌&&◌, ◌==◌, ◌⊎◌, nat_lt, nat_le, if◌then◌else◌, length, List, [], ◌∷◌, slice_index_or, slice_set, Option, Some, None, option_map, fold}
 use Rattle.resend_core.specs.declared.ring.Entry.{Entry}
 
 -- the entry, if it is of this position
@@ -45,12 +44,6 @@ settled ring (Some e) = if yields_below e.position (slot_of ring e.position) the
 
 abbrev pub settled_all : {T : Type 0} → List (Option (Entry T)) → List (Option (Entry T)) → List (Option (Entry T))
 settled_all ring slots = fold settled ring slots
-
--- two of the entries share a slot in a ring of so many slots, or one has a slot that is in use
-abbrev pub clashes : {T : Type 0} → ℕ → List ℕ → List (Option (Entry T)) → Bool
-clashes size used [] = false
-clashes size used (None ∷ slots) = clashes size used slots
-clashes size used (Some e ∷ slots) = list_any (nat_eq (e.position % size)) used || clashes size (e.position % size ∷ used) slots
 
 abbrev pub lower : Option ℕ → ℕ → Option ℕ
 lower None p = Some p

@@ -111,6 +111,7 @@ impl<T: Drop> ResendStore<T> for EvictingBuffer<T> {
         EvictingBuffer::new(alloc, initial_size, max_age, max_size)
     }
 
+    #[inline(always)]
     fn push(&mut self, position: u64, timestamp: Instant, value: T) -> Result<(), AllocError> {
         EvictingBuffer::push(self, position, timestamp, value)
     }
@@ -123,6 +124,7 @@ impl<T: Drop> ResendStore<T> for EvictingBuffer<T> {
         EvictingBuffer::clear(self);
     }
 
+    #[inline(always)]
     fn get(&self, position: u64) -> Option<&T> {
         EvictingBuffer::get(self, position)
     }
@@ -131,6 +133,7 @@ impl<T: Drop> ResendStore<T> for EvictingBuffer<T> {
         EvictingBuffer::get_mut(self, position)
     }
 
+    #[inline(always)]
     fn contains(&self, position: u64) -> bool {
         EvictingBuffer::contains(self, position)
     }

@@ -1,6 +1,6 @@
-ghost use Rattle.std.specs.Prelude.{◌≡◌, ◌<◌, ◌≤◌, ◌⊎◌, ◌%◌, ◌∷◌, [], slice_set, List, Option, Some, None, false, map, max, replicate, length, IfOk, IfSome, option_map, is_some};
+ghost use Rattle.std.specs.Prelude.{◌≡◌, ◌<◌, ◌%◌, slice_set, Some, None, map, replicate, length, IfOk, IfSome};
 ghost use Rattle.std.specs.Option.{option_copied};
-ghost use Rattle.resend_core.specs.Ring.{slot_of, held, place_in, has_room, is_other, put_in, settled, settled_all, clashes, least_young, lower as lower_of, kept_from, raise, raised_all};
+ghost use Rattle.resend_core.specs.Ring.{slot_of, held, place_in, has_room, is_other, put_in, settled, settled_all, least_young, lower as lower_of, kept_from, raise, raised_all};
 
 use media_base::{Duration, Instant};
 use std::alloc::{AllocError, Global};
@@ -13,20 +13,47 @@ pub struct Entry<T> {
     pub value: T,
 }
 
+/// The index of the slot of a position: its remainder, which of a low position is the position.
+#[inline(always)]
+#[tactic(auto, using(crate::proofs::RingLaws::low_rest))]
+pub fn slot_index(position: u64, slots: usize) -> usize
+    requires { 0 < slots }
+    ensures value { result ≡ position % slots }
+    ensures within { result < slots }
+{
+    if position < slots as u64 {
+        position as usize
+    } else {
+        (position % slots as u64) as usize
+    }
+}
+
+/// The entry of a position, which stands in this slot or is not held.
+#[inline(always)]
+pub fn entry_in<T>(ring: &[Option<Entry<T>>], index: usize, position: u64) -> Option<&Entry<T>>
+    requires some { 0 < length ring.now }
+    requires slot { index ≡ position % length ring.now }
+    ensures { option_copied result ≡ held ring.now position }
+{
+    match &ring[index] {
+        Some(entry) if entry.position == position => Some(entry),
+        _ => None,
+    }
+}
+
 /// The entry of a position, which stands in the slot of its remainder.
+#[inline(always)]
 pub fn entry_at<T>(ring: &[Option<Entry<T>>], position: u64) -> Option<&Entry<T>>
     ensures { option_copied result ≡ held ring.now position }
 {
     if ring.is_empty() {
         return None;
     }
-    match &ring[(position % ring.len() as u64) as usize] {
-        Some(entry) if entry.position == position => Some(entry),
-        _ => None,
-    }
+    entry_in(ring, slot_index(position, ring.len()), position)
 }
 
 /// The index of the slot of a position, where its entry stands there.
+#[inline(always)]
 pub fn place_of<T>(ring: &[Option<Entry<T>>], position: u64) -> Option<usize>
     ensures place { result ≡ place_in ring.now position }
     ensures within { IfSome result (λ i. i < length ring.now) }
@@ -34,7 +61,7 @@ pub fn place_of<T>(ring: &[Option<Entry<T>>], position: u64) -> Option<usize>
     if ring.is_empty() {
         return None;
     }
-    let index = (position % ring.len() as u64) as usize;
+    let index = slot_index(position, ring.len());
     match &ring[index] {
         Some(entry) if entry.position == position => Some(index),
         _ => None,
@@ -42,52 +69,58 @@ pub fn place_of<T>(ring: &[Option<Entry<T>>], position: u64) -> Option<usize>
 }
 
 /// Whether the slot of a position has no entry of a greater one.
-pub fn is_free<T>(ring: &[Option<Entry<T>>], position: u64) -> bool
-    requires { 0 < length ring.now }
+#[inline(always)]
+pub fn is_free<T>(ring: &[Option<Entry<T>>], index: usize, position: u64) -> bool
+    requires some { 0 < length ring.now }
+    requires slot { index ≡ position % length ring.now }
     ensures { result ≡ has_room ring.now position }
 {
-    match &ring[(position % ring.len() as u64) as usize] {
+    match &ring[index] {
         Some(entry) => entry.position <= position,
         None => true,
     }
 }
 
 /// Whether an entry of another position stands in the slot of a position.
-pub fn is_occupied<T>(ring: &[Option<Entry<T>>], position: u64) -> bool
-    requires { 0 < length ring.now }
+#[inline(always)]
+pub fn is_occupied<T>(ring: &[Option<Entry<T>>], index: usize, position: u64) -> bool
+    requires some { 0 < length ring.now }
+    requires slot { index ≡ position % length ring.now }
     ensures { result ≡ is_other position (slot_of ring.now position) }
 {
-    match &ring[(position % ring.len() as u64) as usize] {
+    match &ring[index] {
         Some(entry) => entry.position != position,
         None => false,
     }
 }
 
-/// Drops the entry in the slot of a position.
-pub fn drop_at<T: Drop>(ring: &mut [Option<Entry<T>>], position: u64)
-    requires { 0 < length ring.old }
-    ensures { ring.new ≡ slice_set ring.old (position % length ring.old) None }
+/// Drops the entry in a slot.
+#[inline(always)]
+pub fn drop_at<T: Drop>(ring: &mut [Option<Entry<T>>], index: usize)
+    requires { index < length ring.old }
+    ensures { ring.new ≡ slice_set ring.old index None }
 {
-    let index = (position % ring.len() as u64) as usize;
     ring[index] = None;
 }
 
 /// Puts an entry into the slot of its position.
-pub fn put<T: Drop>(ring: &mut [Option<Entry<T>>], entry: Entry<T>)
-    requires { 0 < length ring.old }
+#[inline(always)]
+pub fn put<T: Drop>(ring: &mut [Option<Entry<T>>], index: usize, entry: Entry<T>)
+    requires some { 0 < length ring.old }
+    requires slot { index ≡ entry.position % length ring.old }
     ensures { ring.new ≡ put_in ring.old entry }
 {
-    let index = (entry.position % ring.len() as u64) as usize;
     ring[index] = Some(entry);
 }
 
 /// Puts an entry into the slot of its position, unless an entry stands there of a position that is
 /// no lower.
+#[inline(always)]
 pub fn settle<T: Drop>(ring: &mut [Option<Entry<T>>], entry: Entry<T>)
     requires { 0 < length ring.old }
     ensures { ring.new ≡ settled ring.old (Some entry) }
 {
-    let index = (entry.position % ring.len() as u64) as usize;
+    let index = slot_index(entry.position, ring.len());
     let free = match &ring[index] {
         Some(other) => other.position < entry.position,
         None => true,
@@ -98,12 +131,12 @@ pub fn settle<T: Drop>(ring: &mut [Option<Entry<T>>], entry: Entry<T>)
 }
 
 /// Moves all entries into another ring.
-pub fn move_all<T: Drop>(ring: &mut [Option<Entry<T>>], old: Vec<Option<Entry<T>>>)
+pub fn move_all<T: Drop>(ring: &mut [Option<Entry<T>>], old: &mut [Option<Entry<T>>])
     requires { 0 < length ring.old }
-    ensures { ring.new ≡ settled_all ring.old old.items }
+    ensures { ring.new ≡ settled_all ring.old old.old }
 {
-    for slot in old {
-        if let Some(entry) = slot {
+    for slot in old.iter_mut() {
+        if let Some(entry) = slot.take() {
             settle(ring, entry);
         }
     }
@@ -115,64 +148,9 @@ pub fn blank<T: Drop>(alloc: Global, size: usize) -> Result<Vec<Option<Entry<T>>
 {
     let mut ring = Vec::with_capacity(alloc, size)?;
     for _count in 0..size {
-        ring.push(None)?;
+        ring.push_reserved(None);
     }
     Ok(ring)
-}
-
-fn unmarked(alloc: Global, size: usize) -> Result<Vec<bool>, AllocError>
-    ensures { IfOk result (λ v. v.items ≡ replicate size false) }
-{
-    vec![in alloc; false; size]
-}
-
-/// Whether two of the entries and the position share a slot in a ring of so many slots.
-pub fn is_crowded<T>(
-    alloc: Global,
-    ring: &[Option<Entry<T>>],
-    position: u64,
-    size: usize,
-) -> Result<bool, AllocError>
-    requires { 0 < size }
-    ensures { IfOk result (λ b. b ≡ clashes size (position % size ∷ []) ring.now) }
-{
-    let mut used = unmarked(alloc, size)?;
-    used[(position % size as u64) as usize] = true;
-    for slot in ring {
-        match slot {
-            Some(entry) => {
-                let index = (entry.position % size as u64) as usize;
-                if used[index] {
-                    return Ok(true);
-                }
-                used[index] = true;
-            }
-            None => {}
-        }
-    }
-    Ok(false)
-}
-
-/// The first size above the ring's, each a third above the one before, in which no two of the
-/// entries and the position share a slot; else the greatest size.
-pub fn grown_size<T>(
-    alloc: Global,
-    ring: &[Option<Entry<T>>],
-    position: u64,
-    greatest: usize,
-) -> Result<usize, AllocError>
-    requires { length ring.now < greatest }
-    ensures above { IfOk result (λ s. length ring.now < s) }
-    ensures apart { IfOk result (λ s. (clashes s (position % s ∷ []) ring.now ≡ false) ⊎ (s ≡ greatest)) }
-{
-    let mut size = ring.len();
-    while size < greatest {
-        size = greatest.min((size.saturating_mul(133) / 100).max(size + 1));
-        if !is_crowded(alloc, ring, position, size)? {
-            return Ok(size);
-        }
-    }
-    Ok(size)
 }
 
 /// The lowest position of an entry that is not older than the age.

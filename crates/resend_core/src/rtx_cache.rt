@@ -99,7 +99,7 @@ impl<P: Cached, S: ResendStore<P>> RtxCache<P, S> {
         requires { class ≤ 80 }
         ensures { option_copied result ≡ greatest_below (λ k. option_and_then (packet_at S.value_at self.now) (slice_index_or self.now.numbers k None)) class }
     {
-        let mut below = class;
+        let mut below = class.min(self.numbers.top());
         while below > 0 {
             below -= 1;
             if let Some(packet) = self.last_of(below) {

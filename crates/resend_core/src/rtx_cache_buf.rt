@@ -1,15 +1,15 @@
-ghost use Rattle.std.specs.Prelude.{◌≡◌, ℕ, ◌-◌, ◌<◌, ◌≤◌, ◌⊎◌, unwrap_or, Bool, Option, Some, None, true, nat_le, is_some, option_and_then, length, OnSome, OnOk, OnErr, IfOk, IsOk};
+ghost use Rattle.std.specs.Prelude.{◌≡◌, ℕ, ◌-◌, ◌%◌, ◌<◌, ◌≤◌, ◌⊎◌, unwrap_or, Bool, Option, Some, None, true, nat_le, is_some, option_and_then, length, OnSome, OnOk, OnErr, IfOk, IsOk};
 ghost use Rattle.std.specs.Option.{option_copied, option_copied_mut};
 ghost use Rattle.std.specs.Borrow.{sem};
 ghost use Rattle.std.specs.Bool.{OnTrue};
 ghost use Rattle.resend_core.specs.Ring.{held};
 ghost use Rattle.resend_core.specs.ResendStore.{evicted, Past, made, with_event, emptied, revalued, last_position, HeldAs, IsPassedOver, MarksPush, MarksEviction, raised_to};
 ghost use Rattle.resend_core.specs.Lending.{LendsValue};
-ghost use Rattle.resend_core.specs.EvictingBuffer.{StandsFor, value_at, with_value, Grows, Places, IsBounded, Drops, DropsLowest, Sweeps, IsDone, IsReady, IsPushed, takes_push, lowered, swept as swept_to};
+ghost use Rattle.resend_core.specs.EvictingBuffer.{StandsFor, value_at, with_value, Grows, Places, IsBounded, Spans, Drops, DropsLowest, Sweeps, IsDone, IsReady, IsPushed, takes_push, lowered, swept as swept_to};
 
 use crate::ring::{
-    Entry, blank, drop_at, drop_below, entry_at, first_young, grown_size, is_free, is_occupied,
-    last_below, move_all, place_of, put,
+    Entry, blank, drop_at, drop_below, entry_at, entry_in, first_young, is_free, is_occupied,
+    last_below, move_all, place_of, put, slot_index,
 };
 use media_base::{Duration, Instant};
 use std::alloc::{AllocError, Global};
@@ -56,22 +56,39 @@ impl<T: Drop> EvictingBuffer<T> {
         })
     }
 
-    /// Grows until no two entries and the position share a slot, or to the greatest size. Without
-    /// memory nothing changes.
+    /// As many slots as there are positions from the lowest to the greatest that is held, or to the
+    /// position, and no fewer than four times as many as before; at most the greatest size.
+    fn grown_size(&self, position: u64) -> usize
+        requires roomy { 0 < length self.now.ring.items }
+        requires small { length self.now.ring.items < self.now.size }
+        ensures above { length self.now.ring.items < result }
+        ensures apart { Spans self.now position result ⊎ (result ≡ self.now.size) }
+    {
+        let below = self.high.max(position) - position.min(self.low);
+        let more = (self.ring.len() as u64).saturating_mul(4);
+        (self.size as u64).min(more.max(below.saturating_add(1))) as usize
+    }
+
+    /// Grows until what is held and the position have slots of their own, or to the greatest size.
+    /// Without memory nothing changes.
+    #[inline(never)]
     fn grow(&mut self, position: u64) -> Result<(), AllocError>
-        requires { length self.old.ring.items < self.old.size }
+        requires roomy { 0 < length self.old.ring.items }
+        requires small { length self.old.ring.items < self.old.size }
         ensures ok { OnOk result (Grows self.old self.new position) }
         ensures err { OnErr result (self.new ≡ self.old) }
     {
-        let size = grown_size(self.alloc, &self.ring, position, self.size)?;
+        let size = self.grown_size(position);
         let ring = blank(self.alloc, size)?;
-        let old = mem::replace(&mut self.ring, ring);
-        move_all(&mut self.ring, old);
+        let mut old = mem::replace(&mut self.ring, ring);
+        move_all(&mut self.ring, &mut old);
         Ok(())
     }
 
-    fn make_room(&mut self, position: u64) -> Result<(), AllocError>
+    #[inline(always)]
+    fn make_room(&mut self, position: u64) -> Result<usize, AllocError>
         requires { 0 < length self.old.ring.items }
+        ensures slot { IfOk result (λ i. i ≡ position % length self.new.ring.items) }
         ensures stands { OnOk result ((past : Past T) → StandsFor self.old past → StandsFor self.new past) }
         ensures ready { OnOk result ((past : Past T) → StandsFor self.old past → IsReady self.new position) }
         ensures roomy { OnOk result (0 < length self.new.ring.items) }
@@ -79,23 +96,28 @@ impl<T: Drop> EvictingBuffer<T> {
         ensures mark { OnOk result (self.new.mark ≡ self.old.mark) }
         ensures err { OnErr result (self.new ≡ self.old) }
     {
-        if self.ring.len() < self.size && is_occupied(&self.ring, position) {
+        let index = slot_index(position, self.ring.len());
+        if self.ring.len() < self.size && is_occupied(&self.ring, index, position) {
             self.grow(position)?;
+            return Ok(slot_index(position, self.ring.len()));
         }
-        Ok(())
+        Ok(index)
     }
 
-    fn write(&mut self, entry: Entry<T>)
-        requires { 0 < length self.old.ring.items }
+    #[inline(always)]
+    fn write(&mut self, index: usize, entry: Entry<T>)
+        requires roomy { 0 < length self.old.ring.items }
+        requires slot { index ≡ entry.position % length self.old.ring.items }
         ensures { Places self.old self.new entry }
     {
         self.last = Some(entry.position);
         self.mark = Some(self.mark.unwrap_or(entry.position));
         self.low = self.lowered(entry.position);
         self.high = self.high.max(entry.position);
-        put(&mut self.ring, entry);
+        put(&mut self.ring, index, entry);
     }
 
+    #[inline(always)]
     fn lowered(&self, position: u64) -> u64
         ensures { result ≡ lowered self.now position }
     {
@@ -106,18 +128,21 @@ impl<T: Drop> EvictingBuffer<T> {
         }
     }
 
-    fn place(&mut self, entry: Entry<T>)
+    #[inline(always)]
+    fn place(&mut self, index: usize, entry: Entry<T>)
         requires roomy { 0 < length self.old.ring.items }
+        requires slot { index ≡ entry.position % length self.old.ring.items }
         requires timely { self.old.timeout ≤ entry.moment }
         ensures pushed { (past : Past T) → StandsFor self.old past → IsReady self.old entry.position → IsPushed past entry.position entry.moment entry.value self.new }
         ensures simple { (self.new.mark ≡ self.old.mark) ⊎ (self.new.mark ≡ Some (unwrap_or self.old.mark entry.position)) }
         ensures marked { (past : Past T) → StandsFor self.old past → MarksPush (value_at self.old) (value_at self.new) past entry.position entry.moment self.old.mark self.new.mark }
     {
-        if is_free(&self.ring, entry.position) {
-            self.write(entry);
+        if is_free(&self.ring, index, entry.position) {
+            self.write(index, entry);
         }
     }
 
+    #[inline(always)]
     fn takes(&self, position: u64, timestamp: Instant) -> bool
         ensures exact { result ≡ takes_push self.now position timestamp }
         ensures roomy { OnTrue result (0 < length self.now.ring.items) }
@@ -136,6 +161,7 @@ impl<T: Drop> EvictingBuffer<T> {
     /// the last eviction and a position below the mark are passed over: the mark is the first
     /// position pushed, then one above the greatest that was dropped for its age. Without memory
     /// nothing changes.
+    #[inline(always)]
     pub fn push(&mut self, position: u64, timestamp: Instant, value: T) -> Result<(), AllocError>
         ensures ok { OnOk result ((past : Past T) → StandsFor self.old past → IsPushed past position timestamp value self.new) }
         ensures inert { (past : Past T) → StandsFor self.old past → past.initial ≡ 0 → (self.new ≡ self.old) × IsOk result }
@@ -146,34 +172,39 @@ impl<T: Drop> EvictingBuffer<T> {
         if !self.takes(position, timestamp) {
             return Ok(());
         }
-        self.make_room(position)?;
-        self.place(Entry {
+        let index = self.make_room(position)?;
+        let entry = Entry {
             position,
             moment: timestamp,
             value,
-        });
+        };
+        self.place(index, entry);
         Ok(())
     }
 
-    fn drop_lowest(&mut self)
-        requires { 0 < length self.old.ring.items }
+    #[inline(always)]
+    fn drop_lowest(&mut self, index: usize)
+        requires roomy { 0 < length self.old.ring.items }
+        requires slot { index ≡ self.old.low % length self.old.ring.items }
         ensures { DropsLowest self.old self.new }
     {
-        drop_at(&mut self.ring, self.low);
+        drop_at(&mut self.ring, index);
         self.mark = raised(self.mark, self.low);
         self.low = self.low.saturating_add(1);
     }
 
     /// Looks at the lowest position, and goes on to the next one unless a value that is not too old
     /// is held there. Tells whether nothing more is to be dropped.
+    #[inline(always)]
     fn advance(&mut self, now: Instant) -> bool
         ensures drops { IsBounded self.old → Drops self.old self.new now }
         ensures done { OnTrue result (IsBounded self.old → IsDone self.new now) }
     {
-        if self.high < self.low {
+        if self.high < self.low || self.ring.is_empty() {
             return true;
         }
-        match entry_at(&self.ring, self.low) {
+        let index = slot_index(self.low, self.ring.len());
+        match entry_in(&self.ring, index, self.low) {
             Some(entry) => {
                 if is_young(entry, now, self.age) {
                     return true;
@@ -184,7 +215,7 @@ impl<T: Drop> EvictingBuffer<T> {
                 return false;
             }
         }
-        self.drop_lowest();
+        self.drop_lowest(index);
         false
     }
 
@@ -289,6 +320,7 @@ impl<T: Drop> EvictingBuffer<T> {
 }
 
 /// Whether an entry is not older than the age.
+#[inline(always)]
 fn is_young<T>(entry: &Entry<T>, now: Instant, age: Duration) -> bool
     ensures { result ≡ nat_le (now - entry.now.moment) age }
 {
@@ -296,6 +328,7 @@ fn is_young<T>(entry: &Entry<T>, now: Instant, age: Duration) -> bool
 }
 
 /// The mark after the value of a position was dropped for its age.
+#[inline(always)]
 fn raised(mark: Option<u64>, dropped: u64) -> Option<u64>
     ensures { result ≡ raised_to mark dropped }
 {

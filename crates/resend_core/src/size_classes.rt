@@ -1,4 +1,4 @@
-ghost use Rattle.std.specs.Prelude.{◌≡◌, ◌<◌, None, Some, replicate, slice_set, slice_index_or};
+ghost use Rattle.std.specs.Prelude.{◌≡◌, ℕ, ◌<◌, ◌≤◌, None, Some, replicate, slice_set, slice_index_or};
 
 use std::marker::Model;
 
@@ -9,16 +9,17 @@ pub const CLASS_SIZE: usize = 25;
 #[derive(Debug, Drop)]
 pub struct SizeClasses {
     all: [Option<u64>; 80],
+    top: usize,
 }
 
 impl Model for SizeClasses {
-    ghost use Rattle.std.specs.Prelude.{◌≡◌, ℕ, List, Option, length};
+    ghost use Rattle.std.specs.Prelude.{◌≡◌, ℕ, ◌≤◌, List, Option, None, length, slice_index_or};
 
     ghost Value = { List (Option ℕ) };
 
     ghost view = { λ s. s.all };
 
-    ghost invariant = { λ s. length s.all ≡ 80 };
+    ghost invariant = { λ s. (length s.all ≡ 80) × ((k : ℕ) → s.top ≤ k → slice_index_or s.all k None ≡ None) };
 }
 
 impl SizeClasses {
@@ -26,7 +27,17 @@ impl SizeClasses {
     pub fn new() -> Self
         ensures { result ≡ replicate 80 None }
     {
-        SizeClasses { all: [None; 80] }
+        SizeClasses {
+            all: [None; 80],
+            top: 0,
+        }
+    }
+
+    /// A class from which on none has a number.
+    pub fn top(&self) -> usize
+        ensures { (k : ℕ) → result ≤ k → slice_index_or self.now k None ≡ None }
+    {
+        self.top
     }
 
     /// The number of a class.
@@ -42,5 +53,6 @@ impl SizeClasses {
         ensures { self.new ≡ slice_set self.old class (Some number) }
     {
         self.all[class] = Some(number);
+        self.top = self.top.max(class + 1);
     }
 }

@@ -1,4 +1,3 @@
-use Rattle.resend_core.specs.EvictingBuffer.{IsBounded}
 use Rattle.resend_core.proofs.DropLaws.{drops_none, drops_bounded, drops_then, sweep_drops, sweep_done}
 use Rattle.resend_core.proofs.rtx_cache_buf.EvictingBuffer.drop_old.Goals as goal
 

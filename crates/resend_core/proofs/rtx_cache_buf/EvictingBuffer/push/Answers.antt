@@ -8,12 +8,12 @@ pub returns-then-not-takes-clause-ok : goal.returns-then-not-takes-clause-ok
 returns-then-not-takes-clause-ok g c = λ past h. shut_stands c.args.self.now past c.args.position c.args.timestamp c.args.value (sym c.takes.ensures.exact ∙ c.if-not-takes.true) h
 
 pub returns-clause-ok : goal.returns-clause-ok
-returns-clause-ok g c = λ past h. c.place.ensures.pushed past (c.in_ok-make_room.ensures.stands past h) (c.in_ok-make_room.ensures.ready past h)
+returns-clause-ok g c = λ past h. c.place.ensures.pushed past (c.in_ok-index.ensures.stands past h) (c.in_ok-index.ensures.ready past h)
 
 pub returns-clause-marked : goal.returns-clause-marked
 returns-clause-marked g c = λ past h.
-    let made = c.in_ok-make_room.ensures.mark in
-    let m = c.place.ensures.marked past (c.in_ok-make_room.ensures.stands past h) in
+    let made = c.in_ok-index.ensures.mark in
+    let m = c.place.ensures.marked past (c.in_ok-index.ensures.stands past h) in
     subst (λ (o : Option ℕ). MarksPush (value_at c.args.self.now) (value_at c.place.new.self) past c.args.position c.args.timestamp o c.place.new.self.mark) made
     (same_marks (value_at c.make_room.new.self) (value_at c.args.self.now) (value_at c.place.new.self) past c.args.position c.args.timestamp c.make_room.new.self.mark c.place.new.self.mark c.place.ensures.simple m)
 
