@@ -38,3 +38,8 @@ pub record IsGreatest (l : List Stamp) (s : Stamp) : Type 0 where
   pub some : 0 < length l
   pub last : stamp_at l (length l - 1) ≡ s
   pub greatest : (k : ℕ) → k < length l → (stamp_at l k).position ≤ s.position
+
+-- the first position and the last, where there are any
+pub record AreEnds (l : List Stamp) (low high : ℕ) : Type 0 where
+  pub first : 0 < length l → (stamp_at l 0).position ≡ low
+  pub last : 0 < length l → (stamp_at l (length l - 1)).position ≡ high

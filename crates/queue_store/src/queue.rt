@@ -30,6 +30,7 @@ pub struct QueueStore<T> {
 }
 
 impl<T: Drop> QueueStore<T> {
+    #[inline(always)]
     fn takes(&self, position: u64, timestamp: Instant) -> bool
         ensures { result ≡ takes_push self.now position timestamp }
     {
@@ -43,6 +44,7 @@ impl<T: Drop> QueueStore<T> {
     }
 
     /// Puts a value under its position. Without memory nothing changes.
+    #[inline(always)]
     fn put(&mut self, position: u64, moment: Instant, value: T) -> Result<(), AllocError>
         ensures ok { OnOk result (IsPaired self.old → Puts self.old self.new position moment value) }
         ensures err { OnErr result (self.new ≡ self.old) }
@@ -69,6 +71,7 @@ impl<T: Drop> QueueStore<T> {
     }
 
     /// Drops the value of the lowest position.
+    #[inline(always)]
     fn drop_lowest(&mut self, lowest: Stamp)
         requires lowest { first_of self.old.stamps ≡ Some lowest }
         requires above { AllAbove lowest.position (drop 1 self.old.stamps) }
@@ -95,7 +98,19 @@ impl<T: Drop> QueueStore<T> {
     }
 
     /// Drops what is the size or more below the greatest position.
+    #[inline(always)]
     fn trim(&mut self)
+        ensures { IsPaired self.old → Drops (IsFar self.old) self.old self.new }
+    {
+        if self.stamps.span() < self.size as u64 {
+            return;
+        }
+        self.trim_far();
+    }
+
+    /// The same, where something is so far below.
+    #[inline(never)]
+    fn trim_far(&mut self)
         ensures { IsPaired self.old → Drops (IsFar self.old) self.old self.new }
     {
         let Some(last) = self.stamps.last() else {
@@ -144,6 +159,7 @@ impl<T: Drop> ResendStore<T> for QueueStore<T> {
         })
     }
 
+    #[inline(always)]
     fn push(&mut self, position: u64, timestamp: Instant, value: T) -> Result<(), AllocError> {
         if !self.takes(position, timestamp) {
             return Ok(());
@@ -169,6 +185,7 @@ impl<T: Drop> ResendStore<T> for QueueStore<T> {
         self.timeout = Instant::from_nanos(0);
     }
 
+    #[inline(always)]
     fn get(&self, position: u64) -> Option<&T> {
         let index = self.stamps.index(position)?;
         self.values.get(index)
@@ -196,6 +213,7 @@ impl<T: Drop> ResendStore<T> for QueueStore<T> {
 }
 
 /// Puts a value at the place of its position, in both queues or none.
+#[inline(always)]
 fn place<T: Drop>(
     stamps: &mut Stamps,
     values: &mut Values<T>,
@@ -224,6 +242,7 @@ fn place<T: Drop>(
 }
 
 /// The mark after the value of a position was dropped.
+#[inline(always)]
 fn raised(mark: Option<u64>, dropped: u64) -> Option<u64>
     ensures { result ≡ raised_to mark dropped }
 {

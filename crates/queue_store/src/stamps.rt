@@ -18,22 +18,25 @@ pub struct Stamp {
     pub moment: Instant,
 }
 
-/// Rising positions, each with a moment. Contracts see the list.
+/// Rising positions, each with a moment. The lowest and the greatest stand beside them. Contracts see the
+/// list.
 #[derive(Debug, Drop)]
 pub struct Stamps {
     all: VecDeque<Stamp>,
+    low: u64,
+    high: u64,
 }
 
 impl Model for Stamps {
     ghost use Rattle.std.specs.Prelude.{List};
     ghost use Rattle.queue_store.specs.declared.stamps.Stamp.{Stamp};
-    ghost use Rattle.queue_store.specs.Stamps.{Rises};
+    ghost use Rattle.queue_store.specs.Stamps.{Rises, AreEnds};
 
     ghost Value = { List Stamp };
 
     ghost view = { λ s. s.all.items };
 
-    ghost invariant = { λ s. Rises 0 s.all.items };
+    ghost invariant = { λ s. Rises 0 s.all.items × AreEnds s.all.items s.low s.high };
 }
 
 impl Stamps {
@@ -42,6 +45,8 @@ impl Stamps {
     {
         Stamps {
             all: VecDeque::new(alloc),
+            low: 0,
+            high: 0,
         }
     }
 
@@ -70,6 +75,7 @@ impl Stamps {
         Err(low)
     }
 
+    #[inline(never)]
     fn search_on<L: Ledger>(&self, position: u64, blank: Blank) -> Result<usize, usize>
         requires name { blank.name ≡ L.name }
         requires parts { blank.parts ≡ L.parts }
@@ -82,6 +88,7 @@ impl Stamps {
     }
 
     // The index of a position that stands so far before the greatest, where none between them is left out.
+    #[inline(always)]
     fn index_from_end(&self, position: u64, distance: u64) -> Option<usize>
         ensures { IfSome result (IsFound self.now position) }
     {
@@ -97,26 +104,54 @@ impl Stamps {
         }
     }
 
-    /// The index of a position, else the index where it would stand: at once where it is above all, or
-    /// where all between it and the greatest stand here, else by halving.
-    pub fn search(&self, position: u64) -> Result<usize, usize>
+    /// The index of a position, where none is left out between the lowest and the greatest.
+    #[inline(always)]
+    fn index_in_row(&self, position: u64) -> Option<usize>
+        ensures { IfSome result (IsFound self.now position) }
+    {
+        let count = self.all.len();
+        if count == 0 || position < self.low || self.high < position {
+            return None;
+        }
+        if self.high - self.low != count as u64 - 1 {
+            return None;
+        }
+        Some((position - self.low) as usize)
+    }
+
+    /// The index of a position, else the index where it would stand: at once where all between it and
+    /// the greatest stand here, else by halving.
+    #[inline(never)]
+    fn search_far(&self, position: u64) -> Result<usize, usize>
         ensures found { IfOk result (IsFound self.now position) }
         ensures missed { IfErr result (IsPlace self.now position) }
     {
-        let Some(last) = self.last() else {
-            return Err(0);
-        };
-        let Some(distance) = last.position.checked_sub(position) else {
-            return Err(self.all.len());
-        };
-        match self.index_from_end(position, distance) {
+        match self.index_from_end(position, self.high.saturating_sub(position)) {
             Some(index) => Ok(index),
             None => self.search_on::<Brand>(position, Blank::new(1)),
         }
     }
 
+    /// The index of a position, else the index where it would stand: at once where it is above all, or
+    /// where all between it and the greatest stand here, else by halving.
+    #[inline(always)]
+    pub fn search(&self, position: u64) -> Result<usize, usize>
+        ensures found { IfOk result (IsFound self.now position) }
+        ensures missed { IfErr result (IsPlace self.now position) }
+    {
+        let count = self.all.len();
+        if count == 0 || self.high < position {
+            return Err(count);
+        }
+        match self.index_in_row(position) {
+            Some(index) => Ok(index),
+            None => self.search_far(position),
+        }
+    }
+
     /// The index of a position, where it stands here.
     #[tactic(auto, using(crate::proofs::RowLaws::found_index, crate::proofs::RowLaws::missed_index))]
+    #[inline(always)]
     pub fn index(&self, position: u64) -> Option<usize>
         ensures { result ≡ index_of self.now position }
     {
@@ -131,22 +166,44 @@ impl Stamps {
         self.search_counted(position, steps).ok()
     }
 
+    /// Puts a stamp at its place. Without memory nothing changes.
+    #[inline(never)]
+    fn insert_inside(&mut self, index: usize, stamp: Stamp) -> Result<(), AllocError>
+        requires place { IsPlace self.old stamp.position index }
+        requires inside { index < length self.old }
+        ensures ok { OnOk result (self.new ≡ insert self.old index stamp) }
+        ensures err { OnErr result (self.new ≡ self.old) }
+    {
+        let position = stamp.position;
+        self.all.insert(index, stamp)?;
+        if index == 0 {
+            self.low = position;
+        }
+        Ok(())
+    }
+
     /// Puts a stamp at its place, at the end without moving another. Without memory nothing changes.
+    #[inline(always)]
     #[tactic(auto, using(std::proofs::lemmas::List::Edits::insert_end))]
     pub fn insert(&mut self, index: usize, stamp: Stamp) -> Result<(), AllocError>
         requires { IsPlace self.old stamp.position index }
         ensures ok { OnOk result (self.new ≡ insert self.old index stamp) }
         ensures err { OnErr result (self.new ≡ self.old) }
     {
+        let position = stamp.position;
         if index == self.all.len() {
             self.all.push_back(stamp)?;
+            if index == 0 {
+                self.low = position;
+            }
+            self.high = position;
             return Ok(());
         }
-        self.all.insert(index, stamp)?;
-        Ok(())
+        self.insert_inside(index, stamp)
     }
 
     /// Changes the moment of a position.
+    #[inline(always)]
     pub fn set(&mut self, index: usize, stamp: Stamp)
         requires within { index < length self.old }
         requires same { (stamp_at self.old index).position ≡ stamp.position }
@@ -156,6 +213,7 @@ impl Stamps {
     }
 
     /// The lowest position.
+    #[inline(always)]
     pub fn first(&self) -> Option<Stamp>
         ensures value { result ≡ first_of self.now }
         ensures above { IfSome result (λ s. AllAbove s.position (drop 1 self.now)) }
@@ -164,6 +222,7 @@ impl Stamps {
     }
 
     /// The greatest position.
+    #[inline(always)]
     pub fn last(&self) -> Option<Stamp>
         ensures some { IfSome result (λ s. IsGreatest self.now s) }
         ensures none { IsNone result → self.now ≡ [] }
@@ -175,11 +234,23 @@ impl Stamps {
         Some(self.all[count - 1])
     }
 
+    /// How far the greatest position lies above the lowest, where there are any.
+    #[inline(always)]
+    pub fn span(&self) -> u64
+        ensures { 0 < length self.now → (stamp_at self.now (length self.now - 1)).position - (stamp_at self.now 0).position ≡ result }
+    {
+        self.high.saturating_sub(self.low)
+    }
+
     /// Takes the lowest position out.
+    #[inline(always)]
     pub fn pop_first(&mut self)
         ensures { self.new ≡ drop 1 self.old }
     {
         self.all.pop_front();
+        if let Some(first) = self.all.front() {
+            self.low = first.position;
+        }
     }
 
     pub fn clear(&mut self)

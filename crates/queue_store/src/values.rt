@@ -31,7 +31,19 @@ impl<T: Drop> Values<T> {
         }
     }
 
+    /// Puts a value at an index. Without memory nothing changes.
+    #[inline(never)]
+    fn insert_inside(&mut self, index: usize, value: T) -> Result<(), AllocError>
+        requires { index ≤ length self.old }
+        ensures ok { OnOk result (self.new ≡ insert self.old index value) }
+        ensures err { OnErr result (self.new ≡ self.old) }
+    {
+        self.all.insert(index, value)?;
+        Ok(())
+    }
+
     /// Puts a value at an index, at the end without moving another. Without memory nothing changes.
+    #[inline(always)]
     #[tactic(auto, using(std::proofs::lemmas::List::Edits::insert_end))]
     pub fn insert(&mut self, index: usize, value: T) -> Result<(), AllocError>
         requires { index ≤ length self.old }
@@ -42,11 +54,11 @@ impl<T: Drop> Values<T> {
             self.all.push_back(value)?;
             return Ok(());
         }
-        self.all.insert(index, value)?;
-        Ok(())
+        self.insert_inside(index, value)
     }
 
     /// Takes a value out.
+    #[inline(never)]
     pub fn remove(&mut self, index: usize)
         requires { index < length self.old }
         ensures { self.new ≡ remove self.old index }
@@ -55,6 +67,7 @@ impl<T: Drop> Values<T> {
     }
 
     /// Puts a value in the place of another, where there is one.
+    #[inline(always)]
     pub fn set(&mut self, index: usize, value: T)
         ensures { self.new ≡ slice_set self.old index value }
     {
@@ -63,18 +76,21 @@ impl<T: Drop> Values<T> {
         }
     }
 
+    #[inline(always)]
     pub fn len(&self) -> usize
         ensures { result ≡ length self.now }
     {
         self.all.len()
     }
 
+    #[inline(always)]
     pub fn get(&self, index: usize) -> Option<&T>
         ensures { option_copied result ≡ slice_get self.now index }
     {
         self.all.get(index)
     }
 
+    #[inline(always)]
     pub fn get_mut(&mut self, index: usize) -> Option<&mut T>
         ensures* writes_back { sem 𝓛 (LendsIf (the_row T.row) T.row self.entry result (slice_set self.entry.now index) self.entry.now) }
         ensures value { option_copied_mut result ≡ slice_get self.old index }
@@ -82,6 +98,7 @@ impl<T: Drop> Values<T> {
         self.all.get_mut(index)
     }
 
+    #[inline(always)]
     pub fn pop_first(&mut self)
         ensures { self.new ≡ drop 1 self.old }
     {

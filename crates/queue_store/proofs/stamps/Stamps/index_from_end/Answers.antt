@@ -12,4 +12,4 @@ returns-then-index-position c =
     let within : i < length items = omega (arith, c.len-count.ensures, c.self.inside.all.ok, c.if-count-distance.false) in
     let is : stamp_at items i ≡ c.index.result.now = get_or_default items i no_stamp c.index.result.now within ∙ sym c.index.ensures in
     let here : (stamp_at items i).position ≡ c.args.position = subst (λ (s : Stamp). s.position ≡ c.args.position) (sym is) c.if-index-position.true in
-    subst (λ (l : List Stamp). IsFound l c.args.position i) c.self.view_is (found_at items c.args.position i c.self.invariant within here)
+    subst (λ (l : List Stamp). IsFound l c.args.position i) c.self.view_is (found_at items c.args.position i c.self.invariant.0 within here)

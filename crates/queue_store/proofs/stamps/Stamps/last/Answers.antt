@@ -12,5 +12,5 @@ returns-clause-some c =
     let count : c.len-count.result ≡ length items = omega (arith, c.len-count.ensures, ok) in
     let some : 0 < length items = omega (arith, count, c.if-count-eq0.false) in
     subst (λ (l : List Stamp). IsGreatest l c.index.result.now) c.self.view_is
-    (last_is items c.index.result.now c.self.invariant some
+    (last_is items c.index.result.now c.self.invariant.0 some
     (c.index.ensures ∙ ap (λ (n : ℕ). get_or items (n - 1) c.index.result.now) count ∙ sym (get_or_default items (length items - 1) no_stamp c.index.result.now (omega arith))))

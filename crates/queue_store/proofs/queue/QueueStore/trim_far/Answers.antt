@@ -2,7 +2,7 @@ use Rattle.std.proofs.Common.{◌≡◌, ◌-◌, ◌≤◌, ap, sym, arith}
 use Rattle.queue_store.specs.declared.queue.QueueStore.{QueueStore}
 use Rattle.queue_store.specs.Queue.{IsFar}
 use Rattle.queue_store.proofs.QueueLaws.{drops_then, far_is}
-use Rattle.queue_store.proofs.queue.QueueStore.trim.Goals as goal
+use Rattle.queue_store.proofs.queue.QueueStore.trim_far.Goals as goal
 
 pub loop-lowest-preserved : goal.loop-lowest-preserved
 loop-lowest-preserved g c = λ pair.
