@@ -13,3 +13,4 @@ pub mod CmParts
 pub mod RtcpSealing
 pub mod RtcpShape
 pub mod Longer
+pub mod Words

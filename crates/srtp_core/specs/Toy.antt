@@ -1,6 +1,7 @@
 -- The toy cipher.
-use Rattle.std.specs.Prelude.{ℕ, ◌+◌, ◌%◌, ◌==◌, if◌then◌else◌, List, [], ◌∷◌, ◌++◌, slice_index, bit_xor}
-use Rattle.std.specs.Int.{w32, to_be_bytes}
+use Rattle.std.specs.Prelude.{ℕ, ◌+◌, ◌%◌, ◌^◌, ◌==◌, if◌then◌else◌, List, [], ◌∷◌, ◌++◌, slice_index, bit_xor}
+use Rattle.std.specs.Int.{w32, w128, to_be_bytes}
+use Rattle.std.specs.Simd.Lanes.{zip2}
 use Rattle.media_base.specs.Text.{bytes_by}
 use Rattle.srtp_core.specs.Cipher.{CipherMeaning}
 use Rattle.srtp_core.specs.Simulated.{simulated}
@@ -11,6 +12,10 @@ toy_block_byte k x i = bit_xor (bit_xor (slice_index x i) (slice_index k i)) (sl
 
 unfoldable pub toy_block : List ℕ → List ℕ → List ℕ
 toy_block k x = bytes_by (toy_block_byte k x) 16
+
+-- block n of the stream, of the block of the nonce and the word 0
+abbrev pub word_block : List ℕ → ℕ → List ℕ
+word_block first n = zip2 bit_xor first (to_be_bytes w128 ((n + 2) % 2 ^ 32))
 
 -- all bytes at the places that are j modulo 16, XORed; the first byte stands at place i
 abbrev pub column : ℕ → ℕ → List ℕ → ℕ

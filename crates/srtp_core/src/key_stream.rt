@@ -3,7 +3,7 @@ ghost use Rattle.std.specs.Int.{w32, to_be_bytes};
 ghost use Rattle.srtp_core.specs.Streams.{streamed, blocks_at, counter_input};
 
 use crate::SRTP_BLOCK_SIZE;
-use crate::simulated::Simulated;
+use crate::simulated::BlockCipher;
 use std::simd::prelude::*;
 
 /// What is enciphered for the blocks of a stream.
@@ -36,8 +36,22 @@ fn input_block(counter: &Counter, n: usize) -> [u8; 16]
     }
 }
 
+/// XORs a block into the 16 bytes from a place on.
+#[inline(always)]
+pub(crate) fn xor_whole(input: &[u8], at: usize, block: &[u8; 16], output: &mut [u8])
+    requires output { length output.old ≡ length input.now }
+    requires at { at + 16 ≤ length input.now }
+    ensures len { length output.new ≡ length output.old }
+    ensures before { (k : ℕ) → k < at → slice_index output.new k ≡ slice_index output.old k }
+    ensures here { (k : ℕ) → k < 16 → slice_index output.new (at + k)
+        ≡ bit_xor (slice_index input.now (at + k)) (slice_index block.now k) }
+{
+    let lanes = u8x16::from_slice(&input[at..]) ^ u8x16::from_array(*block);
+    lanes.copy_to_slice(&mut output[at..]);
+}
+
 /// XORs a block into the bytes from a place on, as far as they go.
-fn xor_block(input: &[u8], at: usize, block: &[u8; 16], output: &mut [u8])
+pub(crate) fn xor_block(input: &[u8], at: usize, block: &[u8; 16], output: &mut [u8])
     requires output { length output.old ≡ length input.now }
     requires at { at ≤ length input.now }
     ensures len { length output.new ≡ length output.old }
@@ -51,13 +65,12 @@ fn xor_block(input: &[u8], at: usize, block: &[u8; 16], output: &mut [u8])
             output[i] = input[i] ^ block[i - at];
         }
     } else {
-        let lanes = u8x16::from_slice(&input[at..]) ^ u8x16::from_array(*block);
-        lanes.copy_to_slice(&mut output[at..]);
+        xor_whole(input, at, block, output);
     }
 }
 
 /// Writes the input XOR the stream of the blocks.
-pub(crate) fn xor_stream<S: Simulated>(
+pub(crate) fn xor_stream<S: BlockCipher>(
     cipher: S,
     key: &[u8],
     counter: &Counter,

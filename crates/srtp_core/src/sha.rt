@@ -2,7 +2,8 @@ ghost use Rattle.std.specs.Prelude.{◌≡◌, ℕ, ◌+◌, List, ◌++◌, len
 ghost use Rattle.srtp_core.specs.Sha.{sha_block, sha_tag};
 ghost use Rattle.srtp_core.specs.SimulatedLaws.{length-sha_tag};
 
-use crate::simulated::Simulated;
+use crate::key_stream::{Counter, xor_stream};
+use crate::simulated::{BlockCipher, Simulated};
 use sha1::Sha1;
 
 /// **Not secure.** A cipher whose blocks and tags are fronts of SHA-1 digests, so that each byte of
@@ -19,10 +20,8 @@ fn front(digest: &[u8; 20]) -> [u8; 16]
     bytes
 }
 
-impl Simulated for ShaCipher {
+impl BlockCipher for ShaCipher {
     ghost block_of = { sha_block };
-
-    ghost tag_of = { sha_tag };
 
     #[tactic(auto, unfolding(crate::specs::Sha::sha_block))]
     fn block(&self, key: &[u8], input: &[u8; 16]) -> [u8; 16] {
@@ -30,6 +29,14 @@ impl Simulated for ShaCipher {
         hasher.update(key);
         hasher.update(input);
         front(&hasher.finalize())
+    }
+}
+
+impl Simulated for ShaCipher {
+    ghost tag_of = { sha_tag };
+
+    fn xor_text(&self, key: &[u8], iv: &[u8; 12], input: &[u8], output: &mut [u8]) {
+        xor_stream(*self, key, &Counter::Word(*iv), input, output)
     }
 
     #[tactic(auto, unfolding(crate::specs::Sha::sha_tag), using(std::proofs::Common::append_assoc))]

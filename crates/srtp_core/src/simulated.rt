@@ -1,23 +1,33 @@
 ghost use Rattle.std.specs.Prelude.{◌≡◌, ℕ, ◌+◌, ◌⊎◌, List, ◌++◌, length, IsTrue, refl};
-ghost use Rattle.srtp_core.specs.Simulated.{sealed_text, simulated};
+ghost use Rattle.srtp_core.specs.Streams.{streamed};
+ghost use Rattle.srtp_core.specs.Simulated.{nonce_stream, sealed_text, simulated};
 ghost use Rattle.srtp_core.specs.SimulatedLaws.{length-sealed_text, sealed_text_apart};
 
 use crate::cipher::SrtpCipher;
 use crate::key_stream::{Counter, xor_stream};
 
-/// A block function and a tag, over the bytes of a key of 16 or 32 bytes: what a simulated cipher
-/// is made of. No call takes memory.
-pub trait Simulated: Copy {
+/// A block function, over the bytes of a key of 16 or 32 bytes. No call takes memory.
+pub trait BlockCipher: Copy {
     /// The bytes of a key, and a block: the block enciphered.
     ghost block_of: { List ℕ → List ℕ → List ℕ };
-
-    /// The bytes of a key, the nonce, the associated data and the plain text: the tag.
-    ghost tag_of: { List ℕ → List ℕ → List ℕ → List ℕ → List ℕ };
 
     /// One block enciphered.
     fn block(&self, key: &[u8], input: &[u8; 16]) -> [u8; 16]
         requires { (length key.now ≡ 16) ⊎ (length key.now ≡ 32) }
         ensures { result ≡ block_of key.now input.now };
+}
+
+/// A block function with a stream and a tag: what a simulated cipher is made of. No call takes
+/// memory.
+pub trait Simulated: BlockCipher {
+    /// The bytes of a key, the nonce, the associated data and the plain text: the tag.
+    ghost tag_of: { List ℕ → List ℕ → List ℕ → List ℕ → List ℕ };
+
+    /// The text XOR the stream of the nonce.
+    fn xor_text(&self, key: &[u8], iv: &[u8; 12], input: &[u8], output: &mut [u8])
+        requires key { (length key.now ≡ 16) ⊎ (length key.now ≡ 32) }
+        requires output { length output.old ≡ length input.now }
+        ensures { output.new ≡ streamed (nonce_stream Self.block_of key.now iv.now) input.now };
 
     /// The tag of a text; `aad1` and `aad2`, one after the other, are the associated data.
     fn tag(&self, key: &[u8], iv: &[u8; 12], aad1: &[u8], aad2: &[u8], text: &[u8]) -> [u8; 16]
@@ -49,7 +59,7 @@ fn seal<S: Simulated>(
     ensures { output.new ≡ sealed_text S.block_of S.tag_of key.now iv.now (aad1.now ++ aad2.now) input.now }
 {
     let (text, end) = output.split_at_mut(input.len());
-    xor_stream(cipher, key, &Counter::Word(*iv), input, text);
+    cipher.xor_text(key, iv, input, text);
     end.copy_from_slice(&cipher.tag(key, iv, aad1, aad2, input));
 }
 
@@ -72,7 +82,7 @@ fn open<S: Simulated>(
         → IsTrue result }
 {
     let (text, end) = input.split_at(output.len());
-    xor_stream(cipher, key, &Counter::Word(*iv), text, output);
+    cipher.xor_text(key, iv, text, output);
     let tag = cipher.tag(key, iv, aad1, aad2, output);
     end == tag.as_slice()
 }

@@ -1,10 +1,12 @@
-ghost use Rattle.std.specs.Prelude.{◌≡◌, ℕ, ◌+◌, ◌%◌, ◌<◌, List, ◌++◌, length, slice_index, bit_xor};
-ghost use Rattle.srtp_core.specs.Toy.{toy_block, column, toy_tag};
+ghost use Rattle.std.specs.Prelude.{◌≡◌, ℕ, ◌+◌, ◌%◌, ◌<◌, ◌≤◌, List, ◌++◌, length, slice_index, bit_xor};
+ghost use Rattle.std.specs.Int.{w128, to_be_bytes};
+ghost use Rattle.srtp_core.specs.Streams.{streamed, blocks_at};
+ghost use Rattle.srtp_core.specs.Toy.{toy_block, column, toy_tag, word_block};
 ghost use Rattle.srtp_core.specs.SimulatedLaws.{length-toy_tag};
 
 use crate::SRTP_BLOCK_SIZE;
-use crate::key_stream::nonce_and_word;
-use crate::simulated::Simulated;
+use crate::key_stream::{nonce_and_word, xor_block, xor_whole};
+use crate::simulated::{BlockCipher, Simulated};
 use std::simd::prelude::*;
 
 /// **Not secure.** A cipher whose blocks are their input XOR the key, so that test data can be
@@ -12,15 +14,15 @@ use std::simd::prelude::*;
 #[derive(Clone, Copy, Debug)]
 pub struct ToyCipher;
 
-/// XORs each byte into its column, the first one into column `at`.
+/// XORs each byte into its column, the first one into column `at` and none past the last column.
 fn mix_bytes(tag: &mut [u8; 16], at: usize, bytes: &[u8])
-    requires { at < 16 }
+    requires { at + length bytes.now ≤ 16 }
     ensures long { length tag.new ≡ 16 }
     ensures columns { (j : ℕ) → j < 16 → slice_index tag.new j
         ≡ bit_xor (slice_index tag.old j) (column j at bytes.now) }
 {
     for (i, byte) in bytes.iter().enumerate() {
-        tag[(at + i % 16) % 16] ^= *byte;
+        tag[at + i] ^= *byte;
     }
 }
 
@@ -52,10 +54,41 @@ fn mix(tag: &mut [u8; 16], at: usize, bytes: &[u8])
     mix_bytes(tag, 0, last);
 }
 
-impl Simulated for ToyCipher {
-    ghost block_of = { toy_block };
+/// A word as the last 4 of 16 bytes.
+#[inline(always)]
+fn wide_word(word: u32) -> [u8; 16]
+    ensures { result ≡ to_be_bytes w128 word }
+{
+    u32x4::from_array([0, 0, 0, word.swap_bytes()])
+        .to_le_bytes()
+        .to_array()
+}
 
-    ghost tag_of = { toy_tag };
+/// Block n of the stream, of the block of the nonce and the word 0.
+#[inline(always)]
+fn stream_block(first: &[u8; 16], n: usize) -> [u8; 16]
+    ensures { result ≡ word_block first.now n }
+{
+    let word = (n % 4_294_967_296 + 2) % 4_294_967_296;
+    let lanes = u8x16::from_array(*first) ^ u8x16::from_array(wide_word(word as u32));
+    lanes.to_array()
+}
+
+/// Writes the input XOR the stream, of the block of the nonce and the word 0.
+fn xor_words(first: &[u8; 16], input: &[u8], output: &mut [u8])
+    requires { length output.old ≡ length input.now }
+    ensures { output.new ≡ streamed (blocks_at (word_block first.now)) input.now }
+{
+    let blocks = input.len() / SRTP_BLOCK_SIZE;
+    for n in 0..blocks {
+        xor_whole(input, SRTP_BLOCK_SIZE * n, &stream_block(first, n), output);
+    }
+    let last = stream_block(first, blocks);
+    xor_block(input, SRTP_BLOCK_SIZE * blocks, &last, output);
+}
+
+impl BlockCipher for ToyCipher {
+    ghost block_of = { toy_block };
 
     fn block(&self, key: &[u8], input: &[u8; 16]) -> [u8; 16] {
         let lanes = u8x16::from_array(*input) ^ u8x16::from_slice(key);
@@ -64,6 +97,15 @@ impl Simulated for ToyCipher {
         } else {
             lanes.to_array()
         }
+    }
+}
+
+impl Simulated for ToyCipher {
+    ghost tag_of = { toy_tag };
+
+    fn xor_text(&self, key: &[u8], iv: &[u8; 12], input: &[u8], output: &mut [u8]) {
+        let first = self.block(key, &nonce_and_word(iv, 0));
+        xor_words(&first, input, output)
     }
 
     fn tag(&self, key: &[u8], iv: &[u8; 12], aad1: &[u8], aad2: &[u8], text: &[u8]) -> [u8; 16] {

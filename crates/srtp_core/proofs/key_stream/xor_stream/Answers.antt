@@ -7,5 +7,5 @@ use Rattle.srtp_core.proofs.key_stream.xor_stream.Goals as goal
 pub returns : goal.returns
 unfolding streamed
 returns g c =
-    made (λ i. bit_xor (slice_index c.args.input.now i) (blocks_at (λ n. g.S.Simulated.block_of c.args.key.now (counter_input c.args.counter.now n)) i))
+    made (λ i. bit_xor (slice_index c.args.input.now i) (blocks_at (λ n. g.S.BlockCipher.block_of c.args.key.now (counter_input c.args.counter.now n)) i))
     c.loop-n.output _ (omega arith) (λ k h. c.loop-n.invariant.each k (omega arith) (omega arith))

@@ -6,4 +6,4 @@ use Rattle.srtp_core.proofs.simulated.AnySrtpCipher.ctr.Goals as goal
 pub returns : goal.returns
 returns g c =
     c.xor_stream.ensures
-    ∙ ap (λ first. streamed (blocks_at (λ n. g.S.Simulated.block_of c.args.key.now.bytes (to_be_bytes w128 ((first + n) % 2 ^ 128)))) c.args.input.now) c.from_be_bytes.ensures
+    ∙ ap (λ first. streamed (blocks_at (λ n. g.S.BlockCipher.block_of c.args.key.now.bytes (to_be_bytes w128 ((first + n) % 2 ^ 128)))) c.args.input.now) c.from_be_bytes.ensures

@@ -2,14 +2,14 @@ use Rattle.std.proofs.Common.{◌≡◌, ◌≤◌, ◌+◌, ◌∙◌, length, 
 use Rattle.std.specs.Prelude.{bit_xor, slice_index}
 use Rattle.std.specs.Simd.Lanes.{zip2, chunk}
 use Rattle.std.proofs.lemmas.Simd.{length-zip2, length-chunk, get_or-zip2, get_or-chunk, get_or-put_chunk_below, get_or-put_chunk_at}
-use Rattle.srtp_core.proofs.key_stream.xor_block.Goals as goal
+use Rattle.srtp_core.proofs.key_stream.xor_whole.Goals as goal
 
-pub returns-else-input-at-lt-SRTP_BLOCK_SIZE-clause-before : goal.returns-else-input-at-lt-SRTP_BLOCK_SIZE-clause-before
-returns-else-input-at-lt-SRTP_BLOCK_SIZE-clause-before c k h =
+pub returns-clause-before : goal.returns-clause-before
+returns-clause-before c k h =
     get_or-put_chunk_below c.args.at c.args.output.now (zip2 bit_xor (chunk c.args.at 16 c.args.input.now) c.args.block.now) k 0 h
 
-pub returns-else-input-at-lt-SRTP_BLOCK_SIZE-clause-here : goal.returns-else-input-at-lt-SRTP_BLOCK_SIZE-clause-here
-returns-else-input-at-lt-SRTP_BLOCK_SIZE-clause-here c k h w =
+pub returns-clause-here : goal.returns-clause-here
+returns-clause-here c k h =
     let part = chunk c.args.at 16 c.args.input.now in
     let block = c.args.block.now in
     let room : c.args.at + 16 ≤ length c.args.input.now = omega arith in
