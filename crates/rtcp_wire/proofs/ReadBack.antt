@@ -19,10 +19,9 @@ use Rattle.rtcp_wire.specs.declared.remb.Remb.{Remb as RembItem}
 use Rattle.rtcp_wire.specs.declared.report.SenderInfo.{SenderInfo}
 use Rattle.rtcp_wire.specs.declared.report.SenderReport.{SenderReport as SenderItem}
 use Rattle.rtcp_wire.specs.Reports.{sender_info_at, sender_info_text, sender_report_of, sender_report_body, receiver_report_of, receiver_report_body, goodbye_of, goodbye_body}
-use Rattle.rtcp_wire.specs.Items.{reading_of, transport_feedback_of, payload_feedback_of, application_of, item_or_short, first_of, with_rest, item_at, items_within, items_of}
+use Rattle.rtcp_wire.specs.Items.{Item, reading_of, transport_feedback_of, payload_feedback_of, application_of, item_or_short, first_of, with_rest, item_at, items_within, items_of}
 use Rattle.rtcp_wire.specs.declared.packet.Rtcp.{Rtcp}
 use Rattle.rtcp_wire.specs.declared.packet.Rtcp.TheVariants.{SenderReport, ReceiverReport, SourceDescription, Goodbye, ExtendedReport, Nack, Pli, Fir, Twcc, Remb, AppSpecificFeedback}
-use Rattle.rtcp_wire.specs.declared.packet.Reading.TheVariants.{Item}
 use Rattle.rtcp_wire.specs.declared.request.Fir.{Fir as FirItem}
 use Rattle.rtcp_wire.specs.declared.source.Goodbye.{Goodbye as GoodbyeItem}
 use Rattle.rtcp_wire.specs.declared.report.ReceiverReport.{ReceiverReport as ReceiverItem}

@@ -3,8 +3,6 @@ use Rattle.std.specs.Prelude.{ℕ, Bool, true, false, zero, suc, ◌/◌, ◌==�
 use Rattle.std.specs.Option.{option_map, option_map_or}
 use Rattle.rtcp_wire.specs.declared.packet.Rtcp.{Rtcp}
 use Rattle.rtcp_wire.specs.declared.packet.Rtcp.TheVariants.{SenderReport, ReceiverReport, SourceDescription, Goodbye, ExtendedReport, Nack, Pli, Fir, Twcc, Remb, AppSpecificFeedback}
-use Rattle.rtcp_wire.specs.declared.packet.Reading.{Reading}
-use Rattle.rtcp_wire.specs.declared.packet.Reading.TheVariants.{Item, PassedOver, TooShort}
 use Rattle.rtcp_wire.specs.Frame.{Frame, frame_at}
 use Rattle.rtcp_wire.specs.Reports.{sender_report_of, receiver_report_of, goodbye_of}
 use Rattle.rtcp_wire.specs.Descriptions.{descriptions_of}
@@ -12,6 +10,23 @@ use Rattle.rtcp_wire.specs.Remb.{is_remb, remb_of}
 use Rattle.rtcp_wire.specs.Extended.{extended_report_of}
 use Rattle.rtcp_wire.specs.Feedback.{nack_of, pli_of, fir_of, app_feedback_of}
 use Rattle.twcc_core.specs.Feedback.{twcc_of}
+
+-- what an item in bytes says
+pub data Reading : Type 0 where
+  Item : Rtcp → Reading
+  PassedOver : Reading
+  TooShort : Reading
+
+-- whether reading goes on behind it, and the items that it adds
+abbrev pub goes_on : Reading → Bool
+goes_on (Item x) = true
+goes_on PassedOver = true
+goes_on TooShort = false
+
+abbrev pub said : Reading → List Rtcp
+said (Item x) = x ∷ []
+said PassedOver = []
+said TooShort = []
 
 -- an item, unless its bytes are too short for its fields
 abbrev pub reading_or_short : Option Rtcp → Reading

@@ -6,6 +6,7 @@
 mod extended;
 mod feedback;
 mod frame;
+mod kind;
 mod laws;
 mod nack;
 mod packet;

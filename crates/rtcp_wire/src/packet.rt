@@ -2,11 +2,12 @@
 ghost use Rattle.std.specs.Prelude.{◌≡◌, ◌≤◌, ◌++◌, ℕ, List, length, take, drop, IfOk, OnOk, OnErr};
 ghost use Rattle.std.specs.Option.{option_map};
 ghost use Rattle.std.specs.List.{flat_map, AllByRecursion};
-ghost use Rattle.rtcp_wire.specs.Items.{reading_or_short};
+ghost use Rattle.rtcp_wire.specs.Items.{item_or_short, goes_on, said};
 
 use crate::extended::{ExtendedReport, read_extended_report, write_extended_report};
 use crate::feedback::{AppSpecificFeedback, read_app_feedback, write_app_feedback};
 use crate::frame::{Frame, first_frame};
+use crate::kind::Kind;
 use crate::nack::{Nack, read_nack, write_nack};
 use crate::remb::{Remb, is_named_remb, read_remb, write_remb};
 use crate::report::{
@@ -20,6 +21,7 @@ use crate::source::{
 };
 use std::alloc::{AllocError, Global};
 use std::collections::VecDeque;
+use std::mem;
 use twcc_core::{Twcc, read_twcc, twcc_len, write_twcc};
 
 /// An item of an RTCP datagram.
@@ -38,26 +40,24 @@ pub enum Rtcp {
     AppSpecificFeedback(AppSpecificFeedback),
 }
 
-// What an item in bytes says.
-#[derive(Drop)]
-enum Reading {
-    Item(Rtcp),
-    PassedOver,
-    TooShort,
-}
-
-// An item, unless its bytes were too short for its fields.
-fn item_or_short(item: Option<Rtcp>) -> Reading
-    ensures { result ≡ reading_or_short item }
+// Adds an item, and says that reading goes on, unless its bytes were too short for its fields.
+fn add<T: Kind>(items: &mut Vec<Rtcp>, item: Option<T>) -> Result<bool, AllocError>
+    ensures on { IfOk result (λ on. on ≡ goes_on (item_or_short T.item_of item)) }
+    ensures items { OnOk result (items.new.items ≡ items.old.items ++ said (item_or_short T.item_of item)) }
+    ensures err { OnErr result (items.new.items ≡ items.old.items) }
 {
     match item {
-        Some(item) => Reading::Item(item),
-        None => Reading::TooShort,
+        Some(item) => {
+            items.reserve(1)?;
+            items.push_reserved(item.into_item());
+            Ok(true)
+        }
+        None => Ok(false),
     }
 }
 
 impl Rtcp {
-    ghost use Rattle.rtcp_wire.specs.Items.{reading_of, transport_feedback_of, payload_feedback_of, application_of, item_at, added_of, rest_of, items_of, items_within};
+    ghost use Rattle.rtcp_wire.specs.Items.{goes_on, said, reading_of, transport_feedback_of, payload_feedback_of, application_of, item_at, added_of, rest_of, items_of, items_within};
     ghost use Rattle.rtcp_wire.specs.Texts.{IsWritable, CountFits, text_of, body_of, count_of, kind_of, fitting};
     ghost use Rattle.rtcp_wire.specs.Wire.{Puts, LeavesBehind};
     ghost use Rattle.rtcp_wire.specs.Remb.{is_remb};
@@ -70,6 +70,17 @@ impl Rtcp {
         bytes: &[u8],
         items: &mut VecDeque<Rtcp>,
     ) -> Result<(), AllocError>
+        ensures ok { OnOk result (items.new.items ≡ items.old.items ++ items_of bytes.now) }
+        ensures err { OnErr result ((n : ℕ) × (items.new.items ≡ items.old.items ++ take n (items_of bytes.now))) }
+    {
+        let mut list = Vec::from(mem::replace(items, VecDeque::new(alloc)));
+        let end = Rtcp::read_items(alloc, bytes, &mut list);
+        *items = VecDeque::from(list);
+        end
+    }
+
+    // Reads the items of a datagram, in order, and adds them to a list.
+    fn read_items(alloc: Global, bytes: &[u8], items: &mut Vec<Rtcp>) -> Result<(), AllocError>
         ensures ok { OnOk result (items.new.items ≡ items.old.items ++ items_of bytes.now) }
         ensures err { OnErr result ((n : ℕ) × (items.new.items ≡ items.old.items ++ take n (items_of bytes.now))) }
     {
@@ -89,7 +100,7 @@ impl Rtcp {
     fn read_first<'a>(
         alloc: Global,
         bytes: &'a [u8],
-        items: &mut VecDeque<Rtcp>,
+        items: &mut Vec<Rtcp>,
     ) -> Result<Option<&'a [u8]>, AllocError>
         ensures rest { IfOk result (λ next. option_map (λ r. r.now) next ≡ rest_of (item_at bytes.now)) }
         ensures items { OnOk result (items.new.items ≡ items.old.items ++ added_of (item_at bytes.now)) }
@@ -98,37 +109,35 @@ impl Rtcp {
         let Some(frame) = first_frame(bytes) else {
             return Ok(None);
         };
-        match Rtcp::read_item(alloc, &frame)? {
-            Reading::Item(item) => {
-                items.push_back(item)?;
-                Ok(Some(frame.rest))
-            }
-            Reading::PassedOver => Ok(Some(frame.rest)),
-            Reading::TooShort => Ok(None),
+        if Rtcp::read_item(alloc, &frame, items)? {
+            Ok(Some(frame.rest))
+        } else {
+            Ok(None)
         }
     }
 
+    // Adds the item, if its type and format are known, and says whether its bytes are long enough for it.
     #[tactic(auto, unfolding(crate::specs::Items::reading_of))]
-    fn read_item(alloc: Global, frame: &Frame<'_>) -> Result<Reading, AllocError>
+    fn read_item(
+        alloc: Global,
+        frame: &Frame<'_>,
+        items: &mut Vec<Rtcp>,
+    ) -> Result<bool, AllocError>
         requires { frame.now.count ≤ 31 }
-        ensures { IfOk result (λ r. r ≡ reading_of frame.now.kind frame.now.count frame.now.body.now) }
+        ensures on { IfOk result (λ on. on ≡ goes_on (reading_of frame.now.kind frame.now.count frame.now.body.now)) }
+        ensures items { OnOk result (items.new.items ≡ items.old.items ++ said (reading_of frame.now.kind frame.now.count frame.now.body.now)) }
+        ensures err { OnErr result (items.new.items ≡ items.old.items) }
     {
         let (count, body) = (frame.count, frame.body);
         match frame.kind {
-            200 => Ok(item_or_short(read_sender_report(alloc, count, body)?.map(
-                Rtcp::SenderReport,
-            ))),
-            201 => Ok(item_or_short(read_receiver_report(alloc, count, body)?.map(
-                Rtcp::ReceiverReport,
-            ))),
-            202 => Ok(item_or_short(read_descriptions(alloc, count, body)?.map(
-                Rtcp::SourceDescription,
-            ))),
-            203 => Ok(item_or_short(read_goodbye(count, body).map(Rtcp::Goodbye))),
-            205 => Rtcp::read_transport_feedback(alloc, count, body),
-            206 => Rtcp::read_payload_feedback(alloc, count, body),
-            207 => Ok(item_or_short(read_extended_report(alloc, body)?.map(Rtcp::ExtendedReport))),
-            _ => Ok(Reading::PassedOver),
+            200 => add(items, read_sender_report(alloc, count, body)?),
+            201 => add(items, read_receiver_report(alloc, count, body)?),
+            202 => add(items, read_descriptions(alloc, count, body)?),
+            203 => add(items, read_goodbye(count, body)),
+            205 => Rtcp::read_transport_feedback(alloc, count, body, items),
+            206 => Rtcp::read_payload_feedback(alloc, count, body, items),
+            207 => add(items, read_extended_report(alloc, body)?),
+            _ => Ok(true),
         }
     }
 
@@ -137,35 +146,51 @@ impl Rtcp {
         alloc: Global,
         format: u8,
         body: &[u8],
-    ) -> Result<Reading, AllocError>
-        ensures { IfOk result (λ r. r ≡ transport_feedback_of format body.now) }
+        items: &mut Vec<Rtcp>,
+    ) -> Result<bool, AllocError>
+        ensures on { IfOk result (λ on. on ≡ goes_on (transport_feedback_of format body.now)) }
+        ensures items { OnOk result (items.new.items ≡ items.old.items ++ said (transport_feedback_of format body.now)) }
+        ensures err { OnErr result (items.new.items ≡ items.old.items) }
     {
         match format {
-            1 => Ok(item_or_short(read_nack(body).map(Rtcp::Nack))),
-            15 => Ok(item_or_short(read_twcc(alloc, body)?.map(Rtcp::Twcc))),
-            _ => Ok(Reading::PassedOver),
+            1 => add(items, read_nack(body)),
+            15 => add(items, read_twcc(alloc, body)?),
+            _ => Ok(true),
         }
     }
 
     #[tactic(auto, unfolding(crate::specs::Items::payload_feedback_of))]
-    fn read_payload_feedback(alloc: Global, format: u8, body: &[u8]) -> Result<Reading, AllocError>
-        ensures { IfOk result (λ r. r ≡ payload_feedback_of format body.now) }
+    fn read_payload_feedback(
+        alloc: Global,
+        format: u8,
+        body: &[u8],
+        items: &mut Vec<Rtcp>,
+    ) -> Result<bool, AllocError>
+        ensures on { IfOk result (λ on. on ≡ goes_on (payload_feedback_of format body.now)) }
+        ensures items { OnOk result (items.new.items ≡ items.old.items ++ said (payload_feedback_of format body.now)) }
+        ensures err { OnErr result (items.new.items ≡ items.old.items) }
     {
         match format {
-            1 => Ok(item_or_short(read_pli(body).map(Rtcp::Pli))),
-            4 => Ok(item_or_short(read_fir(body).map(Rtcp::Fir))),
-            15 => Rtcp::read_application(alloc, body),
-            _ => Ok(Reading::PassedOver),
+            1 => add(items, read_pli(body)),
+            4 => add(items, read_fir(body)),
+            15 => Rtcp::read_application(alloc, body, items),
+            _ => Ok(true),
         }
     }
 
-    fn read_application(alloc: Global, body: &[u8]) -> Result<Reading, AllocError>
-        ensures { IfOk result (λ r. r ≡ application_of (is_remb body.now) body.now) }
+    fn read_application(
+        alloc: Global,
+        body: &[u8],
+        items: &mut Vec<Rtcp>,
+    ) -> Result<bool, AllocError>
+        ensures on { IfOk result (λ on. on ≡ goes_on (application_of (is_remb body.now) body.now)) }
+        ensures items { OnOk result (items.new.items ≡ items.old.items ++ said (application_of (is_remb body.now) body.now)) }
+        ensures err { OnErr result (items.new.items ≡ items.old.items) }
     {
         if is_named_remb(body) {
-            Ok(item_or_short(read_remb(alloc, body)?.map(Rtcp::Remb)))
+            add(items, read_remb(alloc, body)?)
         } else {
-            Ok(item_or_short(read_app_feedback(alloc, body)?.map(Rtcp::AppSpecificFeedback)))
+            add(items, read_app_feedback(alloc, body)?)
         }
     }
 

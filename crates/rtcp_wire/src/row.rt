@@ -76,7 +76,7 @@ pub fn read_many<T: Row>(alloc: Global, bytes: &[u8], count: usize) -> Result<Li
     let mut rows = Vec::with_capacity(alloc, count)?;
     let mut rest = bytes;
     for _ in 0..count {
-        rows.push(T::read(rest))?;
+        rows.push_reserved(T::read(rest));
         let (_, after) = rest.split_at(T::size());
         rest = after;
     }
