@@ -14,7 +14,7 @@ use Rattle.rtp_base.specs.declared.kind.Kind.TheVariants.{Rtp, Rtcp}
 use Rattle.media_model.specs.declared.entry.Sealed.{Sealed as SealedEntry}
 use Rattle.media_model.specs.declared.entry.Opened.{Opened as OpenedEntry}
 use Rattle.media_model.specs.declared.entry.Entry.{Entry}
-use Rattle.media_model.specs.declared.entry.Entry.TheVariants.{Wrote, Ticked, Got, Sealed, Opened, Yielded}
+use Rattle.media_model.specs.declared.entry.Entry.TheVariants.{Wrote, Ticked, Called, Got, Sealed, Opened, Yielded}
 use Rattle.media_model.specs.declared.setup.Setup.{Setup}
 use Rattle.media_model.specs.Setup.{rtx_of}
 use Rattle.rtp_base.specs.Kind.{same_kind}
@@ -71,6 +71,7 @@ sealed_is o bytes (Sealed s) e =
     (s, refl, side_is s.side (peer_of o.side) p.0, kind_is s.kind o.kind q.0, eqb-true s.ssrc o.ssrc t.0, eqb-true s.index o.index u.0, (bytes_eq-Decides s.bytes bytes).0 u.1)
 sealed_is o bytes (Wrote s t w) e = absurd cc
 sealed_is o bytes (Ticked s t) e = absurd cc
+sealed_is o bytes (Called s t c) e = absurd cc
 sealed_is o bytes (Got g) e = absurd cc
 sealed_is o bytes (Opened p) e = absurd cc
 sealed_is o bytes (Yielded s p) e = absurd cc
@@ -137,6 +138,7 @@ genuine_passes (x ∷ entries) before h =
           ∙ seal_passes before opened (subst (λ b. IsPeersSeal b opened) (append-nil before) (h [] entries opened (ap (λ y. y ∷ entries) p)))
       here (Wrote s t w) p = ap (is_genuine_after before) p
       here (Ticked s t) p = ap (is_genuine_after before) p
+      here (Called s t c) p = ap (is_genuine_after before) p
       here (Got g) p = ap (is_genuine_after before) p
       here (Sealed s) p = ap (is_genuine_after before) p
       here (Yielded s q) p = ap (is_genuine_after before) p

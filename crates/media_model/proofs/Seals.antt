@@ -2,7 +2,6 @@
 use Rattle.std.proofs.Common.{◌≡◌, ℕ, ◌+◌, ◌<◌, ◌≤◌, Bool, true, false, cond, ◌&&◌, ◌||◌, List, [], ◌∷◌, ◌++◌, length, take, drop, get_or, Option, Some, None, refl, sym, ap, ◌∙◌, add-one}
 use Rattle.std.specs.Prelude.{◌==◌}
 use Rattle.std.specs.List.{fold, list_any}
-use Rattle.std.specs.Option.{option_copied}
 use Rattle.std.specs.Str.{bytes_eq}
 use Rattle.std.specs.HashSet.{HashSet, contains}
 use Rattle.std.proofs.Math.Seq.{drop-cons}
@@ -15,7 +14,7 @@ use Rattle.rtp_base.specs.declared.kind.Kind.TheVariants.{Rtp, Rtcp}
 use Rattle.media_model.specs.declared.entry.Sealed.{Sealed as SealedEntry}
 use Rattle.media_model.specs.declared.entry.Opened.{Opened as OpenedEntry}
 use Rattle.media_model.specs.declared.entry.Entry.{Entry}
-use Rattle.media_model.specs.declared.entry.Entry.TheVariants.{Wrote, Ticked, Got, Sealed, Opened, Yielded}
+use Rattle.media_model.specs.declared.entry.Entry.TheVariants.{Wrote, Ticked, Called, Got, Sealed, Opened, Yielded}
 use Rattle.media_model.specs.declared.genuine.Seal.{Seal}
 use Rattle.media_model.specs.declared.genuine.Latest.{Latest}
 use Rattle.media_model.specs.contracts.entry.Side as side
@@ -118,6 +117,7 @@ looked_up sealed latest before e o bytes q is came side kind ssrc index same has
     each (Sealed s) = λ j. same_side s.side (side j) && (same_kind s.kind (kind j) && ((s.ssrc == ssrc j) && ((s.index == index j) && bytes_eq s.bytes (same j))))
     each (Wrote s t w) = refl
     each (Ticked s t) = refl
+    each (Called s t c) = refl
     each (Got g) = refl
     each (Opened p) = refl
     each (Yielded s p) = refl

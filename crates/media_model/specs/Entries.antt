@@ -3,14 +3,12 @@ use Rattle.std.specs.Prelude.{ℕ, Bool, true, false, cond, ◌&&◌, ◌==◌, 
 use Rattle.std.specs.List.{flat_map, fold, list_any}
 use Rattle.media_model.specs.declared.entry.Side.{Side}
 use Rattle.rtp_base.specs.declared.kind.Kind.{Kind}
-use Rattle.rtp_base.specs.declared.kind.Kind.TheVariants.{Rtp}
+use Rattle.rtp_base.specs.declared.kind.Kind.TheVariants.{Rtp, Rtcp}
 use Rattle.media_model.specs.declared.entry.Write.{Write}
 use Rattle.media_model.specs.declared.entry.Packet.{Packet}
-use Rattle.media_model.specs.declared.entry.Got.{Got as GotEntry}
 use Rattle.media_model.specs.declared.entry.Sealed.{Sealed as SealedEntry}
-use Rattle.media_model.specs.declared.entry.Opened.{Opened as OpenedEntry}
 use Rattle.media_model.specs.declared.entry.Entry.{Entry}
-use Rattle.media_model.specs.declared.entry.Entry.TheVariants.{Wrote, Ticked, Got, Sealed, Opened, Yielded}
+use Rattle.media_model.specs.declared.entry.Entry.TheVariants.{Wrote, Ticked, Called, Got, Sealed, Opened, Yielded}
 use Rattle.rtp_base.specs.Kind.{same_kind}
 use Rattle.media_model.specs.Sides.{same_side}
 
@@ -39,12 +37,20 @@ abbrev pub sealed_numbers : Side → ℕ → List Entry → List ℕ
 sealed_numbers side ssrc entries = flat_map (sealed_number_on side ssrc) entries
 
 -- the datagrams that a side sealed, of both kinds, in order
-abbrev pub datagram_by : Side → Entry → List (List ℕ)
-datagram_by side (Sealed s) = cond (same_side side s.side) (s.bytes ∷ []) []
+abbrev pub datagram_by : Side → Entry → List SealedEntry
+datagram_by side (Sealed s) = cond (same_side side s.side) (s ∷ []) []
 datagram_by side _ = []
 
-abbrev pub datagrams : Side → List Entry → List (List ℕ)
+abbrev pub datagrams : Side → List Entry → List SealedEntry
 datagrams side entries = flat_map (datagram_by side) entries
+
+-- the indices under which a side sealed RTCP, in order
+abbrev pub srtcp_index_by : Side → Entry → List ℕ
+srtcp_index_by side (Sealed s) = cond (same_side side s.side && same_kind Rtcp s.kind) (s.index ∷ []) []
+srtcp_index_by side _ = []
+
+abbrev pub srtcp_indices : Side → List Entry → List ℕ
+srtcp_indices side entries = flat_map (srtcp_index_by side) entries
 
 -- kind, SSRC and index of what a side sealed, in order
 abbrev pub nonce_by : Side → Entry → List (Kind × ℕ × ℕ)
@@ -82,6 +88,7 @@ packets side entries = flat_map (packet_by side) entries
 abbrev pub time_of : Entry → List ℕ
 time_of (Wrote side time write) = time ∷ []
 time_of (Ticked side time) = time ∷ []
+time_of (Called side time call) = time ∷ []
 time_of (Got got) = got.time ∷ []
 time_of _ = []
 
@@ -105,5 +112,6 @@ queued side ssrc entries = filter (λ w. not (is_sealed (sealed_numbers side ssr
 abbrev pub is_step : Entry → Bool
 is_step (Wrote side time write) = true
 is_step (Ticked side time) = true
+is_step (Called side time call) = true
 is_step (Got got) = true
 is_step _ = false

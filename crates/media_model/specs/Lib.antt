@@ -1,3 +1,4 @@
+pub mod Application
 pub mod Entries
 pub mod Genuine
 pub mod Seals

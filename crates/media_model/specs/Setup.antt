@@ -6,6 +6,8 @@ use Rattle.rtp_wire.specs.Extensions.{no_extensions, with_extension}
 use Rattle.srtp_core.specs.declared.profile.SrtpProfile.{SrtpProfile}
 use Rattle.srtp_core.specs.Keys.{material_len}
 use Rattle.media_model.specs.declared.entry.Side.{Side}
+use Rattle.media_model.specs.declared.entry.Side.TheVariants.{A, B}
+use Rattle.media_model.specs.declared.setup.Local.{Local}
 use Rattle.media_model.specs.declared.setup.Key.{Key}
 use Rattle.media_model.specs.declared.setup.Key.TheVariants.{Zero, Given}
 use Rattle.media_model.specs.declared.setup.PayloadType.{PayloadType}
@@ -22,6 +24,11 @@ key_bytes profile (Given bytes) = bytes
 -- the keying material
 abbrev pub material_of : Setup → List ℕ
 material_of setup = key_bytes setup.profile setup.key
+
+-- what a side alone brings
+abbrev pub local_of : Side → Setup → Local
+local_of A setup = setup.a
+local_of B setup = setup.b
 
 -- the main SSRC of a stream that this side sends
 abbrev pub main_in : Side → Stream → Option ℕ

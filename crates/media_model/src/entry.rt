@@ -108,6 +108,13 @@ pub struct Opened {
     pub plain: Bytes,
 }
 
+/// What an application asks of its session beside writes.
+#[derive(Clone, Copy, Debug, PartialEq, Eq)]
+pub enum Call {
+    /// To send feedback of the application's own (RFC 4585 section 6.4).
+    Application,
+}
+
 /// What happened at one moment of a run.
 #[derive(Debug, PartialEq, Eq, Drop)]
 pub enum Entry {
@@ -115,6 +122,8 @@ pub enum Entry {
     Wrote(Side, Instant, Write),
     /// A step: the side's time went on.
     Ticked(Side, Instant),
+    /// A step: the side's application called its session.
+    Called(Side, Instant, Call),
     /// A step: a datagram came to a side.
     Got(Got),
     /// A side sealed a datagram.

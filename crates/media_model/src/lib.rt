@@ -1,16 +1,21 @@
 //! What runs of two media sessions speak of: setups, steps, and the entries of transcripts.
 #![tactic(auto)]
 
+mod application;
 mod entry;
 mod genuine;
 mod setup;
+mod srtcp_index;
 mod step;
 mod transcript;
 
-pub use entry::{Entry, Got, Opened, Packet, Sealed, Side, Write};
+pub use application::ApplicationData;
+pub use entry::{Call, Entry, Got, Opened, Packet, Sealed, Side, Write};
 pub use rtp_wire::Kind;
 pub use setup::{
-    CipherName, Codec, Key, Media, MediaKind, NamedExtension, PayloadType, Setup, Stream,
+    CipherName, Codec, Key, Local, Media, MediaKind, Mtu, NamedExtension, PayloadType, Setup,
+    Stream,
 };
+pub use srtcp_index::SrtcpIndex;
 pub use step::Step;
 pub use transcript::Transcript;

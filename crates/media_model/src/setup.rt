@@ -1,8 +1,9 @@
 ghost use Rattle.std.specs.Prelude.{◌≡◌, ◌++◌, IfOk, OnOk};
 ghost use Rattle.std.specs.List.{filter_map};
-ghost use Rattle.media_model.specs.Setup.{material_of, streams_of, types_of, main_in, rtx_in, rtx_of, is_extension_id, extensions_of};
+ghost use Rattle.media_model.specs.Setup.{local_of, material_of, streams_of, types_of, main_in, rtx_in, rtx_of, is_extension_id, extensions_of};
 
 use crate::entry::Side;
+use crate::srtcp_index::SrtcpIndex;
 use media_base::{Beginning, Bytes, Listed};
 use rtp_wire::{Extension, ExtensionMap, Mid, Pt, Rid, Ssrc};
 use srtp_core::SrtpProfile;
@@ -96,6 +97,24 @@ pub struct NamedExtension {
     pub extension: Extension,
 }
 
+/// How long datagrams are to be, in bytes.
+#[derive(Clone, Copy, Debug, PartialEq, Eq)]
+pub struct Mtu {
+    /// The most bytes of a datagram of RTCP: from 900 to `warn` in a run.
+    pub target: u64,
+    /// Above it a datagram is longer than wanted: at most 1,500 in a run.
+    pub warn: u64,
+}
+
+/// What one side alone brings to a run.
+#[derive(Clone, Copy, Debug, PartialEq, Eq)]
+pub struct Local {
+    /// The SSRC under which it speaks of what it receives.
+    pub ssrc: Ssrc,
+    /// The index of its first SRTCP datagram.
+    pub srtcp_index: SrtcpIndex,
+}
+
 /// What both sides know before a run begins.
 #[derive(Debug, PartialEq, Eq, Drop)]
 pub struct Setup {
@@ -107,6 +126,12 @@ pub struct Setup {
     pub key: Key,
     /// The Unix time, in seconds, of the moment 0 of both sides.
     pub beginning: Beginning,
+    /// How long datagrams of both sides may be.
+    pub mtu: Mtu,
+    /// What side A alone brings.
+    pub a: Local,
+    /// What side B alone brings.
+    pub b: Local,
     /// The header extensions, in the order of their lines.
     pub exts: Listed<NamedExtension>,
     /// The payload types, in the order of their lines.
@@ -146,6 +171,16 @@ impl Setup {
             add_repairs(&mut ssrcs, media.streams.as_slice())?;
         }
         Ok(ssrcs)
+    }
+
+    /// What a side alone brings.
+    pub fn local(&self, side: Side) -> Local
+        ensures { result ≡ local_of side self.now }
+    {
+        match side {
+            Side::A => self.a,
+            Side::B => self.b,
+        }
     }
 
     /// Which id names which extension: what the lines say one after the other, where an id outside

@@ -1,6 +1,7 @@
+use crate::application::ApplicationData;
 use crate::entry::{Side, Write};
 use media_base::{Bytes, Instant};
-use rtp_wire::Kind;
+use rtp_wire::{Kind, Ssrc};
 
 /// What a script has one side do.
 #[derive(Debug, PartialEq, Eq, Drop)]
@@ -28,5 +29,15 @@ pub enum Step {
         time: Instant,
         kind: Kind,
         bytes: Bytes,
+    },
+    /// Its application sends feedback of its own (RFC 4585 section 6.4).
+    Application {
+        side: Side,
+        time: Instant,
+        /// The SSRC that the feedback is from.
+        sender: Ssrc,
+        /// The SSRC that it is about.
+        media: Ssrc,
+        payload: ApplicationData,
     },
 }

@@ -1,8 +1,8 @@
-use Rattle.std.proofs.Common.{◌+◌, List, take, sym, ◌∙◌, subst}
+use Rattle.std.proofs.Common.{List, take, sym, ◌∙◌, subst}
 use Rattle.media_model.specs.declared.entry.Entry.{Entry}
 use Rattle.media_model.specs.Seals.{HasSeals, HasLatest}
 use Rattle.media_model.specs.Genuine.{is_genuine}
-use Rattle.media_model.proofs.Seals.{Knows, front_more, goes_on, stops, all_passed}
+use Rattle.media_model.proofs.Seals.{front_more, goes_on, stops, all_passed}
 use Rattle.media_model.proofs.genuine.is_genuine.Goals as goal
 
 pub returns-then-not-is_sealed : goal.returns-then-not-is_sealed
