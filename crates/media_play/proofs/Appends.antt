@@ -11,19 +11,23 @@ use Rattle.media_model.specs.declared.entry.Side.{Side}
 use Rattle.media_model.specs.declared.entry.Write.{Write as Writing}
 use Rattle.media_model.specs.declared.entry.Got.{Got as GotEntry}
 use Rattle.media_model.specs.declared.entry.Entry.{Entry}
-use Rattle.media_model.specs.declared.entry.Entry.TheVariants.{Wrote, Ticked, Got, Opened}
+use Rattle.media_model.specs.declared.entry.Entry.TheVariants.{Wrote, Ticked, Called, Got, Sealed, Opened}
+use Rattle.rtp_base.specs.declared.kind.Kind.TheVariants.{Rtp, Rtcp}
+use Rattle.rtp_base.specs.Kind.{same_kind}
+use Rattle.media_model.specs.declared.entry.Call.{Call}
+use Rattle.media_model.specs.declared.entry.Sealed.{Sealed as SealedEntry}
 use Rattle.media_model.specs.declared.step.Step.{Step}
 use Rattle.media_model.specs.declared.setup.Setup.{Setup}
 use Rattle.media_model.specs.Sides.{same_side}
 use Rattle.media_model.specs.Setup.{streams_of}
 use Rattle.media_play.specs.Listing.{IsIn}
 use Rattle.media_model.specs.Entries.{writes_on, sealed_number_on, sealed_numbers, taken_on, taken, time_of, latest, last_time, is_sealed, queued}
-use Rattle.media_play.specs.Opening.{Sealing, Receives, opened_as, yields}
+use Rattle.media_play.specs.Opening.{Sealing, Receives, opened_as, opened_rtcp_as, yields}
 use Rattle.media_play.specs.Play.{AreSealsOf, no_seals, seal_of, Seals, Played}
 use Rattle.media_play.specs.Rules.{has}
 use Rattle.media_play.proofs.Lists.{IsIn-left, IsIn-right, IsIn-flat_map, IsIn-filter, tested, any-from_in, in-from_any, filter_none}
 use Rattle.media_play.proofs.Readings.{same_side-true, same_stream, same_reading, seals_none, yields_none, received_none, written_on, sealed_in, seal_in, seals_there}
-use Rattle.media_play.proofs.Stands.{Stands, stands, writes_on-wrote, writes_on-ticked, writes_on-got}
+use Rattle.media_play.proofs.Stands.{Stands, stands, writes_on-wrote, writes_on-ticked, writes_on-called, writes_on-got}
 
 -- the numbers that are sealed
 
@@ -48,6 +52,21 @@ pub sealed_numbers-got : {seal : Sealing} {setup : Setup} (s : Side) (r : ℕ) (
 sealed_numbers-got s r entries came brought h =
     same_reading (sealed_number_on s r) entries (Got came ∷ brought) (received_none (sealed_number_on s r) (λ o. refl) (λ s p. refl) h)
 
+-- what is sealed or opened as RTCP has no number of a stream
+and_false : (b : Bool) → (b && false) ≡ false
+and_false true = refl
+and_false false = refl
+
+no_number : (s : Side) (r : ℕ) (x : SealedEntry) → x.kind ≡ Rtcp → sealed_number_on s r (Sealed x) ≡ []
+no_number s r x rtcp =
+    ap (λ k. cond (same_side s x.side && (same_kind Rtp k && (x.ssrc == r))) (x.index ∷ []) []) rtcp
+    ∙ ap (λ b. cond b (x.index ∷ []) []) (and_false (same_side s x.side))
+
+pub sealed_numbers-called : (s : Side) (r : ℕ) (entries : List Entry) (side : Side) (time : ℕ) (c : Call) (x : SealedEntry) → x.kind ≡ Rtcp
+    → sealed_numbers s r (entries ++ Called side time c ∷ Sealed x ∷ []) ≡ sealed_numbers s r entries
+sealed_numbers-called s r entries side time c x rtcp =
+    same_reading (sealed_number_on s r) entries (Called side time c ∷ Sealed x ∷ []) (ap (λ (ns : List ℕ). ns ++ []) (no_number s r x rtcp))
+
 -- what waits to be sealed
 
 queued_same : (s : Side) (r : ℕ) (xs ys : List Entry) → sealed_numbers s r ys ≡ sealed_numbers s r xs → writes_on s r ys ≡ writes_on s r xs → queued s r ys ≡ queued s r xs
@@ -61,7 +80,7 @@ unused_unsealed entries s r w h unused = false_from_ne_true _ (λ e.
     let n = in-from_any (λ n. n == w.number) (sealed_numbers s r entries) e in
     let there = sealed_in s r entries n.0 n.1 in
     let t = there.0 in
-    let of = h.sealed t there.1 in
+    let of = h.sealed t there.3 there.1 in
     let is : n.0 ≡ of.0.number = sym there.5 ∙ of.2.index in
     let wrote_there : IsIn of.0 (writes_on s r entries) = subst (λ q. IsIn of.0 (writes_on s q entries)) there.4 (subst (λ q. IsIn of.0 (writes_on q t.ssrc entries)) there.2 of.1) in
     let used : list_any (λ u. u.number == w.number) (writes_on s r entries) ≡ true =
@@ -149,6 +168,11 @@ pub queued-got : {seal : Sealing} {setup : Setup} (s : Side) (r : ℕ) (entries 
 queued-got s r entries came brought h =
     queued_same s r entries (entries ++ Got came ∷ brought) (sealed_numbers-got s r entries came brought h) (writes_on-got s r entries came brought h)
 
+pub queued-called : (s : Side) (r : ℕ) (entries : List Entry) (side : Side) (time : ℕ) (c : Call) (x : SealedEntry) → x.kind ≡ Rtcp
+    → queued s r (entries ++ Called side time c ∷ Sealed x ∷ []) ≡ queued s r entries
+queued-called s r entries side time c x rtcp =
+    queued_same s r entries (entries ++ Called side time c ∷ Sealed x ∷ []) (sealed_numbers-called s r entries side time c x rtcp) (writes_on-called s r entries side time c x)
+
 -- the numbers that are taken
 
 pub taken-wrote : (s : Side) (r : ℕ) (entries : List Entry) (side : Side) (time : ℕ) (w : Writing) → taken s r (entries ++ Wrote side time w ∷ []) ≡ taken s r entries
@@ -157,6 +181,17 @@ taken-wrote s r entries side time w = same_reading (taken_on s r) entries (Wrote
 pub taken-ticked : {seal : Sealing} {setup : Setup} (s : Side) (r : ℕ) (entries : List Entry) (side : Side) (time : ℕ) (sealed : List Entry) → Seals seal setup side entries sealed
     → taken s r (entries ++ Ticked side time ∷ sealed) ≡ taken s r entries
 taken-ticked s r entries side time sealed h = same_reading (taken_on s r) entries (Ticked side time ∷ sealed) (seals_none (taken_on s r) (λ s. refl) h)
+
+pub taken-called : (s : Side) (r : ℕ) (entries : List Entry) (side : Side) (time : ℕ) (c : Call) (x : SealedEntry)
+    → taken s r (entries ++ Called side time c ∷ Sealed x ∷ []) ≡ taken s r entries
+taken-called s r entries side time c x = same_reading (taken_on s r) entries (Called side time c ∷ Sealed x ∷ []) refl
+
+-- a packet of RTCP that opened takes no number
+pub taken-opens_rtcp : (seal : Sealing) (s : Side) (r : ℕ) (entries : List Entry) (came : GotEntry) (plain : List ℕ)
+    → taken s r (entries ++ Got came ∷ Opened (opened_rtcp_as seal came plain) ∷ []) ≡ taken s r entries
+taken-opens_rtcp seal s r entries came plain =
+    same_reading (taken_on s r) entries (Got came ∷ Opened (opened_rtcp_as seal came plain) ∷ [])
+    (ap (λ b. cond b (seal.states came.bytes ∷ []) [] ++ []) (and_false (same_side s came.side)))
 
 pub taken-stays : (s : Side) (r : ℕ) (entries : List Entry) (came : GotEntry) → taken s r (entries ++ Got came ∷ []) ≡ taken s r entries
 taken-stays s r entries came = same_reading (taken_on s r) entries (Got came ∷ []) refl
@@ -193,6 +228,10 @@ pub last_time-ticked : {seal : Sealing} {setup : Setup} (entries : List Entry) (
 last_time-ticked entries side time sealed h =
     ap latest (flat_map-append time_of entries (Ticked side time ∷ sealed) ∙ ap (λ ts. flat_map time_of entries ++ time ∷ ts) (seals_none time_of (λ s. refl) h))
     ∙ latest-push (flat_map time_of entries) time
+
+pub last_time-called : (entries : List Entry) (side : Side) (time : ℕ) (c : Call) (x : SealedEntry) → last_time (entries ++ Called side time c ∷ Sealed x ∷ []) ≡ time
+last_time-called entries side time c x =
+    ap latest (flat_map-append time_of entries (Called side time c ∷ Sealed x ∷ [])) ∙ latest-push (flat_map time_of entries) time
 
 pub last_time-got : {seal : Sealing} {setup : Setup} (entries : List Entry) (came : GotEntry) (brought : List Entry) → Receives seal setup entries came brought
     → last_time (entries ++ Got came ∷ brought) ≡ came.time

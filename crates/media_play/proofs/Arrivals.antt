@@ -1,5 +1,7 @@
 -- What an end of a run makes of bytes that came.
-use Rattle.std.proofs.Common.{◌≡◌, inl, inr, ℕ, Bool, false, cond, ◌||◌, List, [], ◌∷◌, ◌++◌, drop, Option, Some, None, is_none, refl, sym, ap, ◌∙◌, subst}
+use Rattle.std.proofs.Common.{◌≡◌, inl, inr, ℕ, Bool, false, cond, ◌||◌, List, [], ◌∷◌, ◌++◌, drop, Option, Some, None, is_none, refl, sym, ap, ◌∙◌, subst, ◌≤◌, ◌^◌}
+use Rattle.media_play.proofs.Indices.{next_index-got}
+use Rattle.media_model.specs.Setup.{material_of}
 use Rattle.std.specs.Prelude.{◌==◌}
 use Rattle.std.specs.Option.{option_map}
 use Rattle.std.proofs.lemmas.Option.{none-some, same_Some}
@@ -8,7 +10,7 @@ use Rattle.mask_register.specs.MaskRegister.{Remembers}
 use Rattle.rtp_wire.specs.declared.header.RtpHeader.{RtpHeader}
 use Rattle.rtp_wire.specs.HeaderLaws.{ReadsOwnBytes}
 use Rattle.srtp_core.specs.Cipher.{CipherMeaning}
-use Rattle.srtp_core.specs.Contexts.{SrtpState}
+use Rattle.srtp_core.specs.Contexts.{SrtpState, new_state}
 use Rattle.stream_core.specs.declared.packet.RtpPacket.{RtpPacket as RtpPacketRecord}
 use Rattle.stream_core.specs.RxRecord.{StandsFor as RxStandsFor}
 use Rattle.stream_core.specs.Tables.{Along}
@@ -19,7 +21,7 @@ use Rattle.session_core.specs.Calls.{next_of, next_event, after_next, after_even
 use Rattle.session_core.specs.declared.datagram.Opened.{Opened as OpenedHere}
 use Rattle.session_core.specs.Receiving.{Opens as OpensHere, Receives as ReceivesHere, opened, stays as stays_put, after_opened, opening_of, packet_after, cut as cut_here}
 use Rattle.session_core.specs.SessionRecord.{SessionState, SessionView, SessionRecord, StandsFor}
-use Rattle.rtp_base.specs.declared.kind.Kind.TheVariants.{Rtp}
+use Rattle.rtp_base.specs.declared.kind.Kind.TheVariants.{Rtp, Rtcp}
 use Rattle.media_model.specs.declared.entry.Packet.{Packet}
 use Rattle.media_model.specs.declared.entry.Got.{Got as GotEntry}
 use Rattle.media_model.specs.declared.entry.Entry.{Entry}
@@ -28,7 +30,7 @@ use Rattle.media_model.specs.declared.setup.Setup.{Setup}
 use Rattle.media_play.specs.Opening.{Opens, Receives, opens, stays, cut, packet_with, opened_as, yields}
 use Rattle.media_play.specs.Packets.{told_packet}
 use Rattle.media_play.specs.Plain.{extensions_of}
-use Rattle.media_play.specs.Sessions.{sealing_of, yielded, EndState, Ready}
+use Rattle.media_play.specs.Sessions.{sealing_of, yielded, EndState, Ready, is_left}
 use Rattle.media_play.specs.SetupFacts.{IsSound}
 use Rattle.media_play.proofs.Appends.{opening}
 use Rattle.media_play.proofs.Lists.{tested}
@@ -72,10 +74,10 @@ module _ (cipher : CipherMeaning) (setup : Setup) (came : GotEntry) (own : Reads
   abbrev pub brought_by : OpenedHere → Option Packet → List Entry
   brought_by told packet = Opened (record { side = came.side; kind = Rtp; ssrc = told.ssrc; index = told.index; plain = told.plain }) ∷ yielded came.side packet
 
-  pub arrival_stays : {after : SessionRecord} {o : Option OpenedHere} → ReceivesHere cipher session came.bytes time after o → o ≡ None
+  pub arrival_stays : {after : SessionRecord} {o : Option OpenedHere} → came.kind ≡ Rtp → ReceivesHere cipher session came.bytes time after o → o ≡ None
       → Receives (sealing_of cipher setup) setup entries came [] × Ready cipher setup came.side end (entries ++ Got came ∷ [])
-  arrival_stays {after} {o} received none = (
-    stays (stays_here cipher setup came own ready.knows ready.opens (refuted o received none)),
+  arrival_stays {after} {o} rtp received none = (
+    stays (stays_here cipher setup came own ready.knows ready.opens (refuted o received none)) (λ plain p. let both : Rtp ≡ Rtcp = sym rtp ∙ p.rtcp in absurd cc),
     ready_got cipher setup came.side entries came end ready,
   )
 
@@ -125,8 +127,12 @@ module _ (cipher : CipherMeaning) (setup : Setup) (came : GotEntry) (own : Reads
               rx = subst (λ l. Along (RxStandsFor Remembers) l after.rx) (sym rx) stands.rx;
               probes = subst (λ p. RxStandsFor Remembers p after.probes) (sym probes) stands.probes;
             };
-            seals = ready.seals;
+            seals = ready.seals
+                ∙ ap (λ (i : ℕ). Some (new_state cipher setup.profile (material_of setup) (is_left came.side) i))
+                (sym (next_index-got {seal = sealing_of cipher setup} setup came.side entries came (Opened (opened_as came.side h n plain_of) ∷ yields came.side h n plain_of) (opens h n plain_of here)));
             opens = ready.opens;
+            bounded = subst (λ (i : ℕ). i ≤ 2 ^ 31)
+                (sym (next_index-got {seal = sealing_of cipher setup} setup came.side entries came (Opened (opened_as came.side h n plain_of) ∷ yields came.side h n plain_of) (opens h n plain_of here))) ready.bounded;
             knows = knows_opened setup entries came h n plain_of session sound fresh ready.knows;
             used = used_still setup came.side entries (entries ++ opening came h n plain_of) (queued-opened entries came h n plain_of came.side) (writes_on-opened entries came h n plain_of came.side) end.written ready.used;
           },

@@ -7,13 +7,16 @@ use Rattle.media_model.specs.declared.entry.Side.{Side}
 use Rattle.media_model.specs.declared.entry.Write.{Write as Writing}
 use Rattle.media_model.specs.declared.entry.Got.{Got as GotEntry}
 use Rattle.media_model.specs.declared.entry.Entry.{Entry}
-use Rattle.media_model.specs.declared.entry.Entry.TheVariants.{Wrote, Ticked, Got}
+use Rattle.media_model.specs.declared.entry.Entry.TheVariants.{Wrote, Ticked, Called, Got, Sealed}
 use Rattle.media_model.specs.declared.step.Step.{Step}
 use Rattle.media_model.specs.declared.setup.Setup.{Setup}
+use Rattle.media_model.specs.declared.entry.Call.TheVariants as call
+use Rattle.media_model.specs.declared.entry.Sealed.{Sealed as SealedEntry}
 use Rattle.media_model.specs.Entries.{is_step}
+use Rattle.media_play.specs.Feedback.{application_packet, IsSealOfPacket, sends}
 use Rattle.media_play.specs.Listing.{brought, StepsFrom, EachStep}
-use Rattle.media_play.specs.Opening.{Sealing, Receives, opens, stays}
-use Rattle.media_play.specs.Play.{AreSealsOf, no_seals, seal_of, Seals, Outcome, wrote, ticked, got, Played, start, turn}
+use Rattle.media_play.specs.Opening.{Sealing, Receives, opens, opens_rtcp, stays}
+use Rattle.media_play.specs.Play.{AreSealsOf, no_seals, seal_of, Seals, Outcome, wrote, ticked, called, got, Played, start, turn}
 use Rattle.media_play.specs.Headline.{Answers, StepsAreAnswered}
 use Rattle.media_play.proofs.Lists.{tested}
 
@@ -56,23 +59,29 @@ seals_only (seal_of w s is rest) = (refl, seals_only rest)
 
 pub received_only : {seal : Sealing} {setup : Setup} {entries : List Entry} {came : GotEntry} {chunk : List Entry} → Receives seal setup entries came chunk → NoSteps chunk
 received_only (opens header number plain o) = (refl, elim (tested (header.ssrc == 0)) [ inl t ↦ rw t tt | inr t ↦ rw t (refl, tt) ])
-received_only (stays none) = tt
+received_only (opens_rtcp plain o) = (refl, tt)
+received_only (stays none no_packet) = tt
 
 -- a law of what each step brings holds of a run where it holds of each step after the entries before it
 pub EachStep-played : {seal : Sealing} {setup : Setup} (P : List Entry → Entry → List Entry → Type 0)
     → ((entries : List Entry) (side : Side) (time : ℕ) (w : Writing) → P entries (Wrote side time w) [])
     → ((entries : List Entry) (side : Side) (time : ℕ) (sealed : List Entry) → Seals seal setup side entries sealed → P entries (Ticked side time) sealed)
+    → ((entries : List Entry) (side : Side) (time sender media : ℕ) (payload : List ℕ) (s : SealedEntry)
+    → IsSealOfPacket seal setup side entries (application_packet sender media payload) s → P entries (Called side time call.Application) (Sealed s ∷ []))
     → ((steps : List Step) (entries : List Entry) → Played seal setup steps entries → (came : GotEntry) (chunk : List Entry) → Receives seal setup entries came chunk
     → P entries (Got came) chunk)
     → {steps : List Step} {entries : List Entry} → Played seal setup steps entries → EachStep P entries
-EachStep-played P p q r start = tt
-EachStep-played {seal} {setup} P p q r (turn {steps} {entries} h step new e o) = go (EachStep-played P p q r h) o
+EachStep-played P p q k r start = tt
+EachStep-played {seal} {setup} P p q k r (turn {steps} {entries} h step new e o) = go (EachStep-played P p q k r h) o
   where
     go : EachStep P entries → {step : Step} {new : List Entry} → Outcome seal setup entries step new → EachStep P (entries ++ new)
     go each (wrote side time w a b c) = EachStep-more P entries (Wrote side time w) [] each refl tt (p entries side time w)
     go each (ticked side time sealed all) = EachStep-more P entries (Ticked side time) sealed each refl (seals_only all) (q entries side time sealed all)
+    go each (called side time sender media payload s is) =
+        EachStep-more P entries (Called side time call.Application) (Sealed s ∷ []) each refl (refl, tt) (k entries side time sender media payload s is)
     go each (got came chunk at received) = EachStep-more P entries (Got came) chunk each refl (received_only received) (r steps entries h came chunk received)
 
 pub steps_are_answered : {seal : Sealing} {setup : Setup} {steps : List Step} {entries : List Entry} → Played seal setup steps entries → StepsAreAnswered seal setup entries
 steps_are_answered {seal} {setup} h =
-    EachStep-played (Answers seal setup) (λ entries side time w. refl) (λ entries side time sealed all. all) (λ steps entries h came chunk received. received) h
+    EachStep-played (Answers seal setup) (λ entries side time w. refl) (λ entries side time sealed all. all)
+    (λ entries side time sender media payload s is. sends sender media payload s is) (λ steps entries h came chunk received. received) h

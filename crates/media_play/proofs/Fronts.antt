@@ -8,13 +8,14 @@ use Rattle.media_model.specs.declared.entry.Write.{Write as Writing}
 use Rattle.media_model.specs.declared.entry.Packet.{Packet}
 use Rattle.media_model.specs.declared.entry.Got.{Got as GotEntry}
 use Rattle.media_model.specs.declared.entry.Entry.{Entry}
-use Rattle.media_model.specs.declared.entry.Entry.TheVariants.{Wrote, Ticked, Got, Sealed, Opened, Yielded}
+use Rattle.media_model.specs.declared.entry.Entry.TheVariants.{Wrote, Ticked, Called, Got, Sealed, Opened, Yielded}
+use Rattle.media_model.specs.declared.entry.Call.TheVariants as call
 use Rattle.media_model.specs.declared.step.Step.{Step}
 use Rattle.media_model.specs.declared.setup.Setup.{Setup}
 use Rattle.media_play.specs.Listing.{IsIn, NoRepeat, EachFrom}
 use Rattle.media_model.specs.Entries.{nonce_by, nonces, packet_by, packets}
-use Rattle.media_play.specs.Opening.{Sealing, Receives, opens, stays, opened_as, yields, packet_from}
-use Rattle.media_play.specs.Play.{AreSealsOf, no_seals, seal_of, Outcome, wrote, ticked, got, Played, start, turn}
+use Rattle.media_play.specs.Opening.{Sealing, Receives, opens, opens_rtcp, stays, opened_as, opened_rtcp_as, yields, packet_from}
+use Rattle.media_play.specs.Play.{AreSealsOf, no_seals, seal_of, Outcome, wrote, ticked, called, got, Played, start, turn}
 use Rattle.media_play.specs.SetupFacts.{IsSound}
 use Rattle.media_play.specs.WireLaws.{WireLaws}
 use Rattle.media_play.specs.Headline.{IsRightSeal, SealsAreRight, NoNonceTwice, IsSentWrite, SendsWrites, NoPacketTwice, IsOwedTo, HoldsOfFront}
@@ -58,6 +59,7 @@ owes_nothing past [] none = tt
 owes_nothing past (Yielded s p ∷ entries) none = absurd (none s p (inl refl))
 owes_nothing past (Wrote s t w ∷ entries) none = (tt, owes_nothing (past ++ Wrote s t w ∷ []) entries (λ s p i. none s p (inr i)))
 owes_nothing past (Ticked s t ∷ entries) none = (tt, owes_nothing (past ++ Ticked s t ∷ []) entries (λ s p i. none s p (inr i)))
+owes_nothing past (Called s t c ∷ entries) none = (tt, owes_nothing (past ++ Called s t c ∷ []) entries (λ s p i. none s p (inr i)))
 owes_nothing past (Got g ∷ entries) none = (tt, owes_nothing (past ++ Got g ∷ []) entries (λ s p i. none s p (inr i)))
 owes_nothing past (Sealed x ∷ entries) none = (tt, owes_nothing (past ++ Sealed x ∷ []) entries (λ s p i. none s p (inr i)))
 owes_nothing past (Opened o ∷ entries) none = (tt, owes_nothing (past ++ Opened o ∷ []) entries (λ s p i. none s p (inr i)))
@@ -80,7 +82,10 @@ seals_yield_none (seal_of w t is rest) s p (inr i) = seals_yield_none rest s p i
 module _ {seal : Sealing} {setup : Setup} (wire : WireLaws seal setup) where
   front_received : {entries : List Entry} {came : GotEntry} {chunk : List Entry} → Stands seal setup entries → Receives seal setup entries came chunk
       → (front rest : List Entry) → front ++ rest ≡ Got came ∷ chunk → EachFrom HasSeal entries front → EachFrom IsOwedTo entries front
-  front_received {entries} {came} h (stays none) front rest e genuine =
+  front_received {entries} {came} h (opens_rtcp plain o) front rest e genuine =
+      front_owes_nothing entries front rest (Got came ∷ Opened (opened_rtcp_as seal came plain) ∷ []) e
+      (λ s p i. elim i [ inl is ↦ absurd (cc is) | inr j ↦ elim j [ inl is ↦ absurd (cc is) | inr other ↦ other ] ])
+  front_received {entries} {came} h (stays none no_packet) front rest e genuine =
       front_owes_nothing entries front rest (Got came ∷ []) e (λ s p i. elim i [ inl is ↦ absurd (cc is) | inr other ↦ other ])
   front_received {entries} {came} h (opens header number plain o) front rest e genuine =
       elim (cut front rest heard (yields came.side header number plain) e) [
@@ -119,6 +124,9 @@ module _ {seal : Sealing} {setup : Setup} (wire : WireLaws seal setup) where
       front_owes_nothing entries front rest (Wrote side time w ∷ []) e (λ s p i. elim i [ inl is ↦ absurd (cc is) | inr other ↦ other ])
   front_owed {entries} h (ticked side time sealed all) front rest e genuine =
       front_owes_nothing entries front rest (Ticked side time ∷ sealed) e (λ s p i. elim i [ inl is ↦ absurd (cc is) | inr j ↦ seals_yield_none all s p j ])
+  front_owed {entries} h (called side time sender media payload x is) front rest e genuine =
+      front_owes_nothing entries front rest (Called side time call.Application ∷ Sealed x ∷ []) e
+      (λ s p i. elim i [ inl same ↦ absurd (cc same) | inr j ↦ elim j [ inl same ↦ absurd (cc same) | inr other ↦ other ] ])
   front_owed {entries} h (got came chunk at received) front rest e genuine = front_received h received front rest e genuine
 
   -- also where a run ended within a step, each packet that is yielded is a write of the other side

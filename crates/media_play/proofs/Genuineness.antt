@@ -3,7 +3,7 @@ use Rattle.std.proofs.Common.{◌≡◌, inl, List, [], ◌∷◌, ◌++◌, Som
 use Rattle.media_model.specs.declared.entry.Sealed.{Sealed as SealedEntry}
 use Rattle.media_model.specs.declared.entry.Opened.{Opened as OpenedEntry}
 use Rattle.media_model.specs.declared.entry.Entry.{Entry}
-use Rattle.media_model.specs.declared.entry.Entry.TheVariants.{Wrote, Ticked, Got, Sealed, Opened, Yielded}
+use Rattle.media_model.specs.declared.entry.Entry.TheVariants.{Wrote, Ticked, Called, Got, Sealed, Opened, Yielded}
 use Rattle.media_model.specs.Entries.{last_got}
 use Rattle.media_model.specs.Genuine.{IsPeersSeal, IsGenuine}
 use Rattle.media_model.specs.Sides.{peer_of}
@@ -45,6 +45,7 @@ seals_from all past (entry ∷ entries) g e = (one entry e, seals_from all (past
     one (Got g) is = tt
     one (Wrote s t w) is = tt
     one (Ticked s t) is = tt
+    one (Called s t c) is = tt
     one (Sealed s) is = tt
     one (Yielded s p) is = tt
 

@@ -1,5 +1,7 @@
 -- What an end of a run knows after a write.
 use Rattle.std.proofs.Common.{◌≡◌, inl, inr, ℕ, zero, suc, ◌<◌, ◌≤◌, ◌^◌, Bool, true, false, cond, not, ◌&&◌, ◌||◌, leb, ltb, List, [], ◌∷◌, ◌++◌, length, map, set, get_or, slice_get, Some, None, is_some, refl, sym, ap, ◌∙◌, subst, arith}
+use Rattle.media_play.proofs.Indices.{next_index-same}
+use Rattle.srtp_core.specs.Contexts.{new_state}
 use Rattle.std.specs.Prelude.{◌==◌}
 use Rattle.std.specs.List.{list_any, AllZip}
 use Rattle.std.specs.BTreeSet.{contains}
@@ -23,7 +25,7 @@ use Rattle.media_model.specs.declared.entry.Entry.TheVariants.{Wrote}
 use Rattle.media_model.specs.declared.step.Step.{Step}
 use Rattle.media_model.specs.declared.setup.Setup.{Setup}
 use Rattle.media_model.specs.Entries.{writes_on, queued}
-use Rattle.media_model.specs.Setup.{streams_of, types_of}
+use Rattle.media_model.specs.Setup.{streams_of, types_of, material_of}
 use Rattle.media_model.specs.Sides.{same_side}
 use Rattle.media_play.specs.declared.fault.StepFault.TheVariants.{UnknownStream, UnknownType, NumberTooBig, NumberUsed, PayloadTooLong, TooManySources}
 use Rattle.media_play.specs.declared.numbers.Numbers.{Numbers}
@@ -33,7 +35,7 @@ use Rattle.media_play.specs.Opening.{Sealing}
 use Rattle.media_play.specs.Packets.{write_at, waiting_of}
 use Rattle.media_play.specs.Play.{Played}
 use Rattle.media_play.specs.Rules.{has, write_fault}
-use Rattle.media_play.specs.Sessions.{EndState, Ready}
+use Rattle.media_play.specs.Sessions.{EndState, Ready, is_left}
 use Rattle.media_play.specs.SetupFacts.{IsSound}
 use Rattle.media_play.proofs.Appends.{queued-wrote, queued-wrote_here, taken-wrote}
 use Rattle.media_play.proofs.Keys.{key_at, key_absent, in_from_get, has_from_get, all_weaker, keys_changed, one_changes, zip_at, zip_weaker}
@@ -169,6 +171,7 @@ module _ {seal : Sealing} {setup : Setup} {steps : List Step} {entries : List En
   pub knows_wrote : (s : SessionRecord) (at : ℕ) → NoRepeat (streams_of side setup) → slice_get (streams_of side setup) at ≡ Some w.ssrc → Knows setup side s entries
       → Knows setup side (record s { state = record s.state { tx = change_place (written (write_at time w)) s.state.tx at } }) after
   knows_wrote s at distinct there h = record {
+    target = h.target;
     runs = h.runs;
     feedback = h.feedback;
     application = h.application;
@@ -228,8 +231,11 @@ module _ {seal : Sealing} {setup : Setup} {steps : List Step} {entries : List En
           rx = h.stands.rx;
           probes = h.stands.probes;
         });
-        seals = h.seals;
+        seals = h.seals
+            ∙ ap (λ (i : ℕ). Some (new_state cipher setup.profile (material_of setup) (is_left side) i))
+            (sym (next_index-same setup side entries (Wrote side time w ∷ []) refl));
         opens = h.opens;
+        bounded = subst (λ (i : ℕ). i ≤ 2 ^ 31) (sym (next_index-same setup side entries (Wrote side time w ∷ []) refl)) h.bounded;
         knows = knows_wrote h.session at (sound.distinct side) there h.knows;
         used = used_after (streams_of side setup) at end.written new.written (sound.distinct side) there noted h.used;
       }

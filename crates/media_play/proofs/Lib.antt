@@ -6,6 +6,7 @@ pub mod Readings
 pub mod Appends
 pub mod Chunks
 pub mod Stands
+pub mod Indices
 pub mod Seals
 pub mod Yields
 pub mod Sendings
@@ -16,11 +17,14 @@ pub mod Draining
 pub mod Receiving
 pub mod Takes
 pub mod Arrivals
+pub mod Hearing
+pub mod Calling
 pub mod Knowings
 pub mod OthersReceive
 pub mod Others
 pub mod Soundness
 pub mod StartingLists
 pub mod StartingSteps
+pub mod Exhausting
 pub mod Playing
 pub mod Ticks

@@ -1,5 +1,6 @@
 -- The places of sealed datagrams, as entries are added, and the datagrams that stand there.
 use Rattle.std.proofs.Common.{◌≡◌, ◌⊎◌, inl, inr, ℕ, zero, suc, ◌+◌, true, false, cond, Some, Result, Ok, Err, OnOk, OnErr, List, [], ◌∷◌, ◌++◌, length, refl, sym, ap, ◌∙◌, arith, append_assoc, add-zero}
+use Rattle.media_model.specs.declared.entry.Sealed.{Sealed as SealedEntry}
 use Rattle.std.specs.Prelude.{slice_get}
 use Rattle.std.specs.Option.{option_and_then}
 use Rattle.std.proofs.lemmas.List.{append-nil, length-append}
@@ -7,21 +8,22 @@ use Rattle.std.specs.declared.alloc.AllocError.{AllocError}
 use Rattle.media_model.specs.declared.entry.Side.{Side}
 use Rattle.media_model.specs.declared.entry.Side.TheVariants.{A, B}
 use Rattle.media_model.specs.declared.entry.Entry.{Entry}
-use Rattle.media_model.specs.declared.entry.Entry.TheVariants.{Wrote, Ticked, Got, Sealed, Opened, Yielded}
+use Rattle.media_model.specs.declared.entry.Entry.TheVariants.{Wrote, Ticked, Called, Got, Sealed, Opened, Yielded}
 use Rattle.media_model.specs.Sides.{same_side}
 use Rattle.media_model.specs.Entries.{datagram_by, datagrams}
-use Rattle.media_play.specs.Log.{seals, is_seal, places_from, places, bytes_of, sealed_at}
+use Rattle.media_play.specs.Log.{seals, is_seal, places_from, places, sealed_in, sealed_at}
 
 -- an entry is no seal of the side, or the seal of one datagram
-seal_cases : (side : Side) (e : Entry) → ((seals side e ≡ false) × (datagram_by side e ≡ [])) ⊎ ((b : List ℕ) × (seals side e ≡ true) × (datagram_by side e ≡ b ∷ []) × (bytes_of e ≡ Some b))
+seal_cases : (side : Side) (e : Entry) → ((seals side e ≡ false) × (datagram_by side e ≡ [])) ⊎ ((b : SealedEntry) × (seals side e ≡ true) × (datagram_by side e ≡ b ∷ []) × (sealed_in e ≡ Some b))
 seal_cases side (Wrote s t w) = inl (refl, refl)
 seal_cases side (Ticked s t) = inl (refl, refl)
+seal_cases side (Called s t c) = inl (refl, refl)
 seal_cases side (Got g) = inl (refl, refl)
 seal_cases side (Opened o) = inl (refl, refl)
 seal_cases side (Yielded s p) = inl (refl, refl)
 seal_cases side (Sealed s) =
-    elim (same_side side s.side) as (λ same. ((same ≡ false) × (cond same (s.bytes ∷ []) [] ≡ [])) ⊎ ((c : List ℕ) × (same ≡ true) × (cond same (s.bytes ∷ []) [] ≡ c ∷ []) × (bytes_of (Sealed s) ≡ Some c))) [
-      | true ↦ inr (s.bytes, refl, refl, refl)
+    elim (same_side side s.side) as (λ same. ((same ≡ false) × (cond same (s ∷ []) [] ≡ [])) ⊎ ((c : SealedEntry) × (same ≡ true) × (cond same (s ∷ []) [] ≡ c ∷ []) × (sealed_in (Sealed s) ≡ Some c))) [
+      | true ↦ inr (s, refl, refl, refl)
       | false ↦ inl (refl, refl)
     ]
 
@@ -48,6 +50,7 @@ places-push side xs e =
 pub places-other : (side : Side) (xs : List Entry) (e : Entry) → is_seal e ≡ false → places side (xs ++ e ∷ []) ≡ places side xs
 places-other side xs (Wrote s t w) h = places-push side xs (Wrote s t w)
 places-other side xs (Ticked s t) h = places-push side xs (Ticked s t)
+places-other side xs (Called s t c) h = places-push side xs (Called s t c)
 places-other side xs (Got g) h = places-push side xs (Got g)
 places-other side xs (Opened o) h = places-push side xs (Opened o)
 places-other side xs (Yielded s p) h = places-push side xs (Yielded s p)
@@ -82,7 +85,7 @@ at_places side past (x ∷ xs) k =
       | inr seal ↦
           ap (λ b. option_and_then (sealed_at (past ++ x ∷ xs)) (slice_get (cond b (length past ∷ places_from (length past + 1) side xs) (places_from (length past + 1) side xs)) k)) seal.1
           ∙ elim k as (λ j. option_and_then (sealed_at (past ++ x ∷ xs)) (slice_get (length past ∷ places_from (length past + 1) side xs) j) ≡ slice_get (seal.0 ∷ datagrams side xs) j) [
-            | zero ↦ ap (option_and_then bytes_of) (slice_get-seam past x xs) ∙ seal.3
+            | zero ↦ ap (option_and_then sealed_in) (slice_get-seam past x xs) ∙ seal.3
             | suc j ↦ rest j
           ]
           ∙ sym (ap (λ l. slice_get (l ++ datagrams side xs) k) seal.2)

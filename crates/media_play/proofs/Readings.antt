@@ -16,14 +16,14 @@ use Rattle.media_model.specs.declared.entry.Got.{Got as GotEntry}
 use Rattle.media_model.specs.declared.entry.Sealed.{Sealed as SealedEntry}
 use Rattle.media_model.specs.declared.entry.Opened.{Opened as OpenedEntry}
 use Rattle.media_model.specs.declared.entry.Entry.{Entry}
-use Rattle.media_model.specs.declared.entry.Entry.TheVariants.{Wrote, Ticked, Got, Sealed, Opened, Yielded}
+use Rattle.media_model.specs.declared.entry.Entry.TheVariants.{Wrote, Ticked, Called, Got, Sealed, Opened, Yielded}
 use Rattle.media_model.specs.declared.setup.Setup.{Setup}
 use Rattle.rtp_base.specs.Kind.{same_kind}
 use Rattle.media_model.specs.Sides.{same_side, peer_of}
 use Rattle.media_model.specs.Setup.{streams_of}
 use Rattle.media_play.specs.Listing.{IsIn}
 use Rattle.media_model.specs.Entries.{write_on, writes_on, write_by, writes_by, sealed_number_on, sealed_numbers, is_sealed, queued}
-use Rattle.media_play.specs.Opening.{Sealing, Receives, opens, stays, opened_as, yields, packet_from}
+use Rattle.media_play.specs.Opening.{Sealing, Receives, opens, opens_rtcp, stays, opened_as, opened_rtcp_as, yields, packet_from}
 use Rattle.media_play.specs.Play.{IsSealOfWrite, AreSealsOf, no_seals, seal_of, to_seal}
 use Rattle.media_play.proofs.Lists.{IsIn-right, IsIn-flat_map, IsIn-from_flat_map, IsIn-from_filter, tested, any-from_in}
 
@@ -68,7 +68,8 @@ yields_none f none side header number plain =
 pub received_none : {Y : Type 0} (f : Entry → List Y) → ((o : OpenedEntry) → f (Opened o) ≡ []) → ((s : Side) (p : Packet) → f (Yielded s p) ≡ [])
     → {seal : Sealing} {setup : Setup} {entries : List Entry} {got : GotEntry} {brought : List Entry} → Receives seal setup entries got brought → flat_map f brought ≡ []
 received_none f opened yielded {got = got} (opens header number plain o) = rw (opened (opened_as got.side header number plain)) (yields_none f yielded got.side header number plain)
-received_none f opened yielded (stays none) = refl
+received_none f opened yielded {seal = seal} {got = got} (opens_rtcp plain o) = rw (opened (opened_rtcp_as seal got plain)) refl
+received_none f opened yielded (stays none no_packet) = refl
 
 -- writes
 
@@ -83,6 +84,7 @@ written_on s r (Wrote t time u ∷ entries) w h =
       | inr e ↦ written_on s r entries w (rw e at h)
     ]
 written_on s r (Ticked t time ∷ entries) w h = written_on s r entries w h
+written_on s r (Called t time c ∷ entries) w h = written_on s r entries w h
 written_on s r (Got g ∷ entries) w h = written_on s r entries w h
 written_on s r (Sealed x ∷ entries) w h = written_on s r entries w h
 written_on s r (Opened o ∷ entries) w h = written_on s r entries w h
@@ -96,6 +98,7 @@ written_by s r (Wrote t time u ∷ entries) w h =
       | inr e ↦ IsIn-right w (write_by s (Wrote t time u)) (writes_by s entries) (written_by s r entries w (rw e at h))
     ]
 written_by s r (Ticked t time ∷ entries) w h = written_by s r entries w h
+written_by s r (Called t time c ∷ entries) w h = written_by s r entries w h
 written_by s r (Got g ∷ entries) w h = written_by s r entries w h
 written_by s r (Sealed x ∷ entries) w h = written_by s r entries w h
 written_by s r (Opened o ∷ entries) w h = written_by s r entries w h
@@ -112,6 +115,7 @@ by_written s (Wrote t time u ∷ entries) w h =
       | inr e ↦ IsIn-right w (write_on s w.ssrc (Wrote t time u)) (writes_on s w.ssrc entries) (by_written s entries w (rw e at h))
     ]
 by_written s (Ticked t time ∷ entries) w h = by_written s entries w h
+by_written s (Called t time c ∷ entries) w h = by_written s entries w h
 by_written s (Got g ∷ entries) w h = by_written s entries w h
 by_written s (Sealed x ∷ entries) w h = by_written s entries w h
 by_written s (Opened o ∷ entries) w h = by_written s entries w h
@@ -139,6 +143,7 @@ sealed_in s r entries n h =
         ]
     at (Wrote t time u) here there = absurd there
     at (Ticked t time) here there = absurd there
+    at (Called t time c) here there = absurd there
     at (Got g) here there = absurd there
     at (Opened o) here there = absurd there
     at (Yielded t p) here there = absurd there

@@ -1,49 +1,59 @@
 -- Each seal of a run is right, is that of an earlier write, and has a nonce of its own.
-use Rattle.std.proofs.Common.{◌≡◌, inl, inr, ℕ, ◌<◌, ◌%◌, ◌^◌, true, not, List, [], ◌∷◌, ◌++◌, map, refl, sym, ap, ◌∙◌, subst, append_assoc}
+use Rattle.std.proofs.Common.{◌≡◌, inl, inr, ℕ, ◌<◌, ◌≤◌, ◌%◌, ◌^◌, true, not, List, [], ◌∷◌, ◌++◌, length, take, map, refl, sym, ap, ◌∙◌, subst, append_assoc, arith}
 use Rattle.std.specs.Prelude.{◌==◌}
 use Rattle.std.specs.List.{flat_map}
+use Rattle.srtp_core.specs.RtcpSeals.{sender_of}
 use Rattle.std.proofs.lemmas.List.{append-nil, map-append}
 use Rattle.std.proofs.lemmas.List.Concat.{flat_map-append}
 use Rattle.media_model.specs.declared.entry.Side.{Side}
 use Rattle.rtp_base.specs.declared.kind.Kind.{Kind}
-use Rattle.rtp_base.specs.declared.kind.Kind.TheVariants.{Rtp}
+use Rattle.rtp_base.specs.declared.kind.Kind.TheVariants.{Rtp, Rtcp}
 use Rattle.media_model.specs.declared.entry.Write.{Write as Writing}
 use Rattle.media_model.specs.declared.entry.Packet.{Packet}
 use Rattle.media_model.specs.declared.entry.Got.{Got as GotEntry}
 use Rattle.media_model.specs.declared.entry.Sealed.{Sealed as SealedEntry}
 use Rattle.media_model.specs.declared.entry.Opened.{Opened as OpenedEntry}
 use Rattle.media_model.specs.declared.entry.Entry.{Entry}
-use Rattle.media_model.specs.declared.entry.Entry.TheVariants.{Wrote, Ticked, Got, Sealed, Opened, Yielded}
+use Rattle.media_model.specs.declared.entry.Entry.TheVariants.{Wrote, Ticked, Called, Got, Sealed, Opened, Yielded}
 use Rattle.media_model.specs.declared.step.Step.{Step}
 use Rattle.media_model.specs.declared.setup.Setup.{Setup}
 use Rattle.media_model.specs.Sides.{same_side}
 use Rattle.media_model.specs.Setup.{streams_of}
 use Rattle.media_play.specs.Listing.{IsIn, NoRepeat, EachFrom, Each}
 use Rattle.media_model.specs.Entries.{write_on, writes_on, sealed_number_on, sealed_numbers, nonce_by, nonces, is_sealed, queued}
-use Rattle.media_play.specs.Opening.{Sealing, Receives, opens, stays, opened_as, packet_from}
-use Rattle.media_play.specs.Play.{IsSealOfWrite, AreSealsOf, no_seals, seal_of, Seals, to_seal, Outcome, wrote, ticked, got, Played, start, turn}
+use Rattle.media_play.specs.Opening.{Sealing, Receives, opens, opens_rtcp, stays, opened_as, opened_rtcp_as, packet_from}
+use Rattle.media_play.specs.Play.{IsSealOfWrite, AreSealsOf, no_seals, seal_of, Seals, to_seal, Outcome, wrote, ticked, called, got, Played, start, turn}
+use Rattle.media_model.specs.declared.entry.Call.{Call}
+use Rattle.media_model.specs.declared.entry.Call.TheVariants as call
+use Rattle.media_play.specs.Feedback.{next_index, application_packet, IsSealOfPacket}
 use Rattle.media_play.specs.SetupFacts.{IsSound}
 use Rattle.media_play.specs.Rules.{has}
-use Rattle.media_play.specs.Headline.{IsRightSeal, SealsAreRight, NoNonceTwice, IsSentWrite, SendsWrites}
+use Rattle.media_play.specs.Headline.{right_rtp, right_rtcp, IsRightSeal, SealsAreRight, NoNonceTwice, IsSentWrite, SendsWrites}
 use Rattle.media_play.proofs.Lists.{IsIn-map, IsIn-append, IsIn-from_map, IsIn-from_flat_map, tested, NoRepeat-append, NoRepeat-push, NoRepeat-by, NoRepeat-filter, EachFrom-append}
 use Rattle.media_play.proofs.Readings.{same_side-true, same_reading, written_on, queued_in, sealed_in, seal_in, to_seal_in}
+use Rattle.media_play.proofs.Indices.{indices_below}
 use Rattle.media_play.proofs.Stands.{IsWriting, Stands, stands}
 
 -- a law of each entry holds of a run where it holds of what is sealed, and says nothing of the others
 pub Each-played : {seal : Sealing} {setup : Setup} (P : List Entry → Entry → Type 0)
     → ((past : List Entry) (s : Side) (t : ℕ) (w : Writing) → P past (Wrote s t w))
     → ((past : List Entry) (s : Side) (t : ℕ) → P past (Ticked s t))
+    → ((past : List Entry) (s : Side) (t : ℕ) (c : Call) → P past (Called s t c))
+    → ((steps : List Step) (entries : List Entry) → Played seal setup steps entries → (side : Side) (time : ℕ) (packet : List ℕ) (s : SealedEntry)
+    → IsSealOfPacket seal setup side entries packet s → P (entries ++ Called side time call.Application ∷ []) (Sealed s))
     → ((steps : List Step) (entries : List Entry) → Played seal setup steps entries → (side : Side) (time : ℕ) (sealed : List Entry) → Seals seal setup side entries sealed
     → EachFrom P (entries ++ Ticked side time ∷ []) sealed)
     → ((steps : List Step) (entries : List Entry) → Played seal setup steps entries → (came : GotEntry) (chunk : List Entry) → Receives seal setup entries came chunk
     → EachFrom P entries (Got came ∷ chunk))
     → {steps : List Step} {entries : List Entry} → Played seal setup steps entries → Each P entries
-Each-played P p q r g start = tt
-Each-played {seal} {setup} P p q r g (turn {steps} {entries} h step new e o) = EachFrom-append P [] entries new (Each-played P p q r g h) (go o)
+Each-played P p q c k r g start = tt
+Each-played {seal} {setup} P p q c k r g (turn {steps} {entries} h step new e o) = EachFrom-append P [] entries new (Each-played P p q c k r g h) (go o)
   where
     go : {step : Step} {new : List Entry} → Outcome seal setup entries step new → EachFrom P entries new
     go (wrote side time w a b c) = (p entries side time w, tt)
     go (ticked side time sealed all) = (q entries side time, r steps entries h side time sealed all)
+    go (called side time sender media payload s is) =
+        (c entries side time call.Application, (k steps entries h side time (application_packet sender media payload) s is, tt))
     go (got came chunk at received) = g steps entries h came chunk received
 
 -- a law on seals says nothing of what is received
@@ -63,7 +73,8 @@ received_free P p q y {came = came} (opens header number plain o) past =
         ],
       ),
     )
-received_free P p q y {came = came} (stays none) past = (p past came, tt)
+received_free {seal} P p q y {came = came} (opens_rtcp plain o) past = (p past came, (q (past ++ Got came ∷ []) (opened_rtcp_as seal came plain), tt))
+received_free P p q y {came = came} (stays none no_packet) past = (p past came, tt)
 
 -- each seal is that of an earlier write
 
@@ -96,7 +107,7 @@ sends_from : {seal : Sealing} {setup : Setup} {side : Side} (past : List Entry) 
     → EachFrom (IsSentWrite setup) past es
 sends_from past no_seals written new apart = tt
 sends_from {seal} {setup} {side} past (seal_of {ws} {es} w s is rest) written new apart = (
-  record {
+  λ rtp. record {
     write = w;
     earlier = subst (λ t. IsIn w (writes_on t s.ssrc past)) (sym is.side) (subst (λ q. IsIn w (writes_on side q past)) (sym is.ssrc) (written w (inl refl)));
     number = is.index;
@@ -139,7 +150,9 @@ tick_sends {seal} {setup} entries sound h side time sealed all =
 
 pub sends_writes : {seal : Sealing} {setup : Setup} {steps : List Step} {entries : List Entry} → IsSound setup → Played seal setup steps entries → SendsWrites setup entries
 sends_writes {seal} {setup} sound h =
-    Each-played (IsSentWrite setup) (λ past s t w. tt) (λ past s t. tt) (λ steps entries h side time sealed all. tick_sends entries sound (stands h) side time sealed all)
+    Each-played (IsSentWrite setup) (λ past s t w. tt) (λ past s t. tt) (λ past s t c. tt)
+    (λ steps entries h side time packet s is rtp. let both : Rtp ≡ Rtcp = sym rtp ∙ is.kind in absurd cc)
+    (λ steps entries h side time sealed all. tick_sends entries sound (stands h) side time sealed all)
     (λ steps entries h came chunk received. received_free (IsSentWrite setup) (λ past came. tt) (λ past o. tt) (λ past s packet. tt) received entries) h
 
 -- each seal is right
@@ -147,7 +160,7 @@ sends_writes {seal} {setup} sound h =
 is_right : {seal : Sealing} {setup : Setup} {side : Side} (w : Writing) (s : SealedEntry) → IsWriting setup side w → IsSealOfWrite seal setup side w s → IsRightSeal seal setup (Sealed s)
 is_right {seal} {setup} {side} w s fits is =
     let c = is.carries in
-    record {
+    right_rtp (record {
       rtp = is.kind;
       header = c.header;
       reads = c.reads;
@@ -157,7 +170,18 @@ is_right {seal} {setup} {side} w s fits is =
       not_filler = c.no_padding;
       stream = subst (λ t. has (streams_of t setup) s.ssrc ≡ true) (sym is.side) (subst (λ q. has (streams_of side setup) q ≡ true) (sym is.ssrc) fits.stream);
       sealed = is.bytes;
-    }
+    })
+
+-- and so is that of a packet of RTCP
+is_right_rtcp : {seal : Sealing} {setup : Setup} {side : Side} {past : List Entry} (packet : List ℕ) (s : SealedEntry) → IsSealOfPacket seal setup side past packet s
+    → IsRightSeal seal setup (Sealed s)
+is_right_rtcp {seal} {setup} {side} packet s is = right_rtcp (record {
+  rtcp = is.kind;
+  header = subst (λ p. 8 ≤ length p) (sym is.plain) is.header;
+  source = ap (λ p. sender_of (take 8 p)) is.plain ∙ sym is.ssrc;
+  small = is.left;
+  sealed = is.bytes ∙ (λ i. seal.rtcp (sym is.side i) true s.index (sym is.plain i));
+})
 
 rights_from : {seal : Sealing} {setup : Setup} {side : Side} (past : List Entry) {ws : List Writing} {es : List Entry} → AreSealsOf seal setup side ws es
     → ((w : Writing) → IsIn w ws → IsWriting setup side w) → EachFrom (λ past entry. IsRightSeal seal setup entry) past es
@@ -166,7 +190,8 @@ rights_from past (seal_of w s is rest) fits = (is_right w s (fits w (inl refl)) 
 
 pub seals_are_right : {seal : Sealing} {setup : Setup} {steps : List Step} {entries : List Entry} → Played seal setup steps entries → SealsAreRight seal setup entries
 seals_are_right {seal} {setup} h =
-    Each-played (λ past entry. IsRightSeal seal setup entry) (λ past s t w. tt) (λ past s t. tt)
+    Each-played (λ past entry. IsRightSeal seal setup entry) (λ past s t w. tt) (λ past s t. tt) (λ past s t c. tt)
+    (λ steps entries h side time packet s is. is_right_rtcp packet s is)
     (λ steps entries h side time sealed all.
     rights_from (entries ++ Ticked side time ∷ []) all (λ w i. (stands h).fits side w.ssrc w (to_seal_in setup side entries w i).0))
     (λ steps entries h came chunk received.
@@ -200,6 +225,7 @@ nonce_in s entries k r i h =
         ]
     at (Wrote t time u) here there = absurd there
     at (Ticked t time) here there = absurd there
+    at (Called t time c) here there = absurd there
     at (Got g) here there = absurd there
     at (Opened o) here there = absurd there
     at (Yielded t p) here there = absurd there
@@ -208,41 +234,78 @@ abbrev IsRtp : List Entry → Entry → Type 0
 IsRtp past (Sealed s) = s.kind ≡ Rtp
 IsRtp past _ = Unit {0}
 
-one_nonce : (setup : Setup) (s : Side) (past : List Entry) (entry : Entry) → NoRepeat (nonces s past) → IsSentWrite setup past entry → IsRtp past entry → NoRepeat (nonces s past ++ nonce_by s entry)
-one_nonce setup s past (Sealed t) h sent rtp =
+-- a seal has a nonce that its side did not use before
+abbrev IsNew : List Entry → Entry → Type 0
+IsNew past (Sealed s) = IsIn (s.kind, s.ssrc, s.index) (nonces s.side past) → ⊥
+IsNew past _ = Unit {0}
+
+-- that of a write, since no write is sent twice
+new_sending : (setup : Setup) (past : List Entry) (entry : Entry) → IsSentWrite setup past entry → IsRtp past entry → IsNew past entry
+new_sending setup past (Sealed t) sent rtp = λ j.
+    let there = nonce_in t.side past t.kind t.ssrc t.index j in
+    let u = there.0 in
+    let again : IsIn u.index (sealed_numbers u.side u.ssrc past) = seal_in past u (there.3 ∙ rtp) there.1 in
+    let moved : IsIn t.index (sealed_numbers t.side t.ssrc past) =
+    subst (λ n. IsIn n (sealed_numbers t.side t.ssrc past)) there.5
+    (subst (λ q. IsIn u.index (sealed_numbers t.side q past)) there.4 (subst (λ x. IsIn u.index (sealed_numbers x u.ssrc past)) there.2 again)) in
+    (sent rtp).first moved
+new_sending setup past (Wrote t time u) sent rtp = tt
+new_sending setup past (Ticked t time) sent rtp = tt
+new_sending setup past (Called t time c) sent rtp = tt
+new_sending setup past (Got g) sent rtp = tt
+new_sending setup past (Opened o) sent rtp = tt
+new_sending setup past (Yielded t p) sent rtp = tt
+
+new_sendings : (setup : Setup) (past entries : List Entry) → EachFrom (IsSentWrite setup) past entries → EachFrom IsRtp past entries → EachFrom IsNew past entries
+new_sendings setup past [] sent rtp = tt
+new_sendings setup past (x ∷ entries) sent rtp = (new_sending setup past x sent.0 rtp.0, new_sendings setup (past ++ x ∷ []) entries sent.1 rtp.1)
+
+one_nonce : (s : Side) (past : List Entry) (entry : Entry) → NoRepeat (nonces s past) → IsNew past entry → NoRepeat (nonces s past ++ nonce_by s entry)
+one_nonce s past (Sealed t) h new =
     elim (tested (same_side s t.side)) [
       | inl e ↦
           let is : s ≡ t.side = same_side-true s t.side e in
-          rw e (NoRepeat-push (nonces s past) (t.kind, t.ssrc, t.index) h (λ j.
-          let there = nonce_in s past t.kind t.ssrc t.index j in
-          let u = there.0 in
-          let again : IsIn u.index (sealed_numbers u.side u.ssrc past) = seal_in past u (there.3 ∙ rtp) there.1 in
-          let moved : IsIn t.index (sealed_numbers t.side t.ssrc past) =
-          subst (λ n. IsIn n (sealed_numbers t.side t.ssrc past)) there.5
-          (subst (λ q. IsIn u.index (sealed_numbers t.side q past)) there.4 (subst (λ x. IsIn u.index (sealed_numbers x u.ssrc past)) (there.2 ∙ is) again)) in
-          sent.first moved))
+          rw e (NoRepeat-push (nonces s past) (t.kind, t.ssrc, t.index) h (λ j. new (subst (λ x. IsIn (t.kind, t.ssrc, t.index) (nonces x past)) is j)))
       | inr e ↦ rw (e, append-nil (nonces s past)) h
     ]
-one_nonce setup s past (Wrote t time u) h sent rtp = rw append-nil h
-one_nonce setup s past (Ticked t time) h sent rtp = rw append-nil h
-one_nonce setup s past (Got g) h sent rtp = rw append-nil h
-one_nonce setup s past (Opened o) h sent rtp = rw append-nil h
-one_nonce setup s past (Yielded t p) h sent rtp = rw append-nil h
+one_nonce s past (Wrote t time u) h new = rw append-nil h
+one_nonce s past (Ticked t time) h new = rw append-nil h
+one_nonce s past (Called t time c) h new = rw append-nil h
+one_nonce s past (Got g) h new = rw append-nil h
+one_nonce s past (Opened o) h new = rw append-nil h
+one_nonce s past (Yielded t p) h new = rw append-nil h
 
-nonces_from : (setup : Setup) (s : Side) (past entries : List Entry) → NoRepeat (nonces s past) → EachFrom (IsSentWrite setup) past entries → EachFrom IsRtp past entries
-    → NoRepeat (nonces s (past ++ entries))
-nonces_from setup s past [] h sent rtp = rw append-nil h
-nonces_from setup s past (x ∷ entries) h sent rtp =
+nonces_from : (s : Side) (past entries : List Entry) → NoRepeat (nonces s past) → EachFrom IsNew past entries → NoRepeat (nonces s (past ++ entries))
+nonces_from s past [] h new = rw append-nil h
+nonces_from s past (x ∷ entries) h new =
     let one : nonces s (past ++ x ∷ []) ≡ nonces s past ++ nonce_by s x = flat_map-append (nonce_by s) past (x ∷ []) ∙ ap (λ zs. nonces s past ++ zs) (append-nil (nonce_by s x)) in
-    let next = nonces_from setup s (past ++ x ∷ []) entries (subst NoRepeat (sym one) (one_nonce setup s past x h sent.0 rtp.0)) sent.1 rtp.1 in
+    let next = nonces_from s (past ++ x ∷ []) entries (subst NoRepeat (sym one) (one_nonce s past x h new.0)) new.1 in
     subst (λ es. NoRepeat (nonces s es)) (append_assoc past (x ∷ []) entries) next
 
 rtp_from : {seal : Sealing} {setup : Setup} {side : Side} (past : List Entry) {ws : List Writing} {es : List Entry} → AreSealsOf seal setup side ws es → EachFrom IsRtp past es
 rtp_from past no_seals = tt
 rtp_from past (seal_of w s is rest) = (is.kind, rtp_from (past ++ Sealed s ∷ []) rest)
 
+-- that of a packet of RTCP, since its index is above those before
+new_packet : {seal : Sealing} {setup : Setup} {steps : List Step} {entries : List Entry} → Played seal setup steps entries → (side : Side) (time : ℕ) (packet : List ℕ)
+    (s : SealedEntry) → IsSealOfPacket seal setup side entries packet s → IsNew (entries ++ Called side time call.Application ∷ []) (Sealed s)
+new_packet {seal} {setup} {steps} {entries} h side time packet s is j =
+    let there = nonce_in s.side (entries ++ Called side time call.Application ∷ []) s.kind s.ssrc s.index j in
+    let u = there.0 in
+    let before : IsIn (Sealed u) entries =
+    elim (IsIn-append (Sealed u) entries (Called side time call.Application ∷ []) there.1) [
+      | inl i ↦ i
+      | inr i ↦ elim i [ inl same ↦ absurd (cc same) | inr other ↦ absurd other ]
+    ] in
+    let below : u.index < next_index setup u.side entries = indices_below h u (there.3 ∙ is.kind) before in
+    let same_side : u.side ≡ side = there.2 ∙ is.side in
+    let above : u.index ≡ next_index setup u.side entries = there.5 ∙ is.index ∙ ap (λ x. next_index setup x entries) (sym same_side) in
+    absurd (omega (arith, below, above))
+
 pub no_nonce_twice : {seal : Sealing} {setup : Setup} {steps : List Step} {entries : List Entry} → IsSound setup → Played seal setup steps entries → NoNonceTwice entries
 no_nonce_twice {seal} {setup} {steps} {entries} sound h s =
-    nonces_from setup s [] entries tt (sends_writes sound h)
-    (Each-played IsRtp (λ past s t w. tt) (λ past s t. tt) (λ steps entries h side time sealed all. rtp_from (entries ++ Ticked side time ∷ []) all)
-    (λ steps entries h came chunk received. received_free IsRtp (λ past came. tt) (λ past o. tt) (λ past s packet. tt) received entries) h)
+    nonces_from s [] entries tt
+    (Each-played IsNew (λ past s t w. tt) (λ past s t. tt) (λ past s t c. tt) (λ steps entries h side time packet s is. new_packet h side time packet s is)
+    (λ steps entries h side time sealed all.
+    new_sendings setup (entries ++ Ticked side time ∷ []) sealed (tick_sends entries sound (stands h) side time sealed all) (rtp_from (entries ++ Ticked side time ∷ []) all))
+    (λ steps entries h came chunk received. received_free IsNew (λ past came. tt) (λ past o. tt) (λ past s packet. tt) received entries) h)

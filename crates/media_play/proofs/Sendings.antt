@@ -11,7 +11,7 @@ use Rattle.rtp_wire.specs.declared.header.RtpHeader.{RtpHeader}
 use Rattle.rtp_wire.specs.Padding.{unpadded}
 use Rattle.rtp_wire.specs.Widen.{widen16}
 use Rattle.media_model.specs.declared.entry.Side.{Side}
-use Rattle.rtp_base.specs.declared.kind.Kind.TheVariants.{Rtp}
+use Rattle.rtp_base.specs.declared.kind.Kind.TheVariants.{Rtp, Rtcp}
 use Rattle.media_model.specs.declared.entry.Write.{Write as Writing}
 use Rattle.media_model.specs.declared.entry.Packet.{Packet}
 use Rattle.media_model.specs.declared.entry.Got.{Got as GotEntry}
@@ -25,9 +25,9 @@ use Rattle.media_model.specs.Setup.{streams_of, types_of}
 use Rattle.media_play.specs.Listing.{IsIn, NoRepeat, EachFrom}
 use Rattle.media_model.specs.Entries.{write_by, writes_by, writes_on, taken, got_after, last_got}
 use Rattle.repair_core.specs.Fresh.{greatest_of, is_fresh}
-use Rattle.media_play.specs.Opening.{Sealing, Opens, Receives, opens, stays, opened_as, cut, packet_from}
+use Rattle.media_play.specs.Opening.{Sealing, Opens, Receives, opens, opens_rtcp, stays, opened_as, cut, packet_from}
 use Rattle.media_play.specs.Plain.{read_header, Carries, as_packet}
-use Rattle.media_play.specs.Play.{IsSealOfWrite, AreSealsOf, no_seals, seal_of, Outcome, wrote, ticked, got, Played, start, turn}
+use Rattle.media_play.specs.Play.{IsSealOfWrite, AreSealsOf, no_seals, seal_of, Outcome, wrote, ticked, called, got, Played, start, turn}
 use Rattle.media_play.specs.Rules.{has}
 use Rattle.media_play.specs.SetupFacts.{IsSound}
 use Rattle.media_play.specs.WireLaws.{WireLaws}
@@ -39,12 +39,11 @@ use Rattle.media_play.proofs.Readings.{same_side-refl, written_by}
 use Rattle.media_play.proofs.Stands.{IsWriting, numbers, Stands, stands}
 
 -- the header of what was sealed can be read off its seal
-header_of_seal : {seal : Sealing} {setup : Setup} (s : SealedEntry) (header : RtpHeader) → WireLaws seal setup → s.kind ≡ Rtp → read_header setup s.plain ≡ Some header
-    → s.bytes ≡ seal s.side s.kind s.ssrc s.index s.plain → (take header.header_len s.bytes ≡ take header.header_len s.plain) × (read_header setup s.bytes ≡ Some header)
-header_of_seal {seal} {setup} s header wire rtp reads is =
+header_of_seal : {seal : Sealing} {setup : Setup} (s : SealedEntry) (header : RtpHeader) → WireLaws seal setup → read_header setup s.plain ≡ Some header
+    → s.bytes ≡ seal.rtp s.side s.ssrc s.index s.plain → (take header.header_len s.bytes ≡ take header.header_len s.plain) × (read_header setup s.bytes ≡ Some header)
+header_of_seal {seal} {setup} s header wire reads is =
     let n = header.header_len in
-    let here : s.bytes ≡ seal s.side Rtp s.ssrc s.index s.plain = is ∙ ap (λ k. seal s.side k s.ssrc s.index s.plain) rtp in
-    let front : take n s.bytes ≡ take n s.plain = ap (take n) here ∙ wire.front s.side s.ssrc s.index s.plain header reads in
+    let front : take n s.bytes ≡ take n s.plain = ap (take n) is ∙ wire.front s.side s.ssrc s.index s.plain header reads in
     let whole : take n s.plain ++ drop n s.bytes ≡ s.bytes = ap (λ l. l ++ drop n s.bytes) (sym front) ∙ take-append-drop n s.bytes in
     (front, ap (read_header setup) (sym whole) ∙ wire.by_front s.plain (drop n s.bytes) header reads)
 
@@ -75,17 +74,17 @@ module _ {seal : Sealing} {setup : Setup} (wire : WireLaws seal setup) {came : G
 
   reads_here : read_header setup came.bytes ≡ Some head
   unfolding head
-  reads_here = ap (read_header setup) (sym sent.bytes) ∙ (header_of_seal s sent.write.carries.header wire sent.write.kind sent.write.carries.reads sent.write.bytes).1
+  reads_here = ap (read_header setup) (sym sent.bytes) ∙ (header_of_seal s sent.write.carries.header wire sent.write.carries.reads sent.write.bytes).1
 
   front_here : take head.header_len came.bytes ≡ take head.header_len s.plain
   unfolding head
   front_here =
       ap (take sent.write.carries.header.header_len) (sym sent.bytes)
-      ∙ (header_of_seal s sent.write.carries.header wire sent.write.kind sent.write.carries.reads sent.write.bytes).0
+      ∙ (header_of_seal s sent.write.carries.header wire sent.write.carries.reads sent.write.bytes).0
 
-  seal_here : seal (peer_of came.side) Rtp w.ssrc w.number s.plain ≡ came.bytes
+  seal_here : seal.rtp (peer_of came.side) w.ssrc w.number s.plain ≡ came.bytes
   seal_here =
-      (λ i. seal (sym sent.side i) (sym sent.write.kind i) (sym sent.write.ssrc i) (sym sent.write.index i) s.plain) ∙ sym sent.write.bytes ∙ sent.bytes
+      (λ i. seal.rtp (sym sent.side i) (sym sent.write.ssrc i) (sym sent.write.index i) s.plain) ∙ sym sent.write.bytes ∙ sent.bytes
 
   -- what opens has the header that was sealed
   pub same_header : {entries : List Entry} {header : RtpHeader} {number : ℕ} {plain : List ℕ} → Opens seal setup entries came header number plain → header ≡ head
@@ -103,16 +102,16 @@ module _ {seal : Sealing} {setup : Setup} (wire : WireLaws seal setup) {came : G
       let whole : take hl came.bytes ++ drop hl plain ≡ plain = ap (λ l. l ++ drop hl plain) (sym front) ∙ take-append-drop hl plain in
       let reads : read_header setup plain ≡ Some c.header = ap (read_header setup) (sym whole) ∙ wire.by_front came.bytes (drop hl plain) c.header reads_here in
       let source : header.ssrc ≡ w.ssrc = ap (λ (h : RtpHeader). h.ssrc) is ∙ c.ssrc in
-      let sealed : seal (peer_of came.side) Rtp w.ssrc w.number plain ≡ came.bytes =
-      (λ i. seal (peer_of came.side) Rtp (sym source i) (sym n i) plain) ∙ o.sealed in
+      let sealed : seal.rtp (peer_of came.side) w.ssrc w.number plain ≡ came.bytes =
+      (λ i. seal.rtp (peer_of came.side) (sym source i) (sym n i) plain) ∙ o.sealed in
       let same : plain ≡ s.plain = wire.apart (peer_of came.side) w.ssrc w.number plain s.plain c.header reads c.reads (sealed ∙ sym seal_here) in
       ap (λ h. packet_from h number plain) is ∙ ap (λ m. packet_from c.header m plain) n ∙ ap (λ p. packet_from c.header w.number p) same ∙ packet_of_write w c
 
 -- the write of which a datagram of the other side is the seal
-sent_write : {seal : Sealing} {setup : Setup} {entries : List Entry} (came : GotEntry) (s : SealedEntry) → Stands seal setup entries → IsIn (Sealed s) entries → s.side ≡ peer_of came.side
+sent_write : {seal : Sealing} {setup : Setup} {entries : List Entry} (came : GotEntry) (s : SealedEntry) → Stands seal setup entries → s.kind ≡ Rtp → IsIn (Sealed s) entries → s.side ≡ peer_of came.side
     → s.bytes ≡ came.bytes → (w : Writing) × IsIn w (writes_on (peer_of came.side) s.ssrc entries) × IsSent seal setup came s w
-sent_write {entries = entries} came s h there side bytes =
-    let of = h.sealed s there in
+sent_write {entries = entries} came s h rtp there side bytes =
+    let of = h.sealed s rtp there in
     (of.0, subst (λ t. IsIn of.0 (writes_on t s.ssrc entries)) side of.1, record { side = side; bytes = bytes; write = of.2 })
 
 -- in a genuine run
@@ -136,7 +135,7 @@ owed_packet {seal} {setup} {entries} {came} {header} {number} {plain} wire h o g
       | inl i ↦ i
       | inr i ↦ elim i [ inl is ↦ absurd (cc is) | inr other ↦ absurd other ]
     ] in
-    let w = sent_write came s h before genuine.side bytes in
+    let w = sent_write came s h genuine.kind before genuine.side bytes in
     let n : number ≡ w.0.number = sym genuine.index ∙ w.2.write.index in
     (w.0, written_by (peer_of came.side) s.ssrc entries w.0 w.1, opens_to_write wire w.2 o n)
 
@@ -160,7 +159,8 @@ owed_received : {seal : Sealing} {setup : Setup} {entries : List Entry} {came : 
     → Receives seal setup entries came chunk → EachFrom HasSeal entries (Got came ∷ chunk) → EachFrom IsOwedTo entries (Got came ∷ chunk)
 owed_received {seal} {setup} {entries} {came} wire h (opens header number plain o) genuine =
     (tt, (tt, elim (tested (header.ssrc == 0)) [ inl t ↦ rw t tt | inr t ↦ rw t (owed_yield wire h o genuine.1.0, tt) ]))
-owed_received wire h (stays none) genuine = (tt, tt)
+owed_received wire h (opens_rtcp plain o) genuine = (tt, (tt, tt))
+owed_received wire h (stays none no_packet) genuine = (tt, tt)
 
 yields_owed : {seal : Sealing} {setup : Setup} {steps : List Step} {entries : List Entry} → WireLaws seal setup → Played seal setup steps entries
     → EachFrom HasSeal [] entries → EachFrom IsOwedTo [] entries
@@ -171,6 +171,7 @@ yields_owed {seal} {setup} wire (turn {steps} {entries} h step new e o) genuine 
     go : {step : Step} {new : List Entry} → Outcome seal setup entries step new → EachFrom HasSeal entries new → EachFrom IsOwedTo entries new
     go (wrote side time w a b c) g = (tt, tt)
     go (ticked side time sealed all) g = (tt, seals_owe_nothing (entries ++ Ticked side time ∷ []) all)
+    go (called side time sender media payload s is) g = (tt, (tt, tt))
     go (got came chunk at received) g = owed_received wire (stands h) received g
 
 pub yields_writes : {seal : Sealing} {setup : Setup} {steps : List Step} {entries : List Entry} → WireLaws seal setup → Played seal setup steps entries → YieldsWrites entries
@@ -196,7 +197,7 @@ module _ {seal : Sealing} {setup : Setup} (wire : WireLaws seal setup) (sound : 
   unfolding head
   write_opens fits =
       let c = sent.write.carries in
-      let tag : length (seal (peer_of came.side) Rtp w.ssrc w.number s.plain) ≤ length s.plain + 16 = wire.tag (peer_of came.side) w.ssrc w.number s.plain c.header c.reads in
+      let tag : length (seal.rtp (peer_of came.side) w.ssrc w.number s.plain) ≤ length s.plain + 16 = wire.tag (peer_of came.side) w.ssrc w.number s.plain c.header c.reads in
       let long : length came.bytes ≤ length s.plain + 16 = subst (λ b. length b ≤ length s.plain + 16) (seal_here wire sent) tag in
       let total : length s.plain ≤ 160 + length w.payload = wire.long s.plain w c in
       let payload : length w.payload ≤ 1400 = ok.payload in
@@ -210,7 +211,7 @@ module _ {seal : Sealing} {setup : Setup} (wire : WireLaws seal setup) (sound : 
         widened = sym fits.0 ∙ (λ i. widen16 (greatest_of (taken came.side (sym c.ssrc i) entries)) (sym c.low i));
         fresh = subst (λ q. is_fresh (taken came.side q entries) w.number ≡ true) (sym c.ssrc) fits.1;
         front = sym (front_here wire sent);
-        sealed = (λ i. seal (peer_of came.side) Rtp (c.ssrc i) w.number s.plain) ∙ seal_here wire sent;
+        sealed = (λ i. seal.rtp (peer_of came.side) (c.ssrc i) w.number s.plain) ∙ seal_here wire sent;
         unpads = λ padded. absurd (false≢true (sym c.no_padding ∙ padded));
       }
 
@@ -226,7 +227,8 @@ module _ {seal : Sealing} {setup : Setup} (wire : WireLaws seal setup) (sound : 
       let real : (header.ssrc == 0) ≡ false =
       ap (λ (h : RtpHeader). h.ssrc == 0) is ∙ ap (λ q. q == 0) c.ssrc ∙ nonzero_stream setup (peer_of came.side) w.ssrc sound ok.stream in
       inr (rw real (inl (ap (λ p. Yielded came.side p) (sym packet))))
-  yields_it (stays none) fits = none sent.write.carries.header w.number s.plain (write_opens fits)
+  yields_it (opens_rtcp plain o) fits = let both : Rtp ≡ Rtcp = sym rtp ∙ o.rtcp in absurd cc
+  yields_it (stays none no_packet) fits = none sent.write.carries.header w.number s.plain (write_opens fits)
 
   widens_so : {chunk : List Entry} → Receives seal setup entries came chunk → IsIn (Yielded came.side (as_packet w)) chunk → Fits entries came.side w.ssrc w.number
   unfolding head
@@ -251,7 +253,8 @@ module _ {seal : Sealing} {setup : Setup} (wire : WireLaws seal setup) (sound : 
             sym (n ∙ o.widened ∙ (λ i. widen16 (greatest_of (taken came.side (source i) entries)) (low i))),
             subst (λ m. is_fresh (taken came.side w.ssrc entries) m ≡ true) (sym n) (subst (λ q. is_fresh (taken came.side q entries) number ≡ true) source o.fresh),
           )
-  widens_so (stays none) i = absurd i
+  widens_so (opens_rtcp plain o) i = let both : Rtp ≡ Rtcp = sym rtp ∙ o.rtcp in absurd cc
+  widens_so (stays none no_packet) i = absurd i
 
 -- writes of one stream and number are one
 one_write : (ws : List Writing) → NoRepeat (numbers ws) → (u w : Writing) → IsIn u ws → IsIn w ws → u.number ≡ w.number → u ≡ w
@@ -266,12 +269,12 @@ one_write (x ∷ ws) apart u w (inr i) (inr j) e = one_write ws apart.1 u w i j 
 pub first_sendings_are_yielded : {seal : Sealing} {setup : Setup} {steps : List Step} {entries : List Entry} → WireLaws seal setup → IsSound setup → Played seal setup steps entries
     → FirstSendingsAreYielded entries
 first_sendings_are_yielded {seal} {setup} wire sound h =
-    EachStep-played YieldsExactly (λ entries side time w. tt) (λ entries side time sealed all. tt)
+    EachStep-played YieldsExactly (λ entries side time w. tt) (λ entries side time sealed all. tt) (λ entries side time sender media payload s is. tt)
     (λ steps entries h came chunk received. at (stands h) came received) h
   where
     at : {entries : List Entry} → Stands seal setup entries → (came : GotEntry) {chunk : List Entry} → Receives seal setup entries came chunk → YieldsExactly entries (Got came) chunk
     at {entries} h came {chunk} received s w rtp there side kind bytes written number =
-        let u = sent_write came s h there side bytes in
+        let u = sent_write came s h kind there side bytes in
         let is : u.0 ≡ w = one_write (writes_on (peer_of came.side) s.ssrc entries) (h.distinct (peer_of came.side) s.ssrc) u.0 w u.1 written (sym u.2.write.index ∙ sym number) in
         let sent : IsSent seal setup came s w = subst (IsSent seal setup came s) is u.2 in
         let ok : IsWriting setup (peer_of came.side) w = h.fits (peer_of came.side) s.ssrc w written in

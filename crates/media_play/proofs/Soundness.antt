@@ -1,22 +1,23 @@
 -- A setup that breaks no rule is one for which the laws of a run hold.
-use Rattle.std.proofs.Common.{◌≡◌, inl, inr, Bool, true, false, not, cond, ◌||◌, ℕ, ◌<◌, ◌^◌, List, [], ◌∷◌, ◌++◌, length, Option, Some, None, refl, sym, ap, ◌∙◌, subst, arith}
-use Rattle.std.specs.Prelude.{◌==◌, nat_lt}
+use Rattle.std.proofs.Common.{◌≡◌, inl, inr, Bool, true, false, not, cond, ◌||◌, ◌&&◌, ℕ, ◌<◌, ◌≤◌, ◌^◌, List, [], ◌∷◌, ◌++◌, length, Option, Some, None, refl, sym, ap, ◌∙◌, subst, arith}
+use Rattle.std.specs.Prelude.{◌==◌, nat_lt, nat_le}
 use Rattle.std.specs.List.{flat_map, filter_map, list_any}
-use Rattle.std.proofs.lemmas.Bool.{eqb-true, eq-eqb, ltb-false, false≢true}
+use Rattle.std.proofs.lemmas.Bool.{eqb-true, eq-eqb, leb-true, ltb-false, false≢true, not-false, and_parts}
 use Rattle.std.proofs.lemmas.List.Elements.{filter_map-append}
 use Rattle.media_model.specs.declared.entry.Side.{Side}
 use Rattle.media_model.specs.declared.setup.Stream.{Stream}
 use Rattle.media_model.specs.declared.setup.Media.{Media}
+use Rattle.media_model.specs.declared.setup.Mtu.{Mtu}
 use Rattle.media_model.specs.declared.setup.Setup.{Setup}
 use Rattle.srtp_core.specs.Keys.{material_len}
 use Rattle.media_model.specs.Setup.{material_of, streams_of, streams_in, main_in, types_of}
 use Rattle.media_model.specs.Sides.{same_side}
-use Rattle.media_play.specs.declared.fault.SetupFault.{SetupFault}
-use Rattle.media_play.specs.declared.fault.SetupFault.TheVariants.{KeyLength, Times, ExtId, TypeTwice, SsrcZero, SsrcTwice}
+use Rattle.setup_rules.specs.declared.fault.SetupFault.{SetupFault}
+use Rattle.setup_rules.specs.declared.fault.SetupFault.TheVariants.{KeyLength, Mtu as MtuRule, Times, ExtId, TypeTwice, SsrcZero, SsrcTwice}
 use Rattle.media_play.specs.Listing.{IsIn, NoRepeat}
 use Rattle.media_play.specs.Rules.{has}
 use Rattle.media_play.specs.SetupFacts.{IsSound}
-use Rattle.media_play.specs.SetupRules.{setup_fault, repeats, any_ext_wrong, stream_ssrcs, local_ssrcs, all_streams, both_of}
+use Rattle.setup_rules.specs.SetupRules.{setup_fault, repeats, any_ext_wrong, is_mtu, all_ssrcs, all_streams, both_of}
 use Rattle.media_play.proofs.Lists.{IsIn-right, tested, any-from_in, in-from_any}
 
 fault_none : (b : Bool) (fault : SetupFault) (other : Option SetupFault) → cond b (Some fault) other ≡ None → (b ≡ false) × (other ≡ None)
@@ -74,25 +75,40 @@ small_types types pt small e =
       | inr t ↦ let low = ltb-false 127 pt t in omega (arith, low)
     ]
 
+-- the bounds of the length of datagrams
+pub mtu_parts : (mtu : Mtu) → is_mtu mtu ≡ true → (900 ≤ mtu.target) × (mtu.target ≤ mtu.warn) × (mtu.warn ≤ 1500)
+mtu_parts mtu e =
+    let first = and_parts (nat_le 900 mtu.target && nat_le mtu.target mtu.warn) (nat_le mtu.warn 1500) e in
+    let second = and_parts (nat_le 900 mtu.target) (nat_le mtu.target mtu.warn) first.0 in
+    (leb-true 900 mtu.target second.0, leb-true mtu.target mtu.warn second.1, leb-true mtu.warn 1500 first.1)
+
 pub sound_setup : (setup : Setup) → setup_fault setup ≡ None → IsSound setup
 sound_setup setup e =
     let key = fault_none (not (length (material_of setup) == material_len setup.profile)) KeyLength _ e in
-    let time = fault_none (nat_lt 2075000000 setup.beginning.unix_secs) Times _ key.1 in
+    let mtu = fault_none (not (is_mtu setup.mtu)) MtuRule _ key.1 in
+    let time = fault_none (nat_lt 2075000000 setup.beginning.unix_secs) Times _ mtu.1 in
     let ids = fault_none (any_ext_wrong setup.exts) ExtId _ time.1 in
     let type = fault_none (list_any (nat_lt 127) (types_of setup) || repeats (types_of setup)) TypeTwice _ ids.1 in
-    let zero = fault_none (has (stream_ssrcs setup) 0) SsrcZero _ type.1 in
-    let twice = fault_none (repeats (local_ssrcs ++ stream_ssrcs setup)) SsrcTwice _ zero.1 in
-    let once = NoRepeat-right local_ssrcs (stream_ssrcs setup) (no_repeats (local_ssrcs ++ stream_ssrcs setup) twice.0) in
+    let zero = fault_none (has (all_ssrcs setup) 0) SsrcZero _ type.1 in
+    let twice = fault_none (repeats (all_ssrcs setup)) SsrcTwice _ zero.1 in
+    let once = (no_repeats (all_ssrcs setup) twice.0).1.1 in
     record {
+      wide = (mtu_parts setup.mtu (not-false _ mtu.0)).0;
       types = λ pt h. small_types (types_of setup) pt (neither _ _ type.0).0 h;
       distinct = λ side. subst NoRepeat (sym (mains side setup.media)) (mains_once side (all_streams setup) once);
       nonzero = λ side. elim (tested (has (streams_of side setup) 0)) [
         | inl t ↦
             let i = subst (λ (ns : List ℕ). IsIn 0 ns) (mains side setup.media) (in_has (streams_of side setup) 0 t) in
-            absurd (false≢true (sym zero.0 ∙ has_in (stream_ssrcs setup) 0 (main_is_both side (all_streams setup) 0 i)))
+            absurd (false≢true (sym zero.0 ∙ has_in (all_ssrcs setup) 0 (inr (inr (main_is_both side (all_streams setup) 0 i)))))
         | inr t ↦ t
       ];
     }
+
+-- the bounds of the length of datagrams hold
+pub right_mtu : (setup : Setup) → setup_fault setup ≡ None → is_mtu setup.mtu ≡ true
+right_mtu setup e =
+    let key = fault_none (not (length (material_of setup) == material_len setup.profile)) KeyLength _ e in
+    not-false _ (fault_none (not (is_mtu setup.mtu)) MtuRule _ key.1).0
 
 -- the length of the material is the profile's
 pub right_material : (setup : Setup) → setup_fault setup ≡ None → length (material_of setup) ≡ material_len setup.profile

@@ -11,7 +11,9 @@ use Rattle.media_model.specs.declared.entry.Write.{Write as Writing}
 use Rattle.media_model.specs.declared.entry.Got.{Got as GotEntry}
 use Rattle.media_model.specs.declared.entry.Sealed.{Sealed as SealedEntry}
 use Rattle.media_model.specs.declared.entry.Entry.{Entry}
-use Rattle.media_model.specs.declared.entry.Entry.TheVariants.{Wrote, Ticked, Got, Sealed}
+use Rattle.media_model.specs.declared.entry.Entry.TheVariants.{Wrote, Ticked, Called, Got, Sealed}
+use Rattle.media_model.specs.declared.entry.Call.{Call}
+use Rattle.rtp_base.specs.declared.kind.Kind.TheVariants.{Rtp, Rtcp}
 use Rattle.media_model.specs.declared.step.Step.{Step}
 use Rattle.media_model.specs.declared.step.Step.TheVariants.{Write}
 use Rattle.media_model.specs.declared.setup.Setup.{Setup}
@@ -20,9 +22,10 @@ use Rattle.media_model.specs.Setup.{streams_of, types_of}
 use Rattle.media_play.specs.declared.fault.StepFault.{StepFault}
 use Rattle.media_play.specs.Listing.{IsIn, NoRepeat}
 use Rattle.media_model.specs.Entries.{write_on, writes_on}
-use Rattle.media_play.specs.Opening.{Sealing, Receives, opens, stays}
+use Rattle.media_play.specs.Opening.{Sealing, Receives, opens, opens_rtcp, stays}
+use Rattle.media_model.specs.declared.entry.Call.TheVariants as call
 use Rattle.media_play.specs.Rules.{has, or_else, time_fault, write_fault, step_fault}
-use Rattle.media_play.specs.Play.{IsSealOfWrite, Seals, Outcome, wrote, ticked, got, Played, start, turn}
+use Rattle.media_play.specs.Play.{IsSealOfWrite, Seals, Outcome, wrote, ticked, called, got, Played, start, turn}
 use Rattle.media_play.proofs.Lists.{IsIn-left, IsIn-append, IsIn-from_map, tested, any-from_in, NoRepeat-push}
 use Rattle.media_play.proofs.Readings.{same_side-true, same_reading, seals_none, received_none, seals_from, to_seal_in}
 
@@ -80,7 +83,7 @@ IsOfWrite seal setup entries s = (w : Writing) × IsIn w (writes_on s.side s.ssr
 pub record Stands (seal : Sealing) (setup : Setup) (entries : List Entry) : Type 0 where
   pub fits : (s : Side) (r : ℕ) (w : Writing) → IsIn w (writes_on s r entries) → IsWriting setup s w
   pub distinct : (s : Side) (r : ℕ) → NoRepeat (numbers (writes_on s r entries))
-  pub sealed : (s : SealedEntry) → IsIn (Sealed s) entries → IsOfWrite seal setup entries s
+  pub sealed : (s : SealedEntry) → s.kind ≡ Rtp → IsIn (Sealed s) entries → IsOfWrite seal setup entries s
 
 -- a write stays one
 stays_write : (s : Side) (r : ℕ) (entries new : List Entry) (w : Writing) → IsIn w (writes_on s r entries) → IsIn w (writes_on s r (entries ++ new))
@@ -100,7 +103,11 @@ pub writes_on-got : {seal : Sealing} {setup : Setup} (s : Side) (r : ℕ) (entri
 writes_on-got s r entries came brought h =
     same_reading (write_on s r) entries (Got came ∷ brought) (received_none (write_on s r) (λ o. refl) (λ s p. refl) h)
 
-no_seal_received : {seal : Sealing} {setup : Setup} {entries : List Entry} {came : GotEntry} {brought : List Entry} → Receives seal setup entries came brought
+pub writes_on-called : (s : Side) (r : ℕ) (entries : List Entry) (side : Side) (time : ℕ) (c : Call) (x : SealedEntry)
+    → writes_on s r (entries ++ Called side time c ∷ Sealed x ∷ []) ≡ writes_on s r entries
+writes_on-called s r entries side time c x = same_reading (write_on s r) entries (Called side time c ∷ Sealed x ∷ []) refl
+
+pub no_seal_received : {seal : Sealing} {setup : Setup} {entries : List Entry} {came : GotEntry} {brought : List Entry} → Receives seal setup entries came brought
     → (s : SealedEntry) → IsIn (Sealed s) brought → ⊥
 no_seal_received (opens header number plain o) s (inl e) = absurd (cc e)
 no_seal_received (opens header number plain o) s (inr h) =
@@ -108,7 +115,9 @@ no_seal_received (opens header number plain o) s (inr h) =
       | inl t ↦ rw t at h
       | inr t ↦ elim (rw t at h) [ inl e ↦ absurd (cc e) | inr other ↦ other ]
     ]
-no_seal_received (stays none) s h = h
+no_seal_received (opens_rtcp plain o) s (inl e) = absurd (cc e)
+no_seal_received (opens_rtcp plain o) s (inr h) = h
+no_seal_received (stays none no_packet) s h = h
 
 sealed_by_tick : {seal : Sealing} {setup : Setup} (entries : List Entry) (side : Side) (sealed : List Entry) → Seals seal setup side entries sealed
     → (s : SealedEntry) → IsIn (Sealed s) sealed → IsOfWrite seal setup entries s
@@ -159,24 +168,24 @@ after_write seal setup entries side time w a b c e h =
                 false≢true (sym unused ∙ used)))
             | inr t ↦ rw (writes_on-wrote s r entries side time w, t, append-nil (writes_on s r entries)) (h.distinct s r)
           ];
-      sealed = λ s j.
+      sealed = λ s rtp j.
           elim (IsIn-append (Sealed s) entries (Wrote side time w ∷ []) j) [
-            | inl l ↦ more seal setup entries (Wrote side time w ∷ []) s (h.sealed s l)
+            | inl l ↦ more seal setup entries (Wrote side time w ∷ []) s (h.sealed s rtp l)
             | inr l ↦ elim l [ inl is ↦ absurd (cc is) | inr other ↦ absurd other ]
           ];
     }
 
 -- where no write is new, the seals alone are to be shown
 after_other : (seal : Sealing) (setup : Setup) (entries new : List Entry) → ((s : Side) (r : ℕ) → writes_on s r (entries ++ new) ≡ writes_on s r entries)
-    → ((s : SealedEntry) → IsIn (Sealed s) new → IsOfWrite seal setup entries s)
+    → ((s : SealedEntry) → s.kind ≡ Rtp → IsIn (Sealed s) new → IsOfWrite seal setup entries s)
     → Stands seal setup entries → Stands seal setup (entries ++ new)
 after_other seal setup entries new same seals h = record {
   fits = λ s r w i. h.fits s r w (subst (IsIn w) (same s r) i);
   distinct = λ s r. subst (λ ws. NoRepeat (numbers ws)) (sym (same s r)) (h.distinct s r);
-  sealed = λ s j.
+  sealed = λ s rtp j.
       elim (IsIn-append (Sealed s) entries new j) [
-        | inl l ↦ more seal setup entries new s (h.sealed s l)
-        | inr l ↦ more seal setup entries new s (seals s l)
+        | inl l ↦ more seal setup entries new s (h.sealed s rtp l)
+        | inr l ↦ more seal setup entries new s (seals s rtp l)
       ];
 }
 
@@ -185,11 +194,23 @@ after_step : {seal : Sealing} {setup : Setup} {entries : List Entry} {step : Ste
 after_step {seal} {setup} {entries} (wrote side time w a b c) e h = after_write seal setup entries side time w a b c e h
 after_step {seal} {setup} {entries} (ticked side time sealed all) e h =
     after_other seal setup entries (Ticked side time ∷ sealed) (λ s r. writes_on-ticked s r entries side time sealed all)
-    (λ s j. elim j [ inl is ↦ absurd (cc is) | inr l ↦ sealed_by_tick entries side sealed all s l ]) h
+    (λ s rtp j. elim j [ inl is ↦ absurd (cc is) | inr l ↦ sealed_by_tick entries side sealed all s l ]) h
+after_step {seal} {setup} {entries} (called side time sender media payload x is) e h =
+    after_other seal setup entries (Called side time call.Application ∷ Sealed x ∷ []) (λ s r. writes_on-called s r entries side time call.Application x)
+    (λ s rtp j. elim j [
+      | inl same ↦ absurd (cc same)
+      | inr l ↦ elim l [
+        | inl same ↦
+            let mine : s ≡ x = cc same in
+            let both : Rtp ≡ Rtcp = sym rtp ∙ ap (λ (t : SealedEntry). t.kind) mine ∙ is.kind in
+            absurd cc
+        | inr other ↦ absurd other
+      ]
+    ]) h
 after_step {seal} {setup} {entries} (got came brought at received) e h =
     after_other seal setup entries (Got came ∷ brought) (λ s r. writes_on-got s r entries came brought received)
-    (λ s j. elim j [ inl is ↦ absurd (cc is) | inr l ↦ absurd (no_seal_received received s l) ]) h
+    (λ s rtp j. elim j [ inl is ↦ absurd (cc is) | inr l ↦ absurd (no_seal_received received s l) ]) h
 
 pub stands : {seal : Sealing} {setup : Setup} {steps : List Step} {entries : List Entry} → Played seal setup steps entries → Stands seal setup entries
-stands start = record { fits = λ s r w i. absurd i; distinct = λ s r. tt; sealed = λ s j. absurd j }
+stands start = record { fits = λ s r w i. absurd i; distinct = λ s r. tt; sealed = λ s rtp j. absurd j }
 stands (turn {steps} {entries} h step new e o) = after_step o e (stands h)

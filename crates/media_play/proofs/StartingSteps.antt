@@ -1,5 +1,5 @@
 -- A session that begins: with keys, with media sections, with streams.
-use Rattle.std.proofs.Common.{◌≡◌, ℕ, Bool, true, false, not, List, [], ◌∷◌, ◌++◌, Option, Some, None, is_some, refl, sym, ap, ◌∙◌, subst}
+use Rattle.std.proofs.Common.{◌≡◌, ℕ, Bool, true, false, not, List, [], ◌∷◌, ◌++◌, Option, Some, None, is_some, refl, sym, ap, ◌∙◌, subst, ◌≤◌, ◌^◌, add-zero}
 use Rattle.std.specs.Prelude.{option_to_list, if◌then◌else◌}
 use Rattle.std.specs.List.{AllByRecursion}
 use Rattle.std.specs.Map.{keys_of}
@@ -24,7 +24,7 @@ use Rattle.media_model.specs.declared.entry.Side.{Side}
 use Rattle.media_model.specs.declared.entry.Side.TheVariants.{A, B}
 use Rattle.media_model.specs.declared.setup.Stream.{Stream}
 use Rattle.media_model.specs.declared.setup.Setup.{Setup}
-use Rattle.media_model.specs.Setup.{material_of, types_of, streams_of, main_in}
+use Rattle.media_model.specs.Setup.{material_of, types_of, streams_of, main_in, local_of}
 use Rattle.media_model.specs.Sides.{same_side, peer_of}
 use Rattle.media_play.specs.declared.numbers.Numbers.{Numbers}
 use Rattle.media_play.specs.Knowing.{SendsAs, TakesAs, AreUsed}
@@ -57,10 +57,11 @@ has_last medias m mid is = any_last (λ (n : MediaRecord). pointwise ◌==◌ n.
 module _ (cipher : CipherMeaning) (setup : Setup) (side : Side) where
   -- with keys
 
-  keyed_begins : (config : SessionConfig) → config.srtcp_index ≡ 0 → config.exts ≡ extensions_of setup → ((pt : ℕ) → is_some (place_of pt config.types) ≡ has (types_of setup) pt)
+  keyed_begins : (config : SessionConfig) → config.mtu.target ≡ setup.mtu.target → config.srtcp_index ≡ (local_of side setup).srtcp_index → config.exts ≡ extensions_of setup → ((pt : ℕ) → is_some (place_of pt config.types) ≡ has (types_of setup) pt)
       → Begun cipher setup side [] [] (record (fresh_session config) { state = keyed cipher setup.profile (material_of setup) (is_left side) (fresh_session config).state })
-  keyed_begins config index exts types =
+  keyed_begins config target index exts types =
       record {
+        target = target;
         seals = ap (λ (i : ℕ). Some (new_state cipher setup.profile (material_of setup) (is_left side) i)) index;
         opens = ap (λ (l : Bool). Some (new_state cipher setup.profile (material_of setup) l 0)) (other_left side);
         runs = refl;
@@ -77,10 +78,10 @@ module _ (cipher : CipherMeaning) (setup : Setup) (side : Side) where
         probes = record { roc = refl; numbers = refl };
       }
 
-  pub starts_keyed : (config : SessionConfig) (v new : SessionView MaskRegister) (material : List ℕ) (left : Bool) → config.srtcp_index ≡ 0 → config.exts ≡ extensions_of setup
-      → ((pt : ℕ) → is_some (place_of pt config.types) ≡ has (types_of setup) pt) → material ≡ material_of setup → left ≡ is_left side → StandsFor Remembers v (fresh_session config)
+  pub starts_keyed : (config : SessionConfig) (v new : SessionView MaskRegister) (material : List ℕ) (left : Bool) → config.mtu.target ≡ setup.mtu.target → config.srtcp_index ≡ (local_of side setup).srtcp_index → config.exts ≡ extensions_of setup
+      → ((pt : ℕ) → is_some (place_of pt config.types) ≡ has (types_of setup) pt) → material ≡ material_of setup → left ≡ is_left side → (local_of side setup).srtcp_index ≤ 2 ^ 31 → StandsFor Remembers v (fresh_session config)
       → new ≡ record v { state = keyed cipher setup.profile material left v.state } → Starts cipher setup side [] [] new
-  starts_keyed config v new material left index exts types key l h is =
+  starts_keyed config v new material left target index exts types key l bounded h is =
       let to = λ (s : SessionState). keyed cipher setup.profile (material_of setup) (is_left side) s in
       let state : new.state ≡ to (fresh_session config).state =
       ap (λ (w : SessionView MaskRegister). w.state) is
@@ -89,12 +90,13 @@ module _ (cipher : CipherMeaning) (setup : Setup) (side : Side) where
       ∙ ap to h.state in
       record {
         session = record (fresh_session config) { state = to (fresh_session config).state };
+        bounded = bounded;
         stands = record {
           state = state;
           rx = rw is h.rx;
           probes = rw is h.probes;
         };
-        begun = keyed_begins config index exts types;
+        begun = keyed_begins config target index exts types;
       }
 
   -- one media section more
@@ -106,6 +108,7 @@ module _ (cipher : CipherMeaning) (setup : Setup) (side : Side) where
         record {
           seals = b.seals;
           opens = b.opens;
+          target = b.target;
           runs = b.runs;
           feedback = b.feedback;
           application = b.application;
@@ -127,6 +130,7 @@ module _ (cipher : CipherMeaning) (setup : Setup) (side : Side) where
         let to = λ (s : SessionState). let n : SessionState = record s { medias = s.medias ++ m ∷ [] } in n in
         record {
           session = record h.session { state = to h.session.state };
+          bounded = h.bounded;
           stands = record {
             state = ap (λ (w : SessionView MaskRegister). w.state) is ∙ ap to h.stands.state;
             rx = rw is h.stands.rx;
@@ -144,6 +148,7 @@ module _ (cipher : CipherMeaning) (setup : Setup) (side : Side) where
         record {
           seals = b.seals;
           opens = b.opens;
+          target = b.target;
           runs = b.runs;
           feedback = b.feedback;
           application = b.application;
@@ -171,6 +176,7 @@ module _ (cipher : CipherMeaning) (setup : Setup) (side : Side) where
         ap (λ (t : StreamsView MaskRegister). t.tx) is ∙ ap (λ (l : List (ℕ × TxRecord)). with_new ssrc x l) mine ∙ new_behind s.state.tx sent ssrc x h.begun.outgoing once in
         record {
           session = record s { state = record s.state { tx = new.tx } };
+          bounded = h.bounded;
           stands = record {
             state = ap (λ (t : SessionState). let n : SessionState = record t { tx = new.tx } in n) h.stands.state;
             rx = rw (ap (λ (t : StreamsView MaskRegister). t.rx) is ∙ rx) h.stands.rx;
@@ -186,6 +192,7 @@ module _ (cipher : CipherMeaning) (setup : Setup) (side : Side) where
         record {
           seals = b.seals;
           opens = b.opens;
+          target = b.target;
           runs = b.runs;
           feedback = b.feedback;
           application = b.application;
@@ -212,6 +219,7 @@ module _ (cipher : CipherMeaning) (setup : Setup) (side : Side) where
         let rs = with_new ssrc (expected ssrc None mid rid) s.rx in
         record {
           session = record s { rx = rs };
+          bounded = h.bounded;
           stands = record {
             state = ap (λ (l : List (ℕ × TxRecord)). let n : SessionState = record v.state { tx = l } in n) after.tx
                 ∙ ap (λ (t : SessionState). let n : SessionState = record t { tx = s.state.tx } in n) h.stands.state;
@@ -286,9 +294,11 @@ module _ (cipher : CipherMeaning) (setup : Setup) (side : Side) where
       record {
         session = s;
         stands = h.stands;
-        seals = b.seals;
+        seals = b.seals ∙ ap (λ (i : ℕ). Some (new_state cipher setup.profile (material_of setup) (is_left side) i)) (sym (add-zero (local_of side setup).srtcp_index));
         opens = b.opens;
+        bounded = subst (λ (i : ℕ). i ≤ 2 ^ 31) (sym (add-zero (local_of side setup).srtcp_index)) h.bounded;
         knows = record {
+          target = b.target;
           runs = b.runs;
           feedback = b.feedback;
           application = b.application;

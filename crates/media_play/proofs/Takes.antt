@@ -1,5 +1,8 @@
 -- What an end of a run knows after bytes came.
-use Rattle.std.proofs.Common.{◌≡◌, inl, inr, ℕ, zero, suc, Bool, true, false, cond, not, List, [], ◌∷◌, ◌++◌, map, slice_get, nat_eq, Option, Some, None, refl, sym, ap, ◌∙◌, subst}
+use Rattle.std.proofs.Common.{◌≡◌, inl, inr, ℕ, zero, suc, Bool, true, false, cond, not, List, [], ◌∷◌, ◌++◌, map, slice_get, nat_eq, Option, Some, None, refl, sym, ap, ◌∙◌, subst, ◌≤◌, ◌^◌}
+use Rattle.media_play.specs.Feedback.{next_index}
+use Rattle.media_play.proofs.Indices.{next_index-same}
+use Rattle.srtp_core.specs.Contexts.{new_state}
 use Rattle.std.specs.Prelude.{◌==◌, if◌then◌else◌, option_and_then, nat_lt, filter}
 use Rattle.std.specs.List.{list_any, AllByRecursion}
 use Rattle.std.specs.Map.{keys_of, values_of}
@@ -23,14 +26,14 @@ use Rattle.media_model.specs.declared.entry.Entry.{Entry}
 use Rattle.media_model.specs.declared.entry.Entry.TheVariants.{Got}
 use Rattle.media_model.specs.declared.setup.Setup.{Setup}
 use Rattle.media_model.specs.Entries.{write_on, writes_on, sealed_number_on, sealed_numbers, is_sealed, queued, taken_on, taken}
-use Rattle.media_model.specs.Setup.{streams_of}
+use Rattle.media_model.specs.Setup.{streams_of, material_of}
 use Rattle.media_model.specs.Sides.{peer_of}
 use Rattle.media_play.specs.declared.numbers.Numbers.{Numbers}
 use Rattle.media_play.specs.Knowing.{SendsAs, TakesAs, Knows, UsedAs, AreUsed}
 use Rattle.media_play.specs.Listing.{NoRepeat}
 use Rattle.media_play.specs.Packets.{waiting_of}
 use Rattle.media_play.specs.Rules.{has}
-use Rattle.media_play.specs.Sessions.{EndState, Ready}
+use Rattle.media_play.specs.Sessions.{EndState, Ready, is_left}
 use Rattle.media_play.specs.SetupFacts.{IsSound}
 use Rattle.media_play.proofs.Appends.{opening, taken-opens, taken-opens_here}
 use Rattle.media_play.proofs.Keys.{position_first, position_next, key_at, key_absent, key_in, all_weaker, keys_changed, one_changes, zip_weaker}
@@ -104,6 +107,7 @@ module _ (setup : Setup) (side : Side) (old new : List Entry)
 
     pub knows_still : (s : SessionRecord) → Knows setup side s old → Knows setup side s new
     knows_still s h = record {
+      target = h.target;
       runs = h.runs;
       feedback = h.feedback;
       application = h.application;
@@ -117,11 +121,13 @@ module _ (setup : Setup) (side : Side) (old new : List Entry)
       probes = takes_still s.state.seen (0, s.probes) h.probes;
     }
 
-    pub ready_still : (cipher : CipherMeaning) (end : EndState) → Ready cipher setup side end old → Ready cipher setup side end new
-    ready_still cipher end h = record {
+    pub ready_still : next_index setup side new ≡ next_index setup side old → (cipher : CipherMeaning) (end : EndState)
+        → Ready cipher setup side end old → Ready cipher setup side end new
+    ready_still index cipher end h = record {
       session = h.session;
       stands = h.stands;
-      seals = h.seals;
+      seals = h.seals ∙ ap (λ (i : ℕ). Some (new_state cipher setup.profile (material_of setup) (is_left side) i)) (sym index);
+      bounded = subst (λ (i : ℕ). i ≤ 2 ^ 31) (sym index) h.bounded;
       opens = h.opens;
       knows = knows_still h.session h.knows;
       used = used_still end.written h.used;
@@ -135,7 +141,7 @@ ready_got cipher setup side entries came =
     (λ r. ap (λ (ns : List ℕ). filter (λ w. not (is_sealed ns w)) (writes_on side r (entries ++ got))) (same_reading (sealed_number_on side r) entries got refl)
     ∙ ap (λ (ws : List Writing). filter (λ w. not (is_sealed (sealed_numbers side r entries) w)) ws) (same_reading (write_on side r) entries got refl))
     (λ r. same_reading (write_on side r) entries got refl)
-    (λ r. same_reading (taken_on side r) entries got refl) cipher
+    (λ r. same_reading (taken_on side r) entries got refl) (next_index-same setup side entries got refl) cipher
 
 -- a datagram opens
 
@@ -229,6 +235,7 @@ pub knows_opened : (setup : Setup) (entries : List Entry) (came : GotEntry) (hea
     → is_fresh (taken came.side header.ssrc entries) number ≡ true → Knows setup came.side s entries
     → Knows setup came.side (after_took header number s) (entries ++ opening came header number plain)
 knows_opened setup entries came header number plain s sound fresh h = record {
+  target = h.target;
   runs = h.runs;
   feedback = h.feedback;
   application = h.application;

@@ -1,5 +1,5 @@
 -- What a session sends at a tick are the seals of the writes that wait, and what the session knows then.
-use Rattle.std.proofs.Common.{◌≡◌, inl, inr, ℕ, ◌≢◌, Bool, true, false, List, [], ◌∷◌, ◌++◌, map, Option, Some, None, refl, sym, ap, ◌∙◌, subst}
+use Rattle.std.proofs.Common.{◌≡◌, inl, inr, ℕ, ◌≢◌, Bool, true, false, List, [], ◌∷◌, ◌++◌, map, Option, Some, None, refl, sym, ap, ◌∙◌, subst, ◌≤◌, ◌^◌}
 use Rattle.std.specs.Prelude.{◌==◌, if◌then◌else◌, is_some}
 use Rattle.std.specs.List.{flat_map, list_any, AllByRecursion, AllZip}
 use Rattle.std.specs.Map.{keys_of}
@@ -37,7 +37,9 @@ use Rattle.media_play.specs.Plain.{extensions_of}
 use Rattle.media_play.specs.Play.{IsSealOfWrite, AreSealsOf, no_seals, seal_of, to_seal, Seals, Played}
 use Rattle.media_play.specs.Rules.{has}
 use Rattle.media_play.specs.Sessions.{is_left, sealing_of, EndState, Ready}
+use Rattle.media_play.specs.Feedback.{next_index}
 use Rattle.media_play.specs.SetupFacts.{IsSound}
+use Rattle.media_play.proofs.Indices.{next_index-ticked}
 use Rattle.media_play.proofs.Appends.{queued-ticked, taken-ticked}
 use Rattle.media_play.proofs.Arrivals.{keys_there}
 use Rattle.media_play.proofs.Draining.{left, IsStamped, AllGo, Leaves, Kept, sent, ended, left_there, none_left}
@@ -87,9 +89,9 @@ module _ (side : Side) (entries : List Entry) (medias : List MediaRecord) (time 
 fits_header : {setup : Setup} {side : Side} {w : Writing} → IsSound setup → IsWriting setup side w → FitsHeader w
 fits_header {w = w} sound fits = record { ssrc = fits.ssrc; time = fits.time; pt = sound.types w.pt fits.type; few = fits.few; sources = fits.sources }
 
-module _ (cipher : CipherMeaning) (setup : Setup) (side : Side) (again : WrittenIsReadAgain) (time : ℕ) where
+module _ (cipher : CipherMeaning) (setup : Setup) (side : Side) (again : WrittenIsReadAgain) (time index : ℕ) where
   abbrev keyed : SrtpState
-  keyed = new_state cipher setup.profile (material_of setup) (is_left side) 0
+  keyed = new_state cipher setup.profile (material_of setup) (is_left side) index
 
   abbrev LeavesAs : Writing → Datagram → Type 0
   LeavesAs w d = Leaves cipher keyed (extensions_of setup) time (stamped time w) d
@@ -164,6 +166,7 @@ module _ (seal : Sealing) (setup : Setup) (side : Side) (entries : List Entry) (
       let seen : s.state.seen ≡ after.seen = sym (ap (λ (x : SessionState). x.seen) k.others) in
       let medias : s.state.medias ≡ after.medias = sym (ap (λ (x : SessionState). x.medias) k.others) in
       record {
+        target = ap (λ (x : SessionState). x.target) k.others ∙ h.target;
         runs = ap (λ (x : SessionState). x.stopped) k.others ∙ h.runs;
         feedback = ap (λ (x : SessionState). x.feedback) k.others ∙ h.feedback;
         application = ap (λ (x : SessionState). x.application) k.others;
@@ -182,9 +185,9 @@ module _ (seal : Sealing) (setup : Setup) (side : Side) (entries : List Entry) (
 
 -- a tick, and a drain at the same moment
 
-module _ (cipher : CipherMeaning) (again : WrittenIsReadAgain) (setup : Setup) (side : Side) (time : ℕ) (later : time ≢ 0) where
+module _ (cipher : CipherMeaning) (again : WrittenIsReadAgain) (setup : Setup) (side : Side) (time index : ℕ) (later : time ≢ 0) where
   abbrev keys : SrtpState
-  keys = new_state cipher setup.profile (material_of setup) (is_left side) 0
+  keys = new_state cipher setup.profile (material_of setup) (is_left side) index
 
   not_zero : (time == 0) ≡ false
   not_zero = false_from_ne_true _ (λ e. later (eqb-true time 0 e))
@@ -214,7 +217,7 @@ module _ (cipher : CipherMeaning) (again : WrittenIsReadAgain) (setup : Setup) (
       subst (λ (ps : List RtpPacket). AllZip (Leaves cipher keys (extensions_of setup) time) ps ds) (sym is)
       (subst (λ x. AllZip (Leaves cipher keys x time) all_sent.packets ds) h.exts all_sent.leave) in
       let seals : Seals (sealing_of cipher setup) setup side entries (seals_from side ds) =
-      all cipher setup side again time ws ds (λ w i. fits_header sound ((stands played).fits side w.ssrc w (to_seal_in setup side entries w i).0)) leave in (
+      all cipher setup side again time index ws ds (λ w i. fits_header sound ((stands played).fits side w.ssrc w (to_seal_in setup side entries w i).0)) leave in (
         record {
           seals = seals;
           knows = knows_ticked (sealing_of cipher setup) setup side entries time (seals_from side ds) seals s after all_sent.kept none h;
@@ -231,7 +234,8 @@ module _ (cipher : CipherMeaning) (again : WrittenIsReadAgain) (setup : Setup) (
       let t = is_last sound played s sealing h drains.last ds drains.sent drains.ended in
       subst (λ (a : SessionState). IsTickOf s entries a ds) (sym (drains.leaves ∙ t.1)) t.0
 
-  -- the end of a run after it
+-- the end of a run after it
+module _ (cipher : CipherMeaning) (again : WrittenIsReadAgain) (setup : Setup) (side : Side) (time : ℕ) (later : time ≢ 0) where
   pub ready_ticked : {steps : List Step} {entries : List Entry} (old : EndState) (middle new : SessionView MaskRegister) (ds : List Datagram)
       → IsSound setup → Played (sealing_of cipher setup) setup steps entries → Ready cipher setup side old entries
       → middle ≡ record old.session { state = after_timeout time old.session.state }
@@ -244,7 +248,7 @@ module _ (cipher : CipherMeaning) (again : WrittenIsReadAgain) (setup : Setup) (
       let starts : middle.state ≡ after_timeout time s.state = ap (λ (v : SessionView MaskRegister). v.state) ticks ∙ ap (after_timeout time) r.stands.state in
       let told : after_events middle.state ≡ told_all (after_timeout time s.state) =
       ap after_events starts ∙ all_told (after_timeout time s.state) (keys_there s.state r.seals r.opens) in
-      let t = is_tick sound played s r.seals r.knows new.state ds (subst (λ (x : SessionState). Drains cipher time x new.state ds) told drains) in
+      let t = is_tick cipher again setup side time (next_index setup side entries) later sound played s r.seals r.knows new.state ds (subst (λ (x : SessionState). Drains cipher time x new.state ds) told drains) in
       let rx : old.session.rx ≡ new.rx = sym (ap (λ (v : SessionView MaskRegister). v.rx) others ∙ ap (λ (v : SessionView MaskRegister). v.rx) ticks) in
       let probes : old.session.probes ≡ new.probes = sym (ap (λ (v : SessionView MaskRegister). v.probes) others ∙ ap (λ (v : SessionView MaskRegister). v.probes) ticks) in (
         t.seals,
@@ -255,8 +259,11 @@ module _ (cipher : CipherMeaning) (again : WrittenIsReadAgain) (setup : Setup) (
             rx = subst (λ (x : List (ℕ × RxView MaskRegister)). Along (RxStandsFor Remembers) x s.rx) rx r.stands.rx;
             probes = subst (λ (x : RxView MaskRegister). RxStandsFor Remembers x s.probes) probes r.stands.probes;
           };
-          seals = t.sealing ∙ r.seals;
+          seals = t.sealing ∙ r.seals
+              ∙ ap (λ (i : ℕ). Some (new_state cipher setup.profile (material_of setup) (is_left side) i))
+              (sym (next_index-ticked setup side entries side time (seals_from side ds) t.seals));
           opens = t.opening ∙ r.opens;
+          bounded = subst (λ (i : ℕ). i ≤ 2 ^ 31) (sym (next_index-ticked setup side entries side time (seals_from side ds) t.seals)) r.bounded;
           knows = t.knows;
           used = used_ticked (sealing_of cipher setup) setup side entries time (seals_from side ds) t.seals (streams_of side setup) old.written r.used;
         },

@@ -10,19 +10,20 @@ use Rattle.media_model.specs.declared.entry.Side.{Side}
 use Rattle.media_model.specs.declared.entry.Packet.{Packet}
 use Rattle.media_model.specs.declared.entry.Got.{Got as GotEntry}
 use Rattle.media_model.specs.declared.entry.Entry.{Entry}
-use Rattle.media_model.specs.declared.entry.Entry.TheVariants.{Wrote, Ticked, Got}
+use Rattle.media_model.specs.declared.entry.Entry.TheVariants.{Wrote, Ticked, Called, Got, Sealed, Opened}
+use Rattle.media_model.specs.declared.entry.Call.TheVariants as call
 use Rattle.media_model.specs.declared.step.Step.{Step}
 use Rattle.media_model.specs.declared.setup.Setup.{Setup}
 use Rattle.media_model.specs.Sides.{same_side}
 use Rattle.media_play.specs.Listing.{IsIn, NoRepeat}
 use Rattle.media_model.specs.Entries.{taken, packet_by, packets}
 use Rattle.repair_core.specs.Fresh.{greatest, is_fresh}
-use Rattle.media_play.specs.Opening.{Sealing, Opens, Receives, opens, stays, yields, packet_from}
-use Rattle.media_play.specs.Play.{Outcome, wrote, ticked, got, Played, start, turn}
+use Rattle.media_play.specs.Opening.{Sealing, Opens, Receives, opens, opens_rtcp, stays, opened_rtcp_as, yields, packet_from}
+use Rattle.media_play.specs.Play.{Outcome, wrote, ticked, called, got, Played, start, turn}
 use Rattle.media_play.specs.Headline.{NoPacketTwice}
 use Rattle.media_play.proofs.Lists.{IsIn-left, IsIn-right, IsIn-append, tested, any-from_in, NoRepeat-push}
 use Rattle.media_play.proofs.Readings.{same_side-true, same_reading, seals_none}
-use Rattle.media_play.proofs.Appends.{opening, taken-wrote, taken-ticked, taken-stays, taken-opens}
+use Rattle.media_play.proofs.Appends.{opening, taken-wrote, taken-ticked, taken-called, taken-opens_rtcp, taken-stays, taken-opens}
 
 in_greatest : (xs : List ℕ) (n : ℕ) → IsIn n xs → n ≤ greatest xs
 in_greatest [] n h = absurd h
@@ -112,11 +113,17 @@ apart {seal} {setup} (turn {steps} {entries} h step new e o) s = go (apart h s) 
     go a (ticked side time sealed all) =
         same_apart s entries (entries ++ Ticked side time ∷ sealed)
         (same_reading (packet_by s) entries (Ticked side time ∷ sealed) (seals_none (packet_by s) (λ s. refl) all)) (λ r. taken-ticked s r entries side time sealed all) a
+    go a (called side time sender media payload x is) =
+        same_apart s entries (entries ++ Called side time call.Application ∷ Sealed x ∷ [])
+        (same_reading (packet_by s) entries (Called side time call.Application ∷ Sealed x ∷ []) refl) (λ r. taken-called s r entries side time call.Application x) a
     go a (got came chunk at received) = heard chunk received
       where
         heard : (chunk : List Entry) → Receives seal setup entries came chunk → Apart s (entries ++ Got came ∷ chunk)
         heard chunk (opens header number plain o) = apart_opens s entries came header number plain o a
-        heard chunk (stays none) =
+        heard chunk (opens_rtcp plain o) =
+            same_apart s entries (entries ++ Got came ∷ Opened (opened_rtcp_as seal came plain) ∷ [])
+            (same_reading (packet_by s) entries (Got came ∷ Opened (opened_rtcp_as seal came plain) ∷ []) refl) (λ r. taken-opens_rtcp seal s r entries came plain) a
+        heard chunk (stays none no_packet) =
             same_apart s entries (entries ++ Got came ∷ []) (same_reading (packet_by s) entries (Got came ∷ []) refl) (λ r. taken-stays s r entries came) a
 
 pub no_packet_twice : {seal : Sealing} {setup : Setup} {steps : List Step} {entries : List Entry} → Played seal setup steps entries → NoPacketTwice entries

@@ -1,10 +1,49 @@
 -- Why a step is not played.
-use Rattle.std.specs.Prelude.{◌≡◌, Option, Some}
+use Rattle.std.specs.Prelude.{◌≡◌, ◌^◌, Bool, true, false, List, [], ◌∷◌, Option, Some, None}
+use Rattle.srtp_core.specs.declared.counter.Counter.TheVariants as key
+use Rattle.media_model.specs.declared.entry.Side.{Side}
+use Rattle.media_model.specs.declared.entry.Call.TheVariants as call
+use Rattle.media_model.specs.declared.entry.Entry.{Entry}
+use Rattle.media_model.specs.declared.entry.Entry.TheVariants.{Called}
+use Rattle.media_model.specs.declared.step.Step.{Step}
+use Rattle.media_model.specs.declared.step.Step.TheVariants.{Application}
+use Rattle.media_model.specs.declared.setup.Setup.{Setup}
 use Rattle.media_play.specs.declared.fault.StepFault.{StepFault}
 use Rattle.media_play.specs.declared.fault.StepError.{StepError}
-use Rattle.media_play.specs.declared.fault.StepError.TheVariants.{Memory, Rule}
+use Rattle.media_play.specs.declared.fault.StepError.TheVariants.{Memory, Rule, KeyExhausted}
+use Rattle.media_play.specs.Feedback.{next_index, Exhausts}
+use Rattle.media_play.specs.Rules.{step_fault}
 
 -- the first rule that it breaks, where it breaks one; memory may run out at any step
 abbrev pub IsCauseAt : Option StepFault → StepError → Type 0
 IsCauseAt broken Memory = Unit {0}
 IsCauseAt broken (Rule fault) = broken ≡ Some fault
+IsCauseAt broken (KeyExhausted side counter) = ⊥
+
+-- the same of a step after these entries; or it breaks none, and has a side seal behind the last number of a key
+abbrev pub IsStepCause : Setup → List Entry → Step → StepError → Type 0
+IsStepCause setup entries step Memory = Unit {0}
+IsStepCause setup entries step (Rule fault) = step_fault setup entries step ≡ Some fault
+IsStepCause setup entries step (KeyExhausted side counter) =
+    (step_fault setup entries step ≡ None) × Exhausts setup entries step side counter
+
+abbrev pub is_rule : StepError → Bool
+is_rule (Rule fault) = true
+is_rule _ = false
+
+-- why a side does not send after these entries: no index is left; memory may run out
+abbrev pub IsSendingCause : Setup → Side → List Entry → StepError → Type 0
+IsSendingCause setup side entries Memory = Unit {0}
+IsSendingCause setup side entries (Rule fault) = ⊥
+IsSendingCause setup side entries (KeyExhausted by counter) =
+    (by ≡ side) × (counter ≡ key.Rtcp) × (next_index setup side entries ≡ 2 ^ 31)
+
+-- the entry of an application's call
+abbrev pub call_of : Step → List Entry
+call_of (Application side time sender media payload) = Called side time call.Application ∷ []
+call_of step = []
+
+-- what a step brought that was not played: its call, where a key had no number left for what it sends
+abbrev pub left_by : Step → StepError → List Entry
+left_by step (KeyExhausted side counter) = call_of step
+left_by step _ = []

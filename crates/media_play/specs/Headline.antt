@@ -1,15 +1,18 @@
 -- What holds of the entries of a run.
-use Rattle.std.specs.Prelude.{◌≡◌, ◌↔◌, ◌<◌, ◌^◌, ◌%◌, false, true, List, [], ◌∷◌, ◌++◌, Some}
+use Rattle.std.specs.Prelude.{◌≡◌, ◌↔◌, ◌<◌, ◌≤◌, ◌^◌, ◌%◌, ℕ, false, true, List, [], ◌∷◌, ◌++◌, length, take, Some}
 use Rattle.rtp_wire.specs.declared.header.RtpHeader.{RtpHeader}
 use Rattle.rtp_wire.specs.Widen.{widen16}
 use Rattle.media_model.specs.declared.entry.Side.{Side}
-use Rattle.rtp_base.specs.declared.kind.Kind.TheVariants.{Rtp}
+use Rattle.rtp_base.specs.declared.kind.Kind.TheVariants.{Rtp, Rtcp}
+use Rattle.srtp_core.specs.RtcpSeals.{sender_of}
+use Rattle.media_model.specs.declared.entry.Call.{Call}
+use Rattle.media_model.specs.declared.entry.Call.TheVariants as call
 use Rattle.media_model.specs.declared.entry.Write.{Write as Writing}
 use Rattle.media_model.specs.declared.entry.Sealed.{Sealed as SealedEntry}
 use Rattle.media_model.specs.declared.entry.Entry.{Entry}
-use Rattle.media_model.specs.declared.entry.Entry.TheVariants.{Wrote, Ticked, Got, Sealed, Yielded}
+use Rattle.media_model.specs.declared.entry.Entry.TheVariants.{Wrote, Ticked, Called, Got, Sealed, Yielded}
 use Rattle.media_model.specs.declared.step.Step.{Step}
-use Rattle.media_model.specs.declared.step.Step.TheVariants.{Write, Tick}
+use Rattle.media_model.specs.declared.step.Step.TheVariants.{Write, Tick, Application}
 use Rattle.media_model.specs.declared.setup.Setup.{Setup}
 use Rattle.media_model.specs.Genuine.{IsGenuine}
 use Rattle.media_model.specs.Sides.{peer_of}
@@ -17,12 +20,13 @@ use Rattle.media_model.specs.Setup.{streams_of}
 use Rattle.media_play.specs.Listing.{IsIn, NoRepeat, Each, EachStep}
 use Rattle.media_model.specs.Entries.{writes_by, writes_on, sealed_numbers, nonces, taken, packets}
 use Rattle.repair_core.specs.Fresh.{greatest_of, is_fresh}
+use Rattle.media_play.specs.Feedback.{SendsFeedback}
 use Rattle.media_play.specs.Opening.{Sealing, Receives}
 use Rattle.media_play.specs.Plain.{extensions_of, read_header, Carries, as_packet}
 use Rattle.media_play.specs.Play.{Seals, Brings}
 use Rattle.media_play.specs.Rules.{has}
 
--- a sealed datagram is the seal of its plain, which reads with its SSRC and the low 16 bits of its
+-- a sealed RTP datagram is the seal of its plain, which reads with its SSRC and the low 16 bits of its
 -- number; the SSRC is that of a stream of the side, and there is no padding, so it is no filler
 pub record IsSealOf (seal : Sealing) (setup : Setup) (s : SealedEntry) : Type 0 where
   pub rtp : s.kind ≡ Rtp
@@ -33,10 +37,24 @@ pub record IsSealOf (seal : Sealing) (setup : Setup) (s : SealedEntry) : Type 0 
   pub small : s.index < 2 ^ 48
   pub not_filler : header.has_padding ≡ false
   pub stream : has (streams_of s.side setup) s.ssrc ≡ true
-  pub sealed : s.bytes ≡ seal s.side s.kind s.ssrc s.index s.plain
+  pub sealed : s.bytes ≡ seal.rtp s.side s.ssrc s.index s.plain
+
+-- a sealed RTCP datagram is the encrypted seal of its plain of at least 8 bytes, whose first item is
+-- from its SSRC
+pub record IsRtcpSealOf (seal : Sealing) (s : SealedEntry) : Type 0 where
+  pub rtcp : s.kind ≡ Rtcp
+  pub header : 8 ≤ length s.plain
+  pub source : sender_of (take 8 s.plain) ≡ s.ssrc
+  pub small : s.index < 2 ^ 31
+  pub sealed : s.bytes ≡ seal.rtcp s.side true s.index s.plain
+
+-- what is sealed is one of these
+pub data IsRight (seal : Sealing) (setup : Setup) (s : SealedEntry) : Type 0 where
+  right_rtp : IsSealOf seal setup s → IsRight seal setup s
+  right_rtcp : IsRtcpSealOf seal s → IsRight seal setup s
 
 abbrev pub IsRightSeal : Sealing → Setup → Entry → Type 0
-IsRightSeal seal setup (Sealed s) = IsSealOf seal setup s
+IsRightSeal seal setup (Sealed s) = IsRight seal setup s
 IsRightSeal seal setup _ = Unit {0}
 
 -- each sealed datagram is a seal under its side's keys
@@ -47,7 +65,7 @@ SealsAreRight seal setup entries = Each (λ past entry. IsRightSeal seal setup e
 abbrev pub NoNonceTwice : List Entry → Type 0
 NoNonceTwice entries = (side : Side) → NoRepeat (nonces side entries)
 
--- a sealed datagram carries one earlier write of its side, which was not sealed before
+-- a sealed RTP datagram carries one earlier write of its side, which was not sealed before
 pub record IsSending (setup : Setup) (past : List Entry) (s : SealedEntry) : Type 0 where
   pub write : Writing
   pub earlier : IsIn write (writes_on s.side s.ssrc past)
@@ -56,7 +74,7 @@ pub record IsSending (setup : Setup) (past : List Entry) (s : SealedEntry) : Typ
   pub first : IsIn s.index (sealed_numbers s.side s.ssrc past) → ⊥
 
 abbrev pub IsSentWrite : Setup → List Entry → Entry → Type 0
-IsSentWrite setup past (Sealed s) = IsSending setup past s
+IsSentWrite setup past (Sealed s) = s.kind ≡ Rtp → IsSending setup past s
 IsSentWrite setup past _ = Unit {0}
 
 -- each first sending is one earlier write of its side, none twice; there is no other RTP
@@ -64,10 +82,12 @@ abbrev pub SendsWrites : Setup → List Entry → Type 0
 SendsWrites setup entries = Each (IsSentWrite setup) entries
 
 -- a write brings nothing; a tick seals all that is queued, stream by stream, and nothing else; a
--- datagram that comes is opened, and its packet yielded, exactly where it opens
+-- call seals its feedback, and nothing else, unless no index is left; a datagram that comes is
+-- opened, and its packet yielded, exactly where it opens
 abbrev pub Answers : Sealing → Setup → List Entry → Entry → List Entry → Type 0
 Answers seal setup past (Wrote side time write) chunk = chunk ≡ []
 Answers seal setup past (Ticked side time) chunk = Seals seal setup side past chunk
+Answers seal setup past (Called side time call) chunk = SendsFeedback seal setup side past chunk
 Answers seal setup past (Got got) chunk = Receives seal setup past got chunk
 Answers seal setup past _ chunk = Unit {0}
 
@@ -103,6 +123,11 @@ YieldsExactly past _ chunk = Unit {0}
 abbrev pub FirstSendingsAreYielded : List Entry → Type 0
 FirstSendingsAreYielded entries = EachStep YieldsExactly entries
 
+-- a step has a side's application make this call
+abbrev pub IsCallBy : Side → ℕ → Call → Step → Type 0
+IsCallBy side time call.Application (Application s t sender media payload) = (s ≡ side) × (t ≡ time)
+IsCallBy side time call step = ⊥
+
 -- the steps among these entries are those of the script, in order: bytes that come are those that
 -- the step brings
 abbrev pub PlaysFrom : List Entry → List Step → List Entry → Type 0
@@ -113,6 +138,9 @@ PlaysFrom past steps (Wrote side time write ∷ entries) =
 PlaysFrom past steps (Ticked side time ∷ entries) =
     (rest : List Step) × (steps ≡ Tick side time ∷ rest)
     × PlaysFrom (past ++ Ticked side time ∷ []) rest entries
+PlaysFrom past steps (Called side time call ∷ entries) =
+    (step : Step) × (rest : List Step) × (steps ≡ step ∷ rest) × IsCallBy side time call step
+    × PlaysFrom (past ++ Called side time call ∷ []) rest entries
 PlaysFrom past steps (Got got ∷ entries) =
     (step : Step) × (rest : List Step) × (steps ≡ step ∷ rest) × Brings past got step
     × PlaysFrom (past ++ Got got ∷ []) rest entries

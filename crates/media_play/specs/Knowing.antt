@@ -41,6 +41,7 @@ pub record TakesAs (side : Side) (entries : List Entry) (seen : List (ℕ × ℕ
 -- waits, and nothing waits to be told
 pub record Knows (setup : Setup) (side : Side) (s : SessionRecord)
     (entries : List Entry) : Type 0 where
+  pub target : s.state.target ≡ setup.mtu.target
   pub runs : s.state.stopped ≡ false
   pub feedback : s.state.feedback ≡ []
   pub application : s.state.application ≡ None

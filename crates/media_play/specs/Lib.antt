@@ -2,8 +2,8 @@ pub mod Listing
 pub mod Log
 pub mod Plain
 pub mod Rules
-pub mod SetupRules
 pub mod Opening
+pub mod Feedback
 pub mod Play
 pub mod SetupFacts
 pub mod WireLaws

@@ -2,6 +2,7 @@
 use Rattle.std.specs.Prelude.{ℕ, ◌+◌, Bool, true, false, cond, List, [], ◌∷◌, Option, Some, None, slice_get}
 use Rattle.std.specs.Option.{option_and_then}
 use Rattle.media_model.specs.declared.entry.Side.{Side}
+use Rattle.media_model.specs.declared.entry.Sealed.{Sealed as SealedEntry}
 use Rattle.media_model.specs.declared.entry.Entry.{Entry}
 use Rattle.media_model.specs.declared.entry.Entry.TheVariants.{Sealed}
 use Rattle.media_model.specs.Sides.{same_side}
@@ -25,11 +26,11 @@ places_from at side (entry ∷ entries) =
 abbrev pub places : Side → List Entry → List ℕ
 places side entries = places_from 0 side entries
 
--- the bytes of a seal
-abbrev pub bytes_of : Entry → Option (List ℕ)
-bytes_of (Sealed s) = Some s.bytes
-bytes_of entry = None
+-- the seal that an entry is
+abbrev pub sealed_in : Entry → Option SealedEntry
+sealed_in (Sealed s) = Some s
+sealed_in entry = None
 
--- the bytes of the seal that stands at a place
-abbrev pub sealed_at : List Entry → ℕ → Option (List ℕ)
-sealed_at entries place = option_and_then bytes_of (slice_get entries place)
+-- the seal that stands at a place
+abbrev pub sealed_at : List Entry → ℕ → Option SealedEntry
+sealed_at entries place = option_and_then sealed_in (slice_get entries place)

@@ -8,13 +8,15 @@ use Rattle.media_model.specs.declared.entry.Write.{Write as Writing}
 use Rattle.media_model.specs.declared.entry.Got.{Got as GotEntry}
 use Rattle.media_model.specs.declared.entry.Sealed.{Sealed as SealedEntry}
 use Rattle.media_model.specs.declared.entry.Entry.{Entry}
-use Rattle.media_model.specs.declared.entry.Entry.TheVariants.{Wrote, Ticked, Got, Sealed}
+use Rattle.media_model.specs.declared.entry.Entry.TheVariants.{Wrote, Ticked, Called, Got, Sealed}
 use Rattle.media_model.specs.declared.step.Step.{Step}
-use Rattle.media_model.specs.declared.step.Step.TheVariants.{Write, Tick, Deliver, Foreign}
+use Rattle.media_model.specs.declared.step.Step.TheVariants.{Write, Tick, Deliver, Foreign, Application}
 use Rattle.media_model.specs.declared.setup.Setup.{Setup}
 use Rattle.media_model.specs.Sides.{peer_of}
 use Rattle.media_model.specs.Setup.{streams_of}
 use Rattle.media_model.specs.Entries.{queued, datagrams}
+use Rattle.media_model.specs.declared.entry.Call.TheVariants as call
+use Rattle.media_play.specs.Feedback.{application_packet, IsSealOfPacket}
 use Rattle.media_play.specs.Opening.{Sealing, got_as, Receives}
 use Rattle.media_play.specs.Rules.{step_fault}
 use Rattle.media_play.specs.Plain.{extensions_of, Carries}
@@ -27,7 +29,7 @@ pub record IsSealOfWrite (seal : Sealing) (setup : Setup) (by : Side) (w : Writi
   pub ssrc : s.ssrc ≡ w.ssrc
   pub index : s.index ≡ w.number
   pub carries : Carries (extensions_of setup) s.plain w
-  pub bytes : s.bytes ≡ seal s.side s.kind s.ssrc s.index s.plain
+  pub bytes : s.bytes ≡ seal.rtp s.side s.ssrc s.index s.plain
 
 -- the entries are the seals of these writes, in order
 pub data AreSealsOf (seal : Sealing) (setup : Setup) (side : Side)
@@ -46,12 +48,12 @@ abbrev pub Seals : Sealing → Setup → Side → List Entry → List Entry → 
 Seals seal setup side entries sealed =
     AreSealsOf seal setup side (to_seal setup side entries) sealed
 
--- the bytes that a step brings to a side after these entries: the datagram of this number, counted
--- from 1, that the other side sealed; or bytes of the step's own
+-- the datagram that a step brings to a side after these entries: that of this number, counted from
+-- 1, that the other side sealed; or bytes of the step's own
 pub data Brings (entries : List Entry) : GotEntry → Step → Type 0 where
-  delivered : (side : Side) (time k : ℕ) (bytes : List ℕ) → 1 ≤ k
-      → slice_get (datagrams (peer_of side) entries) (k - 1) ≡ Some bytes
-      → Brings entries (got_as side time Rtp bytes) (Deliver side time k)
+  delivered : (side : Side) (time k : ℕ) (s : SealedEntry) → 1 ≤ k
+      → slice_get (datagrams (peer_of side) entries) (k - 1) ≡ Some s
+      → Brings entries (got_as side time s.kind s.bytes) (Deliver side time k)
   foreign : (got : GotEntry) → Brings entries got (Foreign got.side got.time got.kind got.bytes)
 
 -- what a step brings after these entries, the step's own entry first
@@ -61,6 +63,10 @@ pub data Outcome (seal : Sealing) (setup : Setup) (entries : List Entry)
       → AreWords w.csrc → Outcome seal setup entries (Write side time w) (Wrote side time w ∷ [])
   ticked : (side : Side) (time : ℕ) (sealed : List Entry) → Seals seal setup side entries sealed
       → Outcome seal setup entries (Tick side time) (Ticked side time ∷ sealed)
+  called : (side : Side) (time sender media : ℕ) (payload : List ℕ) (s : SealedEntry)
+      → IsSealOfPacket seal setup side entries (application_packet sender media payload) s
+      → Outcome seal setup entries (Application side time sender media payload)
+      (Called side time call.Application ∷ Sealed s ∷ [])
   got : {step : Step} (came : GotEntry) (brought : List Entry) → Brings entries came step
       → Receives seal setup entries came brought
       → Outcome seal setup entries step (Got came ∷ brought)
@@ -86,3 +92,10 @@ pub record IsArrival (seal : Sealing) (setup : Setup) (got : GotEntry)
   pub brought : List Entry
   pub received : Receives seal setup entries got brought
   pub added : new ≡ entries ++ Got got ∷ brought
+
+-- a call of a side's application brings the seal of its feedback
+pub record IsCall (seal : Sealing) (setup : Setup) (side : Side) (time sender media : ℕ) (payload : List ℕ)
+    (entries new : List Entry) : Type 0 where
+  pub sealed : SealedEntry
+  pub sends : IsSealOfPacket seal setup side entries (application_packet sender media payload) sealed
+  pub added : new ≡ entries ++ Called side time call.Application ∷ Sealed sealed ∷ []

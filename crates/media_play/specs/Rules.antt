@@ -1,25 +1,18 @@
 -- The rules of a step after these entries, and the first one that it breaks.
-use Rattle.std.specs.Prelude.{ℕ, ◌^◌, Bool, not, ◌||◌, ◌==◌, nat_lt, nat_le, if◌then◌else◌, List, [], ◌∷◌, length, Option, Some, None}
+use Rattle.std.specs.Prelude.{ℕ, ◌^◌, Bool, not, ◌||◌, ◌==◌, nat_lt, nat_le, List, [], ◌∷◌, length, Option, Some, None}
 use Rattle.std.specs.List.{list_any}
 use Rattle.media_model.specs.declared.entry.Side.{Side}
 use Rattle.media_model.specs.declared.entry.Write.{Write as Writing}
 use Rattle.media_model.specs.declared.entry.Entry.{Entry}
 use Rattle.media_model.specs.declared.step.Step.{Step}
-use Rattle.media_model.specs.declared.step.Step.TheVariants.{Write, Tick, Deliver, Foreign}
+use Rattle.media_model.specs.declared.step.Step.TheVariants.{Write, Tick, Deliver, Foreign, Application}
 use Rattle.media_model.specs.declared.setup.Setup.{Setup}
 use Rattle.media_model.specs.Sides.{peer_of}
 use Rattle.media_model.specs.Setup.{streams_of, types_of}
 use Rattle.media_play.specs.declared.fault.StepFault.{StepFault}
 use Rattle.media_play.specs.declared.fault.StepFault.TheVariants.{TimeZero, TimeBack, TimeBeyond, UnknownStream, UnknownDatagram, UnknownType, NumberTooBig, NumberUsed, PayloadTooLong, TooManySources}
 use Rattle.media_model.specs.Entries.{last_time, writes_on, datagrams}
-
-abbrev pub has : List ℕ → ℕ → Bool
-has xs n = list_any (λ x. x == n) xs
-
--- the fault of the first rule of a list that is broken
-abbrev pub first_fault : {F : Type 0} → List (Bool × F) → Option F
-first_fault [] = None
-first_fault (rule ∷ rules) = if rule.0 then Some rule.1 else first_fault rules
+pub use Rattle.setup_rules.specs.SetupRules.{has, first_fault}
 
 -- the first fault, where there is one, else what the rules after it say
 abbrev pub or_else : {F : Type 0} → Option F → Option F → Option F
@@ -65,3 +58,4 @@ step_fault setup entries (Tick side time) = time_fault entries time
 step_fault setup entries (Deliver side time k) =
     or_else (time_fault entries time) (deliver_fault entries side k)
 step_fault setup entries (Foreign side time kind bytes) = time_fault entries time
+step_fault setup entries (Application side time sender media payload) = time_fault entries time

@@ -1,6 +1,8 @@
 -- What a run knows of the steps that it played.
 use Rattle.std.specs.Prelude.{◌≡◌, ◌+◌, ◌≤◌, ℕ, List, [], ◌∷◌, ◌++◌, length, take, slice_get, Some, None, Result, Ok, Err}
 use Rattle.srtp_core.specs.Cipher.{CipherMeaning}
+use Rattle.srtp_core.specs.declared.counter.Counter.{Counter}
+use Rattle.media_model.specs.declared.entry.Side.{Side}
 use Rattle.media_model.specs.declared.entry.Side.TheVariants.{A, B}
 use Rattle.media_model.specs.declared.entry.Entry.{Entry}
 use Rattle.media_model.specs.declared.transcript.Transcript.{Transcript}
@@ -12,12 +14,13 @@ use Rattle.media_play.specs.declared.fault.RunError.{RunError}
 use Rattle.media_play.specs.declared.fault.RunFault.{RunFault}
 use Rattle.media_play.specs.declared.fault.RunError.TheVariants as error
 use Rattle.media_model.specs.Entries.{last_time}
-use Rattle.media_play.specs.Errors.{IsCauseAt}
+use Rattle.media_play.specs.Errors.{IsStepCause, call_of}
+use Rattle.media_play.specs.Feedback.{Exhausts}
 use Rattle.media_play.specs.Opening.{Sealing}
 use Rattle.media_play.specs.Play.{Outcome, Played}
 use Rattle.media_play.specs.Rules.{step_fault}
 use Rattle.media_play.specs.Sessions.{EndState, Ready, sealing_of}
-use Rattle.media_play.specs.SetupRules.{setup_fault}
+use Rattle.setup_rules.specs.SetupRules.{setup_fault}
 
 -- the two ends, the entries so far and the time of the last step
 pub record RunState : Type 0 where
@@ -56,22 +59,37 @@ Plays cipher old step new =
 abbrev pub Refuses : CipherMeaning → RunState → Step → StepError → Type 0
 Refuses cipher run step cause =
     (setup : Setup) (steps : List Step) → IsRunOf cipher setup steps run
-    → IsCauseAt (step_fault setup run.log step) cause
+    → IsStepCause setup run.log step cause
 
 -- why no run of a setup begins: the first rule that it breaks; memory may run out
 abbrev pub IsSetupCause : Setup → RunError → Type 0
 IsSetupCause setup (error.Setup fault) = setup_fault setup ≡ Some fault
 IsSetupCause setup (error.Step number fault) = ⊥
+IsSetupCause setup (error.KeyExhausted side counter) = ⊥
 IsSetupCause setup error.Memory = Unit {0}
 
 -- why a run ended whose step of this number was not played
 abbrev pub run_cause : ℕ → StepError → RunError
 run_cause number (step.Rule fault) = error.Step number fault
+run_cause number (step.KeyExhausted side counter) = error.KeyExhausted side counter
 run_cause number step.Memory = error.Memory
 
+-- a step breaks no rule and has a side seal behind the last number of a key, and the entries are
+-- those of all steps before it and its call
+pub record EndsAtKey (seal : Sealing) (setup : Setup) (steps : List Step) (entries : List Entry) (side : Side)
+    (counter : Counter) : Type 0 where
+  pub before : ℕ
+  pub step : Step
+  pub stands : slice_get steps before ≡ Some step
+  pub past : List Entry
+  pub played : Played seal setup (take before steps) past
+  pub valid : step_fault setup past step ≡ None
+  pub exhausts : Exhausts setup past step side counter
+  pub entries_are : entries ≡ past ++ call_of step
+
 -- why a run ended, and what it brought until then: nothing for a setup that breaks a rule; all
--- steps before the one that breaks a rule, which is the first one; without memory some steps at the
--- front
+-- steps before the one that breaks a rule, which is the first one, or that finds a key used up;
+-- without memory some steps at the front
 abbrev pub HasCause : Sealing → Setup → List Step → List Entry → RunError → Type 0
 HasCause seal setup steps entries (error.Setup fault) =
     (setup_fault setup ≡ Some fault) × (entries ≡ [])
@@ -79,6 +97,8 @@ HasCause seal setup steps entries (error.Step number fault) =
     (setup_fault setup ≡ None) × ((before : ℕ) × (step : Step) × (number ≡ before + 1)
     × (slice_get steps before ≡ Some step)
     × Played seal setup (take before steps) entries × (step_fault setup entries step ≡ Some fault))
+HasCause seal setup steps entries (error.KeyExhausted side counter) =
+    (setup_fault setup ≡ None) × EndsAtKey seal setup steps entries side counter
 HasCause seal setup steps entries error.Memory =
     (played : ℕ) × (played ≤ length steps) × Played seal setup (take played steps) entries
 

@@ -1,18 +1,17 @@
 -- What a session knows of the entries so far.
-use Rattle.std.specs.Prelude.{◌≡◌, ℕ, Bool, true, false, List, [], ◌∷◌, ◌++◌, take, drop, Option, Some, None}
+use Rattle.std.specs.Prelude.{◌≡◌, ◌≤◌, ◌^◌, ℕ, Bool, true, false, List, [], ◌∷◌, ◌++◌, take, drop, Option, Some, None}
 use Rattle.rtp_wire.specs.declared.header.RtpHeader.{RtpHeader}
 use Rattle.srtp_core.specs.Cipher.{CipherMeaning}
 use Rattle.srtp_core.specs.Contexts.{SrtpState, new_state}
 use Rattle.srtp_core.specs.Keys.{session_keys}
 use Rattle.srtp_core.specs.Seals.{sealed_rtp, OpensTo}
-use Rattle.srtp_core.specs.RtcpSeals.{sealed_rtcp}
+use Rattle.srtp_core.specs.RtcpSeals.{sealed_rtcp, stated_bit, stated_index}
 use Rattle.mask_register.specs.declared.register.MaskRegister.{MaskRegister}
 use Rattle.mask_register.specs.MaskRegister.{Remembers}
 use Rattle.session_core.specs.SessionRecord.{SessionView, SessionRecord, StandsFor}
 use Rattle.media_model.specs.declared.entry.Side.{Side}
 use Rattle.media_model.specs.declared.entry.Side.TheVariants.{A, B}
 use Rattle.rtp_base.specs.declared.kind.Kind.{Kind}
-use Rattle.rtp_base.specs.declared.kind.Kind.TheVariants.{Rtp, Rtcp}
 use Rattle.media_model.specs.declared.entry.Packet.{Packet}
 use Rattle.media_model.specs.declared.entry.Got.{Got as GotEntry}
 use Rattle.media_model.specs.declared.entry.Entry.{Entry}
@@ -23,6 +22,7 @@ use Rattle.media_model.specs.Sides.{peer_of}
 use Rattle.media_play.specs.declared.end.Received.{Received}
 use Rattle.media_play.specs.declared.numbers.Numbers.{Numbers}
 use Rattle.media_play.specs.Knowing.{Knows, AreUsed}
+use Rattle.media_play.specs.Feedback.{next_index}
 use Rattle.media_play.specs.Opening.{Sealing, Receives}
 use Rattle.media_play.specs.SetupFacts.{IsSound}
 use Rattle.media_play.specs.Plain.{len_of, read_header}
@@ -32,31 +32,37 @@ abbrev pub is_left : Side → Bool
 is_left A = true
 is_left B = false
 
--- how the sides of a setup seal, with what a cipher means: RTP behind the header
--- that it reads as, RTCP encrypted, so that the E bit is set
+-- how the sides of a setup seal, with what a cipher means: RTP behind the header that it reads as
 abbrev pub sealing_of : CipherMeaning → Setup → Sealing
-sealing_of cipher setup side Rtp ssrc index plain =
-    sealed_rtp cipher setup.profile
-    (session_keys cipher setup.profile (material_of setup) (is_left side)) ssrc index
-    (len_of (read_header setup plain)) plain
-sealing_of cipher setup side Rtcp ssrc index plain =
-    sealed_rtcp cipher setup.profile
-    (session_keys cipher setup.profile (material_of setup) (is_left side)) true index plain
+sealing_of cipher setup = record {
+  rtp = λ side ssrc number plain.
+      sealed_rtp cipher setup.profile
+      (session_keys cipher setup.profile (material_of setup) (is_left side)) ssrc number
+      (len_of (read_header setup plain)) plain;
+  rtcp = λ side encrypted index plain.
+      sealed_rtcp cipher setup.profile
+      (session_keys cipher setup.profile (material_of setup) (is_left side)) encrypted index plain;
+  encrypts = stated_bit setup.profile;
+  states = stated_index setup.profile;
+}
 
 -- one end of a run: its session, and the numbers that were written on each stream that it sends
 pub record EndState : Type 0 where
   pub session : SessionView MaskRegister
   pub written : List Numbers
 
--- the session seals with its side's keys and opens with its peer's, and knows the entries
+-- the session seals with its side's keys, RTCP next under the index that the entries tell, opens with its peer's, and
+-- knows the entries
 pub record Ready (cipher : CipherMeaning) (setup : Setup) (side : Side) (end : EndState)
     (entries : List Entry) : Type 0 where
   pub session : SessionRecord
   pub stands : StandsFor Remembers end.session session
   pub seals : session.state.sealing
-      ≡ Some (new_state cipher setup.profile (material_of setup) (is_left side) 0)
+      ≡ Some (new_state cipher setup.profile (material_of setup) (is_left side)
+      (next_index setup side entries))
   pub opens : session.state.opening
       ≡ Some (new_state cipher setup.profile (material_of setup) (is_left (peer_of side)) 0)
+  pub bounded : next_index setup side entries ≤ 2 ^ 31
   pub knows : Knows setup side session entries
   pub used : AreUsed setup side entries end.written
 
@@ -75,7 +81,7 @@ yielded side (Some packet) = Yielded side packet ∷ []
 abbrev pub received_entries : Side → Option Received → List Entry
 received_entries side None = []
 received_entries side (Some r) =
-    Opened (record { side = side; kind = Rtp; ssrc = r.ssrc; index = r.number; plain = r.plain })
+    Opened (record { side = side; kind = r.kind; ssrc = r.ssrc; index = r.number; plain = r.plain })
     ∷ yielded side r.packet
 
 -- the session takes in bytes of a kind that come to its side: this is what they open to

@@ -1,5 +1,5 @@
 -- A session before any step.
-use Rattle.std.specs.Prelude.{◌≡◌, ℕ, true, false, is_some, List, [], Some, None}
+use Rattle.std.specs.Prelude.{◌≡◌, ◌≤◌, ◌^◌, ℕ, true, false, is_some, List, [], Some, None}
 use Rattle.std.specs.List.{AllByRecursion}
 use Rattle.std.specs.Map.{keys_of}
 use Rattle.mask_register.specs.declared.register.MaskRegister.{MaskRegister}
@@ -14,7 +14,7 @@ use Rattle.session_core.specs.SessionRecord.{MediaRecord, SessionView, SessionRe
 use Rattle.media_model.specs.declared.entry.Side.{Side}
 use Rattle.media_model.specs.declared.setup.Setup.{Setup}
 use Rattle.media_model.specs.Sides.{peer_of}
-use Rattle.media_model.specs.Setup.{material_of, types_of}
+use Rattle.media_model.specs.Setup.{local_of, material_of, types_of}
 use Rattle.media_play.specs.Plain.{extensions_of}
 use Rattle.media_play.specs.Rules.{has}
 use Rattle.media_play.specs.Sessions.{is_left}
@@ -34,9 +34,11 @@ pub record IsUnheard (e : ℕ × RxRecord) : Type 0 where
 pub record Begun (cipher : CipherMeaning) (setup : Setup) (side : Side)
     (sent received : List ℕ) (s : SessionRecord) : Type 0 where
   pub seals : s.state.sealing
-      ≡ Some (new_state cipher setup.profile (material_of setup) (is_left side) 0)
+      ≡ Some (new_state cipher setup.profile (material_of setup) (is_left side)
+      (local_of side setup).srtcp_index)
   pub opens : s.state.opening
       ≡ Some (new_state cipher setup.profile (material_of setup) (is_left (peer_of side)) 0)
+  pub target : s.state.target ≡ setup.mtu.target
   pub runs : s.state.stopped ≡ false
   pub feedback : s.state.feedback ≡ []
   pub application : s.state.application ≡ None
@@ -53,5 +55,6 @@ pub record Begun (cipher : CipherMeaning) (setup : Setup) (side : Side)
 pub record Starts (cipher : CipherMeaning) (setup : Setup) (side : Side)
     (sent received : List ℕ) (view : SessionView MaskRegister) : Type 0 where
   pub session : SessionRecord
+  pub bounded : (local_of side setup).srtcp_index ≤ 2 ^ 31
   pub stands : StandsFor Remembers view session
   pub begun : Begun cipher setup side sent received session

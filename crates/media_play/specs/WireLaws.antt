@@ -2,7 +2,6 @@
 use Rattle.std.specs.Prelude.{◌≡◌, ◌≤◌, ◌+◌, ℕ, List, ◌++◌, length, take, Some}
 use Rattle.rtp_wire.specs.declared.header.RtpHeader.{RtpHeader}
 use Rattle.media_model.specs.declared.entry.Side.{Side}
-use Rattle.rtp_base.specs.declared.kind.Kind.TheVariants.{Rtp}
 use Rattle.media_model.specs.declared.entry.Write.{Write as Writing}
 use Rattle.media_model.specs.declared.setup.Setup.{Setup}
 use Rattle.media_play.specs.Opening.{Sealing}
@@ -19,10 +18,10 @@ pub record WireLaws (seal : Sealing) (setup : Setup) : Type 0 where
       → length plain ≤ 160 + length w.payload
   pub front : (side : Side) (ssrc index : ℕ) (plain : List ℕ) (h : RtpHeader)
       → read_header setup plain ≡ Some h
-      → take h.header_len (seal side Rtp ssrc index plain) ≡ take h.header_len plain
+      → take h.header_len (seal.rtp side ssrc index plain) ≡ take h.header_len plain
   pub tag : (side : Side) (ssrc index : ℕ) (plain : List ℕ) (h : RtpHeader)
       → read_header setup plain ≡ Some h
-      → length (seal side Rtp ssrc index plain) ≤ length plain + 16
+      → length (seal.rtp side ssrc index plain) ≤ length plain + 16
   pub apart : (side : Side) (ssrc index : ℕ) (p q : List ℕ) (h : RtpHeader)
       → read_header setup p ≡ Some h → read_header setup q ≡ Some h
-      → seal side Rtp ssrc index p ≡ seal side Rtp ssrc index q → p ≡ q
+      → seal.rtp side ssrc index p ≡ seal.rtp side ssrc index q → p ≡ q

@@ -1,4 +1,4 @@
-ghost use Rattle.std.specs.Prelude.{◌≡◌, ◌≢◌, ◌∷◌, ◌++◌, ◌<◌, ◌≤◌, List, [], length, Some, None, IfOk, OnOk};
+ghost use Rattle.std.specs.Prelude.{◌≡◌, ◌≢◌, ◌∷◌, ◌++◌, ◌<◌, ◌≤◌, ◌%◌, false, List, [], length, Some, None, IfOk, IfErr, OnOk};
 ghost use Rattle.std.specs.Result.{result_err};
 ghost use Rattle.rtp_wire.specs.Header.{csrc_of};
 ghost use Rattle.stream_core.specs.Tables.{place_of, change_place};
@@ -11,15 +11,16 @@ ghost use Rattle.media_play.specs.Listing.{OnlyAdds};
 ghost use Rattle.media_play.specs.Knowing.{has_written, IsNoted};
 ghost use Rattle.media_play.specs.Packets.{write_at, seals_from, packet_told, told_packet};
 
-use crate::fault::StepFault;
+use crate::fault::{StepError, StepFault};
 use crate::log::Log;
 use crate::numbers::Numbers;
 use crate::starting::{no_numbers, start};
 use mask_register::MaskRegister;
 use media_base::{Bytes, Instant, Listed};
 use media_model::{Kind, Packet, Sealed, Setup, Side, Write};
+use rtcp_wire::{AppSpecificFeedback as Application, items_fit_by_lengths};
 use rtp_wire::{RtpHeader, SeqNo, Ssrc, header_reads_own_bytes, written_header_is_read_again};
-use session_core::{Datagram, Event, Session};
+use session_core::{Datagram, Event, RtcError, Session};
 use srtp_core::SrtpCipher;
 use std::alloc::{AllocError, Global};
 use std::marker::Model;
@@ -37,13 +38,15 @@ const MAX_SOURCES: usize = 15;
 /// What a datagram opened to, and the packet that it gives the application.
 #[derive(Drop)]
 pub struct Received {
-    /// The SSRC of the datagram's header.
+    /// What it carries.
+    pub kind: Kind,
+    /// The SSRC of its header, or of the sender of its first item.
     pub ssrc: Ssrc,
-    /// Its extended sequence number.
+    /// Its extended sequence number, or its SRTCP index.
     pub number: SeqNo,
     /// The datagram as it was before it was sealed.
     pub plain: Bytes,
-    /// None on SSRC 0, under which probes are sent.
+    /// None of RTCP, and on SSRC 0, under which probes are sent.
     pub packet: Option<Packet>,
 }
 
@@ -153,15 +156,22 @@ fn log_all(side: Side, datagrams: Vec<Datagram>, log: &mut Log) -> Result<(), Al
 }
 
 impl<C: SrtpCipher> End<C> {
-    ghost use Rattle.media_model.specs.declared.entry.Entry.TheVariants.{Wrote, Ticked};
+    ghost use Rattle.media_model.specs.declared.entry.Entry.TheVariants.{Wrote, Ticked, Called};
     ghost use Rattle.media_model.specs.Setup.{material_of};
     ghost use Rattle.media_play.specs.Opening.{Sealing};
     ghost use Rattle.media_play.specs.Play.{Played, Seals};
     ghost use Rattle.media_play.specs.Rules.{write_fault};
     ghost use Rattle.media_play.specs.SetupFacts.{IsSound};
-    ghost use Rattle.media_play.specs.SetupRules.{setup_fault};
+    ghost use Rattle.setup_rules.specs.SetupRules.{setup_fault};
     ghost use Rattle.media_play.specs.Sessions.{Ready, TakesIn, sealing_of};
-    ghost use Rattle.rtp_base.specs.declared.kind.Kind.TheVariants.{Rtp};
+    ghost use Rattle.rtp_base.specs.declared.kind.Kind.TheVariants.{Rtp, Rtcp};
+    ghost use Rattle.rtcp_wire.specs.declared.packet.Rtcp.TheVariants.{AppSpecificFeedback};
+    ghost use Rattle.rtcp_wire.specs.Texts.{text_of};
+    ghost use Rattle.media_model.specs.declared.entry.Call.TheVariants as call;
+    ghost use Rattle.media_model.specs.declared.entry.Entry.TheVariants as happening;
+    ghost use Rattle.media_play.specs.Errors.{is_rule, IsSendingCause};
+    ghost use Rattle.media_play.specs.Feedback.{IsSealOfPacket};
+    ghost use Rattle.media_play.specs.Packets.{sealed_from};
 
     /// The end of a side of a setup that breaks no rule, before any step.
     pub fn new(alloc: Global, cipher: C, setup: &Setup, side: Side) -> Result<Self, AllocError>
@@ -261,8 +271,7 @@ impl<C: SrtpCipher> End<C> {
     {
         match kind {
             Kind::Rtp => self.receive_rtp(alloc, time, bytes),
-            // No RTCP is opened yet.
-            Kind::Rtcp => Ok(None),
+            Kind::Rtcp => self.receive_rtcp(time, bytes),
         }
     }
 
@@ -284,11 +293,76 @@ impl<C: SrtpCipher> End<C> {
         };
         let told = self.session.poll_event();
         Ok(Some(Received {
+            kind: Kind::Rtp,
             ssrc: opened.ssrc,
             number: opened.index,
             plain: opened.plain,
             packet: packet_of(alloc, &told)?,
         }))
+    }
+
+    fn receive_rtcp(&mut self, time: Instant, bytes: &[u8]) -> Result<Option<Received>, AllocError>
+        ensures { IfOk result (TakesIn C.meaning self.old Rtcp bytes.now self.new) }
+    {
+        let opened = match self.session.handle_rtcp_receive(time, bytes) {
+            Ok(opened) => opened,
+            Err(_) => return Err(AllocError),
+        };
+        let Some(opened) = opened else {
+            return Ok(None);
+        };
+        // No entry tells of the feedback of an application that came.
+        let _told = self.session.poll_event();
+        Ok(Some(Received {
+            kind: Kind::Rtcp,
+            ssrc: opened.ssrc,
+            number: opened.index,
+            plain: opened.plain,
+            packet: None,
+        }))
+    }
+
+    /// Has the session send feedback of an application, of which nothing else waits, and gives the
+    /// datagram that seals it.
+    pub fn send_application(
+        &mut self,
+        side: Side,
+        time: Instant,
+        feedback: Application,
+    ) -> Result<Datagram, StepError>
+        requires moment { time ≢ 0 }
+        requires whole { length feedback.payload % 4 ≡ 0 }
+        requires few { length feedback.payload ≤ 800 }
+        ensures sealed { IfOk result (λ datagram. (setup : Given) (entries : List Entry)
+            → IsSound setup → Ready C.meaning setup side self.old entries
+            → IsSealOfPacket (sealing_of C.meaning setup) setup side entries
+            (text_of (AppSpecificFeedback feedback)) (sealed_from side datagram)
+            × Ready C.meaning setup side self.new (entries ++ Called side time call.Application
+            ∷ happening.Sealed (sealed_from side datagram) ∷ [])) }
+        ensures refused { IfErr result (λ e. (setup : Given) (entries : List Entry)
+            → IsSound setup → Ready C.meaning setup side self.old entries
+            → IsSendingCause setup side entries e) }
+        ensures no_rule { IfErr result (λ e. is_rule e ≡ false) }
+    {
+        items_fit_by_lengths();
+        let Application {
+            sender_ssrc,
+            media_ssrc,
+            payload,
+        } = feedback;
+        match self
+            .session
+            .send_app_specific_feedback(sender_ssrc, media_ssrc, payload)
+        {
+            Ok(()) => {}
+            Err(_) => return Err(StepError::Memory),
+        }
+        match self.session.poll_datagram(time) {
+            Ok(Some(datagram)) => Ok(datagram),
+            Err(RtcError::KeyExhausted(counter)) => Err(StepError::KeyExhausted(side, counter)),
+            // None comes only without keys, which an end has.
+            Ok(None) | Err(_) => Err(StepError::Memory),
+        }
     }
 
     /// A tick: seals all packets that wait, stream by stream, into the log.

@@ -1,32 +1,11 @@
 ghost use Rattle.std.specs.Prelude.{Some};
-ghost use Rattle.media_play.specs.FaultNames.{setup_fault_name, step_fault_name};
+ghost use Rattle.media_play.specs.FaultNames.{step_fault_name};
 
-use media_model::Transcript;
+use media_model::{Side, Transcript};
+use setup_rules::SetupFault;
+use srtp_core::Counter;
 use std::alloc::AllocError;
 use std::fmt;
-
-/// The first rule that a setup breaks, in this order.
-#[derive(Clone, Copy, Debug, PartialEq, Eq)]
-pub enum SetupFault {
-    /// The key material has another length than the profile's.
-    KeyLength,
-    /// The Unix time of the moment 0 is above 2,075,000,000 s.
-    Times,
-    /// An id of a header extension is outside 1 to 14, or stands twice, or an extension stands
-    /// twice.
-    ExtId,
-    /// A payload type is claimed twice, or is above 127.
-    TypeTwice,
-    /// An SSRC is 0.
-    SsrcZero,
-    /// An SSRC stands twice among the main, RTX and local ones of both sides.
-    SsrcTwice,
-    /// Two media have one mid, or two streams of one media and side one rid. A stream without a rid
-    /// shares every rid.
-    RidTwice,
-    /// A stream has an RTX SSRC, which runs do not support yet.
-    RtxLater,
-}
 
 /// The first rule that a step breaks, in this order.
 #[derive(Clone, Copy, Debug, PartialEq, Eq)]
@@ -51,23 +30,6 @@ pub enum StepFault {
     PayloadTooLong,
     /// There are more than 15 contributing sources, of which no script tells.
     TooManySources,
-}
-
-impl fmt::Display for SetupFault {
-    ghost output = { λ f. Some (setup_fault_name f) };
-
-    fn fmt<W: fmt::Write>(&self, f: &mut fmt::Formatter<W>) -> fmt::Result {
-        match self {
-            SetupFault::KeyLength => write!(f, "KeyLength"),
-            SetupFault::Times => write!(f, "Times"),
-            SetupFault::ExtId => write!(f, "ExtId"),
-            SetupFault::TypeTwice => write!(f, "TypeTwice"),
-            SetupFault::SsrcZero => write!(f, "SsrcZero"),
-            SetupFault::SsrcTwice => write!(f, "SsrcTwice"),
-            SetupFault::RidTwice => write!(f, "RidTwice"),
-            SetupFault::RtxLater => write!(f, "RtxLater"),
-        }
-    }
 }
 
 impl fmt::Display for StepFault {
@@ -96,6 +58,8 @@ pub enum StepError {
     Memory,
     /// The first rule that the step breaks.
     Rule(StepFault),
+    /// The side was to seal a datagram behind the last number of a key.
+    KeyExhausted(Side, Counter),
 }
 
 impl From<AllocError> for StepError {
@@ -120,12 +84,13 @@ impl From<StepFault> for StepError {
     }
 }
 
-/// Why a step was not played, and the transcript of the steps before it.
+/// Why a step was not played, and the transcript until then.
 #[derive(Debug, Drop)]
 pub struct PlayFault {
     /// Why it was not played.
     pub cause: StepError,
-    /// What the steps before it brought, and nothing of this one.
+    /// What the steps before it brought, and of this one its call alone, where a key had no number
+    /// left for what it sends, and else nothing.
     pub sofar: Transcript,
 }
 
@@ -138,6 +103,8 @@ pub enum RunError {
     Setup(SetupFault),
     /// The step of this number, counted from 1, broke a rule.
     Step(u64, StepFault),
+    /// A step had the side seal a datagram behind the last number of a key.
+    KeyExhausted(Side, Counter),
 }
 
 impl From<AllocError> for RunError {
@@ -156,6 +123,6 @@ impl From<AllocError> for RunError {
 pub struct RunFault {
     /// Why it ended.
     pub cause: RunError,
-    /// What the steps that were played brought.
+    /// What the steps that were played brought, and the call that found a key used up.
     pub sofar: Transcript,
 }

@@ -1,15 +1,19 @@
 // What holds of every run.
-ghost use Rattle.std.specs.Prelude.{◌≡◌, ◌++◌, List, None};
+ghost use Rattle.std.specs.Prelude.{◌≡◌, ◌++◌, ◌∷◌, [], List, None};
 ghost use Rattle.media_model.specs.declared.setup.Setup.{Setup};
 ghost use Rattle.media_model.specs.declared.step.Step.{Step};
 ghost use Rattle.media_model.specs.declared.entry.Entry.{Entry};
+ghost use Rattle.media_model.specs.declared.entry.Side.{Side};
+ghost use Rattle.srtp_core.specs.declared.counter.Counter.{Counter};
+ghost use Rattle.media_play.specs.Errors.{call_of};
+ghost use Rattle.media_play.specs.Feedback.{Exhausts};
 ghost use Rattle.media_play.specs.Headline.{HoldsOfRun, HoldsOfFront, NoNonceTwice, SealsAreRight, SendsWrites, StepsAreAnswered, NoPacketTwice, YieldsWrites, FirstSendingsAreYielded, PlaysSteps};
 ghost use Rattle.media_play.specs.Laws.{OfAllPlayed};
 ghost use Rattle.media_play.specs.Opening.{Sealing};
 ghost use Rattle.media_play.specs.Play.{Played};
 ghost use Rattle.media_play.specs.Sessions.{sealing_of};
 ghost use Rattle.media_play.specs.SetupFacts.{IsSound};
-ghost use Rattle.media_play.specs.SetupRules.{setup_fault};
+ghost use Rattle.setup_rules.specs.SetupRules.{setup_fault};
 ghost use Rattle.media_play.specs.WireLaws.{WireLaws};
 
 use rtp_wire::{header_reads_own_bytes, headers_are_as_long};
@@ -17,7 +21,8 @@ use srtp_core::SrtpCipher;
 use srtp_core::laws::{rtp_seal_keeps_header, rtp_seals_apart};
 
 /// All that holds of the entries of a run under a cipher, after any of its steps: whoever has a
-/// `Run` cites it for what `Run::entries` gives. And what holds of each front of these entries.
+/// `Run` cites it for what `Run::entries` gives. And what holds of each front of these entries, and of
+/// them and the call that finds a key used up.
 pub fn holds_of_run<C: SrtpCipher>()
     ensures whole { (setup : Setup) (steps : List Step) (entries : List Entry)
         → setup_fault setup ≡ None
@@ -27,6 +32,11 @@ pub fn holds_of_run<C: SrtpCipher>()
         → setup_fault setup ≡ None
         → Played (sealing_of C.meaning setup) setup steps (front ++ rest)
         → HoldsOfFront (sealing_of C.meaning setup) setup front }
+    ensures exhausted { (setup : Setup) (steps : List Step) (entries : List Entry) (step : Step)
+        (side : Side) (counter : Counter) → setup_fault setup ≡ None
+        → Played (sealing_of C.meaning setup) setup steps entries
+        → Exhausts setup entries step side counter
+        → HoldsOfRun (sealing_of C.meaning setup) setup (entries ++ call_of step) }
 {
     header_reads_own_bytes();
     headers_are_as_long();
@@ -70,10 +80,14 @@ pub fn first_sendings_are_yielded()
     ensures { OfAllPlayed (λ seal setup entries. FirstSendingsAreYielded entries) }
 {}
 
-/// A run plays each step of its script once, in order.
+/// A run plays each step of its script once, in order, up to the call that finds a key used up.
 pub fn plays_steps()
-    ensures { (seal : Sealing) (setup : Setup) (steps : List Step) (entries : List Entry)
+    ensures whole { (seal : Sealing) (setup : Setup) (steps : List Step) (entries : List Entry)
         → Played seal setup steps entries → PlaysSteps steps entries }
+    ensures exhausted { (seal : Sealing) (setup : Setup) (steps : List Step)
+        (entries : List Entry) (step : Step) (side : Side) (counter : Counter)
+        → Played seal setup steps entries → Exhausts setup entries step side counter
+        → PlaysSteps (steps ++ step ∷ []) (entries ++ call_of step) }
 {}
 
 /// Where a run ended within a step, its entries so far are right too.

@@ -8,8 +8,9 @@ mod log;
 mod numbers;
 mod pair;
 mod run;
-mod setup_rules;
 mod starting;
 
-pub use fault::{PlayFault, RunError, RunFault, SetupFault, StepError, StepFault};
+pub use fault::{PlayFault, RunError, RunFault, StepError, StepFault};
 pub use run::{Run, media_run};
+pub use setup_rules::SetupFault;
+pub use srtp_core::Counter;

@@ -104,11 +104,11 @@ impl Log {
     }
 
     /// The datagram that a side sealed as its `k`-th, counted from 0.
-    pub fn datagram(&self, side: Side, k: usize) -> Option<&[u8]>
+    pub fn datagram(&self, side: Side, k: usize) -> Option<&Sealed>
         ensures { option_copied result ≡ slice_get (datagrams side self.now) k }
     {
         match self.place(side, k) {
-            Some(place) => sealed_bytes(self.transcript.entries(), place),
+            Some(place) => sealed_at(self.transcript.entries(), place),
             None => None,
         }
     }
@@ -148,12 +148,12 @@ fn push_both(
     }
 }
 
-// The bytes of the seal that stands at a place.
-fn sealed_bytes(entries: &[Entry], place: usize) -> Option<&[u8]>
+// The seal that stands at a place.
+fn sealed_at(entries: &[Entry], place: usize) -> Option<&Sealed>
     ensures { option_copied result ≡ sealed_at entries.now place }
 {
     match entries.get(place)? {
-        Entry::Sealed(sealed) => Some(sealed.bytes.as_slice()),
+        Entry::Sealed(sealed) => Some(sealed),
         _ => None,
     }
 }

@@ -1,26 +1,31 @@
-ghost use Rattle.std.specs.Prelude.{◌≡◌, ◌≢◌, ◌∷◌, ◌++◌, ◌-◌, ◌<◌, ◌≤◌, ◌^◌, List, [], slice_get, length, Some, None, IfOk, IfErr, OnOk, MatchResult};
+ghost use Rattle.std.specs.Prelude.{◌≡◌, ◌≢◌, ◌∷◌, ◌++◌, ◌-◌, ◌<◌, ◌≤◌, ◌^◌, ◌%◌, false, List, [], slice_get, length, Some, None, IfOk, IfErr, OnOk, MatchResult};
 ghost use Rattle.rtp_wire.specs.BytesLaws.{AreWords};
 ghost use Rattle.media_model.specs.declared.entry.Entry.{Entry as Happening};
-ghost use Rattle.media_model.specs.declared.entry.Entry.TheVariants.{Wrote};
+ghost use Rattle.media_model.specs.declared.entry.Entry.TheVariants.{Wrote, Called};
+ghost use Rattle.media_model.specs.declared.entry.Call.TheVariants as call;
 ghost use Rattle.media_model.specs.declared.step.Step.{Step as Act};
-ghost use Rattle.media_model.specs.declared.step.Step.TheVariants.{Write as WriteStep, Tick as TickStep, Deliver as DeliverStep, Foreign as ForeignStep};
+ghost use Rattle.media_model.specs.declared.step.Step.TheVariants.{Write as WriteStep, Tick as TickStep, Deliver as DeliverStep, Foreign as ForeignStep, Application as ApplicationStep};
 ghost use Rattle.media_model.specs.declared.setup.Setup.{Setup as Given};
 ghost use Rattle.media_model.specs.Sides.{peer_of};
 ghost use Rattle.media_model.specs.Entries.{datagrams};
-ghost use Rattle.media_play.specs.Errors.{IsCauseAt};
+ghost use Rattle.media_play.specs.Errors.{IsCauseAt, is_rule, IsSendingCause, left_by};
 ghost use Rattle.media_play.specs.Listing.{OnlyAdds};
 ghost use Rattle.media_play.specs.Opening.{Sealing, got_as};
-ghost use Rattle.media_play.specs.Play.{Brings, IsTick, IsArrival, Played};
+ghost use Rattle.media_play.specs.Play.{Brings, IsTick, IsArrival, IsCall, Played};
 ghost use Rattle.media_play.specs.Rules.{write_fault, deliver_fault};
 ghost use Rattle.media_play.specs.SetupFacts.{IsSound};
-ghost use Rattle.media_play.specs.SetupRules.{setup_fault};
+ghost use Rattle.setup_rules.specs.SetupRules.{setup_fault};
 ghost use Rattle.media_play.specs.Sessions.{Ready, sealing_of, received_entries};
 
 use crate::end::{End, Received};
 use crate::fault::{StepError, StepFault};
 use crate::log::Log;
 use media_base::{Bytes, Instant, Listed};
-use media_model::{Entry, Got, Kind, Opened, Setup, Side, Step, Transcript, Write};
+use media_model::{
+    ApplicationData, Call, Entry, Got, Kind, Opened, Sealed, Setup, Side, Step, Transcript, Write,
+};
+use rtcp_wire::AppSpecificFeedback as Application;
+use rtp_wire::Ssrc;
 use srtp_core::SrtpCipher;
 use std::alloc::{AllocError, Global};
 use std::marker::Model;
@@ -114,10 +119,10 @@ impl<C: SrtpCipher> Pair<C> {
     }
 
     /// The datagram that the other side sealed as its `number`-th, counted from 1.
-    fn datagram_for(&self, side: Side, number: u64) -> Result<&[u8], StepFault>
+    fn datagram_for(&self, side: Side, number: u64) -> Result<&Sealed, StepFault>
         ensures { MatchResult result
-            (λ bytes. (deliver_fault self.now.log side number ≡ None) × (1 ≤ number)
-            × (slice_get (datagrams (peer_of side) self.now.log) (number - 1) ≡ Some bytes.now))
+            (λ sealed. (deliver_fault self.now.log side number ≡ None) × (1 ≤ number)
+            × (slice_get (datagrams (peer_of side) self.now.log) (number - 1) ≡ Some sealed.now))
             (λ fault. deliver_fault self.now.log side number ≡ Some fault) }
     {
         if number == 0 {
@@ -127,7 +132,7 @@ impl<C: SrtpCipher> Pair<C> {
             return Err(StepFault::UnknownDatagram);
         };
         match self.log.datagram(side.peer(), place) {
-            Some(bytes) => Ok(bytes),
+            Some(sealed) => Ok(sealed),
             None => Err(StepFault::UnknownDatagram),
         }
     }
@@ -143,6 +148,7 @@ impl<C: SrtpCipher> Pair<C> {
             (Plays C.meaning self.old (WriteStep side time write.now) self.new) }
         ensures refused { IfErr result
             (Refuses C.meaning self.old (WriteStep side time write.now)) }
+        ensures unchanged { IfErr result (λ e. e ≢ StepError.Memory → self.new.log ≡ self.old.log) }
         ensures longer { OnlyAdds self.old.log self.new.log }
     {
         self.check_time(time)?;
@@ -157,6 +163,7 @@ impl<C: SrtpCipher> Pair<C> {
     fn tick(&mut self, side: Side, time: Instant) -> Result<(), StepError>
         ensures played { OnOk result (Plays C.meaning self.old (TickStep side time) self.new) }
         ensures refused { IfErr result (Refuses C.meaning self.old (TickStep side time)) }
+        ensures unchanged { IfErr result (λ e. e ≢ StepError.Memory → self.new.log ≡ self.old.log) }
         ensures longer { OnlyAdds self.old.log self.new.log }
     {
         self.check_time(time)?;
@@ -202,11 +209,14 @@ impl<C: SrtpCipher> Pair<C> {
             (Plays C.meaning self.old (DeliverStep side time datagram) self.new) }
         ensures refused { IfErr result
             (Refuses C.meaning self.old (DeliverStep side time datagram)) }
+        ensures unchanged { IfErr result (λ e. e ≢ StepError.Memory → self.new.log ≡ self.old.log) }
         ensures longer { OnlyAdds self.old.log self.new.log }
     {
         self.check_time(time)?;
-        let bytes = Bytes::from_slice(alloc, self.datagram_for(side, datagram)?)?;
-        self.receive(alloc, side, time, Kind::Rtp, bytes)?;
+        let sealed = self.datagram_for(side, datagram)?;
+        let kind = sealed.kind;
+        let bytes = Bytes::from_slice(alloc, sealed.bytes.as_slice())?;
+        self.receive(alloc, side, time, kind, bytes)?;
         Ok(())
     }
 
@@ -222,6 +232,7 @@ impl<C: SrtpCipher> Pair<C> {
             (Plays C.meaning self.old (ForeignStep side time kind bytes.now) self.new) }
         ensures refused { IfErr result
             (Refuses C.meaning self.old (ForeignStep side time kind bytes.now)) }
+        ensures unchanged { IfErr result (λ e. e ≢ StepError.Memory → self.new.log ≡ self.old.log) }
         ensures longer { OnlyAdds self.old.log self.new.log }
     {
         self.check_time(time)?;
@@ -230,10 +241,44 @@ impl<C: SrtpCipher> Pair<C> {
         Ok(())
     }
 
-    /// Plays one step. Where it is not played, what it brought so far may stand behind the entries.
+    fn send_application(
+        &mut self,
+        alloc: Global,
+        side: Side,
+        time: Instant,
+        sender: Ssrc,
+        media: Ssrc,
+        payload: &ApplicationData,
+    ) -> Result<(), StepError>
+        ensures played { OnOk result
+            (Plays C.meaning self.old (ApplicationStep side time sender media payload.now) self.new) }
+        ensures refused { IfErr result
+            (Refuses C.meaning self.old (ApplicationStep side time sender media payload.now)) }
+        ensures called { IfErr result (λ e. e ≢ StepError.Memory → self.new.log ≡ self.old.log
+            ++ left_by (ApplicationStep side time sender media payload.now) e) }
+        ensures longer { OnlyAdds self.old.log self.new.log }
+    {
+        self.check_time(time)?;
+        let feedback = Application {
+            sender_ssrc: sender,
+            media_ssrc: media,
+            payload: Bytes::from_slice(alloc, payload.as_slice())?,
+        };
+        match side {
+            Side::A => call_step(&mut self.a, &mut self.log, side, time, feedback)?,
+            Side::B => call_step(&mut self.b, &mut self.log, side, time, feedback)?,
+        }
+        self.latest = time;
+        Ok(())
+    }
+
+    /// Plays one step. Where it is not played for want of memory, what it brought so far may stand
+    /// behind the entries.
     pub fn play(&mut self, alloc: Global, step: &Step) -> Result<(), StepError>
         ensures played { OnOk result (Plays C.meaning self.old step.now self.new) }
         ensures refused { IfErr result (Refuses C.meaning self.old step.now) }
+        ensures called { IfErr result (λ e. e ≢ StepError.Memory → self.new.log ≡ self.old.log
+            ++ left_by step.now e) }
         ensures longer { OnlyAdds self.old.log self.new.log }
     {
         match step {
@@ -250,6 +295,13 @@ impl<C: SrtpCipher> Pair<C> {
                 kind,
                 bytes,
             } => self.foreign(alloc, *side, *time, *kind, bytes),
+            Step::Application {
+                side,
+                time,
+                sender,
+                media,
+                payload,
+            } => self.send_application(alloc, *side, *time, *sender, *media, payload),
         }
     }
 }
@@ -295,6 +347,7 @@ fn write_step<C: SrtpCipher>(
         → Ready C.meaning setup side end.old entries
         → IsCauseAt (write_fault setup entries side write.now) e) }
     ensures wrote { OnOk result (log.new ≡ log.old ++ Wrote side time write.now ∷ []) }
+    ensures unchanged { IfErr result (λ e. e ≢ StepError.Memory → log.new ≡ log.old) }
     ensures fits { OnOk result ((write.now.ssrc < 2 ^ 32) × (write.now.rtp_time < 2 ^ 32)
         × AreWords write.now.csrc) }
     ensures longer { OnlyAdds log.old log.new }
@@ -324,6 +377,42 @@ fn tick_step<C: SrtpCipher>(
 {
     log.push(Entry::Ticked(side, time))?;
     end.tick(side, time, log)?;
+    Ok(())
+}
+
+// The call of an application, and the datagram that seals its feedback.
+fn call_step<C: SrtpCipher>(
+    end: &mut End<C>,
+    log: &mut Log,
+    side: Side,
+    time: Instant,
+    feedback: Application,
+) -> Result<(), StepError>
+    requires moment { time ≢ 0 }
+    requires whole { length feedback.payload % 4 ≡ 0 }
+    requires few { length feedback.payload ≤ 800 }
+    ensures ready { OnOk result ((setup : Given) → IsSound setup
+        → Ready C.meaning setup side end.old log.old
+        → IsCall (sealing_of C.meaning setup) setup side time feedback.sender_ssrc
+        feedback.media_ssrc feedback.payload log.old log.new
+        × Ready C.meaning setup side end.new log.new) }
+    ensures refused { IfErr result (λ e. (setup : Given) (entries : List Happening) → IsSound setup
+        → Ready C.meaning setup side end.old entries → IsSendingCause setup side entries e) }
+    ensures called { IfErr result (λ e. e ≢ StepError.Memory
+        → log.new ≡ log.old ++ Called side time call.Application ∷ []) }
+    ensures no_rule { IfErr result (λ e. is_rule e ≡ false) }
+    ensures longer { OnlyAdds log.old log.new }
+{
+    log.push(Entry::Called(side, time, Call::Application))?;
+    let datagram = end.send_application(side, time, feedback)?;
+    log.push_sealed(Sealed {
+        side,
+        kind: datagram.kind,
+        ssrc: datagram.ssrc,
+        index: datagram.index,
+        plain: datagram.plain,
+        bytes: datagram.bytes,
+    })?;
     Ok(())
 }
 
@@ -362,7 +451,7 @@ fn push_received(log: &mut Log, side: Side, received: Option<Received>) -> Resul
     };
     log.push(Entry::Opened(Opened {
         side,
-        kind: Kind::Rtp,
+        kind: received.kind,
         ssrc: received.ssrc,
         index: received.number,
         plain: received.plain,

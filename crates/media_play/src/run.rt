@@ -1,17 +1,18 @@
-ghost use Rattle.std.specs.Prelude.{◌≡◌, List, [], None, IfOk, IfErr};
+ghost use Rattle.std.specs.Prelude.{◌≡◌, ◌++◌, List, [], None, IfOk, IfErr};
 ghost use Rattle.media_model.specs.declared.step.Step.{Step as Act};
 ghost use Rattle.media_model.specs.declared.setup.Setup.{Setup as Given};
+ghost use Rattle.media_play.specs.Errors.{left_by};
 ghost use Rattle.media_play.specs.Headline.{HoldsOfRun, StepsAreAnswered, SealsAreRight, NoNonceTwice, SendsWrites, YieldsWrites, NoPacketTwice, FirstSendingsAreYielded};
 ghost use Rattle.media_play.specs.Play.{Played};
 ghost use Rattle.media_play.specs.Running.{HasCause, OfRun, run_cause};
-ghost use Rattle.media_play.specs.SetupRules.{setup_fault};
+ghost use Rattle.setup_rules.specs.SetupRules.{setup_fault};
 ghost use Rattle.media_play.specs.Sessions.{sealing_of};
 
 use crate::fault::{PlayFault, RunError, RunFault, StepError};
 use crate::laws::holds_of_run;
 use crate::pair::Pair;
-use crate::setup_rules::check_setup;
 use media_model::{Entry, Setup, Step, Transcript};
+use setup_rules::check_setup;
 use srtp_core::SrtpCipher;
 use std::alloc::Global;
 use std::marker::Model;
@@ -57,22 +58,30 @@ impl<C: SrtpCipher> Run<C> {
     /// Plays one step more, whose entries then stand behind those before it.
     ///
     /// # Errors
-    /// `Rule`, exactly with the first rule that the step breaks; `Memory`. Either way the fault has
-    /// the transcript of the steps before, and nothing of this one.
+    /// `Rule`, exactly with the first rule that the step breaks; `KeyExhausted`, exactly where it breaks
+    /// none and a side was to seal a datagram behind the last number of a key; `Memory`. The fault has
+    /// the transcript of the steps before, and of this one its call alone where a key was used up.
     pub fn play(self, alloc: Global, step: &Step) -> Result<Self, PlayFault>
         ensures played { IfOk result (Plays C.meaning self step.now) }
         ensures refused { IfErr result (λ fault. Refuses C.meaning self step.now fault.cause) }
-        ensures sofar { IfErr result (λ fault. fault.sofar ≡ self.log) }
+        ensures sofar { IfErr result (λ fault. fault.sofar ≡ self.log ++ left_by step.now fault.cause) }
     {
         let Run { mut pair } = self;
         let len = pair.len();
         match pair.play(alloc, step) {
             Ok(()) => Ok(Run { pair }),
-            Err(cause) => {
+            Err(StepError::Memory) => {
                 let mut sofar = Box::into_inner(pair).into_transcript();
                 sofar.truncate(len);
-                Err(PlayFault { cause, sofar })
+                Err(PlayFault {
+                    cause: StepError::Memory,
+                    sofar,
+                })
             }
+            Err(cause) => Err(PlayFault {
+                cause,
+                sofar: Box::into_inner(pair).into_transcript(),
+            }),
         }
     }
 
@@ -100,6 +109,10 @@ fn fault_at(number: u64, fault: PlayFault) -> RunFault
     match cause {
         StepError::Rule(rule) => RunFault {
             cause: RunError::Step(number, rule),
+            sofar,
+        },
+        StepError::KeyExhausted(side, counter) => RunFault {
+            cause: RunError::KeyExhausted(side, counter),
             sofar,
         },
         StepError::Memory => RunFault {
@@ -147,8 +160,9 @@ fn play_all<C: SrtpCipher>(
 ///
 /// # Errors
 /// `Setup`, exactly with the first rule that the setup breaks; `Step`, exactly at the first step
-/// that breaks a rule, with the first rule that it breaks; `Memory`. The fault has the transcript
-/// of the steps that were played.
+/// that breaks a rule, with the first rule that it breaks; `KeyExhausted`, exactly where a step has a
+/// side seal a datagram behind the last number of a key; `Memory`. The fault has the transcript of the
+/// steps that were played, and the call that found a key used up.
 pub fn media_run<C: SrtpCipher>(
     alloc: Global,
     setup: &Setup,
@@ -161,14 +175,14 @@ pub fn media_run<C: SrtpCipher>(
     ensures cause { IfErr result (λ f.
         HasCause (sealing_of C.meaning setup.now) setup.now steps.now f.sofar f.cause) }
 
-    // A write brings nothing. A tick seals all queued writes, stream by stream. What comes is
-    // opened exactly where it opens, and its packet yielded.
+    // A write brings nothing. A tick seals all queued writes, stream by stream. A call seals its
+    // feedback. What comes is opened exactly where it opens, and its packet yielded.
     ensures steps { OfRun result (StepsAreAnswered (sealing_of C.meaning setup.now) setup.now) }
     // Each sealed datagram is a seal under its side's keys.
     ensures seals { OfRun result (SealsAreRight (sealing_of C.meaning setup.now) setup.now) }
     // No two datagrams of a direction share a nonce.
     ensures nonces { OfRun result NoNonceTwice }
-    // Each sealed datagram carries one earlier write of its side, none twice.
+    // Each sealed RTP datagram carries one earlier write of its side, none twice.
     ensures sendings { OfRun result (SendsWrites setup.now) }
     // In a genuine run each packet yielded is a write of the other side; in every run none is
     // yielded twice.

@@ -13,7 +13,7 @@ ghost use Rattle.media_play.specs.Knowing.{UsedAs};
 ghost use Rattle.media_play.specs.Listing.{NoRepeat};
 ghost use Rattle.media_play.specs.Rules.{has};
 ghost use Rattle.media_play.specs.Sessions.{is_left};
-ghost use Rattle.media_play.specs.SetupRules.{setup_fault};
+ghost use Rattle.setup_rules.specs.SetupRules.{is_mtu, setup_fault};
 ghost use Rattle.media_play.specs.Starting.{Starts};
 
 use crate::numbers::Numbers;
@@ -22,8 +22,7 @@ use media_base::Bytes;
 use media_model::{Media, MediaKind, Setup, Side, Stream};
 use rtp_wire::{Frequency, Mid, MidRid};
 use session_core::{
-    DATAGRAM_MTU, DATAGRAM_MTU_WARN, Media as Section, MediaKind as SectionKind, Mtu, PayloadTypes,
-    Session, SessionConfig, TypeRow,
+    Media as Section, MediaKind as SectionKind, Mtu, PayloadTypes, Session, SessionConfig, TypeRow,
 };
 use srtp_core::{KeyingMaterial, SrtpCipher};
 use std::alloc::{AllocError, Global};
@@ -73,7 +72,8 @@ fn with_keys<C: SrtpCipher>(
     setup: &Setup,
     side: Side,
 ) -> Result<Session<C, MaskRegister>, AllocError>
-    requires { length (material_of setup.now) ≡ material_len setup.now.profile }
+    requires key { length (material_of setup.now) ≡ material_len setup.now.profile }
+    requires mtu { is_mtu setup.now.mtu ≡ true }
     ensures { IfOk result (Starts C.meaning setup.now side [] []) }
 {
     let material = KeyingMaterial::new(alloc, &setup.material(alloc)?)?;
@@ -83,10 +83,10 @@ fn with_keys<C: SrtpCipher>(
             id: identification(side),
             beginning: setup.beginning,
             mtu: Mtu {
-                target: DATAGRAM_MTU,
-                warn: DATAGRAM_MTU_WARN,
+                target: setup.mtu.target as usize,
+                warn: setup.mtu.warn as usize,
             },
-            srtcp_index: 0,
+            srtcp_index: setup.local(side).srtcp_index.get(),
             exts: setup.extension_map(),
             types: payload_types(alloc, setup)?,
         },

@@ -3,9 +3,9 @@ use Rattle.std.proofs.Common.{◌≡◌, ℕ, ◌^◌, lit≤, List, [], ◌∷�
 use Rattle.std.specs.Prelude.{codes}
 use Rattle.media_script.specs.declared.setup_line.SetupLine.{SetupLine}
 use Rattle.media_script.specs.declared.setup_line.SetupLine.TheVariants as line
-use Rattle.media_script.specs.Grammar.{cipher_line, profile_line, key_line, unix_line, ext_line, type_line, media_line, stream_line, no_other, named_kinds, named_line_of, setup_kinds, setup_line_of, in_few}
+use Rattle.media_script.specs.Grammar.{cipher_line, profile_line, key_line, unix_line, mtu_line, rtcp_line, local_line, ext_line, type_line, media_line, stream_line, no_other, side_kinds, side_line_of, named_kinds, named_line_of, setup_kinds, setup_line_of, in_few}
 use Rattle.media_script.specs.Spelling.{IsSetupLine}
-use Rattle.media_script.proofs.WordLaws.{number_spelled, number_again, narrow_spelled, narrow_again, side_spelled, side_again, cipher_spelled, cipher_again, profile_spelled, profile_again, key_spelled, key_again, extension_spelled, extension_again, codec_spelled, codec_again, media_kind_spelled, media_kind_again, rate_spelled, rate_again, name_spelled, name_again, rtx_spelled, rtx_again, rid_spelled, rid_again}
+use Rattle.media_script.proofs.WordLaws.{number_spelled, number_again, index_spelled, index_again, narrow_spelled, narrow_again, side_spelled, side_again, cipher_spelled, cipher_again, profile_spelled, profile_again, key_spelled, key_again, extension_spelled, extension_again, codec_spelled, codec_again, media_kind_spelled, media_kind_again, rate_spelled, rate_again, name_spelled, name_again, rtx_spelled, rtx_again, rid_spelled, rid_again}
 use Rattle.media_script.proofs.KindLaws.{Tells, done_tells, then_tells, look_up_tells, none_tells}
 
 -- the words behind this first word
@@ -23,6 +23,20 @@ key_tells = then_tells key_spelled (λ w key is. done_tells (w, is, refl))
 
 unix_tells : Tells unix_line (Behind (codes "unix"))
 unix_tells = then_tells number_spelled (λ w secs is. done_tells (is.1, λ i. codes "unix" ∷ is.0 i ∷ []))
+
+mtu_tells : Tells mtu_line (Behind (codes "mtu"))
+mtu_tells =
+    then_tells number_spelled (λ t target is. then_tells number_spelled (λ w warn has.
+    done_tells (is.1, has.1, λ i. codes "mtu" ∷ is.0 i ∷ has.0 i ∷ [])))
+
+rtcp_tells : Tells rtcp_line (Behind (codes "rtcp"))
+rtcp_tells =
+    then_tells side_spelled (λ s side of. then_tells index_spelled (λ w index is. done_tells (is.1, λ i. codes "rtcp" ∷ of i ∷ is.0 i ∷ [])))
+
+local_tells : Tells local_line (Behind (codes "local"))
+local_tells =
+    then_tells side_spelled (λ s side of. then_tells (narrow_spelled (2 ^ 32)) (λ n ssrc is.
+    done_tells (is.1, λ i. codes "local" ∷ of i ∷ is.0 i ∷ [])))
 
 ext_tells : Tells ext_line (Behind (codes "ext"))
 ext_tells =
@@ -45,22 +59,30 @@ stream_tells =
     then_tells rtx_spelled (λ w rtx again. then_tells rid_spelled (λ v rid layer.
     done_tells (w, v, of.1, is.1, again, layer, λ i. codes "stream" ∷ from i ∷ of.0 i ∷ is.0 i ∷ w ∷ v ∷ []))))))
 
+side_line_spelled : (words : List (List ℕ)) (said : SetupLine) → side_line_of words ≡ Some said → IsSetupLine words said
+unfolding side_line_of
+side_line_spelled = look_up_tells IsSetupLine no_other side_kinds (rtcp_tells, (local_tells, tt)) (none_tells IsSetupLine)
+
 named_line_spelled : (words : List (List ℕ)) (said : SetupLine) → named_line_of words ≡ Some said → IsSetupLine words said
 unfolding named_line_of
-named_line_spelled = look_up_tells IsSetupLine no_other named_kinds (media_tells, (stream_tells, tt)) (none_tells IsSetupLine)
+named_line_spelled = look_up_tells IsSetupLine side_line_of named_kinds (media_tells, (stream_tells, tt)) side_line_spelled
 
 -- what a setup line says is how it is spelled
 pub setup_line_spelled : (words : List (List ℕ)) (said : SetupLine) → setup_line_of words ≡ Some said → IsSetupLine words said
 unfolding setup_line_of
-setup_line_spelled = look_up_tells IsSetupLine named_line_of setup_kinds (cipher_tells, (profile_tells, (key_tells, (unix_tells, (ext_tells, (type_tells, tt)))))) named_line_spelled
+setup_line_spelled = look_up_tells IsSetupLine named_line_of setup_kinds (cipher_tells, (profile_tells, (key_tells, (unix_tells, (mtu_tells, (ext_tells, (type_tells, tt))))))) named_line_spelled
 
 -- and what is spelled so is read
 pub setup_line_again : (words : List (List ℕ)) (said : SetupLine) → IsSetupLine words said → in_few setup_line_of words ≡ Some said
-unfolding setup_line_of named_line_of
+unfolding setup_line_of named_line_of side_line_of
 setup_line_again words (line.Cipher cipher) is = ap (in_few setup_line_of) is ∙ rw (cipher_again cipher) refl
 setup_line_again words (line.Profile profile) is = ap (in_few setup_line_of) is ∙ rw (profile_again profile) refl
 setup_line_again words (line.Key key) is = ap (in_few setup_line_of) is.2 ∙ rw (key_again is.0 key is.1) refl
 setup_line_again words (line.Unix beginning) is = ap (in_few setup_line_of) is.1 ∙ rw (number_again beginning.unix_secs is.0) refl
+setup_line_again words (line.Mtu mtu) is = ap (in_few setup_line_of) is.2 ∙ rw (number_again mtu.target is.0, number_again mtu.warn is.1) refl
+setup_line_again words (line.Rtcp side index) is = ap (in_few setup_line_of) is.1 ∙ rw (side_again side, index_again index is.0) refl
+setup_line_again words (line.Local side ssrc) is =
+    ap (in_few setup_line_of) is.1 ∙ rw (side_again side, narrow_again (2 ^ 32) ssrc (lit≤ tt) is.0) refl
 setup_line_again words (line.Ext named) is =
     ap (in_few setup_line_of) is.1 ∙ rw (narrow_again (2 ^ 8) named.id (lit≤ tt) is.0, extension_again named.extension) refl
 setup_line_again words (line.Type t) is =

@@ -6,10 +6,10 @@ use Rattle.media_model.specs.declared.entry.Side.{Side}
 use Rattle.media_model.specs.declared.entry.Write.{Write}
 use Rattle.media_model.specs.declared.step.Step.{Step}
 use Rattle.media_model.specs.declared.step.Step.TheVariants as step
-use Rattle.media_script.specs.Grammar.{sources_in, packet_step, write_step, tick_step, deliver_step, foreign_step, no_other, step_kinds, step_of, in_few}
+use Rattle.media_script.specs.Grammar.{sources_in, packet_step, write_step, tick_step, deliver_step, foreign_step, app_step, no_other, step_kinds, step_of, in_few}
 use Rattle.media_script.specs.Spelling.{IsTime, IsHex, AreSources, Fits, IsStep}
 use Rattle.media_script.specs.Names.{side_text, flag_text}
-use Rattle.media_script.proofs.WordLaws.{number_spelled, number_again, narrow_spelled, narrow_again, time_spelled, time_again, side_spelled, side_again, kind_spelled, kind_again, flag_spelled, flag_again, hex_spelled, hex_again, sources_spelled, sources_again}
+use Rattle.media_script.proofs.WordLaws.{number_spelled, number_again, narrow_spelled, narrow_again, time_spelled, time_again, side_spelled, side_again, kind_spelled, kind_again, flag_spelled, flag_again, hex_spelled, hex_again, app_data_spelled, app_data_again, sources_spelled, sources_again}
 use Rattle.media_script.proofs.KindLaws.{Tells, done_tells, then_tells, rest_tells, look_up_tells, none_tells}
 
 -- the words behind this first word
@@ -50,12 +50,18 @@ deliver_tells =
 foreign_tells : Tells foreign_step (Behind (codes "foreign"))
 foreign_tells =
     then_tells side_spelled (λ s side by. then_tells time_spelled (λ t time at. then_tells kind_spelled (λ w kind of. then_tells hex_spelled (λ h bytes is.
-    done_tells (t, h, at, is, of.1, λ i. codes "foreign" ∷ by i ∷ t ∷ of.0 i ∷ h ∷ [])))))
+    done_tells (t, h, at, is, λ i. codes "foreign" ∷ by i ∷ t ∷ of i ∷ h ∷ [])))))
+
+app_tells : Tells app_step (Behind (codes "app"))
+app_tells =
+    then_tells side_spelled (λ s side by. then_tells time_spelled (λ t time at. then_tells (narrow_spelled (2 ^ 32)) (λ w3 sender n3.
+    then_tells (narrow_spelled (2 ^ 32)) (λ w4 media n4. then_tells app_data_spelled (λ h payload is.
+    done_tells (t, h, at, n3.1, n4.1, is.0, is.1, λ i. codes "app" ∷ by i ∷ t ∷ n3.0 i ∷ n4.0 i ∷ h ∷ []))))))
 
 -- what a line says is how it is spelled
 pub step_spelled : (words : List (List ℕ)) (did : Step) → step_of words ≡ Some did → IsStep words did
 unfolding step_of
-step_spelled = look_up_tells IsStep no_other step_kinds (write_tells, (tick_tells, (deliver_tells, (foreign_tells, tt)))) (none_tells IsStep)
+step_spelled = look_up_tells IsStep no_other step_kinds (write_tells, (tick_tells, (deliver_tells, (foreign_tells, (app_tells, tt))))) (none_tells IsStep)
 
 -- the words of a write, with these behind the payload
 abbrev write_words : Side → Write → List ℕ → List ℕ → List (List ℕ) → List (List ℕ)
@@ -103,4 +109,13 @@ step_again words (step.Deliver side time k) is =
 step_again words (step.Write side time w) is =
     ap (in_few step_of) is.7 ∙ write_again side time w is.0 is.1 is.2 is.3 is.4 is.5 is.6
 step_again words (step.Foreign side time kind bytes) is =
-    ap (in_few step_of) is.5 ∙ rw (side_again side, time_again is.0 time is.2, kind_again kind is.4, hex_again is.1 bytes is.3) refl
+    ap (in_few step_of) is.4 ∙ rw (side_again side, time_again is.0 time is.2, kind_again kind, hex_again is.1 bytes is.3) refl
+step_again words (step.Application side time sender media payload) is =
+    ap (in_few step_of) is.7
+    ∙ rw (
+      side_again side,
+      time_again is.0 time is.2,
+      narrow_again (2 ^ 32) sender (lit≤ tt) is.3,
+      narrow_again (2 ^ 32) media (lit≤ tt) is.4,
+      app_data_again is.1 payload is.5 is.6,
+    ) refl

@@ -21,7 +21,7 @@ use Rattle.hex.specs.declared.error.FromHexError.{FromHexError}
 use Rattle.media_model.specs.declared.entry.Side.{Side}
 use Rattle.media_model.specs.declared.entry.Side.TheVariants.{A, B}
 use Rattle.rtp_base.specs.declared.kind.Kind.{Kind}
-use Rattle.rtp_base.specs.declared.kind.Kind.TheVariants.{Rtp}
+use Rattle.rtp_base.specs.declared.kind.Kind.TheVariants.{Rtp, Rtcp}
 use Rattle.media_model.specs.declared.setup.CipherName.{CipherName}
 use Rattle.media_model.specs.declared.setup.CipherName.TheVariants.{Toy, Sha}
 use Rattle.media_model.specs.declared.setup.Codec.{Codec}
@@ -30,10 +30,11 @@ use Rattle.media_model.specs.declared.setup.Key.{Key}
 use Rattle.media_model.specs.declared.setup.Key.TheVariants.{Zero, Given}
 use Rattle.media_model.specs.declared.setup.MediaKind.{MediaKind}
 use Rattle.media_model.specs.declared.setup.MediaKind.TheVariants.{Audio, Video}
+use Rattle.media_model.specs.Application.{AreFew, are_few, data_of}
 use Rattle.rtp_wire.specs.Bytes.{words_of as numbers_in}
 use Rattle.rtp_wire.specs.declared.extension.Extension.{Extension}
 use Rattle.rtp_wire.specs.declared.extension.Extension.TheVariants.{AudioLevel, AbsoluteSendTime, TransportSequenceNumber, RtpMid, RtpStreamId, RepairedRtpStreamId, VideoOrientation, AbsoluteCaptureTime, PlayoutDelay}
-use Rattle.media_script.specs.Words.{◌>>=◌, below, plain_front, is_number, number_of, narrow_of, has_ms, time_of, side_of, flag_of, hex_of, kind_of, key_of, one_of, ciphers, cipher_of, profiles, profile_of, codecs, codec_of, media_kind_of, rate_of, is_name, name_of, extensions, extension_of, numbers_of, has_c, sources_of, optional}
+use Rattle.media_script.specs.Words.{◌>>=◌, below, plain_front, is_number, number_of, narrow_of, has_ms, time_of, side_of, flag_of, hex_of, app_data_of, kinds, kind_of, index_of, key_of, one_of, ciphers, cipher_of, profiles, profile_of, codecs, codec_of, media_kind_of, rate_of, is_name, name_of, extensions, extension_of, numbers_of, has_c, sources_of, optional}
 use Rattle.media_script.specs.Names.{side_text, flag_text, kind_text, cipher_text, profile_text, codec_text, media_kind_text, extension_text}
 use Rattle.media_script.specs.Spelling.{IsTime, IsHex, IsName, IsKey, IsOptional, IsSsrc, IsNamed, IsSources}
 
@@ -195,15 +196,38 @@ hex_again word bytes (inr digits) = go (bytes_eq word (codes "-")) refl where
       let some : eqb (length word) 0 ≡ false = grind (arith, nat_tests, digits.0) in
       rw (p, some, digits.1) refl
 
-pub kind_spelled : (word : List ℕ) (kind : Kind) → kind_of word ≡ Some kind → (word ≡ kind_text kind) × (kind ≡ Rtp)
-unfolding kind_of
-kind_spelled word kind e =
-    let a = if_some (bytes_eq word (codes "rtp")) Rtp kind e in
-    (equal word (codes "rtp") a.0 ∙ ap kind_text a.1, sym a.1)
+-- what an application sends as feedback
+pub app_data_spelled : (word payload : List ℕ) → app_data_of word ≡ Some payload → IsHex word payload × AreFew payload
+unfolding app_data_of
+app_data_spelled word payload e =
+    let a = bind_some (hex_of word) (λ bytes. data_of bytes) payload e in
+    let b = if_some (are_few a.0) a.0 payload a.2 in
+    let c = both (eqb (length a.0 % 4) 0) (leb (length a.0) 800) b.0 in
+    let few : AreFew a.0 = record { whole = grind (arith, nat_tests, c.0); few = grind (arith, nat_tests, c.1) } in
+    let P : List ℕ → Type 0 = λ bytes. IsHex word bytes × AreFew bytes in
+    subst P b.1 (hex_spelled word a.0 a.1, few)
 
-pub kind_again : (kind : Kind) → kind ≡ Rtp → kind_of (kind_text kind) ≡ Some kind
-unfolding kind_of
-kind_again kind is = let P : Kind → Type 0 = λ k. kind_of (kind_text k) ≡ Some k in subst P (sym is) refl
+pub app_data_again : (word payload : List ℕ) → IsHex word payload → AreFew payload → app_data_of word ≡ Some payload
+unfolding app_data_of
+app_data_again word payload is few =
+    let whole : eqb (length payload % 4) 0 ≡ true = grind (arith, nat_tests, few.whole) in
+    let small : leb (length payload) 800 ≡ true = grind (arith, nat_tests, few.few) in
+    rw (hex_again word payload is, whole, small) refl
+
+-- an index of SRTCP
+pub index_spelled : (word : List ℕ) (index : ℕ) → index_of word ≡ Some index → (word ≡ decimal index) × (index ≤ 2 ^ 31)
+unfolding index_of
+index_spelled word index e =
+    let a = bind_some (number_of word) (λ n. cond (leb n (2 ^ 31)) (Some n) None) index e in
+    let b = if_some (leb a.0 (2 ^ 31)) a.0 index a.2 in
+    let small : a.0 ≤ 2 ^ 31 = grind (arith, nat_tests, b.0) in
+    ((number_spelled word a.0 a.1).0 ∙ ap decimal b.1, subst (λ k. k ≤ 2 ^ 31) b.1 small)
+
+pub index_again : (index : ℕ) → index ≤ 2 ^ 31 → index_of (decimal index) ≡ Some index
+unfolding index_of
+index_again index le =
+    let small : leb index (2 ^ 31) ≡ true = grind (arith, nat_tests, le) in
+    rw (number_again index (omega (arith, le)), small) refl
 
 pub key_spelled : (word : List ℕ) (key : Key) → key_of word ≡ Some key → IsKey word key
 unfolding key_of
@@ -234,6 +258,15 @@ one_spelled {X} text (y ∷ xs) word x e = go (one_spelled text xs word x) (byte
   go : (one_of text xs word ≡ Some x → word ≡ text x) → (b : Bool) → bytes_eq word (text y) ≡ b → cond b (Some y) (one_of text xs word) ≡ Some x → word ≡ text x
   go next true p e' = let is : y ≡ x = cc in equal word (text y) p ∙ ap text is
   go next false p e' = next e'
+
+pub kind_spelled : (word : List ℕ) (kind : Kind) → kind_of word ≡ Some kind → word ≡ kind_text kind
+unfolding kind_of
+kind_spelled word kind e = one_spelled kind_text kinds word kind e
+
+pub kind_again : (kind : Kind) → kind_of (kind_text kind) ≡ Some kind
+unfolding kind_of
+kind_again Rtp = refl
+kind_again Rtcp = refl
 
 pub cipher_spelled : (word : List ℕ) (cipher : CipherName) → cipher_of word ≡ Some cipher → word ≡ cipher_text cipher
 unfolding cipher_of

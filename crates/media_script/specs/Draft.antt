@@ -2,6 +2,8 @@
 use Rattle.std.specs.Prelude.{ℕ, List, [], ◌∷◌, ◌++◌, Bool, Option, Some, None, if◌then◌else◌}
 use Rattle.std.specs.Str.{bytes_eq}
 use Rattle.srtp_core.specs.declared.profile.SrtpProfile.TheVariants.{AeadAes128Gcm}
+use Rattle.media_model.specs.declared.entry.Side.{Side}
+use Rattle.media_model.specs.declared.entry.Side.TheVariants.{A, B}
 use Rattle.media_model.specs.declared.setup.CipherName.TheVariants.{Toy}
 use Rattle.media_model.specs.declared.setup.Stream.{Stream}
 use Rattle.media_model.specs.declared.setup.Media.{Media}
@@ -28,10 +30,23 @@ blank = record {
   profile = AeadAes128Gcm;
   key = None;
   beginning = record { unix_secs = 1700000000 };
+  mtu = record { target = 1150; warn = 1280 };
+  a = record { ssrc = 1; srtcp_index = 0 };
+  b = record { ssrc = 2; srtcp_index = 0 };
   exts = [];
   types = [];
   media = [];
 }
+
+-- the index of a side's first SRTCP datagram
+abbrev pub with_index : Side → ℕ → Draft → Draft
+with_index A index draft = record draft { a = record draft.a { srtcp_index = index } }
+with_index B index draft = record draft { b = record draft.b { srtcp_index = index } }
+
+-- the SSRC under which a side speaks of what it receives
+abbrev pub with_ssrc : Side → ℕ → Draft → Draft
+with_ssrc A ssrc draft = record draft { a = record draft.a { ssrc = ssrc } }
+with_ssrc B ssrc draft = record draft { b = record draft.b { ssrc = ssrc } }
 
 -- what one line more says
 abbrev pub told : Draft → SetupLine → Draft
@@ -39,6 +54,9 @@ told draft (line.Cipher cipher) = record draft { cipher = cipher }
 told draft (line.Profile profile) = record draft { profile = profile }
 told draft (line.Key key) = record draft { key = Some key }
 told draft (line.Unix beginning) = record draft { beginning = beginning }
+told draft (line.Mtu mtu) = record draft { mtu = mtu }
+told draft (line.Rtcp side index) = with_index side index draft
+told draft (line.Local side ssrc) = with_ssrc side ssrc draft
 told draft (line.Ext named) = record draft { exts = draft.exts ++ named ∷ [] }
 told draft (line.Type payload_type) = record draft { types = draft.types ++ payload_type ∷ [] }
 told draft (line.Media mid kind cname) =
@@ -52,6 +70,9 @@ setup_of draft = draft.key >>= λ key. Some (record {
   profile = draft.profile;
   key = key;
   beginning = draft.beginning;
+  mtu = draft.mtu;
+  a = draft.a;
+  b = draft.b;
   exts = draft.exts;
   types = draft.types;
   media = draft.media;

@@ -14,7 +14,7 @@ use Rattle.media_model.specs.declared.step.Step.TheVariants as step
 use Rattle.media_script.specs.Draft.{setup_of}
 use Rattle.media_script.specs.Order.{none_said, with_line}
 use Rattle.media_script.specs.Spelling.{words_of, is_passed_over}
-use Rattle.media_script.specs.Words.{◌>>=◌, number_of, narrow_of, time_of, side_of, flag_of, hex_of, kind_of, cipher_of, profile_of, key_of, codec_of, media_kind_of, rate_of, name_of, extension_of, sources_of, optional}
+use Rattle.media_script.specs.Words.{◌>>=◌, number_of, narrow_of, time_of, side_of, flag_of, hex_of, app_data_of, kind_of, index_of, cipher_of, profile_of, key_of, codec_of, media_kind_of, rate_of, name_of, extension_of, sources_of, optional}
 
 -- the words without where they lie in memory
 abbrev pub texts : List (Bor (List ℕ)) → List (List ℕ)
@@ -62,6 +62,24 @@ key_line = and_then key_of (λ key. done (line.Key key))
 abbrev pub unix_line : List (List ℕ) → Option SetupLine
 unix_line = and_then number_of (λ secs. done (line.Unix (record { unix_secs = secs })))
 
+abbrev pub mtu_line : List (List ℕ) → Option SetupLine
+mtu_line =
+    and_then number_of (λ target.
+    and_then number_of (λ warn.
+    done (line.Mtu (record { target = target; warn = warn }))))
+
+abbrev pub rtcp_line : List (List ℕ) → Option SetupLine
+rtcp_line =
+    and_then side_of (λ side.
+    and_then index_of (λ index.
+    done (line.Rtcp side index)))
+
+abbrev pub local_line : List (List ℕ) → Option SetupLine
+local_line =
+    and_then side_of (λ side.
+    and_then (narrow_of (2 ^ 32)) (λ ssrc.
+    done (line.Local side ssrc)))
+
 abbrev pub ext_line : List (List ℕ) → Option SetupLine
 ext_line =
     and_then (narrow_of (2 ^ 8)) (λ id.
@@ -91,12 +109,19 @@ stream_line =
     and_then (optional (name_of 16)) (λ rid.
     done (line.Stream mid (record { side = side; ssrc = ssrc; rtx = rtx; rid = rid })))))))
 
+abbrev pub side_kinds : List (List ℕ × (List (List ℕ) → Option SetupLine))
+side_kinds = (codes "rtcp", rtcp_line) ∷ (codes "local", local_line) ∷ []
+
+-- what the lines of one side say
+unfoldable pub side_line_of : List (List ℕ) → Option SetupLine
+side_line_of words = look_up no_other side_kinds words
+
 abbrev pub named_kinds : List (List ℕ × (List (List ℕ) → Option SetupLine))
 named_kinds = (codes "media", media_line) ∷ (codes "stream", stream_line) ∷ []
 
--- what the lines of media and streams say
+-- what the lines of media, of streams and of one side say
 unfoldable pub named_line_of : List (List ℕ) → Option SetupLine
-named_line_of words = look_up no_other named_kinds words
+named_line_of words = look_up side_line_of named_kinds words
 
 abbrev pub setup_kinds : List (List ℕ × (List (List ℕ) → Option SetupLine))
 setup_kinds =
@@ -104,6 +129,7 @@ setup_kinds =
     ∷ (codes "profile", profile_line)
     ∷ (codes "key", key_line)
     ∷ (codes "unix", unix_line)
+    ∷ (codes "mtu", mtu_line)
     ∷ (codes "ext", ext_line)
     ∷ (codes "type", type_line)
     ∷ []
@@ -168,12 +194,22 @@ foreign_step =
     and_then hex_of (λ bytes.
     done (step.Foreign side time kind bytes)))))
 
+abbrev pub app_step : List (List ℕ) → Option Step
+app_step =
+    and_then side_of (λ side.
+    and_then time_of (λ time.
+    and_then (narrow_of (2 ^ 32)) (λ sender.
+    and_then (narrow_of (2 ^ 32)) (λ media.
+    and_then app_data_of (λ payload.
+    done (step.Application side time sender media payload))))))
+
 abbrev pub step_kinds : List (List ℕ × (List (List ℕ) → Option Step))
 step_kinds =
     (codes "write", write_step)
     ∷ (codes "tick", tick_step)
     ∷ (codes "deliver", deliver_step)
     ∷ (codes "foreign", foreign_step)
+    ∷ (codes "app", app_step)
     ∷ []
 
 -- the step of a line

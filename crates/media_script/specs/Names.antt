@@ -4,6 +4,8 @@ use Rattle.srtp_core.specs.declared.profile.SrtpProfile.{SrtpProfile}
 use Rattle.srtp_core.specs.declared.profile.SrtpProfile.TheVariants.{Aes128CmSha1_80, AeadAes128Gcm, AeadAes256Gcm}
 use Rattle.media_model.specs.declared.entry.Side.{Side}
 use Rattle.media_model.specs.declared.entry.Side.TheVariants.{A, B}
+use Rattle.media_model.specs.declared.entry.Call.{Call}
+use Rattle.media_model.specs.declared.entry.Call.TheVariants.{Application}
 use Rattle.rtp_base.specs.declared.kind.Kind.{Kind}
 use Rattle.rtp_base.specs.declared.kind.Kind.TheVariants.{Rtp, Rtcp}
 use Rattle.media_model.specs.declared.setup.CipherName.{CipherName}
@@ -22,6 +24,10 @@ side_text B = codes "B"
 abbrev pub kind_text : Kind → List ℕ
 kind_text Rtp = codes "rtp"
 kind_text Rtcp = codes "rtcp"
+
+-- what an application asks of its session
+abbrev pub call_text : Call → List ℕ
+call_text Application = codes "app"
 
 abbrev pub flag_text : Bool → List ℕ
 flag_text false = codes "0"

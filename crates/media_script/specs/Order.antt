@@ -22,6 +22,9 @@ word (line.Cipher cipher) = codes "cipher"
 word (line.Profile profile) = codes "profile"
 word (line.Key key) = codes "key"
 word (line.Unix beginning) = codes "unix"
+word (line.Mtu mtu) = codes "mtu"
+word (line.Rtcp side index) = codes "rtcp"
+word (line.Local side ssrc) = codes "local"
 word (line.Ext named) = codes "ext"
 word (line.Type payload_type) = codes "type"
 word (line.Media mid kind cname) = codes "media"
@@ -29,6 +32,8 @@ word (line.Stream mid stream) = codes "stream"
 
 -- it may stand once in a script, for a side or for an SSRC; or any number of times
 abbrev pub per : SetupLine → Option Per
+per (line.Rtcp side index) = Some (per_of.Side side)
+per (line.Local side ssrc) = Some (per_of.Side side)
 per (line.Ext named) = None
 per (line.Type payload_type) = None
 per (line.Media mid kind cname) = None

@@ -4,7 +4,7 @@ use Rattle.std.specs.Char.{is_ascii_alphanumeric}
 use Rattle.std.specs.Fmt.{decimal}
 use Rattle.std.specs.List.{slice_split, flat_map, AllByRecursion, AllPass}
 use Rattle.hex.specs.Hex.{decode_of}
-use Rattle.rtp_base.specs.declared.kind.Kind.TheVariants.{Rtp}
+use Rattle.media_model.specs.Application.{AreFew}
 use Rattle.media_model.specs.declared.entry.Write.{Write}
 use Rattle.media_model.specs.declared.setup.Key.{Key}
 use Rattle.media_model.specs.declared.setup.Key.TheVariants.{Zero, Given}
@@ -56,6 +56,14 @@ IsSetupLine words (line.Profile profile) = words ≡ codes "profile" ∷ profile
 IsSetupLine words (line.Key key) = (k : List ℕ) × IsKey k key × (words ≡ codes "key" ∷ k ∷ [])
 IsSetupLine words (line.Unix beginning) =
     (beginning.unix_secs < 2 ^ 64) × (words ≡ codes "unix" ∷ decimal beginning.unix_secs ∷ [])
+-- the most bytes that a datagram of RTCP is to have, and above how many any datagram is longer than wanted
+IsSetupLine words (line.Mtu mtu) =
+    (mtu.target < 2 ^ 64) × (mtu.warn < 2 ^ 64) × (words ≡ codes "mtu" ∷ decimal mtu.target ∷ decimal mtu.warn ∷ [])
+-- the index of a side's first SRTCP datagram
+IsSetupLine words (line.Rtcp side index) = (index ≤ 2 ^ 31) × (words ≡ codes "rtcp" ∷ side_text side ∷ decimal index ∷ [])
+-- the SSRC under which a side speaks of what it receives
+IsSetupLine words (line.Local side ssrc) = (ssrc < 2 ^ 32) × (words ≡ codes "local" ∷ side_text side ∷ decimal ssrc ∷ [])
+-- an id and the header extension that it names
 IsSetupLine words (line.Ext named) =
     (named.id < 2 ^ 8) × (words ≡ codes "ext" ∷ decimal named.id ∷ extension_text named.extension ∷ [])
 IsSetupLine words (line.Type t) =
@@ -97,8 +105,12 @@ IsStep words (step.Write side time w) =
     × (words ≡ codes "write" ∷ side_text side ∷ t ∷ decimal w.ssrc ∷ decimal w.number ∷ decimal w.pt ∷ decimal w.rtp_time
     ∷ flag_text w.marker ∷ flag_text w.nackable ∷ h ∷ c)
 IsStep words (step.Foreign side time kind bytes) =
-    (t : List ℕ) × (h : List ℕ) × IsTime t time × IsHex h bytes × (kind ≡ Rtp)
+    (t : List ℕ) × (h : List ℕ) × IsTime t time × IsHex h bytes
     × (words ≡ codes "foreign" ∷ side_text side ∷ t ∷ kind_text kind ∷ h ∷ [])
+-- feedback of an application: the SSRC that it is from, the one that it is about, and whole words of 4 bytes
+IsStep words (step.Application side time sender media payload) =
+    (t : List ℕ) × (h : List ℕ) × IsTime t time × (sender < 2 ^ 32) × (media < 2 ^ 32) × IsHex h payload × AreFew payload
+    × (words ≡ codes "app" ∷ side_text side ∷ t ∷ decimal sender ∷ decimal media ∷ h ∷ [])
 
 -- one space stands between two words
 abbrev pub words_of : List ℕ → List (List ℕ)

@@ -8,10 +8,10 @@ use Rattle.media_model.specs.declared.entry.Got.{Got as GotEntry}
 use Rattle.media_model.specs.declared.entry.Sealed.{Sealed as SealedEntry}
 use Rattle.media_model.specs.declared.entry.Opened.{Opened as OpenedEntry}
 use Rattle.media_model.specs.declared.entry.Entry.{Entry}
-use Rattle.media_model.specs.declared.entry.Entry.TheVariants.{Wrote, Ticked, Sealed, Got, Opened, Yielded}
+use Rattle.media_model.specs.declared.entry.Entry.TheVariants.{Wrote, Ticked, Called, Sealed, Got, Opened, Yielded}
 use Rattle.media_model.specs.declared.setup.Setup.{Setup}
 use Rattle.media_model.specs.Genuine.{is_genuine, repairs_widen}
-use Rattle.media_script.specs.Names.{side_text, kind_text, flag_text}
+use Rattle.media_script.specs.Names.{side_text, kind_text, call_text, flag_text}
 
 -- two digits of a byte
 abbrev pub byte_text : ℕ → List ℕ
@@ -44,6 +44,7 @@ yielded_text side packet =
 abbrev pub line_text : Entry → List ℕ
 line_text (Wrote side time write) = words (codes "wrote" ∷ side_text side ∷ decimal write.ssrc ∷ decimal write.number ∷ [])
 line_text (Ticked side time) = words (codes "ticked" ∷ side_text side ∷ decimal time ∷ [])
+line_text (Called side time call) = words (codes "called" ∷ side_text side ∷ call_text call ∷ [])
 line_text (Got got) = got_text got
 line_text (Sealed sealed) = sealed_text sealed
 line_text (Opened opened) = opened_text opened

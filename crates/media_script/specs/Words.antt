@@ -11,7 +11,7 @@ use Rattle.srtp_core.specs.declared.profile.SrtpProfile.TheVariants.{Aes128CmSha
 use Rattle.media_model.specs.declared.entry.Side.{Side}
 use Rattle.media_model.specs.declared.entry.Side.TheVariants.{A, B}
 use Rattle.rtp_base.specs.declared.kind.Kind.{Kind}
-use Rattle.rtp_base.specs.declared.kind.Kind.TheVariants.{Rtp}
+use Rattle.rtp_base.specs.declared.kind.Kind.TheVariants.{Rtp, Rtcp}
 use Rattle.media_model.specs.declared.setup.CipherName.{CipherName}
 use Rattle.media_model.specs.declared.setup.CipherName.TheVariants.{Toy, Sha}
 use Rattle.media_model.specs.declared.setup.Codec.{Codec}
@@ -20,10 +20,11 @@ use Rattle.media_model.specs.declared.setup.Key.{Key}
 use Rattle.media_model.specs.declared.setup.Key.TheVariants.{Zero, Given}
 use Rattle.media_model.specs.declared.setup.MediaKind.{MediaKind}
 use Rattle.media_model.specs.declared.setup.MediaKind.TheVariants.{Audio, Video}
+use Rattle.media_model.specs.Application.{data_of}
 use Rattle.rtp_wire.specs.Bytes.{words_of as numbers_in}
 use Rattle.rtp_wire.specs.declared.extension.Extension.{Extension}
 use Rattle.rtp_wire.specs.declared.extension.Extension.TheVariants.{AudioLevel, AbsoluteSendTime, TransportSequenceNumber, RtpMid, RtpStreamId, RepairedRtpStreamId, VideoOrientation, AbsoluteCaptureTime, PlayoutDelay}
-use Rattle.media_script.specs.Names.{cipher_text, profile_text, codec_text, media_kind_text, extension_text}
+use Rattle.media_script.specs.Names.{kind_text, cipher_text, profile_text, codec_text, media_kind_text, extension_text}
 
 infixl 10 ◌>>=◌
 abbrev pub ◌>>=◌ : {A B : Type 0} → Option A → (A → Option B) → Option B
@@ -73,9 +74,17 @@ hex_of word =
     if bytes_eq word (codes "-") then Some []
     else (if length word == 0 then None else result_ok (decode_of word))
 
--- the kinds of datagrams that a script may hand in
-unfoldable pub kind_of : List ℕ → Option Kind
-kind_of word = if bytes_eq word (codes "rtp") then Some Rtp else None
+-- what an application sends as feedback: whole words of 4 bytes, at most 800 bytes
+unfoldable pub app_data_of : List ℕ → Option (List ℕ)
+app_data_of word = do
+  bytes ← hex_of word
+  data_of bytes
+
+-- an index of SRTCP, at most 2^31
+unfoldable pub index_of : List ℕ → Option ℕ
+index_of word = do
+  n ← number_of word
+  if nat_le n (2 ^ 31) then Some n else None
 
 unfoldable pub key_of : List ℕ → Option Key
 key_of word =
@@ -86,6 +95,13 @@ key_of word =
 abbrev pub one_of : {X : Type 0} → (X → List ℕ) → List X → List ℕ → Option X
 one_of text [] word = None
 one_of text (x ∷ xs) word = if bytes_eq word (text x) then Some x else one_of text xs word
+
+-- the kinds of datagrams that a script may hand in
+abbrev pub kinds : List Kind
+kinds = Rtp ∷ Rtcp ∷ []
+
+unfoldable pub kind_of : List ℕ → Option Kind
+kind_of word = one_of kind_text kinds word
 
 abbrev pub ciphers : List CipherName
 ciphers = Toy ∷ Sha ∷ []

@@ -1,18 +1,27 @@
 // What setup lines say together.
 ghost use Rattle.std.specs.Prelude.{◌≡◌};
 ghost use Rattle.media_script.specs.Gives.{Gives};
-ghost use Rattle.media_script.specs.Draft.{blank, told, setup_of};
+ghost use Rattle.media_script.specs.Draft.{blank, with_index, with_ssrc, told, setup_of};
 
 use crate::error::LineError;
 use crate::media_list::MediaList;
 use crate::setup_line::SetupLine;
 use media_base::{Beginning, Listed};
-use media_model::{CipherName, Key, Media, NamedExtension, PayloadType, Setup};
+use media_model::{
+    CipherName, Key, Local, Media, Mtu, NamedExtension, PayloadType, Setup, Side, SrtcpIndex,
+};
+use rtp_wire::Ssrc;
 use srtp_core::SrtpProfile;
 use std::alloc::Global;
 
 // The Unix time at which a run begins where no line says it, in November 2023.
 const DEFAULT_UNIX_SECS: u64 = 1_700_000_000;
+
+// How long datagrams are to be where no line says it.
+const DEFAULT_MTU: Mtu = Mtu {
+    target: 1150,
+    warn: 1280,
+};
 
 /// What the setup lines so far say, and the default of each that does not stand.
 #[derive(Debug, Drop)]
@@ -22,6 +31,11 @@ pub struct Draft {
     /// Required.
     pub key: Option<Key>,
     pub beginning: Beginning,
+    pub mtu: Mtu,
+    /// What side A alone brings.
+    pub a: Local,
+    /// What side B alone brings.
+    pub b: Local,
     pub exts: Listed<NamedExtension>,
     pub types: Listed<PayloadType>,
     pub media: MediaList,
@@ -39,9 +53,38 @@ impl Draft {
             beginning: Beginning {
                 unix_secs: DEFAULT_UNIX_SECS,
             },
+            mtu: DEFAULT_MTU,
+            a: Local {
+                ssrc: Ssrc::from(1),
+                srtcp_index: SrtcpIndex::FIRST,
+            },
+            b: Local {
+                ssrc: Ssrc::from(2),
+                srtcp_index: SrtcpIndex::FIRST,
+            },
             exts: Listed::new(alloc),
             types: Listed::new(alloc),
             media: MediaList::new(alloc),
+        }
+    }
+
+    // The index of a side's first SRTCP datagram.
+    fn set_index(&mut self, side: Side, index: SrtcpIndex)
+        ensures { self.new ≡ with_index side index self.old }
+    {
+        match side {
+            Side::A => self.a.srtcp_index = index,
+            Side::B => self.b.srtcp_index = index,
+        }
+    }
+
+    // The SSRC under which a side speaks of what it receives.
+    fn set_ssrc(&mut self, side: Side, ssrc: Ssrc)
+        ensures { self.new ≡ with_ssrc side ssrc self.old }
+    {
+        match side {
+            Side::A => self.a.ssrc = ssrc,
+            Side::B => self.b.ssrc = ssrc,
         }
     }
 
@@ -54,6 +97,9 @@ impl Draft {
             SetupLine::Profile(profile) => self.profile = profile,
             SetupLine::Key(key) => self.key = Some(key),
             SetupLine::Unix(beginning) => self.beginning = beginning,
+            SetupLine::Mtu(mtu) => self.mtu = mtu,
+            SetupLine::Rtcp(side, index) => self.set_index(side, index),
+            SetupLine::Local(side, ssrc) => self.set_ssrc(side, ssrc),
             SetupLine::Ext(named) => self.exts.push(named)?,
             SetupLine::Type(payload_type) => self.types.push(payload_type)?,
             SetupLine::Media { mid, kind, cname } => self.media.push(Media {
@@ -77,6 +123,9 @@ impl Draft {
             profile: self.profile,
             key,
             beginning: self.beginning,
+            mtu: self.mtu,
+            a: self.a,
+            b: self.b,
             exts: self.exts,
             types: self.types,
             media: self.media.into_listed(),

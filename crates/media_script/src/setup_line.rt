@@ -2,7 +2,9 @@ ghost use Rattle.std.specs.Prelude.{◌≡◌};
 ghost use Rattle.media_script.specs.Order.{word, per, slot, needs, gives};
 
 use media_base::{Beginning, Bytes};
-use media_model::{CipherName, Key, MediaKind, NamedExtension, PayloadType, Side, Stream};
+use media_model::{
+    CipherName, Key, MediaKind, Mtu, NamedExtension, PayloadType, Side, SrtcpIndex, Stream,
+};
 use rtp_wire::{Mid, Ssrc};
 use srtp_core::SrtpProfile;
 use std::marker::Model;
@@ -14,6 +16,11 @@ pub enum SetupLine {
     Profile(SrtpProfile),
     Key(Key),
     Unix(Beginning),
+    Mtu(Mtu),
+    /// The index of the side's first SRTCP datagram.
+    Rtcp(Side, SrtcpIndex),
+    /// The SSRC under which the side speaks of what it receives.
+    Local(Side, Ssrc),
     Ext(NamedExtension),
     Type(PayloadType),
     Media {
@@ -71,6 +78,9 @@ impl SetupLine {
             SetupLine::Profile(_) => b"profile",
             SetupLine::Key(_) => b"key",
             SetupLine::Unix(_) => b"unix",
+            SetupLine::Mtu(_) => b"mtu",
+            SetupLine::Rtcp(_, _) => b"rtcp",
+            SetupLine::Local(_, _) => b"local",
             SetupLine::Ext(_) => b"ext",
             SetupLine::Type(_) => b"type",
             SetupLine::Media { .. } => b"media",
@@ -87,6 +97,7 @@ impl SetupLine {
             | SetupLine::Type(_)
             | SetupLine::Media { .. }
             | SetupLine::Stream { .. } => None,
+            SetupLine::Rtcp(side, _) | SetupLine::Local(side, _) => Some(Per::Side(*side)),
             _ => Some(Per::Script),
         }
     }

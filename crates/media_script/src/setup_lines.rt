@@ -1,7 +1,7 @@
 // The words of a setup line.
 ghost use Rattle.std.specs.Prelude.{◌≡◌};
 ghost use Rattle.media_script.specs.Gives.{Gives};
-ghost use Rattle.media_script.specs.Grammar.{texts, cipher_line, profile_line, key_line, unix_line, ext_line, type_line, media_line, stream_line, named_line_of, setup_line_of, in_few};
+ghost use Rattle.media_script.specs.Grammar.{texts, cipher_line, profile_line, key_line, unix_line, mtu_line, rtcp_line, local_line, ext_line, type_line, media_line, stream_line, side_line_of, named_line_of, setup_line_of, in_few};
 ghost use Rattle.media_script.specs.Spelling.{words_of};
 
 use crate::error::LineError;
@@ -10,9 +10,10 @@ use crate::setup_line::SetupLine;
 use crate::words::{
     cipher as cipher_word, codec, extension, key as key_word, media_kind, mid, name, number,
     number_8, number_32, optional_32, optional_name, profile as profile_word, rate, rid, side,
+    srtcp_index,
 };
 use media_base::{Beginning, Bytes};
-use media_model::{NamedExtension, PayloadType, Stream};
+use media_model::{Mtu, NamedExtension, PayloadType, Stream};
 use rtp_wire::{Pt, Ssrc};
 use std::alloc::Global;
 
@@ -50,6 +51,36 @@ fn unix(words: &[&[u8]]) -> Result<SetupLine, LineError>
         [secs] => Ok(SetupLine::Unix(Beginning {
             unix_secs: number(secs)?,
         })),
+        _ => Err(LineError::Outside),
+    }
+}
+
+fn mtu(words: &[&[u8]]) -> Result<SetupLine, LineError>
+    ensures { Gives (λ l. l) result (mtu_line (texts words.now)) }
+{
+    match words {
+        [target, warn] => Ok(SetupLine::Mtu(Mtu {
+            target: number(target)?,
+            warn: number(warn)?,
+        })),
+        _ => Err(LineError::Outside),
+    }
+}
+
+fn rtcp(words: &[&[u8]]) -> Result<SetupLine, LineError>
+    ensures { Gives (λ l. l) result (rtcp_line (texts words.now)) }
+{
+    match words {
+        [of, index] => Ok(SetupLine::Rtcp(side(of)?, srtcp_index(index)?)),
+        _ => Err(LineError::Outside),
+    }
+}
+
+fn local(words: &[&[u8]]) -> Result<SetupLine, LineError>
+    ensures { Gives (λ l. l) result (local_line (texts words.now)) }
+{
+    match words {
+        [of, ssrc] => Ok(SetupLine::Local(side(of)?, Ssrc::from(number_32(ssrc)?))),
         _ => Err(LineError::Outside),
     }
 }
@@ -113,6 +144,24 @@ fn stream(words: &[&[u8]]) -> Result<SetupLine, LineError>
     }
 }
 
+#[tactic(auto, unfolding(crate::specs::Grammar::side_line_of))]
+fn side_line(words: &[&[u8]]) -> Result<SetupLine, LineError>
+    ensures { Gives (λ l. l) result (side_line_of (texts words.now)) }
+{
+    match words {
+        [] => Err(LineError::Outside),
+        [kind, rest @ ..] => {
+            if *kind == b"rtcp".as_slice() {
+                rtcp(rest)
+            } else if *kind == b"local".as_slice() {
+                local(rest)
+            } else {
+                Err(LineError::Outside)
+            }
+        }
+    }
+}
+
 #[tactic(auto, unfolding(crate::specs::Grammar::named_line_of))]
 fn named_line(alloc: Global, words: &[&[u8]]) -> Result<SetupLine, LineError>
     ensures { Gives (λ l. l) result (named_line_of (texts words.now)) }
@@ -125,7 +174,7 @@ fn named_line(alloc: Global, words: &[&[u8]]) -> Result<SetupLine, LineError>
             } else if *kind == b"stream".as_slice() {
                 stream(rest)
             } else {
-                Err(LineError::Outside)
+                side_line(words)
             }
         }
     }
@@ -146,6 +195,8 @@ fn setup_line_in(alloc: Global, words: &[&[u8]]) -> Result<SetupLine, LineError>
                 key(alloc, rest)
             } else if *kind == b"unix".as_slice() {
                 unix(rest)
+            } else if *kind == b"mtu".as_slice() {
+                mtu(rest)
             } else if *kind == b"ext".as_slice() {
                 ext(rest)
             } else if *kind == b"type".as_slice() {

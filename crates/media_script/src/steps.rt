@@ -1,13 +1,14 @@
 // The words of a step.
 ghost use Rattle.std.specs.Prelude.{◌≡◌};
 ghost use Rattle.media_script.specs.Gives.{Gives};
-ghost use Rattle.media_script.specs.Grammar.{texts, sources_in, packet_step, write_step, tick_step, deliver_step, foreign_step, step_of, in_few};
+ghost use Rattle.media_script.specs.Grammar.{texts, sources_in, packet_step, write_step, tick_step, deliver_step, foreign_step, app_step, step_of, in_few};
 ghost use Rattle.media_script.specs.Spelling.{words_of};
 
 use crate::error::LineError;
 use crate::lines::{is_long, words};
 use crate::words::{
-    flag, hex, kind as kind_word, number, number_8, number_32, side, sources as sources_word, time,
+    application_data, flag, hex, kind as kind_word, number, number_8, number_32, side,
+    sources as sources_word, time,
 };
 use media_base::{Bytes, Instant, Listed};
 use media_model::{Side, Step, Write};
@@ -105,6 +106,21 @@ fn foreign(alloc: Global, words: &[&[u8]]) -> Result<Step, LineError>
     }
 }
 
+fn app(alloc: Global, words: &[&[u8]]) -> Result<Step, LineError>
+    ensures { Gives (λ s. s) result (app_step (texts words.now)) }
+{
+    match words {
+        [by, at, sender, media, payload] => Ok(Step::Application {
+            side: side(by)?,
+            time: Instant::from_nanos(time(at)?),
+            sender: Ssrc::from(number_32(sender)?),
+            media: Ssrc::from(number_32(media)?),
+            payload: application_data(alloc, payload)?,
+        }),
+        _ => Err(LineError::Outside),
+    }
+}
+
 #[tactic(auto, unfolding(crate::specs::Grammar::step_of))]
 fn step_in(alloc: Global, words: &[&[u8]]) -> Result<Step, LineError>
     ensures { Gives (λ s. s) result (step_of (texts words.now)) }
@@ -120,6 +136,8 @@ fn step_in(alloc: Global, words: &[&[u8]]) -> Result<Step, LineError>
                 deliver(rest)
             } else if *kind == b"foreign".as_slice() {
                 foreign(alloc, rest)
+            } else if *kind == b"app".as_slice() {
+                app(alloc, rest)
             } else {
                 Err(LineError::Outside)
             }

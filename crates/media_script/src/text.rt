@@ -1,9 +1,9 @@
 // The text of a transcript.
 ghost use Rattle.std.specs.Prelude.{◌≡◌, ◌++◌, Some, IfOk, OnOk, string_bytes};
-ghost use Rattle.media_script.specs.Names.{side_text, kind_text, flag_text};
+ghost use Rattle.media_script.specs.Names.{side_text, kind_text, call_text, flag_text};
 ghost use Rattle.media_script.specs.Text.{byte_text, hex_text, answer_text, got_text, sealed_text, opened_text, yielded_text, line_text, entries_text, end_text, text_of};
 
-use media_model::{Entry, Got, Kind, Opened, Packet, Sealed, Setup, Side, Transcript};
+use media_model::{Call, Entry, Got, Kind, Opened, Packet, Sealed, Setup, Side, Transcript};
 use std::alloc::{AllocError, Global};
 use std::fmt;
 use std::fmt::Write;
@@ -34,6 +34,20 @@ impl fmt::Display for KindName {
         match self.0 {
             Kind::Rtp => write!(f, "rtp"),
             Kind::Rtcp => write!(f, "rtcp"),
+        }
+    }
+}
+
+// The word for what an application asks of its session.
+#[derive(Clone, Copy)]
+struct CallName(Call);
+
+impl fmt::Display for CallName {
+    ghost output = { λ c. Some (call_text c.0) };
+
+    fn fmt<W: fmt::Write>(&self, f: &mut fmt::Formatter<W>) -> fmt::Result {
+        match self.0 {
+            Call::Application => write!(f, "app"),
         }
     }
 }
@@ -162,6 +176,11 @@ pub fn put_entry(text: &mut String, entry: &Entry) -> Result<(), AllocError>
             let side = SideName(*side);
             let time = time.as_nanos();
             write!(text, "ticked {side} {time}")
+        }
+        Entry::Called(side, _, call) => {
+            let side = SideName(*side);
+            let call = CallName(*call);
+            write!(text, "called {side} {call}")
         }
         Entry::Got(got) => put_got(text, got),
         Entry::Sealed(sealed) => put_sealed(text, sealed),

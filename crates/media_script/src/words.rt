@@ -3,13 +3,13 @@ ghost use Rattle.std.specs.Prelude.{◌≡◌, ◌^◌, IsTrue, IfOk};
 ghost use Rattle.std.specs.Option.{ForSome, option_copied};
 ghost use Rattle.std.specs.Char.{is_ascii_alphanumeric};
 ghost use Rattle.std.specs.List.{list_all};
-ghost use Rattle.media_script.specs.Words.{plain_front, number_of, narrow_of, time_of, side_of, flag_of, hex_of, kind_of, cipher_of, profile_of, key_of, codec_of, media_kind_of, rate_of, is_name, name_of, extension_of, numbers_of, sources_of, optional};
+ghost use Rattle.media_script.specs.Words.{plain_front, number_of, narrow_of, time_of, side_of, flag_of, hex_of, app_data_of, kind_of, index_of, cipher_of, profile_of, key_of, codec_of, media_kind_of, rate_of, is_name, name_of, extension_of, numbers_of, sources_of, optional};
 ghost use Rattle.media_script.specs.Gives.{Gives};
 
 use crate::error::LineError;
 use hex::FromHexError;
 use media_base::Bytes;
-use media_model::{CipherName, Codec, Key, Kind, MediaKind, Side};
+use media_model::{ApplicationData, CipherName, Codec, Key, Kind, MediaKind, Side, SrtcpIndex};
 use rtp_wire::{Extension, Mid, Rid};
 use srtp_core::SrtpProfile;
 use std::alloc::Global;
@@ -130,12 +130,37 @@ pub fn hex(alloc: Global, word: &[u8]) -> Result<Vec<u8>, LineError>
     }
 }
 
+// What an application sends as feedback, in hex.
+#[tactic(auto, unfolding(crate::specs::Words::app_data_of))]
+pub fn application_data(alloc: Global, word: &[u8]) -> Result<ApplicationData, LineError>
+    ensures { Gives (λ d. d) result (app_data_of word.now) }
+{
+    let bytes = hex(alloc, word)?;
+    match ApplicationData::new(Bytes::from_vec(bytes)) {
+        Some(payload) => Ok(payload),
+        None => Err(LineError::Outside),
+    }
+}
+
+// An index of SRTCP, at most 2^31.
+#[tactic(auto, unfolding(crate::specs::Words::index_of))]
+pub fn srtcp_index(word: &[u8]) -> Result<SrtcpIndex, LineError>
+    ensures { Gives (λ i. i) result (index_of word.now) }
+{
+    match SrtcpIndex::new(number(word)?) {
+        Some(index) => Ok(index),
+        None => Err(LineError::Outside),
+    }
+}
+
 #[tactic(auto, unfolding(crate::specs::Words::kind_of))]
 pub fn kind(word: &[u8]) -> Result<Kind, LineError>
     ensures { Gives (λ k. k) result (kind_of word.now) }
 {
     if word == b"rtp".as_slice() {
         Ok(Kind::Rtp)
+    } else if word == b"rtcp".as_slice() {
+        Ok(Kind::Rtcp)
     } else {
         Err(LineError::Outside)
     }

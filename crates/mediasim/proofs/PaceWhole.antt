@@ -13,7 +13,7 @@ use Rattle.pace_script.specs.Spelling.{IsPaceScript}
 use Rattle.mediasim.specs.declared.command.Command.{Command}
 use Rattle.mediasim.specs.declared.command.Command.TheVariants.{Run, Pace}
 use Rattle.mediasim.specs.declared.ends.End.{End}
-use Rattle.mediasim.specs.declared.ends.End.TheVariants.{Done, Setup, Step, Call, ReadFault, WriteFault, Memory, Syntax, TooLong, Usage}
+use Rattle.mediasim.specs.declared.ends.End.TheVariants.{Done, Setup, Step, KeyExhausted, Call, ReadFault, WriteFault, Memory, Syntax, TooLong, Usage}
 use Rattle.mediasim.specs.Command.{IsCommand, Makes}
 use Rattle.mediasim.specs.Ends.{Tells}
 use Rattle.mediasim.specs.MediaMain.{Cause, Answers, TellsCalls, RunsCalls, ArePaced}
@@ -57,6 +57,7 @@ calls_made rate calls read (Syntax line) text one script h = absurd (h.1 rate ca
 calls_made rate calls read Memory text one script h = h
 calls_made rate calls read (Setup fault) text one script h = absurd h
 calls_made rate calls read (Step number fault) text one script h = absurd h
+calls_made rate calls read (KeyExhausted by counter) text one script h = absurd h
 calls_made rate calls read ReadFault text one script h = absurd h
 calls_made rate calls read WriteFault text one script h = absurd h
 calls_made rate calls read TooLong text one script h = absurd h
@@ -94,6 +95,8 @@ module _ (limit : ℕ) (words : List (List ℕ)) (left left' : Option (List ℕ)
   calls_caused (Setup fault) transcript text one told taken m = made_caused m.command (Setup fault) transcript text one told taken m.named m.whole m.makes
   calls_caused (Step number fault) transcript text one told taken m =
       made_caused m.command (Step number fault) transcript text one told taken m.named m.whole m.makes
+  calls_caused (KeyExhausted by counter) transcript text one told taken m =
+      made_caused m.command (KeyExhausted by counter) transcript text one told taken m.named m.whole m.makes
   calls_caused (Call number) transcript text one told taken m = made_caused m.command (Call number) transcript text one told taken m.named m.whole m.makes
   calls_caused (Syntax line) transcript text one told taken m = made_caused m.command (Syntax line) transcript text one told taken m.named m.whole m.makes
   calls_caused Memory transcript text one told taken (inr m) = made_caused m.command Memory transcript text one told taken m.named m.whole m.makes
@@ -125,6 +128,7 @@ plays_calls limit words left left' read rate calls (Call number) transcript text
     absurd (let e = sym come ∙ at.3 in cc)
 plays_calls limit words left left' read rate calls (Setup fault) transcript text order taken cause ends no_read = absurd ends
 plays_calls limit words left left' read rate calls (Step number fault) transcript text order taken cause ends no_read = absurd ends
+plays_calls limit words left left' read rate calls (KeyExhausted by counter) transcript text order taken cause ends no_read = absurd ends
 plays_calls limit words left left' read rate calls (Syntax line) transcript text order taken cause ends no_read = absurd ends
 plays_calls limit words left left' read rate calls ReadFault transcript text order taken cause ends no_read = absurd (no_read refl)
 plays_calls limit words left left' read rate calls WriteFault transcript text order taken cause ends no_read = absurd ends

@@ -4,6 +4,8 @@ use Rattle.std.specs.Prelude.{IfOk}
 use Rattle.std.specs.declared.alloc.AllocError.{AllocError}
 use Rattle.std.specs.declared.option.Option.{Option}
 use Rattle.std.proofs.lemmas.List.{take_all}
+use Rattle.srtp_core.specs.declared.counter.Counter.{Counter}
+use Rattle.media_model.specs.declared.entry.Side.{Side}
 use Rattle.media_model.specs.declared.entry.Entry.{Entry}
 use Rattle.media_model.specs.declared.setup.Setup.{Setup as Given}
 use Rattle.media_model.specs.declared.step.Step.{Step as Act}
@@ -22,11 +24,11 @@ use Rattle.media_play.specs.Headline.{HoldsOfRun, StepsAreAnswered, SealsAreRigh
 use Rattle.media_play.specs.Opening.{Sealing}
 use Rattle.media_play.specs.Play.{Played}
 use Rattle.media_play.specs.Running.{HasCause, OfRun}
-use Rattle.media_play.specs.SetupRules.{setup_fault}
+use Rattle.setup_rules.specs.SetupRules.{setup_fault}
 use Rattle.mediasim.specs.declared.ends.End.{End}
-use Rattle.mediasim.specs.declared.ends.End.TheVariants.{Done, Setup, Step, Call, ReadFault, WriteFault, Memory, Syntax, TooLong, Usage}
+use Rattle.mediasim.specs.declared.ends.End.TheVariants.{Done, Setup, Step, KeyExhausted, Call, ReadFault, WriteFault, Memory, Syntax, TooLong, Usage}
 use Rattle.mediasim.specs.Lines.{memory_line, IsLastLine, reported}
-use Rattle.mediasim.specs.RunCommand.{script_sealing, syntax_line, step_line, AreOfRun, RunEnds, RunMakes, IsNoScript}
+use Rattle.mediasim.specs.RunCommand.{key_line, script_sealing, syntax_line, step_line, AreOfRun, RunEnds, RunMakes, IsNoScript}
 
 -- all that holds of a run, whether it came to its end or not
 pub all_holds : (seal : Sealing) (setup : Given) (r : Result Transcript RunFault)
@@ -58,6 +60,21 @@ step_ends view setup steps number fault entries told (Err e) ended last is said 
     (subst (λ (e : End). RunEnds setup steps e (reported e entries) (entries_text entries ++ last)) (sym is.0)
     (entries, inr (error.Step number fault, cause), (length entries, all_told entries last is.1)))
 
+-- a run that ended where a key was used up
+pub key_ends : {X : Type 0} (view : X → List ℕ) (setup : Given) (steps : List Act) (side : Side) (counter : Counter) (entries told : List Entry)
+    (line : Result X AllocError) (ended : End) (last : List ℕ)
+    → IsLastLine view (KeyExhausted side counter) line ended last → IfOk line (λ text. view text ≡ key_line side counter) → told ≡ entries
+    → HasCause (script_sealing setup) setup steps entries (error.KeyExhausted side counter) → HoldsOfRun (script_sealing setup) setup entries
+    → RunEnds setup steps ended (reported ended told) (entries_text told ++ last)
+key_ends view setup steps side counter entries told (Ok text) ended last is said same cause holds =
+    subst (λ (es : List Entry). RunEnds setup steps ended (reported ended es) (entries_text es ++ last)) (sym same)
+    (subst (λ (e : End). RunEnds setup steps e (reported e entries) (entries_text entries ++ last)) (sym is.0)
+    (cause, holds, ap (λ (xs : List ℕ). entries_text entries ++ xs) (is.1 ∙ said)))
+key_ends view setup steps side counter entries told (Err e) ended last is said same cause holds =
+    subst (λ (es : List Entry). RunEnds setup steps ended (reported ended es) (entries_text es ++ last)) (sym same)
+    (subst (λ (e : End). RunEnds setup steps e (reported e entries) (entries_text entries ++ last)) (sym is.0)
+    (entries, inr (error.KeyExhausted side counter, cause), (length entries, all_told entries last is.1)))
+
 -- a run that was played to its end
 pub done_ends : {X : Type 0} (view : X → List ℕ) (setup : Given) (steps : List Act) (entries told : List Entry)
     (line : Result X AllocError) (ended : End) (last : List ℕ)
@@ -88,6 +105,7 @@ pub run_makes : (read : List ℕ) (setup : Given) (steps : List Act) (end : End)
 run_makes read setup steps Done transcript text script h = record { setup = setup; steps = steps; script = script; run = h }
 run_makes read setup steps (Setup fault) transcript text script h = record { setup = setup; steps = steps; script = script; run = h }
 run_makes read setup steps (Step number fault) transcript text script h = record { setup = setup; steps = steps; script = script; run = h }
+run_makes read setup steps (KeyExhausted by counter) transcript text script h = record { setup = setup; steps = steps; script = script; run = h }
 run_makes read setup steps Memory None text script h = inr (record { setup = setup; steps = steps; script = script; run = h })
 run_makes read setup steps Memory (Some entries) text script h = absurd h
 run_makes read setup steps (Call number) transcript text script h = absurd h

@@ -1,5 +1,10 @@
 -- What the bytes that a source tells come to.
-use Rattle.std.proofs.Common.{◌≡◌, inl, inr, ℕ, ◌<◌, ◌≤◌, List, ◌++◌, length, take, Some, None, refl, sym, ap, ◌∙◌, subst, arith}
+use Rattle.std.proofs.Common.{◌≡◌, inl, inr, ℕ, ◌<◌, ◌≤◌, List, ◌++◌, length, take, Some, None, refl, sym, ap, ◌∙◌, subst, arith, slice_get, zero, suc, add-one, ◌∷◌, [], ◌+◌}
+use Rattle.media_play.specs.Feedback.{Exhausts}
+use Rattle.media_play.specs.Errors.{call_of}
+use Rattle.media_model.specs.declared.entry.Side.{Side}
+use Rattle.srtp_core.specs.declared.counter.Counter.{Counter}
+use Rattle.std.proofs.lemmas.Option.{same_Some, none-some}
 use Rattle.std.specs.Prelude.{IfSome}
 use Rattle.std.specs.declared.option.Option.{Option}
 use Rattle.std.specs.Io.KnownBytes.{Consumes, IsAtEnd, Appends}
@@ -16,7 +21,7 @@ use Rattle.media_play.specs.Play.{Played}
 use Rattle.mediasim.specs.declared.command.Command.{Command}
 use Rattle.mediasim.specs.declared.command.Command.TheVariants.{Run, Pace}
 use Rattle.mediasim.specs.declared.ends.End.{End}
-use Rattle.mediasim.specs.declared.ends.End.TheVariants.{Done, Setup, Step, Call, ReadFault, WriteFault, Memory, Syntax, TooLong, Usage}
+use Rattle.mediasim.specs.declared.ends.End.TheVariants.{Done, Setup, Step, KeyExhausted, Call, ReadFault, WriteFault, Memory, Syntax, TooLong, Usage}
 use Rattle.mediasim.specs.Command.{IsCommand, Makes, Carries}
 use Rattle.mediasim.specs.Ends.{Tells}
 use Rattle.mediasim.specs.Lines.{memory_line}
@@ -54,6 +59,8 @@ made_cause limit words left' read command Done transcript text named whole withi
 made_cause limit words left' read command (Setup fault) transcript text named whole within h =
     record { command = command; named = named; whole = whole; within = within; makes = h }
 made_cause limit words left' read command (Step number fault) transcript text named whole within h =
+    record { command = command; named = named; whole = whole; within = within; makes = h }
+made_cause limit words left' read command (KeyExhausted by counter) transcript text named whole within h =
     record { command = command; named = named; whole = whole; within = within; makes = h }
 made_cause limit words left' read command (Syntax line) transcript text named whole within h =
     record { command = command; named = named; whole = whole; within = within; makes = h }
@@ -103,6 +110,10 @@ script_made setup steps read (Step number fault) transcript text one script h =
     let same = one read setup h.setup steps h.steps script h.script in
     subst (λ (s : Given). RunEnds s steps (Step number fault) transcript text) (sym same.0)
     (subst (λ (t : List Act). RunEnds h.setup t (Step number fault) transcript text) (sym same.1) h.run)
+script_made setup steps read (KeyExhausted by counter) transcript text one script h =
+    let same = one read setup h.setup steps h.steps script h.script in
+    subst (λ (s : Given). RunEnds s steps (KeyExhausted by counter) transcript text) (sym same.0)
+    (subst (λ (t : List Act). RunEnds h.setup t (KeyExhausted by counter) transcript text) (sym same.1) h.run)
 script_made setup steps read (Syntax line) None text one script h = absurd (h.1 setup steps script)
 script_made setup steps read (Syntax line) (Some entries) text one script h = absurd h
 script_made setup steps read (Call number) transcript text one script h = absurd h
@@ -134,6 +145,9 @@ module _ (limit : ℕ) (words : List (List ℕ)) (left left' : Option (List ℕ)
   script_caused (Step number fault) transcript text one told taken m =
       script_made setup steps read (Step number fault) transcript text one (tells_read left left' read setup steps told.1 taken m.whole)
       (run_made words m.command read (Step number fault) transcript text told.0 m.named m.makes)
+  script_caused (KeyExhausted by counter) transcript text one told taken m =
+      script_made setup steps read (KeyExhausted by counter) transcript text one (tells_read left left' read setup steps told.1 taken m.whole)
+      (run_made words m.command read (KeyExhausted by counter) transcript text told.0 m.named m.makes)
   script_caused (Syntax line) transcript text one told taken m =
       script_made setup steps read (Syntax line) transcript text one (tells_read left left' read setup steps told.1 taken m.whole)
       (run_made words m.command read (Syntax line) transcript text told.0 m.named m.makes)
@@ -159,10 +173,12 @@ module _ (limit : ℕ) (words : List (List ℕ)) (left left' : Option (List ℕ)
   plays_caused (Setup fault) None text order taken cause ends no_read = absurd (let e = sym order.fine ∙ ends.0 in cc)
   plays_caused (Setup fault) (Some entries) text order taken cause ends no_read = absurd ends
   plays_caused (Step number fault) None text order taken cause ends no_read = absurd ends
+  plays_caused (KeyExhausted by counter) None text order taken cause ends no_read = absurd ends
   plays_caused (Step number fault) (Some entries) text order taken cause ends no_read =
       let r = ends.0.1 in
       let valid = order.valid r.0 r.1 entries r.3 r.4 in
       absurd (let e = sym valid ∙ r.5 in cc)
+  plays_caused (KeyExhausted by counter) (Some entries) text order taken cause ends no_read = ends.0
   plays_caused (Syntax line) transcript text order taken cause ends no_read = absurd ends
   plays_caused (Call number) transcript text order taken cause ends no_read = absurd ends
   plays_caused ReadFault transcript text order taken cause ends no_read = absurd (no_read refl)
@@ -210,7 +226,9 @@ holds_in setup steps Done (Some entries) text h = h.2
 holds_in setup steps (Setup fault) None text h = tt
 holds_in setup steps (Setup fault) (Some entries) text h = absurd h
 holds_in setup steps (Step number fault) None text h = tt
+holds_in setup steps (KeyExhausted by counter) None text h = tt
 holds_in setup steps (Step number fault) (Some entries) text h = h.1
+holds_in setup steps (KeyExhausted by counter) (Some entries) text h = h.1
 holds_in setup steps (Syntax line) transcript text h = absurd h
 holds_in setup steps (Call number) transcript text h = absurd h
 holds_in setup steps ReadFault transcript text h = none_holds transcript _ h
@@ -235,33 +253,59 @@ script_holds held held' setup steps answer answered Q says a =
       | inr t ↦ none_holds answered Q t.1
     ]
 
+-- the steps up to one that stands there
+take_suc : (steps : List Act) (i : ℕ) (step : Act) → slice_get steps i ≡ Some step → (i < length steps) × (take (suc i) steps ≡ take i steps ++ step ∷ [])
+take_suc [] i step h = absurd (none-some step h)
+take_suc (s ∷ steps) zero step h = (omega arith, ap (λ (x : Act). x ∷ []) (same_Some s step h))
+take_suc (s ∷ steps) (suc i) step h =
+    let rest = take_suc steps i step h in
+    let within = rest.0 in
+    (omega (arith, within), ap (λ (l : List Act). s ∷ l) rest.1)
+
+take_next : (steps : List Act) (i : ℕ) (step : Act) → slice_get steps i ≡ Some step → (i < length steps) × (take (i + 1) steps ≡ take i steps ++ step ∷ [])
+take_next steps i step h = let s = take_suc steps i step h in (s.0, ap (λ (n : ℕ). take n steps) (add-one i) ∙ s.1)
+
 -- the steps that were played are those of the script
 plays_in : ((seal : Sealing) (setup : Given) (steps : List Act) (entries : List Entry) → Played seal setup steps entries → PlaysSteps steps entries)
+    → ((seal : Sealing) (setup : Given) (steps : List Act) (entries : List Entry) (step : Act) (side : Side) (counter : Counter) → Played seal setup steps entries
+    → Exhausts setup entries step side counter → PlaysSteps (steps ++ step ∷ []) (entries ++ call_of step))
     → (setup : Given) (steps : List Act) (end : End) (transcript : Option (List Entry)) (text : List ℕ) → EndsInRun setup steps end transcript text
     → PlaysToEnd steps end transcript
-plays_in law setup steps Done None text h = absurd h
-plays_in law setup steps Done (Some entries) text h = law (script_sealing setup) setup steps entries h.1
-plays_in law setup steps (Setup fault) None text h = refl
-plays_in law setup steps (Setup fault) (Some entries) text h = absurd h
-plays_in law setup steps (Step number fault) None text h = absurd h
-plays_in law setup steps (Step number fault) (Some entries) text h = let r = h.0.1 in (r.0, r.2, law (script_sealing setup) setup (take r.0 steps) entries r.4)
-plays_in law setup steps (Syntax line) transcript text h = absurd h
-plays_in law setup steps (Call number) transcript text h = absurd h
-plays_in law setup steps ReadFault transcript text h = h
-plays_in law setup steps WriteFault transcript text h = absurd h
-plays_in law setup steps Memory None text h = refl
-plays_in law setup steps Memory (Some entries) text h = absurd h
-plays_in law setup steps TooLong transcript text h = h
-plays_in law setup steps Usage transcript text h = h
+plays_in law to_key setup steps Done None text h = absurd h
+plays_in law to_key setup steps Done (Some entries) text h = law (script_sealing setup) setup steps entries h.1
+plays_in law to_key setup steps (Setup fault) None text h = refl
+plays_in law to_key setup steps (Setup fault) (Some entries) text h = absurd h
+plays_in law to_key setup steps (Step number fault) None text h = absurd h
+plays_in law to_key setup steps (KeyExhausted by counter) None text h = absurd h
+plays_in law to_key setup steps (Step number fault) (Some entries) text h = let r = h.0.1 in (r.0, r.2, law (script_sealing setup) setup (take r.0 steps) entries r.4)
+plays_in law to_key setup steps (KeyExhausted by counter) (Some entries) text h =
+    let r = h.0.1 in
+    let up_to = take_next steps r.before r.step r.stands in (
+      r.before,
+      up_to.0,
+      subst (λ (es : List Entry). PlaysSteps (take (r.before + 1) steps) es) (sym r.entries_are)
+          (subst (λ (ss : List Act). PlaysSteps ss (r.past ++ call_of r.step)) (sym up_to.1)
+          (to_key (script_sealing setup) setup (take r.before steps) r.past r.step by counter r.played r.exhausts)),
+    )
+plays_in law to_key setup steps (Syntax line) transcript text h = absurd h
+plays_in law to_key setup steps (Call number) transcript text h = absurd h
+plays_in law to_key setup steps ReadFault transcript text h = h
+plays_in law to_key setup steps WriteFault transcript text h = absurd h
+plays_in law to_key setup steps Memory None text h = refl
+plays_in law to_key setup steps Memory (Some entries) text h = absurd h
+plays_in law to_key setup steps TooLong transcript text h = h
+plays_in law to_key setup steps Usage transcript text h = h
 
 pub script_plays : ((seal : Sealing) (setup : Given) (steps : List Act) (entries : List Entry) → Played seal setup steps entries → PlaysSteps steps entries)
+    → ((seal : Sealing) (setup : Given) (steps : List Act) (entries : List Entry) (step : Act) (side : Side) (counter : Counter) → Played seal setup steps entries
+    → Exhausts setup entries step side counter → PlaysSteps (steps ++ step ∷ []) (entries ++ call_of step))
     → (held held' : Option (List ℕ)) (setup : Given) (steps : List Act) (answer : End) (answered : Option (List Entry))
     → AnswersScript setup steps held held' answer answered → PlaysToEnd steps answer answered
-script_plays law held held' setup steps answer answered a =
+script_plays law to_key held held' setup steps answer answered a =
     elim a.tells [
       | inl t ↦
           subst (λ (e : End). PlaysToEnd steps e answered) (sym t.0)
-          (subst (λ (o : Option (List Entry)). PlaysToEnd steps a.end o) (sym t.1) (plays_in law setup steps a.end a.transcript a.text a.run))
+          (subst (λ (o : Option (List Entry)). PlaysToEnd steps a.end o) (sym t.1) (plays_in law to_key setup steps a.end a.transcript a.text a.run))
       | inr t ↦ subst (λ (e : End). PlaysToEnd steps e answered) (sym t.0) t.1
     ]
 
@@ -276,7 +320,9 @@ always_made read Done (Some entries) text Run Q says h = says (script_sealing h.
 always_made read (Setup fault) None text Run Q says h = tt
 always_made read (Setup fault) (Some entries) text Run Q says h = absurd h.run
 always_made read (Step number fault) None text Run Q says h = tt
+always_made read (KeyExhausted by counter) None text Run Q says h = tt
 always_made read (Step number fault) (Some entries) text Run Q says h = says (script_sealing h.setup) h.setup entries h.run.1
+always_made read (KeyExhausted by counter) (Some entries) text Run Q says h = says (script_sealing h.setup) h.setup entries h.run.1
 always_made read (Syntax line) None text Run Q says h = tt
 always_made read (Syntax line) (Some entries) text Run Q says h = absurd h
 always_made read Memory None text Run Q says h = tt
@@ -292,6 +338,7 @@ always_caused : (limit : ℕ) (words : List (List ℕ)) (left' : Option (List �
 always_caused limit words left' read Done transcript text Q says m = always_made read Done transcript text m.command Q says m.makes
 always_caused limit words left' read (Setup fault) transcript text Q says m = always_made read (Setup fault) transcript text m.command Q says m.makes
 always_caused limit words left' read (Step number fault) transcript text Q says m = always_made read (Step number fault) transcript text m.command Q says m.makes
+always_caused limit words left' read (KeyExhausted by counter) transcript text Q says m = always_made read (KeyExhausted by counter) transcript text m.command Q says m.makes
 always_caused limit words left' read (Syntax line) transcript text Q says m = always_made read (Syntax line) transcript text m.command Q says m.makes
 always_caused limit words left' read (Call number) transcript text Q says m = always_made read (Call number) transcript text m.command Q says m.makes
 always_caused limit words left' read Memory transcript text Q says (inl h) = none_holds transcript Q h.1

@@ -6,13 +6,14 @@ use Rattle.std.specs.Io.KnownBytes.{Appends}
 use Rattle.media_base.specs.Causes.{WritesFront}
 use Rattle.media_model.specs.declared.entry.Entry.{Entry}
 use Rattle.mediasim.specs.declared.ends.End.{End}
-use Rattle.mediasim.specs.declared.ends.End.TheVariants.{Done, Setup, Step, Call, ReadFault, WriteFault, Memory, Syntax, TooLong, Usage}
+use Rattle.mediasim.specs.declared.ends.End.TheVariants.{Done, Setup, Step, KeyExhausted, Call, ReadFault, WriteFault, Memory, Syntax, TooLong, Usage}
 
 abbrev pub status_of : End → ℕ
 status_of Done = 0
 status_of (Setup fault) = 1
 status_of (Step number fault) = 2
 status_of (Call number) = 2
+status_of (KeyExhausted side counter) = 3
 status_of ReadFault = 4
 status_of WriteFault = 5
 status_of Memory = 6

@@ -5,7 +5,7 @@ use Rattle.std.specs.declared.option.Option.{Option}
 use Rattle.std.specs.declared.option.Option.TheVariants.{Some, None}
 use Rattle.media_model.specs.declared.entry.Entry.{Entry}
 use Rattle.mediasim.specs.declared.ends.End.{End}
-use Rattle.mediasim.specs.declared.ends.End.TheVariants.{Done, Step, Memory}
+use Rattle.mediasim.specs.declared.ends.End.TheVariants.{Done, Step, KeyExhausted, Memory}
 use Rattle.mediasim.specs.declared.lines.LastLine.{LastLine}
 use Rattle.mediasim.specs.declared.lines.LastLine.TheVariants.{Made, Fixed}
 
@@ -26,4 +26,5 @@ IsLastLine view end (Err e) ended last = (ended ≡ Memory) × (last ≡ memory_
 abbrev pub reported : End → List Entry → Option (List Entry)
 reported Done entries = Some entries
 reported (Step number fault) entries = Some entries
+reported (KeyExhausted side counter) entries = Some entries
 reported end entries = None

@@ -12,7 +12,7 @@ use Rattle.pace_core.specs.Past.{made}
 use Rattle.pace_core.specs.Run.{may_all_come}
 use Rattle.pace_script.specs.Spelling.{IsPaceScript}
 use Rattle.media_play.specs.Running.{AreValidSteps}
-use Rattle.media_play.specs.SetupRules.{setup_fault}
+use Rattle.setup_rules.specs.SetupRules.{setup_fault}
 use Rattle.mediasim.specs.declared.command.Command.{Command}
 use Rattle.mediasim.specs.declared.command.Command.TheVariants.{Run, Pace}
 use Rattle.mediasim.specs.declared.ends.End.{End}

@@ -1,5 +1,5 @@
 -- What the command run makes of a whole input.
-use Rattle.std.specs.Prelude.{ℕ, ◌≡◌, ◌⊎◌, ◌+◌, List, ◌++◌, take, codes}
+use Rattle.std.specs.Prelude.{ℕ, ◌≡◌, ◌⊎◌, ◌+◌, ◌<◌, List, ◌++◌, length, take, codes}
 use Rattle.std.specs.Fmt.{decimal}
 use Rattle.std.specs.declared.option.Option.{Option}
 use Rattle.std.specs.declared.option.Option.TheVariants.{Some, None}
@@ -11,23 +11,27 @@ use Rattle.media_model.specs.declared.setup.CipherName.{CipherName}
 use Rattle.media_model.specs.declared.setup.CipherName.TheVariants.{Toy, Sha}
 use Rattle.media_model.specs.declared.setup.Setup.{Setup as Given}
 use Rattle.media_model.specs.declared.step.Step.{Step as Act}
+use Rattle.srtp_core.specs.declared.counter.Counter.{Counter}
+use Rattle.media_model.specs.declared.entry.Side.{Side}
 use Rattle.media_script.specs.FirstWrong.{IsFirstWrong}
+use Rattle.media_script.specs.Names.{side_text}
 use Rattle.media_script.specs.Spelling.{IsScript}
 use Rattle.media_script.specs.Text.{entries_text, text_of}
-use Rattle.media_play.specs.declared.fault.SetupFault.{SetupFault}
+use Rattle.setup_rules.specs.declared.fault.SetupFault.{SetupFault}
 use Rattle.media_play.specs.declared.fault.StepFault.{StepFault}
 use Rattle.media_play.specs.declared.fault.RunError.{RunError}
 use Rattle.media_play.specs.declared.fault.RunError.TheVariants as error
-use Rattle.media_play.specs.FaultNames.{setup_fault_name, step_fault_name}
+use Rattle.media_play.specs.FaultNames.{step_fault_name, counter_name}
 use Rattle.media_play.specs.Headline.{HoldsOfRun, PlaysSteps}
 use Rattle.media_play.specs.Opening.{Sealing}
 use Rattle.media_play.specs.Play.{Played}
 use Rattle.media_play.specs.Running.{HasCause}
 use Rattle.media_play.specs.Sessions.{sealing_of}
-use Rattle.media_play.specs.SetupRules.{setup_fault}
+use Rattle.setup_rules.specs.FaultNames.{setup_fault_name}
+use Rattle.setup_rules.specs.SetupRules.{setup_fault}
 use Rattle.mediasim.specs.Lines.{memory_line}
 use Rattle.mediasim.specs.declared.ends.End.{End}
-use Rattle.mediasim.specs.declared.ends.End.TheVariants.{Done, Setup, Step, ReadFault, Memory, Syntax, TooLong, Usage}
+use Rattle.mediasim.specs.declared.ends.End.TheVariants.{Done, Setup, Step, KeyExhausted, ReadFault, Memory, Syntax, TooLong, Usage}
 
 -- what the cipher of a name means
 abbrev pub meaning_of : CipherName → CipherMeaning
@@ -38,7 +42,7 @@ meaning_of Sha = sha_meaning
 abbrev pub script_sealing : Given → Sealing
 script_sealing setup = sealing_of (meaning_of setup.cipher) setup
 
--- the fault lines that name a line, a rule of setups, or a step and a rule of steps
+-- the fault lines that name a line, a rule of setups, a step and a rule of steps, or a side and what numbers its datagrams
 abbrev pub syntax_line : ℕ → List ℕ
 syntax_line line = codes "fault syntax " ++ decimal line ++ codes "\n"
 
@@ -47,6 +51,12 @@ setup_line fault = codes "fault setup " ++ setup_fault_name fault ++ codes "\n"
 
 abbrev pub step_line : ℕ → StepFault → List ℕ
 step_line number fault = codes "fault step " ++ decimal number ++ codes " " ++ step_fault_name fault ++ codes "\n"
+
+abbrev pub key_text : Side → Counter → List ℕ
+key_text side counter = side_text side ++ codes " " ++ counter_name counter
+
+abbrev pub key_line : Side → Counter → List ℕ
+key_line side counter = codes "fault key " ++ key_text side counter ++ codes "\n"
 
 -- the entries of a run of this setup and these steps: of all its steps, or those before it ended
 abbrev pub AreOfRun : Given → List Act → List Entry → Type 0
@@ -58,7 +68,8 @@ abbrev pub StopsAmong : List Entry → List ℕ → Type 0
 StopsAmong entries text = (count : ℕ) × (text ≡ entries_text (take count entries) ++ memory_line)
 
 -- what a setup and its steps come to: all steps are played; the setup breaks a rule, and nothing happens; the steps before
--- the first one that breaks a rule are played; or memory runs out, and what was told ends with a line
+-- the first one that breaks a rule are played; a step finds a key used up, and the steps before it are played and its call
+-- made; or memory runs out, and what was told ends with a line
 abbrev pub RunEnds : Given → List Act → End → Option (List Entry) → List ℕ → Type 0
 RunEnds setup steps Done (Some entries) text =
     (setup_fault setup ≡ None) × Played (script_sealing setup) setup steps entries
@@ -67,6 +78,9 @@ RunEnds setup steps (Setup fault) None text = (setup_fault setup ≡ Some fault)
 RunEnds setup steps (Step number fault) (Some entries) text =
     HasCause (script_sealing setup) setup steps entries (error.Step number fault)
     × HoldsOfRun (script_sealing setup) setup entries × (text ≡ entries_text entries ++ step_line number fault)
+RunEnds setup steps (KeyExhausted side counter) (Some entries) text =
+    HasCause (script_sealing setup) setup steps entries (error.KeyExhausted side counter)
+    × HoldsOfRun (script_sealing setup) setup entries × (text ≡ entries_text entries ++ key_line side counter)
 RunEnds setup steps Memory None text = (entries : List Entry) × AreOfRun setup steps entries × StopsAmong entries text
 RunEnds setup steps end transcript text = ⊥
 
@@ -86,6 +100,7 @@ abbrev pub RunMakes : List ℕ → End → Option (List Entry) → List ℕ → 
 RunMakes read Done transcript text = ScriptEnds read Done transcript text
 RunMakes read (Setup fault) transcript text = ScriptEnds read (Setup fault) transcript text
 RunMakes read (Step number fault) transcript text = ScriptEnds read (Step number fault) transcript text
+RunMakes read (KeyExhausted side counter) transcript text = ScriptEnds read (KeyExhausted side counter) transcript text
 RunMakes read (Syntax line) None text = IsFirstWrong read line × IsNoScript read × (text ≡ syntax_line line)
 RunMakes read Memory None text = (text ≡ memory_line) ⊎ ScriptEnds read Memory None text
 RunMakes read end transcript text = ⊥
@@ -95,20 +110,26 @@ abbrev pub EndsInRun : Given → List Act → End → Option (List Entry) → Li
 EndsInRun setup steps Done transcript text = RunEnds setup steps Done transcript text
 EndsInRun setup steps (Setup fault) transcript text = RunEnds setup steps (Setup fault) transcript text
 EndsInRun setup steps (Step number fault) transcript text = RunEnds setup steps (Step number fault) transcript text
+EndsInRun setup steps (KeyExhausted side counter) transcript text = RunEnds setup steps (KeyExhausted side counter) transcript text
 EndsInRun setup steps Memory None text = (text ≡ memory_line) ⊎ RunEnds setup steps Memory None text
 EndsInRun setup steps ReadFault transcript text = transcript ≡ None
 EndsInRun setup steps TooLong transcript text = transcript ≡ None
 EndsInRun setup steps Usage transcript text = transcript ≡ None
 EndsInRun setup steps end transcript text = ⊥
 
--- the steps among the entries are all those of the script, or those before the one that breaks a rule
+-- the steps among the entries are all those of the script, or those before the one that breaks a rule, or those up to the
+-- one that finds a key used up
 abbrev pub PlaysToEnd : List Act → End → Option (List Entry) → Type 0
 PlaysToEnd steps Done (Some entries) = PlaysSteps steps entries
 PlaysToEnd steps (Step number fault) (Some entries) = (before : ℕ) × (number ≡ before + 1) × PlaysSteps (take before steps) entries
+PlaysToEnd steps (KeyExhausted side counter) (Some entries) =
+    (before : ℕ) × (before < length steps) × PlaysSteps (take (before + 1) steps) entries
 PlaysToEnd steps end transcript = transcript ≡ None
 
--- all steps were played, or memory ran out
+-- all steps were played, or a step found a key used up, or memory ran out
 abbrev pub PlaysAll : Given → List Act → End → Option (List Entry) → Type 0
 PlaysAll setup steps Done (Some entries) = Played (script_sealing setup) setup steps entries
+PlaysAll setup steps (KeyExhausted side counter) (Some entries) =
+    HasCause (script_sealing setup) setup steps entries (error.KeyExhausted side counter)
 PlaysAll setup steps Memory None = Unit {0}
 PlaysAll setup steps end transcript = ⊥

@@ -4,8 +4,9 @@ ghost use Rattle.media_base.specs.Causes.{Rose};
 ghost use Rattle.mediasim.specs.Ends.{status_of, Tells};
 
 use media_base::{Sink, write_all};
-use media_model::Transcript;
-use media_play::{SetupFault, StepFault};
+use media_model::{Side, Transcript};
+use media_play::{Counter, StepFault};
+use setup_rules::SetupFault;
 
 /// How a call ended.
 #[derive(Clone, Copy, Debug, PartialEq, Eq)]
@@ -16,6 +17,8 @@ pub enum End {
     Setup(SetupFault),
     /// The first step, counted from 1, that breaks a rule, and the first rule that it breaks.
     Step(u64, StepFault),
+    /// A step had the side seal a datagram behind the last number of a key.
+    KeyExhausted(Side, Counter),
     /// The first call of a pace script, counted from 1, that may not come: its moment falls, or it sends
     /// a packet that no poll gave a queue for.
     Call(u64),
@@ -43,6 +46,7 @@ impl End {
             End::Setup(_) => 1,
             End::Step(_, _) => 2,
             End::Call(_) => 2,
+            End::KeyExhausted(_, _) => 3,
             End::ReadFault => 4,
             End::WriteFault => 5,
             End::Memory => 6,
@@ -60,7 +64,7 @@ pub struct Report {
     pub status: u8,
     /// How the call ended.
     pub end: End,
-    /// There exactly where the end is `Done` or `Step`.
+    /// There exactly where the end is `Done`, `Step` or `KeyExhausted`.
     pub transcript: Option<Transcript>,
 }
 

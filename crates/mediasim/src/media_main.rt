@@ -56,7 +56,7 @@ fn answer<S: Source, K: Sink>(
 /// the script names, `pace` plays a pace script on a leaky bucket pacer.
 ///
 /// What is written is the text of the transcript, or one fault line, with the text of the steps that
-/// were played before it where a step broke a rule, and whole lines at the front of the text where
+/// were played before it where a step broke a rule or found a key used up, and whole lines at the front of the text where
 /// memory ran out. A fault of the sink takes the place of the end that it cuts short, of whose text
 /// the front was written.
 ///
@@ -80,7 +80,8 @@ pub fn media_main<S: Source, K: Sink>(
     ensures script { (setup : Given) (acts : List Act)
         → RunsScript (map string_bytes words.now) (S.left source.old) setup acts
         → AnswersScript setup acts (K.written sink.old) (K.written sink.new) result.end result.transcript }
-    // A script in order is played to its last step, where neither end of the program fails.
+    // A script in order is played to its last step, or to the first that finds a key used up, where
+    // neither end of the program fails.
     ensures complete { (setup : Given) (acts : List Act)
         → IsInOrder LIMIT (map string_bytes words.now) (S.left source.old) setup acts
         → (Rose (S.fault_count source.old) (S.fault_count source.new) → ⊥)
@@ -104,8 +105,9 @@ pub fn media_main<S: Source, K: Sink>(
     ensures played { (setup : Given) (acts : List Act)
         → RunsScript (map string_bytes words.now) (S.left source.old) setup acts
         → PlaysToEnd acts result.end result.transcript }
-    // A write brings nothing. A tick seals all queued writes, stream by stream. What comes is opened
-    // exactly where it opens, and its packet yielded.
+    // A write brings nothing. A tick seals all queued writes, stream by stream. A call seals its
+    // feedback, unless no index is left. What comes is opened exactly where it opens, and its packet
+    // yielded.
     ensures steps { (setup : Given) (acts : List Act)
         → RunsScript (map string_bytes words.now) (S.left source.old) setup acts
         → IfSome result.transcript (StepsAreAnswered (script_sealing setup) setup) }
@@ -120,7 +122,7 @@ pub fn media_main<S: Source, K: Sink>(
         → IfSome result.transcript FirstSendingsAreYielded }
     // No two datagrams of a direction share a nonce.
     ensures nonces { IfSome result.transcript NoNonceTwice }
-    // Each sealed datagram carries one earlier write of its side, none twice: under the setup of the
+    // Each sealed RTP datagram carries one earlier write of its side, none twice: under the setup of the
     // script, and where the source tells none, under that of the run.
     ensures sendings { (setup : Given) (acts : List Act)
         → RunsScript (map string_bytes words.now) (S.left source.old) setup acts

@@ -1,25 +1,27 @@
 // The command run: what it makes of a whole input.
-ghost use Rattle.std.specs.Prelude.{◌≡◌, ◌++◌, ℕ, None, take, string_bytes, IfOk, IfErr};
+ghost use Rattle.std.specs.Prelude.{◌≡◌, ◌++◌, ℕ, Some, None, take, string_bytes, IfOk, IfErr};
 ghost use Rattle.media_base.specs.Causes.{Rose};
 ghost use Rattle.media_play.specs.Headline.{HoldsOfRun};
 ghost use Rattle.media_play.specs.Play.{Played};
 ghost use Rattle.media_play.specs.Running.{HasCause, OfRun};
-ghost use Rattle.media_play.specs.SetupRules.{setup_fault};
+ghost use Rattle.setup_rules.specs.SetupRules.{setup_fault};
 ghost use Rattle.media_script.specs.Text.{entries_text};
 ghost use Rattle.mediasim.specs.declared.command.Command.TheVariants.{Run};
 ghost use Rattle.mediasim.specs.Command.{Carries};
 ghost use Rattle.mediasim.specs.Ends.{status_of};
 ghost use Rattle.mediasim.specs.Lines.{bytes_of, memory_line, IsLastLine, reported};
-ghost use Rattle.mediasim.specs.RunCommand.{script_sealing, syntax_line, setup_line, step_line, AreOfRun, RunEnds, RunMakes};
+ghost use Rattle.mediasim.specs.RunCommand.{script_sealing, syntax_line, setup_line, step_line, key_text, key_line, AreOfRun, RunEnds, RunMakes};
 
 use crate::ends::{End, Report, tell_line};
 use crate::lines::{LastLine, TextError, write_text};
 use media_base::Sink;
-use media_model::{CipherName, Setup, Step, Transcript};
-use media_play::{RunError, RunFault, SetupFault, StepFault, media_run};
+use media_model::{CipherName, Setup, Side, Step, Transcript};
+use media_play::{Counter, RunError, RunFault, StepFault, media_run};
 use media_script::{ScriptError, end_line, read_script};
+use setup_rules::SetupFault;
 use srtp_core::{ShaCipher, ToyCipher};
 use std::alloc::{AllocError, Global};
+use std::fmt;
 use std::fmt::Write;
 
 /// An end, whose text is the lines of these entries and a last line.
@@ -68,6 +70,7 @@ fn report(end: End, entries: Transcript) -> Report
     match end {
         End::Done => Report::new(end, Some(entries)),
         End::Step(_, _) => Report::new(end, Some(entries)),
+        End::KeyExhausted(_, _) => Report::new(end, Some(entries)),
         _ => Report::new(end, None),
     }
 }
@@ -91,6 +94,28 @@ fn step_line(alloc: Global, number: u64, fault: StepFault) -> Result<String, All
     let mut text = String::new(alloc);
     writeln!(text, "fault step {number} {fault}")?;
     Ok(text)
+}
+
+// The side whose key is used up, and what numbers the datagrams under it.
+#[derive(Clone, Copy)]
+struct UsedUp(Side, Counter);
+
+impl fmt::Display for UsedUp {
+    ghost output = { λ k. Some (key_text k.0 k.1) };
+
+    fn fmt<W: fmt::Write>(&self, f: &mut fmt::Formatter<W>) -> fmt::Result {
+        match (self.0, self.1) {
+            (Side::A, Counter::Rtcp) => write!(f, "A Rtcp"),
+            (Side::B, Counter::Rtcp) => write!(f, "B Rtcp"),
+        }
+    }
+}
+
+fn key_line(alloc: Global, side: Side, counter: Counter) -> Result<String, AllocError>
+    ensures { IfOk result (λ text. string_bytes text ≡ key_line side counter) }
+{
+    let key = UsedUp(side, counter);
+    format!(in alloc; "fault key {key}\n")
 }
 
 // Plays a setup and its steps with the cipher that the setup names.
@@ -128,6 +153,11 @@ fn play_steps(alloc: Global, setup: &Setup, steps: &[Step]) -> Ending
             End::Step(number, cause),
             fault.sofar,
             step_line(alloc, number, cause),
+        ),
+        RunError::KeyExhausted(side, counter) => Ending::new(
+            End::KeyExhausted(side, counter),
+            fault.sofar,
+            key_line(alloc, side, counter),
         ),
         RunError::Memory => Ending::out_of_memory(fault.sofar),
     }

@@ -9,9 +9,10 @@ use std::test::Fail;
 // Each kind of line once, and a stream of each form.
 const EVERY_LINE: &[u8] = b"# all of it\n\nstr0m-media 1\ntype 96 vp8 90000\nmedia v video cam\n\
 media a audio mic2\nstream A v 42 - -\next 14 delay\ncipher toy\nunix 5\next 0 mid\ntype 255 telephone 4294967295\n\
-stream B a 4294967295 0 hi\nkey 00Ff\nprofile gcm128\nstream B v 7 - lo\nbegin\n\
+stream B a 4294967295 0 hi\nkey 00Ff\nprofile gcm128\nstream B v 7 - lo\nrtcp B 2147483648\nmtu 900 1500\n\
+local A 4294967295\nbegin\n\
 write A 5ms 42 18446744073709551615 96 4294967295 1 0 8060Ff c=0000002AffFFffff\ntick B 1000\ndeliver A 0 3\n\
-foreign B 1 rtp 80\n#\nend\n\n# end\n";
+foreign A 1 rtcp -\napp B 2ms 4294967295 0 0102fFfF\nforeign B 1 rtp 80\n#\nend\n\n# end\n";
 
 // Setup lines, the cipher and the profile that they say, and the length of the material of `key zero`.
 const CIPHERS: [(&str, CipherName, SrtpProfile, usize); 6] = [
@@ -94,7 +95,17 @@ fn each_line_is_read(rt: HostRuntime) -> Result<(), Fail> {
     assert_eq!(rt; stream.rtx, Some(Ssrc::from(0)));
     let layer = stream.rid.ok_or("a layer")?;
     assert_eq!(rt; layer.as_slice(), b"hi".as_slice());
-    assert_eq!(rt; steps.len(), 4);
+    assert_eq!(rt;
+        setup.mtu,
+        Mtu {
+            target: 900,
+            warn: 1500
+        }
+    );
+    assert_eq!(rt; setup.a, local(u32::MAX, SrtcpIndex::FIRST));
+    let last = SrtcpIndex::new(2_147_483_648).ok_or("an index")?;
+    assert_eq!(rt; setup.b, local(2, last));
+    assert_eq!(rt; steps.len(), 6);
     assert_eq!(rt;
         steps.last(),
         Some(&Step::Foreign {
@@ -104,6 +115,114 @@ fn each_line_is_read(rt: HostRuntime) -> Result<(), Fail> {
             bytes: Bytes::from_slice(alloc, &[0x80])?,
         })
     );
+    Ok(())
+}
+
+// What a side alone brings.
+fn local(ssrc: u32, srtcp_index: SrtcpIndex) -> Local {
+    Local {
+        ssrc: Ssrc::from(ssrc),
+        srtcp_index,
+    }
+}
+
+#[test]
+fn each_step_is_read(rt: HostRuntime) -> Result<(), Fail> {
+    let alloc = rt.alloc();
+    let (_, steps) = read_script(alloc, EVERY_LINE).ok().ok_or("a script")?;
+    let payload = Bytes::from_slice(alloc, &[1, 2, 255, 255])?;
+    let handed = [
+        Step::Deliver {
+            side: Side::A,
+            time: Instant::from_nanos(0),
+            datagram: 3,
+        },
+        Step::Foreign {
+            side: Side::A,
+            time: Instant::from_nanos(1),
+            kind: Kind::Rtcp,
+            bytes: Bytes::from_slice(alloc, &[])?,
+        },
+        Step::Application {
+            side: Side::B,
+            time: Instant::from_nanos(2_000_000),
+            sender: Ssrc::from(u32::MAX),
+            media: Ssrc::from(0),
+            payload: ApplicationData::new(payload).ok_or("a payload")?,
+        },
+    ];
+    assert_eq!(rt; steps.get(2..5), Some(handed.as_slice()));
+    Ok(())
+}
+
+// Setup lines, the two lengths of the MTU, and the index of the first SRTCP datagram of A and of B.
+const LOCALS: [(&str, u64, u64, u64, u64); 5] = [
+    ("", 1150, 1280, 0, 0),
+    ("rtcp A 2147483648\n", 1150, 1280, 2_147_483_648, 0),
+    ("rtcp B 7\n", 1150, 1280, 0, 7),
+    ("rtcp B 5\nrtcp A 4\n", 1150, 1280, 4, 5),
+    ("mtu 0 18446744073709551615\n", 0, u64::MAX, 0, 0),
+];
+
+#[test]
+fn what_each_side_brings_is_read(rt: HostRuntime) -> Result<(), Fail> {
+    let alloc = rt.alloc();
+    for (lines, target, warn, a, b) in LOCALS {
+        let a = SrtcpIndex::new(a).ok_or("an index")?;
+        let b = SrtcpIndex::new(b).ok_or("an index")?;
+        let text = format!(in alloc; "str0m-media 1\n{lines}key zero\nbegin\nend\n")?;
+        let (setup, _) = read_script(alloc, text.as_bytes()).ok().ok_or("a script")?;
+        assert_eq!(rt; setup.mtu, Mtu { target, warn }, "at {lines}");
+        assert_eq!(rt; setup.a, local(1, a), "at {lines}");
+        assert_eq!(rt; setup.b, local(2, b), "at {lines}");
+    }
+    Ok(())
+}
+
+#[test]
+fn own_ssrcs_are_read(rt: HostRuntime) -> Result<(), Fail> {
+    let alloc = rt.alloc();
+    let text = b"str0m-media 1\nlocal B 0\nkey zero\nlocal A 4294967295\nbegin\nend\n";
+    let (setup, _) = read_script(alloc, text.as_slice()).ok().ok_or("a script")?;
+    assert_eq!(rt; setup.local(Side::A), local(u32::MAX, SrtcpIndex::FIRST));
+    assert_eq!(rt; setup.local(Side::B), local(0, SrtcpIndex::FIRST));
+    Ok(())
+}
+
+// A script whose one step is feedback of so many bytes.
+fn one_app(alloc: Global, bytes: usize) -> Result<String, Fail> {
+    let mut text = String::new(alloc);
+    text.push_str("str0m-media 1\nkey zero\nbegin\napp A 1 1 42 ")?;
+    for _ in 0..bytes {
+        text.push_str("0F")?;
+    }
+    if bytes == 0 {
+        text.push('-')?;
+    }
+    text.push_str("\nend\n")?;
+    Ok(text)
+}
+
+#[test]
+fn feedback_of_few_whole_words_is_read(rt: HostRuntime) -> Result<(), Fail> {
+    let alloc = rt.alloc();
+    for len in [0, 4, 800] {
+        let text = one_app(alloc, len)?;
+        let (_, steps) = read_script(alloc, text.as_bytes()).ok().ok_or("a script")?;
+        let found = match steps.first() {
+            Some(Step::Application { payload, .. }) => payload.as_slice().len(),
+            _ => 1,
+        };
+        assert_eq!(rt; found, len);
+    }
+    for len in [1, 3, 5, 804] {
+        let text = one_app(alloc, len)?;
+        assert_eq!(rt;
+            syntax(alloc, text.as_bytes()),
+            Some(ScriptError::Syntax(4)),
+            "at {len}"
+        );
+    }
     Ok(())
 }
 
@@ -265,9 +384,27 @@ fn first_line_outside_is_told(rt: HostRuntime) {
         ("str0m-media 1\nmedia v video cam\nstream A w 42 - -\n", 3),
         ("str0m-media 1\nmedia v video cam\nstream A v 42  -\n", 3),
         (
-            "str0m-media 1\nkey zero\nbegin\nforeign A 1 rtcp 80\nend\n",
+            "str0m-media 1\nkey zero\nbegin\nforeign A 1 srtcp 80\nend\n",
             4,
         ),
+        ("str0m-media 1\nkey zero\nbegin\napp A 1 1 42\nend\n", 4),
+        ("str0m-media 1\nkey zero\nbegin\napp A 1 1 42 - -\nend\n", 4),
+        (
+            "str0m-media 1\nkey zero\nbegin\napp A 1 4294967296 42 -\nend\n",
+            4,
+        ),
+        (
+            "str0m-media 1\nkey zero\nbegin\napp A 1 1 4294967296 -\nend\n",
+            4,
+        ),
+        ("str0m-media 1\nmtu 1200\n", 2),
+        ("str0m-media 1\nmtu 1150 18446744073709551616\n", 2),
+        ("str0m-media 1\nmtu 1150 1280\nmtu 1150 1280\n", 3),
+        ("str0m-media 1\nrtcp A 2147483649\n", 2),
+        ("str0m-media 1\nrtcp 5\n", 2),
+        ("str0m-media 1\nrtcp A 1\nrtcp B 1\nrtcp A 1\n", 4),
+        ("str0m-media 1\nlocal A 4294967296\n", 2),
+        ("str0m-media 1\nlocal B 1\nlocal A 2\nlocal B 3\n", 4),
         (
             "str0m-media 1\nkey zero\nbegin\nwrite A 1 42 1 96 0 0 0 01 c=- c=-\nend\n",
             4,
@@ -325,6 +462,7 @@ fn limits_of_media_and_streams(rt: HostRuntime) -> Result<(), Fail> {
 // One packet sealed by A, opened and yielded by B.
 fn one_opened(alloc: Global) -> Result<Transcript, Fail> {
     let mut transcript = Transcript::new(alloc);
+    transcript.push(Entry::Called(Side::A, Instant::from_nanos(1), Call::Application))?;
     transcript.push(Entry::Sealed(Sealed {
         side: Side::A,
         kind: Kind::Rtp,
@@ -382,7 +520,7 @@ fn surface_ample(rt: HostRuntime) -> Result<(), Fail> {
     assert!(rt; transcript.genuine(alloc)?);
     assert!(rt; transcript.repairs_widen(alloc, &setup)?);
     let lines =
-        "sealed A rtp 42 1 0102\ngot B rtp 2\nopened B rtp 42 1\nyielded B 42 1 96 0 0 01\n";
+        "called A app\nsealed A rtp 42 1 0102\ngot B rtp 2\nopened B rtp 42 1\nyielded B 42 1 96 0 0 01\n";
     let text = entries_text(alloc, transcript.entries())?;
     assert_eq!(rt; text.as_str(), lines);
     let whole = write_transcript(alloc, &setup, &transcript)?;

@@ -3,7 +3,8 @@ ghost use Rattle.std.specs.Prelude.{◌≡◌, [], None, false};
 
 use media_base::{Beginning, Bytes, Instant, Listed};
 use media_model::{
-    CipherName, Codec, Key, Media, MediaKind, PayloadType, Setup, Side, Step, Stream, Write,
+    CipherName, Codec, Key, Local, Media, MediaKind, Mtu, PayloadType, Setup, Side, SrtcpIndex,
+    Step, Stream, Write,
 };
 use rtp_wire::{Mid, Pt, SeqNo, Ssrc};
 use srtp_core::SrtpProfile;
@@ -49,14 +50,28 @@ pub fn video(mid: Mid, cname: Bytes, streams: Vec<Stream>) -> Media
     }
 }
 
+/// What a side alone brings, of this SSRC, whose first SRTCP datagram has the index 0.
+pub fn local(ssrc: u32) -> Local
+    ensures { result ≡ record { ssrc = ssrc; srtcp_index = 0 } }
+{
+    Local {
+        ssrc: Ssrc::from(ssrc),
+        srtcp_index: SrtcpIndex::FIRST,
+    }
+}
+
 /// A setup with the toy cipher, the profile of 128 bits and keys of zeros, whose moment 0 is the Unix
-/// epoch, without header extensions.
+/// epoch, without header extensions. The MTU and what each side alone brings are those of a script
+/// without a line for them.
 pub fn setup(alloc: Global, types: Vec<PayloadType>, media: Vec<Media>) -> Setup
     ensures { result ≡ record {
       cipher = CipherName.Toy;
       profile = SrtpProfile.AeadAes128Gcm;
       key = Key.Zero;
       beginning = record { unix_secs = 0 };
+      mtu = record { target = 1150; warn = 1280 };
+      a = record { ssrc = 1; srtcp_index = 0 };
+      b = record { ssrc = 2; srtcp_index = 0 };
       exts = [];
       types = types.items;
       media = media.items;
@@ -67,6 +82,12 @@ pub fn setup(alloc: Global, types: Vec<PayloadType>, media: Vec<Media>) -> Setup
         profile: SrtpProfile::AeadAes128Gcm,
         key: Key::Zero,
         beginning: Beginning { unix_secs: 0 },
+        mtu: Mtu {
+            target: 1150,
+            warn: 1280,
+        },
+        a: local(1),
+        b: local(2),
         exts: Listed::new(alloc),
         types: Listed::from_vec(types),
         media: Listed::from_vec(media),

@@ -1,10 +1,12 @@
-use Rattle.std.proofs.Common.{◌<◌, List, length, take, arith, sym, ◌∙◌, subst}
+use Rattle.std.proofs.Common.{◌<◌, List, length, take, arith, sym, ◌∙◌, subst, ◌++◌}
 use Rattle.media_model.specs.declared.entry.Entry.{Entry}
+use Rattle.media_play.specs.Errors.{left_by}
+use Rattle.media_play.specs.Headline.{HoldsOfRun}
 use Rattle.media_model.specs.declared.step.Step.{Step}
 use Rattle.media_play.specs.declared.fault.RunError.{RunError}
 use Rattle.media_play.specs.Running.{HasCause, IsRunOf}
 use Rattle.media_play.specs.Sessions.{sealing_of}
-use Rattle.media_play.proofs.Playing.{steps_more, none_begins, ends_at}
+use Rattle.media_play.proofs.Playing.{holds_left, steps_more, none_begins, ends_at}
 use Rattle.media_play.proofs.run.play_all.Goals as goal
 
 pub returns-in-Err-clause-cause : goal.returns-in-Err-clause-cause
@@ -24,7 +26,21 @@ returns-in-Err-play-clause-cause g c =
     let ends = ends_at seal setup steps i c.index-steps-i.result log cause c.loop-i.invariant.valid c.loop-i.invariant.played within
     c.index-steps-i.is (c.in-Err-play.ensures.refused setup (take i steps) c.loop-i.invariant) in
     subst (λ (es : List Entry). HasCause seal setup steps es c.fault_at.result.cause) (sym (c.fault_at.ensures.sofar ∙ c.in-Err-play.ensures.sofar))
-    (subst (λ (x : RunError). HasCause seal setup steps log x) (sym c.fault_at.ensures.cause) ends)
+    (subst (λ (x : RunError). HasCause seal setup steps (log ++ left_by c.index-steps-i.result cause) x) (sym c.fault_at.ensures.cause) ends)
+
+pub returns-in-Err-play-clause-holds : goal.returns-in-Err-play-clause-holds
+returns-in-Err-play-clause-holds g c =
+    let setup = c.args.setup.now in
+    let steps = c.args.steps.now in
+    let seal = sealing_of g.C.SrtpCipher.meaning setup in
+    let i = c.loop-i.i in
+    let log = c.loop-i.run.log in
+    let step = c.index-steps-i.result in
+    let run = c.loop-i.invariant in
+    let laws = c.holds_of_run.ensures in
+    subst (λ (es : List Entry). HoldsOfRun seal setup es) (sym (c.fault_at.ensures.sofar ∙ c.in-Err-play.ensures.sofar))
+    (holds_left seal setup log step c.in-Err-play.fault.cause (c.in-Err-play.ensures.refused setup (take i steps) run)
+    (laws.whole setup (take i steps) log run.valid run.played) (λ side counter e. laws.exhausted setup (take i steps) log step side counter run.valid run.played e))
 
 pub loop-i-preserved : goal.loop-i-preserved
 loop-i-preserved g c =

@@ -6,13 +6,13 @@ use Rattle.media_model.specs.declared.setup.Media.{Media}
 use Rattle.media_model.specs.Setup.{streams_in}
 use Rattle.media_model.specs.Sides.{peer_of}
 use Rattle.media_play.specs.Listing.{NoRepeat}
-use Rattle.media_play.proofs.Soundness.{sound_setup, right_material}
+use Rattle.media_play.proofs.Soundness.{right_mtu, sound_setup, right_material}
 use Rattle.media_play.proofs.StartingLists.{flat_more, flat_once}
 use Rattle.media_play.proofs.StartingSteps.{starts_same}
 use Rattle.media_play.proofs.starting.start.Goals as goal
 
 pub with_keys-requires : goal.with_keys-requires
-with_keys-requires g c = right_material c.args.setup.now c.requires
+with_keys-requires g c = record { key = right_material c.args.setup.now c.requires; mtu = right_mtu c.args.setup.now c.requires }
 
 pub loop-media-preserved : goal.loop-media-preserved
 loop-media-preserved g c =

@@ -13,7 +13,7 @@ returns-clause-complete g c setup acts order no_read no_write =
 
 pub returns-clause-played : goal.returns-clause-played
 returns-clause-played g c setup acts told =
-    script_plays c.plays_steps.ensures _ _ setup acts _ _ (answers_script _ _ _ _ _ _ setup acts _ _ c.script_spells_one.ensures c.answer.ensures.answers told)
+    script_plays c.plays_steps.ensures.whole c.plays_steps.ensures.exhausted _ _ setup acts _ _ (answers_script _ _ _ _ _ _ setup acts _ _ c.script_spells_one.ensures c.answer.ensures.answers told)
 
 pub returns-clause-steps : goal.returns-clause-steps
 returns-clause-steps g c setup acts told =

@@ -3,7 +3,7 @@ use Rattle.media_play.specs.declared.fault.RunError.{RunError}
 use Rattle.media_play.specs.Running.{HasCause}
 use Rattle.mediasim.specs.Lines.{bytes_of}
 use Rattle.mediasim.specs.RunCommand.{script_sealing}
-use Rattle.mediasim.proofs.Runs.{step_ends, done_ends, memory_ends}
+use Rattle.mediasim.proofs.Runs.{key_ends, step_ends, done_ends, memory_ends}
 use Rattle.mediasim.proofs.run_command.play_steps.Goals as goal
 
 pub returns-in-Step-clause-ended : goal.returns-in-Step-clause-ended
@@ -33,3 +33,14 @@ returns-in-Memory-clause-ended c =
     memory_ends setup steps sofar c.out_of_memory.result.entries c.out_of_memory.result.end (bytes_of c.out_of_memory.result.last)
     c.out_of_memory.ensures.end c.out_of_memory.ensures.last c.out_of_memory.ensures.entries
     (subst (λ (x : RunError). HasCause (script_sealing setup) setup steps sofar x) c.in-Memory.is e.cause)
+
+pub returns-in-KeyExhausted-clause-ended : goal.returns-in-KeyExhausted-clause-ended
+returns-in-KeyExhausted-clause-ended c =
+    let setup = c.args.setup.now in
+    let steps = c.args.steps.now in
+    let sofar = c.in-Err.fault.sofar in
+    let e = c.in-Err.ensures in
+    key_ends (λ text. string_bytes text) setup steps c.in-KeyExhausted.side c.in-KeyExhausted.counter sofar c.new-in-KeyExhausted.result.entries c.key_line.result c.new-in-KeyExhausted.result.end (bytes_of c.new-in-KeyExhausted.result.last)
+    c.new-in-KeyExhausted.ensures.last c.key_line.ensures c.new-in-KeyExhausted.ensures.entries
+    (subst (λ (x : RunError). HasCause (script_sealing setup) setup steps sofar x) c.in-KeyExhausted.is e.cause)
+    e.holds

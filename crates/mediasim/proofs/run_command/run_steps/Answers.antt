@@ -5,7 +5,7 @@ use Rattle.media_play.specs.Headline.{HoldsOfRun}
 use Rattle.media_play.specs.Play.{Played}
 use Rattle.media_play.specs.Running.{HasCause, OfRun}
 use Rattle.media_play.specs.Sessions.{sealing_of}
-use Rattle.media_play.specs.SetupRules.{setup_fault}
+use Rattle.setup_rules.specs.SetupRules.{setup_fault}
 use Rattle.mediasim.specs.RunCommand.{meaning_of}
 use Rattle.mediasim.proofs.Runs.{all_holds}
 use Rattle.mediasim.proofs.run_command.run_steps.Goals as goal

@@ -19,7 +19,7 @@ returns-in_default g c setup entries came sound rtp same ready =
     let stands : StandsFor Remembers c.self.inside.session ready.session = subst (λ (v : SessionView MaskRegister). StandsFor Remembers v ready.session) (sym view) ready.stands in
     let h = c.in-Ok.ensures.received ready.session stands in
     let received = subst (λ (l : List ℕ). ReceivesHere cipher ready.session l c.args.time h.0 c.in-Ok.opened) (sym same) h.1 in
-    let after = arrival_stays cipher setup came c.header_reads_own_bytes.ensures sound c.args.self.now entries ready c.args.time received c.in_default.is in
+    let after = arrival_stays cipher setup came c.header_reads_own_bytes.ensures sound c.args.self.now entries ready c.args.time rtp received c.in_default.is in
     let unopened : c.handle_rtp_receive.new.self ≡ c.self.inside.session = rw c.in_default.is at c.in-Ok.ensures.unopened in
     let still : ◌≡◌ {A = EndState} (record { session = c.handle_rtp_receive.new.self; written = c.self.inside.written.items }) c.args.self.now =
     ap {A = SessionView MaskRegister} {B = EndState} (λ v. record { session = v; written = c.self.inside.written.items }) unopened ∙ c.self.view_is in

@@ -1,12 +1,14 @@
-use Rattle.std.proofs.Common.{Some, ap, sym, ◌∙◌}
+use Rattle.std.proofs.Common.{sym, ◌∙◌, subst, ℕ, List}
 use Rattle.media_model.specs.declared.step.Step.TheVariants.{Deliver}
-use Rattle.media_play.specs.Play.{delivered}
+use Rattle.media_play.specs.Opening.{got_as}
+use Rattle.media_play.specs.Play.{delivered, Brings}
 use Rattle.media_play.proofs.OthersReceive.{no_fault}
 use Rattle.media_play.proofs.pair.Pair.deliver.Goals as goal
 
 pub returns-clause-played : goal.returns-clause-played
 returns-clause-played g c setup steps is_run =
-    let known = c.in_ok-datagram_for.ensures in
+    let known = c.in_ok-sealed.ensures in
     c.in_ok-receive.ensures.played setup steps (Deliver c.args.side c.args.time c.args.datagram) is_run
     (no_fault _ _ (c.in_ok-check_time.ensures.fault c.args.self.now.log is_run.time) known.0)
-    (delivered c.args.side c.args.time c.args.datagram c.in_ok-bytes.bytes known.1 (known.2 ∙ ap Some (sym c.in_ok-bytes.ensures)))
+    (subst (λ (l : List ℕ). Brings c.args.self.now.log (got_as c.args.side c.args.time c.in_ok-sealed.sealed.now.kind l) (Deliver c.args.side c.args.time c.args.datagram))
+    (sym (c.in_ok-bytes.ensures ∙ c.as_slice.ensures)) (delivered c.args.side c.args.time c.args.datagram c.in_ok-sealed.sealed.now known.1 known.2))

@@ -8,7 +8,7 @@ use Rattle.media_play.specs.Errors.{IsCauseAt}
 use Rattle.media_play.specs.Rules.{time_fault, write_fault}
 use Rattle.media_play.specs.Running.{RunState, IsRunOf, PlaysOn, Refuses}
 use Rattle.media_play.specs.Sessions.{Ready, sealing_of}
-use Rattle.media_play.proofs.Others.{ready_wrote_other, refused_after, handed_on, running_wrote}
+use Rattle.media_play.proofs.Others.{cause_of_step, ready_wrote_other, refused_after, handed_on, running_wrote}
 use Rattle.media_play.proofs.Soundness.{sound_setup}
 use Rattle.media_play.proofs.pair.Pair.write.Goals as goal
 use Rattle.media_play.proofs.pair.Pair.write.Goals.{in-A+in_ok-write_step-in-A, in-B+in_ok-write_step-in-B}
@@ -26,9 +26,10 @@ returns-in_err-write_step-in-A-clause-refused g c =
     let here = subst (λ (r : RunState). IsRunOf K.meaning setup steps r) (sym c.self.view_is) is_run in
     let in_time : time_fault c.args.self.now.log c.args.time ≡ None = c.in_ok-check_time.ensures.fault c.args.self.now.log is_run.time in
     let ready = subst (λ (s : Side). Ready K.meaning setup s c.self.inside.a run.log) (sym c.in-A.is) here.a_knows in
-    refused_after e (time_fault c.args.self.now.log c.args.time) (write_fault setup c.args.self.now.log side write) in_time
+    cause_of_step setup c.args.self.now.log (Write side c.args.time write) e
+    (refused_after e (time_fault c.args.self.now.log c.args.time) (write_fault setup c.args.self.now.log side write) in_time
     (subst (λ (r : RunState). IsCauseAt (write_fault setup r.log side write) e) c.self.view_is
-    (c.in_err-write_step-in-A.ensures.refused setup run.log ready)))
+    (c.in_err-write_step-in-A.ensures.refused setup run.log ready))))
 
 pub returns-in_err-write_step-in-B-clause-refused : goal.returns-in_err-write_step-in-B-clause-refused
 returns-in_err-write_step-in-B-clause-refused g c =
@@ -43,9 +44,10 @@ returns-in_err-write_step-in-B-clause-refused g c =
     let here = subst (λ (r : RunState). IsRunOf K.meaning setup steps r) (sym c.self.view_is) is_run in
     let in_time : time_fault c.args.self.now.log c.args.time ≡ None = c.in_ok-check_time.ensures.fault c.args.self.now.log is_run.time in
     let ready = subst (λ (s : Side). Ready K.meaning setup s c.self.inside.b run.log) (sym c.in-B.is) here.b_knows in
-    refused_after e (time_fault c.args.self.now.log c.args.time) (write_fault setup c.args.self.now.log side write) in_time
+    cause_of_step setup c.args.self.now.log (Write side c.args.time write) e
+    (refused_after e (time_fault c.args.self.now.log c.args.time) (write_fault setup c.args.self.now.log side write) in_time
     (subst (λ (r : RunState). IsCauseAt (write_fault setup r.log side write) e) c.self.view_is
-    (c.in_err-write_step-in-B.ensures.refused setup run.log ready)))
+    (c.in_err-write_step-in-B.ensures.refused setup run.log ready))))
 
 pub returns-clause-played : goal.returns-clause-played
 returns-clause-played g c setup steps is_run =

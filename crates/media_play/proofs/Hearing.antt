@@ -1,0 +1,210 @@
+-- What an end of a run makes of RTCP that came.
+use Rattle.std.proofs.Common.{◌≡◌, ℕ, Bool, zero, suc, List, [], ◌∷◌, ◌++◌, Option, Some, None, refl, sym, ap, ◌∙◌, subst, cond}
+use Rattle.std.specs.Option.{option_map_or}
+use Rattle.std.specs.List.{AllByRecursion}
+use Rattle.std.specs.Map.{keys_of}
+use Rattle.std.proofs.lemmas.Option.{same_Some, none-some}
+use Rattle.mask_register.specs.declared.register.MaskRegister.{MaskRegister}
+use Rattle.mask_register.specs.MaskRegister.{Remembers}
+use Rattle.rtcp_wire.specs.declared.feedback.AppSpecificFeedback.{AppSpecificFeedback}
+use Rattle.rtcp_wire.specs.declared.rtcp_fb.RtcpFb.{RtcpFb}
+use Rattle.rtcp_wire.specs.declared.rtcp_fb.RtcpFb.TheVariants.{SenderInfo, ReceptionReport, SourceDescription, Goodbye, Rrtr, DlrrItem, Nack, Pli, Fir, Twcc, Remb, AppSpecificFeedback as ApplicationFeedback}
+use Rattle.srtp_core.specs.Cipher.{CipherMeaning}
+use Rattle.srtp_core.specs.Contexts.{SrtpState, new_state}
+use Rattle.srtp_core.specs.RtcpSeals.{RtcpOpensTo}
+use Rattle.stream_core.specs.Tables.{place_of, change_place}
+use Rattle.stream_core.specs.TxRecord.{TxRecord, after_reception}
+use Rattle.session_core.specs.Calls.{after_next, after_event}
+use Rattle.session_core.specs.Hearing.{RtcpOpensIn, rtcp_opening_of, feedback_in, acknowledged_by, acknowledged, last_application, after_rtcp, ReceivesRtcp, opened as opened_so, stays as stays_so}
+use Rattle.session_core.specs.SessionRecord.{MediaRecord, SessionState, SessionView, SessionRecord, StandsFor}
+use Rattle.session_core.specs.declared.datagram.Opened.{Opened as OpenedHere}
+use Rattle.rtp_base.specs.declared.kind.Kind.TheVariants.{Rtp, Rtcp}
+use Rattle.media_model.specs.declared.entry.Side.{Side}
+use Rattle.media_model.specs.declared.entry.Got.{Got as GotEntry}
+use Rattle.media_model.specs.declared.entry.Entry.{Entry}
+use Rattle.media_model.specs.declared.entry.Entry.TheVariants.{Got, Opened}
+use Rattle.media_model.specs.declared.setup.Setup.{Setup}
+use Rattle.media_model.specs.Setup.{material_of}
+use Rattle.media_model.specs.Sides.{peer_of}
+use Rattle.media_play.specs.Knowing.{SendsAs, Knows}
+use Rattle.media_play.specs.Opening.{Receives, OpensRtcp, opened_rtcp_as, opens_rtcp, stays}
+use Rattle.media_play.specs.Sessions.{is_left, sealing_of, EndState, Ready}
+use Rattle.media_play.proofs.Appends.{queued-got, taken-opens_rtcp}
+use Rattle.media_play.proofs.Arrivals.{keys_there}
+use Rattle.media_play.proofs.Indices.{next_index-got}
+use Rattle.media_play.proofs.Stands.{writes_on-got}
+use Rattle.media_play.proofs.Takes.{ready_got, ready_still}
+
+-- an acknowledgement leaves what waits
+
+all_change : {X : Type 0} (P : ℕ × X → Type 0) (f : X → X) → ((e : ℕ × X) → P e → P (e.0, f e.1)) → (es : List (ℕ × X)) (i : ℕ) → AllByRecursion P es
+    → AllByRecursion P (change_place f es i)
+all_change P f keeps [] i h = tt
+all_change P f keeps (e ∷ es) zero h = (keeps e h.0, h.1)
+all_change P f keeps (e ∷ es) (suc i) h = (h.0, all_change P f keeps es i h.1)
+
+same_keys : {X : Type 0} (f : X → X) (es : List (ℕ × X)) (i : ℕ) → keys_of (change_place f es i) ≡ keys_of es
+same_keys f [] i = refl
+same_keys f (e ∷ es) zero = refl
+same_keys f (e ∷ es) (suc i) = ap (λ (ks : List ℕ). e.0 ∷ ks) (same_keys f es i)
+
+all_at : {X : Type 0} (P : ℕ × X → Type 0) (f : X → X) → ((e : ℕ × X) → P e → P (e.0, f e.1)) → (es : List (ℕ × X)) (o : Option ℕ) → AllByRecursion P es
+    → AllByRecursion P (option_map_or (change_place f es) o es)
+all_at P f keeps es None h = h
+all_at P f keeps es (Some i) h = all_change P f keeps es i h
+
+keys_at : {X : Type 0} (f : X → X) (es : List (ℕ × X)) (o : Option ℕ) → keys_of (option_map_or (change_place f es) o es) ≡ keys_of es
+keys_at f es None = refl
+keys_at f es (Some i) = same_keys f es i
+
+module _ (side : Side) (entries : List Entry) (medias : List MediaRecord) where
+  abbrev Sends : ℕ × TxRecord → Type 0
+  Sends = SendsAs side entries medias
+
+  still_sends : (f : RtcpFb) (es : List (ℕ × TxRecord)) → AllByRecursion Sends es → AllByRecursion Sends (acknowledged_by f es)
+  still_sends (ReceptionReport b) es h =
+      all_at Sends (after_reception b) (λ e k. record { ssrc = k.ssrc; mid = k.mid; queue = k.queue }) es (place_of b.ssrc es) h
+  still_sends (SenderInfo a) es h = h
+  still_sends (SourceDescription a) es h = h
+  still_sends (Goodbye a) es h = h
+  still_sends (Rrtr a b) es h = h
+  still_sends (DlrrItem a) es h = h
+  still_sends (Nack a b) es h = h
+  still_sends (Pli a) es h = h
+  still_sends (Fir a) es h = h
+  still_sends (Twcc a) es h = h
+  still_sends (Remb a b) es h = h
+  still_sends (ApplicationFeedback a) es h = h
+
+  all_sends : (fs : List RtcpFb) (es : List (ℕ × TxRecord)) → AllByRecursion Sends es → AllByRecursion Sends (acknowledged fs es)
+  all_sends [] es h = h
+  all_sends (f ∷ fs) es h = all_sends fs (acknowledged_by f es) (still_sends f es h)
+
+keys_by : (f : RtcpFb) (es : List (ℕ × TxRecord)) → keys_of (acknowledged_by f es) ≡ keys_of es
+keys_by (ReceptionReport b) es = keys_at (after_reception b) es (place_of b.ssrc es)
+keys_by (SenderInfo a) es = refl
+keys_by (SourceDescription a) es = refl
+keys_by (Goodbye a) es = refl
+keys_by (Rrtr a b) es = refl
+keys_by (DlrrItem a) es = refl
+keys_by (Nack a b) es = refl
+keys_by (Pli a) es = refl
+keys_by (Fir a) es = refl
+keys_by (Twcc a) es = refl
+keys_by (Remb a b) es = refl
+keys_by (ApplicationFeedback a) es = refl
+
+all_keys : (fs : List RtcpFb) (es : List (ℕ × TxRecord)) → keys_of (acknowledged fs es) ≡ keys_of es
+all_keys [] es = refl
+all_keys (f ∷ fs) es = all_keys fs (acknowledged_by f es) ∙ keys_by f es
+
+-- what a session makes of it: the acknowledgements, and nothing that waits to be told
+abbrev pub heard : List ℕ → SessionState → SessionState
+heard plain s = record s { tx = acknowledged (feedback_in plain) s.tx; application = None; packet = None }
+
+told_then : (s : SessionState) (tx : List (ℕ × TxRecord)) (a : Option AppSpecificFeedback) → s.packet ≡ None
+    → after_next a (record s { tx = tx; application = a }) ≡ record s { tx = tx; application = None; packet = None }
+told_then s tx None none = refl
+told_then s tx (Some f) none = ap {A = Option _} {B = SessionState} (λ p. record s { tx = tx; application = None; packet = p }) none
+
+pub heard_is : (plain : List ℕ) (s : SessionState) {a b : SrtpState} → s.sealing ≡ Some a → s.opening ≡ Some b → s.packet ≡ None → after_event (after_rtcp plain s) ≡ heard plain s
+heard_is plain s seals opens none =
+    ap {A = Bool} {B = SessionState} (λ l. cond l (after_rtcp plain s) (after_next (after_rtcp plain s).application (after_rtcp plain s))) (keys_there s seals opens)
+    ∙ told_then s (acknowledged (feedback_in plain) s.tx) (last_application (feedback_in plain) s.application) none
+
+-- what is told of what opened, and what is known if nothing did
+
+pub record Heard (cipher : CipherMeaning) (s : SessionState) (bytes : List ℕ) (after : SessionState) (told : OpenedHere) : Type 0 where
+  pub plain : List ℕ
+  pub opens : RtcpOpensIn cipher s.opening bytes plain
+  pub left : after ≡ after_rtcp plain s
+  pub is : told ≡ rtcp_opening_of s.opening bytes plain
+
+pub heard_so : {cipher : CipherMeaning} {s after : SessionState} {bytes : List ℕ} (o : Option OpenedHere) (told : OpenedHere) → ReceivesRtcp cipher s bytes after o → o ≡ Some told
+    → Heard cipher s bytes after told
+heard_so _ told (opened_so plain o) e = record { plain = plain; opens = o; left = refl; is = sym (same_Some _ told e) }
+heard_so _ told (stays_so none) e = absurd (none-some told e)
+
+pub unheard_so : {cipher : CipherMeaning} {s after : SessionState} {bytes : List ℕ} (o : Option OpenedHere) → ReceivesRtcp cipher s bytes after o → o ≡ None
+    → (after ≡ s) × ((plain : List ℕ) → RtcpOpensIn cipher s.opening bytes plain → ⊥)
+unheard_so _ (opened_so plain o) e = absurd (none-some _ (sym e))
+unheard_so _ (stays_so none) e = (refl, none)
+
+module _ (cipher : CipherMeaning) (setup : Setup) (came : GotEntry) (end : EndState) (entries : List Entry) (rtcp : came.kind ≡ Rtcp)
+    (ready : Ready cipher setup came.side end entries) where
+  abbrev session : SessionRecord
+  session = ready.session
+
+  abbrev state : SrtpState
+  state = new_state cipher setup.profile (material_of setup) (is_left (peer_of came.side)) 0
+
+  to_packet : (plain : List ℕ) → RtcpOpensIn cipher session.state.opening came.bytes plain → OpensRtcp (sealing_of cipher setup) came plain
+  to_packet plain o =
+      let to : RtcpOpensTo cipher state.profile state.keys came.bytes plain = subst (λ k. RtcpOpensIn cipher k came.bytes plain) ready.opens o in
+      record { rtcp = rtcp; header = to.header; sealed = to.seal }
+
+  of_packet : (plain : List ℕ) → OpensRtcp (sealing_of cipher setup) came plain → RtcpOpensIn cipher session.state.opening came.bytes plain
+  of_packet plain o =
+      let to : RtcpOpensTo cipher state.profile state.keys came.bytes plain = record { header = o.header; seal = o.sealed } in
+      subst (λ k. RtcpOpensIn cipher k came.bytes plain) (sym ready.opens) to
+
+  pub hears_none : ((plain : List ℕ) → RtcpOpensIn cipher session.state.opening came.bytes plain → ⊥)
+      → Receives (sealing_of cipher setup) setup entries came [] × Ready cipher setup came.side end (entries ++ Got came ∷ [])
+  hears_none none = (
+    stays (λ header number plain o. let both : Rtp ≡ Rtcp = sym o.rtp ∙ rtcp in absurd cc) (λ plain o. none plain (of_packet plain o)),
+    ready_got cipher setup came.side entries came end ready,
+  )
+
+  module _ (plain : List ℕ) (o : RtcpOpensIn cipher session.state.opening came.bytes plain) where
+    abbrev chunk : List Entry
+    chunk = Opened (opened_rtcp_as (sealing_of cipher setup) came plain) ∷ []
+
+    received : Receives (sealing_of cipher setup) setup entries came chunk
+    received = opens_rtcp plain (to_packet plain o)
+
+    knows_heard : Knows setup came.side (record session { state = heard plain session.state }) entries
+    knows_heard =
+        let h = ready.knows in
+        record {
+          target = h.target;
+          runs = h.runs;
+          feedback = h.feedback;
+          application = refl;
+          told = refl;
+          types = h.types;
+          exts = h.exts;
+          outgoing = all_keys (feedback_in plain) session.state.tx ∙ h.outgoing;
+          sends = all_sends came.side entries session.state.medias (feedback_in plain) session.state.tx h.sends;
+          incoming = h.incoming;
+          takes = h.takes;
+          probes = h.probes;
+        }
+
+    pub hears_packet : (told : OpenedHere) → told ≡ rtcp_opening_of session.state.opening came.bytes plain → (final : SessionView MaskRegister)
+        → final ≡ record end.session { state = heard plain session.state }
+        → Receives (sealing_of cipher setup) setup entries came (Opened (record { side = came.side; kind = Rtcp; ssrc = told.ssrc; index = told.index; plain = told.plain }) ∷ [])
+        × Ready cipher setup came.side (record { session = final; written = end.written })
+        (entries ++ Got came ∷ Opened (record { side = came.side; kind = Rtcp; ssrc = told.ssrc; index = told.index; plain = told.plain }) ∷ [])
+    hears_packet told is final left =
+        let entry : Opened (record { side = came.side; kind = Rtcp; ssrc = told.ssrc; index = told.index; plain = told.plain }) ∷ [] ≡ chunk =
+        ap {A = OpenedHere} {B = List Entry} (λ x. Opened (record { side = came.side; kind = Rtcp; ssrc = x.ssrc; index = x.index; plain = x.plain }) ∷ [])
+        (is ∙ ap (λ k. rtcp_opening_of k came.bytes plain) ready.opens) in
+        let before : Ready cipher setup came.side (record { session = final; written = end.written }) entries =
+        record {
+          session = record session { state = heard plain session.state };
+          stands = subst (λ v. StandsFor Remembers v (record session { state = heard plain session.state })) (sym left)
+              (record { state = refl; rx = ready.stands.rx; probes = ready.stands.probes });
+          seals = ready.seals;
+          opens = ready.opens;
+          bounded = ready.bounded;
+          knows = knows_heard;
+          used = ready.used;
+        } in
+        subst (λ (l : List Entry). Receives (sealing_of cipher setup) setup entries came l × Ready cipher setup came.side (record { session = final; written = end.written }) (entries ++ Got came ∷ l))
+        (sym entry) (
+          received,
+          ready_still setup came.side entries (entries ++ Got came ∷ chunk)
+              (λ r. queued-got came.side r entries came chunk received) (λ r. writes_on-got came.side r entries came chunk received)
+              (λ r. taken-opens_rtcp (sealing_of cipher setup) came.side r entries came plain)
+              (next_index-got setup came.side entries came chunk received) cipher (record { session = final; written = end.written }) before,
+        )

@@ -1,7 +1,0 @@
-use Rattle.std.proofs.Common.{◌≡◌, ◌++◌, take}
-use Rattle.std.specs.List.{flat_map}
-use Rattle.media_play.specs.SetupRules.{both_of}
-use Rattle.media_play.proofs.setup_rules.add_ssrcs.Given as goal
-
-abbrev pub invariant-loop-stream : goal.invariant-loop-stream
-invariant-loop-stream l = l.ssrcs.items ≡ l.fn.ssrcs.items ++ flat_map both_of (take l.stream-index l.streams)

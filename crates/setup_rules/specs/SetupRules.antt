@@ -1,0 +1,101 @@
+-- The rules of a setup, and the first one that it breaks.
+use Rattle.std.specs.Prelude.{ℕ, Bool, true, false, not, ◌||◌, ◌&&◌, ◌==◌, nat_lt, nat_le, List, [], ◌∷◌, ◌++◌, length, option_to_list, Option, Some, None, is_some, if◌then◌else◌}
+use Rattle.std.specs.List.{flat_map, list_any}
+use Rattle.std.specs.Str.{bytes_eq}
+use Rattle.rtp_wire.specs.Extensions.{extension_number}
+use Rattle.media_model.specs.declared.setup.NamedExtension.{NamedExtension}
+use Rattle.media_model.specs.declared.setup.Stream.{Stream}
+use Rattle.media_model.specs.declared.setup.Media.{Media}
+use Rattle.media_model.specs.declared.setup.Mtu.{Mtu}
+use Rattle.media_model.specs.declared.setup.Setup.{Setup}
+use Rattle.srtp_core.specs.Keys.{material_len}
+use Rattle.media_model.specs.Setup.{material_of, types_of, is_extension_id}
+use Rattle.media_model.specs.Sides.{same_side}
+use Rattle.setup_rules.specs.declared.fault.SetupFault.{SetupFault}
+use Rattle.setup_rules.specs.declared.fault.SetupFault.TheVariants.{KeyLength, Mtu as MtuRule, Times, ExtId, TypeTwice, SsrcZero, SsrcTwice, RidTwice, RtxLater}
+
+-- a number stands in a list
+abbrev pub has : List ℕ → ℕ → Bool
+has xs n = list_any (λ x. x == n) xs
+
+-- the fault of the first rule of a list that is broken
+abbrev pub first_fault : {F : Type 0} → List (Bool × F) → Option F
+first_fault [] = None
+first_fault (rule ∷ rules) = if rule.0 then Some rule.1 else first_fault rules
+
+-- a number stands twice
+abbrev pub repeats : List ℕ → Bool
+repeats [] = false
+repeats (x ∷ xs) = has xs x || repeats xs
+
+-- two lines share an id or an extension
+abbrev pub clash : NamedExtension → NamedExtension → Bool
+clash m n = m.id == n.id || extension_number m.extension == extension_number n.extension
+
+-- an id is outside 1 to 14, or two lines share an id or an extension
+abbrev pub any_ext_wrong : List NamedExtension → Bool
+any_ext_wrong [] = false
+any_ext_wrong (n ∷ ns) = not (is_extension_id n.id) || list_any (clash n) ns || any_ext_wrong ns
+
+-- the streams of both sides, in order
+abbrev pub all_streams : Setup → List Stream
+all_streams setup = flat_map (λ (m : Media). m.streams) setup.media
+
+-- the main SSRC of a stream, and its RTX SSRC where it has one
+abbrev pub both_of : Stream → List ℕ
+both_of stream = stream.ssrc ∷ option_to_list stream.rtx
+
+abbrev pub stream_ssrcs : Setup → List ℕ
+stream_ssrcs setup = flat_map both_of (all_streams setup)
+
+-- the SSRCs under which the sides themselves speak, and then those of all streams
+abbrev pub all_ssrcs : Setup → List ℕ
+all_ssrcs setup = setup.a.ssrc ∷ setup.b.ssrc ∷ stream_ssrcs setup
+
+-- 900 to 1,500 bytes, and the target is not the greater one
+abbrev pub is_mtu : Mtu → Bool
+is_mtu mtu = nat_le 900 mtu.target && nat_le mtu.target mtu.warn && nat_le mtu.warn 1500
+
+abbrev pub any_mid_again : List Media → Bool
+any_mid_again [] = false
+any_mid_again (m ∷ ms) = list_any (λ (n : Media). bytes_eq n.mid m.mid) ms || any_mid_again ms
+
+-- a stream without a rid shares every rid
+abbrev pub rids_meet : Option (List ℕ) → Option (List ℕ) → Bool
+rids_meet (Some a) (Some b) = bytes_eq a b
+rids_meet _ _ = true
+
+-- two streams of one media and side share a rid
+abbrev pub meets : Stream → Stream → Bool
+meets s t = same_side s.side t.side && rids_meet s.rid t.rid
+
+abbrev pub any_rid_again : List Stream → Bool
+any_rid_again [] = false
+any_rid_again (s ∷ ss) = list_any (meets s) ss || any_rid_again ss
+
+abbrev pub has_rtx : Stream → Bool
+has_rtx stream = is_some stream.rtx
+
+-- the rules of media and their streams
+abbrev pub media_rules : List Media → List (Bool × SetupFault)
+media_rules media =
+    (any_mid_again media || list_any (λ (m : Media). any_rid_again m.streams) media, RidTwice)
+    ∷ (list_any (λ (m : Media). list_any has_rtx m.streams) media, RtxLater) ∷ []
+
+-- the rules of a setup, in their order
+abbrev pub setup_rules : Setup → List (Bool × SetupFault)
+setup_rules setup =
+    (not (length (material_of setup) == material_len setup.profile), KeyLength)
+    ∷ (not (is_mtu setup.mtu), MtuRule)
+    ∷ (nat_lt 2075000000 setup.beginning.unix_secs, Times)
+    ∷ (any_ext_wrong setup.exts, ExtId)
+    ∷ (list_any (nat_lt 127) (types_of setup) || repeats (types_of setup), TypeTwice)
+    ∷ (has (all_ssrcs setup) 0, SsrcZero)
+    ∷ (repeats (all_ssrcs setup), SsrcTwice)
+    ∷ media_rules setup.media
+
+abbrev pub media_fault : List Media → Option SetupFault
+media_fault media = first_fault (media_rules media)
+
+abbrev pub setup_fault : Setup → Option SetupFault
+setup_fault setup = first_fault (setup_rules setup)

@@ -1,0 +1,219 @@
+// The rules of a setup.
+ghost use Rattle.std.specs.Prelude.{◌≡◌, ◌||◌, ◌++◌, ◌==◌, bytes_eq, nat_lt, length, IfOk, OnOk};
+ghost use Rattle.std.specs.List.{list_any, flat_map};
+ghost use Rattle.srtp_core.specs.Keys.{material_len};
+ghost use Rattle.media_model.specs.Setup.{material_of, types_of};
+ghost use Rattle.setup_rules.specs.SetupRules.{has};
+ghost use Rattle.setup_rules.specs.SetupRules.{repeats, clash, any_ext_wrong, both_of, all_ssrcs, is_mtu, any_mid_again, rids_meet, meets, any_rid_again, has_rtx, media_fault, setup_fault};
+
+use crate::fault::SetupFault;
+use media_model::{Media, Mtu, NamedExtension, Setup, Stream};
+use rtp_wire::{Mid, Pt, Rid};
+use std::alloc::{AllocError, Global};
+
+/// The greatest payload type.
+const MAX_PT: u8 = 127;
+
+/// The least target for the length of a datagram, in bytes.
+const LEAST_TARGET: u64 = 900;
+
+/// The greatest length of a datagram to warn of, in bytes.
+const GREATEST_WARN: u64 = 1_500;
+
+/// The greatest Unix time of the moment 0, in seconds: the NTP seconds of every step fit 32 bits.
+const MAX_UNIX_SECS: u64 = 2_075_000_000;
+
+fn has_number(numbers: &[u32], number: u32) -> bool
+    ensures { result ≡ has numbers.now number }
+{
+    numbers.iter().any(|n| *n == number)
+}
+
+fn any_number_again(numbers: &[u32]) -> bool
+    ensures { result ≡ repeats numbers.now }
+{
+    for (i, number) in numbers.iter().enumerate() {
+        if has_number(&numbers[i + 1..], *number) {
+            return true;
+        }
+    }
+    false
+}
+
+fn has_type(types: &[Pt], pt: Pt) -> bool
+    ensures { result ≡ has types.now pt }
+{
+    types.iter().any(|t| *t == pt)
+}
+
+fn any_type_again(types: &[Pt]) -> bool
+    ensures { result ≡ repeats types.now }
+{
+    for (i, pt) in types.iter().enumerate() {
+        if has_type(&types[i + 1..], *pt) {
+            return true;
+        }
+    }
+    false
+}
+
+fn any_type_above(types: &[Pt]) -> bool
+    ensures { result ≡ list_any (nat_lt 127) types.now }
+{
+    types.iter().any(|pt| u8::from(*pt) > MAX_PT)
+}
+
+fn clashes(exts: &[NamedExtension], named: &NamedExtension) -> bool
+    ensures { result ≡ list_any (clash named.now) exts.now }
+{
+    exts.iter().any(|n| named.id == n.id || named.extension as u8 == n.extension as u8)
+}
+
+fn any_ext_wrong(exts: &[NamedExtension]) -> bool
+    ensures { result ≡ any_ext_wrong exts.now }
+{
+    for (i, named) in exts.iter().enumerate() {
+        let has_id = named.id >= 1 && named.id <= 14;
+        if !has_id || clashes(&exts[i + 1..], named) {
+            return true;
+        }
+    }
+    false
+}
+
+fn add_ssrcs(ssrcs: &mut Vec<u32>, streams: &[Stream]) -> Result<(), AllocError>
+    ensures { OnOk result (ssrcs.new.items ≡ ssrcs.old.items ++ flat_map both_of streams.now) }
+{
+    for stream in streams {
+        ssrcs.push(u32::from(stream.ssrc))?;
+        if let Some(rtx) = stream.rtx {
+            ssrcs.push(u32::from(rtx))?;
+        }
+    }
+    Ok(())
+}
+
+/// The SSRCs of the sides themselves, and then those of all streams.
+fn all_ssrcs(alloc: Global, setup: &Setup) -> Result<Vec<u32>, AllocError>
+    ensures { IfOk result (λ v. v.items ≡ all_ssrcs setup.now) }
+{
+    let mut ssrcs = vec![in alloc; u32::from(setup.a.ssrc), u32::from(setup.b.ssrc)]?;
+    for media in setup.media.as_slice() {
+        add_ssrcs(&mut ssrcs, media.streams.as_slice())?;
+    }
+    Ok(ssrcs)
+}
+
+fn is_mtu(mtu: &Mtu) -> bool
+    ensures { result ≡ is_mtu mtu.now }
+{
+    LEAST_TARGET <= mtu.target && mtu.target <= mtu.warn && mtu.warn <= GREATEST_WARN
+}
+
+fn has_mid(media: &[Media], mid: &Mid) -> bool
+    ensures { result ≡ list_any (λ m. bytes_eq m.mid mid.now) media.now }
+{
+    media.iter().any(|m| m.mid == *mid)
+}
+
+fn any_mid_again(media: &[Media]) -> bool
+    ensures { result ≡ any_mid_again media.now }
+{
+    for (i, m) in media.iter().enumerate() {
+        if has_mid(&media[i + 1..], &m.mid) {
+            return true;
+        }
+    }
+    false
+}
+
+fn rids_meet(a: &Option<Rid>, b: &Option<Rid>) -> bool
+    ensures { result ≡ rids_meet a.now b.now }
+{
+    match (a, b) {
+        (Some(a), Some(b)) => a == b,
+        _ => true,
+    }
+}
+
+fn any_meets(streams: &[Stream], stream: &Stream) -> bool
+    ensures { result ≡ list_any (meets stream.now) streams.now }
+{
+    streams.iter().any(|s| stream.side == s.side && rids_meet(&stream.rid, &s.rid))
+}
+
+fn any_rid_again(streams: &[Stream]) -> bool
+    ensures { result ≡ any_rid_again streams.now }
+{
+    for (i, stream) in streams.iter().enumerate() {
+        if any_meets(&streams[i + 1..], stream) {
+            return true;
+        }
+    }
+    false
+}
+
+fn any_rtx(streams: &[Stream]) -> bool
+    ensures { result ≡ list_any has_rtx streams.now }
+{
+    streams.iter().any(|stream| stream.rtx.is_some())
+}
+
+fn any_media_rid_again(media: &[Media]) -> bool
+    ensures { result ≡ list_any (λ m. any_rid_again m.streams) media.now }
+{
+    media.iter().any(|m| any_rid_again(m.streams.as_slice()))
+}
+
+fn any_media_rtx(media: &[Media]) -> bool
+    ensures { result ≡ list_any (λ m. list_any has_rtx m.streams) media.now }
+{
+    media.iter().any(|m| any_rtx(m.streams.as_slice()))
+}
+
+/// The first rule of media and their streams that a setup breaks.
+fn check_media(media: &[Media]) -> Option<SetupFault>
+    ensures { result ≡ media_fault media.now }
+{
+    if any_mid_again(media) {
+        return Some(SetupFault::RidTwice);
+    }
+    if any_media_rid_again(media) {
+        return Some(SetupFault::RidTwice);
+    }
+    if any_media_rtx(media) {
+        return Some(SetupFault::RtxLater);
+    }
+    None
+}
+
+/// The first rule that a setup breaks.
+pub fn check_setup(alloc: Global, setup: &Setup) -> Result<Option<SetupFault>, AllocError>
+    ensures { IfOk result (λ fault. fault ≡ setup_fault setup.now) }
+{
+    let material = setup.material(alloc)?;
+    let types = setup.types(alloc)?;
+    let ssrcs = all_ssrcs(alloc, setup)?;
+    if material.len() != setup.profile.keying_material_len() {
+        return Ok(Some(SetupFault::KeyLength));
+    }
+    if !is_mtu(&setup.mtu) {
+        return Ok(Some(SetupFault::Mtu));
+    }
+    if setup.beginning.unix_secs > MAX_UNIX_SECS {
+        return Ok(Some(SetupFault::Times));
+    }
+    if any_ext_wrong(setup.exts.as_slice()) {
+        return Ok(Some(SetupFault::ExtId));
+    }
+    if any_type_above(&types) || any_type_again(&types) {
+        return Ok(Some(SetupFault::TypeTwice));
+    }
+    if has_number(&ssrcs, 0) {
+        return Ok(Some(SetupFault::SsrcZero));
+    }
+    if any_number_again(&ssrcs) {
+        return Ok(Some(SetupFault::SsrcTwice));
+    }
+    Ok(check_media(setup.media.as_slice()))
+}
