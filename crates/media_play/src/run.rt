@@ -71,7 +71,7 @@ impl<C: SrtpCipher> Run<C> {
         match pair.play(alloc, step) {
             Ok(()) => Ok(Run { pair }),
             Err(StepError::Memory) => {
-                let mut sofar = Box::into_inner(pair).into_transcript();
+                let mut sofar = transcript_of(pair);
                 sofar.truncate(len);
                 Err(PlayFault {
                     cause: StepError::Memory,
@@ -80,7 +80,7 @@ impl<C: SrtpCipher> Run<C> {
             }
             Err(cause) => Err(PlayFault {
                 cause,
-                sofar: Box::into_inner(pair).into_transcript(),
+                sofar: transcript_of(pair),
             }),
         }
     }
@@ -96,8 +96,17 @@ impl<C: SrtpCipher> Run<C> {
     pub fn into_transcript(self) -> Transcript
         ensures { result ≡ self.log }
     {
-        Box::into_inner(self.pair).into_transcript()
+        transcript_of(self.pair)
     }
+}
+
+/// What was played so far. The two ends are unpacked in a call of its own, so that no step makes
+/// room for them.
+#[inline(never)]
+fn transcript_of<C: SrtpCipher>(pair: Box<Pair<C>>) -> Transcript
+    ensures { result ≡ pair.value.log }
+{
+    Box::into_inner(pair).into_transcript()
 }
 
 /// The fault of a run whose step of this number, counted from 1, was not played.
