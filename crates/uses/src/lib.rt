@@ -3,12 +3,14 @@
 #![tactic(auto)]
 
 pub mod build_a_script;
+pub mod check_a_setup;
 pub mod copy_bytes;
 pub mod count_a_queue;
 pub mod exchange_a_packet;
 pub mod keep_for_resending;
 pub mod keep_in_a_queue;
 pub mod pace_packets;
+pub mod play_a_run;
 pub mod put_into_order;
 pub mod queue_a_packet;
 pub mod read_a_header;

@@ -1,10 +1,12 @@
 use crate::build_a_script::one_write;
+use crate::check_a_setup::may_be_played;
 use crate::copy_bytes::copy_all;
 use crate::count_a_queue::wait_of_both;
 use crate::exchange_a_packet::exchange;
 use crate::keep_for_resending::keep_and_find;
 use crate::keep_in_a_queue::{queue_of_one, replace};
 use crate::pace_packets::send_next;
+use crate::play_a_run::played;
 use crate::put_into_order::next_frame;
 use crate::queue_a_packet::write_and_poll;
 use crate::read_a_header::{number_of, payload_of};
@@ -198,6 +200,16 @@ fn a_script_is_built(rt: HostRuntime) -> Result<(), Fail> {
     let (setup, steps) = one_write(rt.alloc(), mid(), &[1, 2])?;
     assert_eq!(rt; setup.media.as_slice().len(), 1);
     assert_eq!(rt; steps.len(), 3);
+    Ok(())
+}
+
+#[test]
+fn a_run_is_played(rt: HostRuntime) -> Result<(), Fail> {
+    let alloc = rt.alloc();
+    let (setup, steps) = one_write(alloc, mid(), &[1, 2])?;
+    assert!(rt; may_be_played(alloc, &setup)?);
+    // Written, ticked, sealed, got, opened, yielded.
+    assert_eq!(rt; played(alloc, &setup, &steps).entries().len(), 6);
     Ok(())
 }
 
