@@ -4,7 +4,7 @@ ghost use Rattle.media_model.specs.Setup.{local_of, material_of, streams_of, typ
 
 use crate::entry::Side;
 use crate::srtcp_index::SrtcpIndex;
-use media_base::{Beginning, Bytes, Listed};
+use media_base::{Beginning, Bytes, Duration, Listed};
 use rtp_wire::{Extension, ExtensionMap, Mid, Pt, Rid, Ssrc};
 use srtp_core::SrtpProfile;
 use std::alloc::{AllocError, Global};
@@ -128,6 +128,9 @@ pub struct Setup {
     pub beginning: Beginning,
     /// How long datagrams of both sides may be.
     pub mtu: Mtu,
+    /// A stream that comes counts as paused once no packet of it came for so long: 1.5 s where a
+    /// script says nothing of it.
+    pub pause_threshold: Duration,
     /// What side A alone brings.
     pub a: Local,
     /// What side B alone brings.

@@ -17,7 +17,7 @@ use Rattle.setup_rules.specs.declared.fault.SetupFault.TheVariants.{KeyLength, M
 use Rattle.media_play.specs.Listing.{IsIn, NoRepeat}
 use Rattle.media_play.specs.Rules.{has}
 use Rattle.media_play.specs.SetupFacts.{IsSound}
-use Rattle.setup_rules.specs.SetupRules.{setup_fault, repeats, any_ext_wrong, is_mtu, all_ssrcs, all_streams, both_of}
+use Rattle.setup_rules.specs.SetupRules.{setup_fault, repeats, any_ext_wrong, is_mtu, is_beyond, all_ssrcs, all_streams, both_of}
 use Rattle.media_play.proofs.Lists.{IsIn-right, tested, any-from_in, in-from_any}
 
 fault_none : (b : Bool) (fault : SetupFault) (other : Option SetupFault) → cond b (Some fault) other ≡ None → (b ≡ false) × (other ≡ None)
@@ -86,7 +86,7 @@ pub sound_setup : (setup : Setup) → setup_fault setup ≡ None → IsSound set
 sound_setup setup e =
     let key = fault_none (not (length (material_of setup) == material_len setup.profile)) KeyLength _ e in
     let mtu = fault_none (not (is_mtu setup.mtu)) MtuRule _ key.1 in
-    let time = fault_none (nat_lt 2075000000 setup.beginning.unix_secs) Times _ mtu.1 in
+    let time = fault_none (is_beyond setup) Times _ mtu.1 in
     let ids = fault_none (any_ext_wrong setup.exts) ExtId _ time.1 in
     let type = fault_none (list_any (nat_lt 127) (types_of setup) || repeats (types_of setup)) TypeTwice _ ids.1 in
     let zero = fault_none (has (all_ssrcs setup) 0) SsrcZero _ type.1 in

@@ -8,7 +8,7 @@ use Rattle.media_script.specs.declared.reader.Reader.TheVariants.{InSetup, InSte
 use Rattle.media_script.specs.declared.said.Said.{Said}
 use Rattle.media_script.specs.declared.setup_line.SetupLine.{SetupLine}
 use Rattle.media_model.specs.declared.step.Step.{Step}
-use Rattle.media_script.specs.Grammar.{read_on, is_long, in_few, step_of, setup_line_of, named_line_of, side_line_of}
+use Rattle.media_script.specs.Grammar.{read_on, is_long, in_few, step_of, setup_line_of, number_line_of, named_line_of, side_line_of}
 use Rattle.media_script.specs.Order.{with_line}
 use Rattle.media_script.specs.Spelling.{words_of, AreLines, IsSetupLine, IsStep}
 use Rattle.media_script.specs.Words.{◌>>=◌}
@@ -91,7 +91,7 @@ steps_spelled (line ∷ lines) said said' before all e = go (λ ss. steps_spelle
 
 -- a setup line is no begin
 no_begin : (line : List ℕ) (l : SetupLine) → in_few setup_line_of (words_of line) ≡ Some l → bytes_eq line (codes "begin") ≡ false
-unfolding setup_line_of named_line_of side_line_of
+unfolding setup_line_of number_line_of named_line_of side_line_of
 no_begin line l e = other (bytes_eq line (codes "begin")) refl where
   other : (b : Bool) → bytes_eq line (codes "begin") ≡ b → b ≡ false
   other false is = refl

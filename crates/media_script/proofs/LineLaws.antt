@@ -3,9 +3,9 @@ use Rattle.std.proofs.Common.{◌≡◌, ℕ, ◌^◌, lit≤, List, [], ◌∷�
 use Rattle.std.specs.Prelude.{codes}
 use Rattle.media_script.specs.declared.setup_line.SetupLine.{SetupLine}
 use Rattle.media_script.specs.declared.setup_line.SetupLine.TheVariants as line
-use Rattle.media_script.specs.Grammar.{cipher_line, profile_line, key_line, unix_line, mtu_line, rtcp_line, local_line, ext_line, type_line, media_line, stream_line, no_other, side_kinds, side_line_of, named_kinds, named_line_of, setup_kinds, setup_line_of, in_few}
+use Rattle.media_script.specs.Grammar.{cipher_line, profile_line, key_line, unix_line, mtu_line, pause_line, rtcp_line, local_line, ext_line, type_line, media_line, stream_line, no_other, side_kinds, side_line_of, named_kinds, named_line_of, number_kinds, number_line_of, setup_kinds, setup_line_of, in_few}
 use Rattle.media_script.specs.Spelling.{IsSetupLine}
-use Rattle.media_script.proofs.WordLaws.{number_spelled, number_again, index_spelled, index_again, narrow_spelled, narrow_again, side_spelled, side_again, cipher_spelled, cipher_again, profile_spelled, profile_again, key_spelled, key_again, extension_spelled, extension_again, codec_spelled, codec_again, media_kind_spelled, media_kind_again, rate_spelled, rate_again, name_spelled, name_again, rtx_spelled, rtx_again, rid_spelled, rid_again}
+use Rattle.media_script.proofs.WordLaws.{number_spelled, number_again, millis_spelled, millis_again, index_spelled, index_again, narrow_spelled, narrow_again, side_spelled, side_again, cipher_spelled, cipher_again, profile_spelled, profile_again, key_spelled, key_again, extension_spelled, extension_again, codec_spelled, codec_again, media_kind_spelled, media_kind_again, rate_spelled, rate_again, name_spelled, name_again, rtx_spelled, rtx_again, rid_spelled, rid_again}
 use Rattle.media_script.proofs.KindLaws.{Tells, done_tells, then_tells, look_up_tells, none_tells}
 
 -- the words behind this first word
@@ -28,6 +28,9 @@ mtu_tells : Tells mtu_line (Behind (codes "mtu"))
 mtu_tells =
     then_tells number_spelled (λ t target is. then_tells number_spelled (λ w warn has.
     done_tells (is.1, has.1, λ i. codes "mtu" ∷ is.0 i ∷ has.0 i ∷ [])))
+
+pause_tells : Tells pause_line (Behind (codes "pause"))
+pause_tells = then_tells millis_spelled (λ w threshold is. done_tells (is.0, is.2, is.3, λ i. codes "pause" ∷ is.1 i ∷ []))
 
 rtcp_tells : Tells rtcp_line (Behind (codes "rtcp"))
 rtcp_tells =
@@ -67,19 +70,24 @@ named_line_spelled : (words : List (List ℕ)) (said : SetupLine) → named_line
 unfolding named_line_of
 named_line_spelled = look_up_tells IsSetupLine side_line_of named_kinds (media_tells, (stream_tells, tt)) side_line_spelled
 
+number_line_spelled : (words : List (List ℕ)) (said : SetupLine) → number_line_of words ≡ Some said → IsSetupLine words said
+unfolding number_line_of
+number_line_spelled = look_up_tells IsSetupLine named_line_of number_kinds (unix_tells, (mtu_tells, (pause_tells, tt))) named_line_spelled
+
 -- what a setup line says is how it is spelled
 pub setup_line_spelled : (words : List (List ℕ)) (said : SetupLine) → setup_line_of words ≡ Some said → IsSetupLine words said
 unfolding setup_line_of
-setup_line_spelled = look_up_tells IsSetupLine named_line_of setup_kinds (cipher_tells, (profile_tells, (key_tells, (unix_tells, (mtu_tells, (ext_tells, (type_tells, tt))))))) named_line_spelled
+setup_line_spelled = look_up_tells IsSetupLine number_line_of setup_kinds (cipher_tells, (profile_tells, (key_tells, (ext_tells, (type_tells, tt))))) number_line_spelled
 
 -- and what is spelled so is read
 pub setup_line_again : (words : List (List ℕ)) (said : SetupLine) → IsSetupLine words said → in_few setup_line_of words ≡ Some said
-unfolding setup_line_of named_line_of side_line_of
+unfolding setup_line_of number_line_of named_line_of side_line_of
 setup_line_again words (line.Cipher cipher) is = ap (in_few setup_line_of) is ∙ rw (cipher_again cipher) refl
 setup_line_again words (line.Profile profile) is = ap (in_few setup_line_of) is ∙ rw (profile_again profile) refl
 setup_line_again words (line.Key key) is = ap (in_few setup_line_of) is.2 ∙ rw (key_again is.0 key is.1) refl
 setup_line_again words (line.Unix beginning) is = ap (in_few setup_line_of) is.1 ∙ rw (number_again beginning.unix_secs is.0) refl
 setup_line_again words (line.Mtu mtu) is = ap (in_few setup_line_of) is.2 ∙ rw (number_again mtu.target is.0, number_again mtu.warn is.1) refl
+setup_line_again words (line.Pause threshold) is = ap (in_few setup_line_of) is.3 ∙ rw (millis_again is.0 threshold is.1 is.2) refl
 setup_line_again words (line.Rtcp side index) is = ap (in_few setup_line_of) is.1 ∙ rw (side_again side, index_again index is.0) refl
 setup_line_again words (line.Local side ssrc) is =
     ap (in_few setup_line_of) is.1 ∙ rw (side_again side, narrow_again (2 ^ 32) ssrc (lit≤ tt) is.0) refl

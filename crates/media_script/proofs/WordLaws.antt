@@ -34,7 +34,7 @@ use Rattle.media_model.specs.Application.{AreFew, are_few, data_of}
 use Rattle.rtp_wire.specs.Bytes.{words_of as numbers_in}
 use Rattle.rtp_wire.specs.declared.extension.Extension.{Extension}
 use Rattle.rtp_wire.specs.declared.extension.Extension.TheVariants.{AudioLevel, AbsoluteSendTime, TransportSequenceNumber, RtpMid, RtpStreamId, RepairedRtpStreamId, VideoOrientation, AbsoluteCaptureTime, PlayoutDelay}
-use Rattle.media_script.specs.Words.{◌>>=◌, below, plain_front, is_number, number_of, narrow_of, has_ms, time_of, side_of, flag_of, hex_of, app_data_of, kinds, kind_of, index_of, key_of, one_of, ciphers, cipher_of, profiles, profile_of, codecs, codec_of, media_kind_of, rate_of, is_name, name_of, extensions, extension_of, numbers_of, has_c, sources_of, optional}
+use Rattle.media_script.specs.Words.{◌>>=◌, below, plain_front, is_number, number_of, narrow_of, millis_of, has_ms, time_of, side_of, flag_of, hex_of, app_data_of, kinds, kind_of, index_of, key_of, one_of, ciphers, cipher_of, profiles, profile_of, codecs, codec_of, media_kind_of, rate_of, is_name, name_of, extensions, extension_of, numbers_of, has_c, sources_of, optional}
 use Rattle.media_script.specs.Names.{side_text, flag_text, kind_text, cipher_text, profile_text, codec_text, media_kind_text, extension_text}
 use Rattle.media_script.specs.Spelling.{IsTime, IsHex, IsName, IsKey, IsOptional, IsSsrc, IsNamed, IsSources}
 
@@ -103,6 +103,19 @@ pub narrow_again : (limit n : ℕ) → limit ≤ 2 ^ 64 → n < limit → narrow
 unfolding narrow_of
 narrow_again limit n le lt = rw (number_again n (omega arith)) (ap (λ b. cond b (Some n) None) (lt-ltb _ _ lt))
 
+-- milliseconds
+pub millis_spelled : (word : List ℕ) (nanos : ℕ) → millis_of word ≡ Some nanos → (ms : ℕ) × (word ≡ decimal ms) × (nanos ≡ ms * 1000000) × (nanos < 2 ^ 64)
+unfolding millis_of
+millis_spelled word nanos e =
+    let a = bind_some (number_of word) (λ n. below (2 ^ 64) (n * 1000000)) nanos e in
+    let b = if_some (ltb (a.0 * 1000000) (2 ^ 64)) (a.0 * 1000000) nanos a.2 in
+    (a.0, (number_spelled word a.0 a.1).0, sym b.1, subst (λ k. k < 2 ^ 64) b.1 (ltb-true _ _ b.0))
+
+pub millis_again : (ms nanos : ℕ) → nanos ≡ ms * 1000000 → nanos < 2 ^ 64 → millis_of (decimal ms) ≡ Some nanos
+unfolding millis_of
+millis_again ms nanos is fits =
+    rw (number_again ms (omega (arith, fits, is))) (ap (λ b. cond b (Some (ms * 1000000)) None) (lt-ltb _ _ (omega (arith, fits, is))) ∙ ap (λ (t : ℕ). Some t) (sym is))
+
 -- a time
 ms_is : (word : List ℕ) → (has_ms word ≡ true → word ≡ take (length word - 2) word ++ codes "ms") × ((front : List ℕ) → word ≡ front ++ codes "ms" → has_ms word ≡ true)
 ms_is word = ends_is Decides-eqb word (codes "ms") (has_ms word) refl
@@ -122,15 +135,10 @@ no_ms n small = cases (has_ms (decimal n)) refl where
 pub time_spelled : (word : List ℕ) (time : ℕ) → time_of word ≡ Some time → IsTime word time
 unfolding time_of
 time_spelled word time e = cases (has_ms word) refl e where
-  cases : (b : Bool) → has_ms word ≡ b → cond b (number_of (take (length word - 2) word) >>= λ n. below (2 ^ 64) (n * 1000000)) (number_of word) ≡ Some time → IsTime word time
+  cases : (b : Bool) → has_ms word ≡ b → cond b (millis_of (take (length word - 2) word)) (number_of word) ≡ Some time → IsTime word time
   cases true is e =
-      let a = bind_some (number_of (take (length word - 2) word)) (λ n. below (2 ^ 64) (n * 1000000)) time e in
-      let b = if_some (ltb (a.0 * 1000000) (2 ^ 64)) (a.0 * 1000000) time a.2 in
-      let digits = number_spelled (take (length word - 2) word) a.0 a.1 in
-      record {
-        fits = subst (λ k. k < 2 ^ 64) b.1 (ltb-true _ _ b.0);
-        spelled = inr (a.0, (ms_is word).0 is ∙ ap (λ (l : List ℕ). l ++ codes "ms") digits.0, sym b.1);
-      }
+      let m = millis_spelled (take (length word - 2) word) time e in
+      record { fits = m.3; spelled = inr (m.0, (ms_is word).0 is ∙ ap (λ (l : List ℕ). l ++ codes "ms") m.1, m.2) }
   cases false is e = let n = number_spelled word time e in record { fits = n.1; spelled = inl n.0 }
 
 pub time_again : (word : List ℕ) (time : ℕ) → IsTime word time → time_of word ≡ Some time
@@ -142,7 +150,7 @@ time_again word time is = go is.spelled where
       let small : ms.0 < 2 ^ 64 = omega (arith, is.fits, ms.2) in
       let len : length word ≡ length (decimal ms.0) + 2 = ap length ms.1 ∙ length-append (decimal ms.0) (codes "ms") in
       let digits : take (length word - 2) word ≡ decimal ms.0 = ap (take (length word - 2)) ms.1 ∙ take_at (decimal ms.0) (codes "ms") (length word - 2) (omega arith) in
-      rw ((ms_is word).1 (decimal ms.0) ms.1, digits, number_again ms.0 small) (ap (λ b. cond b (Some (ms.0 * 1000000)) None) (lt-ltb _ _ (omega (arith, is.fits, ms.2))) ∙ ap (λ (t : ℕ). Some t) (sym ms.2))
+      rw ((ms_is word).1 (decimal ms.0) ms.1, digits) (millis_again ms.0 time ms.2 is.fits)
 
 -- the other words
 pub equal : (a b : List ℕ) → bytes_eq a b ≡ true → a ≡ b

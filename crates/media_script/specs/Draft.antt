@@ -31,6 +31,7 @@ blank = record {
   key = None;
   beginning = record { unix_secs = 1700000000 };
   mtu = record { target = 1150; warn = 1280 };
+  pause_threshold = 1500000000;
   a = record { ssrc = 1; srtcp_index = 0 };
   b = record { ssrc = 2; srtcp_index = 0 };
   exts = [];
@@ -55,6 +56,7 @@ told draft (line.Profile profile) = record draft { profile = profile }
 told draft (line.Key key) = record draft { key = Some key }
 told draft (line.Unix beginning) = record draft { beginning = beginning }
 told draft (line.Mtu mtu) = record draft { mtu = mtu }
+told draft (line.Pause threshold) = record draft { pause_threshold = threshold }
 told draft (line.Rtcp side index) = with_index side index draft
 told draft (line.Local side ssrc) = with_ssrc side ssrc draft
 told draft (line.Ext named) = record draft { exts = draft.exts ++ named ∷ [] }
@@ -71,6 +73,7 @@ setup_of draft = draft.key >>= λ key. Some (record {
   key = key;
   beginning = draft.beginning;
   mtu = draft.mtu;
+  pause_threshold = draft.pause_threshold;
   a = draft.a;
   b = draft.b;
   exts = draft.exts;

@@ -14,7 +14,7 @@ use Rattle.media_model.specs.declared.step.Step.TheVariants as step
 use Rattle.media_script.specs.Draft.{setup_of}
 use Rattle.media_script.specs.Order.{none_said, with_line}
 use Rattle.media_script.specs.Spelling.{words_of, is_passed_over}
-use Rattle.media_script.specs.Words.{◌>>=◌, number_of, narrow_of, time_of, side_of, flag_of, hex_of, app_data_of, kind_of, index_of, cipher_of, profile_of, key_of, codec_of, media_kind_of, rate_of, name_of, extension_of, sources_of, optional}
+use Rattle.media_script.specs.Words.{◌>>=◌, number_of, narrow_of, millis_of, time_of, side_of, flag_of, hex_of, app_data_of, kind_of, index_of, cipher_of, profile_of, key_of, codec_of, media_kind_of, rate_of, name_of, extension_of, sources_of, optional}
 
 -- the words without where they lie in memory
 abbrev pub texts : List (Bor (List ℕ)) → List (List ℕ)
@@ -67,6 +67,9 @@ mtu_line =
     and_then number_of (λ target.
     and_then number_of (λ warn.
     done (line.Mtu (record { target = target; warn = warn }))))
+
+abbrev pub pause_line : List (List ℕ) → Option SetupLine
+pause_line = and_then millis_of (λ threshold. done (line.Pause threshold))
 
 abbrev pub rtcp_line : List (List ℕ) → Option SetupLine
 rtcp_line =
@@ -123,20 +126,25 @@ named_kinds = (codes "media", media_line) ∷ (codes "stream", stream_line) ∷ 
 unfoldable pub named_line_of : List (List ℕ) → Option SetupLine
 named_line_of words = look_up side_line_of named_kinds words
 
+abbrev pub number_kinds : List (List ℕ × (List (List ℕ) → Option SetupLine))
+number_kinds = (codes "unix", unix_line) ∷ (codes "mtu", mtu_line) ∷ (codes "pause", pause_line) ∷ []
+
+-- what the lines that have numbers alone, and those of media, of streams and of one side say
+unfoldable pub number_line_of : List (List ℕ) → Option SetupLine
+number_line_of words = look_up named_line_of number_kinds words
+
 abbrev pub setup_kinds : List (List ℕ × (List (List ℕ) → Option SetupLine))
 setup_kinds =
     (codes "cipher", cipher_line)
     ∷ (codes "profile", profile_line)
     ∷ (codes "key", key_line)
-    ∷ (codes "unix", unix_line)
-    ∷ (codes "mtu", mtu_line)
     ∷ (codes "ext", ext_line)
     ∷ (codes "type", type_line)
     ∷ []
 
 -- what a setup line says
 unfoldable pub setup_line_of : List (List ℕ) → Option SetupLine
-setup_line_of words = look_up named_line_of setup_kinds words
+setup_line_of words = look_up number_line_of setup_kinds words
 
 -- ---- steps, without their first word
 

@@ -59,6 +59,9 @@ IsSetupLine words (line.Unix beginning) =
 -- the most bytes that a datagram of RTCP is to have, and above how many any datagram is longer than wanted
 IsSetupLine words (line.Mtu mtu) =
     (mtu.target < 2 ^ 64) × (mtu.warn < 2 ^ 64) × (words ≡ codes "mtu" ∷ decimal mtu.target ∷ decimal mtu.warn ∷ [])
+-- after how long without packets a stream that comes counts as paused: the word has milliseconds
+IsSetupLine words (line.Pause threshold) =
+    (ms : ℕ) × (threshold ≡ ms * 1000000) × (threshold < 2 ^ 64) × (words ≡ codes "pause" ∷ decimal ms ∷ [])
 -- the index of a side's first SRTCP datagram
 IsSetupLine words (line.Rtcp side index) = (index ≤ 2 ^ 31) × (words ≡ codes "rtcp" ∷ side_text side ∷ decimal index ∷ [])
 -- the SSRC under which a side speaks of what it receives

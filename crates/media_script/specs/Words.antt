@@ -56,10 +56,16 @@ narrow_of limit word = do
 abbrev pub has_ms : List ℕ → Bool
 has_ms word = ends_with nat_eq word (codes "ms")
 
+-- milliseconds, as nanoseconds below 2^64
+unfoldable pub millis_of : List ℕ → Option ℕ
+millis_of word = do
+  n ← number_of word
+  below (2 ^ 64) (n * 1000000)
+
 -- nanoseconds, or milliseconds with ms behind them
 unfoldable pub time_of : List ℕ → Option ℕ
 time_of word =
-    if has_ms word then (number_of (take (length word - 2) word) >>= λ n. below (2 ^ 64) (n * 1000000))
+    if has_ms word then millis_of (take (length word - 2) word)
     else number_of word
 
 unfoldable pub side_of : List ℕ → Option Side

@@ -6,7 +6,7 @@ ghost use Rattle.media_script.specs.Draft.{blank, with_index, with_ssrc, told, s
 use crate::error::LineError;
 use crate::media_list::MediaList;
 use crate::setup_line::SetupLine;
-use media_base::{Beginning, Listed};
+use media_base::{Beginning, Duration, Listed};
 use media_model::{
     CipherName, Key, Local, Media, Mtu, NamedExtension, PayloadType, Setup, Side, SrtcpIndex,
 };
@@ -23,6 +23,9 @@ const DEFAULT_MTU: Mtu = Mtu {
     warn: 1280,
 };
 
+// After how many nanoseconds without packets a stream counts as paused where no line says it.
+const DEFAULT_PAUSE_NANOS: u64 = 1_500_000_000;
+
 /// What the setup lines so far say, and the default of each that does not stand.
 #[derive(Debug, Drop)]
 pub struct Draft {
@@ -32,6 +35,8 @@ pub struct Draft {
     pub key: Option<Key>,
     pub beginning: Beginning,
     pub mtu: Mtu,
+    /// After how long without packets a stream that comes counts as paused.
+    pub pause_threshold: Duration,
     /// What side A alone brings.
     pub a: Local,
     /// What side B alone brings.
@@ -54,6 +59,7 @@ impl Draft {
                 unix_secs: DEFAULT_UNIX_SECS,
             },
             mtu: DEFAULT_MTU,
+            pause_threshold: Duration::from_nanos(DEFAULT_PAUSE_NANOS),
             a: Local {
                 ssrc: Ssrc::from(1),
                 srtcp_index: SrtcpIndex::FIRST,
@@ -98,6 +104,7 @@ impl Draft {
             SetupLine::Key(key) => self.key = Some(key),
             SetupLine::Unix(beginning) => self.beginning = beginning,
             SetupLine::Mtu(mtu) => self.mtu = mtu,
+            SetupLine::Pause(threshold) => self.pause_threshold = threshold,
             SetupLine::Rtcp(side, index) => self.set_index(side, index),
             SetupLine::Local(side, ssrc) => self.set_ssrc(side, ssrc),
             SetupLine::Ext(named) => self.exts.push(named)?,
@@ -124,6 +131,7 @@ impl Draft {
             key,
             beginning: self.beginning,
             mtu: self.mtu,
+            pause_threshold: self.pause_threshold,
             a: self.a,
             b: self.b,
             exts: self.exts,

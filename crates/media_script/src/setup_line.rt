@@ -1,7 +1,7 @@
 ghost use Rattle.std.specs.Prelude.{◌≡◌};
 ghost use Rattle.media_script.specs.Order.{word, per, slot, needs, gives};
 
-use media_base::{Beginning, Bytes};
+use media_base::{Beginning, Bytes, Duration};
 use media_model::{
     CipherName, Key, MediaKind, Mtu, NamedExtension, PayloadType, Side, SrtcpIndex, Stream,
 };
@@ -17,6 +17,8 @@ pub enum SetupLine {
     Key(Key),
     Unix(Beginning),
     Mtu(Mtu),
+    /// After how long without packets a stream that comes counts as paused.
+    Pause(Duration),
     /// The index of the side's first SRTCP datagram.
     Rtcp(Side, SrtcpIndex),
     /// The SSRC under which the side speaks of what it receives.
@@ -79,6 +81,7 @@ impl SetupLine {
             SetupLine::Key(_) => b"key",
             SetupLine::Unix(_) => b"unix",
             SetupLine::Mtu(_) => b"mtu",
+            SetupLine::Pause(_) => b"pause",
             SetupLine::Rtcp(_, _) => b"rtcp",
             SetupLine::Local(_, _) => b"local",
             SetupLine::Ext(_) => b"ext",

@@ -1,18 +1,18 @@
 // The words of a setup line.
 ghost use Rattle.std.specs.Prelude.{◌≡◌};
 ghost use Rattle.media_script.specs.Gives.{Gives};
-ghost use Rattle.media_script.specs.Grammar.{texts, cipher_line, profile_line, key_line, unix_line, mtu_line, rtcp_line, local_line, ext_line, type_line, media_line, stream_line, side_line_of, named_line_of, setup_line_of, in_few};
+ghost use Rattle.media_script.specs.Grammar.{texts, cipher_line, profile_line, key_line, unix_line, mtu_line, pause_line, rtcp_line, local_line, ext_line, type_line, media_line, stream_line, side_line_of, named_line_of, number_line_of, setup_line_of, in_few};
 ghost use Rattle.media_script.specs.Spelling.{words_of};
 
 use crate::error::LineError;
 use crate::lines::{is_long, words};
 use crate::setup_line::SetupLine;
 use crate::words::{
-    cipher as cipher_word, codec, extension, key as key_word, media_kind, mid, name, number,
-    number_8, number_32, optional_32, optional_name, profile as profile_word, rate, rid, side,
-    srtcp_index,
+    cipher as cipher_word, codec, extension, key as key_word, media_kind, mid, millis, name,
+    number, number_8, number_32, optional_32, optional_name, profile as profile_word, rate, rid,
+    side, srtcp_index,
 };
-use media_base::{Beginning, Bytes};
+use media_base::{Beginning, Bytes, Duration};
 use media_model::{Mtu, NamedExtension, PayloadType, Stream};
 use rtp_wire::{Pt, Ssrc};
 use std::alloc::Global;
@@ -63,6 +63,15 @@ fn mtu(words: &[&[u8]]) -> Result<SetupLine, LineError>
             target: number(target)?,
             warn: number(warn)?,
         })),
+        _ => Err(LineError::Outside),
+    }
+}
+
+fn pause(words: &[&[u8]]) -> Result<SetupLine, LineError>
+    ensures { Gives (λ l. l) result (pause_line (texts words.now)) }
+{
+    match words {
+        [threshold] => Ok(SetupLine::Pause(Duration::from_nanos(millis(threshold)?))),
         _ => Err(LineError::Outside),
     }
 }
@@ -180,6 +189,26 @@ fn named_line(alloc: Global, words: &[&[u8]]) -> Result<SetupLine, LineError>
     }
 }
 
+#[tactic(auto, unfolding(crate::specs::Grammar::number_line_of))]
+fn number_line(alloc: Global, words: &[&[u8]]) -> Result<SetupLine, LineError>
+    ensures { Gives (λ l. l) result (number_line_of (texts words.now)) }
+{
+    match words {
+        [] => Err(LineError::Outside),
+        [kind, rest @ ..] => {
+            if *kind == b"unix".as_slice() {
+                unix(rest)
+            } else if *kind == b"mtu".as_slice() {
+                mtu(rest)
+            } else if *kind == b"pause".as_slice() {
+                pause(rest)
+            } else {
+                named_line(alloc, words)
+            }
+        }
+    }
+}
+
 #[tactic(auto, unfolding(crate::specs::Grammar::setup_line_of))]
 fn setup_line_in(alloc: Global, words: &[&[u8]]) -> Result<SetupLine, LineError>
     ensures { Gives (λ l. l) result (setup_line_of (texts words.now)) }
@@ -193,16 +222,12 @@ fn setup_line_in(alloc: Global, words: &[&[u8]]) -> Result<SetupLine, LineError>
                 profile(rest)
             } else if *kind == b"key".as_slice() {
                 key(alloc, rest)
-            } else if *kind == b"unix".as_slice() {
-                unix(rest)
-            } else if *kind == b"mtu".as_slice() {
-                mtu(rest)
             } else if *kind == b"ext".as_slice() {
                 ext(rest)
             } else if *kind == b"type".as_slice() {
                 payload_type(rest)
             } else {
-                named_line(alloc, words)
+                number_line(alloc, words)
             }
         }
     }

@@ -3,7 +3,7 @@ ghost use Rattle.std.specs.Prelude.{◌≡◌, ◌^◌, IsTrue, IfOk};
 ghost use Rattle.std.specs.Option.{ForSome, option_copied};
 ghost use Rattle.std.specs.Char.{is_ascii_alphanumeric};
 ghost use Rattle.std.specs.List.{list_all};
-ghost use Rattle.media_script.specs.Words.{plain_front, number_of, narrow_of, time_of, side_of, flag_of, hex_of, app_data_of, kind_of, index_of, cipher_of, profile_of, key_of, codec_of, media_kind_of, rate_of, is_name, name_of, extension_of, numbers_of, sources_of, optional};
+ghost use Rattle.media_script.specs.Words.{plain_front, number_of, narrow_of, millis_of, time_of, side_of, flag_of, hex_of, app_data_of, kind_of, index_of, cipher_of, profile_of, key_of, codec_of, media_kind_of, rate_of, is_name, name_of, extension_of, numbers_of, sources_of, optional};
 ghost use Rattle.media_script.specs.Gives.{Gives};
 
 use crate::error::LineError;
@@ -70,19 +70,25 @@ pub fn number_8(word: &[u8]) -> Result<u8, LineError>
     Ok(n as u8)
 }
 
+// Milliseconds, as nanoseconds below 2^64.
+#[tactic(auto, unfolding(crate::specs::Words::millis_of))]
+pub fn millis(word: &[u8]) -> Result<u64, LineError>
+    ensures { Gives (λ n. n) result (millis_of word.now) }
+{
+    let n = number(word)?;
+    match n.checked_mul(1_000_000) {
+        Some(nanos) => Ok(nanos),
+        None => Err(LineError::Outside),
+    }
+}
+
 // Nanoseconds, or milliseconds with ms behind them.
 #[tactic(auto, unfolding(crate::specs::Words::time_of))]
 pub fn time(word: &[u8]) -> Result<u64, LineError>
     ensures { Gives (λ n. n) result (time_of word.now) }
 {
     match word.strip_suffix(b"ms".as_slice()) {
-        Some(digits) => {
-            let n = number(digits)?;
-            match n.checked_mul(1_000_000) {
-                Some(nanos) => Ok(nanos),
-                None => Err(LineError::Outside),
-            }
-        }
+        Some(digits) => millis(digits),
         None => number(word),
     }
 }

@@ -336,7 +336,7 @@ fn setup_script(alloc: Global, lines: &str) -> Result<Vec<u8>, Fail> {
 }
 
 // Setup lines, and the first rule that they break: each rule alone.
-const SETUP_FAULTS: [(&str, &str); 23] = [
+const SETUP_FAULTS: [(&str, &str); 26] = [
     (SHORT_KEY, "KeyLength"),
     ("key 00\nmtu 899 1280\n", "KeyLength"),
     ("key zero\nmtu 899 1280\nunix 2075000001\n", "Mtu"),
@@ -355,6 +355,9 @@ const SETUP_FAULTS: [(&str, &str); 23] = [
         "Times",
     ),
     ("key zero\nunix 2075000000\next 0 mid\n", "ExtId"),
+    ("key zero\npause 10000000001\next 0 mid\n", "Times"),
+    ("key zero\nmtu 899 1280\npause 18446744073709\n", "Mtu"),
+    ("key zero\npause 10000000000\next 0 mid\n", "ExtId"),
     ("key zero\next 14 rid\next 15 mid\n", "ExtId"),
     ("key zero\next 3 mid\next 1 rid\next 3 twcc\n", "ExtId"),
     (
@@ -430,6 +433,28 @@ fn setup_faults(rt: HostRuntime) -> Result<(), Fail> {
         assert_eq!(rt; report.status, 1, "at {lines}");
         assert_eq!(rt; sink.bytes(), text.as_bytes(), "at {lines}");
     }
+    Ok(())
+}
+
+#[test]
+fn pause_threshold(rt: HostRuntime) -> Result<(), Fail> {
+    let alloc = rt.alloc();
+    for threshold in ["0", "1500", "10000000000"] {
+        let lines = format!(in alloc; "pause {threshold}\n")?;
+        let bytes = script_with(alloc, lines.as_str(), ONE_WRITE)?;
+        let (report, sink) = ran_on(alloc, bytes)?;
+        assert_eq!(rt; report.status, 0, "at {threshold}");
+        assert_eq!(rt; sink.bytes(), ONE_WRITE_TEXT.as_bytes(), "at {threshold}");
+    }
+    for words in ["pause", "pause 5ms", "pause 1 2", "pause 18446744073710"] {
+        let bytes = setup_script(alloc, format!(in alloc; "{words}\n")?.as_str())?;
+        let (report, sink) = ran_on(alloc, bytes)?;
+        assert_eq!(rt; report.status, 7, "at {words}");
+        assert_eq!(rt; sink.bytes(), b"fault syntax 2\n".as_slice(), "at {words}");
+    }
+    let (report, sink) = ran_on(alloc, setup_script(alloc, "pause 1\npause 1\n")?)?;
+    assert_eq!(rt; report.status, 7);
+    assert_eq!(rt; sink.bytes(), b"fault syntax 3\n".as_slice());
     Ok(())
 }
 

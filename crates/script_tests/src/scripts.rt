@@ -1,4 +1,4 @@
-use media_base::{Bytes, Instant, Listed};
+use media_base::{Bytes, Duration, Instant, Listed};
 use media_model::*;
 use media_script::{ScriptError, entries_text, read_script, write_transcript};
 use rtp_wire::{Extension, Pt, SeqNo, Ssrc};
@@ -10,7 +10,7 @@ use std::test::Fail;
 const EVERY_LINE: &[u8] = b"# all of it\n\nstr0m-media 1\ntype 96 vp8 90000\nmedia v video cam\n\
 media a audio mic2\nstream A v 42 - -\next 14 delay\ncipher toy\nunix 5\next 0 mid\ntype 255 telephone 4294967295\n\
 stream B a 4294967295 0 hi\nkey 00Ff\nprofile gcm128\nstream B v 7 - lo\nrtcp B 2147483648\nmtu 900 1500\n\
-local A 4294967295\nbegin\n\
+pause 250\nlocal A 4294967295\nbegin\n\
 write A 5ms 42 18446744073709551615 96 4294967295 1 0 8060Ff c=0000002AffFFffff\ntick B 1000\ndeliver A 0 3\n\
 foreign A 1 rtcp -\napp B 2ms 4294967295 0 0102fFfF\nforeign B 1 rtp 80\n#\nend\n\n# end\n";
 
@@ -102,6 +102,7 @@ fn each_line_is_read(rt: HostRuntime) -> Result<(), Fail> {
             warn: 1500
         }
     );
+    assert_eq!(rt; setup.pause_threshold, Duration::from_nanos(250_000_000));
     assert_eq!(rt; setup.a, local(u32::MAX, SrtcpIndex::FIRST));
     let last = SrtcpIndex::new(2_147_483_648).ok_or("an index")?;
     assert_eq!(rt; setup.b, local(2, last));
@@ -270,6 +271,28 @@ fn beginning_is_read(rt: HostRuntime) -> Result<(), Fail> {
 }
 
 #[test]
+fn pause_threshold_is_read(rt: HostRuntime) -> Result<(), Fail> {
+    let alloc = rt.alloc();
+    for (before, after, nanos) in [
+        ("", "", 1_500_000_000),
+        ("pause 1500\n", "", 1_500_000_000),
+        ("pause 0\n", "", 0),
+        ("", "pause 7\n", 7_000_000),
+        ("pause 10000000001\n", "", 10_000_000_001_000_000),
+        ("pause 18446744073709\n", "", 18_446_744_073_709_000_000),
+    ] {
+        let text = format!(in alloc; "str0m-media 1\n{before}key zero\n{after}begin\nend\n")?;
+        let (setup, _) = read_script(alloc, text.as_bytes()).ok().ok_or("a script")?;
+        assert_eq!(rt;
+            setup.pause_threshold,
+            Duration::from_nanos(nanos),
+            "at {before}{after}"
+        );
+    }
+    Ok(())
+}
+
+#[test]
 fn ids_of_extensions(rt: HostRuntime) -> Result<(), Fail> {
     let alloc = rt.alloc();
     let text = b"str0m-media 1\nkey zero\next 0 mid\next 1 twcc\next 15 rid\next 3 abs\n\
@@ -400,6 +423,14 @@ fn first_line_outside_is_told(rt: HostRuntime) {
         ("str0m-media 1\nmtu 1200\n", 2),
         ("str0m-media 1\nmtu 1150 18446744073709551616\n", 2),
         ("str0m-media 1\nmtu 1150 1280\nmtu 1150 1280\n", 3),
+        ("str0m-media 1\npause\n", 2),
+        ("str0m-media 1\npause 5ms\n", 2),
+        ("str0m-media 1\npause -\n", 2),
+        ("str0m-media 1\npause 1 2\n", 2),
+        ("str0m-media 1\npause 18446744073710\n", 2),
+        ("str0m-media 1\npause 18446744073709551616\n", 2),
+        ("str0m-media 1\npause 1500\npause 1500\n", 3),
+        ("str0m-media 1\nkey zero\nbegin\npause 1500\nend\n", 4),
         ("str0m-media 1\nrtcp A 2147483649\n", 2),
         ("str0m-media 1\nrtcp 5\n", 2),
         ("str0m-media 1\nrtcp A 1\nrtcp B 1\nrtcp A 1\n", 4),

@@ -1,5 +1,5 @@
 -- The rules of a setup, and the first one that it breaks.
-use Rattle.std.specs.Prelude.{ℕ, Bool, true, false, not, ◌||◌, ◌&&◌, ◌==◌, nat_lt, nat_le, List, [], ◌∷◌, ◌++◌, length, option_to_list, Option, Some, None, is_some, if◌then◌else◌}
+use Rattle.std.specs.Prelude.{ℕ, Bool, true, false, not, ◌||◌, ◌&&◌, ◌==◌, ◌^◌, nat_lt, nat_le, List, [], ◌∷◌, ◌++◌, length, option_to_list, Option, Some, None, is_some, if◌then◌else◌}
 use Rattle.std.specs.List.{flat_map, list_any}
 use Rattle.std.specs.Str.{bytes_eq}
 use Rattle.rtp_wire.specs.Extensions.{extension_number}
@@ -56,6 +56,10 @@ all_ssrcs setup = setup.a.ssrc ∷ setup.b.ssrc ∷ stream_ssrcs setup
 abbrev pub is_mtu : Mtu → Bool
 is_mtu mtu = nat_le 900 mtu.target && nat_le mtu.target mtu.warn && nat_le mtu.warn 1500
 
+-- the Unix time of the moment 0 in seconds, or the threshold of pauses in nanoseconds, is too great
+abbrev pub is_beyond : Setup → Bool
+is_beyond setup = nat_lt 2075000000 setup.beginning.unix_secs || nat_lt (10 ^ 16) setup.pause_threshold
+
 abbrev pub any_mid_again : List Media → Bool
 any_mid_again [] = false
 any_mid_again (m ∷ ms) = list_any (λ (n : Media). bytes_eq n.mid m.mid) ms || any_mid_again ms
@@ -87,7 +91,7 @@ abbrev pub setup_rules : Setup → List (Bool × SetupFault)
 setup_rules setup =
     (not (length (material_of setup) == material_len setup.profile), KeyLength)
     ∷ (not (is_mtu setup.mtu), MtuRule)
-    ∷ (nat_lt 2075000000 setup.beginning.unix_secs, Times)
+    ∷ (is_beyond setup, Times)
     ∷ (any_ext_wrong setup.exts, ExtId)
     ∷ (list_any (nat_lt 127) (types_of setup) || repeats (types_of setup), TypeTwice)
     ∷ (has (all_ssrcs setup) 0, SsrcZero)

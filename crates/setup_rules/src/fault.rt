@@ -11,7 +11,8 @@ pub enum SetupFault {
     /// The target for the length of datagrams is below 900, above the length to warn of, or this
     /// one above 1,500.
     Mtu,
-    /// The Unix time of the moment 0 is above 2,075,000,000 s.
+    /// The Unix time of the moment 0 is above 2,075,000,000 s, or the threshold of pauses above
+    /// 10^16 ns.
     Times,
     /// An id of a header extension is outside 1 to 14, or stands twice, or an extension stands
     /// twice.

@@ -4,7 +4,7 @@ ghost use Rattle.std.specs.List.{list_any, flat_map};
 ghost use Rattle.srtp_core.specs.Keys.{material_len};
 ghost use Rattle.media_model.specs.Setup.{material_of, types_of};
 ghost use Rattle.setup_rules.specs.SetupRules.{has};
-ghost use Rattle.setup_rules.specs.SetupRules.{repeats, clash, any_ext_wrong, both_of, all_ssrcs, is_mtu, any_mid_again, rids_meet, meets, any_rid_again, has_rtx, media_fault, setup_fault};
+ghost use Rattle.setup_rules.specs.SetupRules.{repeats, clash, any_ext_wrong, both_of, all_ssrcs, is_mtu, is_beyond, any_mid_again, rids_meet, meets, any_rid_again, has_rtx, media_fault, setup_fault};
 
 use crate::fault::SetupFault;
 use media_model::{Media, Mtu, NamedExtension, Setup, Stream};
@@ -22,6 +22,9 @@ const GREATEST_WARN: u64 = 1_500;
 
 /// The greatest Unix time of the moment 0, in seconds: the NTP seconds of every step fit 32 bits.
 const MAX_UNIX_SECS: u64 = 2_075_000_000;
+
+/// The greatest threshold of pauses, in nanoseconds: that of the time of a step.
+const MAX_PAUSE_NANOS: u64 = 10_000_000_000_000_000;
 
 fn has_number(numbers: &[u32], number: u32) -> bool
     ensures { result ≡ has numbers.now number }
@@ -108,6 +111,13 @@ fn is_mtu(mtu: &Mtu) -> bool
     ensures { result ≡ is_mtu mtu.now }
 {
     LEAST_TARGET <= mtu.target && mtu.target <= mtu.warn && mtu.warn <= GREATEST_WARN
+}
+
+/// Whether a time of the setup is too great.
+fn is_beyond(setup: &Setup) -> bool
+    ensures { result ≡ is_beyond setup.now }
+{
+    setup.beginning.unix_secs > MAX_UNIX_SECS || setup.pause_threshold.as_nanos() > MAX_PAUSE_NANOS
 }
 
 fn has_mid(media: &[Media], mid: &Mid) -> bool
@@ -200,7 +210,7 @@ pub fn check_setup(alloc: Global, setup: &Setup) -> Result<Option<SetupFault>, A
     if !is_mtu(&setup.mtu) {
         return Ok(Some(SetupFault::Mtu));
     }
-    if setup.beginning.unix_secs > MAX_UNIX_SECS {
+    if is_beyond(setup) {
         return Ok(Some(SetupFault::Times));
     }
     if any_ext_wrong(setup.exts.as_slice()) {

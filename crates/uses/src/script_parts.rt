@@ -1,7 +1,7 @@
 //! The parts of a script, made in code, with what most of them have alike filled in.
 ghost use Rattle.std.specs.Prelude.{◌≡◌, [], None, false};
 
-use media_base::{Beginning, Bytes, Instant, Listed};
+use media_base::{Beginning, Bytes, Duration, Instant, Listed};
 use media_model::{
     CipherName, Codec, Key, Local, Media, MediaKind, Mtu, PayloadType, Setup, Side, SrtcpIndex,
     Step, Stream, Write,
@@ -61,8 +61,8 @@ pub fn local(ssrc: u32) -> Local
 }
 
 /// A setup with the toy cipher, the profile of 128 bits and keys of zeros, whose moment 0 is the Unix
-/// epoch, without header extensions. The MTU and what each side alone brings are those of a script
-/// without a line for them.
+/// epoch, without header extensions. The MTU, the threshold of pauses and what each side alone
+/// brings are those of a script without a line for them.
 pub fn setup(alloc: Global, types: Vec<PayloadType>, media: Vec<Media>) -> Setup
     ensures { result ≡ record {
       cipher = CipherName.Toy;
@@ -70,6 +70,7 @@ pub fn setup(alloc: Global, types: Vec<PayloadType>, media: Vec<Media>) -> Setup
       key = Key.Zero;
       beginning = record { unix_secs = 0 };
       mtu = record { target = 1150; warn = 1280 };
+      pause_threshold = 1500000000;
       a = record { ssrc = 1; srtcp_index = 0 };
       b = record { ssrc = 2; srtcp_index = 0 };
       exts = [];
@@ -86,6 +87,7 @@ pub fn setup(alloc: Global, types: Vec<PayloadType>, media: Vec<Media>) -> Setup
             target: 1150,
             warn: 1280,
         },
+        pause_threshold: Duration::from_nanos(1_500_000_000),
         a: local(1),
         b: local(2),
         exts: Listed::new(alloc),
