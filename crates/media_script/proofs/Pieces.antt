@@ -6,6 +6,7 @@ use Rattle.std.proofs.lemmas.List.Splits.{slice_split_at, slice_split_none, leng
 use Rattle.std.proofs.lemmas.List.{append-nil}
 use Rattle.std.proofs.lemmas.List.Elements.{All-from_recursion}
 use Rattle.media_script.specs.Grammar.{pieces_of}
+use Rattle.media_script.specs.Spelling.{words_of}
 
 no_end : (line : List ℕ) → All (λ b. b ≢ 10) line → All (λ b. eqb b 10 ≡ false) line
 no_end line all k d lt = let other = all k d lt in grind (arith, nat_tests)
@@ -68,3 +69,14 @@ pieces_are_plain bytes = go (pieces_of bytes) (pieces_plain bytes) where
   go : (pieces : List (List ℕ)) → AllByRecursion Plain pieces → AllByRecursion NoEnd pieces
   go [] all = tt
   go (piece ∷ pieces) all = (All-from_recursion (λ b. b ≢ 10) piece all.0, go pieces all.1)
+
+-- ---- the words of a line
+
+no_space : (word : List ℕ) → All (λ b. b ≢ 32) word → All (λ b. eqb b 32 ≡ false) word
+no_space word all k d lt = let other = all k d lt in grind (arith, nat_tests)
+
+pub first_word : (line word after : List ℕ) → line ≡ word ++ 32 ∷ after → All (λ b. b ≢ 32) word → words_of line ≡ word ∷ words_of after
+first_word line word after is all = ap words_of is ∙ slice_split_at (λ b. eqb b 32) word 32 after (no_space word all) refl
+
+pub last_word : (line : List ℕ) → All (λ b. b ≢ 32) line → words_of line ≡ line ∷ []
+last_word line all = slice_split_none (λ b. eqb b 32) line (no_space line all)

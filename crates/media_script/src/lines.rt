@@ -5,16 +5,25 @@ ghost use Rattle.media_script.specs.Spelling.{words_of, is_passed_over};
 
 use std::alloc::{AllocError, Global};
 
-// More than the words of a line of any kind.
+// The most words of a line of a script of two sessions that is read at all; a line of any kind has
+// fewer. The list of a line's words begins with room for so many.
 const MOST_WORDS: usize = 16;
+
+// What stands before the first byte that is this one, and what behind it.
+fn cut_at(bytes: &[u8], end: u8) -> Option<(&[u8], &[u8])>
+    ensures { MatchOption result (All (λ b. b ≢ end) bytes.now)
+        (λ x. (bytes.now ≡ x.0.now ++ end ∷ x.1.now) × All (λ b. b ≢ end) x.0.now) }
+{
+    let at = bytes.iter().position(|b| *b == end)?;
+    Some((&bytes[..at], &bytes[at + 1..]))
+}
 
 // The first line, and what stands behind its end.
 pub fn first_line(bytes: &[u8]) -> Option<(&[u8], &[u8])>
     ensures { MatchOption result (All (λ b. b ≢ 10) bytes.now)
         (λ x. (bytes.now ≡ x.0.now ++ 10 ∷ x.1.now) × All (λ b. b ≢ 10) x.0.now) }
 {
-    let at = bytes.iter().position(|b| *b == b'\n')?;
-    Some((&bytes[..at], &bytes[at + 1..]))
+    cut_at(bytes, b'\n')
 }
 
 fn spaces(line: &[u8]) -> usize
@@ -34,7 +43,14 @@ pub fn is_long(line: &[u8]) -> bool
 pub fn words(alloc: Global, line: &[u8]) -> Result<Vec<&[u8]>, AllocError>
     ensures { IfOk result (λ v. map (λ w. w.now) v.items ≡ words_of line.now) }
 {
-    line.split(|b| *b == b' ').collect(alloc)
+    let mut words = Vec::with_capacity(alloc, MOST_WORDS)?;
+    let mut rest = line;
+    while let Some((word, after)) = cut_at(rest, b' ') {
+        words.push(word)?;
+        rest = after;
+    }
+    words.push(rest)?;
+    Ok(words)
 }
 
 // An empty line, and one that begins with #.
