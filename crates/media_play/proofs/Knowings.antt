@@ -4,9 +4,7 @@ use Rattle.media_play.proofs.Indices.{next_index-same}
 use Rattle.srtp_core.specs.Contexts.{new_state}
 use Rattle.std.specs.Prelude.{◌==◌}
 use Rattle.std.specs.List.{list_any, AllZip}
-use Rattle.std.specs.BTreeSet.{contains}
 use Rattle.std.specs.Map.{keys_of}
-use Rattle.std.specs.Ordering.{nat_cmp}
 use Rattle.std.proofs.lemmas.List.{append-nil, map-append}
 use Rattle.std.proofs.lemmas.Bool.{and_parts, eqb-true, false_from_ne_true}
 use Rattle.std.proofs.lemmas.Option.{none-some, same_Some}
@@ -116,9 +114,9 @@ module _ {cipher : CipherMeaning} {setup : Setup} {side : Side} {end : EndState}
 -- a number more on the stream at a place
 
 pub noted_at : (place n : ℕ) (old : List Numbers) (u new : Numbers) → place < length old → u ≡ get_or old place u
-    → ((k : ℕ) → contains nat_cmp new.all k ≡ (contains nat_cmp u.all k || (n == k))) → IsNoted place n old (set old place new)
+    → ((k : ℕ) → has new k ≡ (has u k || (n == k))) → IsNoted place n old (set old place new)
 noted_at place n [] u new within is more = absurd (omega arith)
-noted_at zero n (v ∷ old) u new within is more = (λ k. more k ∙ ap (λ (w : Numbers). contains nat_cmp w.all k || (n == k)) is, refl)
+noted_at zero n (v ∷ old) u new within is more = (λ k. more k ∙ ap (λ (w : Numbers). has w k || (n == k)) is, refl)
 noted_at (suc place) n (v ∷ old) u new within is more = (refl, noted_at place n old u new (omega arith) is more)
 
 pub noted_past : (place n : ℕ) (old : List Numbers) → length old ≤ place → IsNoted place n old old
@@ -187,7 +185,7 @@ module _ {seal : Sealing} {setup : Setup} {steps : List Step} {entries : List En
     probes = takes_wrote s.state.seen (0, s.probes) h.probes;
   }
 
-  used_here : (r : ℕ) (old new : Numbers) → r ≡ w.ssrc → ((n : ℕ) → contains nat_cmp new.all n ≡ (contains nat_cmp old.all n || (w.number == n)))
+  used_here : (r : ℕ) (old new : Numbers) → r ≡ w.ssrc → ((n : ℕ) → has new n ≡ (has old n || (w.number == n)))
       → UsedAs side entries r old → UsedAs side after r new
   used_here r old new is noted h n =
       noted n ∙ ap (λ b. b || (w.number == n)) (h n ∙ ap (λ q. list_any (λ (u : Writing). u.number == n) (writes_on side q entries)) is)

@@ -19,6 +19,7 @@ pub mod Takes
 pub mod Arrivals
 pub mod Hearing
 pub mod Calling
+pub mod Stretches
 pub mod Knowings
 pub mod OthersReceive
 pub mod Others

@@ -1,9 +1,7 @@
 -- What a session knows of the entries so far.
 use Rattle.std.specs.Prelude.{◌≡◌, ℕ, zero, suc, ◌==◌, ◌||◌, Bool, true, false, if◌then◌else◌, List, [], ◌∷◌, map, slice_get, is_some, Option, Some, None}
 use Rattle.std.specs.List.{list_any, AllByRecursion, AllZip}
-use Rattle.std.specs.BTreeSet.{contains}
 use Rattle.std.specs.Map.{keys_of}
-use Rattle.std.specs.Ordering.{nat_cmp}
 use Rattle.rtp_wire.specs.declared.header.RtpHeader.{RtpHeader}
 use Rattle.stream_core.specs.RxRecord.{RxRecord, taken_of}
 use Rattle.stream_core.specs.Tables.{place_of}
@@ -57,7 +55,7 @@ pub record Knows (setup : Setup) (side : Side) (s : SessionRecord)
 -- the numbers that were written under an SSRC
 abbrev pub UsedAs : Side → List Entry → ℕ → Numbers → Type 0
 UsedAs side entries ssrc used =
-    (n : ℕ) → contains nat_cmp used.all n
+    (n : ℕ) → has used n
     ≡ list_any (λ w. w.number == n) (writes_on side ssrc entries)
 
 -- the same for each stream of a side
@@ -73,7 +71,7 @@ accepted setup side entries header =
 -- a number was written on the stream at a place
 abbrev pub has_number : Option Numbers → ℕ → Bool
 has_number None n = false
-has_number (Some used) n = contains nat_cmp used.all n
+has_number (Some used) n = has used n
 
 abbrev pub has_written : List Numbers → ℕ → ℕ → Bool
 has_written written place n = has_number (slice_get written place) n
@@ -83,7 +81,7 @@ abbrev pub IsNoted : ℕ → ℕ → List Numbers → List Numbers → Type 0
 IsNoted place n [] new = new ≡ []
 IsNoted zero n (used ∷ old) [] = ⊥
 IsNoted zero n (used ∷ old) (now ∷ new) =
-    ((k : ℕ) → contains nat_cmp now.all k ≡ (contains nat_cmp used.all k || (n == k)))
+    ((k : ℕ) → has now k ≡ (has used k || (n == k)))
     × (new ≡ old)
 IsNoted (suc place) n (used ∷ old) [] = ⊥
 IsNoted (suc place) n (used ∷ old) (now ∷ new) = (now ≡ used) × IsNoted place n old new

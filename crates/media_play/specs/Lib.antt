@@ -10,6 +10,7 @@ pub mod WireLaws
 pub mod Headline
 pub mod Laws
 pub mod Packets
+pub mod UsedNumbers
 pub mod Knowing
 pub mod Sessions
 pub mod Starting

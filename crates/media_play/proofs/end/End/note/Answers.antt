@@ -10,7 +10,7 @@ returns-in_ok-insert-clause-noted g c =
     let items = c.self.inside.written.items in
     let new = c.insert.new.self in
     subst (λ (old : List Numbers). IsNoted c.args.place c.args.number old (slice_set items c.args.place new)) (ap (λ (e : EndState). e.written) c.self.view_is)
-    (noted_at c.args.place c.args.number items c.index_mut.result.now new (omega (arith, c.if-place-len.true, c.len.ensures)) c.index_mut.ensures.value c.in_ok-insert.ensures)
+    (noted_at c.args.place c.args.number items c.index_mut.result.now new (omega (arith, c.if-place-len.true, c.len.ensures)) c.index_mut.ensures.value c.in_ok-insert.ensures.ok)
 
 pub returns-else-place-len-clause-noted : goal.returns-else-place-len-clause-noted
 returns-else-place-len-clause-noted g c =
