@@ -1,9 +1,9 @@
 -- What an end of a run makes of bytes that came.
-use Rattle.std.proofs.Common.{◌≡◌, inl, inr, ℕ, Bool, false, cond, ◌||◌, List, [], ◌∷◌, ◌++◌, drop, Option, Some, None, is_none, refl, sym, ap, ◌∙◌, subst, ◌≤◌, ◌^◌}
+use Rattle.std.proofs.Common.{◌≡◌, inl, inr, ℕ, Bool, false, cond, ◌||◌, List, [], ◌∷◌, ◌++◌, drop, map, Option, Some, None, is_none, refl, sym, ap, ◌∙◌, subst, ◌≤◌, ◌^◌}
 use Rattle.media_play.proofs.Indices.{next_index-got}
 use Rattle.media_model.specs.Setup.{material_of}
 use Rattle.std.specs.Prelude.{◌==◌}
-use Rattle.std.specs.Option.{option_map}
+use Rattle.std.specs.Option.{option_map, option_to_list}
 use Rattle.std.proofs.lemmas.Option.{none-some, same_Some}
 use Rattle.mask_register.specs.declared.register.MaskRegister.{MaskRegister}
 use Rattle.mask_register.specs.MaskRegister.{Remembers}
@@ -12,12 +12,12 @@ use Rattle.rtp_wire.specs.HeaderLaws.{ReadsOwnBytes}
 use Rattle.srtp_core.specs.Cipher.{CipherMeaning}
 use Rattle.srtp_core.specs.Contexts.{SrtpState, new_state}
 use Rattle.stream_core.specs.declared.packet.RtpPacket.{RtpPacket as RtpPacketRecord}
-use Rattle.stream_core.specs.RxRecord.{StandsFor as RxStandsFor}
-use Rattle.stream_core.specs.Tables.{Along}
-use Rattle.session_core.specs.declared.datagram.Event.{Event}
-use Rattle.session_core.specs.declared.datagram.Event.TheVariants.{RtpPacket}
+use Rattle.stream_core.specs.declared.stream_paused.StreamPaused.{StreamPaused}
+use Rattle.stream_core.specs.Pauses.{on_record, told as stream_told, pauses}
+use Rattle.stream_core.specs.Tables.{each}
+use Rattle.session_core.specs.declared.datagram.Event.TheVariants.{RtpPacket, StreamPaused as Paused, AppSpecificFeedback as Application}
 use Rattle.rtcp_wire.specs.declared.feedback.AppSpecificFeedback.{AppSpecificFeedback}
-use Rattle.session_core.specs.Calls.{next_of, next_event, after_next, after_event}
+use Rattle.session_core.specs.Calls.{told as told_by, after_events}
 use Rattle.session_core.specs.declared.datagram.Opened.{Opened as OpenedHere}
 use Rattle.session_core.specs.Receiving.{Opens as OpensHere, Receives as ReceivesHere, opened, stays as stays_put, after_opened, opening_of, packet_after, cut as cut_here}
 use Rattle.session_core.specs.SessionRecord.{SessionState, SessionView, SessionRecord, StandsFor}
@@ -28,7 +28,7 @@ use Rattle.media_model.specs.declared.entry.Entry.{Entry}
 use Rattle.media_model.specs.declared.entry.Entry.TheVariants.{Got, Opened, Yielded}
 use Rattle.media_model.specs.declared.setup.Setup.{Setup}
 use Rattle.media_play.specs.Opening.{Opens, Receives, opens, stays, cut, packet_with, opened_as, yields}
-use Rattle.media_play.specs.Packets.{told_packet}
+use Rattle.media_play.specs.Packets.{packet_told, packet_in}
 use Rattle.media_play.specs.Plain.{extensions_of}
 use Rattle.media_play.specs.Sessions.{sealing_of, yielded, EndState, Ready, is_left}
 use Rattle.media_play.specs.SetupFacts.{IsSound}
@@ -61,10 +61,25 @@ took _ told (stays_put none) e = absurd (none-some told e)
 pub keys_there : (s : SessionState) {a b : SrtpState} → s.sealing ≡ Some a → s.opening ≡ Some b → (is_none s.sealing || is_none s.opening) ≡ false
 keys_there s seals keyed = ap (λ x. is_none x || is_none s.opening) seals ∙ ap is_none keyed
 
-pub told_once : (s : SessionState) → (is_none s.sealing || is_none s.opening) ≡ false → s.application ≡ None → after_event s ≡ record s { packet = None }
-told_once s keys none =
-    ap {A = Bool} {B = SessionState} (λ b. cond b s (after_next s.application s)) keys
-    ∙ ap {A = Option AppSpecificFeedback} {B = SessionState} (λ a. after_next a s) none
+-- of all that is told where there are keys and no feedback of an application waits, the packet is the last
+paused_only : (ps : List StreamPaused) (q : Option RtpPacketRecord) → packet_in (map Paused ps ++ option_to_list (option_map RtpPacket q)) None ≡ q
+paused_only [] None = refl
+paused_only [] (Some q) = refl
+paused_only (p ∷ ps) q = paused_only ps q
+
+told_packet : (s : SessionRecord) → (is_none s.state.sealing || is_none s.state.opening) ≡ false → s.state.application ≡ None → packet_in (told_by s) None ≡ s.state.packet
+told_packet s keys none =
+    ap {A = Bool} {B = Option RtpPacketRecord} (λ b. packet_in (cond b [] (option_to_list (option_map Application s.state.application) ++ (map Paused (pauses s.rx) ++ option_to_list (option_map RtpPacket s.state.packet)))) None) keys
+    ∙ ap {A = Option AppSpecificFeedback} {B = Option RtpPacketRecord} (λ a. packet_in (option_to_list (option_map Application a) ++ (map Paused (pauses s.rx) ++ option_to_list (option_map RtpPacket s.state.packet))) None) none
+    ∙ paused_only (pauses s.rx) s.state.packet
+
+-- and then nothing is left to be told
+pub told_all : (s : SessionRecord) → (is_none s.state.sealing || is_none s.state.opening) ≡ false
+    → after_events s ≡ record s { state = record s.state { application = None; packet = None }; rx = each (on_record stream_told) s.rx }
+told_all s keys = λ j. record s {
+  state = cond (keys j) s.state (record s.state { application = None; packet = None });
+  rx = cond (keys j) s.rx (each (on_record stream_told) s.rx);
+}
 
 module _ (cipher : CipherMeaning) (setup : Setup) (came : GotEntry) (own : ReadsOwnBytes) (sound : IsSound setup) (end : EndState) (entries : List Entry)
     (ready : Ready cipher setup came.side end entries) (time : ℕ) where
@@ -81,8 +96,7 @@ module _ (cipher : CipherMeaning) (setup : Setup) (came : GotEntry) (own : Reads
     ready_got cipher setup came.side entries came end ready,
   )
 
-  module _ (h : RtpHeader) (n : ℕ) (payload : List ℕ) (rtp : came.kind ≡ Rtp) (o : OpensHere cipher session came.bytes h n payload) (between : SessionView MaskRegister)
-      (stands : StandsFor Remembers between (after_opened time h n payload session)) where
+  module _ (h : RtpHeader) (n : ℕ) (payload : List ℕ) (rtp : came.kind ≡ Rtp) (o : OpensHere cipher session came.bytes h n payload) where
     abbrev plain_of : List ℕ
     plain_of = plain_with cipher setup came own h payload
 
@@ -92,64 +106,55 @@ module _ (cipher : CipherMeaning) (setup : Setup) (came : GotEntry) (own : Reads
     payload_is : drop h.header_len plain_of ≡ payload
     payload_is = (plain_parts cipher setup came own h payload (own (extensions_of setup) came.bytes [] h here.reads).2).1
 
+    keys : (is_none session.state.sealing || is_none session.state.opening) ≡ false
+    keys = keys_there session.state ready.seals ready.opens
+
     -- the packet that is told is the one that is yielded
-    told_is : (e : Option Event) → e ≡ next_event between.state → yielded came.side (told_packet e) ≡ yields came.side h n plain_of
+    told_is : (e : Option RtpPacketRecord) → e ≡ packet_in (told_by (after_opened time h n payload session)) None → yielded came.side (option_map packet_told e) ≡ yields came.side h n plain_of
     told_is e is =
-        let state : between.state ≡ (after_opened time h n payload session).state = stands.state in
-        let keys = keys_there session.state ready.seals ready.opens in
-        let event : e ≡ option_map RtpPacket (packet_after time h n (cut_here h payload) None) =
-        is ∙ ap next_event state
-        ∙ ap {A = Bool} {B = Option Event} (λ b. cond b None (next_of session.state.application (packet_after time h n (cut_here h payload) session.state.packet))) keys
-        ∙ ap {A = Option AppSpecificFeedback} {B = Option Event} (λ a. next_of a (packet_after time h n (cut_here h payload) session.state.packet)) ready.knows.application
-        ∙ ap {A = Option RtpPacketRecord} {B = Option Event} (λ p. option_map RtpPacket (packet_after time h n (cut_here h payload) p)) ready.knows.told in
-        ap (λ x. yielded came.side (told_packet x)) event
+        let packet : e ≡ packet_after time h n (cut_here h payload) None =
+        is ∙ told_packet (after_opened time h n payload session) keys ready.knows.application
+        ∙ ap {A = Option RtpPacketRecord} {B = Option RtpPacketRecord} (λ p. packet_after time h n (cut_here h payload) p) ready.knows.told in
+        ap (λ x. yielded came.side (option_map packet_told x)) packet
         ∙ elim (tested (h.ssrc == 0)) [
           | inl t ↦ rw t refl
           | inr t ↦ rw t (ap (λ l. Yielded came.side (packet_with h n (cut h l)) ∷ []) (sym payload_is))
         ]
 
-    arrival_opens : (final : SessionView MaskRegister) → final ≡ record between { state = after_event between.state }
+    arrival_opens : (final : SessionView MaskRegister) → StandsFor Remembers final (after_events (after_opened time h n payload session))
         → Receives (sealing_of cipher setup) setup entries came (Opened (opened_as came.side h n plain_of) ∷ yields came.side h n plain_of)
         × Ready cipher setup came.side (record { session = final; written = end.written }) (entries ++ opening came h n plain_of)
-    arrival_opens final is =
-        let keys = keys_there session.state ready.seals ready.opens in
+    arrival_opens final stands =
         let fresh = (accepted_parts setup came.side entries h n (accepts_opens here)).fresh in
-        let after = after_took h n session in
-        let state : final.state ≡ after.state =
-        ap {A = SessionView MaskRegister} {B = SessionState} (λ v. v.state) is ∙ ap after_event stands.state ∙ told_once (after_opened time h n payload session).state keys ready.knows.application in
-        let rx = ap {A = SessionView MaskRegister} (λ v. v.rx) is in
-        let probes = ap {A = SessionView MaskRegister} (λ v. v.probes) is in (
+        let after = after_took time h n session in (
           opens h n plain_of here,
           record {
             session = after;
-            stands = record {
-              state = state;
-              rx = subst (λ l. Along (RxStandsFor Remembers) l after.rx) (sym rx) stands.rx;
-              probes = subst (λ p. RxStandsFor Remembers p after.probes) (sym probes) stands.probes;
-            };
+            stands = subst (λ s. StandsFor Remembers final s) (told_all (after_opened time h n payload session) keys) stands;
             seals = ready.seals
                 ∙ ap (λ (i : ℕ). Some (new_state cipher setup.profile (material_of setup) (is_left came.side) i))
                 (sym (next_index-got {seal = sealing_of cipher setup} setup came.side entries came (Opened (opened_as came.side h n plain_of) ∷ yields came.side h n plain_of) (opens h n plain_of here)));
             opens = ready.opens;
             bounded = subst (λ (i : ℕ). i ≤ 2 ^ 31)
                 (sym (next_index-got {seal = sealing_of cipher setup} setup came.side entries came (Opened (opened_as came.side h n plain_of) ∷ yields came.side h n plain_of) (opens h n plain_of here))) ready.bounded;
-            knows = knows_opened setup entries came h n plain_of session sound fresh ready.knows;
+            knows = knows_opened setup entries came time h n plain_of session sound fresh ready.knows;
             used = used_still setup came.side entries (entries ++ opening came h n plain_of) (queued-opened entries came h n plain_of came.side) (writes_on-opened entries came h n plain_of came.side) end.written ready.used;
           },
         )
 
   -- what a session opened, and the packet that it then told
-  pub arrival_gives : {after : SessionRecord} {o : Option OpenedHere} (told : OpenedHere) (between final : SessionView MaskRegister) (event : Option Event) (packet : Option Packet) → came.kind ≡ Rtp
-      → ReceivesHere cipher session came.bytes time after o → o ≡ Some told → StandsFor Remembers between after → event ≡ next_event between.state
-      → final ≡ record between { state = after_event between.state } → packet ≡ told_packet event
+  pub arrival_gives : {after : SessionRecord} {o : Option OpenedHere} (told : OpenedHere) (final : SessionView MaskRegister) (one : Option RtpPacketRecord) (packet : Option Packet) → came.kind ≡ Rtp
+      → ReceivesHere cipher session came.bytes time after o → o ≡ Some told → one ≡ packet_in (told_by after) None
+      → StandsFor Remembers final (after_events after) → packet ≡ option_map packet_told one
       → Receives (sealing_of cipher setup) setup entries came (brought_by told packet)
       × Ready cipher setup came.side (record { session = final; written = end.written }) (entries ++ Got came ∷ brought_by told packet)
-  arrival_gives {after} {o} told between final event packet rtp received is stands says left carried =
+  arrival_gives {after} {o} told final one packet rtp received is says stands carried =
       let t = took o told received is in
-      let here : StandsFor Remembers between (after_opened time t.header t.number t.payload session) = subst (StandsFor Remembers between) t.left stands in
-      let chunk : brought_by told packet ≡ Opened (opened_as came.side t.header t.number (plain_of t.header t.number t.payload rtp t.opens between here)) ∷ yields came.side t.header t.number (plain_of t.header t.number t.payload rtp t.opens between here) =
+      let says_here : one ≡ packet_in (told_by (after_opened time t.header t.number t.payload session)) None = says ∙ ap (λ s. packet_in (told_by s) None) t.left in
+      let stands_here : StandsFor Remembers final (after_events (after_opened time t.header t.number t.payload session)) = subst (λ s. StandsFor Remembers final (after_events s)) t.left stands in
+      let chunk : brought_by told packet ≡ Opened (opened_as came.side t.header t.number (plain_of t.header t.number t.payload rtp t.opens)) ∷ yields came.side t.header t.number (plain_of t.header t.number t.payload rtp t.opens) =
       ap {A = OpenedHere} {B = List Entry} (λ x. brought_by x packet) t.is
-      ∙ ap {A = List Entry} {B = List Entry} (λ l. Opened (opened_as came.side t.header t.number (plain_of t.header t.number t.payload rtp t.opens between here)) ∷ l)
-      (ap (yielded came.side) carried ∙ told_is t.header t.number t.payload rtp t.opens between here event says) in
+      ∙ ap {A = List Entry} {B = List Entry} (λ l. Opened (opened_as came.side t.header t.number (plain_of t.header t.number t.payload rtp t.opens)) ∷ l)
+      (ap (yielded came.side) carried ∙ told_is t.header t.number t.payload rtp t.opens one says_here) in
       subst (λ (l : List Entry). Receives (sealing_of cipher setup) setup entries came l × Ready cipher setup came.side (record { session = final; written = end.written }) (entries ++ Got came ∷ l))
-      (sym chunk) (arrival_opens t.header t.number t.payload rtp t.opens between here final left)
+      (sym chunk) (arrival_opens t.header t.number t.payload rtp t.opens final stands_here)

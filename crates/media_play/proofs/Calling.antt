@@ -160,6 +160,7 @@ module _ {cipher : CipherMeaning} {setup : Setup} {side : Side} {end : EndState}
         incoming = h.incoming;
         takes = h.takes;
         probes = h.probes;
+        listens = h.listens;
       })
 
   -- what the end of the run knows then

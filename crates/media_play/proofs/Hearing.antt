@@ -1,22 +1,24 @@
 -- What an end of a run makes of RTCP that came.
-use Rattle.std.proofs.Common.{◌≡◌, ℕ, Bool, zero, suc, List, [], ◌∷◌, ◌++◌, Option, Some, None, refl, sym, ap, ◌∙◌, subst, cond}
+use Rattle.std.proofs.Common.{◌≡◌, ℕ, zero, suc, List, [], ◌∷◌, ◌++◌, Option, Some, None, refl, sym, ap, ◌∙◌, subst}
 use Rattle.std.specs.Option.{option_map_or}
 use Rattle.std.specs.List.{AllByRecursion}
 use Rattle.std.specs.Map.{keys_of}
 use Rattle.std.proofs.lemmas.Option.{same_Some, none-some}
 use Rattle.mask_register.specs.declared.register.MaskRegister.{MaskRegister}
 use Rattle.mask_register.specs.MaskRegister.{Remembers}
-use Rattle.rtcp_wire.specs.declared.feedback.AppSpecificFeedback.{AppSpecificFeedback}
 use Rattle.rtcp_wire.specs.declared.rtcp_fb.RtcpFb.{RtcpFb}
 use Rattle.rtcp_wire.specs.declared.rtcp_fb.RtcpFb.TheVariants.{SenderInfo, ReceptionReport, SourceDescription, Goodbye, Rrtr, DlrrItem, Nack, Pli, Fir, Twcc, Remb, AppSpecificFeedback as ApplicationFeedback}
 use Rattle.srtp_core.specs.Cipher.{CipherMeaning}
 use Rattle.srtp_core.specs.Contexts.{SrtpState, new_state}
 use Rattle.srtp_core.specs.RtcpSeals.{RtcpOpensTo}
-use Rattle.stream_core.specs.Tables.{place_of, change_place}
+use Rattle.stream_core.specs.Tables.{place_of, each, change_place}
 use Rattle.stream_core.specs.TxRecord.{TxRecord, after_reception}
-use Rattle.session_core.specs.Calls.{after_next, after_event}
-use Rattle.session_core.specs.Hearing.{RtcpOpensIn, rtcp_opening_of, feedback_in, acknowledged_by, acknowledged, last_application, after_rtcp, ReceivesRtcp, opened as opened_so, stays as stays_so}
-use Rattle.session_core.specs.SessionRecord.{MediaRecord, SessionState, SessionView, SessionRecord, StandsFor}
+use Rattle.stream_core.specs.Pauses.{on_record, with_trip, told as stream_told}
+use Rattle.stream_core.specs.RxRecord.{RxState, RxRecord}
+use Rattle.rtcp_wire.specs.declared.extended.DlrrItem.{DlrrItem as Delay}
+use Rattle.session_core.specs.Calls.{after_events}
+use Rattle.session_core.specs.Hearing.{RtcpOpensIn, rtcp_opening_of, feedback_in, acknowledged_by, acknowledged, trip_of, last_delay, measured, ntp_of, after_rtcp, ReceivesRtcp, opened as opened_so, stays as stays_so}
+use Rattle.session_core.specs.SessionRecord.{MediaRecord, SessionView, SessionRecord, StandsFor}
 use Rattle.session_core.specs.declared.datagram.Opened.{Opened as OpenedHere}
 use Rattle.rtp_base.specs.declared.kind.Kind.TheVariants.{Rtp, Rtcp}
 use Rattle.media_model.specs.declared.entry.Side.{Side}
@@ -26,32 +28,21 @@ use Rattle.media_model.specs.declared.entry.Entry.TheVariants.{Got, Opened}
 use Rattle.media_model.specs.declared.setup.Setup.{Setup}
 use Rattle.media_model.specs.Setup.{material_of}
 use Rattle.media_model.specs.Sides.{peer_of}
-use Rattle.media_play.specs.Knowing.{SendsAs, Knows}
+use Rattle.media_play.specs.Knowing.{SendsAs, TakesAs, ListensAs, Knows}
 use Rattle.media_play.specs.Opening.{Receives, OpensRtcp, opened_rtcp_as, opens_rtcp, stays}
 use Rattle.media_play.specs.Sessions.{is_left, sealing_of, EndState, Ready}
 use Rattle.media_play.proofs.Appends.{queued-got, taken-opens_rtcp}
-use Rattle.media_play.proofs.Arrivals.{keys_there}
+use Rattle.media_play.proofs.Arrivals.{keys_there, told_all}
 use Rattle.media_play.proofs.Indices.{next_index-got}
 use Rattle.media_play.proofs.Stands.{writes_on-got}
-use Rattle.media_play.proofs.Takes.{ready_got, ready_still}
+use Rattle.media_play.proofs.Takes.{all_at, all_each, keys_each, ready_got, ready_still}
 
 -- an acknowledgement leaves what waits
-
-all_change : {X : Type 0} (P : ℕ × X → Type 0) (f : X → X) → ((e : ℕ × X) → P e → P (e.0, f e.1)) → (es : List (ℕ × X)) (i : ℕ) → AllByRecursion P es
-    → AllByRecursion P (change_place f es i)
-all_change P f keeps [] i h = tt
-all_change P f keeps (e ∷ es) zero h = (keeps e h.0, h.1)
-all_change P f keeps (e ∷ es) (suc i) h = (h.0, all_change P f keeps es i h.1)
 
 same_keys : {X : Type 0} (f : X → X) (es : List (ℕ × X)) (i : ℕ) → keys_of (change_place f es i) ≡ keys_of es
 same_keys f [] i = refl
 same_keys f (e ∷ es) zero = refl
 same_keys f (e ∷ es) (suc i) = ap (λ (ks : List ℕ). e.0 ∷ ks) (same_keys f es i)
-
-all_at : {X : Type 0} (P : ℕ × X → Type 0) (f : X → X) → ((e : ℕ × X) → P e → P (e.0, f e.1)) → (es : List (ℕ × X)) (o : Option ℕ) → AllByRecursion P es
-    → AllByRecursion P (option_map_or (change_place f es) o es)
-all_at P f keeps es None h = h
-all_at P f keeps es (Some i) h = all_change P f keeps es i h
 
 keys_at : {X : Type 0} (f : X → X) (es : List (ℕ × X)) (o : Option ℕ) → keys_of (option_map_or (change_place f es) o es) ≡ keys_of es
 keys_at f es None = refl
@@ -98,39 +89,45 @@ all_keys : (fs : List RtcpFb) (es : List (ℕ × TxRecord)) → keys_of (acknowl
 all_keys [] es = refl
 all_keys (f ∷ fs) es = all_keys fs (acknowledged_by f es) ∙ keys_by f es
 
--- what a session makes of it: the acknowledgements, and nothing that waits to be told
-abbrev pub heard : List ℕ → SessionState → SessionState
-heard plain s = record s { tx = acknowledged (feedback_in plain) s.tx; application = None; packet = None }
+-- a round trip that was told leaves what the streams took and what they ask for
+module _ (P : ℕ × RxRecord → Type 0) (keeps : (f : RxState → RxState) → ((x : RxState) → (f x).roc ≡ x.roc) → ((x : RxState) → (f x).suppressed ≡ x.suppressed) → ((x : RxState) → (f x).threshold ≡ x.threshold)
+    → (e : ℕ × RxRecord) → P e → P (e.0, on_record f e.1)) where
+  all_measured : (ntp : ℕ) (d : Option Delay) (rx : List (ℕ × RxRecord)) → AllByRecursion P rx → AllByRecursion P (each (on_record stream_told) (measured ntp d rx))
+  all_measured ntp None rx h = all_each P (on_record stream_told) (keeps stream_told (λ x. refl) (λ x. refl) (λ x. refl)) rx h
+  all_measured ntp (Some d) rx h =
+      all_each P (on_record stream_told) (keeps stream_told (λ x. refl) (λ x. refl) (λ x. refl)) (measured ntp (Some d) rx)
+      (all_each P (on_record (with_trip (trip_of ntp d))) (keeps (with_trip (trip_of ntp d)) (λ x. refl) (λ x. refl) (λ x. refl)) rx h)
 
-told_then : (s : SessionState) (tx : List (ℕ × TxRecord)) (a : Option AppSpecificFeedback) → s.packet ≡ None
-    → after_next a (record s { tx = tx; application = a }) ≡ record s { tx = tx; application = None; packet = None }
-told_then s tx None none = refl
-told_then s tx (Some f) none = ap {A = Option _} {B = SessionState} (λ p. record s { tx = tx; application = None; packet = p }) none
+keys_measured : (ntp : ℕ) (d : Option Delay) (rx : List (ℕ × RxRecord)) → keys_of (each (on_record stream_told) (measured ntp d rx)) ≡ keys_of rx
+keys_measured ntp None rx = keys_each (on_record stream_told) rx
+keys_measured ntp (Some d) rx = keys_each (on_record stream_told) (measured ntp (Some d) rx) ∙ keys_each (on_record (with_trip (trip_of ntp d))) rx
 
-pub heard_is : (plain : List ℕ) (s : SessionState) {a b : SrtpState} → s.sealing ≡ Some a → s.opening ≡ Some b → s.packet ≡ None → after_event (after_rtcp plain s) ≡ heard plain s
-heard_is plain s seals opens none =
-    ap {A = Bool} {B = SessionState} (λ l. cond l (after_rtcp plain s) (after_next (after_rtcp plain s).application (after_rtcp plain s))) (keys_there s seals opens)
-    ∙ told_then s (acknowledged (feedback_in plain) s.tx) (last_application (feedback_in plain) s.application) none
+-- what a session makes of it when all was told
+abbrev pub heard : ℕ → List ℕ → SessionRecord → SessionRecord
+heard now plain r = record r {
+  state = record r.state { tx = acknowledged (feedback_in plain) r.state.tx; application = None; packet = None };
+  rx = each (on_record stream_told) (measured (ntp_of r.state now) (last_delay r.state.local_ssrc r.state.tx (feedback_in plain) None) r.rx);
+}
 
 -- what is told of what opened, and what is known if nothing did
 
-pub record Heard (cipher : CipherMeaning) (s : SessionState) (bytes : List ℕ) (after : SessionState) (told : OpenedHere) : Type 0 where
+pub record Heard (cipher : CipherMeaning) (r : SessionRecord) (bytes : List ℕ) (now : ℕ) (after : SessionRecord) (told : OpenedHere) : Type 0 where
   pub plain : List ℕ
-  pub opens : RtcpOpensIn cipher s.opening bytes plain
-  pub left : after ≡ after_rtcp plain s
-  pub is : told ≡ rtcp_opening_of s.opening bytes plain
+  pub opens : RtcpOpensIn cipher r.state.opening bytes plain
+  pub left : after ≡ after_rtcp now plain r
+  pub is : told ≡ rtcp_opening_of r.state.opening bytes plain
 
-pub heard_so : {cipher : CipherMeaning} {s after : SessionState} {bytes : List ℕ} (o : Option OpenedHere) (told : OpenedHere) → ReceivesRtcp cipher s bytes after o → o ≡ Some told
-    → Heard cipher s bytes after told
+pub heard_so : {cipher : CipherMeaning} {r : SessionRecord} {bytes : List ℕ} {now : ℕ} {after : SessionRecord} (o : Option OpenedHere) (told : OpenedHere) → ReceivesRtcp cipher r bytes now after o → o ≡ Some told
+    → Heard cipher r bytes now after told
 heard_so _ told (opened_so plain o) e = record { plain = plain; opens = o; left = refl; is = sym (same_Some _ told e) }
 heard_so _ told (stays_so none) e = absurd (none-some told e)
 
-pub unheard_so : {cipher : CipherMeaning} {s after : SessionState} {bytes : List ℕ} (o : Option OpenedHere) → ReceivesRtcp cipher s bytes after o → o ≡ None
-    → (after ≡ s) × ((plain : List ℕ) → RtcpOpensIn cipher s.opening bytes plain → ⊥)
+pub unheard_so : {cipher : CipherMeaning} {r : SessionRecord} {bytes : List ℕ} {now : ℕ} {after : SessionRecord} (o : Option OpenedHere) → ReceivesRtcp cipher r bytes now after o → o ≡ None
+    → (plain : List ℕ) → RtcpOpensIn cipher r.state.opening bytes plain → ⊥
 unheard_so _ (opened_so plain o) e = absurd (none-some _ (sym e))
-unheard_so _ (stays_so none) e = (refl, none)
+unheard_so _ (stays_so none) e = none
 
-module _ (cipher : CipherMeaning) (setup : Setup) (came : GotEntry) (end : EndState) (entries : List Entry) (rtcp : came.kind ≡ Rtcp)
+module _ (cipher : CipherMeaning) (setup : Setup) (came : GotEntry) (end : EndState) (entries : List Entry) (rtcp : came.kind ≡ Rtcp) (now : ℕ)
     (ready : Ready cipher setup came.side end entries) where
   abbrev session : SessionRecord
   session = ready.session
@@ -162,9 +159,11 @@ module _ (cipher : CipherMeaning) (setup : Setup) (came : GotEntry) (end : EndSt
     received : Receives (sealing_of cipher setup) setup entries came chunk
     received = opens_rtcp plain (to_packet plain o)
 
-    knows_heard : Knows setup came.side (record session { state = heard plain session.state }) entries
+    knows_heard : Knows setup came.side (heard now plain session) entries
     knows_heard =
         let h = ready.knows in
+        let ntp : ℕ = ntp_of session.state now in
+        let delay : Option Delay = last_delay session.state.local_ssrc session.state.tx (feedback_in plain) None in
         record {
           target = h.target;
           runs = h.runs;
@@ -175,25 +174,29 @@ module _ (cipher : CipherMeaning) (setup : Setup) (came : GotEntry) (end : EndSt
           exts = h.exts;
           outgoing = all_keys (feedback_in plain) session.state.tx ∙ h.outgoing;
           sends = all_sends came.side entries session.state.medias (feedback_in plain) session.state.tx h.sends;
-          incoming = h.incoming;
-          takes = h.takes;
+          incoming = keys_measured ntp delay session.rx ∙ h.incoming;
+          takes =
+              all_measured (TakesAs came.side entries session.state.seen) (λ f roc suppressed threshold e k. record { roc = roc e.1.state ∙ k.roc; numbers = k.numbers })
+              ntp delay session.rx h.takes;
           probes = h.probes;
+          listens =
+              all_measured (ListensAs setup) (λ f roc suppressed threshold e k. record { suppressed = suppressed e.1.state ∙ k.suppressed; threshold = threshold e.1.state ∙ k.threshold })
+              ntp delay session.rx h.listens;
         }
 
     pub hears_packet : (told : OpenedHere) → told ≡ rtcp_opening_of session.state.opening came.bytes plain → (final : SessionView MaskRegister)
-        → final ≡ record end.session { state = heard plain session.state }
+        → StandsFor Remembers final (after_events (after_rtcp now plain session))
         → Receives (sealing_of cipher setup) setup entries came (Opened (record { side = came.side; kind = Rtcp; ssrc = told.ssrc; index = told.index; plain = told.plain }) ∷ [])
         × Ready cipher setup came.side (record { session = final; written = end.written })
         (entries ++ Got came ∷ Opened (record { side = came.side; kind = Rtcp; ssrc = told.ssrc; index = told.index; plain = told.plain }) ∷ [])
-    hears_packet told is final left =
+    hears_packet told is final stands =
         let entry : Opened (record { side = came.side; kind = Rtcp; ssrc = told.ssrc; index = told.index; plain = told.plain }) ∷ [] ≡ chunk =
         ap {A = OpenedHere} {B = List Entry} (λ x. Opened (record { side = came.side; kind = Rtcp; ssrc = x.ssrc; index = x.index; plain = x.plain }) ∷ [])
         (is ∙ ap (λ k. rtcp_opening_of k came.bytes plain) ready.opens) in
         let before : Ready cipher setup came.side (record { session = final; written = end.written }) entries =
         record {
-          session = record session { state = heard plain session.state };
-          stands = subst (λ v. StandsFor Remembers v (record session { state = heard plain session.state })) (sym left)
-              (record { state = refl; rx = ready.stands.rx; probes = ready.stands.probes });
+          session = heard now plain session;
+          stands = subst (λ (s : SessionRecord). StandsFor Remembers final s) (told_all (after_rtcp now plain session) (keys_there session.state ready.seals ready.opens)) stands;
           seals = ready.seals;
           opens = ready.opens;
           bounded = ready.bounded;

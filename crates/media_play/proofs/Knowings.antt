@@ -183,6 +183,7 @@ module _ {seal : Sealing} {setup : Setup} {steps : List Step} {entries : List En
     incoming = h.incoming;
     takes = all_weaker (TakesAs side entries s.state.seen) (TakesAs side after s.state.seen) s.rx (λ e i k. takes_wrote s.state.seen e k) h.takes;
     probes = takes_wrote s.state.seen (0, s.probes) h.probes;
+    listens = h.listens;
   }
 
   used_here : (r : ℕ) (old new : Numbers) → r ≡ w.ssrc → ((n : ℕ) → has new n ≡ (has old n || (w.number == n)))

@@ -27,7 +27,7 @@ use Rattle.media_model.specs.declared.setup.Setup.{Setup}
 use Rattle.media_model.specs.Setup.{material_of, types_of, streams_of, main_in, local_of}
 use Rattle.media_model.specs.Sides.{same_side, peer_of}
 use Rattle.media_play.specs.declared.numbers.Numbers.{Numbers}
-use Rattle.media_play.specs.Knowing.{SendsAs, TakesAs, AreUsed}
+use Rattle.media_play.specs.Knowing.{SendsAs, TakesAs, ListensAs, AreUsed}
 use Rattle.media_play.specs.Listing.{NoRepeat}
 use Rattle.media_play.specs.Plain.{extensions_of}
 use Rattle.media_play.specs.Rules.{has}
@@ -57,9 +57,9 @@ has_last medias m mid is = any_last (λ (n : MediaRecord). pointwise ◌==◌ n.
 module _ (cipher : CipherMeaning) (setup : Setup) (side : Side) where
   -- with keys
 
-  keyed_begins : (config : SessionConfig) → config.mtu.target ≡ setup.mtu.target → config.srtcp_index ≡ (local_of side setup).srtcp_index → config.exts ≡ extensions_of setup → ((pt : ℕ) → is_some (place_of pt config.types) ≡ has (types_of setup) pt)
+  keyed_begins : (config : SessionConfig) → config.mtu.target ≡ setup.mtu.target → config.pause_threshold ≡ setup.pause_threshold → config.srtcp_index ≡ (local_of side setup).srtcp_index → config.exts ≡ extensions_of setup → ((pt : ℕ) → is_some (place_of pt config.types) ≡ has (types_of setup) pt)
       → Begun cipher setup side [] [] (record (fresh_session config) { state = keyed cipher setup.profile (material_of setup) (is_left side) (fresh_session config).state })
-  keyed_begins config target index exts types =
+  keyed_begins config target pauses index exts types =
       record {
         target = target;
         seals = ap (λ (i : ℕ). Some (new_state cipher setup.profile (material_of setup) (is_left side) i)) index;
@@ -76,12 +76,14 @@ module _ (cipher : CipherMeaning) (setup : Setup) (side : Side) where
         incoming = refl;
         takes = tt;
         probes = record { roc = refl; numbers = refl };
+        pauses = pauses;
+        listens = tt;
       }
 
-  pub starts_keyed : (config : SessionConfig) (v new : SessionView MaskRegister) (material : List ℕ) (left : Bool) → config.mtu.target ≡ setup.mtu.target → config.srtcp_index ≡ (local_of side setup).srtcp_index → config.exts ≡ extensions_of setup
+  pub starts_keyed : (config : SessionConfig) (v new : SessionView MaskRegister) (material : List ℕ) (left : Bool) → config.mtu.target ≡ setup.mtu.target → config.pause_threshold ≡ setup.pause_threshold → config.srtcp_index ≡ (local_of side setup).srtcp_index → config.exts ≡ extensions_of setup
       → ((pt : ℕ) → is_some (place_of pt config.types) ≡ has (types_of setup) pt) → material ≡ material_of setup → left ≡ is_left side → (local_of side setup).srtcp_index ≤ 2 ^ 31 → StandsFor Remembers v (fresh_session config)
       → new ≡ record v { state = keyed cipher setup.profile material left v.state } → Starts cipher setup side [] [] new
-  starts_keyed config v new material left target index exts types key l bounded h is =
+  starts_keyed config v new material left target pauses index exts types key l bounded h is =
       let to = λ (s : SessionState). keyed cipher setup.profile (material_of setup) (is_left side) s in
       let state : new.state ≡ to (fresh_session config).state =
       ap (λ (w : SessionView MaskRegister). w.state) is
@@ -96,7 +98,7 @@ module _ (cipher : CipherMeaning) (setup : Setup) (side : Side) where
           rx = rw is h.rx;
           probes = rw is h.probes;
         };
-        begun = keyed_begins config target index exts types;
+        begun = keyed_begins config target pauses index exts types;
       }
 
   -- one media section more
@@ -122,6 +124,8 @@ module _ (cipher : CipherMeaning) (setup : Setup) (side : Side) where
           incoming = b.incoming;
           takes = b.takes;
           probes = b.probes;
+          pauses = b.pauses;
+          listens = b.listens;
         }
 
     pub starts_media : (v new : SessionView MaskRegister) (m : MediaRecord) → new ≡ record v { state = record v.state { medias = v.state.medias ++ m ∷ [] } }
@@ -141,10 +145,10 @@ module _ (cipher : CipherMeaning) (setup : Setup) (side : Side) where
 
     -- one stream more
 
-    begun_sends : (s : SessionRecord) (tx : List (ℕ × TxRecord)) (ssrc : ℕ) (mid : List ℕ) (rid : Option (List ℕ)) → has_mid mid s.state.medias ≡ true
-        → tx ≡ s.state.tx ++ (ssrc, declared ssrc None mid rid) ∷ [] → Begun cipher setup side sent received s
-        → Begun cipher setup side (sent ++ ssrc ∷ []) received (record s { state = record s.state { tx = tx } })
-    begun_sends s tx ssrc mid rid known is b =
+    begun_sends : (s : SessionRecord) (tx : List (ℕ × TxRecord)) (threshold ssrc : ℕ) (mid : List ℕ) (rid : Option (List ℕ)) → has_mid mid s.state.medias ≡ true
+        → tx ≡ s.state.tx ++ (ssrc, declared ssrc None mid rid) ∷ [] → threshold ≡ setup.pause_threshold → Begun cipher setup side sent received s
+        → Begun cipher setup side (sent ++ ssrc ∷ []) received (record s { state = record s.state { tx = tx; pause_threshold = threshold } })
+    begun_sends s tx threshold ssrc mid rid known is pauses b =
         record {
           seals = b.seals;
           opens = b.opens;
@@ -162,33 +166,37 @@ module _ (cipher : CipherMeaning) (setup : Setup) (side : Side) where
           incoming = b.incoming;
           takes = b.takes;
           probes = b.probes;
+          pauses = pauses;
+          listens = b.listens;
         }
 
-    pub starts_sends : (v : SessionView MaskRegister) (old new : StreamsView MaskRegister) (ssrc : ℕ) (mid : List ℕ) (rid : Option (List ℕ)) → old.rx ≡ v.rx → old.tx ≡ v.state.tx
+    pub starts_sends : (v : SessionView MaskRegister) (old new : StreamsView MaskRegister) (ssrc : ℕ) (mid : List ℕ) (rid : Option (List ℕ)) → old.rx ≡ v.rx → old.tx ≡ v.state.tx → old.threshold ≡ v.state.pause_threshold
         → new ≡ record old { tx = with_new ssrc (declared ssrc None mid rid) old.tx } → has_mid mid v.state.medias ≡ true → NoRepeat (sent ++ ssrc ∷ [])
         → Starts cipher setup side sent received v
-        → Starts cipher setup side (sent ++ ssrc ∷ []) received (record v { state = record v.state { tx = new.tx }; rx = new.rx })
-    starts_sends v old new ssrc mid rid rx tx is known once h =
+        → Starts cipher setup side (sent ++ ssrc ∷ []) received (record v { state = record v.state { tx = new.tx; pause_threshold = new.threshold }; rx = new.rx })
+    starts_sends v old new ssrc mid rid rx tx threshold is known once h =
         let s = h.session in
         let x = declared ssrc None mid rid in
         let mine : old.tx ≡ s.state.tx = tx ∙ ap (λ (t : SessionState). t.tx) h.stands.state in
         let behind : new.tx ≡ s.state.tx ++ (ssrc, x) ∷ [] =
         ap (λ (t : StreamsView MaskRegister). t.tx) is ∙ ap (λ (l : List (ℕ × TxRecord)). with_new ssrc x l) mine ∙ new_behind s.state.tx sent ssrc x h.begun.outgoing once in
+        let pauses = ap (λ (t : StreamsView MaskRegister). t.threshold) is ∙ threshold ∙ ap (λ (t : SessionState). t.pause_threshold) h.stands.state ∙ h.begun.pauses in
         record {
-          session = record s { state = record s.state { tx = new.tx } };
+          session = record s { state = record s.state { tx = new.tx; pause_threshold = new.threshold } };
           bounded = h.bounded;
           stands = record {
-            state = ap (λ (t : SessionState). let n : SessionState = record t { tx = new.tx } in n) h.stands.state;
+            state = ap (λ (t : SessionState). let n : SessionState = record t { tx = new.tx; pause_threshold = new.threshold } in n) h.stands.state;
             rx = rw (ap (λ (t : StreamsView MaskRegister). t.rx) is ∙ rx) h.stands.rx;
             probes = h.stands.probes;
           };
-          begun = begun_sends s new.tx ssrc mid rid (ap (λ (t : SessionState). has_mid mid t.medias) (sym h.stands.state) ∙ known) behind h.begun;
+          begun = begun_sends s new.tx new.threshold ssrc mid rid (ap (λ (t : SessionState). has_mid mid t.medias) (sym h.stands.state) ∙ known) behind pauses h.begun;
         }
 
     begun_hears : (s : SessionRecord) (rs : List (ℕ × RxRecord)) (ssrc : ℕ) (mid : List ℕ) (rid : Option (List ℕ))
-        → rs ≡ s.rx ++ (ssrc, expected ssrc None mid rid) ∷ [] → Begun cipher setup side sent received s
+        → rs ≡ s.rx ++ (ssrc, expected ssrc None mid rid true s.state.pause_threshold) ∷ [] → Begun cipher setup side sent received s
         → Begun cipher setup side sent (received ++ ssrc ∷ []) (record s { rx = rs })
     begun_hears s rs ssrc mid rid is b =
+        let x = expected ssrc None mid rid true s.state.pause_threshold in
         record {
           seals = b.seals;
           opens = b.opens;
@@ -202,31 +210,40 @@ module _ (cipher : CipherMeaning) (setup : Setup) (side : Side) where
           exts = b.exts;
           outgoing = b.outgoing;
           sends = b.sends;
-          incoming = ap keys_of is ∙ keys_more s.rx received ssrc (expected ssrc None mid rid) b.incoming;
+          incoming = ap keys_of is ∙ keys_more s.rx received ssrc x b.incoming;
           takes = subst (AllByRecursion IsUnheard) (sym is)
-              (all_push IsUnheard s.rx (ssrc, expected ssrc None mid rid) b.takes (record { roc = refl; numbers = refl }));
+              (all_push IsUnheard s.rx (ssrc, x) b.takes (record { roc = refl; numbers = refl }));
           probes = b.probes;
+          pauses = b.pauses;
+          listens = subst (AllByRecursion (ListensAs setup)) (sym is)
+              (all_push (ListensAs setup) s.rx (ssrc, x) b.listens (record { suppressed = refl; threshold = b.pauses }));
         }
 
-    pub starts_hears : (v : SessionView MaskRegister) (old new : StreamsView MaskRegister) (ssrc : ℕ) (mid : List ℕ) (rid : Option (List ℕ)) → old.rx ≡ v.rx → old.tx ≡ v.state.tx
-        → ((r : StreamsRecord) → StreamsStandFor Remembers old r → StreamsStandFor Remembers new (record r { rx = with_new ssrc (expected ssrc None mid rid) r.rx }))
+    pub starts_hears : (v : SessionView MaskRegister) (old new : StreamsView MaskRegister) (ssrc : ℕ) (mid : List ℕ) (rid : Option (List ℕ)) → old.rx ≡ v.rx → old.tx ≡ v.state.tx → old.threshold ≡ v.state.pause_threshold
+        → ((r : StreamsRecord) → StreamsStandFor Remembers old r → StreamsStandFor Remembers new (record r { rx = with_new ssrc (expected ssrc None mid rid true r.threshold) r.rx }))
         → NoRepeat (received ++ ssrc ∷ []) → Starts cipher setup side sent received v
-        → Starts cipher setup side sent (received ++ ssrc ∷ []) (record v { state = record v.state { tx = new.tx }; rx = new.rx })
-    starts_hears v old new ssrc mid rid rx tx says once h =
+        → Starts cipher setup side sent (received ++ ssrc ∷ []) (record v { state = record v.state { tx = new.tx; pause_threshold = new.threshold }; rx = new.rx })
+    starts_hears v old new ssrc mid rid rx tx threshold says once h =
         let s = h.session in
-        let before : StreamsRecord = record { rx = s.rx; tx = s.state.tx } in
-        let after = says before (record { rx = rw rx h.stands.rx; tx = tx ∙ ap (λ (t : SessionState). t.tx) h.stands.state }) in
-        let rs = with_new ssrc (expected ssrc None mid rid) s.rx in
+        let before : StreamsRecord = record { threshold = s.state.pause_threshold; rx = s.rx; tx = s.state.tx } in
+        let after = says before (record {
+          threshold = threshold ∙ ap (λ (t : SessionState). t.pause_threshold) h.stands.state;
+          rx = rw rx h.stands.rx;
+          tx = tx ∙ ap (λ (t : SessionState). t.tx) h.stands.state;
+        }) in
+        let x = expected ssrc None mid rid true s.state.pause_threshold in
+        let rs = with_new ssrc x s.rx in
         record {
           session = record s { rx = rs };
           bounded = h.bounded;
           stands = record {
-            state = ap (λ (l : List (ℕ × TxRecord)). let n : SessionState = record v.state { tx = l } in n) after.tx
-                ∙ ap (λ (t : SessionState). let n : SessionState = record t { tx = s.state.tx } in n) h.stands.state;
+            state = ap (λ (l : List (ℕ × TxRecord)). let n : SessionState = record v.state { tx = l; pause_threshold = new.threshold } in n) after.tx
+                ∙ ap (λ (at : ℕ). let n : SessionState = record v.state { tx = s.state.tx; pause_threshold = at } in n) after.threshold
+                ∙ ap (λ (t : SessionState). let n : SessionState = record t { tx = s.state.tx; pause_threshold = s.state.pause_threshold } in n) h.stands.state;
             rx = after.rx;
             probes = h.stands.probes;
           };
-          begun = begun_hears s rs ssrc mid rid (new_behind s.rx received ssrc (expected ssrc None mid rid) h.begun.incoming once) h.begun;
+          begun = begun_hears s rs ssrc mid rid (new_behind s.rx received ssrc x h.begun.incoming once) h.begun;
         }
 
 -- a stream of a setup is one more that a side sends, or one more that it hears
@@ -250,28 +267,28 @@ module _ (cipher : CipherMeaning) (setup : Setup) (side : Side) (sent received :
     pub heard_are : heard_with ≡ heard_so
     heard_are = ap (λ (l : List ℕ). received ++ l) (mains (peer_of side) s (not b) (other_side s.side side ∙ ap not is))
 
-  module _ (v : SessionView MaskRegister) (old new : StreamsView MaskRegister) (mid : List ℕ) (rid : Option (List ℕ)) (rx : old.rx ≡ v.rx) (tx : old.tx ≡ v.state.tx)
+  module _ (v : SessionView MaskRegister) (old new : StreamsView MaskRegister) (mid : List ℕ) (rid : Option (List ℕ)) (rx : old.rx ≡ v.rx) (tx : old.tx ≡ v.state.tx) (threshold : old.threshold ≡ v.state.pause_threshold)
       (once_sent : NoRepeat sent_with) (once_heard : NoRepeat heard_with) (h : Starts cipher setup side sent received v) where
     pub stream_sends : same_side s.side side ≡ true → new ≡ record old { tx = with_new s.ssrc (declared s.ssrc None mid rid) old.tx } → has_mid mid v.state.medias ≡ true
-        → Starts cipher setup side sent_with heard_with (record v { state = record v.state { tx = new.tx }; rx = new.rx })
+        → Starts cipher setup side sent_with heard_with (record v { state = record v.state { tx = new.tx; pause_threshold = new.threshold }; rx = new.rx })
     stream_sends own is known =
         let more = sent_are true own in
         let same : heard_with ≡ received = heard_are true own ∙ append-nil received in
-        let w : SessionView MaskRegister = record v { state = record v.state { tx = new.tx }; rx = new.rx } in
+        let w : SessionView MaskRegister = record v { state = record v.state { tx = new.tx; pause_threshold = new.threshold }; rx = new.rx } in
         subst (λ (l : List ℕ). Starts cipher setup side l heard_with w) (sym more)
         (subst (λ (l : List ℕ). Starts cipher setup side (sent ++ s.ssrc ∷ []) l w) (sym same)
-        (starts_sends cipher setup side sent received v old new s.ssrc mid rid rx tx is known (subst (λ (l : List ℕ). NoRepeat l) more once_sent) h))
+        (starts_sends cipher setup side sent received v old new s.ssrc mid rid rx tx threshold is known (subst (λ (l : List ℕ). NoRepeat l) more once_sent) h))
 
     pub stream_hears : same_side s.side side ≡ false
-        → ((r : StreamsRecord) → StreamsStandFor Remembers old r → StreamsStandFor Remembers new (record r { rx = with_new s.ssrc (expected s.ssrc None mid rid) r.rx }))
-        → Starts cipher setup side sent_with heard_with (record v { state = record v.state { tx = new.tx }; rx = new.rx })
+        → ((r : StreamsRecord) → StreamsStandFor Remembers old r → StreamsStandFor Remembers new (record r { rx = with_new s.ssrc (expected s.ssrc None mid rid true r.threshold) r.rx }))
+        → Starts cipher setup side sent_with heard_with (record v { state = record v.state { tx = new.tx; pause_threshold = new.threshold }; rx = new.rx })
     stream_hears others says =
         let same : sent_with ≡ sent = sent_are false others ∙ append-nil sent in
         let more = heard_are false others in
-        let w : SessionView MaskRegister = record v { state = record v.state { tx = new.tx }; rx = new.rx } in
+        let w : SessionView MaskRegister = record v { state = record v.state { tx = new.tx; pause_threshold = new.threshold }; rx = new.rx } in
         subst (λ (l : List ℕ). Starts cipher setup side l heard_with w) (sym same)
         (subst (λ (l : List ℕ). Starts cipher setup side sent l w) (sym more)
-        (starts_hears cipher setup side sent received v old new s.ssrc mid rid rx tx says (subst (λ (l : List ℕ). NoRepeat l) more once_heard) h))
+        (starts_hears cipher setup side sent received v old new s.ssrc mid rid rx tx threshold says (subst (λ (l : List ℕ). NoRepeat l) more once_heard) h))
 
 pub starts_same : (cipher : CipherMeaning) (setup : Setup) (side : Side) (ks bs xs ys : List ℕ) (v : SessionView MaskRegister) → ks ≡ bs → xs ≡ ys
     → Starts cipher setup side ks xs v → Starts cipher setup side bs ys v
@@ -310,6 +327,7 @@ module _ (cipher : CipherMeaning) (setup : Setup) (side : Side) where
           incoming = b.incoming;
           takes = all_weaker IsUnheard (TakesAs side [] s.state.seen) s.rx (λ e i. unheard_takes s.state.seen e b.seen i) b.takes;
           probes = unheard_takes s.state.seen (0, s.probes) b.seen b.probes;
+          listens = b.listens;
         };
         used = u;
       }

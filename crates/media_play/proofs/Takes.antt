@@ -15,7 +15,8 @@ use Rattle.repair_core.specs.Fresh.{is_fresh, with_number}
 use Rattle.srtp_core.specs.Cipher.{CipherMeaning}
 use Rattle.stream_core.specs.RxRecord.{RxRecord, taken_of, opened_as as heard_on}
 use Rattle.stream_core.specs.StreamsRecord.{value_under}
-use Rattle.stream_core.specs.Tables.{place_of, change_place, change_at}
+use Rattle.stream_core.specs.Pauses.{on_record, told}
+use Rattle.stream_core.specs.Tables.{place_of, each, change_place, change_at}
 use Rattle.stream_core.specs.TxRecord.{TxRecord}
 use Rattle.session_core.specs.Receiving.{seen_of, saw, rx_opened, probes_opened}
 use Rattle.session_core.specs.SessionRecord.{MediaRecord, SessionRecord}
@@ -29,7 +30,7 @@ use Rattle.media_model.specs.Entries.{write_on, writes_on, sealed_number_on, sea
 use Rattle.media_model.specs.Setup.{streams_of, material_of}
 use Rattle.media_model.specs.Sides.{peer_of}
 use Rattle.media_play.specs.declared.numbers.Numbers.{Numbers}
-use Rattle.media_play.specs.Knowing.{SendsAs, TakesAs, Knows, UsedAs, AreUsed}
+use Rattle.media_play.specs.Knowing.{SendsAs, TakesAs, ListensAs, Knows, UsedAs, AreUsed}
 use Rattle.media_play.specs.Listing.{NoRepeat}
 use Rattle.media_play.specs.Packets.{waiting_of}
 use Rattle.media_play.specs.Rules.{has}
@@ -87,6 +88,27 @@ seen_elsewhere k ssrc n seen other = go (place_of ssrc seen) refl
         ap (λ o. seen_of k (option_map_or (change_place raised seen) o (seen ++ (ssrc, n) ∷ []))) e
         ∙ under_changed raised k ssrc i seen other (key_at ssrc (keys_of seen) i e)
 
+-- what holds of each value of a table holds after one of them, or each, changed so that it goes on to hold
+
+pub all_change : {X : Type 0} (P : ℕ × X → Type 0) (f : X → X) → ((e : ℕ × X) → P e → P (e.0, f e.1)) → (es : List (ℕ × X)) (i : ℕ) → AllByRecursion P es
+    → AllByRecursion P (change_place f es i)
+all_change P f keeps [] i h = tt
+all_change P f keeps (e ∷ es) zero h = (keeps e h.0, h.1)
+all_change P f keeps (e ∷ es) (suc i) h = (h.0, all_change P f keeps es i h.1)
+
+pub all_at : {X : Type 0} (P : ℕ × X → Type 0) (f : X → X) → ((e : ℕ × X) → P e → P (e.0, f e.1)) → (es : List (ℕ × X)) (o : Option ℕ) → AllByRecursion P es
+    → AllByRecursion P (option_map_or (change_place f es) o es)
+all_at P f keeps es None h = h
+all_at P f keeps es (Some i) h = all_change P f keeps es i h
+
+pub all_each : {X : Type 0} (P : ℕ × X → Type 0) (f : X → X) → ((e : ℕ × X) → P e → P (e.0, f e.1)) → (es : List (ℕ × X)) → AllByRecursion P es → AllByRecursion P (each f es)
+all_each P f keeps [] h = tt
+all_each P f keeps (e ∷ es) h = (keeps e h.0, all_each P f keeps es h.1)
+
+pub keys_each : {X : Type 0} (f : X → X) (es : List (ℕ × X)) → keys_of (each f es) ≡ keys_of es
+keys_each f [] = refl
+keys_each f (e ∷ es) = ap (λ (ks : List ℕ). e.0 ∷ ks) (keys_each f es)
+
 -- what a session knows, it knows after each entry that tells nothing of it
 
 module _ (setup : Setup) (side : Side) (old new : List Entry)
@@ -119,6 +141,7 @@ module _ (setup : Setup) (side : Side) (old new : List Entry)
       incoming = h.incoming;
       takes = all_weaker (TakesAs side old s.state.seen) (TakesAs side new s.state.seen) s.rx (λ e i k. takes_still s.state.seen e k) h.takes;
       probes = takes_still s.state.seen (0, s.probes) h.probes;
+      listens = h.listens;
     }
 
     pub ready_still : next_index setup side new ≡ next_index setup side old → (cipher : CipherMeaning) (end : EndState)
@@ -158,7 +181,7 @@ module _ (entries : List Entry) (came : GotEntry) (header : RtpHeader) (number :
       (same_reading (sealed_number_on s r) entries opened (yields_none (sealed_number_on s r) (λ s p. refl) came.side header number plain))
       ∙ ap (λ ws. filter (λ w. not (is_sealed (sealed_numbers s r entries) w)) ws) (writes_on-opened s r)
 
-  module _ (fresh : is_fresh (taken came.side header.ssrc entries) number ≡ true) (seen : List (ℕ × ℕ)) where
+  module _ (fresh : is_fresh (taken came.side header.ssrc entries) number ≡ true) (seen : List (ℕ × ℕ)) (now : ℕ) where
     abbrev seen_after : List (ℕ × ℕ)
     seen_after = saw header.ssrc number seen
 
@@ -171,7 +194,7 @@ module _ (entries : List Entry) (came : GotEntry) (header : RtpHeader) (number :
     }
 
     took_here : (e : ℕ × RxRecord) → e.0 ≡ header.ssrc → TakesAs came.side entries seen e
-        → TakesAs came.side (entries ++ opened) seen_after (e.0, heard_on (seen_of header.ssrc seen) number e.1)
+        → TakesAs came.side (entries ++ opened) seen_after (e.0, heard_on (seen_of header.ssrc seen) now number e.1)
     took_here e is h =
         let added : with_number (taken came.side header.ssrc entries) number ≡ taken came.side header.ssrc entries ++ number ∷ [] = rw fresh refl in
         record {
@@ -182,7 +205,7 @@ module _ (entries : List Entry) (came : GotEntry) (header : RtpHeader) (number :
         }
 
     takes_opened : (rx : List (ℕ × RxRecord)) → NoRepeat (keys_of rx) → has (keys_of rx) 0 ≡ false → AllByRecursion (TakesAs came.side entries seen) rx
-        → AllByRecursion (TakesAs came.side (entries ++ opened) seen_after) (rx_opened (seen_of header.ssrc seen) header.ssrc number rx)
+        → AllByRecursion (TakesAs came.side (entries ++ opened) seen_after) (rx_opened (seen_of header.ssrc seen) now header.ssrc number rx)
     takes_opened rx distinct nonzero h = by (header.ssrc == 0) refl
       where
         P : ℕ × RxRecord → Type 0
@@ -191,61 +214,76 @@ module _ (entries : List Entry) (came : GotEntry) (header : RtpHeader) (number :
         Q : ℕ × RxRecord → Type 0
         Q = TakesAs came.side (entries ++ opened) seen_after
 
-        go : (o : Option ℕ) → place_of header.ssrc rx ≡ o → AllByRecursion Q (change_at header.ssrc (heard_on (seen_of header.ssrc seen) number) rx)
+        go : (o : Option ℕ) → place_of header.ssrc rx ≡ o → AllByRecursion Q (change_at header.ssrc (heard_on (seen_of header.ssrc seen) now number) rx)
         go None e =
-            subst (λ o. AllByRecursion Q (option_map_or (change_place (heard_on (seen_of header.ssrc seen) number) rx) o rx)) (sym e)
+            subst (λ o. AllByRecursion Q (option_map_or (change_place (heard_on (seen_of header.ssrc seen) now number) rx) o rx)) (sym e)
             (all_weaker P Q rx (λ x i k. took_elsewhere x (λ same. absurd (false≢true (sym (key_absent header.ssrc (keys_of rx) e) ∙ any-from_in (λ y. y == header.ssrc) x.0 (keys_of rx) (key_in x rx i) (eq-eqb x.0 header.ssrc same)))) k) h)
         go (Some at) e =
-            subst (λ o. AllByRecursion Q (option_map_or (change_place (heard_on (seen_of header.ssrc seen) number) rx) o rx)) (sym e)
-            (one_changes P Q (heard_on (seen_of header.ssrc seen) number) header.ssrc took_elsewhere took_here rx at distinct (key_at header.ssrc (keys_of rx) at e) h)
+            subst (λ o. AllByRecursion Q (option_map_or (change_place (heard_on (seen_of header.ssrc seen) now number) rx) o rx)) (sym e)
+            (one_changes P Q (heard_on (seen_of header.ssrc seen) now number) header.ssrc took_elsewhere took_here rx at distinct (key_at header.ssrc (keys_of rx) at e) h)
 
-        by : (b : Bool) → (header.ssrc == 0) ≡ b → AllByRecursion Q (if b then rx else change_at header.ssrc (heard_on (seen_of header.ssrc seen) number) rx)
+        by : (b : Bool) → (header.ssrc == 0) ≡ b → AllByRecursion Q (if b then rx else change_at header.ssrc (heard_on (seen_of header.ssrc seen) now number) rx)
         by true t =
             all_weaker P Q rx
             (λ e i. took_elsewhere e (λ same. false≢true (sym nonzero ∙ any-from_in (λ x. x == 0) e.0 (keys_of rx) (key_in e rx i) (eq-eqb e.0 0 (same ∙ eqb-true header.ssrc 0 t))))) h
         by false t = go (place_of header.ssrc rx) refl
 
     probes_after : (probes : RxRecord) → TakesAs came.side entries seen (0, probes)
-        → TakesAs came.side (entries ++ opened) seen_after (0, probes_opened (seen_of header.ssrc seen) header.ssrc number probes)
+        → TakesAs came.side (entries ++ opened) seen_after (0, probes_opened (seen_of header.ssrc seen) now header.ssrc number probes)
     probes_after probes h = by (header.ssrc == 0) refl
       where
         by : (b : Bool) → (header.ssrc == 0) ≡ b
-            → TakesAs came.side (entries ++ opened) seen_after (0, (if b then heard_on (seen_of header.ssrc seen) number probes else probes))
+            → TakesAs came.side (entries ++ opened) seen_after (0, (if b then heard_on (seen_of header.ssrc seen) now number probes else probes))
         by true t = took_here (0, probes) (sym (eqb-true header.ssrc 0 t)) h
         by false t = took_elsewhere (0, probes) (λ same. false≢true (sym t ∙ eq-eqb header.ssrc 0 (sym same))) h
 
-    rx_keys : (rx : List (ℕ × RxRecord)) → keys_of (rx_opened (seen_of header.ssrc seen) header.ssrc number rx) ≡ keys_of rx
+    rx_keys : (rx : List (ℕ × RxRecord)) → keys_of (rx_opened (seen_of header.ssrc seen) now header.ssrc number rx) ≡ keys_of rx
     rx_keys rx = elim (tested (header.ssrc == 0)) [ inl t ↦ rw t refl | inr t ↦ rw t (go (place_of header.ssrc rx) refl) ]
       where
-        go : (o : Option ℕ) → place_of header.ssrc rx ≡ o → keys_of (change_at header.ssrc (heard_on (seen_of header.ssrc seen) number) rx) ≡ keys_of rx
-        go None e = ap (λ o. keys_of (option_map_or (change_place (heard_on (seen_of header.ssrc seen) number) rx) o rx)) e
+        go : (o : Option ℕ) → place_of header.ssrc rx ≡ o → keys_of (change_at header.ssrc (heard_on (seen_of header.ssrc seen) now number) rx) ≡ keys_of rx
+        go None e = ap (λ o. keys_of (option_map_or (change_place (heard_on (seen_of header.ssrc seen) now number) rx) o rx)) e
         go (Some at) e =
-            ap (λ o. keys_of (option_map_or (change_place (heard_on (seen_of header.ssrc seen) number) rx) o rx)) e
-            ∙ keys_changed (heard_on (seen_of header.ssrc seen) number) rx at
+            ap (λ o. keys_of (option_map_or (change_place (heard_on (seen_of header.ssrc seen) now number) rx) o rx)) e
+            ∙ keys_changed (heard_on (seen_of header.ssrc seen) now number) rx at
 
--- the record after it, and after the packet was told
-abbrev pub after_took : RtpHeader → ℕ → SessionRecord → SessionRecord
-after_took header number s = record {
-  state = record s.state { seen = saw header.ssrc number s.state.seen; packet = None };
-  rx = rx_opened (seen_of header.ssrc s.state.seen) header.ssrc number s.rx;
-  probes = probes_opened (seen_of header.ssrc s.state.seen) header.ssrc number s.probes;
+    listens_opened : (setup : Setup) (rx : List (ℕ × RxRecord)) → AllByRecursion (ListensAs setup) rx → AllByRecursion (ListensAs setup) (rx_opened (seen_of header.ssrc seen) now header.ssrc number rx)
+    listens_opened setup rx h = by (header.ssrc == 0)
+      where
+        by : (b : Bool) → AllByRecursion (ListensAs setup) (if b then rx else change_at header.ssrc (heard_on (seen_of header.ssrc seen) now number) rx)
+        by true = h
+        by false =
+            all_at (ListensAs setup) (heard_on (seen_of header.ssrc seen) now number) (λ e k. record { suppressed = k.suppressed; threshold = k.threshold }) rx (place_of header.ssrc rx) h
+
+-- the record after it, and after all was told
+abbrev pub after_took : ℕ → RtpHeader → ℕ → SessionRecord → SessionRecord
+after_took now header number s = record {
+  state = record s.state { seen = saw header.ssrc number s.state.seen; application = None; packet = None };
+  rx = each (on_record told) (rx_opened (seen_of header.ssrc s.state.seen) now header.ssrc number s.rx);
+  probes = probes_opened (seen_of header.ssrc s.state.seen) now header.ssrc number s.probes;
 }
 
-pub knows_opened : (setup : Setup) (entries : List Entry) (came : GotEntry) (header : RtpHeader) (number : ℕ) (plain : List ℕ) (s : SessionRecord) → IsSound setup
+pub knows_opened : (setup : Setup) (entries : List Entry) (came : GotEntry) (now : ℕ) (header : RtpHeader) (number : ℕ) (plain : List ℕ) (s : SessionRecord) → IsSound setup
     → is_fresh (taken came.side header.ssrc entries) number ≡ true → Knows setup came.side s entries
-    → Knows setup came.side (after_took header number s) (entries ++ opening came header number plain)
-knows_opened setup entries came header number plain s sound fresh h = record {
-  target = h.target;
-  runs = h.runs;
-  feedback = h.feedback;
-  application = h.application;
-  told = refl;
-  types = h.types;
-  exts = h.exts;
-  outgoing = h.outgoing;
-  sends = sends_still setup came.side entries (entries ++ opening came header number plain) (queued-opened entries came header number plain came.side) (writes_on-opened entries came header number plain came.side) s.state.medias s.state.tx h.sends;
-  incoming = rx_keys entries came header number plain fresh s.state.seen s.rx ∙ h.incoming;
-  takes = takes_opened entries came header number plain fresh s.state.seen s.rx
-      (subst NoRepeat (sym h.incoming) (sound.distinct (peer_of came.side))) (subst (λ ns. has ns 0 ≡ false) (sym h.incoming) (sound.nonzero (peer_of came.side))) h.takes;
-  probes = probes_after entries came header number plain fresh s.state.seen s.probes h.probes;
-}
+    → Knows setup came.side (after_took now header number s) (entries ++ opening came header number plain)
+knows_opened setup entries came now header number plain s sound fresh h =
+    let rx : List (ℕ × RxRecord) = rx_opened (seen_of header.ssrc s.state.seen) now header.ssrc number s.rx in
+    record {
+      target = h.target;
+      runs = h.runs;
+      feedback = h.feedback;
+      application = refl;
+      told = refl;
+      types = h.types;
+      exts = h.exts;
+      outgoing = h.outgoing;
+      sends = sends_still setup came.side entries (entries ++ opening came header number plain) (queued-opened entries came header number plain came.side) (writes_on-opened entries came header number plain came.side) s.state.medias s.state.tx h.sends;
+      incoming = keys_each (on_record told) rx ∙ rx_keys entries came header number plain fresh s.state.seen now s.rx ∙ h.incoming;
+      takes =
+          all_each (TakesAs came.side (entries ++ opening came header number plain) (saw header.ssrc number s.state.seen)) (on_record told) (λ e k. record { roc = k.roc; numbers = k.numbers }) rx
+          (takes_opened entries came header number plain fresh s.state.seen now s.rx
+          (subst NoRepeat (sym h.incoming) (sound.distinct (peer_of came.side))) (subst (λ ns. has ns 0 ≡ false) (sym h.incoming) (sound.nonzero (peer_of came.side))) h.takes);
+      probes = probes_after entries came header number plain fresh s.state.seen now s.probes h.probes;
+      listens =
+          all_each (ListensAs setup) (on_record told) (λ e k. record { suppressed = k.suppressed; threshold = k.threshold }) rx
+          (listens_opened entries came header number plain fresh s.state.seen now setup s.rx h.listens);
+    }

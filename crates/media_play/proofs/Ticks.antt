@@ -1,6 +1,6 @@
 -- What a session sends at a tick are the seals of the writes that wait, and what the session knows then.
 use Rattle.std.proofs.Common.{◌≡◌, inl, inr, ℕ, ◌≢◌, Bool, true, false, List, [], ◌∷◌, ◌++◌, map, Option, Some, None, refl, sym, ap, ◌∙◌, subst, ◌≤◌, ◌^◌}
-use Rattle.std.specs.Prelude.{◌==◌, if◌then◌else◌, is_some}
+use Rattle.std.specs.Prelude.{◌==◌, ◌&&◌, ◌||◌, ◌-◌, not, nat_le, if◌then◌else◌, is_some}
 use Rattle.std.specs.List.{flat_map, list_any, AllByRecursion, AllZip}
 use Rattle.std.specs.Map.{keys_of}
 use Rattle.std.proofs.lemmas.Bool.{eqb-true, eq-eqb, false_from_ne_true}
@@ -13,13 +13,16 @@ use Rattle.srtp_core.specs.Keys.{session_keys}
 use Rattle.srtp_core.specs.Seals.{sealed_rtp}
 use Rattle.stream_core.specs.declared.packet.RtpPacket.{RtpPacket}
 use Rattle.stream_core.specs.Queue.{stamp_of, with_stamp}
-use Rattle.stream_core.specs.RxRecord.{RxView, RxRecord, StandsFor as RxStandsFor}
-use Rattle.stream_core.specs.Tables.{each, place_of, Along}
+use Rattle.stream_core.specs.Missing.{any_enabled, pending_in}
+use Rattle.stream_core.specs.Pauses.{is_over, checked, on_record, told as stream_told}
+use Rattle.stream_core.specs.RxRecord.{RxState, RxRecord}
+use Rattle.stream_core.specs.Tables.{each, place_of}
 use Rattle.stream_core.specs.TxRecord.{TxRecord, receipt_of, after_timeout as stream_after_timeout}
 use Rattle.session_core.specs.declared.datagram.Datagram.{Datagram}
-use Rattle.session_core.specs.Calls.{lacks_keys, after_events}
-use Rattle.session_core.specs.Sending.{next_datagram, after_timeout, after_datagram, DrainsTo, Drains}
-use Rattle.session_core.specs.SessionRecord.{MediaRecord, SessionState, SessionView, SessionRecord}
+use Rattle.session_core.specs.Calls.{state_told, after_events}
+use Rattle.session_core.specs.Rounds.{round_interval, after_round, after_checks, after_timeout}
+use Rattle.session_core.specs.Sending.{next_datagram, after_datagram, DrainsTo, Drains}
+use Rattle.session_core.specs.SessionRecord.{MediaRecord, SessionState, SessionView, SessionRecord, StandsFor}
 use Rattle.media_model.specs.declared.entry.Side.{Side}
 use Rattle.media_model.specs.declared.entry.Write.{Write as Writing}
 use Rattle.media_model.specs.declared.entry.Entry.{Entry}
@@ -29,7 +32,7 @@ use Rattle.media_model.specs.declared.step.Step.{Step}
 use Rattle.media_model.specs.Entries.{queued}
 use Rattle.media_model.specs.Setup.{material_of, streams_of}
 use Rattle.media_play.specs.declared.numbers.Numbers.{Numbers}
-use Rattle.media_play.specs.Knowing.{SendsAs, TakesAs, Knows, UsedAs}
+use Rattle.media_play.specs.Knowing.{SendsAs, TakesAs, ListensAs, Knows, UsedAs}
 use Rattle.media_play.specs.Listing.{IsIn}
 use Rattle.media_play.specs.Opening.{Sealing}
 use Rattle.media_play.specs.Packets.{FitsHeader, waiting_of, sealed_from, seals_from}
@@ -41,10 +44,11 @@ use Rattle.media_play.specs.Feedback.{next_index}
 use Rattle.media_play.specs.SetupFacts.{IsSound}
 use Rattle.media_play.proofs.Indices.{next_index-ticked}
 use Rattle.media_play.proofs.Appends.{queued-ticked, taken-ticked}
-use Rattle.media_play.proofs.Arrivals.{keys_there}
+use Rattle.media_play.proofs.Arrivals.{keys_there, told_all}
 use Rattle.media_play.proofs.Draining.{left, IsStamped, AllGo, Leaves, Kept, sent, ended, left_there, none_left}
-use Rattle.media_play.proofs.Lists.{any-from_in, map-flat_map}
+use Rattle.media_play.proofs.Lists.{tested, any-from_in, map-flat_map}
 use Rattle.media_play.proofs.Readings.{to_seal_in}
+use Rattle.media_play.proofs.Takes.{all_each, keys_each}
 use Rattle.media_play.proofs.Stands.{IsWriting, stands, writes_on-ticked}
 use Rattle.media_play.proofs.Wire.{stamped, carries_packet, packet_len}
 
@@ -120,12 +124,57 @@ module _ (cipher : CipherMeaning) (setup : Setup) (side : Side) (again : Written
 
 -- what the session knows then
 
--- a session that told all
-abbrev told_all : SessionState → SessionState
-told_all s = record s { application = None; packet = None }
+-- the state of a session after a tick that is no round, and after it told all
+abbrev ticked_state : ℕ → SessionState → SessionState
+ticked_state now s = record s { tx = each (stream_after_timeout now) s.tx; application = None; packet = None }
 
-all_told : (s : SessionState) → lacks_keys s ≡ false → after_events s ≡ told_all s
-all_told s keys = ap {A = Bool} {B = SessionState} (λ b. if b then s else told_all s) keys
+-- its incoming streams
+abbrev ticked_rx : ℕ → List (ℕ × RxRecord) → List (ℕ × RxRecord)
+ticked_rx now rx = each (on_record stream_told) (each (on_record (checked now)) rx)
+
+no_asks : (setup : Setup) (rx : List (ℕ × RxRecord)) → AllByRecursion (ListensAs setup) rx → any_enabled rx ≡ false
+no_asks setup [] h = refl
+no_asks setup (e ∷ rx) h =
+    let rest = no_asks setup rx h.1 in
+    λ j. (not (h.0.suppressed j) && (is_some e.1.state.pause_at || pending_in e.1.numbers)) || rest j
+
+and_false : (a b : Bool) → b ≡ false → (a && b) ≡ false
+and_false true b h = h
+and_false false b h = refl
+
+no_round : (now : ℕ) (r : SessionRecord) → any_enabled r.rx ≡ false → after_timeout now r ≡ after_checks now r
+no_round now r none =
+    ap {A = Bool} {B = SessionRecord} (λ b. after_checks now (if b then after_round now r else r)) (and_false (nat_le round_interval (now - r.state.last_round)) (any_enabled r.rx) none)
+
+-- a check leaves what a stream took and what it asks for
+module _ (now : ℕ) (s : RxState) where
+  roc_checked : (checked now s).roc ≡ s.roc
+  roc_checked = elim (tested (is_over s.pause_at now)) [ inl t ↦ rw t refl | inr t ↦ rw t refl ]
+
+  suppressed_checked : (checked now s).suppressed ≡ s.suppressed
+  suppressed_checked = elim (tested (is_over s.pause_at now)) [ inl t ↦ rw t refl | inr t ↦ rw t refl ]
+
+  threshold_checked : (checked now s).threshold ≡ s.threshold
+  threshold_checked = elim (tested (is_over s.pause_at now)) [ inl t ↦ rw t refl | inr t ↦ rw t refl ]
+
+listens_ticked : (setup : Setup) (now : ℕ) (rx : List (ℕ × RxRecord)) → AllByRecursion (ListensAs setup) rx → AllByRecursion (ListensAs setup) (ticked_rx now rx)
+listens_ticked setup now rx h =
+    all_each (ListensAs setup) (on_record stream_told) (λ e k. record { suppressed = k.suppressed; threshold = k.threshold }) (each (on_record (checked now)) rx)
+    (all_each (ListensAs setup) (on_record (checked now))
+    (λ e k. record { suppressed = suppressed_checked now e.1.state ∙ k.suppressed; threshold = threshold_checked now e.1.state ∙ k.threshold }) rx h)
+
+module _ (side : Side) (entries : List Entry) (seen : List (ℕ × ℕ)) (now : ℕ) where
+  takes_checked : (e : ℕ × RxRecord) → TakesAs side entries seen e → TakesAs side entries seen (e.0, on_record (checked now) e.1)
+  takes_checked e k = record { roc = roc_checked now e.1.state ∙ k.roc; numbers = k.numbers }
+
+  takes_rx : (rx : List (ℕ × RxRecord)) → AllByRecursion (TakesAs side entries seen) rx → AllByRecursion (TakesAs side entries seen) (ticked_rx now rx)
+  takes_rx rx h =
+      all_each (TakesAs side entries seen) (on_record stream_told) (λ e k. record { roc = k.roc; numbers = k.numbers }) (each (on_record (checked now)) rx)
+      (all_each (TakesAs side entries seen) (on_record (checked now)) takes_checked rx h)
+
+-- the record of a session after a tick and a drain, by its state then
+abbrev ticked_record : ℕ → SessionRecord → SessionState → SessionRecord
+ticked_record now s after = record { state = after; rx = ticked_rx now s.rx; probes = on_record (checked now) s.probes }
 
 module _ (seal : Sealing) (setup : Setup) (side : Side) (entries : List Entry) (time : ℕ) (sealed : List Entry) (all : Seals seal setup side entries sealed) where
   abbrev ticked : List Entry
@@ -159,8 +208,8 @@ module _ (seal : Sealing) (setup : Setup) (side : Side) (entries : List Entry) (
     used_ticked rs us h.1,
   )
 
-  knows_ticked : (s : SessionRecord) (after : SessionState) → Kept (told_all (after_timeout time s.state)) after
-      → AllByRecursion (λ (e : ℕ × TxRecord). e.1.queue ≡ []) after.tx → Knows setup side s entries → Knows setup side (record s { state = after }) ticked
+  knows_ticked : (s : SessionRecord) (after : SessionState) → Kept (ticked_state time s.state) after
+      → AllByRecursion (λ (e : ℕ × TxRecord). e.1.queue ≡ []) after.tx → Knows setup side s entries → Knows setup side (ticked_record time s after) ticked
   knows_ticked s after k none h =
       let outgoing : keys_of after.tx ≡ streams_of side setup = k.keys ∙ same_keys time s.state.tx ∙ h.outgoing in
       let seen : s.state.seen ≡ after.seen = sym (ap (λ (x : SessionState). x.seen) k.others) in
@@ -178,9 +227,14 @@ module _ (seal : Sealing) (setup : Setup) (side : Side) (entries : List Entry) (
             subst (λ (m : List MediaRecord). AllByRecursion (SendsAs side ticked m) after.tx) medias
             (sends_ticked s.state.medias after.tx k.go none
             (λ n i. any-from_in (λ x. x == n) n (streams_of side setup) (subst (IsIn n) outgoing i) (eq-eqb n n refl)));
-        incoming = h.incoming;
-        takes = subst (λ (l : List (ℕ × ℕ)). AllByRecursion (TakesAs side ticked l) s.rx) seen (takes_ticked s.state.seen s.rx h.takes);
-        probes = subst (λ (l : List (ℕ × ℕ)). TakesAs side ticked l (0, s.probes)) seen (takes_one s.state.seen (0, s.probes) h.probes);
+        incoming = keys_each (on_record stream_told) (each (on_record (checked time)) s.rx) ∙ keys_each (on_record (checked time)) s.rx ∙ h.incoming;
+        takes =
+            subst (λ (l : List (ℕ × ℕ)). AllByRecursion (TakesAs side ticked l) (ticked_rx time s.rx)) seen
+            (takes_rx side ticked s.state.seen time s.rx (takes_ticked s.state.seen s.rx h.takes));
+        probes =
+            subst (λ (l : List (ℕ × ℕ)). TakesAs side ticked l (0, on_record (checked time) s.probes)) seen
+            (takes_checked side ticked s.state.seen time (0, s.probes) (takes_one s.state.seen (0, s.probes) h.probes));
+        listens = listens_ticked setup time s.rx h.listens;
       }
 
 -- a tick, and a drain at the same moment
@@ -194,16 +248,16 @@ module _ (cipher : CipherMeaning) (again : WrittenIsReadAgain) (setup : Setup) (
 
   pub record IsTickOf (s : SessionRecord) (entries : List Entry) (after : SessionState) (ds : List Datagram) : Type 0 where
     pub seals : Seals (sealing_of cipher setup) setup side entries (seals_from side ds)
-    pub knows : Knows setup side (record s { state = after }) (entries ++ Ticked side time ∷ seals_from side ds)
+    pub knows : Knows setup side (ticked_record time s after) (entries ++ Ticked side time ∷ seals_from side ds)
     pub sealing : after.sealing ≡ s.state.sealing
     pub opening : after.opening ≡ s.state.opening
 
   is_last : {steps : List Step} {entries : List Entry} → IsSound setup → Played (sealing_of cipher setup) setup steps entries
       → (s : SessionRecord) → s.state.sealing ≡ Some keys → Knows setup side s entries
-      → (after : SessionState) (ds : List Datagram) → DrainsTo cipher time (told_all (after_timeout time s.state)) after ds → next_datagram cipher time after ≡ None
+      → (after : SessionState) (ds : List Datagram) → DrainsTo cipher time (ticked_state time s.state) after ds → next_datagram cipher time after ≡ None
       → IsTickOf s entries after ds × (after_datagram time after ≡ after)
   is_last {steps} {entries} sound played s sealing h after ds drains last =
-      let first : SessionState = told_all (after_timeout time s.state) in
+      let first : SessionState = ticked_state time s.state in
       let go : AllGo first.medias first.tx = all_go side entries s.state.medias time s.state.tx h.sends in
       let all_sent = sent cipher time keys not_zero first sealing h.feedback go drains in
       let none : AllByRecursion (λ (e : ℕ × TxRecord). e.1.queue ≡ []) after.tx = ended cipher time keys not_zero first sealing h.feedback go after all_sent.kept last in
@@ -229,36 +283,30 @@ module _ (cipher : CipherMeaning) (again : WrittenIsReadAgain) (setup : Setup) (
 
   is_tick : {steps : List Step} {entries : List Entry} → IsSound setup → Played (sealing_of cipher setup) setup steps entries
       → (s : SessionRecord) → s.state.sealing ≡ Some keys → Knows setup side s entries
-      → (after : SessionState) (ds : List Datagram) → Drains cipher time (told_all (after_timeout time s.state)) after ds → IsTickOf s entries after ds
+      → (after : SessionState) (ds : List Datagram) → Drains cipher time (ticked_state time s.state) after ds → IsTickOf s entries after ds
   is_tick {steps} {entries} sound played s sealing h after ds drains =
       let t = is_last sound played s sealing h drains.last ds drains.sent drains.ended in
       subst (λ (a : SessionState). IsTickOf s entries a ds) (sym (drains.leaves ∙ t.1)) t.0
 
 -- the end of a run after it
 module _ (cipher : CipherMeaning) (again : WrittenIsReadAgain) (setup : Setup) (side : Side) (time : ℕ) (later : time ≢ 0) where
-  pub ready_ticked : {steps : List Step} {entries : List Entry} (old : EndState) (middle new : SessionView MaskRegister) (ds : List Datagram)
-      → IsSound setup → Played (sealing_of cipher setup) setup steps entries → Ready cipher setup side old entries
-      → middle ≡ record old.session { state = after_timeout time old.session.state }
-      → new ≡ record middle { state = new.state }
-      → Drains cipher time (after_events middle.state) new.state ds
+  pub ready_ticked : {steps : List Step} {entries : List Entry} (old : EndState) (new : SessionView MaskRegister) (ds : List Datagram)
+      → IsSound setup → Played (sealing_of cipher setup) setup steps entries → (r : Ready cipher setup side old entries)
+      → Drains cipher time (state_told (after_timeout time r.session).state) new.state ds
+      → StandsFor Remembers new (record (after_events (after_timeout time r.session)) { state = new.state })
       → Seals (sealing_of cipher setup) setup side entries (seals_from side ds)
       × Ready cipher setup side (record { session = new; written = old.written }) (entries ++ Ticked side time ∷ seals_from side ds)
-  ready_ticked {steps} {entries} old middle new ds sound played r ticks others drains =
+  ready_ticked {steps} {entries} old new ds sound played r drains stands =
       let s : SessionRecord = r.session in
-      let starts : middle.state ≡ after_timeout time s.state = ap (λ (v : SessionView MaskRegister). v.state) ticks ∙ ap (after_timeout time) r.stands.state in
-      let told : after_events middle.state ≡ told_all (after_timeout time s.state) =
-      ap after_events starts ∙ all_told (after_timeout time s.state) (keys_there s.state r.seals r.opens) in
-      let t = is_tick cipher again setup side time (next_index setup side entries) later sound played s r.seals r.knows new.state ds (subst (λ (x : SessionState). Drains cipher time x new.state ds) told drains) in
-      let rx : old.session.rx ≡ new.rx = sym (ap (λ (v : SessionView MaskRegister). v.rx) others ∙ ap (λ (v : SessionView MaskRegister). v.rx) ticks) in
-      let probes : old.session.probes ≡ new.probes = sym (ap (λ (v : SessionView MaskRegister). v.probes) others ∙ ap (λ (v : SessionView MaskRegister). v.probes) ticks) in (
+      let quiet : after_timeout time s ≡ after_checks time s = no_round time s (no_asks setup s.rx r.knows.listens) in
+      let keys = keys_there s.state r.seals r.opens in
+      let told : after_events (after_timeout time s) ≡ ticked_record time s (ticked_state time s.state) = ap after_events quiet ∙ told_all (after_checks time s) keys in
+      let t = is_tick cipher again setup side time (next_index setup side entries) later sound played s r.seals r.knows new.state ds
+      (subst (λ (x : SessionRecord). Drains cipher time x.state new.state ds) told drains) in (
         t.seals,
         record {
-          session = record s { state = new.state };
-          stands = record {
-            state = refl;
-            rx = subst (λ (x : List (ℕ × RxView MaskRegister)). Along (RxStandsFor Remembers) x s.rx) rx r.stands.rx;
-            probes = subst (λ (x : RxView MaskRegister). RxStandsFor Remembers x s.probes) probes r.stands.probes;
-          };
+          session = ticked_record time s new.state;
+          stands = subst (λ (x : SessionRecord). StandsFor Remembers new (record x { state = new.state })) told stands;
           seals = t.sealing ∙ r.seals
               ∙ ap (λ (i : ℕ). Some (new_state cipher setup.profile (material_of setup) (is_left side) i))
               (sym (next_index-ticked setup side entries side time (seals_from side ds) t.seals));

@@ -32,8 +32,13 @@ pub record SendsAs (side : Side) (entries : List Entry) (medias : List MediaReco
 -- an incoming stream has taken what the entries say, and no rollover count was set
 pub record TakesAs (side : Side) (entries : List Entry) (seen : List (ℕ × ℕ))
     (e : ℕ × RxRecord) : Type 0 where
-  pub roc : e.1.roc ≡ None
+  pub roc : e.1.state.roc ≡ None
   pub numbers : taken_of (seen_of e.0 seen) e.1 ≡ taken side e.0 entries
+
+-- an incoming stream asks for nothing that is missing, and is paused after the threshold of the setup
+pub record ListensAs (setup : Setup) (e : ℕ × RxRecord) : Type 0 where
+  pub suppressed : e.1.state.suppressed ≡ true
+  pub threshold : e.1.state.threshold ≡ setup.pause_threshold
 
 -- the streams are those of the setup, and each stands for what the entries say of it; no feedback
 -- waits, and nothing waits to be told
@@ -51,6 +56,7 @@ pub record Knows (setup : Setup) (side : Side) (s : SessionRecord)
   pub incoming : keys_of s.rx ≡ streams_of (peer_of side) setup
   pub takes : AllByRecursion (TakesAs side entries s.state.seen) s.rx
   pub probes : TakesAs side entries s.state.seen (0, s.probes)
+  pub listens : AllByRecursion (ListensAs setup) s.rx
 
 -- the numbers that were written under an SSRC
 abbrev pub UsedAs : Side → List Entry → ℕ → Numbers → Type 0

@@ -1,5 +1,5 @@
 -- Packets on their way through a session.
-use Rattle.std.specs.Prelude.{ℕ, ◌<◌, ◌≤◌, ◌^◌, List, length, map, Option, Some, None}
+use Rattle.std.specs.Prelude.{ℕ, ◌<◌, ◌≤◌, ◌^◌, List, [], ◌∷◌, length, map, Option, Some}
 use Rattle.rtp_wire.specs.BytesLaws.{AreWords}
 use Rattle.rtp_wire.specs.Header.{csrc_of}
 use Rattle.rtp_wire.specs.Extensions.{no_values}
@@ -7,7 +7,7 @@ use Rattle.stream_core.specs.declared.packet.RtpPacket.{RtpPacket}
 use Rattle.stream_core.specs.Write.{WriteRecord, packet_of}
 use Rattle.session_core.specs.declared.datagram.Datagram.{Datagram}
 use Rattle.session_core.specs.declared.datagram.Event.{Event}
-use Rattle.session_core.specs.declared.datagram.Event.TheVariants.{RtpPacket as Told, AppSpecificFeedback as Application}
+use Rattle.session_core.specs.declared.datagram.Event.TheVariants.{RtpPacket as Told, AppSpecificFeedback as Application, StreamPaused as Paused}
 use Rattle.media_model.specs.declared.entry.Side.{Side}
 use Rattle.media_model.specs.declared.entry.Packet.{Packet}
 use Rattle.media_model.specs.declared.entry.Write.{Write as Writing}
@@ -67,7 +67,13 @@ packet_told p = record {
   payload = p.payload;
 }
 
-abbrev pub told_packet : Option Event → Option Packet
-told_packet None = None
-told_packet (Some (Told p)) = Some (packet_told p)
-told_packet (Some (Application f)) = None
+-- the packet of an event, else the one before
+abbrev pub packet_after : Event → Option RtpPacket → Option RtpPacket
+packet_after (Told p) before = Some p
+packet_after (Application f) before = before
+packet_after (Paused p) before = before
+
+-- the last packet of events, else the one before
+abbrev pub packet_in : List Event → Option RtpPacket → Option RtpPacket
+packet_in [] before = before
+packet_in (e ∷ es) before = packet_in es (packet_after e before)

@@ -15,6 +15,7 @@ use Rattle.media_model.specs.declared.entry.Side.{Side}
 use Rattle.media_model.specs.declared.setup.Setup.{Setup}
 use Rattle.media_model.specs.Sides.{peer_of}
 use Rattle.media_model.specs.Setup.{local_of, material_of, types_of}
+use Rattle.media_play.specs.Knowing.{ListensAs}
 use Rattle.media_play.specs.Plain.{extensions_of}
 use Rattle.media_play.specs.Rules.{has}
 use Rattle.media_play.specs.Sessions.{is_left}
@@ -27,7 +28,7 @@ pub record IsIdle (medias : List MediaRecord) (e : ℕ × TxRecord) : Type 0 whe
 
 -- an incoming stream on which nothing opened
 pub record IsUnheard (e : ℕ × RxRecord) : Type 0 where
-  pub roc : e.1.roc ≡ None
+  pub roc : e.1.state.roc ≡ None
   pub numbers : e.1.numbers ≡ None
 
 -- a session of a side with keys that sends and receives on these SSRCs, on which nothing happened
@@ -51,6 +52,8 @@ pub record Begun (cipher : CipherMeaning) (setup : Setup) (side : Side)
   pub incoming : keys_of s.rx ≡ received
   pub takes : AllByRecursion IsUnheard s.rx
   pub probes : IsUnheard (0, s.probes)
+  pub pauses : s.state.pause_threshold ≡ setup.pause_threshold
+  pub listens : AllByRecursion (ListensAs setup) s.rx
 
 pub record Starts (cipher : CipherMeaning) (setup : Setup) (side : Side)
     (sent received : List ℕ) (view : SessionView MaskRegister) : Type 0 where

@@ -9,7 +9,11 @@ ghost use Rattle.media_model.specs.declared.setup.Setup.{Setup as Given};
 ghost use Rattle.media_model.specs.declared.step.Step.{Step};
 ghost use Rattle.media_play.specs.Listing.{OnlyAdds};
 ghost use Rattle.media_play.specs.Knowing.{has_written, IsNoted};
-ghost use Rattle.media_play.specs.Packets.{write_at, seals_from, packet_told, told_packet};
+ghost use Rattle.std.specs.Option.{option_map};
+ghost use Rattle.mask_register.specs.MaskRegister.{Remembers};
+ghost use Rattle.session_core.specs.Calls.{told, after_events};
+ghost use Rattle.session_core.specs.SessionRecord.{SessionRecord, StandsFor};
+ghost use Rattle.media_play.specs.Packets.{write_at, seals_from, packet_told, packet_after, packet_in};
 
 use crate::fault::{StepError, StepFault};
 use crate::log::Log;
@@ -128,13 +132,36 @@ fn packet(alloc: Global, packet: &RtpPacket) -> Result<Packet, AllocError>
 }
 
 /// The same where there is one.
-fn packet_of(alloc: Global, event: &Option<Event>) -> Result<Option<Packet>, AllocError>
-    ensures { IfOk result (λ p. p ≡ told_packet event.now) }
+fn packet_of(alloc: Global, told: &Option<RtpPacket>) -> Result<Option<Packet>, AllocError>
+    ensures { IfOk result (λ p. p ≡ option_map packet_told told.now) }
+{
+    match told {
+        Some(told) => Ok(Some(packet(alloc, told)?)),
+        None => Ok(None),
+    }
+}
+
+/// The packet of an event, else the one before.
+fn later_packet(event: Event, before: Option<RtpPacket>) -> Option<RtpPacket>
+    ensures { result ≡ packet_after event before }
 {
     match event {
-        Some(Event::RtpPacket(told)) => Ok(Some(packet(alloc, told)?)),
-        Some(Event::AppSpecificFeedback(_)) | None => Ok(None),
+        Event::RtpPacket(told) => Some(told),
+        Event::AppSpecificFeedback(_) | Event::StreamPaused(_) => before,
     }
+}
+
+/// Takes all that a session tells, and gives the packet of it, if there is one: no entry tells of the
+/// rest.
+fn take_packet<C: SrtpCipher>(session: &mut Session<C, MaskRegister>) -> Option<RtpPacket>
+    ensures packet { (r : SessionRecord) → StandsFor Remembers session.old r → result ≡ packet_in (told r) None }
+    ensures after { (r : SessionRecord) → StandsFor Remembers session.old r → StandsFor Remembers session.new (after_events r) }
+{
+    let mut packet = None;
+    while let Some(event) = session.poll_event() {
+        packet = later_packet(event, packet);
+    }
+    packet
 }
 
 /// Adds the datagrams that a side sends to the log, in order.
@@ -291,7 +318,7 @@ impl<C: SrtpCipher> End<C> {
         let Some(opened) = opened else {
             return Ok(None);
         };
-        let told = self.session.poll_event();
+        let told = take_packet(&mut self.session);
         Ok(Some(Received {
             kind: Kind::Rtp,
             ssrc: opened.ssrc,
@@ -311,8 +338,7 @@ impl<C: SrtpCipher> End<C> {
         let Some(opened) = opened else {
             return Ok(None);
         };
-        // No entry tells of the feedback of an application that came.
-        let _told = self.session.poll_event();
+        take_packet(&mut self.session);
         Ok(Some(Received {
             kind: Kind::Rtcp,
             ssrc: opened.ssrc,

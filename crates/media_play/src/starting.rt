@@ -86,6 +86,8 @@ fn with_keys<C: SrtpCipher>(
                 target: setup.mtu.target as usize,
                 warn: setup.mtu.warn as usize,
             },
+            local_ssrc: setup.local(side).ssrc,
+            pause_threshold: setup.pause_threshold,
             srtcp_index: setup.local(side).srtcp_index.get(),
             exts: setup.extension_map(),
             types: payload_types(alloc, setup)?,
@@ -120,7 +122,10 @@ fn add_stream<C: SrtpCipher>(
             .streams()
             .declare_stream_tx(stream.ssrc, None, place)
     } else {
-        session.streams().expect_stream_rx(stream.ssrc, None, place)
+        // Without repairs (RFC 4588) it asks for nothing that is missing.
+        session
+            .streams()
+            .expect_stream_rx(stream.ssrc, None, place, true)
     }
 }
 

@@ -3,7 +3,7 @@ ghost use Rattle.std.specs.Prelude.{◌<◌, ◌≤◌, ◌^◌, length, IfOk};
 
 use crate::memory::answer;
 use mask_register::MaskRegister;
-use media_base::{Beginning, Bytes, Instant};
+use media_base::{Beginning, Bytes, Duration, Instant};
 use rtp_base::{Frequency, Mid, MidRid, Pt, SeqNo, Ssrc};
 use rtp_wire::ExtensionMap;
 use session_core::{
@@ -52,6 +52,8 @@ fn config(alloc: Global) -> Result<SessionConfig, AllocError>
             target: DATAGRAM_MTU,
             warn: DATAGRAM_MTU_WARN,
         },
+        local_ssrc: Ssrc::from(1),
+        pause_threshold: Duration::from_millis(1_500),
         srtcp_index: 0,
         exts: ExtensionMap::empty(),
         types,
@@ -78,7 +80,7 @@ fn declare(streams: &mut Streams<MaskRegister>, at: MidRid) -> Result<(), AllocE
 }
 
 fn expect(streams: &mut Streams<MaskRegister>, at: MidRid) -> Result<(), AllocError> {
-    streams.expect_stream_rx(Ssrc::from(42), None, at)
+    streams.expect_stream_rx(Ssrc::from(42), None, at, false)
 }
 
 fn sender(alloc: Global, at: MidRid) -> Result<End, AllocError> {

@@ -1,5 +1,5 @@
 -- What a session leaves where a poll or a drain wants memory.
-use Rattle.std.proofs.Common.{◌≡◌, ℕ, Bool, true, false, List, [], Option, Some, Ok, Err, refl, sym, ap, subst, ◌∙◌}
+use Rattle.std.proofs.Common.{◌≡◌, ℕ, Bool, true, false, List, [], ◌++◌, Option, Some, Ok, Err, refl, sym, ap, subst, ◌∙◌}
 use Rattle.std.specs.Prelude.{Result, OnErr}
 use Rattle.srtp_core.specs.Cipher.{CipherMeaning}
 use Rattle.srtp_core.specs.Contexts.{SrtpState}
@@ -8,14 +8,14 @@ use Rattle.stream_core.specs.Tables.{change_place}
 use Rattle.stream_core.specs.TxRecord.{TxRecord, after_poll}
 use Rattle.session_core.specs.declared.datagram.Datagram.{Datagram}
 use Rattle.session_core.specs.declared.datagram.Event.{Event}
-use Rattle.session_core.specs.SessionRecord.{SessionState}
+use Rattle.session_core.specs.SessionRecord.{SessionState, SessionRecord}
 use Rattle.srtp_core.specs.declared.counter.Counter.TheVariants.{Rtcp}
 use Rattle.session_core.specs.declared.error.RtcError.{RtcError}
 use Rattle.session_core.specs.Feedback.{exhausts}
 use Rattle.session_core.specs.declared.error.RtcError.TheVariants.{Memory, KeyExhausted}
 use Rattle.session_core.specs.Sending.{next_place, transport_after, without_front, DrainsTo}
-use Rattle.session_core.specs.Calls.{after_events, told}
-use Rattle.session_core.specs.Draining.{stopped_from, IsPacketLeft, packet_kept, packet_lost, IsPollLeft, PollFails, fails, IsDrainCut, at_poll, at_last_index, IsCutOff, at_once, later}
+use Rattle.session_core.specs.Calls.{state_told, after_events, told}
+use Rattle.session_core.specs.Draining.{stopped_from, IsPacketLeft, packet_kept, packet_lost, IsPollLeft, PollFails, fails, IsDrainCut, at_poll, at_last_index, IsCutOff, at_event, later}
 use Rattle.session_core.proofs.Polls.{changed_at}
 
 -- what holds, holds at an error
@@ -40,21 +40,21 @@ lost_state now s r i sealing tx t same at e x y =
 pub stopped_left : (now : ℕ) (s a b : SessionState) → a ≡ b → IsPollLeft now s b → PollFails now s (record a { stopped = true })
 stopped_left now s a b same left = subst (PollFails now s) (sym (ap {A = SessionState} {B = SessionState} stopped_from same)) (fails b left)
 
-module _ (cipher : CipherMeaning) (now : ℕ) (s : SessionState) where
-  -- before anything was taken
-  pub cut_at_once : (a : SessionState) (error : RtcError) (events : List Event) (sent : List Datagram) → a ≡ s → error ≡ Memory → events ≡ [] → sent ≡ []
-      → IsCutOff cipher now s error (record a { stopped = true }) events sent
-  cut_at_once a error events sent same is e d =
-      subst (λ t. IsCutOff cipher now s error t events sent) (sym (ap {A = SessionState} {B = SessionState} stopped_from same))
-      (subst (λ x. IsCutOff cipher now s x (stopped_from s) events sent) (sym is)
-      (subst (λ l. IsCutOff cipher now s Memory (stopped_from s) l sent) (sym e) (subst (λ l. IsCutOff cipher now s Memory (stopped_from s) [] l) (sym d) at_once)))
+module _ (cipher : CipherMeaning) (now : ℕ) (r : SessionRecord) where
+  -- before all that was told was taken
+  pub cut_at_event : (between : SessionRecord) (taken : List Event) (error : RtcError) (events : List Event) (sent : List Datagram) → told r ≡ taken ++ told between
+      → after_events between ≡ after_events r → error ≡ Memory → events ≡ taken → sent ≡ [] → IsCutOff cipher now r error (record between { state = stopped_from between.state }) events sent
+  cut_at_event between taken error events sent front rest is e d =
+      subst (λ x. IsCutOff cipher now r x (record between { state = stopped_from between.state }) events sent) (sym is)
+      (subst (λ l. IsCutOff cipher now r Memory (record between { state = stopped_from between.state }) l sent) (sym e)
+      (subst (λ l. IsCutOff cipher now r Memory (record between { state = stopped_from between.state }) taken l) (sym d) (at_event between taken front rest)))
 
   -- at a poll
-  pub cut_later : (start after : SessionState) (error is : RtcError) (events : List Event) (sent : List Datagram) → events ≡ told s → start ≡ after_events s → is ≡ error
-      → IsDrainCut cipher now start error after sent → IsCutOff cipher now s is after events sent
+  pub cut_later : (start after : SessionState) (error is : RtcError) (events : List Event) (sent : List Datagram) → events ≡ told r → start ≡ state_told r.state → is ≡ error
+      → IsDrainCut cipher now start error after sent → IsCutOff cipher now r is (record (after_events r) { state = after }) events sent
   cut_later start after error is events sent e same named d =
-      subst (λ x. IsCutOff cipher now s x after events sent) (sym named)
-      (subst (λ l. IsCutOff cipher now s error after l sent) (sym e) (later error after sent (subst (λ t. IsDrainCut cipher now t error after sent) same d)))
+      subst (λ x. IsCutOff cipher now r x (record (after_events r) { state = after }) events sent) (sym named)
+      (subst (λ l. IsCutOff cipher now r error (record (after_events r) { state = after }) l sent) (sym e) (later error after sent (subst (λ t. IsDrainCut cipher now t error after sent) same d)))
 
 module _ (cipher : CipherMeaning) (now : ℕ) (s between after : SessionState) (error : RtcError) (sent : List Datagram) (drains : DrainsTo cipher now s between sent) where
   cut_by : (b : Bool) → exhausts now between ≡ b → (b ≡ true → (error ≡ KeyExhausted Rtcp) × (after ≡ stopped_from between))

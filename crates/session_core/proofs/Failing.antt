@@ -1,6 +1,6 @@
 -- What a poll leaves where it fails, by the feedback that is due.
 use Rattle.std.proofs.Common.{◌≡◌, ℕ, Bool, true, false, List, [], ◌∷◌, Option, Ok, Err, length, refl, sym, ap, subst, ◌∙◌}
-use Rattle.std.specs.Prelude.{◌==◌, if◌then◌else◌, Result, OnErr}
+use Rattle.std.specs.Prelude.{◌==◌, if◌then◌else◌, Result, OnOk, OnErr, is_err}
 use Rattle.rtcp_wire.specs.declared.packet.Rtcp.{Rtcp}
 use Rattle.srtp_core.specs.Contexts.{SrtpState}
 use Rattle.session_core.specs.Feedback.{AreLeft, items_kept, items_lost, due_of, without_compound}
@@ -53,3 +53,13 @@ ok_is_not x e h = absurd cc
 
 pub same_error : {T E : Type 0} (a b : E) → ◌≡◌ {A = Result T E} (Err a) (Err b) → a ≡ b
 same_error a b h = cc
+
+-- what holds of a result that is no error
+pub on_ok_given : {T E : Type 0} (r : Result T E) {P : Type 0} → is_err r ≡ false → OnOk r P → P
+on_ok_given (Ok x) not p = p
+on_ok_given (Err e) not p = absurd cc
+
+-- and of one that is
+pub on_err_given : {T E : Type 0} (r : Result T E) {P : Type 0} → is_err r ≡ true → OnErr r P → P
+on_err_given (Ok x) is p = absurd cc
+on_err_given (Err e) is p = p

@@ -4,8 +4,9 @@ pub mod Dues
 pub mod Failing
 pub mod Fitting
 pub mod Heard
+pub mod Others
 pub mod Polls
 pub mod Staying
+pub mod StreamsIn
 pub mod Tables
-pub mod Wakes
-pub mod Others
+pub mod Telling

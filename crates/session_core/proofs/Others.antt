@@ -23,12 +23,16 @@ others_more {W = W} first between after x h e =
 pub opening_kept : (s r : SessionState) (opening : Option SrtpState) → s ≡ r → opening ≡ s.opening → record s { opening = opening } ≡ r
 opening_kept s r opening same kept = ap {A = Option SrtpState} {B = SessionState} (λ o. record s { opening = o }) kept ∙ same
 
+-- how long nothing comes until a stream is paused stays as it is
+pub threshold_kept : (s r : SessionState) (threshold : ℕ) → s ≡ r → threshold ≡ s.pause_threshold → record s { pause_threshold = threshold } ≡ r
+threshold_kept s r threshold same kept = ap {A = ℕ} {B = SessionState} (λ t. record s { pause_threshold = t }) kept ∙ same
+
 -- a datagram opened
-pub opened_state : (s r : SessionState) (opening : Option SrtpState) (seen : List (ℕ × ℕ)) (tx : List (ℕ × TxRecord)) (packet : Option RtpPacket) (ssrc n : ℕ) (P : Option RtpPacket → Option RtpPacket)
-    → s ≡ r → opening ≡ s.opening → seen ≡ saw ssrc n s.seen → tx ≡ s.tx → packet ≡ P s.packet
-    → record s { opening = opening; seen = seen; tx = tx; packet = packet } ≡ record r { seen = saw ssrc n r.seen; packet = P r.packet }
-opened_state s r opening seen tx packet ssrc n P same o x t p =
-    let changed : record s { opening = opening; seen = seen; tx = tx; packet = packet } ≡ record s { seen = saw ssrc n s.seen; packet = P s.packet } = λ j. record s { opening = o j; seen = x j; tx = t j; packet = p j } in
+pub opened_state : (s r : SessionState) (threshold : ℕ) (opening : Option SrtpState) (seen : List (ℕ × ℕ)) (tx : List (ℕ × TxRecord)) (packet : Option RtpPacket) (ssrc n : ℕ) (P : Option RtpPacket → Option RtpPacket)
+    → s ≡ r → threshold ≡ s.pause_threshold → opening ≡ s.opening → seen ≡ saw ssrc n s.seen → tx ≡ s.tx → packet ≡ P s.packet
+    → record s { pause_threshold = threshold; opening = opening; seen = seen; tx = tx; packet = packet } ≡ record r { seen = saw ssrc n r.seen; packet = P r.packet }
+opened_state s r threshold opening seen tx packet ssrc n P same h o x t p =
+    let changed : record s { pause_threshold = threshold; opening = opening; seen = seen; tx = tx; packet = packet } ≡ record s { seen = saw ssrc n s.seen; packet = P s.packet } = λ j. record s { pause_threshold = h j; opening = o j; seen = x j; tx = t j; packet = p j } in
     changed ∙ ap {A = SessionState} {B = SessionState} (λ a. record a { seen = saw ssrc n a.seen; packet = P a.packet }) same
 
 and_right : (a b : Bool) → (a && b) ≡ true → b ≡ true

@@ -1,6 +1,5 @@
 -- What the calls of a session answer, and what they leave.
-use Rattle.std.specs.Prelude.{◌==◌, ◌&&◌, ◌||◌, ℕ, Bool, false, not, is_none, if◌then◌else◌, List, [], ◌∷◌, ◌++◌, find, Option, Some, None}
-use Rattle.std.specs.List.{list_any}
+use Rattle.std.specs.Prelude.{◌≡◌, ◌+◌, ◌==◌, ◌&&◌, ◌||◌, ℕ, Bool, true, false, not, is_none, if◌then◌else◌, List, [], ◌∷◌, ◌++◌, map, find, Option, Some, None}
 use Rattle.std.specs.Option.{option_map, option_to_list}
 use Rattle.std.specs.Cmp.Lexicographic.{pointwise}
 use Rattle.rtp_base.specs.Ids.{halved}
@@ -10,12 +9,15 @@ use Rattle.srtp_core.specs.Cipher.{CipherMeaning}
 use Rattle.srtp_core.specs.Contexts.{new_state}
 use Rattle.srtp_core.specs.declared.profile.SrtpProfile.{SrtpProfile}
 use Rattle.stream_core.specs.declared.packet.RtpPacket.{RtpPacket}
-use Rattle.stream_core.specs.Queue.{needs_tick}
+use Rattle.stream_core.specs.declared.stream_paused.StreamPaused.{StreamPaused}
+use Rattle.stream_core.specs.Pauses.{on_record, told as stream_told, next_pause, after_pause, pauses, untold_in, first_pause, sooner}
 use Rattle.stream_core.specs.RxRecord.{expected}
+use Rattle.stream_core.specs.Tables.{each}
 use Rattle.session_core.specs.declared.config.SessionConfig.{SessionConfig}
 use Rattle.session_core.specs.declared.datagram.Event.{Event}
 use Rattle.session_core.specs.declared.datagram.Event.TheVariants as event
-use Rattle.session_core.specs.SessionRecord.{MediaRecord, SessionState, SessionRecord}
+use Rattle.session_core.specs.SessionRecord.{MediaRecord, SessionState, SessionView, SessionRecord}
+use Rattle.session_core.specs.Rounds.{round_at, send_at}
 use Rattle.session_core.specs.Sending.{has_mid}
 
 -- the mid of the stream on which probes come: the text 0
@@ -28,6 +30,8 @@ fresh_session config = record {
   state = record {
     id = halved config.id;
     target = config.mtu.target;
+    local_ssrc = config.local_ssrc;
+    pause_threshold = config.pause_threshold;
     app = None;
     types = config.types;
     medias = [];
@@ -37,13 +41,14 @@ fresh_session config = record {
     seen = [];
     tx = [];
     transport = record { exts = config.exts; beginning = config.beginning; twcc = 0 };
+    last_round = 0;
     feedback = [];
     application = None;
     packet = None;
     stopped = false;
   };
   rx = [];
-  probes = expected 0 None probe_mid None;
+  probes = expected 0 None probe_mid None true config.pause_threshold;
 }
 
 -- the keys of one end, which seals as the left side of the material or as the right one; the indices of SRTCP datagrams
@@ -59,37 +64,57 @@ keyed cipher profile material left s = record s {
 abbrev pub lacks_keys : SessionState → Bool
 lacks_keys s = is_none s.sealing || is_none s.opening
 
--- what is told next, where there are keys: the feedback of an application that came last, then the packet
-abbrev pub next_of : Option AppSpecificFeedback → Option RtpPacket → Option Event
-next_of (Some f) packet = Some (event.AppSpecificFeedback f)
-next_of None packet = option_map event.RtpPacket packet
+-- what is told next, where there are keys: the feedback of an application that came last, then which incoming streams were
+-- paused or unpaused, in order, then the packet
+abbrev pub next_of : Option AppSpecificFeedback → Option StreamPaused → Option RtpPacket → Option Event
+next_of (Some f) paused packet = Some (event.AppSpecificFeedback f)
+next_of None (Some p) packet = Some (event.StreamPaused p)
+next_of None None packet = option_map event.RtpPacket packet
 
-abbrev pub next_event : SessionState → Option Event
-next_event s = if lacks_keys s then None else next_of s.application s.packet
+abbrev pub next_event : SessionRecord → Option Event
+next_event r = if lacks_keys r.state then None else next_of r.state.application (next_pause r.rx) r.state.packet
 
-abbrev pub after_next : Option AppSpecificFeedback → SessionState → SessionState
-after_next (Some f) s = record s { application = None }
-after_next None s = record s { packet = None }
+abbrev pub after_next : Option AppSpecificFeedback → Option StreamPaused → SessionRecord → SessionRecord
+after_next (Some f) paused r = record r { state = record r.state { application = None } }
+after_next None (Some p) r = record r { rx = after_pause r.rx }
+after_next None None r = record r { state = record r.state { packet = None } }
 
-abbrev pub after_event : SessionState → SessionState
-after_event s = if lacks_keys s then s else after_next s.application s
+abbrev pub after_event : SessionRecord → SessionRecord
+after_event r = if lacks_keys r.state then r else after_next r.state.application (next_pause r.rx) r
+
+-- how much waits to be told
+abbrev pub one_in : {X : Type 0} → Option X → ℕ
+one_in None = 0
+one_in (Some x) = 1
+
+abbrev pub events_in : {W : Type 0} → SessionView W → ℕ
+events_in s = one_in s.state.application + (untold_in s.rx + one_in s.state.packet)
 
 -- all that is told, in order
-abbrev pub told : SessionState → List Event
-told s =
-    if lacks_keys s then []
-    else option_to_list (option_map event.AppSpecificFeedback s.application) ++ option_to_list (option_map event.RtpPacket s.packet)
+abbrev pub told : SessionRecord → List Event
+told r =
+    if lacks_keys r.state then []
+    else option_to_list (option_map event.AppSpecificFeedback r.state.application)
+    ++ (map event.StreamPaused (pauses r.rx) ++ option_to_list (option_map event.RtpPacket r.state.packet))
 
-abbrev pub after_events : SessionState → SessionState
-after_events s = if lacks_keys s then s else record s { application = None; packet = None }
+abbrev pub state_told : SessionState → SessionState
+state_told s = if lacks_keys s then s else record s { application = None; packet = None }
+
+abbrev pub after_events : SessionRecord → SessionRecord
+after_events r = record r { state = state_told r.state; rx = if lacks_keys r.state then r.rx else each (on_record stream_told) r.rx }
+
+-- a poll gives the first of what is told, and none where nothing is left
+abbrev pub Polled : SessionRecord → Option Event → SessionRecord → Type 0
+Polled r None after = (told r ≡ []) × (after ≡ after_events r)
+Polled r (Some e) after = (told r ≡ e ∷ told after) × (after_events after ≡ after_events r)
 
 -- one more item of feedback waits
 abbrev pub with_feedback : Rtcp → SessionState → SessionState
 with_feedback x s = record s { feedback = s.feedback ++ x ∷ [] }
 
--- a tick is wanted at once where some packet was written since the last one
-abbrev pub wake_of : SessionState → Option ℕ
-wake_of s = if list_any (λ e. needs_tick e.1.queue) s.tx then Some 0 else None
+-- when a tick is wanted: for a round, to pause a stream, and at once where some packet was written since the last one
+abbrev pub wake_of : SessionRecord → Option ℕ
+wake_of r = sooner (round_at r) (sooner (sooner (first_pause r.rx) r.probes.state.pause_at) (send_at r.state))
 
 -- the first media section of a mid
 abbrev pub media_of : List ℕ → List MediaRecord → Option MediaRecord

@@ -1,14 +1,14 @@
 -- What a session gave before an error ended a drain, and what it leaves then.
-use Rattle.std.specs.Prelude.{◌≡◌, ℕ, true, List, []}
+use Rattle.std.specs.Prelude.{◌≡◌, ℕ, true, List, [], ◌++◌}
 use Rattle.srtp_core.specs.Cipher.{CipherMeaning}
 use Rattle.srtp_core.specs.declared.counter.Counter.TheVariants.{Rtcp}
 use Rattle.session_core.specs.declared.datagram.Datagram.{Datagram}
 use Rattle.session_core.specs.declared.datagram.Event.{Event}
 use Rattle.session_core.specs.declared.error.RtcError.{RtcError}
 use Rattle.session_core.specs.declared.error.RtcError.TheVariants.{Memory, KeyExhausted}
-use Rattle.session_core.specs.Calls.{after_events, told}
+use Rattle.session_core.specs.Calls.{state_told, after_events, told}
 use Rattle.session_core.specs.Feedback.{due_of, exhausts}
-use Rattle.session_core.specs.SessionRecord.{SessionState}
+use Rattle.session_core.specs.SessionRecord.{SessionState, SessionRecord}
 use Rattle.session_core.specs.Sending.{after_rtp, lost_by, DrainsTo}
 
 abbrev pub stopped_from : SessionState → SessionState
@@ -36,8 +36,10 @@ pub data IsDrainCut (cipher : CipherMeaning) (now : ℕ) (s : SessionState) : Rt
   at_last_index : (between : SessionState) (sent : List Datagram) → DrainsTo cipher now s between sent
       → exhausts now between ≡ true → IsDrainCut cipher now s (KeyExhausted Rtcp) (stopped_from between) sent
 
--- memory ran out before anything was taken, or all that was told and some datagrams were taken
-pub data IsCutOff (cipher : CipherMeaning) (now : ℕ) (s : SessionState) : RtcError → SessionState → List Event → List Datagram → Type 0 where
-  at_once : IsCutOff cipher now s Memory (stopped_from s) [] []
-  later : (error : RtcError) (after : SessionState) (sent : List Datagram) → IsDrainCut cipher now (after_events s) error after sent
-      → IsCutOff cipher now s error after (told s) sent
+-- an error ended a drain: memory ran out after the front of what was told was taken, or all that was told and some
+-- datagrams were taken
+pub data IsCutOff (cipher : CipherMeaning) (now : ℕ) (r : SessionRecord) : RtcError → SessionRecord → List Event → List Datagram → Type 0 where
+  at_event : (between : SessionRecord) (taken : List Event) → told r ≡ taken ++ told between → after_events between ≡ after_events r
+      → IsCutOff cipher now r Memory (record between { state = stopped_from between.state }) taken []
+  later : (error : RtcError) (after : SessionState) (sent : List Datagram) → IsDrainCut cipher now (state_told r.state) error after sent
+      → IsCutOff cipher now r error (record (after_events r) { state = after }) (told r) sent

@@ -1,20 +1,25 @@
 -- What an RTCP datagram opens to, and what a session makes of it.
-use Rattle.std.specs.Prelude.{ℕ, List, [], ◌∷◌, take, Option, Some, None}
+use Rattle.std.specs.Prelude.{ℕ, ◌+◌, ◌-◌, ◌==◌, ◌&&◌, ◌||◌, Bool, nat_lt, nat_le, is_some, if◌then◌else◌, List, [], ◌∷◌, take, Option, Some, None}
 use Rattle.std.specs.Option.{option_or}
 use Rattle.std.specs.List.{flat_map}
 use Rattle.rtp_base.specs.declared.kind.Kind.TheVariants.{Rtcp}
 use Rattle.rtcp_wire.specs.declared.feedback.AppSpecificFeedback.{AppSpecificFeedback as Application}
+use Rattle.rtcp_wire.specs.declared.extended.DlrrItem.{DlrrItem as Delay}
 use Rattle.rtcp_wire.specs.declared.rtcp_fb.RtcpFb.{RtcpFb}
-use Rattle.rtcp_wire.specs.declared.rtcp_fb.RtcpFb.TheVariants.{ReceptionReport, AppSpecificFeedback}
+use Rattle.rtcp_wire.specs.declared.rtcp_fb.RtcpFb.TheVariants.{ReceptionReport, AppSpecificFeedback, DlrrItem}
 use Rattle.rtcp_wire.specs.Items.{items_of}
 use Rattle.rtcp_wire.specs.Streams.{feedback_of}
 use Rattle.srtp_core.specs.Cipher.{CipherMeaning}
 use Rattle.srtp_core.specs.Contexts.{SrtpState}
 use Rattle.srtp_core.specs.RtcpSeals.{RtcpOpensTo, stated_index, sender_of}
-use Rattle.stream_core.specs.Tables.{change_at}
+use Rattle.media_units.specs.Trip.{middle_bits, trip_nanos}
+use Rattle.media_units.specs.Wallclock.{ntp_nanos}
+use Rattle.stream_core.specs.Pauses.{on_record, with_trip}
+use Rattle.stream_core.specs.RxRecord.{RxRecord}
+use Rattle.stream_core.specs.Tables.{place_of, each, change_at}
 use Rattle.stream_core.specs.TxRecord.{TxRecord, after_reception}
 use Rattle.session_core.specs.declared.datagram.Opened.{Opened}
-use Rattle.session_core.specs.SessionRecord.{SessionState}
+use Rattle.session_core.specs.SessionRecord.{SessionState, SessionRecord}
 
 -- the bytes open to this packet, where there are keys
 abbrev pub RtcpOpensIn : CipherMeaning → Option SrtpState → List ℕ → List ℕ → Type 0
@@ -52,15 +57,50 @@ abbrev pub last_application : List RtcpFb → Option Application → Option Appl
 last_application [] before = before
 last_application (f ∷ fs) before = last_application fs (option_or (application_in f) before)
 
--- the session after a packet opened
-abbrev pub after_rtcp : List ℕ → SessionState → SessionState
-after_rtcp plain s = record s {
+-- whether an SSRC is the session's own, or that of a stream that it sends
+abbrev pub is_own : ℕ → List (ℕ × TxRecord) → ℕ → Bool
+is_own local tx ssrc = ssrc == local || is_some (place_of ssrc tx)
+
+-- the last item that tells how long ago a moment of the session came in (RFC 3611 section 4.5)
+abbrev pub delay_in : ℕ → List (ℕ × TxRecord) → RtcpFb → Option Delay
+delay_in local tx (DlrrItem d) = if is_own local tx d.ssrc then Some d else None
+delay_in local tx _ = None
+
+abbrev pub last_delay : ℕ → List (ℕ × TxRecord) → List RtcpFb → Option Delay → Option Delay
+last_delay local tx [] before = before
+last_delay local tx (f ∷ fs) before = last_delay local tx fs (option_or (delay_in local tx f) before)
+
+-- the round trip that it tells at a moment, given from 1900: None where no moment had come in, or more passed than can be
+abbrev pub trip_of : ℕ → Delay → Option ℕ
+trip_of ntp d =
+    if nat_lt 0 d.last_rr_delay && nat_le (d.last_rr_delay + d.last_rr_time) (middle_bits ntp)
+    then Some (trip_nanos (middle_bits ntp - d.last_rr_delay - d.last_rr_time))
+    else None
+
+-- the incoming streams after it was heard
+abbrev pub measured : ℕ → Option Delay → List (ℕ × RxRecord) → List (ℕ × RxRecord)
+measured ntp None rx = rx
+measured ntp (Some d) rx = each (on_record (with_trip (trip_of ntp d))) rx
+
+-- a moment of the session, from 1900
+abbrev pub ntp_of : SessionState → ℕ → ℕ
+ntp_of s now = ntp_nanos s.transport.beginning.unix_secs now
+
+-- the session after a packet opened at a moment
+abbrev pub state_heard : List ℕ → SessionState → SessionState
+state_heard plain s = record s {
   tx = acknowledged (feedback_in plain) s.tx;
   application = last_application (feedback_in plain) s.application;
 }
 
--- what bytes that come as RTCP make of a session: they open to some packet, or to none
-pub data ReceivesRtcp (cipher : CipherMeaning) (s : SessionState) (bytes : List ℕ) : SessionState → Option Opened → Type 0 where
-  opened : (plain : List ℕ) → RtcpOpensIn cipher s.opening bytes plain
-      → ReceivesRtcp cipher s bytes (after_rtcp plain s) (Some (rtcp_opening_of s.opening bytes plain))
-  stays : ((plain : List ℕ) → RtcpOpensIn cipher s.opening bytes plain → ⊥) → ReceivesRtcp cipher s bytes s None
+abbrev pub after_rtcp : ℕ → List ℕ → SessionRecord → SessionRecord
+after_rtcp now plain r = record r {
+  state = state_heard plain r.state;
+  rx = measured (ntp_of r.state now) (last_delay r.state.local_ssrc r.state.tx (feedback_in plain) None) r.rx;
+}
+
+-- what bytes that come as RTCP at a moment make of a session: they open to some packet, or to none
+pub data ReceivesRtcp (cipher : CipherMeaning) (r : SessionRecord) (bytes : List ℕ) (now : ℕ) : SessionRecord → Option Opened → Type 0 where
+  opened : (plain : List ℕ) → RtcpOpensIn cipher r.state.opening bytes plain
+      → ReceivesRtcp cipher r bytes now (after_rtcp now plain r) (Some (rtcp_opening_of r.state.opening bytes plain))
+  stays : ((plain : List ℕ) → RtcpOpensIn cipher r.state.opening bytes plain → ⊥) → ReceivesRtcp cipher r bytes now r None

@@ -4,5 +4,6 @@ pub mod Feedback
 pub mod Hearing
 pub mod LendingStreams
 pub mod Receiving
+pub mod Rounds
 pub mod Sending
 pub mod SessionRecord

@@ -38,11 +38,11 @@ abbrev pub number_of : Option ℕ → List (ℕ × RxRecord) → RxRecord → �
 number_of remembered rx probes ssrc low = if ssrc == 0 then fresh_number remembered probes low else accepted remembered rx ssrc low
 
 -- the incoming streams after a datagram opened
-abbrev pub rx_opened : Option ℕ → ℕ → ℕ → List (ℕ × RxRecord) → List (ℕ × RxRecord)
-rx_opened remembered ssrc n rx = if ssrc == 0 then rx else change_at ssrc (opened_as remembered n) rx
+abbrev pub rx_opened : Option ℕ → ℕ → ℕ → ℕ → List (ℕ × RxRecord) → List (ℕ × RxRecord)
+rx_opened remembered now ssrc n rx = if ssrc == 0 then rx else change_at ssrc (opened_as remembered now n) rx
 
-abbrev pub probes_opened : Option ℕ → ℕ → ℕ → RxRecord → RxRecord
-probes_opened remembered ssrc n probes = if ssrc == 0 then opened_as remembered n probes else probes
+abbrev pub probes_opened : Option ℕ → ℕ → ℕ → ℕ → RxRecord → RxRecord
+probes_opened remembered now ssrc n probes = if ssrc == 0 then opened_as remembered now n probes else probes
 
 -- where its padding bit is set, the payload ends in padding (RFC 3550 section 5.1)
 abbrev pub Unpads : RtpHeader → List ℕ → Type 0
@@ -87,8 +87,8 @@ after_opened now h n payload r = record {
     seen = saw h.ssrc n r.state.seen;
     packet = packet_after now h n (cut h payload) r.state.packet;
   };
-  rx = rx_opened (seen_of h.ssrc r.state.seen) h.ssrc n r.rx;
-  probes = probes_opened (seen_of h.ssrc r.state.seen) h.ssrc n r.probes;
+  rx = rx_opened (seen_of h.ssrc r.state.seen) now h.ssrc n r.rx;
+  probes = probes_opened (seen_of h.ssrc r.state.seen) now h.ssrc n r.probes;
 }
 
 -- what a datagram opened to: its header's bytes, and its payload with its padding

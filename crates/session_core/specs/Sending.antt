@@ -11,8 +11,8 @@ use Rattle.srtp_core.specs.Seals.{sealed_rtp}
 use Rattle.stream_core.specs.declared.stream_tx.PacketReceipt.{PacketReceipt}
 use Rattle.stream_core.specs.declared.transport.Transport.{Transport}
 use Rattle.stream_core.specs.Queue.{next_of}
-use Rattle.stream_core.specs.Tables.{each, change_place}
-use Rattle.stream_core.specs.TxRecord.{TxRecord, polled, after_poll, transport_after_poll, after_timeout as stream_after_timeout}
+use Rattle.stream_core.specs.Tables.{change_place}
+use Rattle.stream_core.specs.TxRecord.{TxRecord, polled, after_poll, transport_after_poll}
 use Rattle.rtcp_wire.specs.declared.packet.Rtcp.{Rtcp}
 use Rattle.session_core.specs.declared.datagram.Datagram.{Datagram}
 use Rattle.session_core.specs.Feedback.{FitsAlone, compound_of, sealed_compound, due_of, exhausts, without_compound, after_compound}
@@ -121,7 +121,3 @@ pub record Drains (cipher : CipherMeaning) (now : ℕ) (s after : SessionState) 
   pub sent : DrainsTo cipher now s last all
   pub ended : next_datagram cipher now last ≡ None
   pub leaves : after ≡ after_datagram now last
-
--- a tick
-abbrev pub after_timeout : ℕ → SessionState → SessionState
-after_timeout now s = record s { tx = each (stream_after_timeout now) s.tx }

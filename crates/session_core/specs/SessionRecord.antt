@@ -18,15 +18,18 @@ pub record MediaRecord : Type 0 where
   pub kind : MediaKind
   pub cname : List ℕ
 
--- all of a session but what its incoming streams were told: its identification; the target for the length of its
--- datagrams; mid and place of the data channel; the payload types, each under its number; the media sections; the contexts
--- that seal and open, once there are keys; the index of the first SRTCP datagram under the keys that are set next; the
--- greatest number that opened under each SSRC; the outgoing streams, each under its SSRC, and what they share; the feedback
--- that waits to be sent; the feedback of an application and the packet that came and wait to be told; and whether an error
--- stopped it
+-- all of a session but its incoming streams: its identification; the target for the length of its datagrams; the SSRC that
+-- its feedback has where it sends on no stream; for how long nothing comes on an incoming stream until it is paused, where
+-- nothing else is set; mid and place of the data channel; the payload types, each under its number; the media sections; the
+-- contexts that seal and open, once there are keys; the index of the first SRTCP datagram under the keys that are set next;
+-- the greatest number that opened under each SSRC; the outgoing streams, each under its SSRC, and what they share; the
+-- moment of the last round in which it asked for what is missing, at first 0; the feedback that waits to be sent; the
+-- feedback of an application and the packet that came and wait to be told; and whether an error stopped it
 pub record SessionState : Type 0 where
   pub id : ℕ
   pub target : ℕ
+  pub local_ssrc : ℕ
+  pub pause_threshold : ℕ
   pub app : Option (List ℕ × ℕ)
   pub types : List (ℕ × TypeRow)
   pub medias : List MediaRecord
@@ -36,6 +39,7 @@ pub record SessionState : Type 0 where
   pub seen : List (ℕ × ℕ)
   pub tx : List (ℕ × TxRecord)
   pub transport : Transport
+  pub last_round : ℕ
   pub feedback : List Rtcp
   pub application : Option AppSpecificFeedback
   pub packet : Option RtpPacket

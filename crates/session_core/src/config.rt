@@ -3,8 +3,8 @@ ghost use Rattle.indexmap.specs.IndexMap.{insert_entry};
 ghost use Rattle.stream_core.specs.Tables.{place_of};
 
 use indexmap::IndexMap;
-use media_base::Beginning;
-use rtp_base::{Frequency, Pt};
+use media_base::{Beginning, Duration};
+use rtp_base::{Frequency, Pt, Ssrc};
 use rtp_wire::ExtensionMap;
 use std::alloc::{AllocError, Global};
 use std::marker::Model;
@@ -84,6 +84,10 @@ pub struct SessionConfig {
     pub beginning: Beginning,
     /// The lengths of its datagrams.
     pub mtu: Mtu,
+    /// The SSRC that its feedback has while it sends on no stream.
+    pub local_ssrc: Ssrc,
+    /// For how long nothing comes on an incoming stream until it is paused; 1.5 s are usual.
+    pub pause_threshold: Duration,
     /// The index of its first SRTCP datagram, at most 2^31; at 2^31 there is none.
     pub srtcp_index: u64,
     /// The ids of the header extensions (RFC 8285).

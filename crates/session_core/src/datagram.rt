@@ -2,7 +2,7 @@ use crate::error::RtcError;
 use media_base::{Bytes, Instant};
 use rtcp_wire::AppSpecificFeedback;
 use rtp_base::{Kind, SeqNo, Ssrc};
-use stream_core::RtpPacket;
+use stream_core::{RtpPacket, StreamPaused};
 
 /// What a datagram opened to.
 #[derive(Debug, PartialEq, Eq, Drop)]
@@ -37,6 +37,8 @@ pub struct Datagram {
 pub enum Event {
     /// Feedback of the peer's application came (RFC 4585 section 6.4).
     AppSpecificFeedback(AppSpecificFeedback),
+    /// An incoming stream was paused, since nothing came on it for its threshold, or unpaused.
+    StreamPaused(StreamPaused),
     /// A packet came on a stream.
     RtpPacket(RtpPacket),
 }

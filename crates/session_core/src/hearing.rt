@@ -1,8 +1,11 @@
-ghost use Rattle.std.specs.Prelude.{◌≡◌, ◌≤◌, ℕ, List, length, IfOk, IfSome, IfNone};
-ghost use Rattle.session_core.specs.Hearing.{RtcpOpensIn, stated, feedback_in, acknowledged_by, acknowledged, application_in, last_application};
+ghost use Rattle.std.specs.Prelude.{◌≡◌, ◌≤◌, ℕ, List, None, length, IfOk, IfSome, IfNone};
+ghost use Rattle.stream_core.specs.StreamsRecord.{StreamsRecord, StandsFor};
+ghost use Rattle.session_core.specs.Hearing.{RtcpOpensIn, stated, feedback_in, acknowledged_by, acknowledged, application_in, last_application, is_own, last_delay, trip_of, measured};
 
+use media_base::{Duration, calculate_rtt};
 use repair_core::GapWindow;
-use rtcp_wire::{AppSpecificFeedback, Rtcp, RtcpFb};
+use rtcp_wire::{AppSpecificFeedback, DlrrItem, Rtcp, RtcpFb};
+use rtp_base::Ssrc;
 use srtp_core::laws::rtcp_seal_keeps_header;
 use srtp_core::{SrtpCipher, SrtpContext};
 use std::alloc::{AllocError, Global};
@@ -98,5 +101,51 @@ pub fn hear<W: GapWindow>(
     for item in feedback {
         acknowledge(&item, streams);
         *application = application_in(item).or(application.take());
+    }
+}
+
+/// Whether an SSRC is the session's own, or that of a stream that it sends.
+fn is_own<W: GapWindow>(local_ssrc: Ssrc, streams: &Streams<W>, ssrc: Ssrc) -> bool
+    ensures { result ≡ is_own local_ssrc streams.now.tx ssrc }
+{
+    ssrc == local_ssrc || streams.tx_place(ssrc).is_some()
+}
+
+/// The last item that tells how long ago a moment of the session came in (RFC 3611 section 4.5).
+pub fn last_delay<W: GapWindow>(
+    local_ssrc: Ssrc,
+    streams: &Streams<W>,
+    feedback: &[RtcpFb],
+) -> Option<DlrrItem>
+    ensures { result ≡ last_delay local_ssrc streams.now.tx feedback.now None }
+{
+    let mut last = None;
+    for item in feedback {
+        if let RtcpFb::DlrrItem(delay) = item {
+            if is_own(local_ssrc, streams, delay.ssrc) {
+                last = Some(*delay);
+            }
+        }
+    }
+    last
+}
+
+/// The round trip that an item tells at a moment, given from 1900.
+fn trip(ntp: Duration, delay: &DlrrItem) -> Option<Duration>
+    ensures { result ≡ trip_of ntp delay.now }
+{
+    calculate_rtt(ntp, delay.last_rr_delay, delay.last_rr_time)
+}
+
+/// Has the incoming streams know the round trip that an item tells, if there is one, at a moment, given
+/// from 1900.
+pub fn measure<W: GapWindow>(ntp: Duration, delay: &Option<DlrrItem>, streams: &mut Streams<W>)
+    ensures streams { (r : StreamsRecord) → StandsFor W.remembers streams.old r
+        → StandsFor W.remembers streams.new (record r { rx = measured ntp delay.now r.rx }) }
+    ensures tx { streams.new.tx ≡ streams.old.tx }
+    ensures threshold { streams.new.threshold ≡ streams.old.threshold }
+{
+    if let Some(delay) = delay {
+        streams.set_trip(trip(ntp, delay));
     }
 }

@@ -125,9 +125,11 @@ pub fn accepts<W: GapWindow>(
     }
 }
 
-/// Has the stream at a place, or with none that of SSRC 0, take a number under which a datagram opened.
+/// Has the stream at a place, or with none that of SSRC 0, take a number under which a datagram opened at
+/// a moment.
 pub fn take<W: GapWindow>(
     place: Option<usize>,
+    now: Instant,
     number: SeqNo,
     remembered: &Option<SeqNo>,
     streams: &mut Streams<W>,
@@ -138,15 +140,16 @@ pub fn take<W: GapWindow>(
     requires remembered { ForSome remembered.now (λ n. n < 2 ^ 48) }
     ensures rx { OnOk result ((rx : List (ℕ × RxRecord)) (ssrc : ℕ) → Along (StandsFor W.remembers) streams.old.rx rx
         → is_none place ≡ (ssrc == 0) → IfSome place (λ i. place_of ssrc streams.old.rx ≡ Some i)
-        → Along (StandsFor W.remembers) streams.new.rx (rx_opened remembered.now ssrc number rx)) }
+        → Along (StandsFor W.remembers) streams.new.rx (rx_opened remembered.now now ssrc number rx)) }
     ensures probes { OnOk result ((p : RxRecord) (ssrc : ℕ) → StandsFor W.remembers probes.old p → is_none place ≡ (ssrc == 0)
-        → StandsFor W.remembers probes.new (probes_opened remembered.now ssrc number p)) }
+        → StandsFor W.remembers probes.new (probes_opened remembered.now now ssrc number p)) }
     ensures tx { streams.new.tx ≡ streams.old.tx }
+    ensures threshold { streams.new.threshold ≡ streams.old.threshold }
     ensures err { OnErr result ((streams.new ≡ streams.old) × (probes.new ≡ probes.old)) }
 {
     match place {
-        Some(place) => streams.take_at(place, number, *remembered)?,
-        None => probes.take(number, *remembered)?,
+        Some(place) => streams.take_at(place, now, number, *remembered)?,
+        None => probes.take(now, number, *remembered)?,
     }
     Ok(())
 }

@@ -6,23 +6,24 @@ ghost use Rattle.rtcp_wire.specs.declared.packet.Rtcp.TheVariants as item;
 ghost use Rattle.srtp_core.specs.declared.counter.Counter.TheVariants as counter;
 ghost use Rattle.session_core.specs.Feedback.{exhausts};
 ghost use Rattle.session_core.specs.Hearing.{ReceivesRtcp};
-ghost use Rattle.session_core.specs.Sending.{next_rtp, after_rtp, next_datagram, after_datagram, after_timeout, all_waiting, waiting_in, DrainsTo, Drains};
+ghost use Rattle.session_core.specs.Rounds.{sender_ssrc, is_round, after_asks, after_timeout, round_at, send_at};
+ghost use Rattle.session_core.specs.Sending.{next_rtp, after_rtp, next_datagram, after_datagram, all_waiting, waiting_in, DrainsTo, Drains};
 ghost use Rattle.session_core.specs.Draining.{stopped_from, IsPacketLeft, IsPollLeft, PollFails, IsDrainCut, IsCutOff};
 ghost use Rattle.session_core.specs.SessionRecord.{SessionRecord, SessionState, StandsFor};
 ghost use Rattle.rtp_wire.specs.Header.{header_of};
 ghost use Rattle.session_core.specs.Receiving.{Receives, is_claimed};
-ghost use Rattle.session_core.specs.Calls.{fresh_session, probe_mid, after_event, next_event, after_events, told, lacks_keys, with_feedback, wake_of, media_of, has_media, has_other_mid, has_other_place};
+ghost use Rattle.session_core.specs.Calls.{fresh_session, probe_mid, after_event, next_event, events_in, state_told, after_events, told, Polled, with_feedback, wake_of, media_of, has_media, has_other_mid, has_other_place};
 
 use crate::config::{PayloadTypes, SessionConfig};
 use crate::datagram::{Datagram, DrainFault, Drained, Event, Opened};
 use crate::error::{AppError, RtcError};
 use crate::feedback::{poll_compound, sender};
-use crate::hearing::{RtcpOpening, feedback_in, hear, open_rtcp};
+use crate::hearing::{RtcpOpening, feedback_in, hear, last_delay, measure, open_rtcp};
 use crate::media::Media;
 use crate::receiving::{Opening, accepts, is_claimed, open, put_packet, take};
 use crate::seen::Seen;
 use crate::sending::{first_due, has_mid, is_silent, poll_place, seal};
-use media_base::{Bytes, Instant, already_happened};
+use media_base::{Bytes, Duration, Instant, InstantExt, already_happened};
 use repair_core::GapWindow;
 use rtcp_wire::{AppSpecificFeedback, Rtcp, items_fit_by_lengths};
 use rtp_base::{Kind, Mid, MidRid, SeqNo, SessionId, Ssrc};
@@ -31,7 +32,10 @@ use srtp_core::{KeyingMaterial, SrtpCipher, SrtpContext, SrtpError, SrtpProfile}
 use std::alloc::{AllocError, Global};
 use std::collections::VecDeque;
 use std::marker::Model;
-use stream_core::{RtpPacket, StreamRx, Streams, Transport};
+use stream_core::{RtpPacket, StreamRx, Streams, Transport, sooner};
+
+/// The least time between two rounds that ask for what is missing, in nanoseconds.
+const NACK_MIN_INTERVAL: u64 = 33_000_000;
 
 /// What one end of a connection sends and receives: contexts that seal and open, streams, and media
 /// sections. It does no input or output: it is handed the datagrams that come and the moments of ticks,
@@ -44,6 +48,8 @@ pub struct Session<C: SrtpCipher, W: GapWindow> {
     id: SessionId,
     // The most bytes of a sealed compound.
     target: usize,
+    // The SSRC of its feedback while it sends on no stream.
+    local_ssrc: Ssrc,
     app: Option<(Mid, usize)>,
     types: PayloadTypes,
     medias: Vec<Media>,
@@ -55,6 +61,8 @@ pub struct Session<C: SrtpCipher, W: GapWindow> {
     probes: StreamRx<W>,
     seen: Seen,
     transport: Transport,
+    // When it asked last for what is missing, at first 0.
+    last_round: Instant,
     feedback: VecDeque<Rtcp>,
     application: Option<AppSpecificFeedback>,
     packet: Option<RtpPacket>,
@@ -73,6 +81,8 @@ impl<C: SrtpCipher, W: GapWindow> Model for Session<C, W> {
       state = record {
         id = s.id;
         target = s.target;
+        local_ssrc = s.local_ssrc;
+        pause_threshold = s.streams.threshold;
         app = s.app;
         types = s.types;
         medias = s.medias.items;
@@ -82,6 +92,7 @@ impl<C: SrtpCipher, W: GapWindow> Model for Session<C, W> {
         seen = s.seen;
         tx = s.streams.tx;
         transport = s.transport;
+        last_round = s.last_round;
         feedback = s.feedback.items;
         application = s.application;
         packet = s.packet;
@@ -146,20 +157,29 @@ impl<C: SrtpCipher, W: GapWindow> Session<C, W> {
             alloc,
             id: SessionId::new(config.id),
             target: config.mtu.target,
+            local_ssrc: config.local_ssrc,
             app: None,
             types: config.types,
             medias: Vec::new(alloc),
             sealing: None,
             opening: None,
             first_index: config.srtcp_index,
-            streams: Streams::new(alloc),
-            probes: StreamRx::new(alloc, Ssrc::from(0), None, probes_mid()),
+            streams: Streams::new(alloc, config.pause_threshold),
+            probes: StreamRx::new(
+                alloc,
+                Ssrc::from(0),
+                None,
+                probes_mid(),
+                true,
+                config.pause_threshold,
+            ),
             seen: Seen::new(alloc),
             transport: Transport {
                 exts: config.exts,
                 beginning: config.beginning,
                 twcc: 0,
             },
+            last_round: already_happened(),
             feedback: VecDeque::new(alloc),
             application: None,
             packet: None,
@@ -246,6 +266,7 @@ impl<C: SrtpCipher, W: GapWindow> Session<C, W> {
         };
         take(
             found.0,
+            now,
             number,
             &remembered,
             &mut self.streams,
@@ -267,10 +288,12 @@ impl<C: SrtpCipher, W: GapWindow> Session<C, W> {
     ghost use Rattle.session_core.specs.declared.error.RtcError.TheVariants.{Stopped, Memory};
 
     /// Takes in an RTCP datagram that came, and tells what it opened to: its reception blocks acknowledge
-    /// streams without repairs, its last feedback of an application is told by `poll_event`. None where it
-    /// does not open, and then nothing changes: where it is shorter than a packet of 8 bytes and what seals
-    /// it, where its tag does not hold, and without keys. One that comes again opens again.
-    /// The time grows with its items.
+    /// streams without repairs, its last item that tells how long ago a moment of this session came in
+    /// gives the round trip of the incoming streams, its last feedback of an application is told by
+    /// `poll_event`. None where it does not open, and then nothing changes: where it is shorter than a
+    /// packet of 8 bytes and what seals it, where its tag does not hold, and without keys. One that comes
+    /// again opens again. The time grows with its items, and with the number of incoming streams where one
+    /// gives the round trip.
     ///
     /// # Errors
     /// `Stopped` where an earlier call answered `Memory` or `KeyExhausted`; `Memory`.
@@ -280,17 +303,18 @@ impl<C: SrtpCipher, W: GapWindow> Session<C, W> {
         bytes: &[u8],
     ) -> Result<Option<Opened>, RtcError>
         ensures stopped { IsErrOf result Stopped ↔ IsTrue self.old.state.stopped }
-        ensures received { IfOk result (ReceivesRtcp C.meaning self.old.state bytes.now self.new.state) }
-        ensures others { self.new ≡ record self.old { state = self.new.state } }
+        ensures received { IfOk result (λ opened. (r : SessionRecord) → StandsFor W.remembers self.old r
+            → (after : SessionRecord) × ReceivesRtcp C.meaning r bytes.now now after opened × StandsFor W.remembers self.new after) }
+        ensures unopened { IfOk result (λ opened. IfNone opened (self.new ≡ self.old)) }
         ensures latch { self.new.state.stopped ≡ self.old.state.stopped || is_err result }
         ensures unchanged { IsErrOf result Stopped → self.new ≡ self.old }
         ensures memory { self.old.state.stopped ≡ false → IfErr result (λ e. e ≡ Memory) }
-        ensures failed { IsErrOf result Memory → self.new.state ≡ stopped_from self.old.state }
+        ensures failed { IsErrOf result Memory → self.new ≡ record self.old { state = stopped_from self.old.state } }
     {
         if self.stopped {
             return Err(RtcError::Stopped);
         }
-        match self.receive_rtcp(bytes) {
+        match self.receive_rtcp(now, bytes) {
             Ok(opened) => Ok(opened),
             Err(_) => {
                 self.stopped = true;
@@ -299,9 +323,10 @@ impl<C: SrtpCipher, W: GapWindow> Session<C, W> {
         }
     }
 
-    fn receive_rtcp(&mut self, bytes: &[u8]) -> Result<Option<Opened>, AllocError>
-        ensures received { IfOk result (ReceivesRtcp C.meaning self.old.state bytes.now self.new.state) }
-        ensures others { self.new ≡ record self.old { state = self.new.state } }
+    fn receive_rtcp(&mut self, now: Instant, bytes: &[u8]) -> Result<Option<Opened>, AllocError>
+        ensures received { IfOk result (λ opened. (r : SessionRecord) → StandsFor W.remembers self.old r
+            → (after : SessionRecord) × ReceivesRtcp C.meaning r bytes.now now after opened × StandsFor W.remembers self.new after) }
+        ensures unopened { IfOk result (λ opened. IfNone opened (self.new ≡ self.old)) }
         ensures runs { self.new.state.stopped ≡ self.old.state.stopped }
         ensures err { OnErr result (self.new ≡ self.old) }
     {
@@ -309,6 +334,9 @@ impl<C: SrtpCipher, W: GapWindow> Session<C, W> {
             return Ok(None);
         };
         let feedback = feedback_in(self.alloc, plain.as_slice())?;
+        let delay = last_delay(self.local_ssrc, &self.streams, feedback.as_slice());
+        let ntp = now.to_ntp_duration(&self.transport.beginning);
+        measure(ntp, &delay, &mut self.streams);
         hear(feedback, &mut self.streams, &mut self.application);
         self.next_stream = 0;
         Ok(Some(Opened {
@@ -466,19 +494,6 @@ impl<C: SrtpCipher, W: GapWindow> Session<C, W> {
     }
 }
 
-/// Adds an event, if there is one, to those for which there is room.
-fn push_some(events: &mut Vec<Event>, event: Option<Event>)
-    requires { length events.old.items < vec_capacity events.old }
-    ensures items { events.new.items ≡ events.old.items ++ option_to_list event }
-    ensures len { length events.new.items ≤ length events.old.items + 1 }
-    ensures capacity { vec_capacity events.old ≤ vec_capacity events.new }
-{
-    match event {
-        Some(event) => events.push_reserved(event),
-        None => {}
-    }
-}
-
 impl<C: SrtpCipher, W: GapWindow> Session<C, W> {
     ghost use Rattle.session_core.specs.declared.error.RtcError.TheVariants.{Stopped, Memory};
 
@@ -505,16 +520,23 @@ impl<C: SrtpCipher, W: GapWindow> Session<C, W> {
     }
 
     /// What the session tells next, where there are keys: the feedback of an application that came last,
-    /// then the packet that came last, each if it was not told.
+    /// then which incoming streams were paused or unpaused, in order, then the packet that came last, each
+    /// if it was not told.
     pub fn poll_event(&mut self) -> Option<Event>
-        ensures event { result ≡ next_event self.old.state }
-        ensures after { self.new ≡ record self.old { state = after_event self.old.state } }
+        ensures event { (r : SessionRecord) → StandsFor W.remembers self.old r → result ≡ next_event r }
+        ensures after { (r : SessionRecord) → StandsFor W.remembers self.old r → StandsFor W.remembers self.new (after_event r) }
+        ensures told { (r : SessionRecord) → StandsFor W.remembers self.old r → Polled r result (after_event r) }
+        ensures runs { self.new.state.stopped ≡ self.old.state.stopped }
+        ensures fewer { IfSome result (λ e. events_in self.new < events_in self.old) }
     {
         if self.sealing.is_none() || self.opening.is_none() {
             return None;
         }
         if let Some(feedback) = self.application.take() {
             return Some(Event::AppSpecificFeedback(feedback));
+        }
+        if let Some(paused) = self.streams.poll_stream_paused() {
+            return Some(Event::StreamPaused(paused));
         }
         let packet = self.packet.take()?;
         Some(Event::RtpPacket(packet))
@@ -536,33 +558,101 @@ impl<C: SrtpCipher, W: GapWindow> Session<C, W> {
         Ok(None)
     }
 
-    /// When the session wants a tick next: at once where some packet was written since the last one,
-    /// else not at all. The time grows with the number of streams.
-    pub fn poll_timeout(&self) -> Option<Instant>
-        ensures { result ≡ wake_of self.now.state }
+    /// The SSRC of the session's feedback: that of its first outgoing stream, else its own.
+    fn sender_ssrc(&self) -> Ssrc
+        ensures { result ≡ sender_ssrc self.now.state }
     {
-        for place in 0..self.streams.tx_len() {
-            if self.streams.tx(place).need_timeout() {
-                return Some(already_happened());
-            }
+        if self.streams.tx_len() == 0 {
+            self.local_ssrc
+        } else {
+            self.streams.tx(0).ssrc()
         }
-        None
     }
 
-    /// A tick: the packets that were written before it may leave from then on.
+    /// When the next round is, where some incoming stream asks for what is missing.
+    fn round_at(&self) -> Option<Instant>
+        ensures { (r : SessionRecord) → StandsFor W.remembers self.now r → result ≡ round_at r }
+    {
+        if self.streams.any_nack_enabled() {
+            let interval = Duration::from_nanos(NACK_MIN_INTERVAL);
+            Some(self.last_round.saturating_add(interval))
+        } else {
+            None
+        }
+    }
+
+    /// At once, where some packet was written since the last tick.
+    fn send_at(&self) -> Option<Instant>
+        ensures { result ≡ send_at self.now.state }
+    {
+        if self.streams.needs_timeout() {
+            Some(already_happened())
+        } else {
+            None
+        }
+    }
+
+    /// When the session wants a tick next: for a round that asks for what is missing, to pause a stream on
+    /// which nothing comes, and at once where some packet was written since the last tick; None where it
+    /// waits for nothing. The time grows with the number of streams.
+    pub fn poll_timeout(&self) -> Option<Instant>
+        ensures { (r : SessionRecord) → StandsFor W.remembers self.now r → result ≡ wake_of r }
+    {
+        let paused_at = sooner(self.streams.paused_at(), self.probes.paused_at());
+        sooner(self.round_at(), sooner(paused_at, self.send_at()))
+    }
+
+    /// Whether a tick at a moment is a round.
+    fn is_round(&self, now: Instant) -> bool
+        ensures { (r : SessionRecord) → StandsFor W.remembers self.now r → result ≡ is_round now r }
+    {
+        let passed = now.saturating_duration_since(self.last_round);
+        NACK_MIN_INTERVAL <= passed.as_nanos() && self.streams.any_nack_enabled()
+    }
+
+    /// The round of a tick, where it is one. Without memory nothing changes.
+    fn ask(&mut self, now: Instant) -> Result<(), AllocError>
+        ensures ok { OnOk result ((r : SessionRecord) → StandsFor W.remembers self.old r → StandsFor W.remembers self.new (after_asks now r)) }
+        ensures round { OnErr result ((r : SessionRecord) → StandsFor W.remembers self.old r → is_round now r ≡ true) }
+        ensures runs { self.new.state.stopped ≡ self.old.state.stopped }
+        ensures err { OnErr result (self.new ≡ self.old) }
+    {
+        if !self.is_round(now) {
+            return Ok(());
+        }
+        let sender = self.sender_ssrc();
+        items_fit_by_lengths();
+        self.streams.create_nacks(now, sender, &mut self.feedback)?;
+        self.last_round = now;
+        Ok(())
+    }
+
+    /// A tick. Where 33 ms passed since the last round and some incoming stream asks for what is missing,
+    /// it is a round: an item is queued for each such stream of which numbers are due, in order (RFC 4585
+    /// section 6.2.1). Then the streams are paused on which nothing came for their threshold, and the
+    /// packets that were written before the tick may leave. The time grows with the number of streams and
+    /// with that of the packets that were written since the last tick.
     ///
     /// # Errors
-    /// `Stopped` where an earlier call answered `Memory` or `KeyExhausted`.
+    /// `Stopped` where an earlier call answered `Memory` or `KeyExhausted`; `Memory`, in a round alone.
     pub fn handle_timeout(&mut self, now: Instant) -> Result<(), RtcError>
         ensures stopped { IsErrOf result Stopped ↔ IsTrue self.old.state.stopped }
-        ensures only { IfErr result (λ e. e ≡ Stopped) }
-        ensures ok { OnOk result (self.new ≡ record self.old { state = after_timeout now self.old.state }) }
-        ensures err { OnErr result (self.new ≡ self.old) }
+        ensures ok { OnOk result ((r : SessionRecord) → StandsFor W.remembers self.old r → StandsFor W.remembers self.new (after_timeout now r)) }
+        ensures latch { self.new.state.stopped ≡ self.old.state.stopped || is_err result }
+        ensures unchanged { IsErrOf result Stopped → self.new ≡ self.old }
+        ensures memory { self.old.state.stopped ≡ false → IfErr result (λ e. e ≡ Memory) }
+        ensures failed { IsErrOf result Memory → self.new ≡ record self.old { state = stopped_from self.old.state } }
+        ensures round { IsErrOf result Memory → (r : SessionRecord) → StandsFor W.remembers self.old r → is_round now r ≡ true }
     {
         if self.stopped {
             return Err(RtcError::Stopped);
         }
+        if self.ask(now).is_err() {
+            self.stopped = true;
+            return Err(RtcError::Memory);
+        }
         self.next_stream = 0;
+        self.probes.handle_timeout(now);
         self.streams.handle_timeout(now);
         Ok(())
     }
@@ -585,23 +675,27 @@ fn cut_off(error: RtcError, events: Vec<Event>, datagrams: Vec<Datagram>) -> Dra
 impl<C: SrtpCipher, W: GapWindow> Session<C, W> {
     ghost use Rattle.session_core.specs.declared.error.RtcError.TheVariants.{Stopped, Memory};
 
-    /// Takes all that the session tells. Without memory nothing changes.
-    fn take_events(&mut self) -> Result<Vec<Event>, AllocError>
-        ensures events { IfOk result (λ events. events.items ≡ told self.old.state) }
-        ensures after { OnOk result (self.new ≡ record self.old { state = after_events self.old.state }) }
-        ensures err { OnErr result (self.new ≡ self.old) }
+    /// Takes all that the session tells, behind what was taken before. Room is reserved before each poll.
+    fn take_events(&mut self, sofar: &mut Vec<Event>) -> Result<(), AllocError>
+        requires none { sofar.old.items ≡ [] }
+        ensures taken { OnOk result ((r : SessionRecord) → StandsFor W.remembers self.old r
+            → (sofar.new.items ≡ told r) × StandsFor W.remembers self.new (after_events r)) }
+        ensures front { OnErr result ((r : SessionRecord) → StandsFor W.remembers self.old r
+            → (between : SessionRecord) × StandsFor W.remembers self.new between
+            × (told r ≡ sofar.new.items ++ told between) × (after_events between ≡ after_events r)) }
+        ensures runs { self.new.state.stopped ≡ self.old.state.stopped }
     {
-        let mut events = Vec::with_capacity(self.alloc, 2)?;
-        if self.sealing.is_none() || self.opening.is_none() {
-            return Ok(events);
+        loop {
+            sofar.reserve(1)?;
+            match self.poll_event() {
+                Some(event) => sofar.push_reserved(event),
+                None => return Ok(()),
+            }
         }
-        let application = self.application.take();
-        push_some(&mut events, application.map(Event::AppSpecificFeedback));
-        push_some(&mut events, self.packet.take().map(Event::RtpPacket));
-        Ok(events)
     }
 
-    /// Takes all that the session tells and all that leaves, and when it wants a tick next.
+    /// Takes all that the session tells and all that leaves, and when it wants a tick next. The time grows
+    /// with the number of streams.
     ///
     /// # Errors
     /// `Stopped` where an earlier call answered `Memory` or `KeyExhausted`; `KeyExhausted` where feedback is
@@ -611,25 +705,25 @@ impl<C: SrtpCipher, W: GapWindow> Session<C, W> {
             × (fault.sofar.events.items ≡ []) × (fault.sofar.datagrams.items ≡ [])) }
         ensures still { IsTrue self.old.state.stopped → self.new ≡ self.old }
         ensures latch { self.new.state.stopped ≡ self.old.state.stopped || is_err result }
-        ensures events { IfOk result (λ all. all.events.items ≡ told self.old.state) }
-        ensures datagrams { IfOk result (λ all. Drains C.meaning now (after_events self.old.state) self.new.state all.datagrams.items) }
-        ensures others { self.new ≡ record self.old { state = self.new.state } }
-        ensures wake { IfOk result (λ all. all.wake ≡ wake_of self.new.state) }
-        ensures sofar { self.old.state.stopped ≡ false → IfErr result (λ fault.
-            IsCutOff C.meaning now self.old.state fault.error self.new.state fault.sofar.events.items fault.sofar.datagrams.items) }
+        ensures drained { IfOk result (λ all. (r : SessionRecord) → StandsFor W.remembers self.old r
+            → (all.events.items ≡ told r)
+            × Drains C.meaning now (state_told r.state) self.new.state all.datagrams.items
+            × StandsFor W.remembers self.new (record (after_events r) { state = self.new.state })) }
+        ensures wake { IfOk result (λ all. (r : SessionRecord) → StandsFor W.remembers self.new r → all.wake ≡ wake_of r) }
+        ensures sofar { self.old.state.stopped ≡ false → IfErr result (λ fault. (r : SessionRecord) → StandsFor W.remembers self.old r
+            → (after : SessionRecord) × IsCutOff C.meaning now r fault.error after fault.sofar.events.items fault.sofar.datagrams.items
+            × StandsFor W.remembers self.new after) }
         ensures no_wake { IfErr result (λ fault. fault.sofar.wake ≡ None) }
     {
+        let mut events = Vec::new(self.alloc);
         let mut datagrams = Vec::new(self.alloc);
         if self.stopped {
-            return Err(cut_off(RtcError::Stopped, Vec::new(self.alloc), datagrams));
+            return Err(cut_off(RtcError::Stopped, events, datagrams));
         }
-        let events = match self.take_events() {
-            Ok(events) => events,
-            Err(_) => {
-                self.stopped = true;
-                return Err(cut_off(RtcError::Memory, Vec::new(self.alloc), datagrams));
-            }
-        };
+        if self.take_events(&mut events).is_err() {
+            self.stopped = true;
+            return Err(cut_off(RtcError::Memory, events, datagrams));
+        }
         match self.drain_datagrams(now, &mut datagrams) {
             Ok(()) => Ok(Drained {
                 events,
@@ -805,6 +899,7 @@ impl<C: SrtpCipher, W: GapWindow> Session<C, W> {
         ensures* writes_back { sem 𝓛 (LendsStreams C.row C.Key128.row C.Key256.row W.row C.SrtpCipher W.GapWindow self.entry result) }
         ensures rx { result.now.rx ≡ self.old.rx }
         ensures tx { result.now.tx ≡ self.old.state.tx }
+        ensures threshold { result.now.threshold ≡ self.old.state.pause_threshold }
     {
         self.next_stream = 0;
         &mut self.streams

@@ -1,8 +1,9 @@
-use crate::ends::{End, moment};
+use crate::ends::{End, mid, moment, rid};
 use rtp_base::{Kind, SeqNo, Ssrc};
 use rtp_wire::ExtensionValues;
 use session_core::{Event, Opened};
 use std::test::Fail;
+use stream_core::StreamPaused;
 
 /// A packet on SSRC 42 that an end is to tell.
 #[derive(Clone, Copy)]
@@ -13,6 +14,8 @@ pub struct Wanted<'a> {
     pub payload: &'a [u8],
     /// The values of its header extension.
     pub values: ExtensionValues,
+    /// It is the first of its stream, which is told to be unpaused before it.
+    pub unpauses: bool,
 }
 
 impl Wanted<'_> {
@@ -48,15 +51,32 @@ pub fn first_packet() -> Wanted<'static> {
         number: 1,
         payload: &[1, 2],
         values: ExtensionValues::none(),
+        unpauses: true,
     }
 }
 
-/// Whether bytes that come open, and nothing but this packet is told, once.
+// That the stream was unpaused.
+fn unpaused() -> Event {
+    Event::StreamPaused(StreamPaused {
+        ssrc: Ssrc::from(42),
+        mid: mid(),
+        rid: Some(rid()),
+        paused: false,
+    })
+}
+
+/// Whether bytes that come open, and nothing but this packet is told, once, behind the stream that it
+/// unpauses.
 pub fn tells(end: &mut End, bytes: &[u8], wanted: &Wanted<'_>) -> Result<bool, Fail> {
     let opened = end.handle_rtp_receive(moment(), bytes)?;
+    let before = if wanted.unpauses {
+        end.poll_event() == Some(unpaused())
+    } else {
+        true
+    };
     let told = end.poll_event();
     let more = end.poll_event();
-    Ok(wanted.is_opened(&opened) && wanted.is_told(&told) && more.is_none())
+    Ok(before && wanted.is_opened(&opened) && wanted.is_told(&told) && more.is_none())
 }
 
 /// Whether bytes that come open nothing, and nothing is told.

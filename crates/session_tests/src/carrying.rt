@@ -159,6 +159,7 @@ fn carries_one(
         number,
         payload,
         values,
+        unpauses: number == 1,
     };
     tells(b, sent.bytes.as_slice(), &wanted)
 }

@@ -1,7 +1,7 @@
 ghost use Rattle.std.specs.Prelude.{◌≤◌, ◌^◌, IfOk};
 
 use mask_register::MaskRegister;
-use media_base::{Beginning, Bytes, Instant};
+use media_base::{Beginning, Bytes, Duration, Instant};
 use rtp_base::{Frequency, Mid, MidRid, Pt, Rid, Ssrc};
 use rtp_wire::ExtensionMap;
 use session_core::{
@@ -35,7 +35,7 @@ pub fn rid() -> Rid {
 }
 
 /// What both ends are made with: they know type 96. The target for their feedback is cut to 900 to 1,500
-/// bytes, the first index of SRTCP datagrams to at most 2^31.
+/// bytes, the first index of SRTCP datagrams to at most 2^31. Their own SSRC is 2.
 pub fn config(
     alloc: Global,
     exts: ExtensionMap,
@@ -61,6 +61,8 @@ pub fn config(
             target: usize::from(target).clamp(900, 1500),
             warn: 1500,
         },
+        local_ssrc: Ssrc::from(2),
+        pause_threshold: Duration::from_millis(1_500),
         srtcp_index: u64::from(srtcp_index).min(2_147_483_648),
         exts,
         types,
@@ -87,6 +89,6 @@ pub fn prepare_sender(alloc: Global, end: &mut End) -> Result<(), RtcError> {
 pub fn expect_stream(end: &mut End) -> Result<(), RtcError> {
     let mid_rid = MidRid(mid(), Some(rid()));
     end.streams()
-        .expect_stream_rx(Ssrc::from(42), None, mid_rid)?;
+        .expect_stream_rx(Ssrc::from(42), None, mid_rid, false)?;
     Ok(())
 }

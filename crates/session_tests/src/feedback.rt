@@ -9,9 +9,9 @@ use srtp_core::Counter;
 use std::alloc::Global;
 use std::test::Fail;
 
-// Feedback of an application from SSRC 1 on SSRC 42 with the words 01020304 (RFC 4585 section 6.4),
-// sealed: the first 8 bytes, the rest XOR the key stream, the tag, and the E bit with the index 0.
-const FEEDBACK: [u8; 36] = [
+/// Feedback of an application from SSRC 1 on SSRC 42 with the words 01020304 (RFC 4585 section 6.4),
+/// sealed: the first 8 bytes, the rest XOR the key stream, the tag, and the E bit with the index 0.
+pub const FEEDBACK: [u8; 36] = [
     0x8f, 0xce, 0, 3, 0, 0, 0, 1, 0, 0, 0, 0x2a, 1, 3, 3, 2, 0x8e, 0xcc, 3, 7, 0, 1, 0, 7, 0x80, 0,
     0, 0, 0, 0, 0, 0x2b, 0x80, 0, 0, 0,
 ];
@@ -53,7 +53,8 @@ fn queue(alloc: Global, end: &mut End, words: &[u8; 20]) -> Result<(), Fail> {
     Ok(())
 }
 
-fn queue_one(alloc: Global, end: &mut End) -> Result<(), Fail> {
+/// Queues feedback of an application from SSRC 1 on SSRC 42 with the words 01020304.
+pub fn queue_one(alloc: Global, end: &mut End) -> Result<(), Fail> {
     let payload = Bytes::from_slice(alloc, &[1, 2, 3, 4])?;
     end.send_app_specific_feedback(Ssrc::from(1), Ssrc::from(42), payload)?;
     Ok(())

@@ -15,4 +15,8 @@ mod leaving;
 #[cfg(test)]
 mod packets;
 #[cfg(test)]
+mod rounds;
+#[cfg(test)]
+mod steps;
+#[cfg(test)]
 mod table;

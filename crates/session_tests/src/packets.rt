@@ -33,11 +33,17 @@ pub enum Incoming {
     Long(usize),
 }
 
-// Seals a packet as the sender does.
-fn seal(alloc: Global, plain: &[u8]) -> Result<Vec<u8>, Fail> {
+// What seals as the left side, the sender, or as the right one.
+fn context(alloc: Global, left: bool) -> Result<SrtpContext<ToyCipher>, Fail> {
     let material = KeyingMaterial::new(alloc, &[0; 56])?;
     let profile = SrtpProfile::AeadAes128Gcm;
-    let mut context = SrtpContext::new(alloc, ToyCipher, profile, &material, true)?;
+    let context = SrtpContext::new(alloc, ToyCipher, profile, &material, left)?;
+    Ok(context)
+}
+
+// Seals a packet as the sender does.
+fn seal(alloc: Global, plain: &[u8]) -> Result<Vec<u8>, Fail> {
+    let mut context = context(alloc, true)?;
     let Some(header) = RtpHeader::parse(plain, &ExtensionMap::empty()) else {
         return Ok(Vec::new(alloc));
     };
@@ -50,11 +56,28 @@ fn seal(alloc: Global, plain: &[u8]) -> Result<Vec<u8>, Fail> {
 
 /// Seals a packet of feedback as the receiver does, under the index 0.
 pub fn seal_feedback(alloc: Global, plain: &[u8; 32]) -> Result<Vec<u8>, Fail> {
-    let material = KeyingMaterial::new(alloc, &[0; 56])?;
-    let profile = SrtpProfile::AeadAes128Gcm;
-    let mut context = SrtpContext::new(alloc, ToyCipher, profile, &material, false)?;
+    let mut context = context(alloc, false)?;
     let sealed = context.protect_rtcp(plain)?;
     Ok(sealed)
+}
+
+/// Seals a packet of at least 8 bytes of feedback as the sender does, under the index 0; a shorter one
+/// is nothing.
+pub fn seal_report(alloc: Global, plain: &[u8]) -> Result<Vec<u8>, Fail> {
+    if plain.len() < 8 {
+        return Ok(Vec::new(alloc));
+    }
+    let mut context = context(alloc, true)?;
+    let sealed = context.protect_rtcp(plain)?;
+    Ok(sealed)
+}
+
+/// `PACKET` on another SSRC and of another number, sealed.
+pub fn packet_of(alloc: Global, ssrc: u8, number: u8) -> Result<Vec<u8>, Fail> {
+    let mut packet = PACKET;
+    packet[11] = ssrc;
+    packet[3] = number;
+    seal(alloc, &packet)
 }
 
 // The bytes with this byte at this place.

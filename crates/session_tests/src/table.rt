@@ -157,6 +157,7 @@ fn opens_once(alloc: Global, b: &mut End) -> Result<bool, Fail> {
     let again = refuses(b, &SEALED)?;
     let wanted = Wanted {
         number: 2,
+        unpauses: false,
         ..first_packet()
     };
     let next = bytes_of(alloc, SealOf(3, 2))?;

@@ -1,6 +1,9 @@
 pub mod Accepting
 pub mod Alongside
+pub mod Any
 pub mod Polling
+pub mod RxSteps
 pub mod Stamps
 pub mod StreamsSteps
 pub mod TableSteps
+pub mod Untold

@@ -12,22 +12,25 @@ use Rattle.stream_core.proofs.TableSteps.{along_there, along_new, without_along}
 
 module _ {W : Type 0} (remembers : W → Heard → Type 0) (ssrc : ℕ) where
   -- there is such a stream
-  pub rx_there : (s inside : StreamsView W) (found : Option ℕ) (y : RxRecord) → inside ≡ s → found ≡ place_of ssrc inside.rx → is_some found ≡ true
-      → (r : StreamsRecord) → StandsFor remembers s r → StandsFor remembers s (record r { rx = with_new ssrc y r.rx })
-  rx_there s inside found y view place is r h = record {
-    rx = along_there (RxStandsFor remembers) s.rx r.rx ssrc y h.rx (ap (λ (v : StreamsView W). is_some (place_of ssrc v.rx)) (sym view) ∙ sym (ap is_some place) ∙ is);
+  pub rx_there : (s inside : StreamsView W) (found : Option ℕ) (expect : ℕ → RxRecord) → inside ≡ s → found ≡ place_of ssrc inside.rx → is_some found ≡ true
+      → (r : StreamsRecord) → StandsFor remembers s r → StandsFor remembers s (record r { rx = with_new ssrc (expect r.threshold) r.rx })
+  rx_there s inside found expect view place is r h = record {
+    threshold = h.threshold;
+    rx = along_there (RxStandsFor remembers) s.rx r.rx ssrc (expect r.threshold) h.rx (ap (λ (v : StreamsView W). is_some (place_of ssrc v.rx)) (sym view) ∙ sym (ap is_some place) ∙ is);
     tx = h.tx;
   }
 
   -- a new stream is put behind the others
-  pub rx_new : (s inside : StreamsView W) (found : Option ℕ) (x : RxView W) (y : RxRecord) (rx : List (ℕ × RxView W)) → inside ≡ s → found ≡ place_of ssrc inside.rx → is_some found ≡ false
-      → RxStandsFor remembers x y → rx ≡ inside.rx ++ (ssrc, x) ∷ []
-      → (r : StreamsRecord) → StandsFor remembers s r → StandsFor remembers (record inside { rx = rx }) (record r { rx = with_new ssrc y r.rx })
-  rx_new s inside found x y rx view place is stands added r h =
+  pub rx_new : (s inside : StreamsView W) (found : Option ℕ) (x : RxView W) (expect : ℕ → RxRecord) (rx : List (ℕ × RxView W)) → inside ≡ s → found ≡ place_of ssrc inside.rx → is_some found ≡ false
+      → RxStandsFor remembers x (expect inside.threshold) → rx ≡ inside.rx ++ (ssrc, x) ∷ []
+      → (r : StreamsRecord) → StandsFor remembers s r → StandsFor remembers (record inside { rx = rx }) (record r { rx = with_new ssrc (expect r.threshold) r.rx })
+  rx_new s inside found x expect rx view place is stands added r h =
       let mine = subst (λ v. StandsFor remembers v r) (sym view) h in
+      let same : RxStandsFor remembers x (expect r.threshold) = subst (λ n. RxStandsFor remembers x (expect n)) mine.threshold stands in
       record {
-        rx = subst (λ l. Along (RxStandsFor remembers) l (with_new ssrc y r.rx)) (sym added)
-            (along_new (RxStandsFor remembers) inside.rx r.rx ssrc x y mine.rx stands (sym (ap is_some place) ∙ is));
+        threshold = mine.threshold;
+        rx = subst (λ l. Along (RxStandsFor remembers) l (with_new ssrc (expect r.threshold) r.rx)) (sym added)
+            (along_new (RxStandsFor remembers) inside.rx r.rx ssrc x (expect r.threshold) mine.rx same (sym (ap is_some place) ∙ is));
         tx = mine.tx;
       }
 
@@ -37,6 +40,7 @@ module _ {W : Type 0} (remembers : W → Heard → Type 0) (ssrc : ℕ) where
   rx_removed s inside rx view removed r h =
       let mine = subst (λ v. StandsFor remembers v r) (sym view) h in
       record {
+        threshold = mine.threshold;
         rx = subst (λ l. Along (RxStandsFor remembers) l (without_key ssrc r.rx)) (sym removed) (without_along (RxStandsFor remembers) inside.rx r.rx ssrc mine.rx);
         tx = mine.tx;
       }
@@ -49,6 +53,7 @@ module _ {W : Type 0} (remembers : W → Heard → Type 0) (ssrc : ℕ) where
       let mine = subst (λ v. StandsFor remembers v r) (sym view) h in
       let found : place_of ssrc inside.rx ≡ Some i = ap (λ (v : StreamsView W). place_of ssrc v.rx) view ∙ place in
       record {
+        threshold = mine.threshold;
         rx = subst (λ l. Along (RxStandsFor remembers) l (change_at ssrc f r.rx)) (sym changed)
             (change_at_along (RxStandsFor remembers) inside.rx r.rx ssrc i x new f mine.rx found at step);
         tx = mine.tx;

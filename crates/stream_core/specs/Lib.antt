@@ -1,5 +1,7 @@
 pub mod Lending
 pub mod LendingStreams
+pub mod Missing
+pub mod Pauses
 pub mod Queue
 pub mod RxRecord
 pub mod Sealing

@@ -1,31 +1,52 @@
 -- The record of an incoming stream, and what each call makes of it.
-use Rattle.std.specs.Prelude.{◌≡◌, ℕ, ◌+◌, ◌*◌, if◌then◌else◌, List, Option, Some, None, unwrap_or}
+use Rattle.std.specs.Prelude.{◌≡◌, ℕ, ◌+◌, ◌-◌, ◌*◌, ◌^◌, ◌||◌, Bool, false, min, is_none, if◌then◌else◌, List, Option, Some, None, unwrap_or}
 use Rattle.rtp_base.specs.Widen.{widen16}
 use Rattle.repair_core.specs.Fresh.{is_fresh, greatest_of}
 use Rattle.repair_core.specs.Rounds.{Heard, started_at, came, taken}
 
+-- all of an incoming stream but its window: its SSRC and that of its repairs, the media section and the stream in it; the
+-- rollover count that the next datagram is taken to have, if one was set; whether it asks for nothing that is missing; how
+-- long nothing comes on it until it is paused; from which moment on it is paused unless something comes, None while it is
+-- paused; whether it was paused or unpaused since that was told; and the round trip to its sender, where one is known
+pub record RxState : Type 0 where
+  pub ssrc : ℕ
+  pub rtx : Option ℕ
+  pub mid : List ℕ
+  pub rid : Option (List ℕ)
+  pub roc : Option ℕ
+  pub suppressed : Bool
+  pub threshold : ℕ
+  pub pause_at : Option ℕ
+  pub untold : Bool
+  pub trip : Option ℕ
+
 -- an incoming stream as its callers see it
 pub record RxView (W : Type 0) : Type 0 where
-  pub ssrc : ℕ
-  pub rtx : Option ℕ
-  pub mid : List ℕ
-  pub rid : Option (List ℕ)
-  pub roc : Option ℕ
+  pub state : RxState
   pub window : Option W
 
--- an incoming stream: its SSRC and that of its repairs, the media section and the stream in it; the rollover count that the
--- next datagram is taken to have, if one was set; and what its window was told, None before the first datagram opened
+-- an incoming stream: what its window was told is None before the first datagram opened
 pub record RxRecord : Type 0 where
-  pub ssrc : ℕ
-  pub rtx : Option ℕ
-  pub mid : List ℕ
-  pub rid : Option (List ℕ)
-  pub roc : Option ℕ
+  pub state : RxState
   pub numbers : Option Heard
 
--- a stream on which nothing was opened
-abbrev pub expected : ℕ → Option ℕ → List ℕ → Option (List ℕ) → RxRecord
-expected ssrc rtx mid rid = record { ssrc = ssrc; rtx = rtx; mid = mid; rid = rid; roc = None; numbers = None }
+-- a stream on which nothing was opened: it is paused
+abbrev pub expected : ℕ → Option ℕ → List ℕ → Option (List ℕ) → Bool → ℕ → RxRecord
+expected ssrc rtx mid rid suppressed threshold = record {
+  state = record {
+    ssrc = ssrc;
+    rtx = rtx;
+    mid = mid;
+    rid = rid;
+    roc = None;
+    suppressed = suppressed;
+    threshold = threshold;
+    pause_at = None;
+    untold = false;
+    trip = None;
+  };
+  numbers = None;
+}
 
 -- what a window was told, or will have been told once the first datagram opens: a window begins with the greatest number
 -- that is remembered of the SSRC by then
@@ -41,20 +62,28 @@ number_with None l low = widen16 (greatest_of l) low
 number_with (Some roc) l low = roc * 65536 + low
 
 abbrev pub number_for : Option ℕ → RxRecord → ℕ → ℕ
-number_for remembered r low = number_with r.roc (taken_of remembered r) low
+number_for remembered r low = number_with r.state.roc (taken_of remembered r) low
 
 -- that number, where it is fresh
 abbrev pub fresh_number : Option ℕ → RxRecord → ℕ → Option ℕ
 fresh_number remembered r low =
     if is_fresh (taken_of remembered r) (number_for remembered r low) then Some (number_for remembered r low) else None
 
--- a datagram opened under this number
-abbrev pub opened_as : Option ℕ → ℕ → RxRecord → RxRecord
-opened_as remembered n r = record r { roc = None; numbers = Some (came (heard remembered r) n) }
+-- a datagram opened at a moment: the stream is not paused until its threshold has passed
+abbrev pub came_at : ℕ → RxState → RxState
+came_at now s = record s {
+  roc = None;
+  pause_at = Some (min (now + s.threshold) (2 ^ 64 - 1));
+  untold = s.untold || is_none s.pause_at;
+}
+
+-- a datagram opened under this number at a moment
+abbrev pub opened_as : Option ℕ → ℕ → ℕ → RxRecord → RxRecord
+opened_as remembered now n r = record { state = came_at now r.state; numbers = Some (came (heard remembered r) n) }
 
 -- the numbers are forgotten, and a rollover count was set
 abbrev pub restarted : ℕ → RxRecord → RxRecord
-restarted roc r = record r { roc = Some roc; numbers = None }
+restarted roc r = record { state = record r.state { roc = Some roc }; numbers = None }
 
 -- there is a window exactly where the record says so, and it remembers what it was told
 abbrev pub Remembers : {W : Type 0} → (W → Heard → Type 0) → Option W → Option Heard → Type 0
@@ -64,9 +93,5 @@ Remembers remembers (Some w) None = ⊥
 Remembers remembers (Some w) (Some past) = remembers w past
 
 pub record StandsFor {W : Type 0} (remembers : W → Heard → Type 0) (s : RxView W) (r : RxRecord) : Type 0 where
-  pub ssrc : s.ssrc ≡ r.ssrc
-  pub rtx : s.rtx ≡ r.rtx
-  pub mid : s.mid ≡ r.mid
-  pub rid : s.rid ≡ r.rid
-  pub roc : s.roc ≡ r.roc
+  pub state : s.state ≡ r.state
   pub window : Remembers remembers s.window r.numbers

@@ -6,21 +6,25 @@ use Rattle.stream_core.specs.RxRecord.{RxView, RxRecord, fresh_number, StandsFor
 use Rattle.stream_core.specs.Tables.{place_of, Along}
 use Rattle.stream_core.specs.TxRecord.{TxRecord}
 
--- the streams as their callers see them: each under its SSRC, in order of declaration
+-- the streams as their callers see them: how long nothing comes on an incoming one until it is paused, where nothing else is
+-- set; and the streams, each under its SSRC, in order of declaration
 pub record StreamsView (W : Type 0) : Type 0 where
+  pub threshold : ℕ
   pub rx : List (ℕ × RxView W)
   pub tx : List (ℕ × TxRecord)
 
 pub record StreamsRecord : Type 0 where
+  pub threshold : ℕ
   pub rx : List (ℕ × RxRecord)
   pub tx : List (ℕ × TxRecord)
 
 pub record StandsFor {W : Type 0} (remembers : W → Heard → Type 0) (s : StreamsView W) (r : StreamsRecord) : Type 0 where
+  pub threshold : s.threshold ≡ r.threshold
   pub rx : Along (RxStandsFor remembers) s.rx r.rx
   pub tx : s.tx ≡ r.tx
 
-abbrev pub no_streams : StreamsRecord
-no_streams = record { rx = []; tx = [] }
+abbrev pub no_streams : ℕ → StreamsRecord
+no_streams threshold = record { threshold = threshold; rx = []; tx = [] }
 
 -- the value under a key, if it has one
 abbrev pub value_under : {X : Type 0} → ℕ → List (ℕ × X) → Option X

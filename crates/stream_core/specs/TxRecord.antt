@@ -1,5 +1,6 @@
 -- The record of an outgoing stream, and what each call makes of it.
 use Rattle.std.specs.Prelude.{◌≡◌, ℕ, ◌<◌, ◌≤◌, ◌^◌, ◌%◌, Bool, false, Option, List, [], ◌∷◌, ◌++◌, length, map, ◌==◌, ◌&&◌, ◌||◌, is_some, is_none, if◌then◌else◌}
+use Rattle.std.specs.List.{list_any}
 use Rattle.std.specs.Option.{option_map}
 use Rattle.rtp_base.specs.declared.reception_report.ReceptionReport.{ReceptionReport}
 use Rattle.rtp_wire.specs.declared.header.RtpHeader.{RtpHeader}
@@ -7,7 +8,7 @@ use Rattle.rtp_wire.specs.Header.{header_bytes}
 use Rattle.stream_core.specs.declared.packet.RtpPacket.{RtpPacket}
 use Rattle.stream_core.specs.declared.stream_tx.PacketReceipt.{PacketReceipt}
 use Rattle.stream_core.specs.declared.transport.Transport.{Transport}
-use Rattle.stream_core.specs.Queue.{with_stamp, next_of, rest_of}
+use Rattle.stream_core.specs.Queue.{needs_tick, with_stamp, next_of, rest_of}
 use Rattle.stream_core.specs.Sealing.{sealed_values, with_values, after_packet}
 use Rattle.stream_core.specs.Write.{WriteRecord, packet_of}
 
@@ -80,3 +81,7 @@ pub record IsSealable (p : PacketReceipt) : Type 0 where
   pub low : p.seq_no % 65536 ≡ p.header.sequence_number
   pub header : p.header.header_len ≤ length p.plain
   pub small : length p.plain ≤ 1560
+
+-- on some stream a packet was written since the last tick
+abbrev pub any_waits : List (ℕ × TxRecord) → Bool
+any_waits es = list_any (λ e. needs_tick e.1.queue) es

@@ -1,17 +1,23 @@
-ghost use Rattle.std.specs.Prelude.{◌≡◌, ◌<◌, ◌^◌, ◌%◌, is_none, IfOk, IfSome, OnOk, OnErr};
+ghost use Rattle.std.specs.Prelude.{◌≡◌, ◌<◌, ◌≤◌, ◌^◌, ◌%◌, None, length, is_none, IfOk, IfSome, OnOk, OnErr};
 ghost use Rattle.std.specs.Option.{ForSome};
 ghost use Rattle.repair_core.specs.Fresh.{is_fresh, started_from, greatest_of};
+ghost use Rattle.repair_core.specs.Entries.{packed};
 ghost use Rattle.repair_core.specs.Rounds.{came, started_at};
-ghost use Rattle.stream_core.specs.RxRecord.{RxRecord, StandsFor, expected, taken_of, number_for, fresh_number, opened_as, restarted};
+ghost use Rattle.stream_core.specs.Missing.{is_enabled, due_of, after_round};
+ghost use Rattle.stream_core.specs.Pauses.{checked, told_of, told};
+ghost use Rattle.stream_core.specs.RxRecord.{RxRecord, StandsFor, expected, taken_of, number_for, fresh_number, came_at, opened_as, restarted};
 
+use crate::stream_paused::StreamPaused;
+use media_base::{Duration, Instant};
 use repair_core::GapWindow;
-use rtp_base::{Mid, MidRid, Rid, SeqNo, Ssrc, widen16};
+use rtp_base::{Mid, MidRid, NackEntry, ReportList, Rid, SeqNo, Ssrc, widen16};
 use std::alloc::{AllocError, Global};
 use std::marker::Model;
 
 /// A stream that a session receives (RFC 3550 section 3). Its window is made when the first datagram
 /// opens, from the greatest number that is remembered of its SSRC by then. What is remembered is handed
-/// in by the caller, below 2^48; once there is a window, it does not count.
+/// in by the caller, below 2^48; once there is a window, it does not count. A stream is paused at first,
+/// and again where nothing came for its threshold.
 #[derive(Drop)]
 pub struct StreamRx<W: GapWindow> {
     alloc: Global,
@@ -20,6 +26,14 @@ pub struct StreamRx<W: GapWindow> {
     mid: Mid,
     rid: Option<Rid>,
     roc: Option<u32>,
+    suppress_nack: bool,
+    pause_threshold: Duration,
+    // From when on it is paused unless something comes, None while it is paused.
+    pause_at: Option<Instant>,
+    // Whether it was paused or unpaused since that was told.
+    untold: bool,
+    // The round trip to its sender.
+    trip: Option<Duration>,
     window: Option<W>,
 }
 
@@ -28,7 +42,21 @@ impl<W: GapWindow> Model for StreamRx<W> {
 
     ghost Value = { RxView W };
 
-    ghost view = { λ s. record { ssrc = s.ssrc; rtx = s.rtx; mid = s.mid; rid = s.rid; roc = s.roc; window = s.window } };
+    ghost view = { λ s. record {
+      state = record {
+        ssrc = s.ssrc;
+        rtx = s.rtx;
+        mid = s.mid;
+        rid = s.rid;
+        roc = s.roc;
+        suppressed = s.suppress_nack;
+        threshold = s.pause_threshold;
+        pause_at = s.pause_at;
+        untold = s.untold;
+        trip = s.trip;
+      };
+      window = s.window;
+    } };
 }
 
 fn number_of(number: Option<SeqNo>) -> Option<u64>
@@ -67,9 +95,17 @@ fn is_above(remembered: Option<SeqNo>, number: SeqNo) -> bool
 
 impl<W: GapWindow> StreamRx<W> {
     /// A stream of an SSRC and of that of its repairs, for a media section or one stream of it, on which
-    /// nothing was opened.
-    pub fn new(alloc: Global, ssrc: Ssrc, rtx: Option<Ssrc>, mid_rid: MidRid) -> Self
-        ensures { StandsFor W.remembers result (expected ssrc rtx mid_rid.0 mid_rid.1) }
+    /// nothing was opened. With `suppress_nack` it asks for nothing that is missing. It is paused where
+    /// nothing came for `pause_threshold`.
+    pub fn new(
+        alloc: Global,
+        ssrc: Ssrc,
+        rtx: Option<Ssrc>,
+        mid_rid: MidRid,
+        suppress_nack: bool,
+        pause_threshold: Duration,
+    ) -> Self
+        ensures { StandsFor W.remembers result (expected ssrc rtx mid_rid.0 mid_rid.1 suppress_nack pause_threshold) }
     {
         StreamRx {
             alloc,
@@ -78,34 +114,39 @@ impl<W: GapWindow> StreamRx<W> {
             mid: mid_rid.0,
             rid: mid_rid.1,
             roc: None,
+            suppress_nack,
+            pause_threshold,
+            pause_at: None,
+            untold: false,
+            trip: None,
             window: None,
         }
     }
 
     /// The SSRC of its packets.
     pub fn ssrc(&self) -> Ssrc
-        ensures { result ≡ self.now.ssrc }
+        ensures { result ≡ self.now.state.ssrc }
     {
         self.ssrc
     }
 
     /// The SSRC of its repairs (RFC 4588), if it has one.
     pub fn rtx(&self) -> Option<Ssrc>
-        ensures { result ≡ self.now.rtx }
+        ensures { result ≡ self.now.state.rtx }
     {
         self.rtx
     }
 
     /// The media section that it belongs to (RFC 9143).
     pub fn mid(&self) -> Mid
-        ensures { result ≡ self.now.mid }
+        ensures { result ≡ self.now.state.mid }
     {
         self.mid
     }
 
     /// Which stream of its media section it is, if that has several (RFC 8852).
     pub fn rid(&self) -> Option<Rid>
-        ensures { result ≡ self.now.rid }
+        ensures { result ≡ self.now.state.rid }
     {
         self.rid
     }
@@ -173,11 +214,18 @@ impl<W: GapWindow> StreamRx<W> {
         }
     }
 
-    /// Takes a number under which a datagram opened. Without memory nothing changes.
-    pub fn take(&mut self, number: SeqNo, remembered: Option<SeqNo>) -> Result<(), AllocError>
+    /// Takes a number under which a datagram opened at a moment: the stream is not paused until its
+    /// threshold has passed. Without memory nothing changes.
+    pub fn take(
+        &mut self,
+        now: Instant,
+        number: SeqNo,
+        remembered: Option<SeqNo>,
+    ) -> Result<(), AllocError>
         requires number { number < 2 ^ 48 }
         requires remembered { ForSome remembered (λ n. n < 2 ^ 48) }
-        ensures ok { OnOk result ((r : RxRecord) → StandsFor W.remembers self.old r → StandsFor W.remembers self.new (opened_as remembered number r)) }
+        ensures ok { OnOk result ((r : RxRecord) → StandsFor W.remembers self.old r → StandsFor W.remembers self.new (opened_as remembered now number r)) }
+        ensures state { OnOk result (self.new.state ≡ came_at now self.old.state) }
         ensures err { OnErr result (self.new ≡ self.old) }
     {
         match &mut self.window {
@@ -189,6 +237,8 @@ impl<W: GapWindow> StreamRx<W> {
             }
         }
         self.roc = None;
+        self.untold = self.untold || self.pause_at.is_none();
+        self.pause_at = Some(now.saturating_add(self.pause_threshold));
         Ok(())
     }
 
@@ -199,5 +249,103 @@ impl<W: GapWindow> StreamRx<W> {
     {
         self.window = None;
         self.roc = Some(roc);
+    }
+    /// Sets how long nothing comes on the stream until it is paused, from the next datagram on.
+    pub fn set_pause_threshold(&mut self, threshold: Duration)
+        ensures { self.new ≡ record self.old { state = record self.old.state { threshold = threshold } } }
+    {
+        self.pause_threshold = threshold;
+    }
+
+    /// Sets whether it asks for nothing that is missing. A stream without an SSRC of repairs is made so.
+    pub fn suppress_nack(&mut self, suppress: bool)
+        ensures { self.new ≡ record self.old { state = record self.old.state { suppressed = suppress } } }
+    {
+        self.suppress_nack = suppress;
+    }
+
+    /// Sets the round trip to its sender, after which it asks again for what is missing.
+    pub fn set_trip(&mut self, trip: Option<Duration>)
+        ensures { self.new ≡ record self.old { state = record self.old.state { trip = trip } } }
+    {
+        self.trip = trip;
+    }
+
+    /// From which moment on it is paused unless something comes, None while it is paused.
+    pub fn paused_at(&self) -> Option<Instant>
+        ensures { result ≡ self.now.state.pause_at }
+    {
+        self.pause_at
+    }
+
+    /// A tick: the stream is paused where its threshold has passed since the last datagram that opened.
+    pub fn handle_timeout(&mut self, now: Instant)
+        ensures { self.new ≡ record self.old { state = checked now self.old.state } }
+    {
+        if let Some(at) = self.pause_at {
+            if at <= now {
+                self.pause_at = None;
+                self.untold = true;
+            }
+        }
+    }
+
+    /// Whether it was paused or unpaused since that was told.
+    pub fn is_untold(&self) -> bool
+        ensures { result ≡ self.now.state.untold }
+    {
+        self.untold
+    }
+
+    /// Tells, once, whether it is paused, where that changed since it was told.
+    pub fn poll_paused(&mut self) -> Option<StreamPaused>
+        ensures event { result ≡ told_of self.old.state }
+        ensures after { self.new ≡ record self.old { state = told self.old.state } }
+    {
+        if !self.untold {
+            return None;
+        }
+        self.untold = false;
+        Some(StreamPaused {
+            ssrc: self.ssrc,
+            mid: self.mid,
+            rid: self.rid,
+            paused: self.pause_at.is_none(),
+        })
+    }
+
+    /// Whether it asks for what is missing: it was not told to suppress that, and it is not paused, or
+    /// some missing number was asked for fewer than five times.
+    pub fn nack_enabled(&self) -> bool
+        ensures { (r : RxRecord) → StandsFor W.remembers self.now r → result ≡ is_enabled r }
+    {
+        if self.suppress_nack {
+            return false;
+        }
+        if self.pause_at.is_some() {
+            return true;
+        }
+        match &self.window {
+            Some(window) => window.has_pending_nacks(),
+            None => false,
+        }
+    }
+
+    /// Asks for the missing numbers that are due, rising, in at most six entries (RFC 4585 section
+    /// 6.2.1): none where it asks for nothing. A number is asked for at most five times, and again 5 ms
+    /// after the round trip; 100 ms stand for one that is not known.
+    pub fn nack_report(&mut self, now: Instant) -> ReportList<NackEntry>
+        ensures entries { (r : RxRecord) → StandsFor W.remembers self.old r → result ≡ packed None (due_of now r) }
+        ensures asked { (r : RxRecord) → StandsFor W.remembers self.old r → StandsFor W.remembers self.new (after_round now r) }
+        ensures state { self.new.state ≡ self.old.state }
+        ensures few { length result ≤ 6 }
+    {
+        let mut reports = ReportList::new();
+        if self.nack_enabled() {
+            if let Some(window) = &mut self.window {
+                window.nack_reports(now, self.trip, &mut reports);
+            }
+        }
+        reports
     }
 }

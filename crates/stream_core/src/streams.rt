@@ -1,34 +1,48 @@
-ghost use Rattle.std.specs.Prelude.{◌≡◌, ◌<◌, ◌^◌, ◌%◌, ℕ, [], None, Some, length, slice_get, IfSome, OnOk, OnErr, is_some};
+ghost use Rattle.std.specs.Prelude.{◌≡◌, ◌<◌, ◌≤◌, ◌^◌, ◌%◌, ◌+◌, ◌++◌, ℕ, List, [], None, Some, length, take, slice_get, IfSome, IfNone, OnOk, OnErr, is_some};
+ghost use Rattle.std.specs.List.{AllByRecursion};
 ghost use Rattle.std.specs.Map.{values_of};
 ghost use Rattle.std.specs.Option.{ForSome, option_map};
-ghost use Rattle.stream_core.specs.RxRecord.{expected, opened_as};
+ghost use Rattle.rtcp_wire.specs.declared.packet.Rtcp.{Rtcp as Item};
+ghost use Rattle.std.specs.VecDeque.{deque_len, deque_capacity};
+ghost use Rattle.stream_core.specs.Missing.{IsShortNack, any_enabled, after_round, nack_with, nacks};
+ghost use Rattle.stream_core.specs.Pauses.{checked, on_view, on_record, first_where, view_untold, next_pause, after_pause, untold_in, first_pause, sooner, with_trip};
+ghost use Rattle.stream_core.specs.RxRecord.{RxRecord, StandsFor as RxStandsFor, expected, opened_as};
 ghost use Rattle.stream_core.specs.StreamsRecord.{StreamsRecord, StandsFor, no_streams, accepted};
-ghost use Rattle.stream_core.specs.Tables.{place_of, with_new, without_key, each, change_at};
-ghost use Rattle.stream_core.specs.TxRecord.{declared, after_timeout};
+ghost use Rattle.stream_core.specs.Tables.{Along, place_of, with_new, without_key, each, change_at};
+ghost use Rattle.stream_core.specs.TxRecord.{declared, after_timeout, any_waits};
 
 use crate::ssrc_table::SsrcTable;
+use crate::stream_paused::StreamPaused;
 use crate::stream_rx::StreamRx;
 use crate::stream_tx::StreamTx;
-use media_base::Instant;
+use media_base::{Duration, Instant};
 use repair_core::GapWindow;
-use rtp_base::{MidRid, SeqNo, Ssrc};
+use rtcp_wire::{Nack, Rtcp};
+use rtp_base::{MidRid, NackEntry, ReportList, SeqNo, Ssrc};
 use std::alloc::{AllocError, Global};
+use std::collections::VecDeque;
 use std::marker::Model;
 
 /// The streams that a session sends and receives, each under its SSRC, in order of declaration.
 #[derive(Drop)]
 pub struct Streams<W: GapWindow> {
     alloc: Global,
+    pause_threshold: Duration,
     rx: SsrcTable<StreamRx<W>>,
     tx: SsrcTable<StreamTx>,
+    // Where polling stands: of no incoming stream before this place anything is to be told.
+    next_untold: usize,
 }
 
 impl<W: GapWindow> Model for Streams<W> {
     ghost use Rattle.stream_core.specs.StreamsRecord.{StreamsView};
+    ghost use Rattle.stream_core.specs.Pauses.{IsToldTo};
 
     ghost Value = { StreamsView W };
 
-    ghost view = { λ s. record { rx = s.rx; tx = s.tx } };
+    ghost view = { λ s. record { threshold = s.pause_threshold; rx = s.rx; tx = s.tx } };
+
+    ghost invariant = { λ s. IsToldTo s.next_untold s.rx };
 }
 
 /// A tick of each stream.
@@ -40,35 +54,131 @@ fn tick_all(streams: &mut SsrcTable<StreamTx>, now: Instant)
     }
 }
 
+/// A tick of each incoming stream.
+fn check_all<W: GapWindow>(streams: &mut SsrcTable<StreamRx<W>>, now: Instant)
+    ensures { streams.new ≡ each (on_view (checked now)) streams.old }
+{
+    for place in 0..streams.len() {
+        streams.at_mut(place).handle_timeout(now);
+    }
+}
+
+/// Sets the round trip of each incoming stream.
+fn set_trips<W: GapWindow>(streams: &mut SsrcTable<StreamRx<W>>, trip: &Option<Duration>)
+    ensures { streams.new ≡ each (on_view (with_trip trip.now)) streams.old }
+{
+    for place in 0..streams.len() {
+        streams.at_mut(place).set_trip(*trip);
+    }
+}
+
+/// Puts the item that asks for what these entries name, if there are some, behind those for which there
+/// is room.
+fn push_nack(
+    sender_ssrc: Ssrc,
+    ssrc: Ssrc,
+    reports: ReportList<NackEntry>,
+    feedback: &mut VecDeque<Rtcp>,
+)
+    requires few { length reports ≤ 6 }
+    requires room { deque_len feedback.old < deque_capacity feedback.old }
+    ensures items { feedback.new.items ≡ feedback.old.items ++ nack_with sender_ssrc ssrc reports }
+    ensures short { AllByRecursion IsShortNack (nack_with sender_ssrc ssrc reports) }
+    ensures len { deque_len feedback.new ≤ deque_len feedback.old + 1 }
+    ensures capacity { deque_capacity feedback.old ≤ deque_capacity feedback.new }
+{
+    if !reports.is_empty() {
+        feedback.push_back_reserved(Rtcp::Nack(Nack {
+            sender_ssrc,
+            ssrc,
+            reports,
+        }));
+    }
+}
+
+/// Has each incoming stream ask for what is due, into items for which there is room.
+fn ask_all<W: GapWindow>(
+    streams: &mut SsrcTable<StreamRx<W>>,
+    now: Instant,
+    sender_ssrc: Ssrc,
+    feedback: &mut VecDeque<Rtcp>,
+)
+    requires room { deque_len feedback.old + length streams.old ≤ deque_capacity feedback.old }
+    ensures asked { (rs : List (ℕ × RxRecord)) → Along (RxStandsFor W.remembers) streams.old rs
+        → Along (RxStandsFor W.remembers) streams.new (each (after_round now) rs)
+        × (feedback.new.items ≡ feedback.old.items ++ nacks sender_ssrc now rs) }
+    ensures short { (more : List Item) × (feedback.new.items ≡ feedback.old.items ++ more) × AllByRecursion IsShortNack more }
+{
+    for place in 0..streams.len() {
+        let stream = streams.at_mut(place);
+        let ssrc = stream.ssrc();
+        let reports = stream.nack_report(now);
+        push_nack(sender_ssrc, ssrc, reports, feedback);
+    }
+}
+
+/// The earlier of two moments, where there are some.
+pub fn sooner(one: Option<Instant>, other: Option<Instant>) -> Option<Instant>
+    ensures { result ≡ sooner one other }
+{
+    match (one, other) {
+        (Some(one), Some(other)) => Some(one.min(other)),
+        (Some(one), None) => Some(one),
+        (None, other) => other,
+    }
+}
+
+/// The place of the first stream of which something is to be told, where nothing is of those before
+/// `from`. The time grows with the number of streams from there to it.
+fn first_untold<W: GapWindow>(streams: &SsrcTable<StreamRx<W>>, from: usize) -> Option<usize>
+    requires { first_where view_untold (take from streams.now) ≡ None }
+    ensures place { result ≡ first_where view_untold streams.now }
+    ensures within { IfSome result (λ i. i < length streams.now) }
+    ensures before { IfSome result (λ i. first_where view_untold (take i streams.now) ≡ None) }
+{
+    for place in from..streams.len() {
+        if streams.at(place).is_untold() {
+            return Some(place);
+        }
+    }
+    None
+}
+
 impl<W: GapWindow> Streams<W> {
-    /// No streams.
-    pub fn new(alloc: Global) -> Self
-        ensures { StandsFor W.remembers result no_streams }
+    /// No streams. Incoming ones are paused where nothing came for `pause_threshold`.
+    pub fn new(alloc: Global, pause_threshold: Duration) -> Self
+        ensures { StandsFor W.remembers result (no_streams pause_threshold) }
     {
         Streams {
             alloc,
+            pause_threshold,
             rx: SsrcTable::new(alloc),
             tx: SsrcTable::new(alloc),
+            next_untold: 0,
         }
     }
 
-    /// Has datagrams of an SSRC be those of a stream of a media section, behind the other streams. A
-    /// stream of that SSRC stays as it is. No stream has repairs yet. Without memory nothing changes.
+    /// Has datagrams of an SSRC be those of a stream of a media section, behind the other streams. With
+    /// `suppress_nack` it asks for nothing that is missing. A stream of that SSRC stays as it is. No
+    /// stream has repairs yet. Without memory nothing changes.
     pub fn expect_stream_rx(
         &mut self,
         ssrc: Ssrc,
         rtx: Option<Ssrc>,
         mid_rid: MidRid,
+        suppress_nack: bool,
     ) -> Result<(), AllocError>
         requires no_repairs { rtx ≡ None }
         ensures ok { OnOk result ((r : StreamsRecord) → StandsFor W.remembers self.old r
-            → StandsFor W.remembers self.new (record r { rx = with_new ssrc (expected ssrc rtx mid_rid.0 mid_rid.1) r.rx })) }
+            → StandsFor W.remembers self.new (record r { rx = with_new ssrc (expected ssrc rtx mid_rid.0 mid_rid.1 suppress_nack r.threshold) r.rx })) }
         ensures err { OnErr result (self.new ≡ self.old) }
     {
         if self.rx.place(ssrc).is_some() {
             return Ok(());
         }
-        let stream = StreamRx::new(self.alloc, ssrc, rtx, mid_rid);
+        let threshold = self.pause_threshold;
+        let stream = StreamRx::new(self.alloc, ssrc, rtx, mid_rid, suppress_nack, threshold);
+        self.next_untold = 0;
         self.rx.add(ssrc, stream)?;
         Ok(())
     }
@@ -80,6 +190,7 @@ impl<W: GapWindow> Streams<W> {
             → StandsFor W.remembers self.new (record r { rx = without_key ssrc r.rx }) }
         ensures found { result ≡ is_some (place_of ssrc self.old.rx) }
     {
+        self.next_untold = 0;
         self.rx.remove(ssrc)
     }
 
@@ -135,6 +246,21 @@ impl<W: GapWindow> Streams<W> {
         self.tx.at(place)
     }
 
+    /// How many streams receive.
+    pub fn rx_len(&self) -> usize
+        ensures { result ≡ length self.now.rx }
+    {
+        self.rx.len()
+    }
+
+    /// The stream at a place among those that receive.
+    pub fn rx(&self, place: usize) -> &StreamRx<W>
+        requires { place < length self.now.rx }
+        ensures { slice_get (values_of self.now.rx) place ≡ Some result.now }
+    {
+        self.rx.at(place)
+    }
+
     /// Where the stream stands that receives datagrams of an SSRC: one look-up in a hash table.
     pub fn rx_place(&self, ssrc: Ssrc) -> Option<usize>
         ensures place { result ≡ place_of ssrc self.now.rx }
@@ -143,11 +269,106 @@ impl<W: GapWindow> Streams<W> {
         self.rx.place(ssrc)
     }
 
-    /// A tick of each stream that sends.
+    /// A tick of each stream: those are paused on which nothing came for their threshold.
     pub fn handle_timeout(&mut self, now: Instant)
-        ensures { self.new ≡ record self.old { tx = each (after_timeout now) self.old.tx } }
+        ensures streams { (r : StreamsRecord) → StandsFor W.remembers self.old r → StandsFor W.remembers self.new
+            (record r { rx = each (on_record (checked now)) r.rx; tx = each (after_timeout now) r.tx }) }
+        ensures tx { self.new.tx ≡ each (after_timeout now) self.old.tx }
+        ensures rx { self.new.rx ≡ each (on_view (checked now)) self.old.rx }
+        ensures threshold { self.new.threshold ≡ self.old.threshold }
     {
+        self.next_untold = 0;
+        check_all(&mut self.rx, now);
         tick_all(&mut self.tx, now);
+    }
+
+    /// Whether some stream asks for what is missing. The time grows with the number of streams.
+    pub fn any_nack_enabled(&self) -> bool
+        ensures { (r : StreamsRecord) → StandsFor W.remembers self.now r → result ≡ any_enabled r.rx }
+    {
+        for place in 0..self.rx.len() {
+            if self.rx.at(place).nack_enabled() {
+                return true;
+            }
+        }
+        false
+    }
+
+    /// A round: each stream that asks for what is missing does, in order, with an item from this sender
+    /// behind those that wait, where something is due (RFC 4585 section 6.2.1). Without memory nothing
+    /// changes. The time grows with the number of streams.
+    pub fn create_nacks(
+        &mut self,
+        now: Instant,
+        sender_ssrc: Ssrc,
+        feedback: &mut VecDeque<Rtcp>,
+    ) -> Result<(), AllocError>
+        ensures asked { OnOk result ((r : StreamsRecord) → StandsFor W.remembers self.old r
+            → StandsFor W.remembers self.new (record r { rx = each (after_round now) r.rx })
+            × (feedback.new.items ≡ feedback.old.items ++ nacks sender_ssrc now r.rx)) }
+        ensures short { OnOk result ((more : List Item) × (feedback.new.items ≡ feedback.old.items ++ more) × AllByRecursion IsShortNack more) }
+        ensures tx { self.new.tx ≡ self.old.tx }
+        ensures threshold { self.new.threshold ≡ self.old.threshold }
+        ensures err { OnErr result ((self.new ≡ self.old) × (feedback.new.items ≡ feedback.old.items)) }
+    {
+        feedback.reserve(self.rx.len())?;
+        self.next_untold = 0;
+        ask_all(&mut self.rx, now, sender_ssrc, feedback);
+        Ok(())
+    }
+
+    /// Sets the round trip of each stream. The time grows with the number of streams.
+    pub fn set_trip(&mut self, trip: Option<Duration>)
+        ensures streams { (r : StreamsRecord) → StandsFor W.remembers self.old r → StandsFor W.remembers self.new
+            (record r { rx = each (on_record (with_trip trip)) r.rx }) }
+        ensures tx { self.new.tx ≡ self.old.tx }
+        ensures threshold { self.new.threshold ≡ self.old.threshold }
+    {
+        self.next_untold = 0;
+        set_trips(&mut self.rx, &trip);
+    }
+
+    /// Tells of the first stream, in order, that was paused or unpaused since that was told. A call looks
+    /// at the streams behind those of which the last call found nothing to tell.
+    pub fn poll_stream_paused(&mut self) -> Option<StreamPaused>
+        ensures event { (r : StreamsRecord) → StandsFor W.remembers self.old r → result ≡ next_pause r.rx }
+        ensures after { (r : StreamsRecord) → StandsFor W.remembers self.old r
+            → StandsFor W.remembers self.new (record r { rx = after_pause r.rx }) }
+        ensures tx { self.new.tx ≡ self.old.tx }
+        ensures threshold { self.new.threshold ≡ self.old.threshold }
+        ensures fewer { IfSome result (λ p. untold_in self.new.rx < untold_in self.old.rx) }
+        ensures none { IfNone result (self.new ≡ self.old) }
+    {
+        let Some(place) = first_untold(&self.rx, self.next_untold) else {
+            self.next_untold = self.rx.len();
+            return None;
+        };
+        self.next_untold = place;
+        self.rx.at_mut(place).poll_paused()
+    }
+
+    /// Whether some packet was written since the last tick. The time grows with the number of streams.
+    pub fn needs_timeout(&self) -> bool
+        ensures { result ≡ any_waits self.now.tx }
+    {
+        for place in 0..self.tx.len() {
+            if self.tx.at(place).need_timeout() {
+                return true;
+            }
+        }
+        false
+    }
+
+    /// The first moment at which some stream is paused unless something comes, None where all are. The
+    /// time grows with the number of streams.
+    pub fn paused_at(&self) -> Option<Instant>
+        ensures { (r : StreamsRecord) → StandsFor W.remembers self.now r → result ≡ first_pause r.rx }
+    {
+        let mut first = None;
+        for place in 0..self.rx.len() {
+            first = sooner(first, self.rx.at(place).paused_at());
+        }
+        first
     }
 
     /// Where the stream of an SSRC stands, and the number under which a datagram with these low 16 bits
@@ -169,12 +390,13 @@ impl<W: GapWindow> Streams<W> {
         }
     }
 
-    /// Has the stream at a place take a number under which a datagram opened. Without memory nothing
-    /// changes.
+    /// Has the stream at a place take a number under which a datagram opened at a moment. Without memory
+    /// nothing changes.
     #[tactic(auto, using(crate::proofs::Alongside::set_same))]
     pub fn take_at(
         &mut self,
         place: usize,
+        now: Instant,
         number: SeqNo,
         remembered: Option<SeqNo>,
     ) -> Result<(), AllocError>
@@ -182,11 +404,15 @@ impl<W: GapWindow> Streams<W> {
         requires number { number < 2 ^ 48 }
         requires remembered { ForSome remembered (λ n. n < 2 ^ 48) }
         ensures ok { OnOk result ((r : StreamsRecord) (ssrc : ℕ) → StandsFor W.remembers self.old r → place_of ssrc self.old.rx ≡ Some place
-            → StandsFor W.remembers self.new (record r { rx = change_at ssrc (opened_as remembered number) r.rx })) }
-        ensures others { self.new.tx ≡ self.old.tx }
+            → StandsFor W.remembers self.new (record r { rx = change_at ssrc (opened_as remembered now number) r.rx })) }
+        ensures tx { self.new.tx ≡ self.old.tx }
+        ensures threshold { self.new.threshold ≡ self.old.threshold }
         ensures err { OnErr result (self.new ≡ self.old) }
     {
-        self.rx.at_mut(place).take(number, remembered)?;
+        self.rx.at_mut(place).take(now, number, remembered)?;
+        if self.rx.at(place).is_untold() {
+            self.next_untold = self.next_untold.min(place);
+        }
         Ok(())
     }
 }
@@ -210,6 +436,7 @@ impl<W: GapWindow> Streams<W> {
         ensures* writes_back { sem 𝓛 (LendsRx W.row W.GapWindow self.entry place result) }
         ensures value { slice_get (values_of self.old.rx) place ≡ Some result.now }
     {
+        self.next_untold = 0;
         self.rx.at_mut(place)
     }
 }

@@ -1,8 +1,8 @@
 -- What a session tells of the packet that another one sealed.
 use Rattle.std.proofs.Common.{◌≡◌, ℕ, zero, suc, Bool, true, false, List, [], ◌∷◌, length, Option, Some, None, refl, sym, ap, ◌∙◌, subst, arith, slice_get}
-use Rattle.std.specs.Prelude.{◌==◌, ◌||◌, IfSome, is_none, if◌then◌else◌, option_and_then}
+use Rattle.std.specs.Prelude.{◌==◌, ◌++◌, IfSome, if◌then◌else◌, option_and_then, map}
 use Rattle.std.specs.Map.{values_of}
-use Rattle.std.specs.Option.{option_map}
+use Rattle.std.specs.Option.{option_map, option_to_list}
 use Rattle.std.specs.Prelude.{replicate}
 use Rattle.rtp_wire.specs.BytesLaws.{AreWords}
 use Rattle.rtp_wire.specs.declared.extension.ExtensionMap.{ExtensionMap}
@@ -17,36 +17,57 @@ use Rattle.stream_core.specs.declared.packet.RtpPacket.{RtpPacket}
 use Rattle.stream_core.specs.declared.stream_tx.PacketReceipt.{PacketReceipt}
 use Rattle.stream_core.specs.declared.transport.Transport.{Transport}
 use Rattle.stream_core.specs.Queue.{with_stamp}
-use Rattle.stream_core.specs.RxRecord.{expected}
+use Rattle.stream_core.specs.Pauses.{pause_of, pauses}
+use Rattle.stream_core.specs.RxRecord.{RxRecord, expected, came_at}
 use Rattle.stream_core.specs.TxRecord.{TxRecord, declared, written, after_timeout, polled, receipt_of, sealed_header}
 use Rattle.stream_core.specs.Write.{packet_of}
 use Rattle.session_core.specs.declared.datagram.Datagram.{Datagram}
+use Rattle.session_core.specs.declared.datagram.Event.{Event}
 use Rattle.session_core.specs.declared.datagram.Event.TheVariants as event
 use Rattle.session_core.specs.declared.datagram.Opened.{Opened}
-use Rattle.session_core.specs.Calls.{next_of, next_event}
-use Rattle.session_core.specs.Receiving.{Receives, Opens, OpensIn, number_of, seen_of, packet_after, packet_from, cut, opened, stays}
-use Rattle.rtcp_wire.specs.declared.feedback.AppSpecificFeedback.{AppSpecificFeedback}
+use Rattle.session_core.specs.Calls.{lacks_keys, told, after_events, Polled}
+use Rattle.session_core.specs.Receiving.{Receives, Opens, OpensIn, number_of, seen_of, rx_opened, after_opened, packet_from, cut, opened, stays}
 use Rattle.session_core.specs.Feedback.{due_of}
 use Rattle.session_core.specs.Sending.{next_rtp, next_by, next_datagram, next_place, sealed_as, sealed_by, receipt_at}
 use Rattle.session_core.specs.SessionRecord.{SessionState, SessionRecord}
-use Rattle.uses.specs.Exchange.{payload_told, first_write}
+use Rattle.uses.specs.Exchange.{payload_told, first_write, end_config}
 use Rattle.uses.proofs.Opening.{sealed_packet, opens_to_it, reads_header}
 
 some_same : {X : Type 0} (x y : X) → Some x ≡ Some y → x ≡ y
 some_same x y e = cc
 
+never : {X : Type 0} {x : X} {l : List X} → x ∷ l ≡ [] → ⊥
+never h = absurd cc
+
+-- of two events that are told, the second one carries this payload
+second_of : (payload : List ℕ) (r between after : SessionRecord) (x y : Event) (first second : Option Event) → told r ≡ x ∷ y ∷ [] → payload_told y ≡ payload
+    → Polled r first between → Polled between second after → IfSome second (λ e. payload_told e ≡ payload)
+second_of payload r between after x y None second is carries p q = absurd (never (sym is ∙ p.0))
+second_of payload r between after x y (Some e) None is carries p q = tt
+second_of payload r between after x y (Some e) (Some f) is carries p q =
+    let this : f ≡ y = head_is (sym q.0 ∙ sym (rest_is (sym is ∙ p.0))) in
+    ap payload_told this ∙ carries
+  where
+    rest_is : {X : Type 0} {a b : X} {l m : List X} → a ∷ l ≡ b ∷ m → l ≡ m
+    rest_is h = cc
+
+    head_is : {X : Type 0} {a b : X} {l m : List X} → a ∷ l ≡ b ∷ m → a ≡ b
+    head_is h = cc
+
+-- where nothing is told, nothing is told second
+none_then : (payload : List ℕ) (r between after : SessionRecord) (first second : Option Event) → told r ≡ [] → told (after_events r) ≡ []
+    → Polled r first between → Polled between second after → IfSome second (λ e. payload_told e ≡ payload)
+none_then payload r between after (Some e) second silent quiet p q = absurd (never (sym p.0 ∙ silent))
+none_then payload r between after None None silent quiet p q = tt
+none_then payload r between after None (Some f) silent quiet p q = absurd (never (sym q.0 ∙ ap told p.1 ∙ quiet))
+
 zeros : (n : ℕ) → AreWords (replicate n 0)
 zeros zero = tt
 zeros (suc n) = (omega arith, zeros n)
 
--- what is told is a packet of this payload, where the packet that waits is one
-pub told_of : (payload : List ℕ) (silent : Bool) (application : Option AppSpecificFeedback) (waits : Option RtpPacket) → application ≡ None
-    → ((p : RtpPacket) → waits ≡ Some p → p.payload ≡ payload)
-    → IfSome (if silent then None else next_of application waits) (λ e. payload_told e ≡ payload)
-told_of payload true application waits none h = tt
-told_of payload false (Some f) waits none h = absurd cc
-told_of payload false None None none h = tt
-told_of payload false None (Some p) none h = h p refl
+-- the stream that is expected
+abbrev pub awaited : List ℕ → RxRecord
+awaited mid = expected 42 None mid None false end_config.pause_threshold
 
 -- no feedback is due where none waits
 none_due : (now : ℕ) (s : SessionState) → s.feedback ≡ [] → due_of now s ≡ []
@@ -125,12 +146,14 @@ module _ (cipher : CipherMeaning) (k : SrtpState) (t : Transport) (now : ℕ) (m
 
   -- a session that expects the stream and was told nothing
   pub record Expects (r : SessionRecord) : Type 0 where
+    pub keys : lacks_keys r.state ≡ false
     pub opening : r.state.opening ≡ Some k
     pub transport : r.state.transport.exts ≡ t.exts
-    pub rx : r.rx ≡ (42, expected 42 None mid None) ∷ []
+    pub rx : r.rx ≡ (42, awaited mid) ∷ []
     pub seen : r.state.seen ≡ []
     pub application : r.state.application ≡ None
-    pub packet : r.state.packet ≡ None
+    pub silent : told r ≡ []
+    pub quiet : told (after_events r) ≡ []
 
   opens_same : (o : Option SrtpState) (h : RtpHeader) (n : ℕ) (bytes other : List ℕ) → o ≡ Some k → OpensIn cipher o h n bytes other
       → OpensTo cipher k.profile k.keys h.ssrc n h.header_len bytes other
@@ -145,8 +168,8 @@ module _ (cipher : CipherMeaning) (k : SrtpState) (t : Transport) (now : ℕ) (m
   number_is : (r : SessionRecord) (h : RtpHeader) (n : ℕ) → Expects r → Reads h
       → number_of (seen_of h.ssrc r.state.seen) r.rx r.probes h.ssrc h.sequence_number ≡ Some n → n ≡ 1
   number_is r h n x y e =
-      let at : number_of (seen_of 42 []) ((42, expected 42 None mid None) ∷ []) r.probes 42 1 ≡ Some 1 = refl in
-      let moved : number_of (seen_of h.ssrc r.state.seen) r.rx r.probes h.ssrc h.sequence_number ≡ number_of (seen_of 42 []) ((42, expected 42 None mid None) ∷ []) r.probes 42 1 =
+      let at : number_of (seen_of 42 []) ((42, awaited mid) ∷ []) r.probes 42 1 ≡ Some 1 = refl in
+      let moved : number_of (seen_of h.ssrc r.state.seen) r.rx r.probes h.ssrc h.sequence_number ≡ number_of (seen_of 42 []) ((42, awaited mid) ∷ []) r.probes 42 1 =
       cc (x.seen, x.rx, y.source, y.low) in
       some_same n 1 (sym e ∙ moved ∙ at)
 
@@ -164,22 +187,24 @@ module _ (cipher : CipherMeaning) (k : SrtpState) (t : Transport) (now : ℕ) (m
       cut_plain : (h : RtpHeader) (other : List ℕ) → h.has_padding ≡ false → cut h other ≡ other
       cut_plain h other e = rw e refl
 
-  waits_then : (h : RtpHeader) (n : ℕ) (carried : List ℕ) (before : Option RtpPacket) (p : RtpPacket) → before ≡ None → packet_after now h n carried before ≡ Some p → p.payload ≡ carried
-  waits_then h n carried before p none e = waits_by (h.ssrc == 0) none e
-    where
-      waits_by : (probe : Bool) → before ≡ None → (if probe then before else Some (packet_from now h n carried)) ≡ Some p → p.payload ≡ carried
-      waits_by true none e = absurd cc
-      waits_by false none e = ap (λ (q : RtpPacket). q.payload) (sym (some_same (packet_from now h n carried) p e))
+  -- after it came it is told that the stream is unpaused, and then the packet
+  told_then : (r : SessionRecord) (h : RtpHeader) (n : ℕ) (other : List ℕ) → Expects r → Reads h
+      → told (after_opened now h n other r) ≡ event.StreamPaused (pause_of (came_at now (awaited mid).state)) ∷ event.RtpPacket (packet_from now h n (cut h other)) ∷ []
+  told_then r h n other x y =
+      λ j.
+      if x.keys j then []
+      else option_to_list (option_map event.AppSpecificFeedback (x.application j))
+      ++ (map event.StreamPaused (pauses (rx_opened (seen_of (y.source j) (x.seen j)) now (y.source j) n (x.rx j)))
+      ++ option_to_list (option_map event.RtpPacket (if y.source j == 0 then r.state.packet else Some (packet_from now h n (cut h other)))))
 
-  -- what is told after it came is a packet of the payload
-  pub told : (r after : SessionRecord) (o : Option Opened) (bytes : List ℕ) → WrittenIsReadAgain → RtpSealKeepsHeader cipher → RtpSealsApart cipher
-      → Expects r → bytes ≡ packet_bytes → Receives cipher r bytes now after o → IfSome (next_event after.state) (λ e. payload_told e ≡ payload)
-  told r after o bytes again keeps apart x same (opened h n other opens) =
+  -- what is told second after it came is a packet of the payload
+  pub second_carries : (r came between after : SessionRecord) (o : Option Opened) (bytes : List ℕ) (first second : Option Event)
+      → WrittenIsReadAgain → RtpSealKeepsHeader cipher → RtpSealsApart cipher
+      → Expects r → bytes ≡ packet_bytes → Receives cipher r bytes now came o → Polled came first between → Polled between second after
+      → IfSome second (λ e. payload_told e ≡ payload)
+  second_carries r came between after o bytes first second again keeps apart x same (opened h n other opens) p q =
       let at : Opens cipher r packet_bytes h n other = subst (λ (l : List ℕ). Opens cipher r l h n other) same opens in
-      let is : cut h other ≡ payload = opened_payload r h n other again keeps apart x at in
-      told_of payload (is_none r.state.sealing || is_none r.state.opening) r.state.application (packet_after now h n (cut h other) r.state.packet) x.application (λ p e. waits_then h n (cut h other) r.state.packet p x.packet e ∙ is)
-  told r after o bytes again keeps apart x same (stays refused) =
-      told_of payload (is_none r.state.sealing || is_none r.state.opening) r.state.application r.state.packet x.application (λ p e. absurd (none_here r.state.packet p x.packet e))
-    where
-      none_here : (waits : Option RtpPacket) (p : RtpPacket) → waits ≡ None → waits ≡ Some p → ⊥
-      none_here waits p h e = absurd cc
+      let y : Reads h = reads h again keeps (ap (λ (m : ExtensionMap). header_of m packet_bytes) (sym x.transport) ∙ at.reads) in
+      second_of payload came between after _ _ first second (told_then r h n other x y) (opened_payload r h n other again keeps apart x at) p q
+  second_carries r came between after o bytes first second again keeps apart x same (stays refused) p q =
+      none_then payload r between after first second x.silent x.quiet p q

@@ -5,16 +5,17 @@ use Rattle.srtp_core.specs.Toy.{toy_meaning}
 use Rattle.srtp_core.specs.declared.profile.SrtpProfile.TheVariants.{AeadAes128Gcm}
 use Rattle.session_core.specs.declared.config.SessionConfig.{SessionConfig}
 use Rattle.session_core.specs.declared.datagram.Event.{Event}
-use Rattle.session_core.specs.declared.datagram.Event.TheVariants.{RtpPacket, AppSpecificFeedback}
+use Rattle.session_core.specs.declared.datagram.Event.TheVariants.{RtpPacket, AppSpecificFeedback, StreamPaused}
 use Rattle.session_core.specs.declared.media.MediaKind.TheVariants.{Video}
 use Rattle.session_core.specs.Calls.{fresh_session, keyed}
 use Rattle.session_core.specs.SessionRecord.{SessionState, SessionRecord}
 use Rattle.stream_core.specs.Write.{WriteRecord}
 
--- the payload of what is told
+-- the payload of what is told: none of a stream that was paused or unpaused
 abbrev pub payload_told : Event → List ℕ
 payload_told (RtpPacket packet) = packet.payload
 payload_told (AppSpecificFeedback feedback) = feedback.payload
+payload_told (StreamPaused paused) = []
 
 -- the packet numbered 1 of type 96 at a moment, without marker, header values and contributing sources
 abbrev pub first_write : ℕ → List ℕ → WriteRecord
@@ -36,6 +37,8 @@ end_config = record {
   id = 1;
   beginning = record { unix_secs = 0 };
   mtu = record { target = 1150; warn = 1280 };
+  local_ssrc = 1;
+  pause_threshold = 1500000000;
   srtcp_index = 0;
   exts = no_extensions;
   types = (96, record { pt = 96; clock = 90000 }) ∷ [];

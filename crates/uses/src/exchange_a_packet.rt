@@ -7,7 +7,7 @@ ghost use Rattle.session_core.specs.SessionRecord.{StandsFor};
 ghost use Rattle.uses.specs.Exchange.{end_of, payload_told};
 
 use mask_register::MaskRegister;
-use media_base::{Beginning, Bytes, Instant};
+use media_base::{Beginning, Bytes, Duration, Instant};
 use rtp_base::{Frequency, Mid, MidRid, Pt, SeqNo, Ssrc};
 use rtp_wire::{ExtensionMap, written_header_is_read_again};
 use session_core::{
@@ -35,6 +35,8 @@ pub fn end(alloc: Global, material: &KeyingMaterial, mid: Mid, left: bool) -> Re
         id: 1,
         beginning: Beginning { unix_secs: 0 },
         mtu: Mtu { target, warn },
+        local_ssrc: Ssrc::from(1),
+        pause_threshold: Duration::from_millis(1_500),
         srtcp_index: 0,
         exts: ExtensionMap::empty(),
         types,
@@ -63,7 +65,7 @@ pub fn write(end: &mut End, packet: RtpWrite) -> Result<(), RtcError>
 }
 
 /// Has one end write a packet, takes the datagram that it sends to the other one, and gives what
-/// that one tells: if anything, a packet of that payload.
+/// that one tells after that the stream is unpaused: if anything, a packet of that payload.
 pub fn exchange(
     alloc: Global,
     material: &KeyingMaterial,
@@ -80,7 +82,8 @@ pub fn exchange(
     let mut b = end(alloc, material, mid, false)?;
     a.streams()
         .declare_stream_tx(ssrc, None, MidRid(mid, None))?;
-    b.streams().expect_stream_rx(ssrc, None, MidRid(mid, None))?;
+    b.streams()
+        .expect_stream_rx(ssrc, None, MidRid(mid, None), false)?;
     let payload = Payload::from_slice(alloc, payload)?;
     let packet = RtpWrite::new(Pt::from(96), SeqNo::from(1), 0, now, payload);
     write(&mut a, packet)?;
@@ -89,5 +92,6 @@ pub fn exchange(
         return Ok(None);
     };
     b.handle_rtp_receive(now, sent.bytes.as_slice())?;
+    let _unpaused = b.poll_event();
     Ok(b.poll_event())
 }

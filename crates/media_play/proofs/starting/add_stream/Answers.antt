@@ -9,7 +9,7 @@ returns-then-eq-clause-starts g c =
     let own : same_side c.args.stream.now.side c.args.side ≡ true = search rules in
     on_ok_weaker c.declare_stream_tx.result
     (λ is cipher setup sent received known once_sent once_heard h.
-    stream_sends cipher setup c.args.side sent received c.args.stream.now c.args.session.now c.streams.result.now c.declare_stream_tx.new.self c.args.mid c.args.stream.now.rid c.streams.ensures.rx c.streams.ensures.tx
+    stream_sends cipher setup c.args.side sent received c.args.stream.now c.args.session.now c.streams.result.now c.declare_stream_tx.new.self c.args.mid c.args.stream.now.rid c.streams.ensures.rx c.streams.ensures.tx c.streams.ensures.threshold
     once_sent once_heard h own is known)
     c.declare_stream_tx.ensures.ok
 
@@ -19,5 +19,5 @@ returns-else-eq-clause-starts g c =
     on_ok_weaker c.expect_stream_rx.result
     (λ says cipher setup sent received known once_sent once_heard h.
     stream_hears cipher setup c.args.side sent received c.args.stream.now c.args.session.now c.streams-else-eq.result.now c.expect_stream_rx.new.self c.args.mid c.args.stream.now.rid c.streams-else-eq.ensures.rx
-    c.streams-else-eq.ensures.tx once_sent once_heard h others says)
+    c.streams-else-eq.ensures.tx c.streams-else-eq.ensures.threshold once_sent once_heard h others says)
     c.expect_stream_rx.ensures.ok

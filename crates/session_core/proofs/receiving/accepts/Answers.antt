@@ -7,11 +7,11 @@ use Rattle.session_core.proofs.receiving.accepts.Goals as goal
 pub returns-in-Some-accepts-clause-number : goal.returns-in-Some-accepts-clause-number
 returns-in-Some-accepts-clause-number g c = λ rx p h stands.
     let other : (c.args.ssrc == 0) ≡ false = sym c.is_probe.ensures ∙ c.if-is_probe.false in
-    c.in-Some-accepts.ensures.number (record { rx = rx; tx = c.args.streams.now.tx }) (record { rx = h; tx = refl })
+    c.in-Some-accepts.ensures.number (record { threshold = c.args.streams.now.threshold; rx = rx; tx = c.args.streams.now.tx }) (record { threshold = refl; rx = h; tx = refl })
     ∙ ap (λ b. if b then fresh_number c.args.remembered.now p c.args.low else accepted c.args.remembered.now rx c.args.ssrc c.args.low) (sym other)
 
 pub returns-in-None-accepts-clause-number : goal.returns-in-None-accepts-clause-number
 returns-in-None-accepts-clause-number g c = λ rx p h stands.
     let other : (c.args.ssrc == 0) ≡ false = sym c.is_probe.ensures ∙ c.if-is_probe.false in
-    c.in-None-accepts.ensures.number (record { rx = rx; tx = c.args.streams.now.tx }) (record { rx = h; tx = refl })
+    c.in-None-accepts.ensures.number (record { threshold = c.args.streams.now.threshold; rx = rx; tx = c.args.streams.now.tx }) (record { threshold = refl; rx = h; tx = refl })
     ∙ ap (λ b. if b then fresh_number c.args.remembered.now p c.args.low else accepted c.args.remembered.now rx c.args.ssrc c.args.low) (sym other)

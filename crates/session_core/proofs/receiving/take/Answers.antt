@@ -8,5 +8,5 @@ pub returns-in_ok-take_at-in-Some-clause-rx : goal.returns-in_ok-take_at-in-Some
 returns-in_ok-take_at-in-Some-clause-rx g c = λ rx ssrc h probe place.
     let other : (ssrc == 0) ≡ false = sym probe ∙ ap is_none c.in-Some.is in
     let here : place_of ssrc c.args.streams.now.rx ≡ Some c.in-Some.place = rw c.in-Some.is at place in
-    let taken = c.in_ok-take_at-in-Some.ensures.ok (record { rx = rx; tx = c.args.streams.now.tx }) ssrc (record { rx = h; tx = refl }) here in
-    subst (λ b. Along (StandsFor g.W.GapWindow.remembers) c.take_at.new.self.rx (if b then rx else change_at ssrc (opened_as c.args.remembered.now c.args.number) rx)) (sym other) taken.rx
+    let taken = c.in_ok-take_at-in-Some.ensures.ok (record { threshold = c.args.streams.now.threshold; rx = rx; tx = c.args.streams.now.tx }) ssrc (record { threshold = refl; rx = h; tx = refl }) here in
+    subst (λ b. Along (StandsFor g.W.GapWindow.remembers) c.take_at.new.self.rx (if b then rx else change_at ssrc (opened_as c.args.remembered.now c.args.now c.args.number) rx)) (sym other) taken.rx

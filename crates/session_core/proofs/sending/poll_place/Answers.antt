@@ -28,7 +28,7 @@ pub returns-clause-after : goal.returns-clause-after
 returns-clause-after g c =
     after_of c.poll_packet.result _ _
     (λ (e : c.poll_packet.new.self ≡ after_poll c.tx_at.result.now).
-    ap (λ l. record { rx = c.args.streams.now.rx; tx = l }) (ap (set_value_at c.args.streams.now.tx c.args.place) e ∙ set_change after_poll c.args.streams.now.tx c.args.place c.tx_at.result.now c.tx_at.ensures.value))
+    ap (λ l. record { threshold = c.args.streams.now.threshold; rx = c.args.streams.now.rx; tx = l }) (ap (set_value_at c.args.streams.now.tx c.args.place) e ∙ set_change after_poll c.args.streams.now.tx c.args.place c.tx_at.result.now c.tx_at.ensures.value))
     c.poll_packet.ensures.after
 
 pub returns-clause-fewer : goal.returns-clause-fewer
@@ -43,5 +43,5 @@ pub returns-clause-err : goal.returns-clause-err
 returns-clause-err g c =
     on_err_weaker c.poll_packet.result
     (λ (h : (c.poll_packet.new.self ≡ c.tx_at.result.now) × (c.poll_packet.new.transport ≡ c.args.transport.now)).
-    (ap (λ l. record { rx = c.args.streams.now.rx; tx = l }) (set_same c.args.streams.now.tx c.args.place c.tx_at.result.now c.poll_packet.new.self c.tx_at.ensures.value h.0), h.1))
+    (ap (λ l. record { threshold = c.args.streams.now.threshold; rx = c.args.streams.now.rx; tx = l }) (set_same c.args.streams.now.tx c.args.place c.tx_at.result.now c.poll_packet.new.self c.tx_at.ensures.value h.0), h.1))
     c.poll_packet.ensures.err

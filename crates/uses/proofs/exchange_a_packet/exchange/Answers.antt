@@ -1,10 +1,9 @@
 use Rattle.std.proofs.Common.{None, sym, ap, ◌∙◌}
 use Rattle.mask_register.specs.MaskRegister.{Remembers}
 use Rattle.stream_core.specs.StreamsRecord.{StreamsView}
-use Rattle.stream_core.specs.Tables.{with_new}
 use Rattle.stream_core.specs.TxRecord.{declared}
-use Rattle.session_core.specs.SessionRecord.{SessionView, SessionState}
-use Rattle.uses.proofs.Ending.{at_end, expects, holds_one, write_is}
+use Rattle.session_core.specs.SessionRecord.{SessionState}
+use Rattle.uses.proofs.Ending.{at_end, expects, writes, ticked, holds_one, write_is}
 use Rattle.uses.proofs.exchange_a_packet.exchange.Goals as goal
 
 -- the end has the stream that was declared
@@ -14,24 +13,22 @@ write-requires c =
     (c.streams.ensures.tx ∙ ap (λ (s : SessionState). s.tx) c.in_ok-a.ensures.made.state)
     (ap (λ (s : StreamsView _). s.tx) c.in_ok-declare_stream_tx.ensures.ok)
 
--- what is told is what was written
+-- what is told second is what was written
 pub returns : goal.returns
 returns c =
+    let material = c.args.material.now in
+    let mid = c.args.mid in
+    let payload = c.args.payload.now in
+    let now = c.from_nanos-now.result in
     let ssrc = c.from-ssrc.result in
-    at_end c.args.material.now c.args.mid c.args.payload.now Remembers
-    c.from_nanos-now.result ssrc c.new-packet.result
-    c.in_ok-a.a.state c.declare_stream_tx.new.self.tx c.write.new.end.state c.handle_timeout.new.self.state
-    _ c.handle_rtp_receive.new.self c.in-Some.sent c.as_slice.result.now c.in_ok-handle_rtp_receive.field-0 c.poll_event.result
+    let written_is = c.new-packet.ensures ∙ write_is c.from.result c.from-2.result now c.in_ok-payload.payload payload c.from.ensures c.from-2.ensures c.in_ok-payload.ensures in
+    let sends = writes material mid payload Remembers now ssrc c.new-packet.result c.in_ok-a.a c.write.new.end c.streams.result.now c.declare_stream_tx.new.self c.from-ssrc.ensures written_is
+    c.in_ok-a.ensures.made c.streams.ensures.rx c.streams.ensures.tx c.streams.ensures.threshold c.in_ok-declare_stream_tx.ensures.ok c.in_ok-write.ensures in
+    let waits = expects material mid payload Remembers c.in_ok-b.b c.streams-2.result.now c.expect_stream_rx.new.self ssrc c.from-ssrc.ensures
+    c.in_ok-b.ensures.made c.streams-2.ensures.rx c.streams-2.ensures.tx c.streams-2.ensures.threshold c.in_ok-expect_stream_rx.ensures.ok in
+    at_end material mid payload Remembers now c.handle_timeout.new.self.state _ c.handle_rtp_receive.new.self c.poll_event-unpaused.new.self
+    c.in-Some.sent c.as_slice.result.now c.in_ok-handle_rtp_receive.field-0 c.poll_event-unpaused.result c.poll_event.result
     c.written_header_is_read_again.ensures c.rtp_seal_keeps_header.ensures c.rtp_seals_apart.ensures
-    c.from-ssrc.ensures
-    (c.new-packet.ensures ∙ write_is c.from.result c.from-2.result c.from_nanos-now.result c.in_ok-payload.payload c.args.payload.now c.from.ensures c.from-2.ensures c.in_ok-payload.ensures)
-    c.in_ok-a.ensures.made.state
-    (ap (λ (s : StreamsView _). s.tx) c.in_ok-declare_stream_tx.ensures.ok ∙ ap (with_new ssrc (declared ssrc None c.args.mid None)) c.streams.ensures.tx)
-    (ap (λ (s : SessionView _). s.state) c.in_ok-write.ensures)
-    (ap (λ (s : SessionView _). s.state) c.in_ok-handle_timeout.ensures.ok)
-    (expects c.args.material.now c.args.mid c.args.payload.now Remembers c.in_ok-b.b c.streams-2.result.now c.expect_stream_rx.new.self ssrc c.from-ssrc.ensures
-    c.in_ok-b.ensures.made c.streams-2.ensures.rx c.streams-2.ensures.tx c.in_ok-expect_stream_rx.ensures.ok)
-    (sym c.in-Some.is ∙ c.in_ok-sent.ensures.polled)
-    c.as_slice.ensures
-    c.in_ok-handle_rtp_receive.ensures.received
-    c.poll_event.ensures.event
+    (ticked material mid payload Remembers now c.write.new.end c.handle_timeout.new.self sends c.in_ok-handle_timeout.ensures.ok)
+    (sym c.in-Some.is ∙ c.in_ok-sent.ensures.polled) c.as_slice.ensures waits
+    c.in_ok-handle_rtp_receive.ensures.received c.poll_event-unpaused.ensures.told c.poll_event-unpaused.ensures.after c.poll_event.ensures.told

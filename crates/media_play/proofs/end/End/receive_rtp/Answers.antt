@@ -33,12 +33,12 @@ returns g c setup entries came sound rtp same ready =
     let end = c.args.self.now in
     let told = c.in-Some.opened in
     let packet = c.in_ok-packet_of.field-0 in
-    let final = c.poll_event-told.new.self in
+    let final = c.take_packet-told.new.session in
     let brought : List Entry = Opened (record { side = came.side; kind = Rtp; ssrc = told.ssrc; index = told.index; plain = told.plain }) ∷ yielded came.side packet in
     let stands : StandsFor Remembers c.self.inside.session ready.session = subst (λ (v : SessionView MaskRegister). StandsFor Remembers v ready.session) (sym view) ready.stands in
     let r = c.in-Ok.ensures.received ready.session stands in
     let received = subst (λ (l : List ℕ). ReceivesHere cipher ready.session l c.args.time r.0 c.in-Ok.opened) (sym same) r.1 in
     subst (λ (w : List Numbers). Receives (sealing_of cipher setup) setup entries came brought × Ready cipher setup came.side (record { session = final; written = w }) (entries ++ Got came ∷ brought))
     (sym numbers)
-    (arrival_gives cipher setup came c.header_reads_own_bytes.ensures sound end entries ready c.args.time told c.handle_rtp_receive.new.self final c.poll_event-told.result packet rtp
-    received c.in-Some.is r.2 c.poll_event-told.ensures.event c.poll_event-told.ensures.after c.in_ok-packet_of.ensures)
+    (arrival_gives cipher setup came c.header_reads_own_bytes.ensures sound end entries ready c.args.time told final c.take_packet-told.result packet rtp
+    received c.in-Some.is (c.take_packet-told.ensures.packet r.0 r.2) (c.take_packet-told.ensures.after r.0 r.2) c.in_ok-packet_of.ensures)

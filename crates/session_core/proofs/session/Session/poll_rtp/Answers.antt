@@ -8,6 +8,7 @@ use Rattle.session_core.specs.declared.datagram.Datagram.{Datagram}
 use Rattle.session_core.specs.SessionRecord.{SessionState, SessionView}
 use Rattle.session_core.specs.Sending.{first_due, sealed_by, next_rtp}
 use Rattle.session_core.proofs.Cuts.{on_err, kept_state, lost_state}
+use Rattle.session_core.proofs.Others.{threshold_kept}
 use Rattle.session_core.proofs.Polls.{first_else, given_at}
 use Rattle.session_core.proofs.session.Session.poll_rtp.Goals as goal
 
@@ -35,7 +36,8 @@ pub returns-in_err-polled-clause-failed : goal.returns-in_err-polled-clause-fail
 returns-in_err-polled-clause-failed g c =
     let mine = ap (λ (v : SessionView g.row.W.Denot). v.state) c.self.view_is in
     on_err c.from_residual.result _
-    (kept_state c.args.now _ c.args.self.now.state c.poll_place.new.streams.tx c.poll_place.new.transport mine
+    (kept_state c.args.now _ c.args.self.now.state c.poll_place.new.streams.tx c.poll_place.new.transport
+    (threshold_kept _ c.args.self.now.state c.poll_place.new.streams.threshold mine (ap (λ (v : StreamsView g.row.W.Denot). v.threshold) c.in_err-polled.ensures.err.0))
     (ap (λ (v : StreamsView g.row.W.Denot). v.tx) c.in_err-polled.ensures.err.0) c.in_err-polled.ensures.err.1)
 
 pub returns-clause-failed : goal.returns-clause-failed
@@ -48,5 +50,6 @@ returns-clause-failed g c =
     let first : first_due s.medias s.tx ≡ Some i =
     ap (λ (t : SessionState). first_due t.medias t.tx) (sym mine) ∙ ap (λ m. first_due m c.self.inside.streams.tx) (sym c.as_slice-medias.ensures.value) ∙ sym c.first_due.ensures.place ∙ c.in-Some.is in
     on_err c.seal.result _
-    (lost_state now _ s i c.seal.new.sealing c.poll_place.new.streams.tx c.poll_place.new.transport mine (first_else now s (Some i) silent first) c.seal.ensures.same
+    (lost_state now _ s i c.seal.new.sealing c.poll_place.new.streams.tx c.poll_place.new.transport
+    (threshold_kept _ s c.poll_place.new.streams.threshold mine (ap (λ (v : StreamsView g.row.W.Denot). v.threshold) c.in_ok-polled.ensures.after)) (first_else now s (Some i) silent first) c.seal.ensures.same
     (ap (λ (v : StreamsView g.row.W.Denot). v.tx) c.in_ok-polled.ensures.after) c.in_ok-polled.ensures.counted)

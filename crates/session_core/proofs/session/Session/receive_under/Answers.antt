@@ -57,8 +57,8 @@ returns-clause-received g c = λ r h reads claimed.
       subst (λ l. Receives K.meaning r c.args.bytes.now c.args.now (after_opened c.args.now x n o.payload r) (Some (record { kind = Rtp; ssrc = x.ssrc; index = n; plain = l }))) (sym o.whole)
           (opened x n o.payload (record { reads = reads; claimed = claimed; accepts = number; opens = opens; unpads = o.unpads })),
       record {
-        state = opened_state _ r.state c.open.new.opening c.put.new.self c.take.new.streams.tx c.put_packet.new.packet x.ssrc n (packet_after c.args.now x n (cut x o.payload)) mine.state c.open.ensures.same c.in_ok-put.ensures.ok c.in_ok-take.ensures.tx packet;
-        rx = subst (λ m. Along R c.take.new.streams.rx (rx_opened m x.ssrc n r.rx)) memory (c.in_ok-take.ensures.rx r.rx x.ssrc mine.rx c.in-Some.ensures.probe c.in-Some.ensures.place);
-        probes = subst (λ m. R c.take.new.probes (probes_opened m x.ssrc n r.probes)) memory (c.in_ok-take.ensures.probes r.probes x.ssrc mine.probes c.in-Some.ensures.probe);
+        state = opened_state _ r.state c.take.new.streams.threshold c.open.new.opening c.put.new.self c.take.new.streams.tx c.put_packet.new.packet x.ssrc n (packet_after c.args.now x n (cut x o.payload)) mine.state c.in_ok-take.ensures.threshold c.open.ensures.same c.in_ok-put.ensures.ok c.in_ok-take.ensures.tx packet;
+        rx = subst (λ m. Along R c.take.new.streams.rx (rx_opened m c.args.now x.ssrc n r.rx)) memory (c.in_ok-take.ensures.rx r.rx x.ssrc mine.rx c.in-Some.ensures.probe c.in-Some.ensures.place);
+        probes = subst (λ m. R c.take.new.probes (probes_opened m c.args.now x.ssrc n r.probes)) memory (c.in_ok-take.ensures.probes r.probes x.ssrc mine.probes c.in-Some.ensures.probe);
       },
     )

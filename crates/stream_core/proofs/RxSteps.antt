@@ -1,0 +1,159 @@
+-- All incoming streams change, or one after the other.
+use Rattle.std.proofs.Common.{◌≡◌, ℕ, zero, suc, ◌+◌, ◌<◌, ◌≤◌, Bool, true, false, List, [], ◌∷◌, ◌++◌, Option, Some, None, length, take, drop, slice_get, refl, sym, ap, subst, ◌∙◌, add-one, arith}
+use Rattle.std.proofs.lemmas.List.{take_all, append-nil, append_assoc}
+use Rattle.std.specs.List.{AllByRecursion}
+use Rattle.std.specs.Prelude.{if◌then◌else◌, option_and_then, IfSome, IfNone}
+use Rattle.rtp_base.specs.declared.nack_entry.NackEntry.{NackEntry}
+use Rattle.rtcp_wire.specs.declared.packet.Rtcp.{Rtcp}
+use Rattle.repair_core.specs.Entries.{packed}
+use Rattle.stream_core.specs.Missing.{due_of, after_round, nack_with, nack_of, nacks}
+use Rattle.std.specs.Map.{values_of}
+use Rattle.std.specs.Option.{option_map, option_map_or}
+use Rattle.indexmap.specs.IndexMap.{set_value_at}
+use Rattle.repair_core.specs.Rounds.{Heard}
+use Rattle.stream_core.specs.Pauses.{on_view, on_record, told_of, told, first_where, view_untold, is_untold, next_pause, after_pause, untold_in, pause_before, sooner}
+use Rattle.stream_core.specs.RxRecord.{RxState, RxView, RxRecord, StandsFor}
+use Rattle.stream_core.specs.Tables.{each, change_place, Along}
+use Rattle.stream_core.proofs.Alongside.{change_along, value_along, each_along}
+
+pub pause_more : (first : Option ℕ) (rs : List (ℕ × RxRecord)) (i : ℕ) (r : RxRecord) → slice_get (values_of rs) i ≡ Some r
+    → pause_before (sooner first r.state.pause_at) (drop (i + 1) rs) ≡ pause_before first (drop i rs)
+pause_more first rs i r at = ap (λ n. pause_before (sooner first r.state.pause_at) (drop n rs)) (add-one i) ∙ by rs i at
+  where
+    by : (rs : List (ℕ × RxRecord)) (i : ℕ) → slice_get (values_of rs) i ≡ Some r → pause_before (sooner first r.state.pause_at) (drop (suc i) rs) ≡ pause_before first (drop i rs)
+    by [] i at = absurd cc
+    by (e ∷ es) zero at = let same : r ≡ e.1 = cc in ap (λ (x : RxRecord). pause_before (sooner first x.state.pause_at) es) same
+    by (e ∷ es) (suc i) at = by es i at
+
+module _ {W : Type 0} (remembers : W → Heard → Type 0) where
+  -- all but the window changes
+  pub state_step : (f : RxState → RxState) (x : RxView W) (r : RxRecord) → StandsFor remembers x r → StandsFor remembers (on_view f x) (on_record f r)
+  state_step f x r h = record { state = ap f h.state; window = h.window }
+
+  -- on each stream
+  pub states_along : (f : RxState → RxState) (xs : List (ℕ × RxView W)) (rs : List (ℕ × RxRecord)) → Along (StandsFor remembers) xs rs
+      → Along (StandsFor remembers) (each (on_view f) xs) (each (on_record f) rs)
+  states_along f [] [] h = h
+  states_along f [] (r ∷ rs) h = absurd h
+  states_along f (x ∷ xs) [] h = absurd h
+  states_along f (x ∷ xs) (r ∷ rs) h = ((h.0.0, state_step f x.1 r.1 h.0.1), states_along f xs rs h.1)
+
+  -- the first stream of which something is to be told is the same
+  pub first_along : (xs : List (ℕ × RxView W)) (rs : List (ℕ × RxRecord)) → Along (StandsFor remembers) xs rs → first_where view_untold xs ≡ first_where is_untold rs
+  first_along [] [] h = refl
+  first_along [] (r ∷ rs) h = absurd h
+  first_along (x ∷ xs) [] h = absurd h
+  first_along (x ∷ xs) (r ∷ rs) h =
+      let rest = first_along xs rs h.1 in
+      λ j. if (h.0.1.state j).untold then Some zero else option_map suc (rest j)
+
+  -- of none anything is to be told
+  pub nothing_told : (xs : List (ℕ × RxView W)) (rs : List (ℕ × RxRecord)) → Along (StandsFor remembers) xs rs → first_where view_untold xs ≡ None
+      → (next_pause rs ≡ None) × (after_pause rs ≡ rs)
+  nothing_told xs rs h none =
+      let k = sym (first_along xs rs h) ∙ none in (
+        ap (λ o. option_and_then (λ r. told_of r.state) (option_and_then (slice_get (values_of rs)) o)) k,
+        ap (λ o. option_map_or (change_place (on_record told) rs) o rs) k,
+      )
+
+  -- the first is told of
+  module _ (xs : List (ℕ × RxView W)) (rs : List (ℕ × RxRecord)) (h : Along (StandsFor remembers) xs rs) (i : ℕ) (x : RxView W)
+      (first : first_where view_untold xs ≡ Some i) (at : slice_get (values_of xs) i ≡ Some x) where
+    pub told_next : told_of x.state ≡ next_pause rs
+    told_next =
+        let y = value_along (StandsFor remembers) xs rs i x h at in
+        ap told_of y.2.state
+        ∙ sym (ap (λ o. option_and_then (λ r. told_of r.state) (option_and_then (slice_get (values_of rs)) o)) (sym (first_along xs rs h) ∙ first)
+        ∙ ap (λ o. option_and_then (λ r. told_of r.state) o) y.1)
+
+    pub after_next : (new : RxView W) → new ≡ record x { state = told x.state } → Along (StandsFor remembers) (set_value_at xs i new) (after_pause rs)
+    after_next new is =
+        subst (Along (StandsFor remembers) (set_value_at xs i new))
+        (sym (ap (λ o. option_map_or (change_place (on_record told) rs) o rs) (sym (first_along xs rs h) ∙ first)))
+        (change_along (StandsFor remembers) xs rs i x new (on_record told) h at
+        (λ y k. subst (λ v. StandsFor remembers v (on_record told y)) (sym is) (state_step told x y k)))
+
+-- the value at the first place has it
+pub first_has : {X : Type 0} (p : X → Bool) (es : List (ℕ × X)) (i : ℕ) (x : X) → first_where p es ≡ Some i → slice_get (values_of es) i ≡ Some x → p x ≡ true
+first_has p [] i x first at = absurd cc
+first_has p (e ∷ es) i x first at = by (p e.1) refl (first_where p es) (λ j. first_has p es j x) first
+  where
+    by : (b : Bool) → p e.1 ≡ b → (o : Option ℕ) → ((j : ℕ) → o ≡ Some j → slice_get (values_of es) j ≡ Some x → p x ≡ true) → (if b then Some zero else option_map suc o) ≡ Some i → p x ≡ true
+    by true is o rest h = let here : i ≡ zero = cc in let same : Some e.1 ≡ Some x = subst (λ n. slice_get (values_of (e ∷ es)) n ≡ Some x) here at in let e1 : x ≡ e.1 = cc in ap p e1 ∙ is
+    by false is None rest h = absurd cc
+    by false is (Some j) rest h = let there : i ≡ suc j = cc in rest j refl (subst (λ n. slice_get (values_of (e ∷ es)) n ≡ Some x) there at)
+
+-- what holds anyhow holds of what an option has
+pub in_any : {X : Type 0} {P : Type 0} (o : Option X) → P → IfSome o (λ x. P)
+in_any None h = tt
+in_any (Some x) h = h
+
+-- nothing has to hold of the other case
+pub no_none : {X : Type 0} (P : Type 0) (o : Option X) (x : X) → o ≡ Some x → IfNone o P
+no_none P None x h = absurd cc
+no_none P (Some y) x h = tt
+
+-- of one stream less something is to be told
+pub fewer_untold : {W : Type 0} (xs : List (ℕ × RxView W)) (i : ℕ) (x new : RxView W) → slice_get (values_of xs) i ≡ Some x → x.state.untold ≡ true → new.state.untold ≡ false
+    → untold_in (set_value_at xs i new) < untold_in xs
+fewer_untold [] i x new at is not = absurd cc
+fewer_untold {W = W} (e ∷ es) zero x new at is not =
+    let same : e.1 ≡ x = cc in
+    let less : (if new.state.untold then suc (untold_in es) else untold_in es) ≡ untold_in es = ap (λ b. if b then suc (untold_in es) else untold_in es) not in
+    let more : (if e.1.state.untold then suc (untold_in es) else untold_in es) ≡ suc (untold_in es) = ap (λ b. if b then suc (untold_in es) else untold_in es) (ap (λ (v : RxView W). v.state.untold) same ∙ is) in
+    omega arith
+fewer_untold {W = W} (e ∷ es) (suc i) x new at is not = both e.1.state.untold (fewer_untold {W = W} es i x new at is not)
+  where
+    both : (b : Bool) → untold_in (set_value_at es i new) < untold_in es
+        → (if b then suc (untold_in (set_value_at es i new)) else untold_in (set_value_at es i new)) < (if b then suc (untold_in es) else untold_in es)
+    both true h = omega arith
+    both false h = h
+
+-- a value that was written over is the new one
+pub value_set : {X : Type 0} (es : List (ℕ × X)) (i : ℕ) (old new x : X) → slice_get (values_of es) i ≡ Some old → slice_get (values_of (set_value_at es i new)) i ≡ Some x → x ≡ new
+value_set [] i old new x at is = absurd cc
+value_set (e ∷ es) zero old new x at is = cc
+value_set (e ∷ es) (suc i) old new x at is = value_set es i old new x at is
+
+module _ {W : Type 0} (remembers : W → Heard → Type 0) (now sender : ℕ) where
+  -- one more stream asks
+  pub asks_more : (xs : List (ℕ × RxView W)) (rs : List (ℕ × RxRecord)) (i : ℕ) (x new : RxView W) (entries : List NackEntry) (before sofar after : List Rtcp)
+      → Along (StandsFor remembers) xs (each (after_round now) (take i rs) ++ drop i rs) → slice_get (values_of xs) i ≡ Some x
+      → ((r : RxRecord) → StandsFor remembers x r → entries ≡ packed None (due_of now r)) → ((r : RxRecord) → StandsFor remembers x r → StandsFor remembers new (after_round now r))
+      → sofar ≡ before ++ nacks sender now (take i rs) → after ≡ sofar ++ nack_with sender x.state.ssrc entries
+      → Along (StandsFor remembers) (set_value_at xs i new) (each (after_round now) (take (i + 1) rs) ++ drop (i + 1) rs) × (after ≡ before ++ nacks sender now (take (i + 1) rs))
+  asks_more xs rs i x new entries before sofar after h at names asked is adds =
+      let y = value_along (StandsFor remembers) xs (each (after_round now) (take i rs) ++ drop i rs) i x h at in
+      let there = not_yet rs i y.0 y.1 in (
+        each_along (StandsFor remembers) xs rs i x new (after_round now) h at asked,
+        adds
+            ∙ ap (λ l. l ++ nack_with sender x.state.ssrc entries) is
+            ∙ append_assoc before (nacks sender now (take i rs)) (nack_with sender x.state.ssrc entries)
+            ∙ ap (λ l. before ++ (nacks sender now (take i rs) ++ l)) ((λ j. nack_with sender (y.2.state j).ssrc (names y.0 y.2 j)))
+            ∙ ap (λ l. before ++ l) (one_more rs i y.0 there ∙ ap (λ n. nacks sender now (take n rs)) (sym (add-one i))),
+      )
+    where
+      not_yet : (rs : List (ℕ × RxRecord)) (i : ℕ) (r : RxRecord) → slice_get (values_of (each (after_round now) (take i rs) ++ drop i rs)) i ≡ Some r → slice_get (values_of rs) i ≡ Some r
+      not_yet [] zero r at = at
+      not_yet [] (suc i) r at = at
+      not_yet (e ∷ es) zero r at = at
+      not_yet (e ∷ es) (suc i) r at = not_yet es i r at
+
+      one_more : (rs : List (ℕ × RxRecord)) (i : ℕ) (r : RxRecord) → slice_get (values_of rs) i ≡ Some r
+          → nacks sender now (take i rs) ++ nack_with sender r.state.ssrc (packed None (due_of now r)) ≡ nacks sender now (take (suc i) rs)
+      one_more [] i r at = absurd cc
+      one_more (e ∷ es) zero r at =
+          let same : r ≡ e.1 = cc in
+          ap (λ (x : RxRecord). nack_with sender x.state.ssrc (packed None (due_of now x))) same ∙ sym (append-nil (nack_of sender now e))
+      one_more (e ∷ es) (suc i) r at =
+          append_assoc (nack_of sender now e) (nacks sender now (take i es)) (nack_with sender r.state.ssrc (packed None (due_of now r)))
+          ∙ ap (λ l. nack_of sender now e ++ l) (one_more es i r at)
+
+-- at the end all have asked
+pub asked_all : (now sender : ℕ) (rs : List (ℕ × RxRecord)) (i : ℕ) → length rs ≤ i → nacks sender now (take i rs) ≡ nacks sender now rs
+asked_all now sender rs i long = ap (nacks sender now) (take_all i rs long)
+
+-- what holds of each of two lists holds of both together
+pub all_more : (P : Rtcp → Type 0) (xs ys : List Rtcp) → AllByRecursion P xs → AllByRecursion P ys → AllByRecursion P (xs ++ ys)
+all_more P [] ys h k = k
+all_more P (x ∷ xs) ys h k = (h.0, all_more P xs ys h.1 k)

@@ -1,0 +1,29 @@
+use Rattle.std.proofs.Common.{◌≤◌, length, refl, sym, subst, ◌∙◌, arith}
+use Rattle.stream_core.specs.Missing.{is_enabled}
+use Rattle.stream_core.specs.RxRecord.{StandsFor as RxStandsFor}
+use Rattle.stream_core.specs.StreamsRecord.{StandsFor}
+use Rattle.stream_core.proofs.Alongside.{value_along, length_along}
+use Rattle.stream_core.proofs.Any.{none_more, none_all, any_there}
+use Rattle.stream_core.proofs.streams.Streams.any_nack_enabled.Goals as goal
+
+pub loop-place-init : goal.loop-place-init
+loop-place-init g c = λ rs h. refl
+
+pub loop-place-preserved : goal.loop-place-preserved
+loop-place-preserved g c = λ rs h.
+    let y = value_along (RxStandsFor g.W.GapWindow.remembers) c.self.inside.rx rs c.loop-place.place c.at.result.now h c.at.ensures in
+    none_more is_enabled rs c.loop-place.place y.0 (c.loop-place.invariant rs h) y.1 (sym (c.nack_enabled.ensures y.0 y.2) ∙ c.if-nack_enabled.false)
+
+pub returns-then-nack_enabled : goal.returns-then-nack_enabled
+returns-then-nack_enabled g c = λ r h.
+    let mine = subst (λ s. StandsFor g.W.GapWindow.remembers s r) (sym c.self.view_is) h in
+    let y = value_along (RxStandsFor g.W.GapWindow.remembers) c.self.inside.rx r.rx c.loop-place.place c.at.result.now mine.rx c.at.ensures in
+    sym (any_there is_enabled r.rx c.loop-place.place y.0 y.1 (sym (c.nack_enabled.ensures y.0 y.2) ∙ c.if-nack_enabled.true))
+
+pub returns : goal.returns
+returns g c = λ r h.
+    let R = RxStandsFor g.W.GapWindow.remembers in
+    let mine = subst (λ s. StandsFor g.W.GapWindow.remembers s r) (sym c.self.view_is) h in
+    let same = length_along R c.self.inside.rx r.rx mine.rx in
+    let long : length r.rx ≤ c.loop-place.place = omega arith in
+    sym (none_all is_enabled r.rx c.loop-place.place (c.loop-place.invariant r.rx mine.rx) long)
