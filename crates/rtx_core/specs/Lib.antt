@@ -1,0 +1,3 @@
+pub mod Ratio
+pub mod Resends
+pub mod Repairs
