@@ -1,3 +1,4 @@
 pub mod Logs
 pub mod Holding
 pub mod Caching
+pub mod Repaired

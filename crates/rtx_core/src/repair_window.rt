@@ -1,4 +1,4 @@
-ghost use Rattle.std.specs.Prelude.{◌≡◌, ◌<◌, ◌^◌, ◌%◌, Option};
+ghost use Rattle.std.specs.Prelude.{◌≡◌, ◌<◌, ◌^◌, ◌%◌, [], Option};
 ghost use Rattle.std.specs.Option.{ForSome};
 ghost use Rattle.rtp_base.specs.Window.{is_fresh_after, with_fresh, StandsFor as WindowStandsFor};
 ghost use Rattle.rtx_core.specs.Repairs.{RepairPast, repair_near, repair_number, is_fresh_repair, repair_opened, Remembers};
