@@ -1,7 +1,10 @@
-//! The tests of the two forms of each store: that both registers answer alike, and what a queue of sent packets keeps.
+//! The tests of the two forms of each store: that both registers answer alike, what a queue of sent packets keeps, and
+//! what is sent again from either.
 #![tactic(auto)]
 
 #[cfg(test)]
 mod queues;
 #[cfg(test)]
 mod registers;
+#[cfg(test)]
+mod resends;
