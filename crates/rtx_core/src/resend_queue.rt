@@ -371,6 +371,7 @@ impl<P: Cached, S: ResendStore<P>> ResendQueue<P, S> {
     pub fn pop(&mut self, now: Instant) -> Result<Option<SeqNo>, ResendError>
         ensures number { IfOk result (λ o. o ≡ number_of (next_of now (packet_at S.value_at self.old.cache) self.old.state) self.old.state) }
         ensures small { IfOk result (λ o. IfSome o (λ n. n < 2 ^ 48)) }
+        ensures fewer { IfOk result (λ o. IfSome o (λ n. length self.new.state.resends < length self.old.state.resends)) }
         ensures state { OnOk result (self.new.state ≡ after_next now P.size (next_of now (packet_at S.value_at self.old.cache) self.old.state) self.old.state) }
         ensures cache { self.new.cache ≡ self.old.cache }
         ensures exhausted { IsErrOf result ResendError.Exhausted ↔ IsExhausted (next_of now (packet_at S.value_at self.old.cache) self.old.state) self.old.state }

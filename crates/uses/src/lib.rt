@@ -2,6 +2,7 @@
 //! may say of it.
 #![tactic(auto)]
 
+pub mod answer_a_nack;
 pub mod build_a_script;
 pub mod check_a_setup;
 pub mod copy_bytes;

@@ -1,3 +1,4 @@
+use crate::answer_a_nack::answer_a_nack;
 use crate::build_a_script::one_write;
 use crate::check_a_setup::may_be_played;
 use crate::copy_bytes::copy_all;
@@ -27,9 +28,12 @@ use payload_core::{
     Arrival, Codec, CodecDepacketizer, CodecSpec, DepacketizingBuffer, FormatParams, RtpMeta,
 };
 use repair_core::{GapWindow, NackRegister};
-use resend_core::{Cached, ResendStore, RtxCache};
-use rtp_base::{Frequency, MediaTime, Mid, MidRid, Pt, SeqNo, SeqNoWindow, Ssrc, TwccPacketId};
+use resend_core::{Cached, EvictingBuffer, ResendStore, RtxCache};
+use rtp_base::{
+    Frequency, MediaTime, Mid, MidRid, NackEntry, Pt, SeqNo, SeqNoWindow, Ssrc, TwccPacketId,
+};
 use rtp_wire::{ExtensionMap, RtpHeader};
+use rtx_core::{ResendError, ResendQueue};
 use session_core::Event;
 use srtp_core::{KeyingMaterial, ShaCipher, SrtpError, SrtpProfile};
 use std::alloc::{AllocError, Global};
@@ -134,6 +138,23 @@ fn a_packet_is_found_again(rt: HostRuntime) -> Result<(), Fail> {
     let found = keep_and_find(&mut cache, Sent { number: 1 }, now, SeqNo::from(1))?;
     assert_eq!(rt; found, Some(8));
     Ok(())
+}
+
+fn repairs(alloc: Global) -> Result<usize, ResendError> {
+    let mut queue: ResendQueue<Sent, EvictingBuffer<Sent>> = ResendQueue::new(
+        alloc,
+        SeqNo::from(5),
+    )?;
+    queue.cache_sent_packet(Sent { number: 1 }, Instant::from_nanos(1))?;
+    let mut numbers = Vec::new(alloc);
+    let entry = NackEntry { pid: 1, blp: 1 };
+    answer_a_nack(&mut queue, &[entry], Instant::from_nanos(2), &mut numbers)?;
+    Ok(numbers.len())
+}
+
+#[test]
+fn a_nack_is_answered(rt: HostRuntime) {
+    assert!(rt; repairs(rt.alloc()) == Ok(1));
 }
 
 fn asks_of<W: GapWindow>(window: &mut W) -> usize {
