@@ -6,6 +6,7 @@ use setup_rules::SetupFault;
 use srtp_core::Counter;
 use std::alloc::AllocError;
 use std::fmt;
+use thiserror::Error;
 
 /// The first rule that a step breaks, in this order.
 #[derive(Clone, Copy, Debug, PartialEq, Eq)]
@@ -52,13 +53,16 @@ impl fmt::Display for StepFault {
 }
 
 /// Why a step was not played.
-#[derive(Clone, Copy, Debug, PartialEq, Eq)]
+#[derive(Clone, Copy, Debug, PartialEq, Eq, Error)]
 pub enum StepError {
     /// Memory ran out.
+    #[error("out of memory")]
     Memory,
     /// The first rule that the step breaks.
+    #[error("the step breaks a rule: {0}")]
     Rule(StepFault),
     /// The side was to seal a datagram behind the last number of a key.
+    #[error("a key has no number left")]
     KeyExhausted(Side, Counter),
 }
 
@@ -95,15 +99,19 @@ pub struct PlayFault {
 }
 
 /// Why a run ended before its last step.
-#[derive(Clone, Copy, Debug, PartialEq, Eq)]
+#[derive(Clone, Copy, Debug, PartialEq, Eq, Error)]
 pub enum RunError {
     /// Memory ran out.
+    #[error("out of memory")]
     Memory,
     /// The first rule that the setup breaks.
+    #[error("the setup breaks a rule: {0}")]
     Setup(SetupFault),
     /// The step of this number, counted from 1, broke a rule.
+    #[error("step {0} breaks a rule: {1}")]
     Step(u64, StepFault),
     /// A step had the side seal a datagram behind the last number of a key.
+    #[error("a key has no number left")]
     KeyExhausted(Side, Counter),
 }
 

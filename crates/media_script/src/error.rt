@@ -1,12 +1,15 @@
 use std::alloc::{AllocError, AllocFailed};
+use thiserror::Error;
 
 /// Why a script was not read.
-#[derive(Clone, Copy, Debug, PartialEq, Eq)]
+#[derive(Clone, Copy, Debug, PartialEq, Eq, Error)]
 pub enum ScriptError {
     /// Memory ran out.
+    #[error("out of memory")]
     Memory,
     /// The first line outside the grammar, counted from 1. A line that is missing is the one after
     /// the last.
+    #[error("line {0} is outside the grammar")]
     Syntax(u64),
 }
 

@@ -3,17 +3,22 @@ ghost use Rattle.session_core.specs.declared.error.RtcError.TheVariants.{Memory}
 
 use srtp_core::Counter;
 use std::alloc::AllocError;
+use thiserror::Error;
 
 /// Why a call of a session gives nothing.
-#[derive(Clone, Copy, Debug, PartialEq, Eq)]
+#[derive(Clone, Copy, Debug, PartialEq, Eq, Error)]
 pub enum RtcError {
     /// There is no memory left. The session is stopped then.
+    #[error("out of memory")]
     Memory,
     /// An earlier call answered `Memory` or `KeyExhausted`.
+    #[error("the session is stopped")]
     Stopped,
     /// A datagram was due behind the last number that its key can seal. The session is stopped then.
+    #[error("a key has no number left")]
     KeyExhausted(Counter),
     /// The keying material has another length than the profile's.
+    #[error("the keying material has another length than the profile's")]
     KeyLength,
 }
 
@@ -26,10 +31,12 @@ impl From<AllocError> for RtcError {
 }
 
 /// Why a data channel's media section is not taken.
-#[derive(Clone, Copy, Debug, PartialEq, Eq)]
+#[derive(Clone, Copy, Debug, PartialEq, Eq, Error)]
 pub enum AppError {
     /// It has another mid than the one before.
+    #[error("the data channel has another mid than before")]
     MidChanged,
     /// It has another place in the description than the one before.
+    #[error("the data channel has another place than before")]
     IndexChanged,
 }

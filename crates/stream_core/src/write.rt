@@ -7,15 +7,19 @@ use media_base::Instant;
 use rtp_base::{Frequency, MediaTime, Pt, SeqNo, Ssrc};
 use rtp_wire::{ExtensionValues, RtpHeader};
 use std::marker::Model;
+use thiserror::Error;
 
 /// Why a packet is not written, the first cause of these.
-#[derive(Clone, Copy, Debug, PartialEq, Eq)]
+#[derive(Clone, Copy, Debug, PartialEq, Eq, Error)]
 pub enum WriteError {
     /// Its number is 2^48 or more.
+    #[error("the number has more than 48 bits")]
     NumberTooBig,
     /// Its payload has more than 1,400 bytes.
+    #[error("the payload has more than 1,400 bytes")]
     PayloadTooLong,
     /// There is no memory left.
+    #[error("out of memory")]
     Memory,
 }
 
