@@ -1,4 +1,4 @@
--- The first stream that is due, and what waits after its packet left.
+-- The first place where a test holds, and what waits after a packet left.
 use Rattle.std.proofs.Common.{◌≡◌, ℕ, zero, suc, ◌+◌, ◌<◌, ◌≤◌, Bool, true, false, List, [], ◌∷◌, Option, Some, None, length, take, slice_get, refl, sym, ap, ◌∙◌, add-one, arith}
 use Rattle.std.proofs.lemmas.List.{take_all}
 use Rattle.std.specs.Prelude.{if◌then◌else◌}
@@ -8,49 +8,49 @@ use Rattle.std.specs.Option.{option_map}
 use Rattle.stream_core.specs.declared.packet.RtpPacket.{RtpPacket}
 use Rattle.stream_core.specs.declared.stream_tx.PacketReceipt.{PacketReceipt}
 use Rattle.stream_core.specs.declared.transport.Transport.{Transport}
+use Rattle.stream_core.specs.Pauses.{first_where}
 use Rattle.stream_core.specs.Queue.{next_of, rest_of, rest_after, if_stamped}
 use Rattle.stream_core.specs.Tables.{change_place}
 use Rattle.stream_core.specs.TxRecord.{TxRecord, polled, after_poll, receipt_of}
-use Rattle.session_core.specs.SessionRecord.{MediaRecord}
-use Rattle.session_core.specs.Sending.{is_due, first_due, all_waiting}
+use Rattle.session_core.specs.Sending.{all_waiting}
 
 none_here : (b : Bool) (o : Option ℕ) → (if b then Some zero else option_map suc o) ≡ None → (b ≡ false) × (o ≡ None)
 none_here true o h = absurd cc
 none_here false None h = (refl, refl)
 none_here false (Some i) h = absurd cc
 
-module _ (medias : List MediaRecord) where
-  none_suc : (es : List (ℕ × TxRecord)) (i : ℕ) (r : TxRecord) → first_due medias (take i es) ≡ None → slice_get (values_of es) i ≡ Some r → is_due medias r ≡ false
-      → first_due medias (take (suc i) es) ≡ None
-  none_suc [] i r h at due = absurd cc
-  none_suc (e ∷ es) zero r h at due =
-      let same : e.1 ≡ r = cc in
-      ap (λ b. if b then Some zero else None) (ap (is_due medias) same ∙ due)
-  none_suc (e ∷ es) (suc i) r h at due =
-      let k = none_here (is_due medias e.1) (first_due medias (take i es)) h in
-      let rest = none_suc es i r k.1 at due in
+module _ {X : Type 0} (p : X → Bool) where
+  none_suc : (es : List (ℕ × X)) (i : ℕ) (x : X) → first_where p (take i es) ≡ None → slice_get (values_of es) i ≡ Some x → p x ≡ false
+      → first_where p (take (suc i) es) ≡ None
+  none_suc [] i x h at not = absurd cc
+  none_suc (e ∷ es) zero x h at not =
+      let same : e.1 ≡ x = cc in
+      ap (λ b. if b then Some zero else None) (ap p same ∙ not)
+  none_suc (e ∷ es) (suc i) x h at not =
+      let k = none_here (p e.1) (first_where p (take i es)) h in
+      let rest = none_suc es i x k.1 at not in
       λ j. if k.0 j then Some zero else option_map suc (rest j)
 
-  -- one more stream is not due
-  pub none_more : (es : List (ℕ × TxRecord)) (i : ℕ) (r : TxRecord) → first_due medias (take i es) ≡ None → slice_get (values_of es) i ≡ Some r → is_due medias r ≡ false
-      → first_due medias (take (i + 1) es) ≡ None
-  none_more es i r h at due = ap (λ n. first_due medias (take n es)) (add-one i) ∙ none_suc es i r h at due
+  -- nor does it hold of one value more
+  pub none_more : (es : List (ℕ × X)) (i : ℕ) (x : X) → first_where p (take i es) ≡ None → slice_get (values_of es) i ≡ Some x → p x ≡ false
+      → first_where p (take (i + 1) es) ≡ None
+  none_more es i x h at not = ap (λ n. first_where p (take n es)) (add-one i) ∙ none_suc es i x h at not
 
-  -- the stream at a place is the first
-  pub found_at : (es : List (ℕ × TxRecord)) (i : ℕ) (r : TxRecord) → first_due medias (take i es) ≡ None → slice_get (values_of es) i ≡ Some r → is_due medias r ≡ true
-      → Some i ≡ first_due medias es
-  found_at [] i r h at due = absurd cc
-  found_at (e ∷ es) zero r h at due =
-      let same : e.1 ≡ r = cc in
-      sym (ap (λ b. if b then Some zero else option_map suc (first_due medias es)) (ap (is_due medias) same ∙ due))
-  found_at (e ∷ es) (suc i) r h at due =
-      let k = none_here (is_due medias e.1) (first_due medias (take i es)) h in
-      let rest = found_at es i r k.1 at due in
+  -- the value at a place is the first
+  pub found_at : (es : List (ℕ × X)) (i : ℕ) (x : X) → first_where p (take i es) ≡ None → slice_get (values_of es) i ≡ Some x → p x ≡ true
+      → Some i ≡ first_where p es
+  found_at [] i x h at is = absurd cc
+  found_at (e ∷ es) zero x h at is =
+      let same : e.1 ≡ x = cc in
+      sym (ap (λ b. if b then Some zero else option_map suc (first_where p es)) (ap p same ∙ is))
+  found_at (e ∷ es) (suc i) x h at is =
+      let k = none_here (p e.1) (first_where p (take i es)) h in
+      let rest = found_at es i x k.1 at is in
       λ j. if (sym k.0) j then Some zero else option_map suc (rest j)
 
-  -- none is due
-  pub found_none : (es : List (ℕ × TxRecord)) (i : ℕ) → first_due medias (take i es) ≡ None → length es ≤ i → None ≡ first_due medias es
-  found_none es i h long = sym h ∙ ap (first_due medias) (take_all i es long)
+  -- it holds of none
+  pub found_none : (es : List (ℕ × X)) (i : ℕ) → first_where p (take i es) ≡ None → length es ≤ i → None ≡ first_where p es
+  found_none es i h long = sym h ∙ ap (first_where p) (take_all i es long)
 
 stamped : (p q : RtpPacket) (ps : List RtpPacket) (o : Option ℕ) → if_stamped p o ≡ Some q → length (rest_after p ps o) < suc (length ps)
 stamped p q ps None h = absurd cc

@@ -1,5 +1,5 @@
 -- What a session sends.
-use Rattle.std.specs.Prelude.{◌≡◌, ◌≤◌, ◌^◌, ◌==◌, ◌&&◌, ◌||◌, ℕ, zero, suc, ◌+◌, Bool, false, is_some, is_none, if◌then◌else◌, List, [], ◌∷◌, ◌++◌, length, take, Option, Some, None, option_and_then, slice_get}
+use Rattle.std.specs.Prelude.{◌≡◌, ◌≤◌, ◌^◌, ◌==◌, ◌&&◌, ◌||◌, ℕ, ◌+◌, Bool, false, is_some, is_none, if◌then◌else◌, List, [], ◌∷◌, ◌++◌, length, take, Option, Some, None, option_and_then, slice_get}
 use Rattle.std.specs.List.{list_any, AllByRecursion}
 use Rattle.std.specs.Map.{values_of}
 use Rattle.std.specs.Option.{option_map, option_map_or}
@@ -10,6 +10,7 @@ use Rattle.srtp_core.specs.Contexts.{SrtpState}
 use Rattle.srtp_core.specs.Seals.{sealed_rtp}
 use Rattle.stream_core.specs.declared.stream_tx.PacketReceipt.{PacketReceipt}
 use Rattle.stream_core.specs.declared.transport.Transport.{Transport}
+use Rattle.stream_core.specs.Pauses.{first_where}
 use Rattle.stream_core.specs.Queue.{next_of}
 use Rattle.stream_core.specs.Tables.{change_place}
 use Rattle.stream_core.specs.TxRecord.{TxRecord, polled, after_poll, transport_after_poll}
@@ -28,8 +29,7 @@ is_due medias r = has_mid r.mid medias && is_some (next_of r.queue)
 
 -- the place of the first stream that is due
 abbrev pub first_due : List MediaRecord → List (ℕ × TxRecord) → Option ℕ
-first_due medias [] = None
-first_due medias (e ∷ es) = if is_due medias e.1 then Some zero else option_map suc (first_due medias es)
+first_due medias es = first_where (is_due medias) es
 
 -- no stream before a place is due
 abbrev pub PollsFrom : ℕ → List MediaRecord → List (ℕ × TxRecord) → Type 0

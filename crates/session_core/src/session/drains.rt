@@ -1,0 +1,112 @@
+//! A drain: all that a session tells, then all that leaves it.
+ghost use Rattle.std.specs.Prelude.{◌≡◌, ◌||◌, ◌++◌, [], None, false, is_err, IsTrue, IsErrAnd, IfOk, IfErr, OnOk, OnErr};
+ghost use Rattle.session_core.specs.Sending.{Drains};
+ghost use Rattle.session_core.specs.Draining.{IsDrainCut, IsCutOff};
+ghost use Rattle.session_core.specs.SessionRecord.{SessionRecord, StandsFor};
+ghost use Rattle.session_core.specs.Calls.{state_told, after_events, told, wake_of};
+ghost use Rattle.session_core.specs.declared.error.RtcError.TheVariants.{Stopped, Memory};
+
+use super::Session;
+use crate::datagram::{Datagram, DrainFault, Drained, Event};
+use crate::error::RtcError;
+use media_base::Instant;
+use repair_core::GapWindow;
+use srtp_core::SrtpCipher;
+use std::alloc::AllocError;
+
+/// A drain that was cut off, with what the session told and sent before.
+fn cut_off(error: RtcError, events: Vec<Event>, datagrams: Vec<Datagram>) -> DrainFault
+    ensures { result ≡ record { error = error; sofar = record { events = events; datagrams = datagrams; wake = None } } }
+{
+    DrainFault {
+        error,
+        sofar: Drained {
+            events,
+            datagrams,
+            wake: None,
+        },
+    }
+}
+
+impl<C: SrtpCipher, W: GapWindow> Session<C, W> {
+    /// Takes all that the session tells, behind what was taken before. Room is reserved before each poll.
+    fn take_events(&mut self, sofar: &mut Vec<Event>) -> Result<(), AllocError>
+        requires none { sofar.old.items ≡ [] }
+        ensures taken { OnOk result ((r : SessionRecord) → StandsFor W.remembers self.old r
+            → (sofar.new.items ≡ told r) × StandsFor W.remembers self.new (after_events r)) }
+        ensures front { OnErr result ((r : SessionRecord) → StandsFor W.remembers self.old r
+            → (between : SessionRecord) × StandsFor W.remembers self.new between
+            × (told r ≡ sofar.new.items ++ told between) × (after_events between ≡ after_events r)) }
+        ensures runs { self.new.state.stopped ≡ self.old.state.stopped }
+    {
+        loop {
+            sofar.reserve(1)?;
+            match self.poll_event() {
+                Some(event) => sofar.push_reserved(event),
+                None => return Ok(()),
+            }
+        }
+    }
+
+    /// Takes all datagrams that leave, behind those before. Room is reserved before each poll.
+    fn drain_datagrams(&mut self, now: Instant, sofar: &mut Vec<Datagram>) -> Result<(), RtcError>
+        requires runs { self.old.state.stopped ≡ false }
+        requires none { sofar.old.items ≡ [] }
+        ensures drained { OnOk result (Drains C.meaning now self.old.state self.new.state sofar.new.items) }
+        ensures others { self.new ≡ record self.old { state = self.new.state } }
+        ensures sofar { IfErr result (λ e. IsDrainCut C.meaning now self.old.state e self.new.state sofar.new.items) }
+        ensures latch { self.new.state.stopped ≡ is_err result }
+    {
+        loop {
+            if sofar.reserve(1).is_err() {
+                self.stopped = true;
+                return Err(RtcError::Memory);
+            }
+            match self.poll_datagram(now) {
+                Ok(Some(datagram)) => sofar.push_reserved(datagram),
+                Ok(None) => return Ok(()),
+                Err(error) => return Err(error),
+            }
+        }
+    }
+
+    /// Takes all that the session tells and all that leaves, and when it wants a tick next. The time grows
+    /// with the number of streams.
+    ///
+    /// # Errors
+    /// `Stopped` where an earlier call answered `Memory` or `KeyExhausted`; `KeyExhausted` where feedback is
+    /// due behind the last index of SRTCP datagrams; `Memory`; each with what was taken before.
+    pub fn drain(&mut self, now: Instant) -> Result<Drained, DrainFault>
+        ensures stopped { IsTrue self.old.state.stopped → IsErrAnd result (λ fault. (fault.error ≡ Stopped)
+            × (fault.sofar.events.items ≡ []) × (fault.sofar.datagrams.items ≡ [])) }
+        ensures still { IsTrue self.old.state.stopped → self.new ≡ self.old }
+        ensures latch { self.new.state.stopped ≡ self.old.state.stopped || is_err result }
+        ensures drained { IfOk result (λ all. (r : SessionRecord) → StandsFor W.remembers self.old r
+            → (all.events.items ≡ told r)
+            × Drains C.meaning now (state_told r.state) self.new.state all.datagrams.items
+            × StandsFor W.remembers self.new (record (after_events r) { state = self.new.state })) }
+        ensures wake { IfOk result (λ all. (r : SessionRecord) → StandsFor W.remembers self.new r → all.wake ≡ wake_of r) }
+        ensures sofar { self.old.state.stopped ≡ false → IfErr result (λ fault. (r : SessionRecord) → StandsFor W.remembers self.old r
+            → (after : SessionRecord) × IsCutOff C.meaning now r fault.error after fault.sofar.events.items fault.sofar.datagrams.items
+            × StandsFor W.remembers self.new after) }
+        ensures no_wake { IfErr result (λ fault. fault.sofar.wake ≡ None) }
+    {
+        let mut events = Vec::new(self.alloc);
+        let mut datagrams = Vec::new(self.alloc);
+        if self.stopped {
+            return Err(cut_off(RtcError::Stopped, events, datagrams));
+        }
+        if self.take_events(&mut events).is_err() {
+            self.stopped = true;
+            return Err(cut_off(RtcError::Memory, events, datagrams));
+        }
+        match self.drain_datagrams(now, &mut datagrams) {
+            Ok(()) => Ok(Drained {
+                events,
+                datagrams,
+                wake: self.poll_timeout(),
+            }),
+            Err(error) => Err(cut_off(error, events, datagrams)),
+        }
+    }
+}

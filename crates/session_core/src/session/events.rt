@@ -1,0 +1,52 @@
+//! What a session tells, one event a poll.
+ghost use Rattle.std.specs.Prelude.{◌≡◌, ◌↔◌, ◌<◌, None, IsTrue, IfOk, IfErr, IfSome, IsErrOf};
+ghost use Rattle.session_core.specs.SessionRecord.{SessionRecord, StandsFor};
+ghost use Rattle.session_core.specs.Calls.{after_event, next_event, events_in, Polled};
+ghost use Rattle.session_core.specs.declared.error.RtcError.TheVariants.{Stopped};
+
+use super::Session;
+use crate::datagram::Event;
+use crate::error::RtcError;
+use repair_core::GapWindow;
+use srtp_core::SrtpCipher;
+
+impl<C: SrtpCipher, W: GapWindow> Session<C, W> {
+    /// What the session tells next, where there are keys: the feedback of an application that came last,
+    /// then which incoming streams were paused or unpaused, in order, then the packet that came last, each
+    /// if it was not told.
+    pub fn poll_event(&mut self) -> Option<Event>
+        ensures event { (r : SessionRecord) → StandsFor W.remembers self.old r → result ≡ next_event r }
+        ensures after { (r : SessionRecord) → StandsFor W.remembers self.old r → StandsFor W.remembers self.new (after_event r) }
+        ensures told { (r : SessionRecord) → StandsFor W.remembers self.old r → Polled r result (after_event r) }
+        ensures runs { self.new.state.stopped ≡ self.old.state.stopped }
+        ensures fewer { IfSome result (λ e. events_in self.new < events_in self.old) }
+    {
+        if self.sealing.is_none() || self.opening.is_none() {
+            return None;
+        }
+        if let Some(feedback) = self.application.take() {
+            return Some(Event::AppSpecificFeedback(feedback));
+        }
+        if let Some(paused) = self.streams.poll_stream_paused() {
+            return Some(Event::StreamPaused(paused));
+        }
+        let packet = self.packet.take()?;
+        Some(Event::RtpPacket(packet))
+    }
+
+    /// What the session tells next of what may want memory: nothing yet.
+    ///
+    /// # Errors
+    /// `Stopped` where an earlier call answered `Memory` or `KeyExhausted`.
+    pub fn poll_event_fallible(&mut self) -> Result<Option<Event>, RtcError>
+        ensures stopped { IsErrOf result Stopped ↔ IsTrue self.old.state.stopped }
+        ensures only { IfErr result (λ e. e ≡ Stopped) }
+        ensures none { IfOk result (λ e. e ≡ None) }
+        ensures same { self.new ≡ self.old }
+    {
+        if self.stopped {
+            return Err(RtcError::Stopped);
+        }
+        Ok(None)
+    }
+}

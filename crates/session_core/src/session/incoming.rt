@@ -1,0 +1,178 @@
+//! What comes to a session: the datagrams of RTP and of RTCP.
+ghost use Rattle.std.specs.Prelude.{◌≡◌, ◌↔◌, ◌||◌, Some, true, false, is_err, IsTrue, IfOk, IfErr, IfNone, OnErr, IsErrOf};
+ghost use Rattle.rtp_wire.specs.Header.{header_of};
+ghost use Rattle.session_core.specs.Hearing.{ReceivesRtcp};
+ghost use Rattle.session_core.specs.Receiving.{Receives, is_claimed};
+ghost use Rattle.session_core.specs.Draining.{stopped_from};
+ghost use Rattle.session_core.specs.SessionRecord.{SessionRecord, StandsFor};
+ghost use Rattle.session_core.specs.declared.error.RtcError.TheVariants.{Stopped, Memory};
+
+use super::Session;
+use crate::datagram::Opened;
+use crate::error::RtcError;
+use crate::feedback::sender;
+use crate::hearing::{RtcpOpening, feedback_in, hear, last_delay, measure, open_rtcp};
+use crate::receiving::{Opening, accepts, is_claimed, open, put_packet, take};
+use media_base::{Bytes, Instant, InstantExt};
+use repair_core::GapWindow;
+use rtp_base::{Kind, SeqNo};
+use rtp_wire::RtpHeader;
+use srtp_core::SrtpCipher;
+use std::alloc::AllocError;
+
+impl<C: SrtpCipher, W: GapWindow> Session<C, W> {
+    /// Takes in an RTP datagram that came, and tells what it opened to; its packet is told by
+    /// `poll_event`, but for SSRC 0. None where it does not open, and then nothing changes: where it has
+    /// no header, or more than 2,000 bytes; where its SSRC is no incoming stream's, nor 0, or its payload
+    /// type is not known; where its number was taken, or is too old; where its tag does not hold, there
+    /// are no keys, or it does not end in the padding that its header tells of.
+    ///
+    /// # Errors
+    /// `Stopped` where an earlier call answered `Memory` or `KeyExhausted`; `Memory`.
+    pub fn handle_rtp_receive(
+        &mut self,
+        now: Instant,
+        bytes: &[u8],
+    ) -> Result<Option<Opened>, RtcError>
+        ensures stopped { IsErrOf result Stopped ↔ IsTrue self.old.state.stopped }
+        ensures received { IfOk result (λ opened. (r : SessionRecord) → StandsFor W.remembers self.old r
+            → (after : SessionRecord) × Receives C.meaning r bytes.now now after opened × StandsFor W.remembers self.new after) }
+        ensures unopened { IfOk result (λ opened. IfNone opened (self.new ≡ self.old)) }
+        ensures latch { self.new.state.stopped ≡ self.old.state.stopped || is_err result }
+        ensures unchanged { IsErrOf result Stopped → self.new ≡ self.old }
+        ensures memory { self.old.state.stopped ≡ false → IfErr result (λ e. e ≡ Memory) }
+    {
+        if self.stopped {
+            return Err(RtcError::Stopped);
+        }
+        match self.receive(now, bytes) {
+            Ok(opened) => Ok(opened),
+            Err(_) => {
+                self.stopped = true;
+                Err(RtcError::Memory)
+            }
+        }
+    }
+
+    fn receive(&mut self, now: Instant, bytes: &[u8]) -> Result<Option<Opened>, AllocError>
+        ensures received { IfOk result (λ opened. (r : SessionRecord) → StandsFor W.remembers self.old r
+            → (after : SessionRecord) × Receives C.meaning r bytes.now now after opened × StandsFor W.remembers self.new after) }
+        ensures unopened { IfOk result (λ opened. IfNone opened (self.new ≡ self.old)) }
+        ensures runs { self.new.state.stopped ≡ self.old.state.stopped }
+    {
+        let read = RtpHeader::parse(bytes, &self.transport.exts);
+        let Some(header) = &read else {
+            return Ok(None);
+        };
+        if !is_claimed(&self.types, header) {
+            return Ok(None);
+        }
+        self.receive_under(now, bytes, header)
+    }
+
+    /// Takes in a datagram that begins with this header, of a type that is taken.
+    fn receive_under(
+        &mut self,
+        now: Instant,
+        bytes: &[u8],
+        header: &RtpHeader,
+    ) -> Result<Option<Opened>, AllocError>
+        ensures received { IfOk result (λ opened. (r : SessionRecord) → StandsFor W.remembers self.old r
+            → header_of r.state.transport.exts bytes.now ≡ Some header.now → is_claimed r.state.types header.now ≡ true
+            → (after : SessionRecord) × Receives C.meaning r bytes.now now after opened × StandsFor W.remembers self.new after) }
+        ensures unopened { IfOk result (λ opened. IfNone opened (self.new ≡ self.old)) }
+        ensures runs { self.new.state.stopped ≡ self.old.state.stopped }
+    {
+        let remembered = self.seen.get(header.ssrc);
+        let Some(found) = accepts(
+            header.ssrc,
+            header.sequence_number,
+            &remembered,
+            &self.streams,
+            &self.probes,
+        ) else {
+            return Ok(None);
+        };
+        let number = found.1;
+        let Some(opening) = open(self.alloc, &mut self.opening, bytes, header, number)? else {
+            return Ok(None);
+        };
+        take(
+            found.0,
+            now,
+            number,
+            &remembered,
+            &mut self.streams,
+            &mut self.probes,
+        )?;
+        self.seen.put(header.ssrc, number)?;
+        let Opening { plain, payload } = opening;
+        put_packet(now, header, number, payload, &mut self.packet);
+        Ok(Some(Opened {
+            kind: Kind::Rtp,
+            ssrc: header.ssrc,
+            index: number,
+            plain,
+        }))
+    }
+
+    /// Takes in an RTCP datagram that came, and tells what it opened to: its reception blocks acknowledge
+    /// streams without repairs, its last item that tells how long ago a moment of this session came in
+    /// gives the round trip of the incoming streams, its last feedback of an application is told by
+    /// `poll_event`. None where it does not open, and then nothing changes: where it is shorter than a
+    /// packet of 8 bytes and what seals it, where its tag does not hold, and without keys. One that comes
+    /// again opens again. The time grows with its items, and with the number of incoming streams where one
+    /// gives the round trip.
+    ///
+    /// # Errors
+    /// `Stopped` where an earlier call answered `Memory` or `KeyExhausted`; `Memory`.
+    pub fn handle_rtcp_receive(
+        &mut self,
+        now: Instant,
+        bytes: &[u8],
+    ) -> Result<Option<Opened>, RtcError>
+        ensures stopped { IsErrOf result Stopped ↔ IsTrue self.old.state.stopped }
+        ensures received { IfOk result (λ opened. (r : SessionRecord) → StandsFor W.remembers self.old r
+            → (after : SessionRecord) × ReceivesRtcp C.meaning r bytes.now now after opened × StandsFor W.remembers self.new after) }
+        ensures unopened { IfOk result (λ opened. IfNone opened (self.new ≡ self.old)) }
+        ensures latch { self.new.state.stopped ≡ self.old.state.stopped || is_err result }
+        ensures unchanged { IsErrOf result Stopped → self.new ≡ self.old }
+        ensures memory { self.old.state.stopped ≡ false → IfErr result (λ e. e ≡ Memory) }
+        ensures failed { IsErrOf result Memory → self.new ≡ record self.old { state = stopped_from self.old.state } }
+    {
+        if self.stopped {
+            return Err(RtcError::Stopped);
+        }
+        match self.receive_rtcp(now, bytes) {
+            Ok(opened) => Ok(opened),
+            Err(_) => {
+                self.stopped = true;
+                Err(RtcError::Memory)
+            }
+        }
+    }
+
+    fn receive_rtcp(&mut self, now: Instant, bytes: &[u8]) -> Result<Option<Opened>, AllocError>
+        ensures received { IfOk result (λ opened. (r : SessionRecord) → StandsFor W.remembers self.old r
+            → (after : SessionRecord) × ReceivesRtcp C.meaning r bytes.now now after opened × StandsFor W.remembers self.new after) }
+        ensures unopened { IfOk result (λ opened. IfNone opened (self.new ≡ self.old)) }
+        ensures runs { self.new.state.stopped ≡ self.old.state.stopped }
+        ensures err { OnErr result (self.new ≡ self.old) }
+    {
+        let Some(RtcpOpening { plain, index }) = open_rtcp(&mut self.opening, bytes)? else {
+            return Ok(None);
+        };
+        let feedback = feedback_in(self.alloc, plain.as_slice())?;
+        let delay = last_delay(self.local_ssrc, &self.streams, feedback.as_slice());
+        let ntp = now.to_ntp_duration(&self.transport.beginning);
+        measure(ntp, &delay, &mut self.streams);
+        hear(feedback, &mut self.streams, &mut self.application);
+        self.next_stream = 0;
+        Ok(Some(Opened {
+            kind: Kind::Rtcp,
+            ssrc: sender(plain.as_slice()),
+            index: SeqNo::from(u64::from(index)),
+            plain: Bytes::from_vec(plain),
+        }))
+    }
+}
