@@ -6,4 +6,5 @@ pub mod RxSteps
 pub mod Stamps
 pub mod StreamsSteps
 pub mod TableSteps
+pub mod Totals
 pub mod Untold

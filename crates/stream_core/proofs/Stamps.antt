@@ -5,11 +5,11 @@ use Rattle.std.proofs.lemmas.Bool.Decides.{nat_tests}
 use Rattle.stream_core.specs.declared.packet.RtpPacket.{RtpPacket}
 use Rattle.stream_core.specs.Queue.{with_stamp, stamp_of, needs_tick, are_stamped}
 
-first : (a b : Bool) → (a && b) ≡ true → a ≡ true
+pub first : (a b : Bool) → (a && b) ≡ true → a ≡ true
 first true b h = refl
 first false b h = h
 
-second : (a b : Bool) → (a && b) ≡ true → b ≡ true
+pub second : (a b : Bool) → (a && b) ≡ true → b ≡ true
 second true b h = h
 second false b h = absurd cc
 
@@ -71,3 +71,15 @@ stamped_fewer (suc n) (p ∷ ps) h =
     more_left n ps
     ∙ stamped_fewer n ps (second (is_some p.timestamp) (are_stamped n ps) h)
     ∙ sym (λ i. not_none p.timestamp (first (is_some p.timestamp) (are_stamped n ps) h) i || needs_tick ps)
+
+kept_step : (now : ℕ) (o : Option ℕ) (b : Bool) → (is_none o || b) ≡ false → (stamp_of now o ≡ o) × (b ≡ false)
+kept_step now None b h = absurd cc
+kept_step now (Some t) b h = (refl, h)
+
+-- where no packet waits for a stamp, a tick changes nothing
+pub none_to_stamp : (now : ℕ) (ps : List RtpPacket) → needs_tick ps ≡ false → map (with_stamp now) ps ≡ ps
+none_to_stamp now [] h = refl
+none_to_stamp now (p ∷ ps) h =
+    let both = kept_step now p.timestamp (needs_tick ps) h in
+    let rest = none_to_stamp now ps both.1 in
+    λ i. record p { timestamp = both.0 i } ∷ rest i

@@ -7,5 +7,6 @@ pub mod RxRecord
 pub mod Sealing
 pub mod StreamsRecord
 pub mod Tables
+pub mod Totals
 pub mod TxRecord
 pub mod Write

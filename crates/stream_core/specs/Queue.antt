@@ -1,6 +1,9 @@
 -- Packets that wait, in the order in which they were written.
-use Rattle.std.specs.Prelude.{◌≡◌, ℕ, zero, suc, ◌%◌, ◌<◌, ◌≤◌, ◌^◌, Bool, true, false, ◌&&◌, is_some, is_none, Option, Some, None, List, [], ◌∷◌, length}
-use Rattle.std.specs.List.{list_any}
+use Rattle.std.specs.Prelude.{◌≡◌, ◌==◌, ℕ, zero, suc, ◌-◌, ◌%◌, ◌<◌, ◌≤◌, ◌^◌, min, Bool, true, false, ◌&&◌, if◌then◌else◌, is_some, is_none, Option, Some, None, List, [], ◌∷◌, length}
+use Rattle.std.specs.List.{list_any, filter, filter_map, sum_by}
+use Rattle.pace_units.specs.declared.queue.QueuePriority.TheVariants.{Media, Empty}
+use Rattle.pace_units.specs.declared.queue.QueueSnapshot.{QueueSnapshot}
+use Rattle.stream_core.specs.Pauses.{sooner}
 use Rattle.stream_core.specs.declared.packet.RtpPacket.{RtpPacket}
 
 -- a packet that may wait to be sealed: it has a number of 48 bits, whose low 16 bits are in its header, at most 1,400
@@ -51,3 +54,36 @@ are_stamped zero [] = true
 are_stamped (suc n) [] = false
 are_stamped zero (p ∷ ps) = is_none p.timestamp && are_stamped zero ps
 are_stamped (suc n) (p ∷ ps) = is_some p.timestamp && are_stamped n ps
+
+-- the packets that have a stamp, in order
+abbrev pub stamped : List RtpPacket → List RtpPacket
+stamped ps = filter (λ p. is_some p.timestamp) ps
+
+-- their stamps
+abbrev pub stamps_of : List RtpPacket → List ℕ
+stamps_of ps = filter_map (λ p. p.timestamp) ps
+
+abbrev pub payload_bytes : List RtpPacket → ℕ
+payload_bytes ps = sum_by (λ p. length p.payload) ps
+
+-- how long it is from these moments to now, all together; from a later one it is no time
+abbrev pub waits : ℕ → List ℕ → ℕ
+waits now ts = sum_by (λ t. now - t) ts
+
+-- the earliest of these moments
+abbrev pub earliest_of : List ℕ → Option ℕ
+earliest_of [] = None
+earliest_of (t ∷ ts) = sooner (Some t) (earliest_of ts)
+
+-- what a pacer is told at a moment of packets that wait, of which one was sent last at a moment. It counts those that
+-- have a stamp. A number that its type cannot hold is the type's greatest
+abbrev pub snapshot_of : ℕ → Option ℕ → List RtpPacket → QueueSnapshot
+snapshot_of now last_emitted ps = record {
+  created_at = now;
+  byte_size = min (payload_bytes (stamped ps)) (2 ^ 64 - 1);
+  packet_count = min (length (stamped ps)) (2 ^ 32 - 1);
+  total_queue_time_origin = min (waits now (stamps_of ps)) (2 ^ 64 - 1);
+  last_emitted = last_emitted;
+  first_unsent = earliest_of (stamps_of ps);
+  priority = if length (stamped ps) == 0 then Empty else Media;
+}

@@ -1,7 +1,7 @@
-ghost use Rattle.std.specs.Prelude.{◌≡◌, ◌↔◌, ◌++◌, ◌==◌, ◌≤◌, length, is_some, IfOk, IfSome, OnOk, OnErr, IsErrOf};
+ghost use Rattle.std.specs.Prelude.{◌≡◌, ◌↔◌, ◌++◌, ◌==◌, ◌≤◌, length, is_some, None, IfOk, IfSome, OnOk, OnErr, IsErrOf};
 ghost use Rattle.rtp_wire.specs.Header.{header_bytes};
 ghost use Rattle.rtp_wire.specs.HeaderLaws.{IsReadAgain};
-ghost use Rattle.stream_core.specs.Queue.{needs_tick, next_of};
+ghost use Rattle.stream_core.specs.Queue.{needs_tick, next_of, snapshot_of};
 ghost use Rattle.stream_core.specs.Sealing.{sealed_values};
 
 use crate::packet::RtpPacket;
@@ -9,6 +9,7 @@ use crate::send_queue::SendQueue;
 use crate::transport::Transport;
 use crate::write::{RtpWrite, WriteError};
 use media_base::{Bytes, Instant};
+use pace_units::QueueSnapshot;
 use rtp_base::{Mid, MidRid, ReceptionReport, Rid, SeqNo, Ssrc};
 use rtp_wire::{Extension, ExtensionMap, ExtensionValues, RtpHeader};
 use std::alloc::{AllocError, Global};
@@ -225,6 +226,17 @@ impl StreamTx {
         ensures { result ≡ is_some (next_of self.now.queue) }
     {
         self.queue.peek().is_some()
+    }
+
+    /// What a pacer is told at a moment of the packets that waited at the last tick: how many there are,
+    /// the bytes of their payloads, how many nanoseconds they waited, all together, and the earliest of
+    /// the ticks since which they wait. A number that its type cannot hold is the type's greatest. When
+    /// one was sent last is not told yet. The time is the same for any number of packets, but grows with
+    /// it where time fell between ticks, or since the last one.
+    pub fn queue_snapshot(&self, now: Instant) -> QueueSnapshot
+        ensures { result ≡ snapshot_of now None self.now.queue }
+    {
+        self.queue.snapshot(now, None)
     }
 
     /// Whether no packet waits.

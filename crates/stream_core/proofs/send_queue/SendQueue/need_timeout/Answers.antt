@@ -7,5 +7,5 @@ use Rattle.stream_core.proofs.send_queue.SendQueue.need_timeout.Goals as goal
 pub returns : goal.returns
 returns c =
     ap (nat_lt c.self.inside.stamped) (c.len.ensures ∙ c.self.inside.packets.ok.0)
-    ∙ stamped_fewer c.self.inside.stamped c.self.inside.packets.items c.self.invariant
+    ∙ stamped_fewer c.self.inside.stamped c.self.inside.packets.items c.self.invariant.in_front
     ∙ ap needs_tick c.self.view_is
