@@ -1,5 +1,6 @@
 //! Datagrams of RTCP items (RFC 3550 section 6.1), also of reduced size (RFC 5506).
-ghost use Rattle.std.specs.Prelude.{◌≡◌, ◌≤◌, ◌++◌, ℕ, List, length, take, drop, IfOk, OnOk, OnErr};
+ghost use Rattle.std.specs.Prelude.{◌≡◌, ◌<◌, ◌≤◌, ◌++◌, ℕ, List, length, take, drop, IfOk, OnOk, OnErr};
+ghost use Rattle.std.specs.Vec.{vec_len, vec_capacity};
 ghost use Rattle.std.specs.Option.{option_map};
 ghost use Rattle.std.specs.List.{flat_map, AllByRecursion};
 ghost use Rattle.rtcp_wire.specs.Items.{item_or_short, goes_on, said};
@@ -40,6 +41,19 @@ pub enum Rtcp {
     AppSpecificFeedback(AppSpecificFeedback),
 }
 
+// Makes room for one more item: in an empty list for three, since most datagrams have no more.
+#[inline]
+fn make_room(items: &mut Vec<Rtcp>) -> Result<(), AllocError>
+    ensures items { items.new.items ≡ items.old.items }
+    ensures room { OnOk result (vec_len items.new < vec_capacity items.new) }
+{
+    if items.is_empty() {
+        items.reserve_exact(3)
+    } else {
+        items.reserve(1)
+    }
+}
+
 // Adds an item, and says that reading goes on, unless its bytes were too short for its fields.
 fn add<T: Kind>(items: &mut Vec<Rtcp>, item: Option<T>) -> Result<bool, AllocError>
     ensures on { IfOk result (λ on. on ≡ goes_on (item_or_short T.item_of item)) }
@@ -48,7 +62,7 @@ fn add<T: Kind>(items: &mut Vec<Rtcp>, item: Option<T>) -> Result<bool, AllocErr
 {
     match item {
         Some(item) => {
-            items.reserve(1)?;
+            make_room(items)?;
             items.push_reserved(item.into_item());
             Ok(true)
         }

@@ -3,10 +3,10 @@ use Rattle.std.proofs.Common.{◌≡◌, ℕ, ◌+◌, ◌-◌, ◌*◌, ◌<◌
 use Rattle.std.specs.Int.{w32, to_be_bytes}
 use Rattle.std.specs.Prelude.{slice_index, bit_xor, ◌==◌, if◌then◌else◌}
 use Rattle.std.specs.Int.Bits.{xor_assoc, xor_zero_r}
-use Rattle.std.specs.Simd.Lanes.{zip2, chunk}
+use Rattle.std.specs.Simd.Lanes.{zip2, chunk, put_chunk}
 use Rattle.std.proofs.lemmas.Bool.{eq-eqb, ne_eqb}
 use Rattle.std.proofs.lemmas.Nat.{xor_comm}
-use Rattle.std.proofs.lemmas.Simd.{get_or-zip2, get_or-chunk, length-chunk, length-zip2}
+use Rattle.std.proofs.lemmas.Simd.{get_or-zip2, get_or-chunk, length-chunk, length-zip2, get_or-put_chunk_below, get_or-put_chunk_at, get_or-put_chunk_above}
 use Rattle.std.proofs.lemmas.List.{length-append, length-drop, length-take-le, take-append-drop, drop-drop, get_or-take, get_or-drop, get_or_past}
 use Rattle.srtp_core.specs.Toy.{toy_block, toy_block_byte, column, toy_tag}
 use Rattle.srtp_core.specs.SimulatedLaws.{made}
@@ -66,6 +66,54 @@ column_here zero j p i (x ∷ xs) at is room =
 column_here (suc d) j p i (x ∷ xs) at is room =
     other_byte j ((p + i) % 16) x (column j (p + i + 1) xs) (λ e. omega arith)
     ∙ ap (λ n. column j n xs) (omega arith) ∙ column_here d j p (i + 1) xs at (omega arith) (omega arith)
+
+-- behind a part of a block
+column_before : (j i : ℕ) (xs : List ℕ) → i + length xs ≤ j → j < 16 → column j i xs ≡ 0
+column_before j i [] h small = refl
+column_before j i (x ∷ xs) h small =
+    other_byte j (i % 16) x (column j (i + 1) xs) (λ e. omega arith) ∙ column_before j (i + 1) xs (omega arith) small
+
+-- what is XORed into a part of a block
+mixed_at : (j p : ℕ) (tag part lanes : List ℕ) → j < 16 → length tag ≡ 16 → p + length part ≤ 16 → length lanes ≡ length part → ((k : ℕ) → k < length part → get_or lanes k 0 ≡ bit_xor (get_or tag (p + k) 0) (get_or part k 0))
+    → (j < p) ⊎ ((p ≤ j) × ((j - p < length part) ⊎ (length part ≤ j - p))) → get_or (put_chunk p tag lanes) j 0 ≡ bit_xor (get_or tag j 0) (column j p part)
+mixed_at j p tag part lanes small long room same each (inl h) =
+    let none : column j p part ≡ 0 = ap (λ n. column j n part) (omega arith) ∙ column_past j 0 p part refl h room in
+    get_or-put_chunk_below p tag lanes j 0 h ∙ sym (ap (bit_xor (get_or tag j 0)) none ∙ xor_zero_r (get_or tag j 0))
+mixed_at j p tag part lanes small long room same each (inr (h, inl lt)) =
+    let k = j - p in
+    let e : p + k ≡ j = omega arith in
+    let own : column j p part ≡ get_or part k 0 = ap (λ n. column j n part) (omega arith) ∙ column_here k j 0 p part refl (omega arith) room in
+    ap (λ n. get_or (put_chunk p tag lanes) n 0) (sym e) ∙ get_or-put_chunk_at p tag lanes k 0 (omega arith) (omega arith) ∙ each k lt
+    ∙ ap (λ n. bit_xor (get_or tag n 0) (get_or part k 0)) e ∙ ap (bit_xor (get_or tag j 0)) (sym own)
+mixed_at j p tag part lanes small long room same each (inr (h, inr le)) =
+    get_or-put_chunk_above p tag lanes j 0 (omega arith) ∙ sym (ap (bit_xor (get_or tag j 0)) (column_before j p part (omega arith) small) ∙ xor_zero_r (get_or tag j 0))
+
+-- a step of a sum by fours
+pub four_mixed : (j at i : ℕ) (tag xs : List ℕ) → j < 16 → length tag ≡ 16 → 4 * i + 4 ≤ length xs → at + length xs ≤ 16
+    → bit_xor (slice_index (put_chunk (at + 4 * i) tag (zip2 bit_xor (chunk (at + 4 * i) 4 tag) (chunk (4 * i) 4 xs))) j) (column j (at + 4 * (i + 1)) (drop (4 * (i + 1)) xs)) ≡ bit_xor (slice_index tag j) (column j (at + 4 * i) (drop (4 * i) xs))
+four_mixed j at i tag xs small long room fits =
+    let p = at + 4 * i in
+    let ys = drop (4 * i) xs in
+    let old = chunk p 4 tag in
+    let part = chunk (4 * i) 4 xs in
+    let rest = column j (at + 4 * (i + 1)) (drop (4 * (i + 1)) xs) in
+    let is_4 : length part ≡ 4 = length-chunk (4 * i) 4 xs room in
+    let was_4 : length old ≡ 4 = length-chunk p 4 tag (omega arith) in
+    let lanes_4 : length (zip2 bit_xor old part) ≡ length part = length-zip2 bit_xor old part (was_4 ∙ sym is_4) ∙ was_4 ∙ sym is_4 in
+    let each : (k : ℕ) → k < length part → get_or (zip2 bit_xor old part) k 0 ≡ bit_xor (get_or tag (p + k) 0) (get_or part k 0) =
+    λ k h. get_or-zip2 bit_xor old part k 0 0 0 (omega arith) h ∙ ap (λ b. bit_xor b (get_or part k 0)) (get_or-chunk p 4 tag k 0 (omega arith)) in
+    let byte : get_or (put_chunk p tag (zip2 bit_xor old part)) j 0 ≡ bit_xor (get_or tag j 0) (column j p part) =
+    mixed_at j p tag part (zip2 bit_xor old part) small long (omega arith) lanes_4 each (grind arith) in
+    let next : column j p ys ≡ bit_xor (column j p part) rest =
+    ap (column j p) (sym (take-append-drop 4 ys)) ∙ column-append j p part (drop 4 ys)
+    ∙ ap (bit_xor (column j p part)) (ap (λ n. column j n (drop 4 ys)) (omega arith) ∙ ap (column j (at + 4 * (i + 1))) (drop-drop 4 (4 * i) xs ∙ ap (λ n. drop n xs) (omega arith))) in
+    ap (λ b. bit_xor b rest) byte ∙ xor_assoc (get_or tag j 0) (column j p part) rest ∙ ap (bit_xor (get_or tag j 0)) (sym next)
+
+-- a text in two parts, XORed into a byte one after the other
+pub two_mixed : (j at : ℕ) (xs ys all : List ℕ) (t one new : ℕ) → xs ++ ys ≡ all → one ≡ bit_xor t (column j at xs) → new ≡ bit_xor one (column j (at + length xs) ys) → new ≡ bit_xor t (column j at all)
+two_mixed j at xs ys all t one new e p q =
+    q ∙ ap (λ b. bit_xor b (column j (at + length xs) ys)) p ∙ xor_assoc t (column j at xs) (column j (at + length xs) ys)
+    ∙ ap (bit_xor t) (sym (column-append j at xs ys) ∙ ap (column j at) e)
 
 column-block : (j p : ℕ) (xs : List ℕ) → j < 16 → p % 16 ≡ 0 → 16 ≤ length xs → column j p xs ≡ bit_xor (get_or xs j 0) (column j (p + 16) (drop 16 xs))
 column-block j p xs small at room =

@@ -75,6 +75,7 @@ pub(crate) fn cm_direction<C: SrtpCipher>(cipher: C, master: &MasterKey) -> CmDi
 }
 
 /// Seals an RTP datagram whose header is its first bytes.
+#[inline(never)]
 pub(crate) fn seal_rtp<C: SrtpCipher>(
     alloc: Global,
     cipher: C,

@@ -1,5 +1,6 @@
 ghost use Rattle.std.specs.Prelude.{◌≡◌, ℕ, ◌+◌, ◌%◌, ◌<◌, ◌≤◌, List, ◌++◌, length, slice_index, bit_xor};
 ghost use Rattle.std.specs.Int.{w128, to_be_bytes};
+ghost use Rattle.std.specs.Simd.Lanes.{zip2, chunk, put_chunk};
 ghost use Rattle.srtp_core.specs.Streams.{streamed, blocks_at};
 ghost use Rattle.srtp_core.specs.Toy.{toy_block, column, toy_tag, word_block};
 ghost use Rattle.srtp_core.specs.SimulatedLaws.{length-toy_tag};
@@ -14,8 +15,34 @@ use std::simd::prelude::*;
 #[derive(Clone, Copy, Debug)]
 pub struct ToyCipher;
 
+/// XORs the 4 bytes from a place on into the columns from `at` on.
+#[inline(always)]
+fn mix_four(tag: &mut [u8], at: usize, bytes: &[u8], from: usize)
+    requires columns { at + 4 ≤ length tag.old }
+    requires bytes { from + 4 ≤ length bytes.now }
+    ensures { tag.new ≡ put_chunk at tag.old (zip2 bit_xor (chunk at 4 tag.old) (chunk from 4 bytes.now)) }
+{
+    let lanes = u8x4::from_slice(&tag[at..]) ^ u8x4::from_slice(&bytes[from..]);
+    lanes.copy_to_slice(&mut tag[at..]);
+}
+
+/// XORs bytes into their columns by fours, the first one into column `at`.
+#[inline(always)]
+fn mix_fours(tag: &mut [u8; 16], at: usize, bytes: &[u8])
+    requires whole { length bytes.now % 4 ≡ 0 }
+    requires room { at + length bytes.now ≤ 16 }
+    ensures long { length tag.new ≡ 16 }
+    ensures columns { (j : ℕ) → j < 16 → slice_index tag.new j
+        ≡ bit_xor (slice_index tag.old j) (column j at bytes.now) }
+{
+    for n in 0..bytes.len() / 4 {
+        mix_four(tag, at + 4 * n, bytes, 4 * n);
+    }
+}
+
 /// XORs each byte into its column, the first one into column `at` and none past the last column.
-fn mix_bytes(tag: &mut [u8; 16], at: usize, bytes: &[u8])
+#[inline(always)]
+fn mix_each(tag: &mut [u8; 16], at: usize, bytes: &[u8])
     requires { at + length bytes.now ≤ 16 }
     ensures long { length tag.new ≡ 16 }
     ensures columns { (j : ℕ) → j < 16 → slice_index tag.new j
@@ -24,6 +51,19 @@ fn mix_bytes(tag: &mut [u8; 16], at: usize, bytes: &[u8])
     for (i, byte) in bytes.iter().enumerate() {
         tag[at + i] ^= *byte;
     }
+}
+
+/// Like `mix_each`, by fours as far as they go.
+#[inline(always)]
+fn mix_bytes(tag: &mut [u8; 16], at: usize, bytes: &[u8])
+    requires { at + length bytes.now ≤ 16 }
+    ensures long { length tag.new ≡ 16 }
+    ensures columns { (j : ℕ) → j < 16 → slice_index tag.new j
+        ≡ bit_xor (slice_index tag.old j) (column j at bytes.now) }
+{
+    let (fours, last) = bytes.split_at(bytes.len() / 4 * 4);
+    mix_fours(tag, at, fours);
+    mix_each(tag, at + fours.len(), last);
 }
 
 /// XORs whole blocks of 16 bytes into the columns.
@@ -41,6 +81,7 @@ fn mix_blocks(tag: &mut [u8; 16], blocks: &[u8])
 }
 
 /// Like `mix_bytes`, by blocks where a block begins in column 0.
+#[inline(always)]
 fn mix(tag: &mut [u8; 16], at: usize, bytes: &[u8])
     requires { at < 16 }
     ensures long { length tag.new ≡ 16 }

@@ -1,7 +1,7 @@
 use Rattle.std.proofs.Common.{◌≡◌, ℕ, ◌+◌, ◌<◌, length, drop}
 use Rattle.std.specs.Prelude.{slice_index, bit_xor}
 use Rattle.srtp_core.specs.Toy.{column}
-use Rattle.srtp_core.proofs.toy.mix_bytes.Given as goal
+use Rattle.srtp_core.proofs.toy.mix_each.Given as goal
 
 abbrev pub invariant-loop-i : goal.invariant-loop-i
 invariant-loop-i l = record {
