@@ -5,6 +5,7 @@
 mod bench_main;
 mod ciphers;
 mod command;
+mod compounds;
 mod error;
 mod feedback;
 mod headers;

@@ -1,5 +1,6 @@
 // The table of rows.
 use crate::ciphers::CipherWork;
+use crate::compounds::CompoundWork;
 use crate::feedback::FeedbackWork;
 use crate::headers::HeaderWork;
 use crate::pacing::PacerWork;
@@ -36,6 +37,8 @@ pub enum Work {
     Toy(CipherWork),
     /// Transport-wide feedback.
     Feedback(FeedbackWork),
+    /// Compound RTCP.
+    Rtcp(CompoundWork),
     /// A packet pushed into the queue of those that wait, a tick, and the packet taken.
     Waiting,
     /// Calls of sessions.
@@ -57,6 +60,7 @@ impl Work {
             Work::Header(work) => Ok(work.play(count)),
             Work::Toy(work) => work.play(alloc, count),
             Work::Feedback(work) => work.play(alloc, count),
+            Work::Rtcp(work) => work.play(alloc, count),
             Work::Waiting => queues::pass_all(alloc, count),
             Work::Session(work) => work.play(alloc, count),
         }
@@ -75,7 +79,7 @@ pub struct Row {
 }
 
 /// The rows, in the order in which they are timed.
-pub const ROWS: [Row; 58] = [
+pub const ROWS: [Row; 59] = [
     Row {
         name: "take-in-order-slots",
         work: Work::Slots(RegisterWork::Take(Numbers::InOrder)),
@@ -339,6 +343,11 @@ pub const ROWS: [Row; 58] = [
     Row {
         name: "feedback-apply",
         work: Work::Feedback(FeedbackWork::Apply),
+        count: 50_000,
+    },
+    Row {
+        name: "rtcp-read",
+        work: Work::Rtcp(CompoundWork::Read),
         count: 50_000,
     },
     Row {
