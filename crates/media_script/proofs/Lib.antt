@@ -1,3 +1,4 @@
+pub mod HexLaws
 pub mod Kept
 pub mod KindLaws
 pub mod LineLaws

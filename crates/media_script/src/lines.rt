@@ -3,6 +3,7 @@ ghost use Rattle.std.specs.Prelude.{◌≡◌, ◌≢◌, ◌∷◌, ◌++◌, �
 ghost use Rattle.media_script.specs.Grammar.{is_long};
 ghost use Rattle.media_script.specs.Spelling.{words_of, is_passed_over};
 
+use memchr::memchr;
 use std::alloc::{AllocError, Global};
 
 // The most words of a line of a script of two sessions that is read at all; a line of any kind has
@@ -14,7 +15,7 @@ fn cut_at(bytes: &[u8], end: u8) -> Option<(&[u8], &[u8])>
     ensures { MatchOption result (All (λ b. b ≢ end) bytes.now)
         (λ x. (bytes.now ≡ x.0.now ++ end ∷ x.1.now) × All (λ b. b ≢ end) x.0.now) }
 {
-    let at = bytes.iter().position(|b| *b == end)?;
+    let at = memchr(end, bytes)?;
     Some((&bytes[..at], &bytes[at + 1..]))
 }
 

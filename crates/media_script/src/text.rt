@@ -1,126 +1,72 @@
 // The text of a transcript.
-ghost use Rattle.std.specs.Prelude.{◌≡◌, ◌++◌, Some, IfOk, OnOk, string_bytes};
+ghost use Rattle.std.specs.Prelude.{◌≡◌, ◌++◌, IfOk, OnOk, string_bytes};
 ghost use Rattle.media_script.specs.Names.{side_text, kind_text, call_text, flag_text};
-ghost use Rattle.media_script.specs.Text.{byte_text, hex_text, answer_text, got_text, sealed_text, opened_text, yielded_text, line_text, entries_text, end_text, text_of};
+ghost use Rattle.media_script.specs.Text.{hex_text, answer_text, got_text, sealed_text, opened_text, yielded_text, line_text, entries_text, end_text, text_of};
 
 use media_model::{Call, Entry, Got, Kind, Opened, Packet, Sealed, Setup, Side, Transcript};
 use std::alloc::{AllocError, Global};
-use std::fmt;
 use std::fmt::Write;
 
 // The word for a side.
-#[derive(Clone, Copy)]
-struct SideName(Side);
-
-impl fmt::Display for SideName {
-    ghost output = { λ s. Some (side_text s.0) };
-
-    fn fmt<W: fmt::Write>(&self, f: &mut fmt::Formatter<W>) -> fmt::Result {
-        match self.0 {
-            Side::A => write!(f, "A"),
-            Side::B => write!(f, "B"),
-        }
+fn side_word(side: Side) -> &'static str
+    ensures { result.now ≡ side_text side }
+{
+    match side {
+        Side::A => "A",
+        Side::B => "B",
     }
 }
 
 // The word for what a datagram carries.
-#[derive(Clone, Copy)]
-struct KindName(Kind);
-
-impl fmt::Display for KindName {
-    ghost output = { λ k. Some (kind_text k.0) };
-
-    fn fmt<W: fmt::Write>(&self, f: &mut fmt::Formatter<W>) -> fmt::Result {
-        match self.0 {
-            Kind::Rtp => write!(f, "rtp"),
-            Kind::Rtcp => write!(f, "rtcp"),
-        }
+fn kind_word(kind: Kind) -> &'static str
+    ensures { result.now ≡ kind_text kind }
+{
+    match kind {
+        Kind::Rtp => "rtp",
+        Kind::Rtcp => "rtcp",
     }
 }
 
 // The word for what an application asks of its session.
-#[derive(Clone, Copy)]
-struct CallName(Call);
-
-impl fmt::Display for CallName {
-    ghost output = { λ c. Some (call_text c.0) };
-
-    fn fmt<W: fmt::Write>(&self, f: &mut fmt::Formatter<W>) -> fmt::Result {
-        match self.0 {
-            Call::Application => write!(f, "app"),
-        }
-    }
-}
-
-#[derive(Clone, Copy)]
-struct Byte(u8);
-
-impl fmt::Display for Byte {
-    ghost output = { λ b. Some (byte_text b.0) };
-
-    #[tactic(auto, using(std::proofs::lemmas::Fmt::hex_byte))]
-    fn fmt<W: fmt::Write>(&self, f: &mut fmt::Formatter<W>) -> fmt::Result {
-        let b = self.0;
-        write!(f, "{b:02x}")
-    }
-}
-
-// Bytes in lower-case hex, and - for none.
-#[derive(Clone, Copy)]
-struct Hex<'a>(&'a [u8]);
-
-impl fmt::Display for Hex<'_> {
-    ghost output = { λ h. Some (hex_text h.0.now) };
-
-    fn fmt<W: fmt::Write>(&self, f: &mut fmt::Formatter<W>) -> fmt::Result {
-        if self.0.is_empty() {
-            return write!(f, "-");
-        }
-        for b in self.0 {
-            let byte = Byte(*b);
-            write!(f, "{byte}")?;
-        }
-        Ok(())
+fn call_word(call: Call) -> &'static str
+    ensures { result.now ≡ call_text call }
+{
+    match call {
+        Call::Application => "app",
     }
 }
 
 // 0 or 1.
-#[derive(Clone, Copy)]
-struct Flag(bool);
-
-impl fmt::Display for Flag {
-    ghost output = { λ b. Some (flag_text b.0) };
-
-    fn fmt<W: fmt::Write>(&self, f: &mut fmt::Formatter<W>) -> fmt::Result {
-        if self.0 {
-            write!(f, "1")
-        } else {
-            write!(f, "0")
-        }
-    }
+fn flag_word(flag: bool) -> &'static str
+    ensures { result.now ≡ flag_text flag }
+{
+    if flag { "1" } else { "0" }
 }
 
 // yes or no.
-#[derive(Clone, Copy)]
-struct Answer(bool);
+fn answer_word(answer: bool) -> &'static str
+    ensures { result.now ≡ answer_text answer }
+{
+    if answer { "yes" } else { "no" }
+}
 
-impl fmt::Display for Answer {
-    ghost output = { λ b. Some (answer_text b.0) };
-
-    fn fmt<W: fmt::Write>(&self, f: &mut fmt::Formatter<W>) -> fmt::Result {
-        if self.0 {
-            write!(f, "yes")
-        } else {
-            write!(f, "no")
-        }
+// Adds bytes in lower-case hex, and - for none.
+#[tactic(auto, using(crate::proofs::HexLaws::hex_text_is))]
+fn put_hex(text: &mut String, bytes: &[u8]) -> Result<(), AllocError>
+    ensures { OnOk result (string_bytes text.new ≡ string_bytes text.old ++ hex_text bytes.now) }
+{
+    if bytes.is_empty() {
+        return text.push('-');
     }
+    let digits = hex::encode(*text.allocator(), bytes)?;
+    text.push_str(digits.as_str())
 }
 
 fn put_got(text: &mut String, got: &Got) -> Result<(), AllocError>
     ensures { OnOk result (string_bytes text.new ≡ string_bytes text.old ++ got_text got.now) }
 {
-    let side = SideName(got.side);
-    let kind = KindName(got.kind);
+    let side = side_word(got.side);
+    let kind = kind_word(got.kind);
     let length = got.bytes.len();
     write!(text, "got {side} {kind} {length}")
 }
@@ -128,19 +74,19 @@ fn put_got(text: &mut String, got: &Got) -> Result<(), AllocError>
 fn put_sealed(text: &mut String, sealed: &Sealed) -> Result<(), AllocError>
     ensures { OnOk result (string_bytes text.new ≡ string_bytes text.old ++ sealed_text sealed.now) }
 {
-    let side = SideName(sealed.side);
-    let kind = KindName(sealed.kind);
+    let side = side_word(sealed.side);
+    let kind = kind_word(sealed.kind);
     let ssrc = sealed.ssrc;
     let index = sealed.index;
-    let bytes = Hex(sealed.bytes.as_slice());
-    write!(text, "sealed {side} {kind} {ssrc} {index} {bytes}")
+    write!(text, "sealed {side} {kind} {ssrc} {index} ")?;
+    put_hex(text, sealed.bytes.as_slice())
 }
 
 fn put_opened(text: &mut String, opened: &Opened) -> Result<(), AllocError>
     ensures { OnOk result (string_bytes text.new ≡ string_bytes text.old ++ opened_text opened.now) }
 {
-    let side = SideName(opened.side);
-    let kind = KindName(opened.kind);
+    let side = side_word(opened.side);
+    let kind = kind_word(opened.kind);
     let ssrc = opened.ssrc;
     let index = opened.index;
     write!(text, "opened {side} {kind} {ssrc} {index}")
@@ -149,17 +95,17 @@ fn put_opened(text: &mut String, opened: &Opened) -> Result<(), AllocError>
 fn put_yielded(text: &mut String, side: Side, packet: &Packet) -> Result<(), AllocError>
     ensures { OnOk result (string_bytes text.new ≡ string_bytes text.old ++ yielded_text side packet.now) }
 {
-    let side = SideName(side);
+    let side = side_word(side);
     let ssrc = packet.ssrc;
     let number = packet.number;
     let pt = packet.pt;
-    let marker = Flag(packet.marker);
+    let marker = flag_word(packet.marker);
     let rtp_time = packet.rtp_time;
-    let payload = Hex(packet.payload.as_slice());
     write!(
         text,
-        "yielded {side} {ssrc} {number} {pt} {marker} {rtp_time} {payload}"
-    )
+        "yielded {side} {ssrc} {number} {pt} {marker} {rtp_time} "
+    )?;
+    put_hex(text, packet.payload.as_slice())
 }
 
 pub fn put_entry(text: &mut String, entry: &Entry) -> Result<(), AllocError>
@@ -167,19 +113,19 @@ pub fn put_entry(text: &mut String, entry: &Entry) -> Result<(), AllocError>
 {
     match entry {
         Entry::Wrote(side, _, packet) => {
-            let side = SideName(*side);
+            let side = side_word(*side);
             let ssrc = packet.ssrc;
             let number = packet.number;
             write!(text, "wrote {side} {ssrc} {number}")
         }
         Entry::Ticked(side, time) => {
-            let side = SideName(*side);
+            let side = side_word(*side);
             let time = time.as_nanos();
             write!(text, "ticked {side} {time}")
         }
         Entry::Called(side, _, call) => {
-            let side = SideName(*side);
-            let call = CallName(*call);
+            let side = side_word(*side);
+            let call = call_word(*call);
             write!(text, "called {side} {call}")
         }
         Entry::Got(got) => put_got(text, got),
@@ -205,8 +151,8 @@ pub fn entries_text(alloc: Global, entries: &[Entry]) -> Result<String, AllocErr
 pub fn put_end(text: &mut String, genuine: bool, repairs: bool) -> Result<(), AllocError>
     ensures { OnOk result (string_bytes text.new ≡ string_bytes text.old ++ end_text genuine repairs) }
 {
-    let genuine = Answer(genuine);
-    let repairs = Answer(repairs);
+    let genuine = answer_word(genuine);
+    let repairs = answer_word(repairs);
     writeln!(text, "end genuine={genuine} repairs={repairs}")
 }
 
