@@ -6,7 +6,7 @@ use Rattle.resend_core.specs.ResendStore.{Event, pushed, evicted, Past, HeldAs, 
 use Rattle.resend_core.specs.RtxCache.{packet_at, StandsFor as CacheStandsFor}
 use Rattle.resend_core.specs.declared.rtx_cache.RtxCache.{RtxCache}
 use Rattle.rtx_core.specs.declared.resend.Resend.{Resend}
-use Rattle.rtx_core.specs.Resends.{AreNumbers, ResendView, ResendRecord, StandsFor, asked_for, Asks, none, gone, held, FirstHeld, none_held, passed, found, first_held, resend_of, resends_of}
+use Rattle.rtx_core.specs.Resends.{AreNumbers, ResendView, ResendRecord, StandsFor, asked_for, unless_capped, next_of, IsNext, Asks, none, gone, held, FirstHeld, none_held, passed, found, first_held, resend_of, resends_of}
 
 -- by the law of the store
 pub held_in : {P S : Type 0} (stands_for : S → Past P → Type 0) (value_at : S → ℕ → Option P) → ((s : S) (past : Past P) (n : ℕ) → stands_for s past → HeldAs past n (value_at s n))
@@ -67,4 +67,15 @@ asks_is stands_for value_at holds size now ns s new r h asked same =
         cache = subst (λ c. CacheStandsFor stands_for size c r.cache) (sym same) h.cache;
         numbers = h.numbers;
       },
+    )
+
+-- what is sent again next, by what happened to the cache
+pub next_is : {P S : Type 0} (stands_for : S → Past P → Type 0) (value_at : S → ℕ → Option P) → ((s : S) (past : Past P) (n : ℕ) → stands_for s past → HeldAs past n (value_at s n)) → (size : P → ℕ) (now : ℕ)
+    → (s : ResendView (RtxCache P S)) (r : ResendRecord P) → StandsFor stands_for size s r → IsNext now r (next_of now (packet_at value_at s.cache) s.state)
+next_is stands_for value_at holds size now s r h =
+    let at = packet_at value_at s.cache in
+    let found = first_held at s.state.resends in (
+      found,
+      subst (λ t. FirstHeld r.cache t.resends found) h.state (first_is r.cache at (held_in stands_for value_at holds s.cache r.cache h.cache.store) s.state.resends),
+      ap (λ t. unless_capped now t found) h.state,
     )

@@ -96,9 +96,13 @@ abbrev pub is_capped : ℕ → Option CapRecord → Bool
 is_capped now None = false
 is_capped now (Some c) = (after_reading now c).met
 
--- what is sent again next: nothing while the cap is met
+-- nothing while the cap is met
+abbrev pub unless_capped : {P : Type 0} → ℕ → ResendState → Option (P × List Resend) → Option (P × List Resend)
+unless_capped now s found = if is_capped now s.cap then None else found
+
+-- what is sent again next
 abbrev pub next_of : {P : Type 0} → ℕ → (ℕ → Option P) → ResendState → Option (P × List Resend)
-next_of now held s = if is_capped now s.cap then None else first_held held s.resends
+next_of now held s = unless_capped now s (first_held held s.resends)
 
 -- the cap is read where something is asked for
 abbrev pub cap_after : ℕ → ResendState → Option CapRecord
@@ -137,3 +141,7 @@ pub data FirstHeld {P : Type 0} (past : Past P) : List Resend → Option (P × L
   none_held : FirstHeld past [] None
   passed : (r : Resend) (rs : List Resend) (found : Option (P × List Resend)) → HeldAs past r.seq_no None → FirstHeld past rs found → FirstHeld past (r ∷ rs) found
   found : (r : Resend) (rs : List Resend) (p : P) → HeldAs past r.seq_no (Some p) → FirstHeld past (r ∷ rs) (Some (p, rs))
+
+-- so this is what is sent again next, by what happened to the cache
+abbrev pub IsNext : {P : Type 0} → ℕ → ResendRecord P → Option (P × List Resend) → Type 0
+IsNext {P} now r next = (found : Option (P × List Resend)) × FirstHeld r.cache r.state.resends found × (next ≡ unless_capped now r.state found)

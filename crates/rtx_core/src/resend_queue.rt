@@ -4,7 +4,7 @@ ghost use Rattle.rtp_base.specs.NackEntry.{named_by};
 ghost use Rattle.resend_core.specs.ResendStore.{Past, last_position};
 ghost use Rattle.resend_core.specs.RtxCache.{packet_at, IsCached, StandsFor as CacheStandsFor};
 ghost use Rattle.rtx_core.specs.Ratio.{after_reading, forgetting, with_pushed, without_pushed, with_resent};
-ghost use Rattle.rtx_core.specs.Resends.{ResendRecord, StandsFor, created, recapped, recached, after_first, Caches, numbers_of, resend_of, resends_of, asked_for, first_held, is_capped, next_of, cap_after, after_next, number_of, IsExhausted, closed, Asks, FirstHeld};
+ghost use Rattle.rtx_core.specs.Resends.{ResendRecord, StandsFor, created, recapped, recached, after_first, Caches, numbers_of, resend_of, resends_of, asked_for, first_held, is_capped, next_of, cap_after, after_next, number_of, IsExhausted, closed, Asks, IsNext};
 
 use crate::ratio_cap::RatioCap;
 use crate::resend::{Resend, ResendError};
@@ -332,14 +332,15 @@ impl<P: Cached, S: ResendStore<P>> ResendQueue<P, S> {
     /// The packet that is to be sent again next: the first that was asked for and is kept. None where there
     /// is none, or where the cap is met at the moment. It looks at those that are not kept any more.
     pub fn peek(&self, now: Instant) -> Option<&P>
-        ensures { option_copied result ≡ option_map (λ f. f.0) (next_of now (packet_at S.value_at self.now.cache) self.now.state) }
+        ensures due { (r : ResendRecord P) → StandsFor S.stands_for P.size self.now r → IsNext now r (next_of now (packet_at S.value_at self.now.cache) self.now.state) }
+        ensures packet { option_copied result ≡ option_map (λ f. f.0) (next_of now (packet_at S.value_at self.now.cache) self.now.state) }
     {
         let (_, packet) = self.next(now)?;
         Some(packet)
     }
 
-    /// Drops what is asked for.
-    fn give_up(&mut self, now: Instant)
+    /// Drops what is asked for, and reads the cap where that is due.
+    pub fn give_up(&mut self, now: Instant)
         ensures { self.new ≡ record self.old { state = record self.old.state { resends = []; cap = cap_after now self.old.state } } }
     {
         if self.resends.is_empty() {
@@ -375,7 +376,7 @@ impl<P: Cached, S: ResendStore<P>> ResendQueue<P, S> {
         ensures state { OnOk result (self.new.state ≡ after_next now P.size (next_of now (packet_at S.value_at self.old.cache) self.old.state) self.old.state) }
         ensures cache { self.new.cache ≡ self.old.cache }
         ensures exhausted { IsErrOf result ResendError.Exhausted ↔ IsExhausted (next_of now (packet_at S.value_at self.old.cache) self.old.state) self.old.state }
-        ensures held { (r : ResendRecord P) → StandsFor S.stands_for P.size self.old r → FirstHeld r.cache self.old.state.resends (first_held (packet_at S.value_at self.old.cache) self.old.state.resends) }
+        ensures due { (r : ResendRecord P) → StandsFor S.stands_for P.size self.old r → IsNext now r (next_of now (packet_at S.value_at self.old.cache) self.old.state) }
         ensures err { OnErr result (self.new ≡ self.old) }
     {
         let Some((count, packet)) = self.next(now) else {
