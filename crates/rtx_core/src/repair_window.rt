@@ -3,11 +3,9 @@ ghost use Rattle.std.specs.Option.{ForSome};
 ghost use Rattle.rtp_base.specs.Window.{is_fresh_after, with_fresh, StandsFor as WindowStandsFor};
 ghost use Rattle.rtx_core.specs.Repairs.{RepairPast, repair_near, repair_number, is_fresh_repair, repair_opened, Remembers};
 
+use crate::resend::NUMBER_LIMIT;
 use rtp_base::{SeqNo, SeqNoWindow, widen16};
 use std::marker::Model;
-
-/// Extended sequence numbers are below it.
-const NUMBER_LIMIT: u64 = 1 << 48;
 
 /// Which repairs of a stream were taken (RFC 4588), by their own numbers. It begins with the first repair
 /// that opens: up to the greatest number that is seen on the SSRC of that repair by then, no number is

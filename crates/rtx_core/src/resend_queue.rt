@@ -7,7 +7,7 @@ ghost use Rattle.rtx_core.specs.Ratio.{after_reading, forgetting, with_pushed, w
 ghost use Rattle.rtx_core.specs.Resends.{ResendRecord, StandsFor, created, recapped, recached, after_first, Caches, numbers_of, resend_of, resends_of, asked_for, first_held, is_capped, next_of, cap_after, after_next, number_of, IsExhausted, closed, Asks, IsNext};
 
 use crate::ratio_cap::RatioCap;
-use crate::resend::{Resend, ResendError};
+use crate::resend::{NUMBER_LIMIT, Resend, ResendError};
 use media_base::{Duration, Instant};
 use resend_core::{Cached, ResendStore, RtxCache};
 use rtp_base::{NackEntry, SeqNo};
@@ -23,9 +23,6 @@ pub const DEFAULT_RTX_CACHE_DURATION: u64 = 3;
 
 /// How many hundredths of what is sent may be repairs.
 pub const DEFAULT_RTX_RATIO_CAP: u32 = 15;
-
-/// Extended sequence numbers are below it.
-const NUMBER_LIMIT: u64 = 1 << 48;
 
 /// What an outgoing stream sends again (RFC 4588): the packets that it keeps, of those what the peer asked
 /// for, in order, and the number of the next repair. Where more of what it sent than a cap were repairs,
