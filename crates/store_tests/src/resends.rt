@@ -2,7 +2,7 @@ use media_base::{Duration, Instant};
 use queue_store::QueueStore;
 use resend_core::{Cached, EvictingBuffer, ResendStore};
 use rtp_base::{NackEntry, SeqNo};
-use rtx_core::{RepairWindow, ResendError, ResendQueue};
+use rtx_core::{ResendError, ResendQueue};
 use std::alloc::{AllocError, Global};
 use std::test::Fail;
 
@@ -238,23 +238,4 @@ fn resends_of_both_stores(rt: HostRuntime) -> Result<(), Fail> {
         assert!(rt; are_answered::<QueueStore<Packet>>(rt.alloc(), made, steps)?);
     }
     Ok(())
-}
-
-// Repairs up to what was seen are not taken, nor is one twice; the first that opens settles what was seen.
-#[test]
-fn repairs_above_the_floor(rt: HostRuntime) {
-    let seen = Some(SeqNo::from(6));
-    let mut window = RepairWindow::new();
-    assert!(rt; !window.accepts(SeqNo::from(4), seen));
-    assert!(rt; !window.accepts(SeqNo::from(6), seen));
-    assert!(rt; window.accepts(SeqNo::from(7), seen));
-    window.take(SeqNo::from(7), seen);
-    assert!(rt; !window.accepts(SeqNo::from(7), None));
-    assert!(rt; !window.accepts(SeqNo::from(5), None));
-    assert!(rt; window.accepts(SeqNo::from(8), None));
-    let far = Some(SeqNo::from(65_540));
-    let mut window = RepairWindow::new();
-    assert_eq!(rt; window.number_for(5, far), SeqNo::from(65_541));
-    window.take(SeqNo::from(65_541), far);
-    assert_eq!(rt; window.number_for(5, None), SeqNo::from(65_541));
 }
