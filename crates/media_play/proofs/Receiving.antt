@@ -14,8 +14,7 @@ use Rattle.srtp_core.specs.Contexts.{SrtpState, new_state}
 use Rattle.srtp_core.specs.Keys.{session_keys}
 use Rattle.srtp_core.specs.Seals.{sealed_rtp, OpensTo}
 use Rattle.stream_core.specs.RxRecord.{RxRecord, taken_of, number_with, fresh_number as fresh_on}
-use Rattle.stream_core.specs.StreamsRecord.{value_under}
-use Rattle.stream_core.specs.Tables.{place_of}
+use Rattle.stream_core.specs.Tables.{value_under, place_of}
 use Rattle.session_core.specs.Receiving.{seen_of, is_claimed, number_of, Unpads, OpensIn, Opens as OpensHere}
 use Rattle.session_core.specs.SessionRecord.{SessionRecord}
 use Rattle.media_model.specs.declared.entry.Side.{Side}

@@ -14,9 +14,8 @@ use Rattle.rtp_wire.specs.declared.header.RtpHeader.{RtpHeader}
 use Rattle.repair_core.specs.Fresh.{is_fresh, with_number}
 use Rattle.srtp_core.specs.Cipher.{CipherMeaning}
 use Rattle.stream_core.specs.RxRecord.{RxRecord, taken_of, opened_as as heard_on}
-use Rattle.stream_core.specs.StreamsRecord.{value_under}
 use Rattle.stream_core.specs.Pauses.{on_record, told}
-use Rattle.stream_core.specs.Tables.{place_of, each, change_place, change_at}
+use Rattle.stream_core.specs.Tables.{value_under, place_of, each, change_place, change_at}
 use Rattle.stream_core.specs.TxRecord.{TxRecord}
 use Rattle.session_core.specs.Receiving.{seen_of, saw, rx_opened, probes_opened}
 use Rattle.session_core.specs.SessionRecord.{MediaRecord, SessionRecord}

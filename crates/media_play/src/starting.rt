@@ -21,11 +21,10 @@ use mask_register::MaskRegister;
 use media_base::Bytes;
 use media_model::{Media, MediaKind, Setup, Side, Stream};
 use rtp_wire::{Frequency, Mid, MidRid};
-use session_core::{
-    Media as Section, MediaKind as SectionKind, Mtu, PayloadTypes, Session, SessionConfig, TypeRow,
-};
+use session_core::{Media as Section, MediaKind as SectionKind, Mtu, Session, SessionConfig};
 use srtp_core::{KeyingMaterial, SrtpCipher};
 use std::alloc::{AllocError, Global};
+use stream_core::{PayloadTypes, TypeRow};
 
 /// The payload types of a setup. The clock of one without a rate has ticks of 1 s.
 fn payload_types(alloc: Global, setup: &Setup) -> Result<PayloadTypes, AllocError>
@@ -35,7 +34,11 @@ fn payload_types(alloc: Global, setup: &Setup) -> Result<PayloadTypes, AllocErro
     let mut types = PayloadTypes::new(alloc);
     for row in setup.types.as_slice() {
         let clock = Frequency::new(row.rate).unwrap_or(Frequency::SECONDS);
-        types.add(TypeRow { pt: row.pt, clock })?;
+        types.add(TypeRow {
+            pt: row.pt,
+            clock,
+            rtx: None,
+        })?;
     }
     Ok(types)
 }

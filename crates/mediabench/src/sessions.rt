@@ -7,12 +7,11 @@ use media_base::{Beginning, Bytes, Duration, Instant};
 use rtp_base::{Frequency, Mid, MidRid, Pt, SeqNo, Ssrc};
 use rtp_wire::ExtensionMap;
 use session_core::{
-    DATAGRAM_MTU, DATAGRAM_MTU_WARN, Datagram, Media, MediaKind, Mtu, PayloadTypes, Session,
-    SessionConfig, TypeRow,
+    DATAGRAM_MTU, DATAGRAM_MTU_WARN, Datagram, Media, MediaKind, Mtu, Session, SessionConfig,
 };
 use srtp_core::{KeyingMaterial, SrtpProfile, ToyCipher};
 use std::alloc::{AllocError, Global};
-use stream_core::{Payload, RtpWrite, Streams};
+use stream_core::{Payload, PayloadTypes, RtpWrite, Streams, TypeRow};
 
 type End = Session<ToyCipher, MaskRegister>;
 
@@ -42,6 +41,7 @@ fn config(alloc: Global) -> Result<SessionConfig, AllocError>
     types.add(TypeRow {
         pt: Pt::from(96),
         clock: Frequency::NINETY_KHZ,
+        rtx: None,
     })?;
     Ok(SessionConfig {
         id: 1,

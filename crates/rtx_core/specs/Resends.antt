@@ -23,9 +23,8 @@ pub record ResendView (C : Type 0) : Type 0 where
   pub cache : C
 
 -- with what happened to the cache
-pub record ResendRecord (P : Type 0) : Type 0 where
-  pub state : ResendState
-  pub cache : Past P
+abbrev pub ResendRecord : Type 0 → Type 0
+ResendRecord P = ResendView (Past P)
 
 -- every number under which a packet was cached has 48 bits
 abbrev pub AreNumbers : {P : Type 0} → List (Event P) → Type 0

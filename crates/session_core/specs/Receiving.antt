@@ -11,9 +11,9 @@ use Rattle.srtp_core.specs.Contexts.{SrtpState}
 use Rattle.srtp_core.specs.Seals.{OpensTo}
 use Rattle.stream_core.specs.declared.packet.RtpPacket.{RtpPacket}
 use Rattle.stream_core.specs.RxRecord.{RxRecord, fresh_number, opened_as}
-use Rattle.stream_core.specs.StreamsRecord.{value_under, accepted}
-use Rattle.stream_core.specs.Tables.{place_of, change_place, change_at}
-use Rattle.session_core.specs.declared.config.TypeRow.{TypeRow}
+use Rattle.stream_core.specs.StreamsRecord.{accepted}
+use Rattle.stream_core.specs.Tables.{value_under, place_of, change_place, change_at}
+use Rattle.stream_core.specs.declared.payload_types.TypeRow.{TypeRow}
 use Rattle.session_core.specs.declared.datagram.Opened.{Opened}
 use Rattle.session_core.specs.SessionRecord.{SessionRecord}
 

@@ -10,7 +10,7 @@ use Rattle.stream_core.specs.Tables.{Along}
 use Rattle.stream_core.specs.TxRecord.{TxRecord}
 use Rattle.rtcp_wire.specs.declared.packet.Rtcp.{Rtcp}
 use Rattle.rtcp_wire.specs.declared.feedback.AppSpecificFeedback.{AppSpecificFeedback}
-use Rattle.session_core.specs.declared.config.TypeRow.{TypeRow}
+use Rattle.stream_core.specs.declared.payload_types.TypeRow.{TypeRow}
 
 -- a media section: its mid, its kind, and the canonical name of its sources
 pub record MediaRecord : Type 0 where

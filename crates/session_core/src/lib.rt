@@ -13,7 +13,7 @@ mod seen;
 mod sending;
 mod session;
 
-pub use config::{DATAGRAM_MTU, DATAGRAM_MTU_WARN, Mtu, PayloadTypes, SessionConfig, TypeRow};
+pub use config::{DATAGRAM_MTU, DATAGRAM_MTU_WARN, Mtu, SessionConfig};
 pub use datagram::{Datagram, DrainFault, Drained, Event, Opened};
 pub use error::{AppError, RtcError};
 pub use media::{Media, MediaKind};

@@ -5,7 +5,6 @@ ghost use Rattle.stream_core.specs.RxRecord.{RxRecord, StandsFor};
 ghost use Rattle.stream_core.specs.Tables.{Along, place_of};
 ghost use Rattle.session_core.specs.Receiving.{Unpads, OpensIn, IsOpening, cut, number_of, rx_opened, probes_opened, is_claimed, packet_from, packet_after};
 
-use crate::config::PayloadTypes;
 use media_base::{Bytes, Instant};
 use repair_core::GapWindow;
 use rtp_base::{Frequency, MediaTime, SeqNo, Ssrc};
@@ -13,7 +12,7 @@ use rtp_wire::RtpHeader;
 use srtp_core::laws::rtp_opens_once;
 use srtp_core::{SrtpCipher, SrtpContext};
 use std::alloc::{AllocError, Global};
-use stream_core::{Payload, RtpPacket, StreamRx, Streams};
+use stream_core::{Payload, PayloadTypes, RtpPacket, StreamRx, Streams};
 
 /// What bytes opened to.
 #[derive(Debug, Drop)]

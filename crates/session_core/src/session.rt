@@ -11,7 +11,7 @@ mod incoming;
 mod outgoing;
 mod ticks;
 
-use crate::config::{PayloadTypes, SessionConfig};
+use crate::config::SessionConfig;
 use crate::error::{AppError, RtcError};
 use crate::media::Media;
 use crate::seen::Seen;
@@ -24,7 +24,7 @@ use srtp_core::{KeyingMaterial, SrtpCipher, SrtpContext, SrtpError, SrtpProfile}
 use std::alloc::Global;
 use std::collections::VecDeque;
 use std::marker::Model;
-use stream_core::{RtpPacket, StreamRx, Streams, Transport};
+use stream_core::{PayloadTypes, RtpPacket, StreamRx, Streams, Transport};
 
 /// What one end of a connection sends and receives: contexts that seal and open, streams, and media
 /// sections. It does no input or output: it is handed the datagrams that come and the moments of ticks,

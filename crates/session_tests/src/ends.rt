@@ -4,11 +4,10 @@ use mask_register::MaskRegister;
 use media_base::{Beginning, Bytes, Duration, Instant};
 use rtp_base::{Frequency, Mid, MidRid, Pt, Rid, Ssrc};
 use rtp_wire::ExtensionMap;
-use session_core::{
-    Media, MediaKind, Mtu, PayloadTypes, RtcError, Session, SessionConfig, TypeRow,
-};
+use session_core::{Media, MediaKind, Mtu, RtcError, Session, SessionConfig};
 use srtp_core::{KeyingMaterial, SrtpProfile, ToyCipher};
 use std::alloc::Global;
+use stream_core::{PayloadTypes, TypeRow};
 
 /// One end with the toy cipher.
 pub type End = Session<ToyCipher, MaskRegister>;
@@ -51,6 +50,7 @@ pub fn config(
     types.add(TypeRow {
         pt: Pt::from(96),
         clock: Frequency::NINETY_KHZ,
+        rtx: Some(Pt::from(97)),
     })?;
     Ok(SessionConfig {
         id: 1,

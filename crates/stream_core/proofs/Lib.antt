@@ -1,6 +1,7 @@
 pub mod Accepting
 pub mod Alongside
 pub mod Any
+pub mod Mending
 pub mod Polling
 pub mod RxSteps
 pub mod Stamps

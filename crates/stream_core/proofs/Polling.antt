@@ -14,7 +14,7 @@ use Rattle.stream_core.specs.Sealing.{sealed_values, with_values}
 use Rattle.stream_core.specs.TxRecord.{TxRecord, receipt_of, polled, IsSealable}
 
 -- the length that a header says is not among its bytes
-bytes_of_any : (exts : ExtensionMap) (h : RtpHeader) (n : ℕ) → header_bytes exts h ≡ header_bytes exts (record h { header_len = n })
+pub bytes_of_any : (exts : ExtensionMap) (h : RtpHeader) (n : ℕ) → header_bytes exts h ≡ header_bytes exts (record h { header_len = n })
 unfolding header_bytes
 bytes_of_any exts h n = refl
 

@@ -3,6 +3,7 @@ pub mod LendingStreams
 pub mod Missing
 pub mod Pauses
 pub mod Queue
+pub mod Repairing
 pub mod RxRecord
 pub mod Sealing
 pub mod StreamsRecord

@@ -18,6 +18,14 @@ has_id t e = is_some (id_of t.exts e)
 abbrev pub send_time : Transport → ℕ → ℕ
 send_time t now = send_units (ntp_nanos t.beginning.unix_secs now) % 2 ^ 24
 
+-- values, with what a packet tells of its sealing: where they have ids, the moment and the low 16 bits of the packet's
+-- number on the transport
+abbrev pub with_sealing : Transport → ℕ → ExtensionValues → ExtensionValues
+with_sealing t now values = record values {
+  abs_send_time = if has_id t AbsoluteSendTime then Some (send_time t now) else values.abs_send_time;
+  transport_cc = if has_id t TransportSequenceNumber then Some (t.twcc % 65536) else values.transport_cc;
+}
+
 -- the values that a packet has when it is sealed: its own; the mid and the rid of its stream, until the peer has
 -- acknowledged the stream's SSRC; where they have ids, the moment and the low 16 bits of the packet's number on the
 -- transport; and no rid that it repairs

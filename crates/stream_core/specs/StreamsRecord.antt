@@ -1,9 +1,8 @@
 -- The streams of a session as a record, and what each call makes of it.
-use Rattle.std.specs.Prelude.{◌≡◌, ℕ, List, [], Option, slice_get, option_and_then}
-use Rattle.std.specs.Map.{values_of}
+use Rattle.std.specs.Prelude.{◌≡◌, ℕ, List, [], Option, option_and_then}
 use Rattle.repair_core.specs.Rounds.{Heard}
 use Rattle.stream_core.specs.RxRecord.{RxView, RxRecord, fresh_number, StandsFor as RxStandsFor}
-use Rattle.stream_core.specs.Tables.{place_of, Along}
+use Rattle.stream_core.specs.Tables.{value_under, Along}
 use Rattle.stream_core.specs.TxRecord.{TxRecord}
 
 -- the streams as their callers see them: how long nothing comes on an incoming one until it is paused, where nothing else is
@@ -25,10 +24,6 @@ pub record StandsFor {W : Type 0} (remembers : W → Heard → Type 0) (s : Stre
 
 abbrev pub no_streams : ℕ → StreamsRecord
 no_streams threshold = record { threshold = threshold; rx = []; tx = [] }
-
--- the value under a key, if it has one
-abbrev pub value_under : {X : Type 0} → ℕ → List (ℕ × X) → Option X
-value_under k es = option_and_then (slice_get (values_of es)) (place_of k es)
 
 -- the number under which a datagram of this SSRC with these low 16 bits may open, where a greatest number may be remembered
 -- of the SSRC

@@ -1,12 +1,16 @@
 -- Values under keys, in order.
-use Rattle.std.specs.Prelude.{◌≡◌, ℕ, zero, suc, nat_eq, position, Option, List, [], ◌∷◌, ◌++◌, map}
+use Rattle.std.specs.Prelude.{◌≡◌, ℕ, zero, suc, nat_eq, position, Option, option_and_then, slice_get, List, [], ◌∷◌, ◌++◌, map}
 use Rattle.std.specs.List.{AllZip}
-use Rattle.std.specs.Map.{keys_of, remove_entry}
+use Rattle.std.specs.Map.{keys_of, values_of, remove_entry}
 use Rattle.std.specs.Option.{option_map_or}
 
 -- where a key stands first
 abbrev pub place_of : {X : Type 0} → ℕ → List (ℕ × X) → Option ℕ
 place_of k es = position (nat_eq k) (keys_of es)
+
+-- the value under a key, if it has one
+abbrev pub value_under : {X : Type 0} → ℕ → List (ℕ × X) → Option X
+value_under k es = option_and_then (slice_get (values_of es)) (place_of k es)
 
 -- the table without the first value under a key
 abbrev pub without_key : {X : Type 0} → ℕ → List (ℕ × X) → List (ℕ × X)

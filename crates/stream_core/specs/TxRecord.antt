@@ -75,12 +75,12 @@ abbrev pub transport_after_poll : TxRecord → Transport → Transport
 transport_after_poll r t = if is_some (next_of r.queue) then after_packet t else t
 
 -- a packet that may be sealed: its number has 48 bits, of which its header has the low 16, and its plain is the header and
--- at most 1,400 bytes behind it
+-- at most 1,402 bytes behind it
 pub record IsSealable (p : PacketReceipt) : Type 0 where
   pub number : p.seq_no < 2 ^ 48
   pub low : p.seq_no % 65536 ≡ p.header.sequence_number
   pub header : p.header.header_len ≤ length p.plain
-  pub small : length p.plain ≤ 1560
+  pub small : length p.plain ≤ 1562
 
 -- on some stream a packet was written since the last tick
 abbrev pub any_waits : List (ℕ × TxRecord) → Bool

@@ -4,6 +4,8 @@
 
 mod packet;
 mod payload;
+mod payload_types;
+mod repairing;
 mod send_queue;
 mod ssrc_table;
 mod stream_paused;
@@ -15,6 +17,8 @@ mod write;
 
 pub use packet::RtpPacket;
 pub use payload::Payload;
+pub use payload_types::{PayloadTypes, TypeRow};
+pub use repairing::Sent;
 pub use send_queue::SendQueue;
 pub use ssrc_table::SsrcTable;
 pub use stream_paused::StreamPaused;

@@ -1,7 +1,12 @@
+ghost use Rattle.std.specs.Prelude.{◌≡◌, IfOk};
+ghost use Rattle.stream_core.specs.Repairing.{kept_as};
+
 use crate::payload::Payload;
+use crate::payload_types::PayloadTypes;
 use media_base::Instant;
-use rtp_base::{MediaTime, SeqNo};
+use rtp_base::{MediaTime, Pt, SeqNo};
 use rtp_wire::RtpHeader;
+use std::alloc::AllocError;
 
 /// An RTP packet that was written, or that came (RFC 3550 section 5.1).
 #[derive(Debug, PartialEq, Eq, Drop)]
@@ -19,4 +24,31 @@ pub struct RtpPacket {
     pub timestamp: Option<Instant>,
     /// Whether it is kept when it was sent, to be sent again.
     pub nackable: bool,
+}
+
+impl RtpPacket {
+    /// The packet once more. The bytes of its payload are not copied.
+    pub fn shared(&self) -> Result<Self, AllocError>
+        ensures { IfOk result (λ p. p ≡ self.now) }
+    {
+        Ok(RtpPacket {
+            seq_no: self.seq_no,
+            time: self.time,
+            header: self.header,
+            payload: self.payload.shared()?,
+            timestamp: self.timestamp,
+            nackable: self.nackable,
+        })
+    }
+
+    /// The type of its repairs, if it is kept to be sent again.
+    pub(crate) fn kept_as(&self, types: &PayloadTypes) -> Option<Pt>
+        ensures { result ≡ kept_as types.now self.now }
+    {
+        if self.nackable {
+            types.rtx(self.header.payload_type)
+        } else {
+            None
+        }
+    }
 }

@@ -1,17 +1,19 @@
 ghost use Rattle.std.specs.Prelude.{◌≡◌, ◌↔◌, ◌++◌, ◌==◌, ◌≤◌, length, is_some, None, IfOk, IfSome, OnOk, OnErr, IsErrOf};
 ghost use Rattle.rtp_wire.specs.Header.{header_bytes};
 ghost use Rattle.rtp_wire.specs.HeaderLaws.{IsReadAgain};
-ghost use Rattle.stream_core.specs.Queue.{needs_tick, next_of, snapshot_of};
+ghost use Rattle.std.specs.Option.{option_copied};
+ghost use Rattle.stream_core.specs.Queue.{IsSendable, needs_tick, next_of, snapshot_of};
 ghost use Rattle.stream_core.specs.Sealing.{sealed_values};
 
 use crate::packet::RtpPacket;
+use crate::payload::Payload;
 use crate::send_queue::SendQueue;
 use crate::transport::Transport;
 use crate::write::{RtpWrite, WriteError};
 use media_base::{Bytes, Instant};
 use pace_units::QueueSnapshot;
 use rtp_base::{Mid, MidRid, ReceptionReport, Rid, SeqNo, Ssrc};
-use rtp_wire::{Extension, ExtensionMap, ExtensionValues, RtpHeader};
+use rtp_wire::{ExtensionMap, ExtensionValues, RtpHeader};
 use std::alloc::{AllocError, Global};
 use std::marker::Model;
 
@@ -55,30 +57,35 @@ impl Model for StreamTx {
     ghost view = { λ s. record { ssrc = s.ssrc; rtx = s.rtx; mid = s.mid; rid = s.rid; acknowledged = s.acknowledged; queue = s.queue } };
 }
 
-/// The header and its length, and the header's bytes with the payload behind them.
-fn receipt(
+/// The header and its length, and the header's bytes with bytes behind them, and the payload behind those.
+pub(crate) fn receipt(
     alloc: Global,
     header: RtpHeader,
     exts: &ExtensionMap,
-    packet: &RtpPacket,
+    seq_no: SeqNo,
+    between: &[u8],
+    payload: &Payload,
 ) -> Result<PacketReceipt, AllocError>
     requires few_sources { header.csrc_count ≤ 15 }
-    requires payload { length packet.now.payload ≤ 1400 }
+    requires between { length between.now ≤ 2 }
+    requires payload { length payload.now ≤ 1400 }
     ensures header { IfOk result (λ r. r.header ≡ record header { header_len = length (header_bytes exts.now header) }) }
-    ensures number { IfOk result (λ r. r.seq_no ≡ packet.now.seq_no) }
-    ensures plain { IfOk result (λ r. r.plain ≡ header_bytes exts.now header ++ packet.now.payload) }
+    ensures number { IfOk result (λ r. r.seq_no ≡ seq_no) }
+    ensures plain { IfOk result (λ r. r.plain ≡ header_bytes exts.now header ++ (between.now ++ payload.now)) }
     ensures few { IfOk result (λ r. r.header.header_len ≤ 160) }
     ensures reads { OnOk result (IsReadAgain exts.now header) }
 {
     let mut header = header;
     let mut front = [0; MAX_HEADER_LEN];
     header.header_len = header.write_to(&mut front, exts);
-    let mut plain = Vec::with_capacity(alloc, header.header_len + packet.payload.len())?;
+    let len = header.header_len + between.len() + payload.len();
+    let mut plain = Vec::with_capacity(alloc, len)?;
     plain.extend_from_slice(&front[..header.header_len])?;
-    plain.extend_from_slice(packet.payload.as_slice())?;
+    plain.extend_from_slice(between)?;
+    plain.extend_from_slice(payload.as_slice())?;
     Ok(PacketReceipt {
         header,
-        seq_no: packet.seq_no,
+        seq_no,
         plain: Bytes::from_vec(plain),
     })
 }
@@ -186,17 +193,49 @@ impl StreamTx {
             values.rid = self.rid;
         }
         values.rid_repair = None;
-        if transport.has_id(Extension::AbsoluteSendTime) {
-            values.abs_send_time = Some(transport.send_time(now));
-        }
-        if transport.has_id(Extension::TransportSequenceNumber) {
-            values.transport_cc = Some((transport.twcc % 65536) as u16);
-        }
+        transport.put_values(values, now);
     }
 
-    /// What is to be sealed next: the packet at the front of those that wait, if there was a tick since
-    /// it was written. Its header is made for this moment. It is taken out, and the transport counts it.
-    /// Without memory nothing changes.
+    /// The packet that is to be sealed next: the one at the front of those that wait, if there was a tick
+    /// since it was written.
+    pub fn next_packet(&self) -> Option<&RtpPacket>
+        ensures next { option_copied result ≡ next_of self.now.queue }
+        ensures sendable { IfSome result (λ p. IsSendable p.now) }
+    {
+        self.queue.peek()
+    }
+
+    /// What there is to seal for that packet: its header is made for this moment.
+    pub(crate) fn next_receipt(
+        &self,
+        alloc: Global,
+        now: Instant,
+        transport: &Transport,
+    ) -> Result<Option<PacketReceipt>, AllocError>
+        ensures polled { IfOk result (λ receipt. receipt ≡ polled self.now transport.now now) }
+        ensures small { IfOk result (λ receipt. IfSome receipt IsSealable) }
+        ensures reads { IfOk result (λ receipt. IfSome receipt (λ r. IsReadAgain transport.now.exts r.header)) }
+    {
+        let Some(packet) = self.queue.peek() else {
+            return Ok(None);
+        };
+        let mut header = packet.header;
+        self.put_sealed_values(&mut header.ext_vals, now, transport);
+        let seq_no = packet.seq_no;
+        let receipt = receipt(alloc, header, &transport.exts, seq_no, &[], &packet.payload)?;
+        Ok(Some(receipt))
+    }
+
+    /// Takes that packet out, if there is one.
+    pub(crate) fn pop_packet(&mut self)
+        ensures { self.new ≡ after_poll self.old }
+    {
+        self.queue.pop();
+    }
+
+    /// What is to be sealed next of a stream without repairs: the packet at the front of those that wait,
+    /// if there was a tick since it was written. Its header is made for this moment. It is taken out, and
+    /// the transport counts it. Without memory nothing changes.
     pub fn poll_packet(
         &mut self,
         alloc: Global,
@@ -210,13 +249,10 @@ impl StreamTx {
         ensures reads { IfOk result (λ receipt. IfSome receipt (λ r. IsReadAgain transport.old.exts r.header)) }
         ensures err { OnErr result ((self.new ≡ self.old) × (transport.new ≡ transport.old)) }
     {
-        let Some(packet) = self.queue.peek() else {
+        let Some(receipt) = self.next_receipt(alloc, now, transport)? else {
             return Ok(None);
         };
-        let mut header = packet.header;
-        self.put_sealed_values(&mut header.ext_vals, now, transport);
-        let receipt = receipt(alloc, header, &transport.exts, packet)?;
-        self.queue.pop();
+        self.pop_packet();
         transport.count();
         Ok(Some(receipt))
     }

@@ -1,7 +1,7 @@
 ghost use Rattle.std.specs.Prelude.{◌≡◌, is_some};
 
 use media_base::{Beginning, Instant};
-use rtp_wire::{AbsSendTime, Extension, ExtensionMap};
+use rtp_wire::{AbsSendTime, Extension, ExtensionMap, ExtensionValues};
 
 /// What the packets of all streams of a session share when they are sealed.
 #[derive(Clone, Copy, Debug, PartialEq, Eq)]
@@ -15,7 +15,7 @@ pub struct Transport {
 }
 
 impl Transport {
-    ghost use Rattle.stream_core.specs.Sealing.{has_id, send_time, after_packet};
+    ghost use Rattle.stream_core.specs.Sealing.{has_id, send_time, with_sealing, after_packet};
 
     /// Whether an extension has an id.
     pub fn has_id(&self, extension: Extension) -> bool
@@ -29,6 +29,18 @@ impl Transport {
         ensures { result ≡ send_time self.now now }
     {
         AbsSendTime::new(now, &self.beginning)
+    }
+
+    /// Puts what a packet that is sealed at a moment tells of that among its values.
+    pub(crate) fn put_values(&self, values: &mut ExtensionValues, now: Instant)
+        ensures { values.new ≡ with_sealing self.now now values.old }
+    {
+        if self.has_id(Extension::AbsoluteSendTime) {
+            values.abs_send_time = Some(self.send_time(now));
+        }
+        if self.has_id(Extension::TransportSequenceNumber) {
+            values.transport_cc = Some((self.twcc % 65536) as u16);
+        }
     }
 
     /// Counts one more packet, where the transport number has an id.

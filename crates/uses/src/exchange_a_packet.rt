@@ -11,13 +11,12 @@ use media_base::{Beginning, Bytes, Duration, Instant};
 use rtp_base::{Frequency, Mid, MidRid, Pt, SeqNo, Ssrc};
 use rtp_wire::{ExtensionMap, written_header_is_read_again};
 use session_core::{
-    DATAGRAM_MTU, DATAGRAM_MTU_WARN, Event, Media, MediaKind, Mtu, PayloadTypes, RtcError, Session,
-    SessionConfig, TypeRow,
+    DATAGRAM_MTU, DATAGRAM_MTU_WARN, Event, Media, MediaKind, Mtu, RtcError, Session, SessionConfig,
 };
 use srtp_core::laws::{rtp_seal_keeps_header, rtp_seals_apart};
 use srtp_core::{KeyingMaterial, SrtpProfile, ToyCipher};
 use std::alloc::Global;
-use stream_core::{Payload, RtpWrite};
+use stream_core::{Payload, PayloadTypes, RtpWrite, TypeRow};
 
 /// One end, under the toy cipher.
 pub type End = Session<ToyCipher, MaskRegister>;
@@ -29,7 +28,11 @@ pub fn end(alloc: Global, material: &KeyingMaterial, mid: Mid, left: bool) -> Re
 {
     let mut types = PayloadTypes::new(alloc);
     let (pt, clock) = (Pt::from(96), Frequency::NINETY_KHZ);
-    types.add(TypeRow { pt, clock })?;
+    types.add(TypeRow {
+        pt,
+        clock,
+        rtx: None,
+    })?;
     let (target, warn) = (DATAGRAM_MTU, DATAGRAM_MTU_WARN);
     let config = SessionConfig {
         id: 1,

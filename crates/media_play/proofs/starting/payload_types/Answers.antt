@@ -1,7 +1,7 @@
 use Rattle.std.proofs.Common.{ℕ, Bool, List, map, take, sym, ap, ◌∙◌}
 use Rattle.std.specs.Prelude.{◌==◌, ◌||◌}
 use Rattle.std.specs.Map.{keys_of}
-use Rattle.session_core.specs.declared.config.TypeRow.{TypeRow}
+use Rattle.stream_core.specs.declared.payload_types.TypeRow.{TypeRow}
 use Rattle.media_model.specs.Setup.{pt_in}
 use Rattle.media_play.specs.Rules.{has}
 use Rattle.media_play.proofs.StartingLists.{place_has, has_insert, has_more, map_more}

@@ -2,7 +2,7 @@ use Rattle.std.proofs.Common.{refl, ap, ◌∙◌}
 use Rattle.rtp_wire.specs.declared.header.RtpHeader.{RtpHeader}
 use Rattle.stream_core.specs.Queue.{next_of}
 use Rattle.stream_core.proofs.Polling.{read_again, receipt_is, sealable}
-use Rattle.stream_core.proofs.stream_tx.StreamTx.poll_packet.Goals as goal
+use Rattle.stream_core.proofs.stream_tx.StreamTx.next_receipt.Goals as goal
 
 pub returns-clause-polled : goal.returns-clause-polled
 returns-clause-polled c =
