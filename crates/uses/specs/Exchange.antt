@@ -1,5 +1,5 @@
 -- What two sessions exchange.
-use Rattle.std.specs.Prelude.{ℕ, Bool, false, List, [], ◌∷◌, codes}
+use Rattle.std.specs.Prelude.{ℕ, Bool, false, List, [], ◌∷◌, None, codes}
 use Rattle.rtp_wire.specs.Extensions.{no_values, no_extensions}
 use Rattle.srtp_core.specs.Toy.{toy_meaning}
 use Rattle.srtp_core.specs.declared.profile.SrtpProfile.TheVariants.{AeadAes128Gcm}
@@ -41,7 +41,7 @@ end_config = record {
   pause_threshold = 1500000000;
   srtcp_index = 0;
   exts = no_extensions;
-  types = (96, record { pt = 96; clock = 90000 }) ∷ [];
+  types = (96, record { pt = 96; clock = 90000; rtx = None }) ∷ [];
 }
 
 abbrev pub with_media : List ℕ → SessionState → SessionState
