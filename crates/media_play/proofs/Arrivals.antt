@@ -1,12 +1,11 @@
 -- What an end of a run makes of bytes that came.
 use Rattle.std.proofs.Common.{◌≡◌, inl, inr, ℕ, Bool, false, cond, ◌||◌, List, [], ◌∷◌, ◌++◌, drop, map, Option, Some, None, is_none, refl, sym, ap, ◌∙◌, subst, ◌≤◌, ◌^◌}
+use Rattle.media_play.specs.Ends.{EndSession, SessionStands}
 use Rattle.media_play.proofs.Indices.{next_index-got}
 use Rattle.media_model.specs.Setup.{material_of}
 use Rattle.std.specs.Prelude.{◌==◌}
 use Rattle.std.specs.Option.{option_map, option_to_list}
 use Rattle.std.proofs.lemmas.Option.{none-some, same_Some}
-use Rattle.mask_register.specs.declared.register.MaskRegister.{MaskRegister}
-use Rattle.mask_register.specs.MaskRegister.{Remembers}
 use Rattle.rtp_wire.specs.declared.header.RtpHeader.{RtpHeader}
 use Rattle.rtp_wire.specs.HeaderLaws.{ReadsOwnBytes}
 use Rattle.srtp_core.specs.Cipher.{CipherMeaning}
@@ -20,7 +19,7 @@ use Rattle.rtcp_wire.specs.declared.feedback.AppSpecificFeedback.{AppSpecificFee
 use Rattle.session_core.specs.Calls.{told as told_by, after_events}
 use Rattle.session_core.specs.declared.datagram.Opened.{Opened as OpenedHere}
 use Rattle.session_core.specs.Receiving.{Opens as OpensHere, Receives as ReceivesHere, opened, stays as stays_put, after_opened, opening_of, packet_after, cut as cut_here}
-use Rattle.session_core.specs.SessionRecord.{SessionState, SessionView, SessionRecord, StandsFor}
+use Rattle.session_core.specs.SessionRecord.{SessionState, SessionRecord}
 use Rattle.rtp_base.specs.declared.kind.Kind.TheVariants.{Rtp, Rtcp}
 use Rattle.media_model.specs.declared.entry.Packet.{Packet}
 use Rattle.media_model.specs.declared.entry.Got.{Got as GotEntry}
@@ -121,7 +120,7 @@ module _ (cipher : CipherMeaning) (setup : Setup) (came : GotEntry) (own : Reads
           | inr t ↦ rw t (ap (λ l. Yielded came.side (packet_with h n (cut h l)) ∷ []) (sym payload_is))
         ]
 
-    arrival_opens : (final : SessionView MaskRegister) → StandsFor Remembers final (after_events (after_opened time h n payload session))
+    arrival_opens : (final : EndSession) → SessionStands final (after_events (after_opened time h n payload session))
         → Receives (sealing_of cipher setup) setup entries came (Opened (opened_as came.side h n plain_of) ∷ yields came.side h n plain_of)
         × Ready cipher setup came.side (record { session = final; written = end.written }) (entries ++ opening came h n plain_of)
     arrival_opens final stands =
@@ -130,7 +129,7 @@ module _ (cipher : CipherMeaning) (setup : Setup) (came : GotEntry) (own : Reads
           opens h n plain_of here,
           record {
             session = after;
-            stands = subst (λ s. StandsFor Remembers final s) (told_all (after_opened time h n payload session) keys) stands;
+            stands = subst (λ s. SessionStands final s) (told_all (after_opened time h n payload session) keys) stands;
             seals = ready.seals
                 ∙ ap (λ (i : ℕ). Some (new_state cipher setup.profile (material_of setup) (is_left came.side) i))
                 (sym (next_index-got {seal = sealing_of cipher setup} setup came.side entries came (Opened (opened_as came.side h n plain_of) ∷ yields came.side h n plain_of) (opens h n plain_of here)));
@@ -143,15 +142,15 @@ module _ (cipher : CipherMeaning) (setup : Setup) (came : GotEntry) (own : Reads
         )
 
   -- what a session opened, and the packet that it then told
-  pub arrival_gives : {after : SessionRecord} {o : Option OpenedHere} (told : OpenedHere) (final : SessionView MaskRegister) (one : Option RtpPacketRecord) (packet : Option Packet) → came.kind ≡ Rtp
+  pub arrival_gives : {after : SessionRecord} {o : Option OpenedHere} (told : OpenedHere) (final : EndSession) (one : Option RtpPacketRecord) (packet : Option Packet) → came.kind ≡ Rtp
       → ReceivesHere cipher session came.bytes time after o → o ≡ Some told → one ≡ packet_in (told_by after) None
-      → StandsFor Remembers final (after_events after) → packet ≡ option_map packet_told one
+      → SessionStands final (after_events after) → packet ≡ option_map packet_told one
       → Receives (sealing_of cipher setup) setup entries came (brought_by told packet)
       × Ready cipher setup came.side (record { session = final; written = end.written }) (entries ++ Got came ∷ brought_by told packet)
   arrival_gives {after} {o} told final one packet rtp received is says stands carried =
       let t = took o told received is in
       let says_here : one ≡ packet_in (told_by (after_opened time t.header t.number t.payload session)) None = says ∙ ap (λ s. packet_in (told_by s) None) t.left in
-      let stands_here : StandsFor Remembers final (after_events (after_opened time t.header t.number t.payload session)) = subst (λ s. StandsFor Remembers final (after_events s)) t.left stands in
+      let stands_here : SessionStands final (after_events (after_opened time t.header t.number t.payload session)) = subst (λ s. SessionStands final (after_events s)) t.left stands in
       let chunk : brought_by told packet ≡ Opened (opened_as came.side t.header t.number (plain_of t.header t.number t.payload rtp t.opens)) ∷ yields came.side t.header t.number (plain_of t.header t.number t.payload rtp t.opens) =
       ap {A = OpenedHere} {B = List Entry} (λ x. brought_by x packet) t.is
       ∙ ap {A = List Entry} {B = List Entry} (λ l. Opened (opened_as came.side t.header t.number (plain_of t.header t.number t.payload rtp t.opens)) ∷ l)

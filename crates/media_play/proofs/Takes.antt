@@ -15,7 +15,7 @@ use Rattle.repair_core.specs.Fresh.{is_fresh, with_number}
 use Rattle.srtp_core.specs.Cipher.{CipherMeaning}
 use Rattle.stream_core.specs.RxRecord.{RxRecord, taken_of, opened_as as heard_on}
 use Rattle.stream_core.specs.Pauses.{on_record, told}
-use Rattle.stream_core.specs.Tables.{value_under, place_of, each, change_place, change_at}
+use Rattle.stream_core.specs.Tables.{place_of, value_under, each, change_place, change_at}
 use Rattle.stream_core.specs.TxRecord.{TxRecord}
 use Rattle.session_core.specs.Receiving.{seen_of, saw, rx_opened, probes_opened}
 use Rattle.session_core.specs.SessionRecord.{MediaRecord, SessionRecord}
@@ -141,6 +141,7 @@ module _ (setup : Setup) (side : Side) (old new : List Entry)
       takes = all_weaker (TakesAs side old s.state.seen) (TakesAs side new s.state.seen) s.rx (λ e i k. takes_still s.state.seen e k) h.takes;
       probes = takes_still s.state.seen (0, s.probes) h.probes;
       listens = h.listens;
+      repairs = h.repairs;
     }
 
     pub ready_still : next_index setup side new ≡ next_index setup side old → (cipher : CipherMeaning) (end : EndState)
@@ -259,6 +260,7 @@ after_took now header number s = record {
   state = record s.state { seen = saw header.ssrc number s.state.seen; application = None; packet = None };
   rx = each (on_record told) (rx_opened (seen_of header.ssrc s.state.seen) now header.ssrc number s.rx);
   probes = probes_opened (seen_of header.ssrc s.state.seen) now header.ssrc number s.probes;
+  repairs = s.repairs;
 }
 
 pub knows_opened : (setup : Setup) (entries : List Entry) (came : GotEntry) (now : ℕ) (header : RtpHeader) (number : ℕ) (plain : List ℕ) (s : SessionRecord) → IsSound setup
@@ -285,4 +287,5 @@ knows_opened setup entries came now header number plain s sound fresh h =
       listens =
           all_each (ListensAs setup) (on_record told) (λ e k. record { suppressed = k.suppressed; threshold = k.threshold }) rx
           (listens_opened entries came header number plain fresh s.state.seen now setup s.rx h.listens);
+      repairs = h.repairs;
     }

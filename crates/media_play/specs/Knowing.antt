@@ -41,7 +41,7 @@ pub record ListensAs (setup : Setup) (e : ℕ × RxRecord) : Type 0 where
   pub threshold : e.1.state.threshold ≡ setup.pause_threshold
 
 -- the streams are those of the setup, and each stands for what the entries say of it; no feedback
--- waits, and nothing waits to be told
+-- waits, nothing waits to be told, and nothing is kept to be sent again
 pub record Knows (setup : Setup) (side : Side) (s : SessionRecord)
     (entries : List Entry) : Type 0 where
   pub target : s.state.target ≡ setup.mtu.target
@@ -57,6 +57,7 @@ pub record Knows (setup : Setup) (side : Side) (s : SessionRecord)
   pub takes : AllByRecursion (TakesAs side entries s.state.seen) s.rx
   pub probes : TakesAs side entries s.state.seen (0, s.probes)
   pub listens : AllByRecursion (ListensAs setup) s.rx
+  pub repairs : s.repairs ≡ []
 
 -- the numbers that were written under an SSRC
 abbrev pub UsedAs : Side → List Entry → ℕ → Numbers → Type 0

@@ -2,15 +2,14 @@
 use Rattle.std.specs.Prelude.{◌≡◌, ◌≤◌, ◌^◌, ℕ, true, false, is_some, List, [], Some, None}
 use Rattle.std.specs.List.{AllByRecursion}
 use Rattle.std.specs.Map.{keys_of}
-use Rattle.mask_register.specs.declared.register.MaskRegister.{MaskRegister}
-use Rattle.mask_register.specs.MaskRegister.{Remembers}
 use Rattle.srtp_core.specs.Cipher.{CipherMeaning}
 use Rattle.srtp_core.specs.Contexts.{new_state}
 use Rattle.stream_core.specs.RxRecord.{RxRecord}
 use Rattle.stream_core.specs.TxRecord.{TxRecord}
 use Rattle.stream_core.specs.Tables.{place_of}
+use Rattle.media_play.specs.Ends.{EndSession, SessionStands}
 use Rattle.session_core.specs.Sending.{has_mid}
-use Rattle.session_core.specs.SessionRecord.{MediaRecord, SessionView, SessionRecord, StandsFor}
+use Rattle.session_core.specs.SessionRecord.{MediaRecord, SessionRecord}
 use Rattle.media_model.specs.declared.entry.Side.{Side}
 use Rattle.media_model.specs.declared.setup.Setup.{Setup}
 use Rattle.media_model.specs.Sides.{peer_of}
@@ -54,10 +53,11 @@ pub record Begun (cipher : CipherMeaning) (setup : Setup) (side : Side)
   pub probes : IsUnheard (0, s.probes)
   pub pauses : s.state.pause_threshold ≡ setup.pause_threshold
   pub listens : AllByRecursion (ListensAs setup) s.rx
+  pub repairs : s.repairs ≡ []
 
 pub record Starts (cipher : CipherMeaning) (setup : Setup) (side : Side)
-    (sent received : List ℕ) (view : SessionView MaskRegister) : Type 0 where
+    (sent received : List ℕ) (view : EndSession) : Type 0 where
   pub session : SessionRecord
   pub bounded : (local_of side setup).srtcp_index ≤ 2 ^ 31
-  pub stands : StandsFor Remembers view session
+  pub stands : SessionStands view session
   pub begun : Begun cipher setup side sent received session

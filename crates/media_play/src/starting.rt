@@ -20,11 +20,12 @@ use crate::numbers::Numbers;
 use mask_register::MaskRegister;
 use media_base::Bytes;
 use media_model::{Media, MediaKind, Setup, Side, Stream};
+use queue_store::QueueStore;
 use rtp_wire::{Frequency, Mid, MidRid};
 use session_core::{Media as Section, MediaKind as SectionKind, Mtu, Session, SessionConfig};
 use srtp_core::{KeyingMaterial, SrtpCipher};
 use std::alloc::{AllocError, Global};
-use stream_core::{PayloadTypes, TypeRow};
+use stream_core::{PayloadTypes, Sent, TypeRow};
 
 /// The payload types of a setup. The clock of one without a rate has ticks of 1 s.
 fn payload_types(alloc: Global, setup: &Setup) -> Result<PayloadTypes, AllocError>
@@ -74,7 +75,7 @@ fn with_keys<C: SrtpCipher>(
     cipher: C,
     setup: &Setup,
     side: Side,
-) -> Result<Session<C, MaskRegister>, AllocError>
+) -> Result<Session<C, MaskRegister, QueueStore<Sent>>, AllocError>
     requires key { length (material_of setup.now) ≡ material_len setup.now.profile }
     requires mtu { is_mtu setup.now.mtu ≡ true }
     ensures { IfOk result (Starts C.meaning setup.now side [] []) }
@@ -104,7 +105,7 @@ fn with_keys<C: SrtpCipher>(
 
 /// Has a session of a side send or receive a stream of a media section.
 fn add_stream<C: SrtpCipher>(
-    session: &mut Session<C, MaskRegister>,
+    session: &mut Session<C, MaskRegister, QueueStore<Sent>>,
     side: Side,
     mid: Mid,
     stream: &Stream,
@@ -134,7 +135,7 @@ fn add_stream<C: SrtpCipher>(
 
 /// The same with all of these, in order.
 fn add_streams<C: SrtpCipher>(
-    session: &mut Session<C, MaskRegister>,
+    session: &mut Session<C, MaskRegister, QueueStore<Sent>>,
     side: Side,
     mid: Mid,
     streams: &[Stream],
@@ -156,7 +157,7 @@ fn add_streams<C: SrtpCipher>(
 /// Adds a media section of a setup to a session of a side, with its streams.
 fn add_media<C: SrtpCipher>(
     alloc: Global,
-    session: &mut Session<C, MaskRegister>,
+    session: &mut Session<C, MaskRegister, QueueStore<Sent>>,
     side: Side,
     media: &Media,
 ) -> Result<(), AllocError>
@@ -181,7 +182,7 @@ pub fn start<C: SrtpCipher>(
     cipher: C,
     setup: &Setup,
     side: Side,
-) -> Result<Session<C, MaskRegister>, AllocError>
+) -> Result<Session<C, MaskRegister, QueueStore<Sent>>, AllocError>
     requires { setup_fault setup.now ≡ None }
     ensures { IfOk result (Starts C.meaning setup.now side
         (streams_of side setup.now) (streams_of (peer_of side) setup.now)) }

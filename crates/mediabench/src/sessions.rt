@@ -4,6 +4,7 @@ ghost use Rattle.std.specs.Prelude.{◌<◌, ◌≤◌, ◌^◌, length, IfOk};
 use crate::memory::answer;
 use mask_register::MaskRegister;
 use media_base::{Beginning, Bytes, Duration, Instant};
+use queue_store::QueueStore;
 use rtp_base::{Frequency, Mid, MidRid, Pt, SeqNo, Ssrc};
 use rtp_wire::ExtensionMap;
 use session_core::{
@@ -11,9 +12,9 @@ use session_core::{
 };
 use srtp_core::{KeyingMaterial, SrtpProfile, ToyCipher};
 use std::alloc::{AllocError, Global};
-use stream_core::{Payload, PayloadTypes, RtpWrite, Streams, TypeRow};
+use stream_core::{Payload, PayloadTypes, RtpWrite, Sent, Streams, TypeRow};
 
-type End = Session<ToyCipher, MaskRegister>;
+type End = Session<ToyCipher, MaskRegister, QueueStore<Sent>>;
 
 /// What is done with a session, with payloads of so many bytes.
 #[derive(Clone, Copy)]
@@ -75,11 +76,11 @@ fn give_keys(alloc: Global, session: &mut End, left: bool) -> Result<(), AllocEr
     answer(session.set_keying_material(ToyCipher, profile, &material, left))
 }
 
-fn declare(streams: &mut Streams<MaskRegister>, at: MidRid) -> Result<(), AllocError> {
+fn declare(streams: &mut Streams<MaskRegister, QueueStore<Sent>>, at: MidRid) -> Result<(), AllocError> {
     streams.declare_stream_tx(Ssrc::from(42), None, at)
 }
 
-fn expect(streams: &mut Streams<MaskRegister>, at: MidRid) -> Result<(), AllocError> {
+fn expect(streams: &mut Streams<MaskRegister, QueueStore<Sent>>, at: MidRid) -> Result<(), AllocError> {
     streams.expect_stream_rx(Ssrc::from(42), None, at, false)
 }
 
@@ -98,7 +99,7 @@ fn receiver(alloc: Global, at: MidRid) -> Result<End, AllocError> {
 }
 
 // Writes a packet on the first stream.
-fn write_first(streams: &mut Streams<MaskRegister>, write: RtpWrite) -> Result<(), AllocError> {
+fn write_first(streams: &mut Streams<MaskRegister, QueueStore<Sent>>, write: RtpWrite) -> Result<(), AllocError> {
     if streams.tx_len() == 0 {
         return Ok(());
     }

@@ -89,6 +89,7 @@ after_opened now h n payload r = record {
   };
   rx = rx_opened (seen_of h.ssrc r.state.seen) now h.ssrc n r.rx;
   probes = probes_opened (seen_of h.ssrc r.state.seen) now h.ssrc n r.probes;
+  repairs = r.repairs;
 }
 
 -- what a datagram opened to: its header's bytes, and its payload with its padding

@@ -11,6 +11,9 @@ use Rattle.stream_core.specs.TxRecord.{TxRecord}
 use Rattle.rtcp_wire.specs.declared.packet.Rtcp.{Rtcp}
 use Rattle.rtcp_wire.specs.declared.feedback.AppSpecificFeedback.{AppSpecificFeedback}
 use Rattle.stream_core.specs.declared.payload_types.TypeRow.{TypeRow}
+use Rattle.stream_core.specs.Repairing.{SentPacket, RepairsView, RepairsRecord, RepairsStandFor}
+use Rattle.stream_core.specs.StreamsRecord.{StreamsRecord}
+use Rattle.resend_core.specs.ResendStore.{Past}
 
 -- a media section: its mid, its kind, and the canonical name of its sources
 pub record MediaRecord : Type 0 where
@@ -23,7 +26,8 @@ pub record MediaRecord : Type 0 where
 -- nothing else is set; mid and place of the data channel; the payload types, each under its number; the media sections; the
 -- contexts that seal and open, once there are keys; the index of the first SRTCP datagram under the keys that are set next;
 -- the greatest number that opened under each SSRC; the outgoing streams, each under its SSRC, and what they share; the
--- moment of the last round in which it asked for what is missing, at first 0; the feedback that waits to be sent; the
+-- moment of the last round in which it asked for what is missing, at first 0; whether there was a tick since a poll gave no
+-- packet, so that packets that are asked for may leave; the feedback that waits to be sent; the
 -- feedback of an application and the packet that came and wait to be told; and whether an error stopped it
 pub record SessionState : Type 0 where
   pub id : ℕ
@@ -40,23 +44,32 @@ pub record SessionState : Type 0 where
   pub tx : List (ℕ × TxRecord)
   pub transport : Transport
   pub last_round : ℕ
+  pub released : Bool
   pub feedback : List Rtcp
   pub application : Option AppSpecificFeedback
   pub packet : Option RtpPacket
   pub stopped : Bool
 
--- a session as its callers see it: incoming streams each under its SSRC, and the one of SSRC 0, on which probes come
-pub record SessionView (W : Type 0) : Type 0 where
+-- a session as its callers see it: incoming streams each under its SSRC, and the one of SSRC 0, on which probes come; and
+-- what the outgoing streams that have repairs send again, each under its SSRC
+pub record SessionView (W S : Type 0) : Type 0 where
   pub state : SessionState
   pub rx : List (ℕ × RxView W)
   pub probes : RxView W
+  pub repairs : List (ℕ × RepairsView S)
 
 pub record SessionRecord : Type 0 where
   pub state : SessionState
   pub rx : List (ℕ × RxRecord)
   pub probes : RxRecord
+  pub repairs : List (ℕ × RepairsRecord)
 
-pub record StandsFor {W : Type 0} (remembers : W → Heard → Type 0) (s : SessionView W) (r : SessionRecord) : Type 0 where
+pub record StandsFor {W S : Type 0} (remembers : W → Heard → Type 0) (stands_for : S → Past SentPacket → Type 0) (s : SessionView W S) (r : SessionRecord) : Type 0 where
   pub state : s.state ≡ r.state
   pub rx : Along (RxStandsFor remembers) s.rx r.rx
   pub probes : RxStandsFor remembers s.probes r.probes
+  pub repairs : Along (RepairsStandFor stands_for) s.repairs r.repairs
+
+-- its streams
+abbrev pub streams_in : SessionRecord → StreamsRecord
+streams_in r = record { threshold = r.state.pause_threshold; rx = r.rx; tx = r.state.tx; repairs = r.repairs }

@@ -2,17 +2,19 @@ ghost use Rattle.std.specs.Prelude.{◌≡◌, ◌==◌, ◌<◌, ◌^◌, ◌%�
 ghost use Rattle.std.specs.Option.{ForSome, option_map};
 ghost use Rattle.srtp_core.specs.Seals.{OpensTo};
 ghost use Rattle.stream_core.specs.RxRecord.{RxRecord, StandsFor};
-ghost use Rattle.stream_core.specs.Tables.{Along, place_of};
+ghost use Rattle.stream_core.specs.StreamsRecord.{StreamsRecord, StandsFor as StreamsStand};
+ghost use Rattle.stream_core.specs.Tables.{place_of};
 ghost use Rattle.session_core.specs.Receiving.{Unpads, OpensIn, IsOpening, cut, number_of, rx_opened, probes_opened, is_claimed, packet_from, packet_after};
 
 use media_base::{Bytes, Instant};
 use repair_core::GapWindow;
+use resend_core::ResendStore;
 use rtp_base::{Frequency, MediaTime, SeqNo, Ssrc};
 use rtp_wire::RtpHeader;
 use srtp_core::laws::rtp_opens_once;
 use srtp_core::{SrtpCipher, SrtpContext};
 use std::alloc::{AllocError, Global};
-use stream_core::{Payload, PayloadTypes, RtpPacket, StreamRx, Streams};
+use stream_core::{Payload, PayloadTypes, RtpPacket, Sent, StreamRx, Streams};
 
 /// What bytes opened to.
 #[derive(Debug, Drop)]
@@ -96,16 +98,16 @@ pub fn open<C: SrtpCipher>(
 
 /// Where the stream of an SSRC stands, None on SSRC 0, and the number under which its datagram with these
 /// low 16 bits may open.
-pub fn accepts<W: GapWindow>(
+pub fn accepts<W: GapWindow, S: ResendStore<Sent>>(
     ssrc: Ssrc,
     low: u16,
     remembered: &Option<SeqNo>,
-    streams: &Streams<W>,
+    streams: &Streams<W, S>,
     probes: &StreamRx<W>,
 ) -> Option<(Option<usize>, SeqNo)>
     requires { ForSome remembered.now (λ n. n < 2 ^ 48) }
-    ensures number { (rx : List (ℕ × RxRecord)) (p : RxRecord) → Along (StandsFor W.remembers) streams.now.rx rx → StandsFor W.remembers probes.now p
-        → option_map (λ f. f.1) result ≡ number_of remembered.now rx p ssrc low }
+    ensures number { (r : StreamsRecord) (p : RxRecord) → StreamsStand W.remembers S.stands_for streams.now r → StandsFor W.remembers probes.now p
+        → option_map (λ f. f.1) result ≡ number_of remembered.now r.rx p ssrc low }
     ensures probe { IfSome result (λ f. is_none f.0 ≡ (ssrc == 0)) }
     ensures place { IfSome result (λ f. IfSome f.0 (λ i. place_of ssrc streams.now.rx ≡ Some i)) }
     ensures within { IfSome result (λ f. IfSome f.0 (λ i. i < length streams.now.rx)) }
@@ -126,23 +128,24 @@ pub fn accepts<W: GapWindow>(
 
 /// Has the stream at a place, or with none that of SSRC 0, take a number under which a datagram opened at
 /// a moment.
-pub fn take<W: GapWindow>(
+pub fn take<W: GapWindow, S: ResendStore<Sent>>(
     place: Option<usize>,
     now: Instant,
     number: SeqNo,
     remembered: &Option<SeqNo>,
-    streams: &mut Streams<W>,
+    streams: &mut Streams<W, S>,
     probes: &mut StreamRx<W>,
 ) -> Result<(), AllocError>
     requires place { IfSome place (λ i. i < length streams.old.rx) }
     requires number { number < 2 ^ 48 }
     requires remembered { ForSome remembered.now (λ n. n < 2 ^ 48) }
-    ensures rx { OnOk result ((rx : List (ℕ × RxRecord)) (ssrc : ℕ) → Along (StandsFor W.remembers) streams.old.rx rx
+    ensures rx { OnOk result ((r : StreamsRecord) (ssrc : ℕ) → StreamsStand W.remembers S.stands_for streams.old r
         → is_none place ≡ (ssrc == 0) → IfSome place (λ i. place_of ssrc streams.old.rx ≡ Some i)
-        → Along (StandsFor W.remembers) streams.new.rx (rx_opened remembered.now now ssrc number rx)) }
+        → StreamsStand W.remembers S.stands_for streams.new (record r { rx = rx_opened remembered.now now ssrc number r.rx })) }
     ensures probes { OnOk result ((p : RxRecord) (ssrc : ℕ) → StandsFor W.remembers probes.old p → is_none place ≡ (ssrc == 0)
         → StandsFor W.remembers probes.new (probes_opened remembered.now now ssrc number p)) }
     ensures tx { streams.new.tx ≡ streams.old.tx }
+    ensures repairs { streams.new.repairs ≡ streams.old.repairs }
     ensures threshold { streams.new.threshold ≡ streams.old.threshold }
     ensures err { OnErr result ((streams.new ≡ streams.old) × (probes.new ≡ probes.old)) }
 {

@@ -2,15 +2,16 @@ ghost use Rattle.std.specs.Prelude.{◌≤◌, ◌^◌, IfOk};
 
 use mask_register::MaskRegister;
 use media_base::{Beginning, Bytes, Duration, Instant};
+use queue_store::QueueStore;
 use rtp_base::{Frequency, Mid, MidRid, Pt, Rid, Ssrc};
 use rtp_wire::ExtensionMap;
 use session_core::{Media, MediaKind, Mtu, RtcError, Session, SessionConfig};
 use srtp_core::{KeyingMaterial, SrtpProfile, ToyCipher};
 use std::alloc::Global;
-use stream_core::{PayloadTypes, TypeRow};
+use stream_core::{PayloadTypes, Sent, TypeRow};
 
 /// One end with the toy cipher.
-pub type End = Session<ToyCipher, MaskRegister>;
+pub type End = Session<ToyCipher, MaskRegister, QueueStore<Sent>>;
 
 /// The moment of all calls: one second and a half after the beginning.
 pub fn moment() -> Instant {

@@ -2,7 +2,9 @@ pub mod Accepting
 pub mod Alongside
 pub mod Any
 pub mod Mending
+pub mod PollSteps
 pub mod Polling
+pub mod RepairSteps
 pub mod RxSteps
 pub mod Stamps
 pub mod StreamsSteps

@@ -26,7 +26,7 @@ pub repair_is : (ssrc : ℕ) (x : TxRecord) (t : Transport) (now n : ℕ) (p : S
     → r.plain ≡ header_bytes t.exts h ++ (between ++ p.packet.payload) → r ≡ repair_of ssrc x t now n p
 repair_is ssrc x t now n p h between r said header number low plain =
     let bytes : header_bytes t.exts h ≡ header_bytes t.exts (repair_header ssrc x t now n p) =
-    bytes_of_any t.exts h (length (header_bytes t.exts h)) ∙ ap (header_bytes t.exts) said in
+        bytes_of_any t.exts h (length (header_bytes t.exts h)) ∙ ap (header_bytes t.exts) said in
     let whole = plain ∙ (λ i. bytes i ++ (low i ++ p.packet.payload)) in
     let front = header ∙ said in
     λ i. record { header = front i; seq_no = number i; plain = whole i }
@@ -80,11 +80,10 @@ module _ {S : Type 0} (stands_for : S → Past SentPacket → Type 0) (t : Trans
   pub none_again : (o : Option (SentPacket × List Resend)) → None ≡ option_map (λ f. f.0) o → w ≡ record v { state = after_next now size_of_sent None v.state }
       → ((r : RepairsRecord) → RepairsStandFor stands_for v r → IsNext now r o)
       → (r : RepairsRecord) → RepairsStandFor stands_for v r → (after : RepairsRecord) × Repairs t now ssrc x r after None × RepairsStandFor stands_for w after
-  none_again o none gave due r h = (
-    _,
-    none_asked (subst (IsNext now r) (none_found o none) (due r h)),
-    sent_again stands_for v w now None (ap (λ (q : RepairsView S). q.state) gave) (ap (λ (q : RepairsView S). q.cache) gave) r h,
-  )
+  none_again o none gave due r h =
+      (_,
+      none_asked (subst (IsNext now r) (none_found o none) (due r h)),
+      sent_again stands_for v w now None (ap (λ (q : RepairsView S). q.state) gave) (ap (λ (q : RepairsView S). q.cache) gave) r h)
 
   -- a packet is sent again
   pub some_again : (o : Option (SentPacket × List Resend)) (sent : SentPacket) (n : Option ℕ) (seq_no : ℕ) (receipt : PacketReceipt) → Some sent ≡ option_map (λ f. f.0) o
@@ -97,11 +96,10 @@ module _ {S : Type 0} (stands_for : S → Past SentPacket → Type 0) (t : Trans
       let same : v.state.next_seq_no ≡ r.state.next_seq_no = ap (λ (s : ResendState). s.next_seq_no) h.state in
       let bound : v.state.next_seq_no < 2 ^ 48 = subst (λ o. IfSome o (λ m. m < 2 ^ 48)) number small in
       let fits : r.state.next_seq_no < 2 ^ 48 = omega (arith, bound, same) in
-      let whole : receipt ≡ repair_of ssrc x t now r.state.next_seq_no f.0 = is ∙ (λ i. repair_of ssrc x t now ((seq ∙ same) i) (first i)) in (
-        _,
-        subst (λ p. Repairs t now ssrc x r (record r { state = after_next now size_of_sent (Some f) r.state }) (Some p)) (sym whole) (repaired f.0 f.1 (due r h) fits),
-        sent_again stands_for v w now (Some f) state cache r h,
-      )
+      let whole : receipt ≡ repair_of ssrc x t now r.state.next_seq_no f.0 = is ∙ (λ i. repair_of ssrc x t now ((seq ∙ same) i) (first i)) in
+      (_,
+      subst (λ p. Repairs t now ssrc x r (record r { state = after_next now size_of_sent (Some f) r.state }) (Some p)) (sym whole) (repaired f.0 f.1 (due r h) fits),
+      sent_again stands_for v w now (Some f) state cache r h)
 
 pub none_stays : (t : Transport) (now ssrc : ℕ) (x : TxRecord) (q after : RepairsRecord) → Repairs t now ssrc x q after None → Stays now (Some q) (Some after)
 none_stays t now ssrc x q after (none_asked next) = none_left q next
@@ -124,21 +122,19 @@ module _ {S : Type 0} (stands_for : S → Past SentPacket → Type 0) (types : L
     (has : x.rtx ≡ Some ssrc) (after : y ≡ after_poll x) where
   pub polls_first : (o : Option PacketReceipt) → o ≡ polled x t now
       → IfSome o (λ p. (m : RepairsRecord) → RepairsStandFor stands_for between m
-      → (packet : RtpPacket) × (next_of x.queue ≡ Some packet) × (q : RepairsRecord) × Keeps types now packet m q × RepairsStandFor stands_for w q)
+          → (packet : RtpPacket) × (next_of x.queue ≡ Some packet) × (q : RepairsRecord) × Keeps types now packet m q × RepairsStandFor stands_for w q)
       → IfNone o (w ≡ between) → (r : RepairsRecord) → (m : RepairsRecord) × Repairs t now ssrc x r m None × RepairsStandFor stands_for between m
       → (q : RepairsRecord) × Polls types t now x (Some r) y (Some q) o × RepairsStandFor stands_for w q
   polls_first (Some p) is keeps none r k =
       let f = keeps k.0 k.2 in
-      let given : p ≡ receipt_of x t now f.0 = let e : Some p ≡ Some (receipt_of x t now f.0) = is ∙ ap (option_map (receipt_of x t now)) f.1 in cc in (
-        f.2,
-        subst (λ (z : TxRecord). Polls types t now x (Some r) z (Some f.2) (Some p)) (sym after)
-            (subst (λ z. Polls types t now x (Some r) (after_poll x) (Some f.2) (Some z)) (sym given) (first ssrc r k.0 f.2 f.0 has k.1 f.1 f.3)),
-        f.4,
-      )
+      let given : p ≡ receipt_of x t now f.0 = let e : Some p ≡ Some (receipt_of x t now f.0) = is ∙ ap (option_map (receipt_of x t now)) f.1 in cc in
+      (f.2,
+      subst (λ (z : TxRecord). Polls types t now x (Some r) z (Some f.2) (Some p)) (sym after)
+      (subst (λ z. Polls types t now x (Some r) (after_poll x) (Some f.2) (Some z)) (sym given) (first ssrc r k.0 f.2 f.0 has k.1 f.1 f.3)),
+      f.4)
   polls_first None is keeps none r k =
       let last = no_next x t now (next_of x.queue) is in
-      let unchanged : y ≡ x = after ∙ (λ i. record x { queue = rest_same x.queue last i }) in (
-        k.0,
-        subst (λ (z : TxRecord). Polls types t now x (Some r) z (Some k.0) None) (sym unchanged) (nothing ssrc r k.0 has k.1 last),
-        subst (λ v. RepairsStandFor stands_for v k.0) (sym none) k.2,
-      )
+      let unchanged : y ≡ x = after ∙ (λ i. record x { queue = rest_same x.queue last i }) in
+      (k.0,
+      subst (λ (z : TxRecord). Polls types t now x (Some r) z (Some k.0) None) (sym unchanged) (nothing ssrc r k.0 has k.1 last),
+      subst (λ v. RepairsStandFor stands_for v k.0) (sym none) k.2)

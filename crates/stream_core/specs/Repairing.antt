@@ -8,14 +8,14 @@ use Rattle.resend_core.specs.declared.rtx_cache.RtxCache.{RtxCache}
 use Rattle.rtp_wire.specs.declared.header.RtpHeader.{RtpHeader}
 use Rattle.rtp_wire.specs.declared.values.ExtensionValues.{ExtensionValues}
 use Rattle.rtp_wire.specs.Header.{header_bytes}
-use Rattle.rtx_core.specs.Resends.{ResendState, ResendView, ResendRecord, StandsFor, Caches, after_first, after_next, IsNext}
+use Rattle.rtx_core.specs.Resends.{ResendState, ResendView, ResendRecord, StandsFor, Caches, after_first, after_next, IsNext, created}
 use Rattle.stream_core.specs.declared.packet.RtpPacket.{RtpPacket}
 use Rattle.stream_core.specs.declared.payload_types.TypeRow.{TypeRow}
 use Rattle.stream_core.specs.declared.stream_tx.PacketReceipt.{PacketReceipt}
 use Rattle.stream_core.specs.declared.transport.Transport.{Transport}
 use Rattle.stream_core.specs.Queue.{next_of}
 use Rattle.stream_core.specs.Sealing.{with_sealing, with_values}
-use Rattle.stream_core.specs.Tables.{value_under}
+use Rattle.stream_core.specs.Tables.{value_under, change_at}
 use Rattle.stream_core.specs.TxRecord.{TxRecord, receipt_of, polled, after_poll}
 
 -- a packet that was sent and may be sent again, and the payload type of its repairs
@@ -103,3 +103,14 @@ IsUsedUp now q = (p : SentPacket) × (rest : List _) × IsNext now q (Some (p, r
 abbrev pub has_asked : Option ResendState → Bool
 has_asked None = false
 has_asked (Some s) = not (length s.resends == 0)
+
+abbrev pub state_in : {C : Type 0} → Option (ResendView C) → Option ResendState
+state_in q = option_map (λ v. v.state) q
+
+-- the repairs of a stream, among those of all streams, each under the SSRC of its stream
+abbrev pub repairs_of : {X : Type 0} → TxRecord → List (ℕ × X) → Option X
+repairs_of x qs = option_and_then (λ rtx. value_under x.ssrc qs) x.rtx
+
+abbrev pub with_repairs : {X : Type 0} → ℕ → Option X → List (ℕ × X) → List (ℕ × X)
+with_repairs ssrc None qs = qs
+with_repairs ssrc (Some q) qs = change_at ssrc (λ old. q) qs

@@ -1,4 +1,4 @@
-ghost use Rattle.std.specs.Prelude.{◌≡◌, ◌<◌, ◌∷◌, ◌++◌, [], None, Some, length, slice_get, IfSome, OnOk, OnErr, is_some};
+ghost use Rattle.std.specs.Prelude.{◌≡◌, ◌<◌, ◌∷◌, ◌++◌, [], None, Some, length, take, slice_get, IfSome, OnOk, OnErr, is_some};
 ghost use Rattle.std.specs.Map.{values_of};
 ghost use Rattle.stream_core.specs.Tables.{place_of, without_key};
 
@@ -68,6 +68,13 @@ impl<T: Drop> SsrcTable<T> {
         let found = self.place(ssrc).is_some();
         self.streams.shift_remove(&ssrc);
         found
+    }
+
+    /// Takes out all but so many from the front.
+    pub fn truncate(&mut self, len: usize)
+        ensures { self.new ≡ take len self.old }
+    {
+        self.streams.truncate(len);
     }
 
     /// The stream at a place.

@@ -23,7 +23,6 @@ pub mod register_numbers;
 pub mod report_arrivals;
 pub mod script_parts;
 pub mod seal_and_open;
-pub mod send_again;
 #[cfg(test)]
 mod tests;
 pub mod time_a_packet;

@@ -11,16 +11,18 @@ use super::Session;
 use crate::datagram::Opened;
 use crate::error::RtcError;
 use crate::feedback::sender;
-use crate::hearing::{RtcpOpening, feedback_in, hear, last_delay, measure, open_rtcp};
+use crate::hearing::{RtcpOpening, ask_all, feedback_in, hear, last_delay, measure, open_rtcp};
 use crate::receiving::{Opening, accepts, is_claimed, open, put_packet, take};
 use media_base::{Bytes, Instant, InstantExt};
 use repair_core::GapWindow;
+use resend_core::ResendStore;
 use rtp_base::{Kind, SeqNo};
 use rtp_wire::RtpHeader;
 use srtp_core::SrtpCipher;
 use std::alloc::AllocError;
+use stream_core::Sent;
 
-impl<C: SrtpCipher, W: GapWindow> Session<C, W> {
+impl<C: SrtpCipher, W: GapWindow, S: ResendStore<Sent>> Session<C, W, S> {
     /// Takes in an RTP datagram that came, and tells what it opened to; its packet is told by
     /// `poll_event`, but for SSRC 0. None where it does not open, and then nothing changes: where it has
     /// no header, or more than 2,000 bytes; where its SSRC is no incoming stream's, nor 0, or its payload
@@ -28,15 +30,15 @@ impl<C: SrtpCipher, W: GapWindow> Session<C, W> {
     /// are no keys, or it does not end in the padding that its header tells of.
     ///
     /// # Errors
-    /// `Stopped` where an earlier call answered `Memory` or `KeyExhausted`; `Memory`.
+    /// `Stopped` where an earlier call stopped the session; `Memory`.
     pub fn handle_rtp_receive(
         &mut self,
         now: Instant,
         bytes: &[u8],
     ) -> Result<Option<Opened>, RtcError>
         ensures stopped { IsErrOf result Stopped ↔ IsTrue self.old.state.stopped }
-        ensures received { IfOk result (λ opened. (r : SessionRecord) → StandsFor W.remembers self.old r
-            → (after : SessionRecord) × Receives C.meaning r bytes.now now after opened × StandsFor W.remembers self.new after) }
+        ensures received { IfOk result (λ opened. (r : SessionRecord) → StandsFor W.remembers S.stands_for self.old r
+            → (after : SessionRecord) × Receives C.meaning r bytes.now now after opened × StandsFor W.remembers S.stands_for self.new after) }
         ensures unopened { IfOk result (λ opened. IfNone opened (self.new ≡ self.old)) }
         ensures latch { self.new.state.stopped ≡ self.old.state.stopped || is_err result }
         ensures unchanged { IsErrOf result Stopped → self.new ≡ self.old }
@@ -55,8 +57,8 @@ impl<C: SrtpCipher, W: GapWindow> Session<C, W> {
     }
 
     fn receive(&mut self, now: Instant, bytes: &[u8]) -> Result<Option<Opened>, AllocError>
-        ensures received { IfOk result (λ opened. (r : SessionRecord) → StandsFor W.remembers self.old r
-            → (after : SessionRecord) × Receives C.meaning r bytes.now now after opened × StandsFor W.remembers self.new after) }
+        ensures received { IfOk result (λ opened. (r : SessionRecord) → StandsFor W.remembers S.stands_for self.old r
+            → (after : SessionRecord) × Receives C.meaning r bytes.now now after opened × StandsFor W.remembers S.stands_for self.new after) }
         ensures unopened { IfOk result (λ opened. IfNone opened (self.new ≡ self.old)) }
         ensures runs { self.new.state.stopped ≡ self.old.state.stopped }
     {
@@ -77,9 +79,9 @@ impl<C: SrtpCipher, W: GapWindow> Session<C, W> {
         bytes: &[u8],
         header: &RtpHeader,
     ) -> Result<Option<Opened>, AllocError>
-        ensures received { IfOk result (λ opened. (r : SessionRecord) → StandsFor W.remembers self.old r
+        ensures received { IfOk result (λ opened. (r : SessionRecord) → StandsFor W.remembers S.stands_for self.old r
             → header_of r.state.transport.exts bytes.now ≡ Some header.now → is_claimed r.state.types header.now ≡ true
-            → (after : SessionRecord) × Receives C.meaning r bytes.now now after opened × StandsFor W.remembers self.new after) }
+            → (after : SessionRecord) × Receives C.meaning r bytes.now now after opened × StandsFor W.remembers S.stands_for self.new after) }
         ensures unopened { IfOk result (λ opened. IfNone opened (self.new ≡ self.old)) }
         ensures runs { self.new.state.stopped ≡ self.old.state.stopped }
     {
@@ -116,29 +118,31 @@ impl<C: SrtpCipher, W: GapWindow> Session<C, W> {
         }))
     }
 
-    /// Takes in an RTCP datagram that came, and tells what it opened to: its reception blocks acknowledge
-    /// streams without repairs, its last item that tells how long ago a moment of this session came in
+    /// Takes in an RTCP datagram that came, and tells what it opened to: its NACKs ask for packets that were
+    /// sent, which may leave again after the next tick, its reception blocks acknowledge streams without
+    /// repairs, its last item that tells how long ago a moment of this session came in
     /// gives the round trip of the incoming streams, its last feedback of an application is told by
     /// `poll_event`. None where it does not open, and then nothing changes: where it is shorter than a
     /// packet of 8 bytes and what seals it, where its tag does not hold, and without keys. One that comes
-    /// again opens again. The time grows with its items, and with the number of incoming streams where one
+    /// again opens again. The time grows with its items and the numbers that
+    /// they name, and with the number of incoming streams where one
     /// gives the round trip.
     ///
     /// # Errors
-    /// `Stopped` where an earlier call answered `Memory` or `KeyExhausted`; `Memory`.
+    /// `Stopped` where an earlier call stopped the session; `Memory`.
     pub fn handle_rtcp_receive(
         &mut self,
         now: Instant,
         bytes: &[u8],
     ) -> Result<Option<Opened>, RtcError>
         ensures stopped { IsErrOf result Stopped ↔ IsTrue self.old.state.stopped }
-        ensures received { IfOk result (λ opened. (r : SessionRecord) → StandsFor W.remembers self.old r
-            → (after : SessionRecord) × ReceivesRtcp C.meaning r bytes.now now after opened × StandsFor W.remembers self.new after) }
+        ensures received { IfOk result (λ opened. (r : SessionRecord) → StandsFor W.remembers S.stands_for self.old r
+            → (after : SessionRecord) × ReceivesRtcp C.meaning r bytes.now now after opened × StandsFor W.remembers S.stands_for self.new after) }
         ensures unopened { IfOk result (λ opened. IfNone opened (self.new ≡ self.old)) }
         ensures latch { self.new.state.stopped ≡ self.old.state.stopped || is_err result }
         ensures unchanged { IsErrOf result Stopped → self.new ≡ self.old }
         ensures memory { self.old.state.stopped ≡ false → IfErr result (λ e. e ≡ Memory) }
-        ensures failed { IsErrOf result Memory → self.new ≡ record self.old { state = stopped_from self.old.state } }
+        ensures failed { IsErrOf result Memory → self.new ≡ record self.old { state = stopped_from self.old.state; repairs = self.new.repairs } }
     {
         if self.stopped {
             return Err(RtcError::Stopped);
@@ -153,21 +157,22 @@ impl<C: SrtpCipher, W: GapWindow> Session<C, W> {
     }
 
     fn receive_rtcp(&mut self, now: Instant, bytes: &[u8]) -> Result<Option<Opened>, AllocError>
-        ensures received { IfOk result (λ opened. (r : SessionRecord) → StandsFor W.remembers self.old r
-            → (after : SessionRecord) × ReceivesRtcp C.meaning r bytes.now now after opened × StandsFor W.remembers self.new after) }
+        ensures received { IfOk result (λ opened. (r : SessionRecord) → StandsFor W.remembers S.stands_for self.old r
+            → (after : SessionRecord) × ReceivesRtcp C.meaning r bytes.now now after opened × StandsFor W.remembers S.stands_for self.new after) }
         ensures unopened { IfOk result (λ opened. IfNone opened (self.new ≡ self.old)) }
         ensures runs { self.new.state.stopped ≡ self.old.state.stopped }
-        ensures err { OnErr result (self.new ≡ self.old) }
+        ensures err { OnErr result (self.new ≡ record self.old { repairs = self.new.repairs }) }
     {
         let Some(RtcpOpening { plain, index }) = open_rtcp(&mut self.opening, bytes)? else {
             return Ok(None);
         };
         let feedback = feedback_in(self.alloc, plain.as_slice())?;
         let delay = last_delay(self.local_ssrc, &self.streams, feedback.as_slice());
+        self.next_stream = 0;
+        ask_all(feedback.as_slice(), &mut self.streams, now)?;
         let ntp = now.to_ntp_duration(&self.transport.beginning);
         measure(ntp, &delay, &mut self.streams);
         hear(feedback, &mut self.streams, &mut self.application);
-        self.next_stream = 0;
         Ok(Some(Opened {
             kind: Kind::Rtcp,
             ssrc: sender(plain.as_slice()),

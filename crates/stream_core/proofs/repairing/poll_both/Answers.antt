@@ -5,12 +5,9 @@ use Rattle.stream_core.proofs.repairing.poll_both.Goals as goal
 
 pub returns-in-Ok-Some-clause-polled : goal.returns-in-Ok-Some-clause-polled
 returns-in-Ok-Some-clause-polled g c = λ r h.
-    let k = c.in-Ok-Some.ensures.polled r h in (
-      k.0,
-      again c.args.ssrc r k.0 c.in-Ok-Some.receipt c.requires
-          (subst (λ o. Repairs c.args.transport.now c.args.now c.args.ssrc c.args.stream.now r k.0 o) c.in-Ok-Some.field-0-is k.1),
-      k.2,
-    )
+    let k = c.in-Ok-Some.ensures.polled r h in
+    (k.0, again c.args.ssrc r k.0 c.in-Ok-Some.receipt c.requires
+      (subst (λ o. Repairs c.args.transport.now c.args.now c.args.ssrc c.args.stream.now r k.0 o) c.in-Ok-Some.field-0-is k.1), k.2)
 
 pub returns-in-Err-clause-failed : goal.returns-in-Err-clause-failed
 returns-in-Err-clause-failed g c =
@@ -26,13 +23,8 @@ returns-in-Ok-clause-polled g c = λ r h.
 
 pub returns-in-Err-poll_first-clause-failed : goal.returns-in-Err-poll_first-clause-failed
 returns-in-Err-poll_first-clause-failed g c =
-    let said = c.in-Err-poll_first.ensures.err in (
-      said.0,
-      λ r h.
-          let k = c.in-Ok-None.ensures.polled r h in (
-            k.0,
-            none_stays c.args.transport.now c.args.now c.args.ssrc c.args.stream.now r k.0
-                (subst (λ o. Repairs c.args.transport.now c.args.now c.args.ssrc c.args.stream.now r k.0 o) c.in-Ok-None.field-0-is k.1),
-            subst (λ v. RepairsStandFor g.S.ResendStore.stands_for v k.0) (sym said.1) k.2,
-          ),
-    )
+    let said = c.in-Err-poll_first.ensures.err in
+    (said.0, λ r h.
+        let k = c.in-Ok-None.ensures.polled r h in
+        (k.0, none_stays c.args.transport.now c.args.now c.args.ssrc c.args.stream.now r k.0
+          (subst (λ o. Repairs c.args.transport.now c.args.now c.args.ssrc c.args.stream.now r k.0 o) c.in-Ok-None.field-0-is k.1), subst (λ v. RepairsStandFor g.S.ResendStore.stands_for v k.0) (sym said.1) k.2))
