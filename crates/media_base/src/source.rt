@@ -6,19 +6,24 @@ ghost use Rattle.media_base.specs.declared.source.ReadError.TheVariants.{Memory,
 ghost use Rattle.media_base.specs.Causes.{HasCause, Rose, ReadsAll};
 
 use std::alloc::{AllocError, Global};
+use thiserror::Error;
 
 /// The source or the sink failed.
-#[derive(Clone, Copy, Debug, PartialEq, Eq)]
+#[derive(Clone, Copy, Debug, PartialEq, Eq, Error)]
+#[error("the source or the sink failed")]
 pub struct Failed;
 
 /// Why input was not read to its end.
-#[derive(Clone, Copy, Debug, PartialEq, Eq)]
+#[derive(Clone, Copy, Debug, PartialEq, Eq, Error)]
 pub enum ReadError {
     /// There is no memory for the input.
+    #[error("out of memory")]
     Memory,
     /// The source failed.
+    #[error("the source failed")]
     Failed,
     /// There is more input than the limit.
+    #[error("there is more input than the limit")]
     TooLong,
 }
 

@@ -1,7 +1,10 @@
 ghost use Rattle.std.specs.Prelude.{◌≡◌, ◌==◌, ◌<◌, ◌≤◌, ◌∷◌, ◌++◌, [], length};
+ghost use Rattle.std.specs.Slice.Iter.{iter_rest};
+ghost use Rattle.std.specs.Iterator.Adapters.{IterYieldsInOrder};
 
 use arrayvec::ArrayVec;
 use std::marker::Model;
+use std::slice;
 
 /// At most 31 values in a row, as many as the 5-bit count of an RTCP header can say (RFC 3550 section
 /// 6.4.1). It takes no memory of its own. Contracts see the list of them.
@@ -72,6 +75,14 @@ impl<T> ReportList<T> {
         ensures fits { length self.now ≤ 31 }
     {
         self.all.is_full()
+    }
+
+    /// The values, one after another.
+    pub fn iter(&self) -> slice::Iter<'_, T>
+        ensures rest { iter_rest result ≡ self.now }
+        ensures runs { IterYieldsInOrder T }
+    {
+        self.all.as_slice().iter()
     }
 
     /// The values in order, at most 31.
