@@ -32,6 +32,7 @@ use media_base::{Bitrate, DataSize, Duration, Instant, Listed};
 use pace_units::{PaddingRequest, QueuePriority, QueueSnapshot, QueueState};
 use rtp_base::{Mid, MidRid, Rid};
 use std::alloc::{AllocError, Global};
+use thiserror::Error;
 
 // The greatest size of a packet, in bytes.
 const MAX_PACKET: u64 = 2_000;
@@ -67,12 +68,14 @@ pub enum PaceCall {
 }
 
 /// Why a run ended.
-#[derive(Clone, Copy, Debug, PartialEq, Eq)]
+#[derive(Clone, Copy, Debug, PartialEq, Eq, Error)]
 pub enum PaceError {
     /// There is no memory for more.
+    #[error("out of memory")]
     Memory,
     /// The call at this place, counted from 0, may not come: its moment falls, or it sends what no poll
     /// gave a queue for.
+    #[error("the call at place {0} may not come")]
     Call(usize),
 }
 

@@ -5,6 +5,7 @@ ghost use Rattle.std.specs.Option.{option_map};
 
 use rtp_wire::Pt;
 use std::alloc::{AllocError, Global};
+use thiserror::Error;
 
 /// How many packets back a frame may be to be taken from RED.
 pub const MAX_RED_RECOVERY_DEPTH: u64 = 8;
@@ -24,11 +25,13 @@ pub struct RedBlock<'a> {
 }
 
 /// Why RED was not read.
-#[derive(Clone, Copy, Debug, PartialEq, Eq)]
+#[derive(Clone, Copy, Debug, PartialEq, Eq, Error)]
 pub enum RedError {
     /// There is no memory left.
+    #[error("out of memory")]
     Memory,
     /// A header is cut, or the lengths pass the end.
+    #[error("a header is cut, or the lengths pass the end")]
     BadRed,
 }
 
