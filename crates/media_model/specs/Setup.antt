@@ -1,6 +1,7 @@
 -- What a setup gives to a run.
-use Rattle.std.specs.Prelude.{ℕ, Bool, ◌&&◌, nat_le, List, map, replicate, Option, Some, None, if◌then◌else◌}
+use Rattle.std.specs.Prelude.{ℕ, Bool, ◌&&◌, ◌==◌, nat_le, List, ◌∷◌, map, find, replicate, option_to_list, Option, Some, None, if◌then◌else◌}
 use Rattle.std.specs.List.{flat_map, filter_map, fold}
+use Rattle.std.specs.Option.{option_map_or}
 use Rattle.rtp_wire.specs.declared.extension.ExtensionMap.{ExtensionMap}
 use Rattle.rtp_wire.specs.Extensions.{no_extensions, with_extension}
 use Rattle.srtp_core.specs.declared.profile.SrtpProfile.{SrtpProfile}
@@ -14,6 +15,9 @@ use Rattle.media_model.specs.declared.setup.PayloadType.{PayloadType}
 use Rattle.media_model.specs.declared.setup.Stream.{Stream}
 use Rattle.media_model.specs.declared.setup.Media.{Media}
 use Rattle.media_model.specs.declared.setup.NamedExtension.{NamedExtension}
+use Rattle.media_model.specs.declared.setup.Cache.{Cache}
+use Rattle.media_model.specs.declared.setup.NamedCache.{NamedCache}
+use Rattle.media_model.specs.declared.setup.NamedStart.{NamedStart}
 use Rattle.media_model.specs.declared.setup.Setup.{Setup}
 use Rattle.media_model.specs.Sides.{same_side}
 
@@ -44,9 +48,17 @@ streams_of side setup = flat_map (streams_in side) setup.media
 abbrev pub pt_in : PayloadType → ℕ
 pt_in t = t.pt
 
--- the payload types that are claimed
+-- the payload types of what is written
 abbrev pub types_of : Setup → List ℕ
 types_of setup = map pt_in setup.types
+
+-- a type, and that of its repairs where it has one
+abbrev pub claimed_in : PayloadType → List ℕ
+claimed_in t = t.pt ∷ option_to_list t.rtx
+
+-- the payload types that are claimed
+abbrev pub claimed_of : Setup → List ℕ
+claimed_of setup = flat_map claimed_in setup.types
 
 abbrev pub rtx_in : Stream → Option ℕ
 rtx_in stream = stream.rtx
@@ -57,6 +69,24 @@ repairs_in media = filter_map rtx_in media.streams
 -- the SSRCs of repairs (RFC 4588 section 4)
 abbrev pub rtx_of : Setup → List ℕ
 rtx_of setup = flat_map repairs_in setup.media
+
+abbrev pub starts_on : ℕ → NamedStart → Bool
+starts_on ssrc start = start.ssrc == ssrc
+
+-- the number of the first repair of the stream of this main SSRC: what the first line of it says, or 0
+abbrev pub start_of : ℕ → Setup → ℕ
+start_of ssrc setup = option_map_or (λ (s : NamedStart). s.number) (find (starts_on ssrc) setup.starts) 0
+
+-- 2,000 packets, each for 3 s, and 15 hundredths
+abbrev pub default_cache : Cache
+default_cache = record { packets = 2000; age = 3000000000; cap = Some 15 }
+
+abbrev pub keeps_on : ℕ → NamedCache → Bool
+keeps_on ssrc named = named.ssrc == ssrc
+
+-- what the stream of this main SSRC keeps: what the first line of it says, or the default
+abbrev pub cache_of : ℕ → Setup → Cache
+cache_of ssrc setup = option_map_or (λ (n : NamedCache). n.cache) (find (keeps_on ssrc) setup.caches) default_cache
 
 -- the ids that may name an extension
 abbrev pub is_extension_id : ℕ → Bool

@@ -3,6 +3,7 @@
 
 mod application;
 mod entry;
+mod first_number;
 mod genuine;
 mod setup;
 mod srtcp_index;
@@ -11,10 +12,11 @@ mod transcript;
 
 pub use application::ApplicationData;
 pub use entry::{Call, Entry, Got, Opened, Packet, Sealed, Side, Write};
+pub use first_number::FirstNumber;
 pub use rtp_wire::Kind;
 pub use setup::{
-    CipherName, Codec, Key, Local, Media, MediaKind, Mtu, NamedExtension, PayloadType, Setup,
-    Stream,
+    Cache, CipherName, Codec, Key, Local, Media, MediaKind, Mtu, NamedCache, NamedExtension,
+    NamedStart, PayloadType, Setup, Stream,
 };
 pub use srtcp_index::SrtcpIndex;
 pub use step::Step;

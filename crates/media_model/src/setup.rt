@@ -1,8 +1,10 @@
-ghost use Rattle.std.specs.Prelude.{◌≡◌, ◌++◌, IfOk, OnOk};
+ghost use Rattle.std.specs.Prelude.{◌≡◌, ◌++◌, find, IfOk, OnOk};
+ghost use Rattle.std.specs.Option.{option_copied};
 ghost use Rattle.std.specs.List.{filter_map};
-ghost use Rattle.media_model.specs.Setup.{local_of, material_of, streams_of, types_of, main_in, rtx_in, rtx_of, is_extension_id, extensions_of};
+ghost use Rattle.media_model.specs.Setup.{local_of, material_of, streams_of, types_of, claimed_of, main_in, rtx_in, rtx_of, is_extension_id, extensions_of, starts_on, start_of, keeps_on, cache_of};
 
 use crate::entry::Side;
+use crate::first_number::FirstNumber;
 use crate::srtcp_index::SrtcpIndex;
 use media_base::{Beginning, Bytes, Duration, Listed};
 use rtp_wire::{Extension, ExtensionMap, Mid, Pt, Rid, Ssrc};
@@ -51,6 +53,8 @@ pub struct PayloadType {
     pub codec: Codec,
     /// Units of RTP time in a second.
     pub rate: u32,
+    /// The type of its repairs (RFC 4588 section 8.1), at most 127 in a run.
+    pub rtx: Option<Pt>,
 }
 
 /// What a media line carries.
@@ -86,6 +90,50 @@ pub struct Media {
     pub cname: Bytes,
     /// In the order of their lines.
     pub streams: Listed<Stream>,
+}
+
+/// The number of the first repair of a stream (RFC 4588 section 4), and the stream.
+#[derive(Clone, Copy, Debug, PartialEq, Eq)]
+pub struct NamedStart {
+    /// The main SSRC of the stream.
+    pub ssrc: Ssrc,
+    /// The number.
+    pub number: FirstNumber,
+}
+
+/// Which packets a stream keeps to send them again, and how much of what it sends may be repairs.
+#[derive(Clone, Copy, Debug, PartialEq, Eq)]
+pub struct Cache {
+    /// How many packets: 1 to 32,000 in a run.
+    pub packets: u64,
+    /// For how long: at most 10^16 ns in a run.
+    pub age: Duration,
+    /// How many hundredths of the payload bytes sent may be those of repairs; None: any number.
+    pub cap: Option<u32>,
+}
+
+/// That of a stream of which nothing is said: 2,000 packets, each for 3 s, and 15 hundredths.
+impl Default for Cache {
+    ghost use Rattle.media_model.specs.Setup.{default_cache};
+
+    ghost is_default = { λ c. c ≡ default_cache };
+
+    fn default() -> Self {
+        Cache {
+            packets: 2_000,
+            age: Duration::from_nanos(3_000_000_000),
+            cap: Some(15),
+        }
+    }
+}
+
+/// What a stream keeps to send it again, and the stream.
+#[derive(Clone, Copy, Debug, PartialEq, Eq)]
+pub struct NamedCache {
+    /// The main SSRC of the stream.
+    pub ssrc: Ssrc,
+    /// What it keeps.
+    pub cache: Cache,
 }
 
 /// A header extension and the id that names it (RFC 8285).
@@ -141,6 +189,12 @@ pub struct Setup {
     pub types: Listed<PayloadType>,
     /// The media sections, in the order of their lines.
     pub media: Listed<Media>,
+    /// The numbers of first repairs, in the order of their lines. The first one that names a stream
+    /// holds, and that of a stream that none names is 0.
+    pub starts: Listed<NamedStart>,
+    /// What streams keep, in the order of their lines. The first one that names a stream holds, and
+    /// a stream that none names has the default.
+    pub caches: Listed<NamedCache>,
 }
 
 impl Setup {
@@ -200,12 +254,61 @@ impl Setup {
         exts
     }
 
-    /// The payload types that are claimed, in order.
+    /// The payload types of what is written, in order.
     pub fn types(&self, alloc: Global) -> Result<Vec<Pt>, AllocError>
         ensures { IfOk result (λ v. v.items ≡ types_of self.now) }
     {
         self.types.as_slice().iter().map(|t| t.pt).collect(alloc)
     }
+
+    /// The payload types that are claimed, in order: each type, and that of its repairs where it has one.
+    pub fn claimed_types(&self, alloc: Global) -> Result<Vec<Pt>, AllocError>
+        ensures { IfOk result (λ v. v.items ≡ claimed_of self.now) }
+    {
+        let mut claimed = Vec::new(alloc);
+        for payload_type in self.types.as_slice() {
+            claimed.push(payload_type.pt)?;
+            if let Some(rtx) = payload_type.rtx {
+                claimed.push(rtx)?;
+            }
+        }
+        Ok(claimed)
+    }
+
+    /// The number of the first repair of the stream of this main SSRC. The cost grows with the number of
+    /// starts.
+    pub fn start(&self, ssrc: Ssrc) -> FirstNumber
+        ensures { result ≡ start_of ssrc self.now }
+    {
+        match start_in(self.starts.as_slice(), ssrc) {
+            Some(start) => start.number,
+            None => FirstNumber::ZERO,
+        }
+    }
+
+    /// What the stream of this main SSRC keeps. The cost grows with the number of caches.
+    pub fn cache(&self, ssrc: Ssrc) -> Cache
+        ensures { result ≡ cache_of ssrc self.now }
+    {
+        match cache_in(self.caches.as_slice(), ssrc) {
+            Some(named) => named.cache,
+            None => Cache::default(),
+        }
+    }
+}
+
+// The first one that names the stream.
+fn start_in(starts: &[NamedStart], ssrc: Ssrc) -> Option<&NamedStart>
+    ensures { option_copied result ≡ find (starts_on ssrc) starts.now }
+{
+    starts.iter().find(|start| start.ssrc == ssrc)
+}
+
+// The first one that names the stream.
+fn cache_in(caches: &[NamedCache], ssrc: Ssrc) -> Option<&NamedCache>
+    ensures { option_copied result ≡ find (keeps_on ssrc) caches.now }
+{
+    caches.iter().find(|named| named.ssrc == ssrc)
 }
 
 // Whether an id may name an extension.

@@ -1,8 +1,12 @@
-ghost use Rattle.std.specs.Prelude.{◌≡◌, ◌∷◌, ◌++◌, [], OnOk, OnErr, take};
+ghost use Rattle.std.specs.Prelude.{◌≡◌, ◌==◌, ◌∷◌, ◌++◌, [], length, OnOk, OnErr, take};
+ghost use Rattle.std.specs.Slice.Iter.{iter_rest};
+ghost use Rattle.std.specs.Iterator.Adapters.{IterYieldsInOrder};
+ghost use Rattle.media_model.specs.declared.entry.Entry.{Entry as Happening};
 
 use crate::entry::Entry;
 use std::alloc::{AllocError, Global};
 use std::marker::Model;
+use std::slice;
 
 /// What happened in a run, in order. Contracts see the list of the entries.
 #[derive(Debug, Drop)]
@@ -43,6 +47,28 @@ impl Transcript {
         ensures { self.new ≡ take len self.old }
     {
         self.all.truncate(len);
+    }
+
+    /// The number of entries.
+    pub fn len(&self) -> usize
+        ensures { result ≡ length self.now }
+    {
+        self.all.len()
+    }
+
+    /// Whether it has no entries.
+    pub fn is_empty(&self) -> bool
+        ensures { result ≡ (length self.now == 0) }
+    {
+        self.all.is_empty()
+    }
+
+    /// The entries, one after another.
+    pub fn iter(&self) -> slice::Iter<'_, Entry>
+        ensures rest { iter_rest result ≡ self.now }
+        ensures runs { IterYieldsInOrder Happening }
+    {
+        self.all.iter()
     }
 
     /// The entries, in order.

@@ -1,12 +1,11 @@
 -- What an end of a run makes of bytes that came.
 use Rattle.std.proofs.Common.{◌≡◌, inl, inr, ℕ, Bool, false, cond, ◌||◌, List, [], ◌∷◌, ◌++◌, drop, map, Option, Some, None, is_none, refl, sym, ap, ◌∙◌, subst, ◌≤◌, ◌^◌}
+use Rattle.media_play.specs.Ends.{EndSession, SessionStands}
 use Rattle.media_play.proofs.Indices.{next_index-got}
 use Rattle.media_model.specs.Setup.{material_of}
 use Rattle.std.specs.Prelude.{◌==◌}
 use Rattle.std.specs.Option.{option_map, option_to_list}
 use Rattle.std.proofs.lemmas.Option.{none-some, same_Some}
-use Rattle.mask_register.specs.declared.register.MaskRegister.{MaskRegister}
-use Rattle.mask_register.specs.MaskRegister.{Remembers}
 use Rattle.rtp_wire.specs.declared.header.RtpHeader.{RtpHeader}
 use Rattle.rtp_wire.specs.HeaderLaws.{ReadsOwnBytes}
 use Rattle.srtp_core.specs.Cipher.{CipherMeaning}
@@ -19,8 +18,9 @@ use Rattle.session_core.specs.declared.datagram.Event.TheVariants.{RtpPacket, St
 use Rattle.rtcp_wire.specs.declared.feedback.AppSpecificFeedback.{AppSpecificFeedback}
 use Rattle.session_core.specs.Calls.{told as told_by, after_events}
 use Rattle.session_core.specs.declared.datagram.Opened.{Opened as OpenedHere}
-use Rattle.session_core.specs.Receiving.{Opens as OpensHere, Receives as ReceivesHere, opened, stays as stays_put, after_opened, opening_of, packet_after, cut as cut_here}
-use Rattle.session_core.specs.SessionRecord.{SessionState, SessionView, SessionRecord, StandsFor}
+use Rattle.session_core.specs.Receiving.{Opens as OpensHere, Receives as ReceivesHere, opened, repaired, stays as stays_put, after_opened, opening_of, packet_after, cut as cut_here}
+use Rattle.session_core.specs.Repairs.{repaired_by}
+use Rattle.session_core.specs.SessionRecord.{SessionState, SessionRecord}
 use Rattle.rtp_base.specs.declared.kind.Kind.TheVariants.{Rtp, Rtcp}
 use Rattle.media_model.specs.declared.entry.Packet.{Packet}
 use Rattle.media_model.specs.declared.entry.Got.{Got as GotEntry}
@@ -34,7 +34,7 @@ use Rattle.media_play.specs.Sessions.{sealing_of, yielded, EndState, Ready, is_l
 use Rattle.media_play.specs.SetupFacts.{IsSound}
 use Rattle.media_play.proofs.Appends.{opening}
 use Rattle.media_play.proofs.Lists.{tested}
-use Rattle.media_play.proofs.Receiving.{accepts_opens, accepted_parts, plain_with, plain_parts, opened_here, stays_here}
+use Rattle.media_play.proofs.Receiving.{accepts_opens, accepted_parts, plain_with, plain_parts, opened_here, no_repairs, stays_here}
 use Rattle.media_play.proofs.Takes.{after_took, knows_opened, queued-opened, writes_on-opened, used_still, ready_got}
 
 -- what a session tells of bytes
@@ -42,7 +42,8 @@ use Rattle.media_play.proofs.Takes.{after_took, knows_opened, queued-opened, wri
 pub refuted : {cipher : CipherMeaning} {r : SessionRecord} {bytes : List ℕ} {now : ℕ} {after : SessionRecord} (o : Option OpenedHere) → ReceivesHere cipher r bytes now after o → o ≡ None
     → (h : RtpHeader) (n : ℕ) (payload : List ℕ) → OpensHere cipher r bytes h n payload → ⊥
 refuted _ (opened h n payload o) e = absurd (none-some _ (sym e))
-refuted _ (stays_put none) e = none
+refuted _ (repaired h original n payload o) e = absurd (none-some _ (sym e))
+refuted _ (stays_put none others) e = none
 
 pub record Took (cipher : CipherMeaning) (r after : SessionRecord) (bytes : List ℕ) (now : ℕ) (told : OpenedHere) : Type 0 where
   pub header : RtpHeader
@@ -52,10 +53,12 @@ pub record Took (cipher : CipherMeaning) (r after : SessionRecord) (bytes : List
   pub left : after ≡ after_opened now header number payload r
   pub is : told ≡ opening_of bytes header number payload
 
-pub took : {cipher : CipherMeaning} {r : SessionRecord} {bytes : List ℕ} {now : ℕ} {after : SessionRecord} (o : Option OpenedHere) (told : OpenedHere) → ReceivesHere cipher r bytes now after o → o ≡ Some told
+pub took : {cipher : CipherMeaning} {r : SessionRecord} {bytes : List ℕ} {now : ℕ} {after : SessionRecord} (o : Option OpenedHere) (told : OpenedHere)
+    → ((h : RtpHeader) → repaired_by r.state.types r.rx r.originals h ≡ None) → ReceivesHere cipher r bytes now after o → o ≡ Some told
     → Took cipher r after bytes now told
-took _ told (opened h n payload o) e = record { header = h; number = n; payload = payload; opens = o; left = refl; is = sym (same_Some _ told e) }
-took _ told (stays_put none) e = absurd (none-some told e)
+took _ told none (opened h n payload o) e = record { header = h; number = n; payload = payload; opens = o; left = refl; is = sym (same_Some _ told e) }
+took _ told none (repaired h original n payload o) e = absurd (none-some original (sym (none h) ∙ o.repairs))
+took _ told none (stays_put refused others) e = absurd (none-some told e)
 
 -- there are keys
 pub keys_there : (s : SessionState) {a b : SrtpState} → s.sealing ≡ Some a → s.opening ≡ Some b → (is_none s.sealing || is_none s.opening) ≡ false
@@ -121,7 +124,7 @@ module _ (cipher : CipherMeaning) (setup : Setup) (came : GotEntry) (own : Reads
           | inr t ↦ rw t (ap (λ l. Yielded came.side (packet_with h n (cut h l)) ∷ []) (sym payload_is))
         ]
 
-    arrival_opens : (final : SessionView MaskRegister) → StandsFor Remembers final (after_events (after_opened time h n payload session))
+    arrival_opens : (final : EndSession) → SessionStands final (after_events (after_opened time h n payload session))
         → Receives (sealing_of cipher setup) setup entries came (Opened (opened_as came.side h n plain_of) ∷ yields came.side h n plain_of)
         × Ready cipher setup came.side (record { session = final; written = end.written }) (entries ++ opening came h n plain_of)
     arrival_opens final stands =
@@ -130,7 +133,7 @@ module _ (cipher : CipherMeaning) (setup : Setup) (came : GotEntry) (own : Reads
           opens h n plain_of here,
           record {
             session = after;
-            stands = subst (λ s. StandsFor Remembers final s) (told_all (after_opened time h n payload session) keys) stands;
+            stands = subst (λ s. SessionStands final s) (told_all (after_opened time h n payload session) keys) stands;
             seals = ready.seals
                 ∙ ap (λ (i : ℕ). Some (new_state cipher setup.profile (material_of setup) (is_left came.side) i))
                 (sym (next_index-got {seal = sealing_of cipher setup} setup came.side entries came (Opened (opened_as came.side h n plain_of) ∷ yields came.side h n plain_of) (opens h n plain_of here)));
@@ -143,15 +146,15 @@ module _ (cipher : CipherMeaning) (setup : Setup) (came : GotEntry) (own : Reads
         )
 
   -- what a session opened, and the packet that it then told
-  pub arrival_gives : {after : SessionRecord} {o : Option OpenedHere} (told : OpenedHere) (final : SessionView MaskRegister) (one : Option RtpPacketRecord) (packet : Option Packet) → came.kind ≡ Rtp
+  pub arrival_gives : {after : SessionRecord} {o : Option OpenedHere} (told : OpenedHere) (final : EndSession) (one : Option RtpPacketRecord) (packet : Option Packet) → came.kind ≡ Rtp
       → ReceivesHere cipher session came.bytes time after o → o ≡ Some told → one ≡ packet_in (told_by after) None
-      → StandsFor Remembers final (after_events after) → packet ≡ option_map packet_told one
+      → SessionStands final (after_events after) → packet ≡ option_map packet_told one
       → Receives (sealing_of cipher setup) setup entries came (brought_by told packet)
       × Ready cipher setup came.side (record { session = final; written = end.written }) (entries ++ Got came ∷ brought_by told packet)
   arrival_gives {after} {o} told final one packet rtp received is says stands carried =
-      let t = took o told received is in
+      let t = took o told (no_repairs ready.knows) received is in
       let says_here : one ≡ packet_in (told_by (after_opened time t.header t.number t.payload session)) None = says ∙ ap (λ s. packet_in (told_by s) None) t.left in
-      let stands_here : StandsFor Remembers final (after_events (after_opened time t.header t.number t.payload session)) = subst (λ s. StandsFor Remembers final (after_events s)) t.left stands in
+      let stands_here : SessionStands final (after_events (after_opened time t.header t.number t.payload session)) = subst (λ s. SessionStands final (after_events s)) t.left stands in
       let chunk : brought_by told packet ≡ Opened (opened_as came.side t.header t.number (plain_of t.header t.number t.payload rtp t.opens)) ∷ yields came.side t.header t.number (plain_of t.header t.number t.payload rtp t.opens) =
       ap {A = OpenedHere} {B = List Entry} (λ x. brought_by x packet) t.is
       ∙ ap {A = List Entry} {B = List Entry} (λ l. Opened (opened_as came.side t.header t.number (plain_of t.header t.number t.payload rtp t.opens)) ∷ l)

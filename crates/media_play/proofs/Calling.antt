@@ -1,5 +1,5 @@
 -- What a session sends for the call of an application, and what it knows then.
-use Rattle.std.proofs.Common.{◌≡◌, ◌≢◌, ℕ, suc, ◌+◌, ◌-◌, ◌<◌, ◌≤◌, ◌^◌, Bool, true, false, List, [], ◌∷◌, ◌++◌, length, take, drop, Some, refl, sym, ap, ◌∙◌, subst, arith}
+use Rattle.std.proofs.Common.{◌≡◌, ◌≢◌, ℕ, suc, ◌+◌, ◌-◌, ◌<◌, ◌≤◌, ◌^◌, Bool, true, false, List, [], ◌∷◌, ◌++◌, length, take, drop, Some, refl, sym, ap, ◌∙◌, subst, arith, Option}
 use Rattle.std.specs.Prelude.{◌==◌, ◌&&◌, nat_le, if◌then◌else◌}
 use Rattle.std.specs.List.{flat_map}
 use Rattle.std.specs.Option.{option_map}
@@ -7,8 +7,6 @@ use Rattle.std.proofs.lemmas.Bool.{eqb-true, eqb-false, false_from_ne_true}
 use Rattle.std.proofs.lemmas.Bool.Decides.{nat_tests}
 use Rattle.std.proofs.lemmas.List.{append-nil}
 use Rattle.std.proofs.lemmas.Option.{same_Some}
-use Rattle.mask_register.specs.declared.register.MaskRegister.{MaskRegister}
-use Rattle.mask_register.specs.MaskRegister.{Remembers}
 use Rattle.rtcp_wire.specs.declared.feedback.AppSpecificFeedback.{AppSpecificFeedback as Feedback}
 use Rattle.rtcp_wire.specs.declared.packet.Rtcp.{Rtcp as RtcpItem}
 use Rattle.rtcp_wire.specs.declared.packet.Rtcp.TheVariants.{AppSpecificFeedback}
@@ -16,11 +14,12 @@ use Rattle.rtcp_wire.specs.Feedback.{app_feedback_body}
 use Rattle.rtcp_wire.specs.Texts.{text_of, fitting}
 use Rattle.srtp_core.specs.Cipher.{CipherMeaning}
 use Rattle.srtp_core.specs.Contexts.{SrtpState, new_state}
+use Rattle.media_play.specs.Ends.{EndSession, SessionStands}
 use Rattle.session_core.specs.declared.datagram.Datagram.{Datagram}
 use Rattle.session_core.specs.Calls.{with_feedback}
 use Rattle.session_core.specs.Feedback.{room_of, leaving, compound_of, items_after, sealed_compound, counted, is_used_up, due_of, some_due, exhausts}
-use Rattle.session_core.specs.Sending.{next_by, next_datagram, after_by, after_datagram}
-use Rattle.session_core.specs.SessionRecord.{SessionState, SessionView, SessionRecord, StandsFor}
+use Rattle.session_core.specs.Sending.{NextDatagram, silent, packet as leaves, compound}
+use Rattle.session_core.specs.SessionRecord.{SessionState, SessionRecord}
 use Rattle.rtp_base.specs.declared.kind.Kind.TheVariants.{Rtcp}
 use Rattle.media_model.specs.declared.entry.Side.{Side}
 use Rattle.media_model.specs.declared.entry.Call.TheVariants as call
@@ -98,17 +97,9 @@ module _ {cipher : CipherMeaning} {setup : Setup} {side : Side} {end : EndState}
   none_waits : items_after calling.target calling.feedback ≡ []
   none_waits = λ i. drop (leaves_alone i) (waits i)
 
-  next : next_datagram cipher time calling ≡ Some (sealed_compound cipher packet keys)
-  next = ap (next_by cipher time calling) due ∙ (λ i. option_map (sealed_compound cipher (plain_is i)) (ready.seals i))
-
   -- and the session after it
   abbrev called_state : SessionState
   called_state = record first { feedback = []; sealing = Some (counted keys) }
-
-  after : after_datagram time calling ≡ called_state
-  after =
-      ap (after_by time calling) due
-      ∙ (λ i. let s : SessionState = record first { feedback = none_waits i; sealing = option_map counted (ready.seals i) } in s)
 
   used_up : exhausts time calling ≡ (index == 2 ^ 31)
   used_up = (λ i. some_due (due i) && is_used_up (ready.seals i))
@@ -123,19 +114,51 @@ module _ {cipher : CipherMeaning} {setup : Setup} {side : Side} {end : EndState}
       let most = ready.bounded in
       grind (arith, other, most)
 
+  -- the session that the feedback waits in
+  abbrev pub calling_record : SessionRecord
+  calling_record = record ready.session { state = calling }
+
+  -- what leaves then, and what it leaves
+  pub record IsCalled (after : SessionRecord) (d : Datagram) : Type 0 where
+    pub fresh : exhausts time calling ≡ false
+    pub sealed : d ≡ sealed_compound cipher packet keys
+    pub leaves : after ≡ record ready.session { state = called_state }
+
+  pub called : (after : SessionRecord) (o : Option Datagram) (d : Datagram) → o ≡ Some d → NextDatagram cipher time calling_record after o → IsCalled after d
+  called _ _ d is (silent spoken none) = let not : item ∷ [] ≡ [] = sym due ∙ none in absurd cc
+  called _ _ d is (leaves after o spoken none next) = let not : item ∷ [] ≡ [] = sym due ∙ none in absurd cc
+  called _ _ d is (compound some fresh) = record {
+    fresh = fresh;
+    sealed = same_Some d (sealed_compound cipher packet keys) (sym is ∙ (λ i. option_map (sealed_compound cipher (plain_is i)) (ready.seals i)));
+    leaves = λ i. record ready.session { state = record first { feedback = none_waits i; sealing = option_map counted (ready.seals i) } };
+  }
+
+  -- it stands for that record
+  pub calling_stands : (between inside : EndSession) → between ≡ record inside { state = with_feedback item inside.state } → inside ≡ end.session
+      → SessionStands between calling_record
+  calling_stands between inside is view =
+      let whole : between ≡ record end.session { state = with_feedback item end.session.state } =
+      is ∙ ap {A = EndSession} {B = EndSession} (λ v. record v { state = with_feedback item v.state }) view in
+      record {
+        state = ap (λ (v : EndSession). v.state) whole ∙ ap (with_feedback item) ready.stands.state;
+        rx = rw whole ready.stands.rx;
+        originals = rw whole ready.stands.originals;
+        probes = rw whole ready.stands.probes;
+        seen = rw whole ready.stands.seen;
+        repairs = rw whole ready.stands.repairs;
+      }
+
   -- what leaves is the seal of the feedback
-  pub sends_packet : (d : Datagram) → Some d ≡ next_datagram cipher time calling → exhausts time calling ≡ false
-      → IsSealOfPacket (sealing_of cipher setup) setup side entries packet (sealed_from side d)
-  sends_packet d is left =
-      let same : d ≡ sealed_compound cipher packet keys = same_Some d (sealed_compound cipher packet keys) (is ∙ next) in
+  pub sends_packet : (after : SessionRecord) (d : Datagram) → IsCalled after d → IsSealOfPacket (sealing_of cipher setup) setup side entries packet (sealed_from side d)
+  sends_packet after d c =
       let long = application_length f in
-      subst (λ (x : Datagram). IsSealOfPacket (sealing_of cipher setup) setup side entries packet (sealed_from side x)) (sym same)
+      subst (λ (x : Datagram). IsSealOfPacket (sealing_of cipher setup) setup side entries packet (sealed_from side x)) (sym c.sealed)
       (record {
         side = refl;
         kind = refl;
         ssrc = refl;
         index = refl;
-        left = some_left left;
+        left = some_left c.fresh;
         plain = refl;
         header = omega (arith, long);
         bytes = refl;
@@ -154,6 +177,7 @@ module _ {cipher : CipherMeaning} {setup : Setup} {side : Side} {end : EndState}
         application = h.application;
         told = h.told;
         types = h.types;
+        plain = h.plain;
         exts = h.exts;
         outgoing = h.outgoing;
         sends = h.sends;
@@ -161,19 +185,21 @@ module _ {cipher : CipherMeaning} {setup : Setup} {side : Side} {end : EndState}
         takes = h.takes;
         probes = h.probes;
         listens = h.listens;
+        originals = h.originals;
+        repairs = h.repairs;
       })
 
   -- what the end of the run knows then
-  pub ready_called : (final : SessionView MaskRegister) (x : SealedEntry) → x.kind ≡ Rtcp → x.side ≡ side → exhausts time calling ≡ false
-      → final ≡ record end.session { state = after_datagram time calling }
+  pub ready_called : (final : EndSession) (after : SessionRecord) (d : Datagram) (x : SealedEntry) → x.kind ≡ Rtcp → x.side ≡ side → IsCalled after d
+      → SessionStands final after
       → Ready cipher setup side (record { session = final; written = end.written }) (entries ++ Called side time call.Application ∷ Sealed x ∷ [])
-  ready_called final x rtcp by left is =
+  ready_called final after d x rtcp by c stands =
       let s : SessionRecord = record ready.session { state = called_state } in
       let counts = next_index-called setup side entries time call.Application x rtcp by in
-      let less = some_left left in
+      let less = some_left c.fresh in
       record {
         session = s;
-        stands = subst (λ v. StandsFor Remembers v s) (sym is) (record { state = after; rx = ready.stands.rx; probes = ready.stands.probes });
+        stands = subst (λ (r : SessionRecord). SessionStands final r) c.leaves stands;
         seals = ap (λ (i : ℕ). Some (new_state cipher setup.profile (material_of setup) (is_left side) i)) (sym counts);
         opens = ready.opens;
         bounded = omega (arith, counts, less);

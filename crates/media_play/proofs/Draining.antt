@@ -3,7 +3,8 @@ use Rattle.std.proofs.Common.{◌≡◌, ◌⊎◌, inl, inr, ℕ, zero, suc, Bo
 use Rattle.std.specs.Prelude.{◌==◌, if◌then◌else◌, is_some, is_none, slice_get, option_and_then}
 use Rattle.std.specs.List.{flat_map, AllByRecursion, AllZip}
 use Rattle.std.specs.Map.{keys_of, values_of}
-use Rattle.std.specs.Option.{option_map, option_map_or}
+use Rattle.std.specs.Option.{option_map}
+use Rattle.std.proofs.lemmas.Option.{same_Some}
 use Rattle.rtp_wire.specs.declared.extension.ExtensionMap.{ExtensionMap}
 use Rattle.srtp_core.specs.Cipher.{CipherMeaning}
 use Rattle.srtp_core.specs.Contexts.{SrtpState}
@@ -11,12 +12,16 @@ use Rattle.stream_core.specs.declared.packet.RtpPacket.{RtpPacket}
 use Rattle.stream_core.specs.declared.transport.Transport.{Transport}
 use Rattle.stream_core.specs.Queue.{if_stamped, next_of, rest_after, rest_of}
 use Rattle.stream_core.specs.Sealing.{after_packet}
-use Rattle.stream_core.specs.Tables.{change_place}
-use Rattle.stream_core.specs.TxRecord.{TxRecord, receipt_of, polled, after_poll, transport_after_poll}
+use Rattle.stream_core.specs.declared.payload_types.TypeRow.{TypeRow}
+use Rattle.stream_core.specs.declared.stream_tx.PacketReceipt.{PacketReceipt}
+use Rattle.stream_core.specs.Repairing.{RepairsRecord, Polls, without, again, first as sends_first, nothing, repairs_of, with_repairs, state_in, has_asked}
+use Rattle.stream_core.specs.StreamsRecord.{StreamsRecord, polls_at}
+use Rattle.stream_core.specs.Tables.{change_place, value_under}
+use Rattle.stream_core.specs.TxRecord.{TxRecord, receipt_of, polled, after_poll}
 use Rattle.session_core.specs.declared.datagram.Datagram.{Datagram}
-use Rattle.session_core.specs.Feedback.{due_of}
-use Rattle.session_core.specs.SessionRecord.{MediaRecord, SessionState}
-use Rattle.session_core.specs.Sending.{has_mid, first_due, next_place, sealed_as, sealed_by, receipt_at, next_rtp, next_by, next_datagram, transport_after, without_front, after_rtp, after_by, after_datagram, DrainsTo, start, more}
+use Rattle.session_core.specs.Feedback.{due_of, some_due}
+use Rattle.session_core.specs.SessionRecord.{MediaRecord, SessionRecord}
+use Rattle.session_core.specs.Sending.{has_mid, is_due, first_due, next_place, sealed_as, sealed_by, unreleased, Gives, NextPacket, none_due, given, passed, NextDatagram, silent, packet as leaves, compound, DrainsTo, start, more}
 
 -- all packets that wait, stream by stream
 abbrev pub left : List (ℕ × TxRecord) → List RtpPacket
@@ -108,36 +113,64 @@ none_of : (o : Option ℕ) → option_map suc o ≡ None → o ≡ None
 none_of None h = refl
 none_of (Some j) h = absurd cc
 
-module _ (medias : List MediaRecord) where
-  searched : (e : ℕ × TxRecord) (es : List (ℕ × TxRecord)) → Goes medias e → first_due medias (e ∷ es) ≡ behind (next_of e.1.queue) (first_due medias es)
-  searched e es g = ap (λ (b : Bool). if b && is_some (next_of e.1.queue) then Some zero else option_map suc (first_due medias es)) g.mid
+or_false : (b : Bool) → (b || false) ≡ b
+or_false true = refl
+or_false false = refl
 
-  found : (es : List (ℕ × TxRecord)) (i : ℕ) → AllGo medias es → first_due medias es ≡ Some i → Found es i
+and_none : (b : Bool) → (b && false) ≡ false
+and_none true = refl
+and_none false = refl
+
+-- nothing is kept to be sent again
+abbrev pub nothing_kept : List (ℕ × RepairsRecord)
+nothing_kept = []
+
+no_repairs : (x : TxRecord) → repairs_of x nothing_kept ≡ None
+no_repairs x = by x.rtx
+  where
+    by : (rtx : Option ℕ) → option_and_then (λ (r : ℕ). value_under x.ssrc nothing_kept) rtx ≡ None
+    by None = refl
+    by (Some r) = refl
+
+module _ (medias : List MediaRecord) (released : Bool) where
+  abbrev first : List (ℕ × TxRecord) → Option ℕ
+  first es = first_due medias released nothing_kept es
+
+  due_is : (e : ℕ × TxRecord) → Goes medias e → is_due medias released nothing_kept e.1 ≡ is_some (next_of e.1.queue)
+  due_is e g =
+      (λ i. g.mid i && (is_some (next_of e.1.queue) || (released && has_asked (state_in (no_repairs e.1 i)))))
+      ∙ ap (λ (b : Bool). is_some (next_of e.1.queue) || b) (and_none released)
+      ∙ or_false (is_some (next_of e.1.queue))
+
+  searched : (e : ℕ × TxRecord) (es : List (ℕ × TxRecord)) → Goes medias e → first (e ∷ es) ≡ behind (next_of e.1.queue) (first es)
+  searched e es g = ap (λ (b : Bool). if b then Some zero else option_map suc (first es)) (due_is e g)
+
+  found : (es : List (ℕ × TxRecord)) (i : ℕ) → AllGo medias es → first es ≡ Some i → Found es i
   found [] i h e = absurd cc
   found (s ∷ es) i h e =
-      let says : behind (next_of s.1.queue) (first_due medias es) ≡ Some i = sym (searched s es h.0) ∙ e in
+      let says : behind (next_of s.1.queue) (first es) ≡ Some i = sym (searched s es h.0) ∙ e in
       elim (front_of s.1.queue h.0.stamped) [
         | inl none ↦
-            let later : option_map suc (first_due medias es) ≡ Some i = sym (ap (λ (q : List RtpPacket). behind (next_of q) (first_due medias es)) none) ∙ says in
-            let j = suc_of (first_due medias es) i later in
+            let later : option_map suc (first es) ≡ Some i = sym (ap (λ (q : List RtpPacket). behind (next_of q) (first es)) none) ∙ says in
+            let j = suc_of (first es) i later in
             subst (Found (s ∷ es)) j.2 (found_later s es j.0 none (found es j.0 h.1 j.1))
         | inr f ↦
-            let here : Some zero ≡ Some i = sym (ap (λ (o : Option RtpPacket). behind o (first_due medias es)) f.next) ∙ says in
+            let here : Some zero ≡ Some i = sym (ap (λ (o : Option RtpPacket). behind o (first es)) f.next) ∙ says in
             let is : zero ≡ i = cc in
             subst (Found (s ∷ es)) is (found_here s es f)
       ]
 
   -- where none is due, none has a packet
-  none_waits : (es : List (ℕ × TxRecord)) → AllGo medias es → first_due medias es ≡ None → AllByRecursion (λ (e : ℕ × TxRecord). e.1.queue ≡ []) es
+  none_waits : (es : List (ℕ × TxRecord)) → AllGo medias es → first es ≡ None → AllByRecursion (λ (e : ℕ × TxRecord). e.1.queue ≡ []) es
   none_waits [] h e = tt
   none_waits (s ∷ es) h e =
-      let says : behind (next_of s.1.queue) (first_due medias es) ≡ None = sym (searched s es h.0) ∙ e in
+      let says : behind (next_of s.1.queue) (first es) ≡ None = sym (searched s es h.0) ∙ e in
       elim (front_of s.1.queue h.0.stamped) [
         | inl none ↦
-            let later : option_map suc (first_due medias es) ≡ None = sym (ap (λ (q : List RtpPacket). behind (next_of q) (first_due medias es)) none) ∙ says in
-            (none, none_waits es h.1 (none_of (first_due medias es) later))
+            let later : option_map suc (first es) ≡ None = sym (ap (λ (q : List RtpPacket). behind (next_of q) (first es)) none) ∙ says in
+            (none, none_waits es h.1 (none_of (first es) later))
         | inr f ↦
-            let here : Some zero ≡ None = sym (ap (λ (o : Option RtpPacket). behind o (first_due medias es)) f.next) ∙ says in
+            let here : Some zero ≡ None = sym (ap (λ (o : Option RtpPacket). behind o (first es)) f.next) ∙ says in
             absurd cc
       ]
 
@@ -146,19 +179,11 @@ none_left [] h = refl
 none_left (e ∷ es) h = ap (λ (q : List RtpPacket). q ++ left es) h.0 ∙ none_left es h.1
 
 -- polls change the queues of the outgoing streams and the next transport number alone
-pub record Kept (s b : SessionState) : Type 0 where
-  pub others : b ≡ record s { tx = b.tx; transport = b.transport }
-  pub exts : b.transport.exts ≡ s.transport.exts
-  pub keys : keys_of b.tx ≡ keys_of s.tx
-  pub go : AllGo s.medias b.tx
-
-same_exts : (t : Transport) (o : Option TxRecord) → (option_map_or (λ r. transport_after_poll r t) o t).exts ≡ t.exts
-same_exts t None = refl
-same_exts t (Some r) = by (is_some (next_of r.queue))
-  where
-    by : (b : Bool) → (let after : Transport = if b then after_packet t else t in after.exts) ≡ t.exts
-    by true = refl
-    by false = refl
+pub record Kept (s b : SessionRecord) : Type 0 where
+  pub others : b ≡ record s { state = record s.state { tx = b.state.tx; transport = b.state.transport } }
+  pub exts : b.state.transport.exts ≡ s.state.transport.exts
+  pub keys : keys_of b.state.tx ≡ keys_of s.state.tx
+  pub go : AllGo s.state.medias b.state.tx
 
 -- a packet as it leaves in a datagram, at a moment and on a transport with these ids
 pub record Leaves (cipher : CipherMeaning) (state : SrtpState) (exts : ExtensionMap) (now : ℕ) (p : RtpPacket) (d : Datagram) : Type 0 where
@@ -173,127 +198,152 @@ zip_push R [] (b ∷ ys) x y h r = absurd h
 zip_push R (a ∷ xs) [] x y h r = absurd h
 zip_push R (a ∷ xs) (b ∷ ys) x y h r = (h.0, zip_push R xs ys x y h.1 r)
 
-given : {X : Type 0} (o : Option X) → (o ≡ None) ⊎ ((x : X) × (o ≡ Some x))
-given None = inl refl
-given (Some x) = inr (x, refl)
+-- a session after the packet at the front of the stream at a place left
+abbrev front_left : SessionRecord → ℕ → SessionRecord
+front_left r i = record r { state = record r.state { tx = change_place after_poll r.state.tx i; transport = after_packet r.state.transport } }
 
-module _ (cipher : CipherMeaning) (now : ℕ) (state : SrtpState) (later : (now == 0) ≡ false) where
-  -- one poll, of a session with keys in which no feedback waits
-  module _ (b : SessionState) (keys : b.sealing ≡ Some state) (quiet : b.feedback ≡ []) where
-    none_due : due_of now b ≡ []
-    none_due = ap (λ (t : Bool). if t then [] else b.feedback) later ∙ quiet
+same_change : (es : List (ℕ × TxRecord)) (i : ℕ) (x : TxRecord) → slice_get (values_of es) i ≡ Some x → change_place (λ old. after_poll x) es i ≡ change_place after_poll es i
+same_change [] i x at = refl
+same_change (e ∷ es) zero x at = let same : e.1 ≡ x = cc in ap (λ (y : TxRecord). (e.0, after_poll y) ∷ es) (sym same)
+same_change (e ∷ es) (suc i) x at = ap (λ (l : List (ℕ × TxRecord)). e ∷ l) (same_change es i x at)
 
-    next_is : next_datagram cipher now b ≡ next_rtp cipher now b
-    next_is = ap (next_by cipher now b) none_due
+-- what a stream without repairs gives: the packet at its front
+polls_front : (types : List (ℕ × TypeRow)) (t : Transport) (now : ℕ) (x after : TxRecord) (p q : Option RepairsRecord) (o : Option PacketReceipt) → p ≡ None
+    → Polls types t now x p after q o → (after ≡ after_poll x) × (q ≡ None) × (o ≡ polled x t now)
+polls_front types t now x _ _ _ _ none without = (refl, refl, refl)
+polls_front types t now x _ _ _ _ none (again ssrc q after receipt rtx repairs) = absurd cc
+polls_front types t now x _ _ _ _ none (sends_first ssrc q between after p rtx repairs next keeps) = absurd cc
+polls_front types t now x _ _ _ _ none (nothing ssrc q after rtx repairs next) = absurd cc
 
-    after_is : after_datagram now b ≡ after_rtp now b
-    after_is = ap (after_by now b) none_due
+-- the stream at a place has a packet, which is what it gives
+record IsFront (now : ℕ) (r : SessionRecord) (place : ℕ) (f : Found r.state.tx place) (s : StreamsRecord) (o : Option PacketReceipt) : Type 0 where
+  tx : s.tx ≡ change_place after_poll r.state.tx place
+  repairs : s.repairs ≡ r.repairs
+  is : o ≡ Some (receipt_of f.stream r.state.transport now f.packet)
 
-    place : next_place now b ≡ first_due b.medias b.tx
-    place =
-        ap (λ (t : Bool). if t || is_none b.sealing then None else first_due b.medias b.tx) later
-        ∙ ap (λ (o : Option SrtpState). if is_none o then None else first_due b.medias b.tx) keys
-
-    says : (o : Option ℕ) → first_due b.medias b.tx ≡ o → next_datagram cipher now b ≡ option_map (sealed_as cipher state) (receipt_at now b o)
-    says o e =
-        next_is
-        ∙ ap (λ (k : Option SrtpState). sealed_by cipher k (receipt_at now b (next_place now b))) keys
-        ∙ ap (λ (p : Option ℕ). option_map (sealed_as cipher state) (receipt_at now b p)) (place ∙ e)
-
-    gives : (i : ℕ) → first_due b.medias b.tx ≡ Some i → (f : Found b.tx i)
-        → next_datagram cipher now b ≡ Some (sealed_as cipher state (receipt_of f.stream b.transport now f.packet))
-    gives i e f =
-        says (Some i) e
-        ∙ ap (λ (o : Option TxRecord). option_map (sealed_as cipher state) (option_and_then (λ r. polled r b.transport now) o)) f.there
-        ∙ ap (λ (o : Option RtpPacket). option_map (sealed_as cipher state) (option_map (receipt_of f.stream b.transport now) o)) f.next
-
-    after : (i : ℕ) → first_due b.medias b.tx ≡ Some i → after_datagram now b ≡ without_front b i
-    after i e = after_is ∙ ap (λ (o : Option ℕ). option_map_or (without_front b) o b) (place ∙ e)
-
-    -- a poll that gives nothing changes nothing
-    unchanged : first_due b.medias b.tx ≡ None → after_datagram now b ≡ b
-    unchanged e = after_is ∙ ap (λ (o : Option ℕ). option_map_or (without_front b) o b) (place ∙ e)
-
-  -- what was sent, from a session with keys in which each stream's packets may leave
-  pub record Sent (s b : SessionState) (ds : List Datagram) : Type 0 where
-    pub kept : Kept s b
-    pub packets : List RtpPacket
-    pub split : left s.tx ≡ packets ++ left b.tx
-    pub leave : AllZip (Leaves cipher state s.transport.exts now) packets ds
-
-  module _ (s : SessionState) (keys : s.sealing ≡ Some state) (quiet : s.feedback ≡ []) (go : AllGo s.medias s.tx) where
-    still_keys : (b : SessionState) → Kept s b → b.sealing ≡ Some state
-    still_keys b k = ap (λ (x : SessionState). x.sealing) k.others ∙ keys
-
-    still_quiet : (b : SessionState) → Kept s b → b.feedback ≡ []
-    still_quiet b k = ap (λ (x : SessionState). x.feedback) k.others ∙ quiet
-
-    still_go : (b : SessionState) → Kept s b → AllGo b.medias b.tx
-    still_go b k = subst (λ (m : List MediaRecord). AllGo m b.tx) (sym (ap (λ (x : SessionState). x.medias) k.others)) k.go
-
-    kept_on : (b : SessionState) (i : ℕ) → Kept s b → Kept s (without_front b i)
-    kept_on b i k = record {
-      others = ap (λ (x : SessionState). record x { tx = change_place after_poll b.tx i; transport = transport_after b i }) k.others;
-      exts = same_exts b.transport (slice_get (values_of b.tx) i) ∙ k.exts;
-      keys = same_keys b.tx i ∙ k.keys;
-      go = all_go_on s.medias b.tx i k.go;
+front_gives : (now : ℕ) (r : SessionRecord) (place : ℕ) (f : Found r.state.tx place) (s : StreamsRecord) (o : Option PacketReceipt) → r.repairs ≡ []
+    → Gives now r place s o → IsFront now r place f s o
+front_gives now r place f _ _ none (polls_at x after q o at polls) =
+    let without = polls_front r.state.types r.state.transport now x after (repairs_of x r.repairs) q o (ap (λ (l : List (ℕ × RepairsRecord)). repairs_of x l) none ∙ no_repairs x) polls in
+    let same_at : Some x ≡ Some f.stream = sym at ∙ f.there in
+    let same : x ≡ f.stream = same_Some x f.stream same_at in
+    record {
+      tx = ap (λ (y : TxRecord). change_place (λ old. y) r.state.tx place) without.0 ∙ same_change r.state.tx place x at;
+      repairs = ap (λ (k : Option RepairsRecord). with_repairs x.ssrc k r.repairs) without.1;
+      is =
+          without.2 ∙ ap (λ (y : TxRecord). polled y r.state.transport now) same
+          ∙ ap (λ (p : Option RtpPacket). option_map (receipt_of f.stream r.state.transport now) p) f.next;
     }
 
-    sent_one : (b : SessionState) (ds : List Datagram) (d : Datagram) (i : ℕ) → Sent s b ds → next_datagram cipher now b ≡ Some d
-        → first_due b.medias b.tx ≡ Some i → Sent s (after_datagram now b) (ds ++ d ∷ [])
-    sent_one b ds d i h next e =
-        let is_keys = still_keys b h.kept in
-        let is_quiet = still_quiet b h.kept in
-        let f = found b.medias b.tx i (still_go b h.kept) e in
-        let is : Some d ≡ Some (sealed_as cipher state (receipt_of f.stream b.transport now f.packet)) = sym next ∙ gives b is_keys is_quiet i e f in
-        let same : d ≡ sealed_as cipher state (receipt_of f.stream b.transport now f.packet) = cc in
-        subst (λ (a : SessionState). Sent s a (ds ++ d ∷ [])) (sym (after b is_keys is_quiet i e))
-        (record {
-          kept = kept_on b i h.kept;
-          packets = h.packets ++ f.packet ∷ [];
-          split =
-              h.split ∙ ap (λ (ps : List RtpPacket). h.packets ++ ps) f.split
-              ∙ sym (append_assoc h.packets (f.packet ∷ []) (left (change_place after_poll b.tx i)));
-          leave = zip_push (Leaves cipher state s.transport.exts now) h.packets ds f.packet d h.leave
-              (record { stream = f.stream; transport = b.transport; ids = h.kept.exts; sealed = same });
-        })
+-- a poll gave the packet at the front of the first stream that has one
+record Gave (cipher : CipherMeaning) (now : ℕ) (state : SrtpState) (b after : SessionRecord) (o : Option Datagram) : Type 0 where
+  place : ℕ
+  front : Found b.state.tx place
+  leaves : after ≡ front_left b place
+  is : o ≡ Some (sealed_as cipher state (receipt_of front.stream b.state.transport now front.packet))
 
-    sent_more : (b : SessionState) (ds : List Datagram) (d : Datagram) → Sent s b ds → next_datagram cipher now b ≡ Some d → Sent s (after_datagram now b) (ds ++ d ∷ [])
-    sent_more b ds d h next =
-        elim (given (first_due b.medias b.tx)) [
-          | inl none ↦
-              let not : None ≡ Some d = sym (says b (still_keys b h.kept) (still_quiet b h.kept) None none) ∙ next in
-              absurd cc
-          | inr at ↦ sent_one b ds d at.0 h next at.1
+-- or nothing waits on any
+record GaveNone (b after : SessionRecord) (o : Option Datagram) : Type 0 where
+  empty : AllByRecursion (λ (e : ℕ × TxRecord). e.1.queue ≡ []) b.state.tx
+  leaves : after ≡ unreleased b
+  is : o ≡ None
+
+module _ (cipher : CipherMeaning) (now : ℕ) (state : SrtpState) (later : (now == 0) ≡ false) where
+  -- one poll, of a session with keys in which no feedback waits and nothing is kept to be sent again
+  module _ (b : SessionRecord) (keys : b.state.sealing ≡ Some state) (quiet : b.state.feedback ≡ []) (none : b.repairs ≡ []) (go : AllGo b.state.medias b.state.tx) where
+    place_is : next_place b ≡ first b.state.medias b.state.released b.state.tx
+    place_is = ap (λ (l : List (ℕ × RepairsRecord)). first_due b.state.medias b.state.released l b.state.tx) none
+
+    front_at : (place : ℕ) → next_place b ≡ Some place → Found b.state.tx place
+    front_at place e = found b.state.medias b.state.released b.state.tx place go (sym place_is ∙ e)
+
+    seals : (after : SessionRecord) (o : Option PacketReceipt) → NextPacket now b after o
+        → Gave cipher now state b after (option_map (sealed_as cipher state) o) ⊎ GaveNone b after (option_map (sealed_as cipher state) o)
+    seals _ _ (none_due _ e) = inr (record { empty = none_waits b.state.medias b.state.released b.state.tx go (sym place_is ∙ e); leaves = refl; is = refl })
+    seals _ _ (given _ place s p e gives) =
+        let f = front_at place e in
+        let k = front_gives now b place f s (Some p) none gives in
+        inl (record {
+          place = place;
+          front = f;
+          leaves = λ i. record b { state = record b.state { tx = k.tx i; transport = after_packet b.state.transport }; repairs = k.repairs i };
+          is = ap (option_map (sealed_as cipher state)) k.is;
+        })
+    seals after o (passed _ _ place s _ e gives rest) =
+        let f = front_at place e in
+        let k = front_gives now b place f s None none gives in
+        let not = k.is in
+        absurd cc
+
+    no_feedback : due_of now b.state ≡ []
+    no_feedback = ap (λ (t : Bool). if t then [] else b.state.feedback) later ∙ quiet
+
+    next_is : (after : SessionRecord) (o : Option Datagram) → NextDatagram cipher now b after o → Gave cipher now state b after o ⊎ GaveNone b after o
+    next_is _ _ (silent is due) =
+        let not : true ≡ false = sym is ∙ (λ i. later i || is_none (keys i)) in
+        absurd cc
+    next_is _ _ (leaves after o spoken due next) =
+        let same : option_map (sealed_as cipher state) o ≡ sealed_by cipher b.state.sealing o = ap (λ (k : Option SrtpState). sealed_by cipher k o) (sym keys) in
+        subst (λ (d : Option Datagram). Gave cipher now state b after d ⊎ GaveNone b after d) same (seals after o next)
+    next_is _ _ (compound some fresh) =
+        let not : true ≡ false = sym some ∙ ap some_due no_feedback in
+        absurd cc
+
+  -- what was sent, from a session with keys in which each stream's packets may leave
+  pub record Sent (s b : SessionRecord) (ds : List Datagram) : Type 0 where
+    pub kept : Kept s b
+    pub packets : List RtpPacket
+    pub split : left s.state.tx ≡ packets ++ left b.state.tx
+    pub leave : AllZip (Leaves cipher state s.state.transport.exts now) packets ds
+
+  module _ (s : SessionRecord) (keys : s.state.sealing ≡ Some state) (quiet : s.state.feedback ≡ []) (none : s.repairs ≡ []) (go : AllGo s.state.medias s.state.tx) where
+    still_is : (b after : SessionRecord) (o : Option Datagram) → Kept s b → NextDatagram cipher now b after o → Gave cipher now state b after o ⊎ GaveNone b after o
+    still_is b after o k next =
+        next_is b (ap (λ (x : SessionRecord). x.state.sealing) k.others ∙ keys) (ap (λ (x : SessionRecord). x.state.feedback) k.others ∙ quiet)
+        (ap (λ (x : SessionRecord). x.repairs) k.others ∙ none)
+        (subst (λ (m : List MediaRecord). AllGo m b.state.tx) (sym (ap (λ (x : SessionRecord). x.state.medias) k.others)) k.go) after o next
+
+    kept_on : (b : SessionRecord) (i : ℕ) → Kept s b → Kept s (front_left b i)
+    kept_on b i k = record {
+      others = ap (λ (x : SessionRecord). record x { state = record x.state { tx = change_place after_poll b.state.tx i; transport = after_packet b.state.transport } }) k.others;
+      exts = k.exts;
+      keys = same_keys b.state.tx i ∙ k.keys;
+      go = all_go_on s.state.medias b.state.tx i k.go;
+    }
+
+    sent_more : (b after : SessionRecord) (ds : List Datagram) (d : Datagram) → Sent s b ds → NextDatagram cipher now b after (Some d) → Sent s after (ds ++ d ∷ [])
+    sent_more b after ds d h next =
+        elim (still_is b after (Some d) h.kept next) [
+          | inl g ↦
+              let f = g.front in
+              let same : d ≡ sealed_as cipher state (receipt_of f.stream b.state.transport now f.packet) = same_Some d _ g.is in
+              subst (λ (a : SessionRecord). Sent s a (ds ++ d ∷ [])) (sym g.leaves)
+              (record {
+                kept = kept_on b g.place h.kept;
+                packets = h.packets ++ f.packet ∷ [];
+                split =
+                    h.split ∙ ap (λ (ps : List RtpPacket). h.packets ++ ps) f.split
+                    ∙ sym (append_assoc h.packets (f.packet ∷ []) (left (change_place after_poll b.state.tx g.place)));
+                leave = zip_push (Leaves cipher state s.state.transport.exts now) h.packets ds f.packet d h.leave
+                    (record { stream = f.stream; transport = b.state.transport; ids = h.kept.exts; sealed = same });
+              })
+          | inr n ↦ let not = n.is in absurd cc
         ]
 
-    pub sent : {b : SessionState} {ds : List Datagram} → DrainsTo cipher now s b ds → Sent s b ds
+    pub sent : {b : SessionRecord} {ds : List Datagram} → DrainsTo cipher now s b ds → Sent s b ds
     sent start = record {
       kept = record { others = refl; exts = refl; keys = refl; go = go };
       packets = [];
       split = refl;
       leave = tt;
     }
-    sent (more between done d h index next) = sent_more between done d (sent h) next
+    sent (more between after done d h next) = sent_more between after done d (sent h) next
 
-    -- at the end nothing waits
-    pub ended : (b : SessionState) → Kept s b → next_datagram cipher now b ≡ None → AllByRecursion (λ (e : ℕ × TxRecord). e.1.queue ≡ []) b.tx
-    ended b k none =
-        elim (given (first_due b.medias b.tx)) [
-          | inl e ↦ none_waits b.medias b.tx (still_go b k) e
-          | inr at ↦
-              let f = found b.medias b.tx at.0 (still_go b k) at.1 in
-              let not : None ≡ Some (sealed_as cipher state (receipt_of f.stream b.transport now f.packet)) = sym none ∙ gives b (still_keys b k) (still_quiet b k) at.0 at.1 f in
-              absurd cc
-        ]
-
-    -- and that poll changes nothing
-    pub left_there : (b : SessionState) → Kept s b → next_datagram cipher now b ≡ None → after_datagram now b ≡ b
-    left_there b k none =
-        elim (given (first_due b.medias b.tx)) [
-          | inl e ↦ unchanged b (still_keys b k) (still_quiet b k) e
-          | inr at ↦
-              let f = found b.medias b.tx at.0 (still_go b k) at.1 in
-              let not : None ≡ Some (sealed_as cipher state (receipt_of f.stream b.transport now f.packet)) = sym none ∙ gives b (still_keys b k) (still_quiet b k) at.0 at.1 f in
-              absurd cc
+    -- at the end nothing waits, and what is asked for later waits for a tick
+    pub ended : (b after : SessionRecord) → Kept s b → NextDatagram cipher now b after None
+        → AllByRecursion (λ (e : ℕ × TxRecord). e.1.queue ≡ []) b.state.tx × (after ≡ unreleased b)
+    ended b after k last =
+        elim (still_is b after None k last) [
+          | inl g ↦ let not = g.is in absurd cc
+          | inr n ↦ (n.empty, n.leaves)
         ]

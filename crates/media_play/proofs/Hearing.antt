@@ -4,21 +4,23 @@ use Rattle.std.specs.Option.{option_map_or}
 use Rattle.std.specs.List.{AllByRecursion}
 use Rattle.std.specs.Map.{keys_of}
 use Rattle.std.proofs.lemmas.Option.{same_Some, none-some}
-use Rattle.mask_register.specs.declared.register.MaskRegister.{MaskRegister}
-use Rattle.mask_register.specs.MaskRegister.{Remembers}
+use Rattle.rtp_base.specs.declared.nack_entry.NackEntry.{NackEntry}
 use Rattle.rtcp_wire.specs.declared.rtcp_fb.RtcpFb.{RtcpFb}
 use Rattle.rtcp_wire.specs.declared.rtcp_fb.RtcpFb.TheVariants.{SenderInfo, ReceptionReport, SourceDescription, Goodbye, Rrtr, DlrrItem, Nack, Pli, Fir, Twcc, Remb, AppSpecificFeedback as ApplicationFeedback}
 use Rattle.srtp_core.specs.Cipher.{CipherMeaning}
 use Rattle.srtp_core.specs.Contexts.{SrtpState, new_state}
 use Rattle.srtp_core.specs.RtcpSeals.{RtcpOpensTo}
-use Rattle.stream_core.specs.Tables.{place_of, each, change_place}
+use Rattle.stream_core.specs.Repairing.{RepairsRecord}
+use Rattle.stream_core.specs.StreamsRecord.{Asked, no_repairs, asked as asked_some}
+use Rattle.stream_core.specs.Tables.{place_of, value_under, each, change_place}
 use Rattle.stream_core.specs.TxRecord.{TxRecord, after_reception}
 use Rattle.stream_core.specs.Pauses.{on_record, with_trip, told as stream_told}
 use Rattle.stream_core.specs.RxRecord.{RxState, RxRecord}
 use Rattle.rtcp_wire.specs.declared.extended.DlrrItem.{DlrrItem as Delay}
+use Rattle.media_play.specs.Ends.{EndSession, SessionStands}
 use Rattle.session_core.specs.Calls.{after_events}
-use Rattle.session_core.specs.Hearing.{RtcpOpensIn, rtcp_opening_of, feedback_in, acknowledged_by, acknowledged, trip_of, last_delay, measured, ntp_of, after_rtcp, ReceivesRtcp, opened as opened_so, stays as stays_so}
-use Rattle.session_core.specs.SessionRecord.{MediaRecord, SessionView, SessionRecord, StandsFor}
+use Rattle.session_core.specs.Hearing.{RtcpOpensIn, rtcp_opening_of, feedback_in, acknowledged_by, acknowledged, trip_of, last_delay, measured, ntp_of, AskedBy, by_nack, by_none, AskedByAll, asked_none, asked_next, after_rtcp, ReceivesRtcp, opened as opened_so, stays as stays_so}
+use Rattle.session_core.specs.SessionRecord.{MediaRecord, SessionRecord}
 use Rattle.session_core.specs.declared.datagram.Opened.{Opened as OpenedHere}
 use Rattle.rtp_base.specs.declared.kind.Kind.TheVariants.{Rtp, Rtcp}
 use Rattle.media_model.specs.declared.entry.Side.{Side}
@@ -89,6 +91,23 @@ all_keys : (fs : List RtcpFb) (es : List (ℕ × TxRecord)) → keys_of (acknowl
 all_keys [] es = refl
 all_keys (f ∷ fs) es = all_keys fs (acknowledged_by f es) ∙ keys_by f es
 
+-- where nothing is kept to be sent again, nothing is asked for
+asks_given : {now : ℕ} (ssrc : ℕ) (entries : List NackEntry) (qs after : List (ℕ × RepairsRecord)) → qs ≡ [] → Asked now ssrc entries qs after → after ≡ qs
+asks_given ssrc entries qs _ none (no_repairs absent) = refl
+asks_given ssrc entries qs _ none (asked_some q more there all) =
+    let not : None ≡ Some q = sym (ap (λ (l : List (ℕ × RepairsRecord)). value_under ssrc l) none) ∙ there in
+    absurd cc
+
+asks_one : {now : ℕ} (f : RtcpFb) (qs after : List (ℕ × RepairsRecord)) → qs ≡ [] → AskedBy now f qs after → after ≡ qs
+asks_one f qs after none (by_nack ssrc entries _ is named) = asks_given ssrc entries qs after none named
+asks_one f qs _ none (by_none not) = refl
+
+asks_none : {now : ℕ} (fs : List RtcpFb) (qs after : List (ℕ × RepairsRecord)) → qs ≡ [] → AskedByAll now fs qs after → after ≡ qs
+asks_none _ _ _ none (asked_none qs) = refl
+asks_none _ _ _ none (asked_next f fs qs between after one rest) =
+    let same = asks_one f qs between none one in
+    asks_none fs between after (same ∙ none) rest ∙ same
+
 -- a round trip that was told leaves what the streams took and what they ask for
 module _ (P : ℕ × RxRecord → Type 0) (keeps : (f : RxState → RxState) → ((x : RxState) → (f x).roc ≡ x.roc) → ((x : RxState) → (f x).suppressed ≡ x.suppressed) → ((x : RxState) → (f x).threshold ≡ x.threshold)
     → (e : ℕ × RxRecord) → P e → P (e.0, on_record f e.1)) where
@@ -114,17 +133,19 @@ heard now plain r = record r {
 pub record Heard (cipher : CipherMeaning) (r : SessionRecord) (bytes : List ℕ) (now : ℕ) (after : SessionRecord) (told : OpenedHere) : Type 0 where
   pub plain : List ℕ
   pub opens : RtcpOpensIn cipher r.state.opening bytes plain
-  pub left : after ≡ after_rtcp now plain r
+  pub repairs : List (ℕ × RepairsRecord)
+  pub asked : AskedByAll now (feedback_in plain) r.repairs repairs
+  pub left : after ≡ after_rtcp now plain repairs r
   pub is : told ≡ rtcp_opening_of r.state.opening bytes plain
 
 pub heard_so : {cipher : CipherMeaning} {r : SessionRecord} {bytes : List ℕ} {now : ℕ} {after : SessionRecord} (o : Option OpenedHere) (told : OpenedHere) → ReceivesRtcp cipher r bytes now after o → o ≡ Some told
     → Heard cipher r bytes now after told
-heard_so _ told (opened_so plain o) e = record { plain = plain; opens = o; left = refl; is = sym (same_Some _ told e) }
+heard_so _ told (opened_so plain repairs o asked) e = record { plain = plain; opens = o; repairs = repairs; asked = asked; left = refl; is = sym (same_Some _ told e) }
 heard_so _ told (stays_so none) e = absurd (none-some told e)
 
 pub unheard_so : {cipher : CipherMeaning} {r : SessionRecord} {bytes : List ℕ} {now : ℕ} {after : SessionRecord} (o : Option OpenedHere) → ReceivesRtcp cipher r bytes now after o → o ≡ None
     → (plain : List ℕ) → RtcpOpensIn cipher r.state.opening bytes plain → ⊥
-unheard_so _ (opened_so plain o) e = absurd (none-some _ (sym e))
+unheard_so _ (opened_so plain repairs o asked) e = absurd (none-some _ (sym e))
 unheard_so _ (stays_so none) e = none
 
 module _ (cipher : CipherMeaning) (setup : Setup) (came : GotEntry) (end : EndState) (entries : List Entry) (rtcp : came.kind ≡ Rtcp) (now : ℕ)
@@ -171,32 +192,36 @@ module _ (cipher : CipherMeaning) (setup : Setup) (came : GotEntry) (end : EndSt
           application = refl;
           told = refl;
           types = h.types;
+          plain = h.plain;
           exts = h.exts;
           outgoing = all_keys (feedback_in plain) session.state.tx ∙ h.outgoing;
           sends = all_sends came.side entries session.state.medias (feedback_in plain) session.state.tx h.sends;
           incoming = keys_measured ntp delay session.rx ∙ h.incoming;
           takes =
-              all_measured (TakesAs came.side entries session.state.seen) (λ f roc suppressed threshold e k. record { roc = roc e.1.state ∙ k.roc; numbers = k.numbers })
+              all_measured (TakesAs came.side entries session.seen) (λ f roc suppressed threshold e k. record { roc = roc e.1.state ∙ k.roc; numbers = k.numbers })
               ntp delay session.rx h.takes;
           probes = h.probes;
           listens =
               all_measured (ListensAs setup) (λ f roc suppressed threshold e k. record { suppressed = suppressed e.1.state ∙ k.suppressed; threshold = threshold e.1.state ∙ k.threshold })
               ntp delay session.rx h.listens;
+          originals = h.originals;
+          repairs = h.repairs;
         }
 
-    pub hears_packet : (told : OpenedHere) → told ≡ rtcp_opening_of session.state.opening came.bytes plain → (final : SessionView MaskRegister)
-        → StandsFor Remembers final (after_events (after_rtcp now plain session))
+    pub hears_packet : (repairs : List (ℕ × RepairsRecord)) → AskedByAll now (feedback_in plain) session.repairs repairs → (told : OpenedHere) → told ≡ rtcp_opening_of session.state.opening came.bytes plain → (final : EndSession)
+        → SessionStands final (after_events (after_rtcp now plain repairs session))
         → Receives (sealing_of cipher setup) setup entries came (Opened (record { side = came.side; kind = Rtcp; ssrc = told.ssrc; index = told.index; plain = told.plain }) ∷ [])
         × Ready cipher setup came.side (record { session = final; written = end.written })
         (entries ++ Got came ∷ Opened (record { side = came.side; kind = Rtcp; ssrc = told.ssrc; index = told.index; plain = told.plain }) ∷ [])
-    hears_packet told is final stands =
+    hears_packet repairs asked told is final stands =
+        let none : repairs ≡ session.repairs = asks_none (feedback_in plain) session.repairs repairs ready.knows.repairs asked in
         let entry : Opened (record { side = came.side; kind = Rtcp; ssrc = told.ssrc; index = told.index; plain = told.plain }) ∷ [] ≡ chunk =
         ap {A = OpenedHere} {B = List Entry} (λ x. Opened (record { side = came.side; kind = Rtcp; ssrc = x.ssrc; index = x.index; plain = x.plain }) ∷ [])
         (is ∙ ap (λ k. rtcp_opening_of k came.bytes plain) ready.opens) in
         let before : Ready cipher setup came.side (record { session = final; written = end.written }) entries =
         record {
           session = heard now plain session;
-          stands = subst (λ (s : SessionRecord). StandsFor Remembers final s) (told_all (after_rtcp now plain session) (keys_there session.state ready.seals ready.opens)) stands;
+          stands = subst (λ (s : SessionRecord). SessionStands final s) (told_all (after_rtcp now plain repairs session) (keys_there session.state ready.seals ready.opens) ∙ ap (λ (q : List (ℕ × RepairsRecord)). record (heard now plain session) { repairs = q }) none) stands;
           seals = ready.seals;
           opens = ready.opens;
           bounded = ready.bounded;

@@ -1,5 +1,6 @@
 -- What an end of a run knows after a write.
 use Rattle.std.proofs.Common.{◌≡◌, inl, inr, ℕ, zero, suc, ◌<◌, ◌≤◌, ◌^◌, Bool, true, false, cond, not, ◌&&◌, ◌||◌, leb, ltb, List, [], ◌∷◌, ◌++◌, length, map, set, get_or, slice_get, Some, None, is_some, refl, sym, ap, ◌∙◌, subst, arith}
+use Rattle.media_play.specs.Ends.{SessionStands}
 use Rattle.media_play.proofs.Indices.{next_index-same}
 use Rattle.srtp_core.specs.Contexts.{new_state}
 use Rattle.std.specs.Prelude.{◌==◌}
@@ -8,14 +9,13 @@ use Rattle.std.specs.Map.{keys_of}
 use Rattle.std.proofs.lemmas.List.{append-nil, map-append}
 use Rattle.std.proofs.lemmas.Bool.{and_parts, eqb-true, false_from_ne_true}
 use Rattle.std.proofs.lemmas.Option.{none-some, same_Some}
-use Rattle.mask_register.specs.MaskRegister.{Remembers}
 use Rattle.srtp_core.specs.Cipher.{CipherMeaning}
 use Rattle.stream_core.specs.declared.packet.RtpPacket.{RtpPacket}
 use Rattle.stream_core.specs.RxRecord.{RxRecord}
 use Rattle.stream_core.specs.Tables.{place_of, change_place}
 use Rattle.stream_core.specs.TxRecord.{TxRecord, written}
 use Rattle.stream_core.specs.Write.{packet_of}
-use Rattle.session_core.specs.SessionRecord.{MediaRecord, SessionState, SessionRecord, StandsFor}
+use Rattle.session_core.specs.SessionRecord.{MediaRecord, SessionState, SessionRecord}
 use Rattle.media_model.specs.declared.entry.Side.{Side}
 use Rattle.media_model.specs.declared.entry.Write.{Write as Writing}
 use Rattle.media_model.specs.declared.entry.Entry.{Entry}
@@ -163,7 +163,7 @@ module _ {seal : Sealing} {setup : Setup} {steps : List Step} {entries : List En
             ∙ ap (map waiting_of) (sym (queued-wrote played side e.0 side time w fresh ∙ ap (λ b. queued side e.0 entries ++ cond b (w ∷ []) []) none ∙ append-nil (queued side e.0 entries)));
       }
 
-  takes_wrote : (seen : List (ℕ × ℕ)) (e : ℕ × RxRecord) → TakesAs side entries seen e → TakesAs side after seen e
+  takes_wrote : (seen : List (ℕ × List ℕ)) (e : ℕ × RxRecord) → TakesAs side entries seen e → TakesAs side after seen e
   takes_wrote seen e h = record { roc = h.roc; numbers = h.numbers ∙ sym (taken-wrote side e.0 entries side time w) }
 
   pub knows_wrote : (s : SessionRecord) (at : ℕ) → NoRepeat (streams_of side setup) → slice_get (streams_of side setup) at ≡ Some w.ssrc → Knows setup side s entries
@@ -175,15 +175,18 @@ module _ {seal : Sealing} {setup : Setup} {steps : List Step} {entries : List En
     application = h.application;
     told = h.told;
     types = h.types;
+    plain = h.plain;
     exts = h.exts;
     outgoing = keys_changed (written (write_at time w)) s.state.tx at ∙ h.outgoing;
     sends = one_changes (SendsAs side entries s.state.medias) (SendsAs side after s.state.medias) (written (write_at time w)) w.ssrc
         (wrote_elsewhere s.state.medias) (wrote_here s.state.medias) s.state.tx at
         (subst NoRepeat (sym h.outgoing) distinct) (subst (λ ns. slice_get ns at ≡ Some w.ssrc) (sym h.outgoing) there) h.sends;
     incoming = h.incoming;
-    takes = all_weaker (TakesAs side entries s.state.seen) (TakesAs side after s.state.seen) s.rx (λ e i k. takes_wrote s.state.seen e k) h.takes;
-    probes = takes_wrote s.state.seen (0, s.probes) h.probes;
+    takes = all_weaker (TakesAs side entries s.seen) (TakesAs side after s.seen) s.rx (λ e i k. takes_wrote s.seen e k) h.takes;
+    probes = takes_wrote s.seen (0, s.probes) h.probes;
     listens = h.listens;
+    originals = h.originals;
+    repairs = h.repairs;
   }
 
   used_here : (r : ℕ) (old new : Numbers) → r ≡ w.ssrc → ((n : ℕ) → has new n ≡ (has old n || (w.number == n)))
@@ -225,10 +228,13 @@ module _ {seal : Sealing} {setup : Setup} {steps : List Step} {entries : List En
       let there = stream_at h w.ssrc at place in
       record {
         session = record h.session { state = record h.session.state { tx = change_place (written (write_at time w)) h.session.state.tx at } };
-        stands = subst (λ v. StandsFor Remembers v (record h.session { state = record h.session.state { tx = change_place (written (write_at time w)) h.session.state.tx at } })) (sym is) (record {
+        stands = subst (λ v. SessionStands v (record h.session { state = record h.session.state { tx = change_place (written (write_at time w)) h.session.state.tx at } })) (sym is) (record {
           state = ap (λ (s : SessionState). record s { tx = change_place (written (write_at time w)) s.tx at }) h.stands.state;
           rx = h.stands.rx;
+          originals = h.stands.originals;
           probes = h.stands.probes;
+          seen = h.stands.seen;
+          repairs = h.stands.repairs;
         });
         seals = h.seals
             ∙ ap (λ (i : ℕ). Some (new_state cipher setup.profile (material_of setup) (is_left side) i))

@@ -1,5 +1,5 @@
 -- What a session opens is what opens, and what does not open to it does not open.
-use Rattle.std.proofs.Common.{◌≡◌, inl, inr, ℕ, ◌≤◌, Bool, true, false, cond, List, [], ◌++◌, length, take, drop, slice_get, Option, Some, None, refl, sym, ap, ◌∙◌, subst}
+use Rattle.std.proofs.Common.{◌≡◌, inl, inr, ℕ, ◌≤◌, Bool, true, false, cond, List, [], ◌++◌, length, take, drop, slice_get, Option, Some, None, is_some, refl, sym, ap, ◌∙◌, subst}
 use Rattle.std.specs.Prelude.{◌==◌, if◌then◌else◌, option_and_then}
 use Rattle.std.specs.Map.{keys_of, values_of}
 use Rattle.std.proofs.lemmas.Bool.{eqb-true, false≢true}
@@ -15,7 +15,9 @@ use Rattle.srtp_core.specs.Keys.{session_keys}
 use Rattle.srtp_core.specs.Seals.{sealed_rtp, OpensTo}
 use Rattle.stream_core.specs.RxRecord.{RxRecord, taken_of, number_with, fresh_number as fresh_on}
 use Rattle.stream_core.specs.Tables.{value_under, place_of}
-use Rattle.session_core.specs.Receiving.{seen_of, is_claimed, number_of, Unpads, OpensIn, Opens as OpensHere}
+use Rattle.stream_core.specs.Seen.{seen_of}
+use Rattle.session_core.specs.Repairs.{is_known as is_known_type, standing, repaired_by}
+use Rattle.session_core.specs.Receiving.{is_claimed, number_of, Unpads, OpensIn, Opens as OpensHere}
 use Rattle.session_core.specs.SessionRecord.{SessionRecord}
 use Rattle.media_model.specs.declared.entry.Side.{Side}
 use Rattle.rtp_base.specs.declared.kind.Kind.TheVariants.{Rtp}
@@ -72,7 +74,7 @@ accepted_parts setup side entries header number e =
     ]
 
 -- on one stream
-number_on : (side : Side) (entries : List Entry) (seen : List (ℕ × ℕ)) (e : ℕ × RxRecord) (low : ℕ) → TakesAs side entries seen e
+number_on : (side : Side) (entries : List Entry) (seen : List (ℕ × List ℕ)) (e : ℕ × RxRecord) (low : ℕ) → TakesAs side entries seen e
     → fresh_on (seen_of e.0 seen) e.1 low ≡ fresh_number (taken side e.0 entries) low
 number_on side entries seen e low h =
     let number : Option ℕ → List ℕ → Option ℕ = λ roc l. if is_fresh l (number_with roc l low) then Some (number_with roc l low) else None in
@@ -90,25 +92,25 @@ no_value k es none = go (place_of k es) refl
 
 module _ {setup : Setup} {side : Side} {s : SessionRecord} {entries : List Entry} (knows : Knows setup side s entries) (h : RtpHeader) where
   abbrev number_here : Option ℕ
-  number_here = number_of (seen_of h.ssrc s.state.seen) s.rx s.probes h.ssrc h.sequence_number
+  number_here = number_of (seen_of h.ssrc s.seen) s.rx s.probes h.ssrc h.sequence_number
 
   abbrev accepted_here : Option ℕ
   accepted_here = if is_claimed s.state.types h then number_here else None
 
-  on_probes : h.ssrc ≡ 0 → fresh_on (seen_of h.ssrc s.state.seen) s.probes h.sequence_number ≡ fresh_number (taken side h.ssrc entries) h.sequence_number
+  on_probes : h.ssrc ≡ 0 → fresh_on (seen_of h.ssrc s.seen) s.probes h.sequence_number ≡ fresh_number (taken side h.ssrc entries) h.sequence_number
   on_probes is =
-      subst (λ r. fresh_on (seen_of r s.state.seen) s.probes h.sequence_number ≡ fresh_number (taken side r entries) h.sequence_number) (sym is)
-      (number_on side entries s.state.seen (0, s.probes) h.sequence_number knows.probes)
+      subst (λ r. fresh_on (seen_of r s.seen) s.probes h.sequence_number ≡ fresh_number (taken side r entries) h.sequence_number) (sym is)
+      (number_on side entries s.seen (0, s.probes) h.sequence_number knows.probes)
 
   on_stream : has (streams_of (peer_of side) setup) h.ssrc ≡ true
-      → option_and_then (λ r. fresh_on (seen_of h.ssrc s.state.seen) r h.sequence_number) (value_under h.ssrc s.rx) ≡ fresh_number (taken side h.ssrc entries) h.sequence_number
+      → option_and_then (λ r. fresh_on (seen_of h.ssrc s.seen) r h.sequence_number) (value_under h.ssrc s.rx) ≡ fresh_number (taken side h.ssrc entries) h.sequence_number
   on_stream listed =
       let found = key_found h.ssrc (keys_of s.rx) (subst (λ ns. has ns h.ssrc ≡ true) (sym knows.incoming) listed) in
-      let at = all_at (TakesAs side entries s.state.seen) s.rx found.0 h.ssrc (key_at h.ssrc (keys_of s.rx) found.0 found.1) knows.takes in
+      let at = all_at (TakesAs side entries s.seen) s.rx found.0 h.ssrc (key_at h.ssrc (keys_of s.rx) found.0 found.1) knows.takes in
       let value : value_under h.ssrc s.rx ≡ Some at.0.1 = ap (option_and_then (slice_get (values_of s.rx))) found.1 ∙ at.2 in
-      ap (option_and_then (λ r. fresh_on (seen_of h.ssrc s.state.seen) r h.sequence_number)) value
-      ∙ subst (λ r. fresh_on (seen_of r s.state.seen) at.0.1 h.sequence_number ≡ fresh_number (taken side r entries) h.sequence_number) at.1
-      (number_on side entries s.state.seen at.0 h.sequence_number at.3)
+      ap (option_and_then (λ r. fresh_on (seen_of h.ssrc s.seen) r h.sequence_number)) value
+      ∙ subst (λ r. fresh_on (seen_of r s.seen) at.0.1 h.sequence_number ≡ fresh_number (taken side r entries) h.sequence_number) at.1
+      (number_on side entries s.seen at.0 h.sequence_number at.3)
 
   pub same_number : accepted_here ≡ accepted setup side entries h
   same_number =
@@ -123,7 +125,7 @@ module _ {setup : Setup} {side : Side} {s : SessionRecord} {entries : List Entry
             | inl v ↦ rw (t, knows.types h.payload_type ∙ u, u, v) (on_stream v)
             | inr v ↦
                 let none : value_under h.ssrc s.rx ≡ None = no_value h.ssrc s.rx (subst (λ ns. has ns h.ssrc ≡ false) (sym knows.incoming) v) in
-                rw (t, knows.types h.payload_type ∙ u, u, v) (ap (option_and_then (λ r. fresh_on (seen_of h.ssrc s.state.seen) r h.sequence_number)) none)
+                rw (t, knows.types h.payload_type ∙ u, u, v) (ap (option_and_then (λ r. fresh_on (seen_of h.ssrc s.seen) r h.sequence_number)) none)
           ]
         ]
       ]
@@ -137,6 +139,22 @@ module _ {setup : Setup} {side : Side} {s : SessionRecord} {entries : List Entry
       go : (b : Bool) → is_claimed s.state.types h ≡ b → (is_claimed s.state.types h ≡ true) × (number_here ≡ Some n)
       go true e = (e, ap (λ b. cond b number_here None) (sym e) ∙ same_number ∙ is)
       go false e = let none : None ≡ Some n = ap (λ b. cond b number_here None) (sym e) ∙ same_number ∙ is in absurd cc
+
+-- no datagram that comes is a repair
+three_none : (a b c : Bool) → let none : Option ℕ = None in (if a then none else (if b then none else (if c then none else none))) ≡ none
+three_none true b c = refl
+three_none false true c = refl
+three_none false false true = refl
+three_none false false false = refl
+
+pub no_repairs : {setup : Setup} {side : Side} {s : SessionRecord} {entries : List Entry} → Knows setup side s entries → (h : RtpHeader)
+    → repaired_by s.state.types s.rx s.originals h ≡ None
+no_repairs {setup} {side} {s} {entries} knows h =
+    let types = s.state.types in
+    (λ j. if h.ssrc == 0 then None
+    else (if is_some (place_of h.ssrc s.rx) then (if is_some (knows.plain h.payload_type j) then Some h.ssrc else None)
+    else (if is_known_type types h.payload_type then standing s.rx (value_under h.ssrc (knows.originals j)) else None)))
+    ∙ three_none (h.ssrc == 0) (is_some (place_of h.ssrc s.rx)) (is_known_type types h.payload_type)
 
 module _ (cipher : CipherMeaning) (setup : Setup) (came : GotEntry) (own : ReadsOwnBytes) where
   abbrev bytes : List ℕ
@@ -219,6 +237,7 @@ module _ (cipher : CipherMeaning) (setup : Setup) (came : GotEntry) (own : Reads
         let claims = claims_here knows h (accepts_opens o) in
         record {
           reads = ap (λ x. header_of x bytes) knows.exts ∙ o.reads;
+          original = no_repairs knows h;
           claimed = claims.0;
           accepts = claims.1;
           opens = subst (λ k. OpensIn cipher k h n bytes (drop h.header_len plain)) (sym keyed) (opens_as entries h n plain o).1;

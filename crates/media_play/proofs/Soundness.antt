@@ -1,16 +1,17 @@
 -- A setup that breaks no rule is one for which the laws of a run hold.
-use Rattle.std.proofs.Common.{◌≡◌, inl, inr, Bool, true, false, not, cond, ◌||◌, ◌&&◌, ℕ, ◌<◌, ◌≤◌, ◌^◌, List, [], ◌∷◌, ◌++◌, length, Option, Some, None, refl, sym, ap, ◌∙◌, subst, arith}
+use Rattle.std.proofs.Common.{◌≡◌, inl, inr, Bool, true, false, not, cond, ◌||◌, ◌&&◌, ℕ, ◌<◌, ◌≤◌, ◌^◌, List, [], ◌∷◌, ◌++◌, length, map, Option, Some, None, refl, sym, ap, ◌∙◌, subst, arith}
 use Rattle.std.specs.Prelude.{◌==◌, nat_lt, nat_le}
 use Rattle.std.specs.List.{flat_map, filter_map, list_any}
 use Rattle.std.proofs.lemmas.Bool.{eqb-true, eq-eqb, leb-true, ltb-false, false≢true, not-false, and_parts}
 use Rattle.std.proofs.lemmas.List.Elements.{filter_map-append}
 use Rattle.media_model.specs.declared.entry.Side.{Side}
+use Rattle.media_model.specs.declared.setup.PayloadType.{PayloadType}
 use Rattle.media_model.specs.declared.setup.Stream.{Stream}
 use Rattle.media_model.specs.declared.setup.Media.{Media}
 use Rattle.media_model.specs.declared.setup.Mtu.{Mtu}
 use Rattle.media_model.specs.declared.setup.Setup.{Setup}
 use Rattle.srtp_core.specs.Keys.{material_len}
-use Rattle.media_model.specs.Setup.{material_of, streams_of, streams_in, main_in, types_of}
+use Rattle.media_model.specs.Setup.{material_of, streams_of, streams_in, main_in, pt_in, types_of, claimed_in, claimed_of}
 use Rattle.media_model.specs.Sides.{same_side}
 use Rattle.setup_rules.specs.declared.fault.SetupFault.{SetupFault}
 use Rattle.setup_rules.specs.declared.fault.SetupFault.TheVariants.{KeyLength, Mtu as MtuRule, Times, ExtId, TypeTwice, SsrcZero, SsrcTwice}
@@ -75,6 +76,15 @@ small_types types pt small e =
       | inr t ↦ let low = ltb-false 127 pt t in omega (arith, low)
     ]
 
+-- a type is among the claimed ones
+type_is_claimed : (types : List PayloadType) (pt : ℕ) → IsIn pt (map pt_in types) → IsIn pt (flat_map claimed_in types)
+type_is_claimed [] pt i = i
+type_is_claimed (t ∷ types) pt (inl e) = inl e
+type_is_claimed (t ∷ types) pt (inr i) = IsIn-right pt (claimed_in t) (flat_map claimed_in types) (type_is_claimed types pt i)
+
+claimed_type : (setup : Setup) (pt : ℕ) → has (types_of setup) pt ≡ true → has (claimed_of setup) pt ≡ true
+claimed_type setup pt e = has_in (claimed_of setup) pt (type_is_claimed setup.types pt (in_has (types_of setup) pt e))
+
 -- the bounds of the length of datagrams
 pub mtu_parts : (mtu : Mtu) → is_mtu mtu ≡ true → (900 ≤ mtu.target) × (mtu.target ≤ mtu.warn) × (mtu.warn ≤ 1500)
 mtu_parts mtu e =
@@ -88,13 +98,13 @@ sound_setup setup e =
     let mtu = fault_none (not (is_mtu setup.mtu)) MtuRule _ key.1 in
     let time = fault_none (is_beyond setup) Times _ mtu.1 in
     let ids = fault_none (any_ext_wrong setup.exts) ExtId _ time.1 in
-    let type = fault_none (list_any (nat_lt 127) (types_of setup) || repeats (types_of setup)) TypeTwice _ ids.1 in
+    let type = fault_none (list_any (nat_lt 127) (claimed_of setup) || repeats (claimed_of setup)) TypeTwice _ ids.1 in
     let zero = fault_none (has (all_ssrcs setup) 0) SsrcZero _ type.1 in
     let twice = fault_none (repeats (all_ssrcs setup)) SsrcTwice _ zero.1 in
     let once = (no_repeats (all_ssrcs setup) twice.0).1.1 in
     record {
       wide = (mtu_parts setup.mtu (not-false _ mtu.0)).0;
-      types = λ pt h. small_types (types_of setup) pt (neither _ _ type.0).0 h;
+      types = λ pt h. small_types (claimed_of setup) pt (neither _ _ type.0).0 (claimed_type setup pt h);
       distinct = λ side. subst NoRepeat (sym (mains side setup.media)) (mains_once side (all_streams setup) once);
       nonzero = λ side. elim (tested (has (streams_of side setup) 0)) [
         | inl t ↦

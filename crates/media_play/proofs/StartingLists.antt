@@ -1,6 +1,6 @@
 -- Lists that a loop goes over, and tables to which a value is added.
 use Rattle.std.proofs.Common.{◌≡◌, inl, inr, ℕ, ◌+◌, ◌<◌, Bool, true, false, ◌||◌, List, [], ◌∷◌, ◌++◌, length, map, get_or, take, drop, Option, Some, None, is_some, nat_eq, refl, sym, ap, ◌∙◌, subst, append_assoc}
-use Rattle.std.specs.Prelude.{◌==◌, option_to_list}
+use Rattle.std.specs.Prelude.{◌==◌, if◌then◌else◌, option_to_list}
 use Rattle.std.specs.List.{flat_map, filter_map, cons_option, list_any, position_from, AllByRecursion, AllZip}
 use Rattle.std.specs.Map.{keys_of}
 use Rattle.std.specs.Option.{option_map_or}
@@ -10,6 +10,8 @@ use Rattle.std.proofs.lemmas.List.{append-nil, map-append, take_more, take-appen
 use Rattle.std.proofs.lemmas.List.Concat.{flat_map-append}
 use Rattle.std.proofs.lemmas.List.Elements.{filter_map-append}
 use Rattle.indexmap.specs.IndexMap.{insert_entry}
+use Rattle.stream_core.specs.declared.payload_types.TypeRow.{TypeRow}
+use Rattle.stream_core.specs.Repairing.{is_type, primary_type_of}
 use Rattle.stream_core.specs.Tables.{place_of, with_new}
 use Rattle.media_play.specs.Listing.{IsIn, NoRepeat}
 use Rattle.media_play.specs.Rules.{has}
@@ -162,3 +164,19 @@ new_behind es ks k x are once =
 
 pub keys_more : {X : Type 0} (es : List (ℕ × X)) (ks : List ℕ) (k : ℕ) (x : X) → keys_of es ≡ ks → keys_of (es ++ (k, x) ∷ []) ≡ ks ++ k ∷ []
 keys_more es ks k x are = map-append (λ e. e.0) es ((k, x) ∷ []) ∙ ap (λ (l : List ℕ). l ++ k ∷ []) are
+
+-- types whose packets have no repairs
+abbrev pub HasNoRepairs : ℕ × TypeRow → Type 0
+HasNoRepairs e = e.1.rtx ≡ None
+
+pub plain_insert : (es : List (ℕ × TypeRow)) (k : ℕ) (row : TypeRow) → row.rtx ≡ None → AllByRecursion HasNoRepairs es → AllByRecursion HasNoRepairs (insert_entry nat_eq es k row)
+plain_insert [] k row none h = (none, tt)
+plain_insert (e ∷ es) k row none h =
+    elim (tested (nat_eq k e.0)) [
+      | inl t ↦ rw t (none, h.1)
+      | inr t ↦ rw t (h.0, plain_insert es k row none h.1)
+    ]
+
+pub plain_types : (es : List (ℕ × TypeRow)) → AllByRecursion HasNoRepairs es → (pt : ℕ) → primary_type_of es pt ≡ None
+plain_types [] h pt = refl
+plain_types (e ∷ es) h pt = ap (λ o. if is_type pt o then Some e.1.pt else primary_type_of es pt) h.0 ∙ plain_types es h.1 pt

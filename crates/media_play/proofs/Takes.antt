@@ -10,14 +10,16 @@ use Rattle.std.specs.Option.{option_map, option_map_or}
 use Rattle.std.proofs.lemmas.Bool.{eqb-true, eq-eqb, false≢true}
 use Rattle.std.proofs.lemmas.List.{append-nil}
 use Rattle.std.proofs.lemmas.Option.{same_Some}
+use Rattle.rtp_base.specs.Window.{greatest, with_fresh}
 use Rattle.rtp_wire.specs.declared.header.RtpHeader.{RtpHeader}
 use Rattle.repair_core.specs.Fresh.{is_fresh, with_number}
 use Rattle.srtp_core.specs.Cipher.{CipherMeaning}
 use Rattle.stream_core.specs.RxRecord.{RxRecord, taken_of, opened_as as heard_on}
 use Rattle.stream_core.specs.Pauses.{on_record, told}
-use Rattle.stream_core.specs.Tables.{value_under, place_of, each, change_place, change_at}
+use Rattle.stream_core.specs.Tables.{place_of, value_under, each, change_place, change_at}
 use Rattle.stream_core.specs.TxRecord.{TxRecord}
-use Rattle.session_core.specs.Receiving.{seen_of, saw, rx_opened, probes_opened}
+use Rattle.session_core.specs.Receiving.{rx_opened, probes_opened}
+use Rattle.stream_core.specs.Seen.{seen_of, saw}
 use Rattle.session_core.specs.SessionRecord.{MediaRecord, SessionRecord}
 use Rattle.media_model.specs.declared.entry.Side.{Side}
 use Rattle.media_model.specs.declared.entry.Write.{Write as Writing}
@@ -75,17 +77,17 @@ under_changed f k q (suc i) (e ∷ es) other at =
       | inr t ↦ under_next k e (change_place f es i) t ∙ under_changed f k q i es other at ∙ sym (under_next k e es t)
     ]
 
-pub seen_elsewhere : (k ssrc n : ℕ) (seen : List (ℕ × ℕ)) → (k ≡ ssrc → ⊥) → seen_of k (saw ssrc n seen) ≡ seen_of k seen
-seen_elsewhere k ssrc n seen other = go (place_of ssrc seen) refl
+pub seen_elsewhere : (k ssrc n : ℕ) (seen : List (ℕ × List ℕ)) → (k ≡ ssrc → ⊥) → seen_of k (saw ssrc n seen) ≡ seen_of k seen
+seen_elsewhere k ssrc n seen other = ap (option_map greatest) (go (place_of ssrc seen) refl)
   where
-    raised : ℕ → ℕ
-    raised m = if nat_lt m n then n else m
+    more : List ℕ → List ℕ
+    more l = with_fresh None l n
 
-    go : (o : Option ℕ) → place_of ssrc seen ≡ o → seen_of k (saw ssrc n seen) ≡ seen_of k seen
-    go None e = ap (λ o. seen_of k (option_map_or (change_place raised seen) o (seen ++ (ssrc, n) ∷ []))) e ∙ under_pushed k ssrc n seen other
+    go : (o : Option ℕ) → place_of ssrc seen ≡ o → value_under k (saw ssrc n seen) ≡ value_under k seen
+    go None e = ap (λ o. value_under k (option_map_or (change_place more seen) o (seen ++ (ssrc, n ∷ []) ∷ []))) e ∙ under_pushed k ssrc (n ∷ []) seen other
     go (Some i) e =
-        ap (λ o. seen_of k (option_map_or (change_place raised seen) o (seen ++ (ssrc, n) ∷ []))) e
-        ∙ under_changed raised k ssrc i seen other (key_at ssrc (keys_of seen) i e)
+        ap (λ o. value_under k (option_map_or (change_place more seen) o (seen ++ (ssrc, n ∷ []) ∷ []))) e
+        ∙ under_changed more k ssrc i seen other (key_at ssrc (keys_of seen) i e)
 
 -- what holds of each value of a table holds after one of them, or each, changed so that it goes on to hold
 
@@ -123,7 +125,7 @@ module _ (setup : Setup) (side : Side) (old new : List Entry)
       (λ r u i k n. k n ∙ ap (λ (ws : List Writing). list_any (λ w. w.number == n) ws) (sym (wrote r))) h
 
   module _ (took : (r : ℕ) → taken side r new ≡ taken side r old) where
-    takes_still : (seen : List (ℕ × ℕ)) (e : ℕ × RxRecord) → TakesAs side old seen e → TakesAs side new seen e
+    takes_still : (seen : List (ℕ × List ℕ)) (e : ℕ × RxRecord) → TakesAs side old seen e → TakesAs side new seen e
     takes_still seen e h = record { roc = h.roc; numbers = h.numbers ∙ sym (took e.0) }
 
     pub knows_still : (s : SessionRecord) → Knows setup side s old → Knows setup side s new
@@ -134,13 +136,16 @@ module _ (setup : Setup) (side : Side) (old new : List Entry)
       application = h.application;
       told = h.told;
       types = h.types;
+      plain = h.plain;
       exts = h.exts;
       outgoing = h.outgoing;
       sends = sends_still s.state.medias s.state.tx h.sends;
       incoming = h.incoming;
-      takes = all_weaker (TakesAs side old s.state.seen) (TakesAs side new s.state.seen) s.rx (λ e i k. takes_still s.state.seen e k) h.takes;
-      probes = takes_still s.state.seen (0, s.probes) h.probes;
+      takes = all_weaker (TakesAs side old s.seen) (TakesAs side new s.seen) s.rx (λ e i k. takes_still s.seen e k) h.takes;
+      probes = takes_still s.seen (0, s.probes) h.probes;
       listens = h.listens;
+      originals = h.originals;
+      repairs = h.repairs;
     }
 
     pub ready_still : next_index setup side new ≡ next_index setup side old → (cipher : CipherMeaning) (end : EndState)
@@ -180,8 +185,8 @@ module _ (entries : List Entry) (came : GotEntry) (header : RtpHeader) (number :
       (same_reading (sealed_number_on s r) entries opened (yields_none (sealed_number_on s r) (λ s p. refl) came.side header number plain))
       ∙ ap (λ ws. filter (λ w. not (is_sealed (sealed_numbers s r entries) w)) ws) (writes_on-opened s r)
 
-  module _ (fresh : is_fresh (taken came.side header.ssrc entries) number ≡ true) (seen : List (ℕ × ℕ)) (now : ℕ) where
-    abbrev seen_after : List (ℕ × ℕ)
+  module _ (fresh : is_fresh (taken came.side header.ssrc entries) number ≡ true) (seen : List (ℕ × List ℕ)) (now : ℕ) where
+    abbrev seen_after : List (ℕ × List ℕ)
     seen_after = saw header.ssrc number seen
 
     took_elsewhere : (e : ℕ × RxRecord) → (e.0 ≡ header.ssrc → ⊥) → TakesAs came.side entries seen e → TakesAs came.side (entries ++ opened) seen_after e
@@ -256,16 +261,19 @@ module _ (entries : List Entry) (came : GotEntry) (header : RtpHeader) (number :
 -- the record after it, and after all was told
 abbrev pub after_took : ℕ → RtpHeader → ℕ → SessionRecord → SessionRecord
 after_took now header number s = record {
-  state = record s.state { seen = saw header.ssrc number s.state.seen; application = None; packet = None };
-  rx = each (on_record told) (rx_opened (seen_of header.ssrc s.state.seen) now header.ssrc number s.rx);
-  probes = probes_opened (seen_of header.ssrc s.state.seen) now header.ssrc number s.probes;
+  state = record s.state { application = None; packet = None };
+  rx = each (on_record told) (rx_opened (seen_of header.ssrc s.seen) now header.ssrc number s.rx);
+  originals = s.originals;
+  probes = probes_opened (seen_of header.ssrc s.seen) now header.ssrc number s.probes;
+  seen = saw header.ssrc number s.seen;
+  repairs = s.repairs;
 }
 
 pub knows_opened : (setup : Setup) (entries : List Entry) (came : GotEntry) (now : ℕ) (header : RtpHeader) (number : ℕ) (plain : List ℕ) (s : SessionRecord) → IsSound setup
     → is_fresh (taken came.side header.ssrc entries) number ≡ true → Knows setup came.side s entries
     → Knows setup came.side (after_took now header number s) (entries ++ opening came header number plain)
 knows_opened setup entries came now header number plain s sound fresh h =
-    let rx : List (ℕ × RxRecord) = rx_opened (seen_of header.ssrc s.state.seen) now header.ssrc number s.rx in
+    let rx : List (ℕ × RxRecord) = rx_opened (seen_of header.ssrc s.seen) now header.ssrc number s.rx in
     record {
       target = h.target;
       runs = h.runs;
@@ -273,16 +281,19 @@ knows_opened setup entries came now header number plain s sound fresh h =
       application = refl;
       told = refl;
       types = h.types;
+      plain = h.plain;
       exts = h.exts;
       outgoing = h.outgoing;
       sends = sends_still setup came.side entries (entries ++ opening came header number plain) (queued-opened entries came header number plain came.side) (writes_on-opened entries came header number plain came.side) s.state.medias s.state.tx h.sends;
-      incoming = keys_each (on_record told) rx ∙ rx_keys entries came header number plain fresh s.state.seen now s.rx ∙ h.incoming;
+      incoming = keys_each (on_record told) rx ∙ rx_keys entries came header number plain fresh s.seen now s.rx ∙ h.incoming;
       takes =
-          all_each (TakesAs came.side (entries ++ opening came header number plain) (saw header.ssrc number s.state.seen)) (on_record told) (λ e k. record { roc = k.roc; numbers = k.numbers }) rx
-          (takes_opened entries came header number plain fresh s.state.seen now s.rx
+          all_each (TakesAs came.side (entries ++ opening came header number plain) (saw header.ssrc number s.seen)) (on_record told) (λ e k. record { roc = k.roc; numbers = k.numbers }) rx
+          (takes_opened entries came header number plain fresh s.seen now s.rx
           (subst NoRepeat (sym h.incoming) (sound.distinct (peer_of came.side))) (subst (λ ns. has ns 0 ≡ false) (sym h.incoming) (sound.nonzero (peer_of came.side))) h.takes);
-      probes = probes_after entries came header number plain fresh s.state.seen now s.probes h.probes;
+      probes = probes_after entries came header number plain fresh s.seen now s.probes h.probes;
       listens =
           all_each (ListensAs setup) (on_record told) (λ e k. record { suppressed = k.suppressed; threshold = k.threshold }) rx
-          (listens_opened entries came header number plain fresh s.state.seen now setup s.rx h.listens);
+          (listens_opened entries came header number plain fresh s.seen now setup s.rx h.listens);
+      originals = h.originals;
+      repairs = h.repairs;
     }

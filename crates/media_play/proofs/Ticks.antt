@@ -4,25 +4,25 @@ use Rattle.std.specs.Prelude.{◌==◌, ◌&&◌, ◌||◌, ◌-◌, not, nat_le
 use Rattle.std.specs.List.{flat_map, list_any, AllByRecursion, AllZip}
 use Rattle.std.specs.Map.{keys_of}
 use Rattle.std.proofs.lemmas.Bool.{eqb-true, eq-eqb, false_from_ne_true}
-use Rattle.mask_register.specs.declared.register.MaskRegister.{MaskRegister}
-use Rattle.mask_register.specs.MaskRegister.{Remembers}
 use Rattle.rtp_wire.specs.HeaderLaws.{WrittenIsReadAgain}
 use Rattle.srtp_core.specs.Cipher.{CipherMeaning}
 use Rattle.srtp_core.specs.Contexts.{SrtpState, new_state}
 use Rattle.srtp_core.specs.Keys.{session_keys}
 use Rattle.srtp_core.specs.Seals.{sealed_rtp}
 use Rattle.stream_core.specs.declared.packet.RtpPacket.{RtpPacket}
+use Rattle.stream_core.specs.declared.transport.Transport.{Transport}
 use Rattle.stream_core.specs.Queue.{stamp_of, with_stamp}
 use Rattle.stream_core.specs.Missing.{any_enabled, pending_in}
 use Rattle.stream_core.specs.Pauses.{is_over, checked, on_record, told as stream_told}
 use Rattle.stream_core.specs.RxRecord.{RxState, RxRecord}
 use Rattle.stream_core.specs.Tables.{each, place_of}
 use Rattle.stream_core.specs.TxRecord.{TxRecord, receipt_of, after_timeout as stream_after_timeout}
+use Rattle.media_play.specs.Ends.{EndSession, SessionStands}
 use Rattle.session_core.specs.declared.datagram.Datagram.{Datagram}
-use Rattle.session_core.specs.Calls.{state_told, after_events}
+use Rattle.session_core.specs.Calls.{after_events}
 use Rattle.session_core.specs.Rounds.{round_interval, after_round, after_checks, after_timeout}
-use Rattle.session_core.specs.Sending.{next_datagram, after_datagram, DrainsTo, Drains}
-use Rattle.session_core.specs.SessionRecord.{MediaRecord, SessionState, SessionView, SessionRecord, StandsFor}
+use Rattle.session_core.specs.Sending.{Drains}
+use Rattle.session_core.specs.SessionRecord.{MediaRecord, SessionState, SessionRecord}
 use Rattle.media_model.specs.declared.entry.Side.{Side}
 use Rattle.media_model.specs.declared.entry.Write.{Write as Writing}
 use Rattle.media_model.specs.declared.entry.Entry.{Entry}
@@ -45,7 +45,7 @@ use Rattle.media_play.specs.SetupFacts.{IsSound}
 use Rattle.media_play.proofs.Indices.{next_index-ticked}
 use Rattle.media_play.proofs.Appends.{queued-ticked, taken-ticked}
 use Rattle.media_play.proofs.Arrivals.{keys_there, told_all}
-use Rattle.media_play.proofs.Draining.{left, IsStamped, AllGo, Leaves, Kept, sent, ended, left_there, none_left}
+use Rattle.media_play.proofs.Draining.{left, IsStamped, AllGo, Leaves, sent, ended, none_left}
 use Rattle.media_play.proofs.Lists.{tested, any-from_in, map-flat_map}
 use Rattle.media_play.proofs.Readings.{to_seal_in}
 use Rattle.media_play.proofs.Takes.{all_each, keys_each}
@@ -126,7 +126,7 @@ module _ (cipher : CipherMeaning) (setup : Setup) (side : Side) (again : Written
 
 -- the state of a session after a tick that is no round, and after it told all
 abbrev ticked_state : ℕ → SessionState → SessionState
-ticked_state now s = record s { tx = each (stream_after_timeout now) s.tx; application = None; packet = None }
+ticked_state now s = record s { tx = each (stream_after_timeout now) s.tx; released = true; application = None; packet = None }
 
 -- its incoming streams
 abbrev ticked_rx : ℕ → List (ℕ × RxRecord) → List (ℕ × RxRecord)
@@ -163,7 +163,7 @@ listens_ticked setup now rx h =
     (all_each (ListensAs setup) (on_record (checked now))
     (λ e k. record { suppressed = suppressed_checked now e.1.state ∙ k.suppressed; threshold = threshold_checked now e.1.state ∙ k.threshold }) rx h)
 
-module _ (side : Side) (entries : List Entry) (seen : List (ℕ × ℕ)) (now : ℕ) where
+module _ (side : Side) (entries : List Entry) (seen : List (ℕ × List ℕ)) (now : ℕ) where
   takes_checked : (e : ℕ × RxRecord) → TakesAs side entries seen e → TakesAs side entries seen (e.0, on_record (checked now) e.1)
   takes_checked e k = record { roc = roc_checked now e.1.state ∙ k.roc; numbers = k.numbers }
 
@@ -172,9 +172,14 @@ module _ (side : Side) (entries : List Entry) (seen : List (ℕ × ℕ)) (now : 
       all_each (TakesAs side entries seen) (on_record stream_told) (λ e k. record { roc = k.roc; numbers = k.numbers }) (each (on_record (checked now)) rx)
       (all_each (TakesAs side entries seen) (on_record (checked now)) takes_checked rx h)
 
--- the record of a session after a tick and a drain, by its state then
-abbrev ticked_record : ℕ → SessionRecord → SessionState → SessionRecord
-ticked_record now s after = record { state = after; rx = ticked_rx now s.rx; probes = on_record (checked now) s.probes }
+-- the session then, and after a drain, by what that leaves
+abbrev ticked_record : ℕ → SessionRecord → SessionRecord
+ticked_record now s = record { state = ticked_state now s.state; rx = ticked_rx now s.rx; originals = s.originals; probes = on_record (checked now) s.probes; seen = s.seen; repairs = s.repairs }
+
+abbrev drained_record : ℕ → SessionRecord → List (ℕ × TxRecord) → Transport → Bool → SessionRecord
+drained_record now s tx transport released =
+    let r = ticked_record now s in
+    record r { state = record r.state { tx = tx; transport = transport; released = released } }
 
 module _ (seal : Sealing) (setup : Setup) (side : Side) (entries : List Entry) (time : ℕ) (sealed : List Entry) (all : Seals seal setup side entries sealed) where
   abbrev ticked : List Entry
@@ -192,10 +197,10 @@ module _ (seal : Sealing) (setup : Setup) (side : Side) (entries : List Entry) (
     sends_ticked medias es go.1 none.1 (λ n i. known n (inr i)),
   )
 
-  takes_one : (seen : List (ℕ × ℕ)) (e : ℕ × RxRecord) → TakesAs side entries seen e → TakesAs side ticked seen e
+  takes_one : (seen : List (ℕ × List ℕ)) (e : ℕ × RxRecord) → TakesAs side entries seen e → TakesAs side ticked seen e
   takes_one seen e h = record { roc = h.roc; numbers = h.numbers ∙ sym (taken-ticked side e.0 entries side time sealed all) }
 
-  takes_ticked : (seen : List (ℕ × ℕ)) (es : List (ℕ × RxRecord)) → AllByRecursion (TakesAs side entries seen) es → AllByRecursion (TakesAs side ticked seen) es
+  takes_ticked : (seen : List (ℕ × List ℕ)) (es : List (ℕ × RxRecord)) → AllByRecursion (TakesAs side entries seen) es → AllByRecursion (TakesAs side ticked seen) es
   takes_ticked seen [] h = tt
   takes_ticked seen (e ∷ es) h = (takes_one seen e h.0, takes_ticked seen es h.1)
 
@@ -208,33 +213,28 @@ module _ (seal : Sealing) (setup : Setup) (side : Side) (entries : List Entry) (
     used_ticked rs us h.1,
   )
 
-  knows_ticked : (s : SessionRecord) (after : SessionState) → Kept (ticked_state time s.state) after
-      → AllByRecursion (λ (e : ℕ × TxRecord). e.1.queue ≡ []) after.tx → Knows setup side s entries → Knows setup side (ticked_record time s after) ticked
-  knows_ticked s after k none h =
-      let outgoing : keys_of after.tx ≡ streams_of side setup = k.keys ∙ same_keys time s.state.tx ∙ h.outgoing in
-      let seen : s.state.seen ≡ after.seen = sym (ap (λ (x : SessionState). x.seen) k.others) in
-      let medias : s.state.medias ≡ after.medias = sym (ap (λ (x : SessionState). x.medias) k.others) in
+  knows_ticked : (s : SessionRecord) (tx : List (ℕ × TxRecord)) (transport : Transport) (released : Bool) → keys_of tx ≡ keys_of (each (stream_after_timeout time) s.state.tx)
+      → transport.exts ≡ s.state.transport.exts → AllGo s.state.medias tx → AllByRecursion (λ (e : ℕ × TxRecord). e.1.queue ≡ []) tx
+      → Knows setup side s entries → Knows setup side (drained_record time s tx transport released) ticked
+  knows_ticked s tx transport released keys exts go none h =
+      let outgoing : keys_of tx ≡ streams_of side setup = keys ∙ same_keys time s.state.tx ∙ h.outgoing in
       record {
-        target = ap (λ (x : SessionState). x.target) k.others ∙ h.target;
-        runs = ap (λ (x : SessionState). x.stopped) k.others ∙ h.runs;
-        feedback = ap (λ (x : SessionState). x.feedback) k.others ∙ h.feedback;
-        application = ap (λ (x : SessionState). x.application) k.others;
-        told = ap (λ (x : SessionState). x.packet) k.others;
-        types = λ pt. ap (λ (x : SessionState). is_some (place_of pt x.types)) k.others ∙ h.types pt;
-        exts = k.exts ∙ h.exts;
+        target = h.target;
+        runs = h.runs;
+        feedback = h.feedback;
+        application = refl;
+        told = refl;
+        types = h.types;
+        plain = h.plain;
+        exts = exts ∙ h.exts;
         outgoing = outgoing;
-        sends =
-            subst (λ (m : List MediaRecord). AllByRecursion (SendsAs side ticked m) after.tx) medias
-            (sends_ticked s.state.medias after.tx k.go none
-            (λ n i. any-from_in (λ x. x == n) n (streams_of side setup) (subst (IsIn n) outgoing i) (eq-eqb n n refl)));
+        sends = sends_ticked s.state.medias tx go none (λ n i. any-from_in (λ x. x == n) n (streams_of side setup) (subst (IsIn n) outgoing i) (eq-eqb n n refl));
         incoming = keys_each (on_record stream_told) (each (on_record (checked time)) s.rx) ∙ keys_each (on_record (checked time)) s.rx ∙ h.incoming;
-        takes =
-            subst (λ (l : List (ℕ × ℕ)). AllByRecursion (TakesAs side ticked l) (ticked_rx time s.rx)) seen
-            (takes_rx side ticked s.state.seen time s.rx (takes_ticked s.state.seen s.rx h.takes));
-        probes =
-            subst (λ (l : List (ℕ × ℕ)). TakesAs side ticked l (0, on_record (checked time) s.probes)) seen
-            (takes_checked side ticked s.state.seen time (0, s.probes) (takes_one s.state.seen (0, s.probes) h.probes));
+        takes = takes_rx side ticked s.seen time s.rx (takes_ticked s.seen s.rx h.takes);
+        probes = takes_checked side ticked s.seen time (0, s.probes) (takes_one s.seen (0, s.probes) h.probes);
         listens = listens_ticked setup time s.rx h.listens;
+        originals = h.originals;
+        repairs = h.repairs;
       }
 
 -- a tick, and a drain at the same moment
@@ -246,67 +246,63 @@ module _ (cipher : CipherMeaning) (again : WrittenIsReadAgain) (setup : Setup) (
   not_zero : (time == 0) ≡ false
   not_zero = false_from_ne_true _ (λ e. later (eqb-true time 0 e))
 
-  pub record IsTickOf (s : SessionRecord) (entries : List Entry) (after : SessionState) (ds : List Datagram) : Type 0 where
+  pub record IsTickOf (s : SessionRecord) (entries : List Entry) (after : SessionRecord) (ds : List Datagram) : Type 0 where
     pub seals : Seals (sealing_of cipher setup) setup side entries (seals_from side ds)
-    pub knows : Knows setup side (ticked_record time s after) (entries ++ Ticked side time ∷ seals_from side ds)
-    pub sealing : after.sealing ≡ s.state.sealing
-    pub opening : after.opening ≡ s.state.opening
+    pub knows : Knows setup side after (entries ++ Ticked side time ∷ seals_from side ds)
+    pub sealing : after.state.sealing ≡ s.state.sealing
+    pub opening : after.state.opening ≡ s.state.opening
 
-  is_last : {steps : List Step} {entries : List Entry} → IsSound setup → Played (sealing_of cipher setup) setup steps entries
+  is_tick : {steps : List Step} {entries : List Entry} → IsSound setup → Played (sealing_of cipher setup) setup steps entries
       → (s : SessionRecord) → s.state.sealing ≡ Some keys → Knows setup side s entries
-      → (after : SessionState) (ds : List Datagram) → DrainsTo cipher time (ticked_state time s.state) after ds → next_datagram cipher time after ≡ None
-      → IsTickOf s entries after ds × (after_datagram time after ≡ after)
-  is_last {steps} {entries} sound played s sealing h after ds drains last =
-      let first : SessionState = ticked_state time s.state in
-      let go : AllGo first.medias first.tx = all_go side entries s.state.medias time s.state.tx h.sends in
-      let all_sent = sent cipher time keys not_zero first sealing h.feedback go drains in
-      let none : AllByRecursion (λ (e : ℕ × TxRecord). e.1.queue ≡ []) after.tx = ended cipher time keys not_zero first sealing h.feedback go after all_sent.kept last in
+      → (after : SessionRecord) (ds : List Datagram) → Drains cipher time (ticked_record time s) after ds → IsTickOf s entries after ds
+  is_tick {steps} {entries} sound played s sealing h after ds drains =
+      let first : SessionRecord = ticked_record time s in
+      let last : SessionRecord = drains.last in
+      let go : AllGo first.state.medias first.state.tx = all_go side entries s.state.medias time s.state.tx h.sends in
+      let all_sent = sent cipher time keys not_zero first sealing h.feedback h.repairs go drains.sent in
+      let done = ended cipher time keys not_zero first sealing h.feedback h.repairs go last after all_sent.kept drains.ended in
+      let none = done.0 in
       let ws : List Writing = to_seal setup side entries in
       let is : map (stamped time) ws ≡ all_sent.packets =
       sym (waits side entries s.state.medias time s.state.tx h.sends
       ∙ ap (flat_map (λ ssrc. map (stamped time) (queued side ssrc entries))) h.outgoing
       ∙ map-flat_map (stamped time) (λ ssrc. queued side ssrc entries) (streams_of side setup))
-      ∙ all_sent.split ∙ sym (append_none all_sent.packets (left after.tx) (none_left after.tx none)) in
+      ∙ all_sent.split ∙ sym (append_none all_sent.packets (left last.state.tx) (none_left last.state.tx none)) in
       let leave : AllZip (Leaves cipher keys (extensions_of setup) time) (map (stamped time) ws) ds =
       subst (λ (ps : List RtpPacket). AllZip (Leaves cipher keys (extensions_of setup) time) ps ds) (sym is)
       (subst (λ x. AllZip (Leaves cipher keys x time) all_sent.packets ds) h.exts all_sent.leave) in
       let seals : Seals (sealing_of cipher setup) setup side entries (seals_from side ds) =
-      all cipher setup side again time index ws ds (λ w i. fits_header sound ((stands played).fits side w.ssrc w (to_seal_in setup side entries w i).0)) leave in (
-        record {
-          seals = seals;
-          knows = knows_ticked (sealing_of cipher setup) setup side entries time (seals_from side ds) seals s after all_sent.kept none h;
-          sealing = ap (λ (x : SessionState). x.sealing) all_sent.kept.others;
-          opening = ap (λ (x : SessionState). x.opening) all_sent.kept.others;
-        },
-        left_there cipher time keys not_zero first sealing h.feedback go after all_sent.kept last,
-      )
-
-  is_tick : {steps : List Step} {entries : List Entry} → IsSound setup → Played (sealing_of cipher setup) setup steps entries
-      → (s : SessionRecord) → s.state.sealing ≡ Some keys → Knows setup side s entries
-      → (after : SessionState) (ds : List Datagram) → Drains cipher time (ticked_state time s.state) after ds → IsTickOf s entries after ds
-  is_tick {steps} {entries} sound played s sealing h after ds drains =
-      let t = is_last sound played s sealing h drains.last ds drains.sent drains.ended in
-      subst (λ (a : SessionState). IsTickOf s entries a ds) (sym (drains.leaves ∙ t.1)) t.0
+      all cipher setup side again time index ws ds (λ w i. fits_header sound ((stands played).fits side w.ssrc w (to_seal_in setup side entries w i).0)) leave in
+      let left_there : after ≡ drained_record time s last.state.tx last.state.transport false =
+      done.1 ∙ ap (λ (x : SessionRecord). record x { state = record x.state { released = false } }) all_sent.kept.others in
+      subst (λ (a : SessionRecord). IsTickOf s entries a ds) (sym left_there)
+      (record {
+        seals = seals;
+        knows = knows_ticked (sealing_of cipher setup) setup side entries time (seals_from side ds) seals s last.state.tx last.state.transport false
+            all_sent.kept.keys all_sent.kept.exts all_sent.kept.go none h;
+        sealing = refl;
+        opening = refl;
+      })
 
 -- the end of a run after it
 module _ (cipher : CipherMeaning) (again : WrittenIsReadAgain) (setup : Setup) (side : Side) (time : ℕ) (later : time ≢ 0) where
-  pub ready_ticked : {steps : List Step} {entries : List Entry} (old : EndState) (new : SessionView MaskRegister) (ds : List Datagram)
+  pub ready_ticked : {steps : List Step} {entries : List Entry} (old : EndState) (new : EndSession) (after : SessionRecord) (ds : List Datagram)
       → IsSound setup → Played (sealing_of cipher setup) setup steps entries → (r : Ready cipher setup side old entries)
-      → Drains cipher time (state_told (after_timeout time r.session).state) new.state ds
-      → StandsFor Remembers new (record (after_events (after_timeout time r.session)) { state = new.state })
+      → Drains cipher time (after_events (after_timeout time r.session)) after ds
+      → SessionStands new after
       → Seals (sealing_of cipher setup) setup side entries (seals_from side ds)
       × Ready cipher setup side (record { session = new; written = old.written }) (entries ++ Ticked side time ∷ seals_from side ds)
-  ready_ticked {steps} {entries} old new ds sound played r drains stands =
+  ready_ticked {steps} {entries} old new after ds sound played r drains stands =
       let s : SessionRecord = r.session in
       let quiet : after_timeout time s ≡ after_checks time s = no_round time s (no_asks setup s.rx r.knows.listens) in
       let keys = keys_there s.state r.seals r.opens in
-      let told : after_events (after_timeout time s) ≡ ticked_record time s (ticked_state time s.state) = ap after_events quiet ∙ told_all (after_checks time s) keys in
-      let t = is_tick cipher again setup side time (next_index setup side entries) later sound played s r.seals r.knows new.state ds
-      (subst (λ (x : SessionRecord). Drains cipher time x.state new.state ds) told drains) in (
+      let told : after_events (after_timeout time s) ≡ ticked_record time s = ap after_events quiet ∙ told_all (after_checks time s) keys in
+      let t = is_tick cipher again setup side time (next_index setup side entries) later sound played s r.seals r.knows after ds
+      (subst (λ (x : SessionRecord). Drains cipher time x after ds) told drains) in (
         t.seals,
         record {
-          session = ticked_record time s new.state;
-          stands = subst (λ (x : SessionRecord). StandsFor Remembers new (record x { state = new.state })) told stands;
+          session = after;
+          stands = stands;
           seals = t.sealing ∙ r.seals
               ∙ ap (λ (i : ℕ). Some (new_state cipher setup.profile (material_of setup) (is_left side) i))
               (sym (next_index-ticked setup side entries side time (seals_from side ds) t.seals));

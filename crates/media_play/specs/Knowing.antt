@@ -3,10 +3,11 @@ use Rattle.std.specs.Prelude.{◌≡◌, ℕ, zero, suc, ◌==◌, ◌||◌, Boo
 use Rattle.std.specs.List.{list_any, AllByRecursion, AllZip}
 use Rattle.std.specs.Map.{keys_of}
 use Rattle.rtp_wire.specs.declared.header.RtpHeader.{RtpHeader}
+use Rattle.stream_core.specs.Repairing.{primary_type_of}
 use Rattle.stream_core.specs.RxRecord.{RxRecord, taken_of}
 use Rattle.stream_core.specs.Tables.{place_of}
 use Rattle.stream_core.specs.TxRecord.{TxRecord}
-use Rattle.session_core.specs.Receiving.{seen_of}
+use Rattle.stream_core.specs.Seen.{seen_of}
 use Rattle.session_core.specs.Sending.{has_mid}
 use Rattle.session_core.specs.SessionRecord.{MediaRecord, SessionRecord}
 use Rattle.media_model.specs.declared.entry.Side.{Side}
@@ -30,7 +31,7 @@ pub record SendsAs (side : Side) (entries : List Entry) (medias : List MediaReco
   pub queue : e.1.queue ≡ map waiting_of (queued side e.0 entries)
 
 -- an incoming stream has taken what the entries say, and no rollover count was set
-pub record TakesAs (side : Side) (entries : List Entry) (seen : List (ℕ × ℕ))
+pub record TakesAs (side : Side) (entries : List Entry) (seen : List (ℕ × List ℕ))
     (e : ℕ × RxRecord) : Type 0 where
   pub roc : e.1.state.roc ≡ None
   pub numbers : taken_of (seen_of e.0 seen) e.1 ≡ taken side e.0 entries
@@ -41,7 +42,8 @@ pub record ListensAs (setup : Setup) (e : ℕ × RxRecord) : Type 0 where
   pub threshold : e.1.state.threshold ≡ setup.pause_threshold
 
 -- the streams are those of the setup, and each stands for what the entries say of it; no feedback
--- waits, and nothing waits to be told
+-- waits, nothing waits to be told, no type is one of repairs, no repairs come, and nothing is kept to
+-- be sent again
 pub record Knows (setup : Setup) (side : Side) (s : SessionRecord)
     (entries : List Entry) : Type 0 where
   pub target : s.state.target ≡ setup.mtu.target
@@ -50,13 +52,16 @@ pub record Knows (setup : Setup) (side : Side) (s : SessionRecord)
   pub application : s.state.application ≡ None
   pub told : s.state.packet ≡ None
   pub types : (pt : ℕ) → is_some (place_of pt s.state.types) ≡ has (types_of setup) pt
+  pub plain : (pt : ℕ) → primary_type_of s.state.types pt ≡ None
   pub exts : s.state.transport.exts ≡ extensions_of setup
   pub outgoing : keys_of s.state.tx ≡ streams_of side setup
   pub sends : AllByRecursion (SendsAs side entries s.state.medias) s.state.tx
   pub incoming : keys_of s.rx ≡ streams_of (peer_of side) setup
-  pub takes : AllByRecursion (TakesAs side entries s.state.seen) s.rx
-  pub probes : TakesAs side entries s.state.seen (0, s.probes)
+  pub takes : AllByRecursion (TakesAs side entries s.seen) s.rx
+  pub probes : TakesAs side entries s.seen (0, s.probes)
   pub listens : AllByRecursion (ListensAs setup) s.rx
+  pub originals : s.originals ≡ []
+  pub repairs : s.repairs ≡ []
 
 -- the numbers that were written under an SSRC
 abbrev pub UsedAs : Side → List Entry → ℕ → Numbers → Type 0

@@ -15,5 +15,6 @@ pub mod Knowing
 pub mod Sessions
 pub mod Starting
 pub mod Running
+pub mod Ends
 pub mod Errors
 pub mod FaultNames

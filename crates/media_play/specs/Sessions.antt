@@ -6,9 +6,8 @@ use Rattle.srtp_core.specs.Contexts.{SrtpState, new_state}
 use Rattle.srtp_core.specs.Keys.{session_keys}
 use Rattle.srtp_core.specs.Seals.{sealed_rtp, OpensTo}
 use Rattle.srtp_core.specs.RtcpSeals.{sealed_rtcp, stated_bit, stated_index}
-use Rattle.mask_register.specs.declared.register.MaskRegister.{MaskRegister}
-use Rattle.mask_register.specs.MaskRegister.{Remembers}
-use Rattle.session_core.specs.SessionRecord.{SessionView, SessionRecord, StandsFor}
+use Rattle.media_play.specs.Ends.{EndSession, SessionStands}
+use Rattle.session_core.specs.SessionRecord.{SessionRecord}
 use Rattle.media_model.specs.declared.entry.Side.{Side}
 use Rattle.media_model.specs.declared.entry.Side.TheVariants.{A, B}
 use Rattle.rtp_base.specs.declared.kind.Kind.{Kind}
@@ -48,7 +47,7 @@ sealing_of cipher setup = record {
 
 -- one end of a run: its session, and the numbers that were written on each stream that it sends
 pub record EndState : Type 0 where
-  pub session : SessionView MaskRegister
+  pub session : EndSession
   pub written : List Numbers
 
 -- the session seals with its side's keys, RTCP next under the index that the entries tell, opens with its peer's, and
@@ -56,7 +55,7 @@ pub record EndState : Type 0 where
 pub record Ready (cipher : CipherMeaning) (setup : Setup) (side : Side) (end : EndState)
     (entries : List Entry) : Type 0 where
   pub session : SessionRecord
-  pub stands : StandsFor Remembers end.session session
+  pub stands : SessionStands end.session session
   pub seals : session.state.sealing
       ≡ Some (new_state cipher setup.profile (material_of setup) (is_left side)
       (next_index setup side entries))

@@ -2,15 +2,15 @@
 use Rattle.std.specs.Prelude.{◌≡◌, ◌≤◌, ◌^◌, ℕ, true, false, is_some, List, [], Some, None}
 use Rattle.std.specs.List.{AllByRecursion}
 use Rattle.std.specs.Map.{keys_of}
-use Rattle.mask_register.specs.declared.register.MaskRegister.{MaskRegister}
-use Rattle.mask_register.specs.MaskRegister.{Remembers}
 use Rattle.srtp_core.specs.Cipher.{CipherMeaning}
 use Rattle.srtp_core.specs.Contexts.{new_state}
+use Rattle.stream_core.specs.Repairing.{primary_type_of}
 use Rattle.stream_core.specs.RxRecord.{RxRecord}
 use Rattle.stream_core.specs.TxRecord.{TxRecord}
 use Rattle.stream_core.specs.Tables.{place_of}
+use Rattle.media_play.specs.Ends.{EndSession, SessionStands}
 use Rattle.session_core.specs.Sending.{has_mid}
-use Rattle.session_core.specs.SessionRecord.{MediaRecord, SessionView, SessionRecord, StandsFor}
+use Rattle.session_core.specs.SessionRecord.{MediaRecord, SessionRecord}
 use Rattle.media_model.specs.declared.entry.Side.{Side}
 use Rattle.media_model.specs.declared.setup.Setup.{Setup}
 use Rattle.media_model.specs.Sides.{peer_of}
@@ -44,8 +44,9 @@ pub record Begun (cipher : CipherMeaning) (setup : Setup) (side : Side)
   pub feedback : s.state.feedback ≡ []
   pub application : s.state.application ≡ None
   pub told : s.state.packet ≡ None
-  pub seen : s.state.seen ≡ []
+  pub seen : s.seen ≡ []
   pub types : (pt : ℕ) → is_some (place_of pt s.state.types) ≡ has (types_of setup) pt
+  pub plain : (pt : ℕ) → primary_type_of s.state.types pt ≡ None
   pub exts : s.state.transport.exts ≡ extensions_of setup
   pub outgoing : keys_of s.state.tx ≡ sent
   pub sends : AllByRecursion (IsIdle s.state.medias) s.state.tx
@@ -54,10 +55,12 @@ pub record Begun (cipher : CipherMeaning) (setup : Setup) (side : Side)
   pub probes : IsUnheard (0, s.probes)
   pub pauses : s.state.pause_threshold ≡ setup.pause_threshold
   pub listens : AllByRecursion (ListensAs setup) s.rx
+  pub originals : s.originals ≡ []
+  pub repairs : s.repairs ≡ []
 
 pub record Starts (cipher : CipherMeaning) (setup : Setup) (side : Side)
-    (sent received : List ℕ) (view : SessionView MaskRegister) : Type 0 where
+    (sent received : List ℕ) (view : EndSession) : Type 0 where
   pub session : SessionRecord
   pub bounded : (local_of side setup).srtcp_index ≤ 2 ^ 31
-  pub stands : StandsFor Remembers view session
+  pub stands : SessionStands view session
   pub begun : Begun cipher setup side sent received session

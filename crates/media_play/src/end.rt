@@ -7,12 +7,13 @@ ghost use Rattle.media_model.specs.declared.entry.Side.{Side as Party};
 ghost use Rattle.media_model.specs.declared.entry.Entry.{Entry};
 ghost use Rattle.media_model.specs.declared.setup.Setup.{Setup as Given};
 ghost use Rattle.media_model.specs.declared.step.Step.{Step};
+ghost use Rattle.media_play.specs.Ends.{SessionStands};
 ghost use Rattle.media_play.specs.Listing.{OnlyAdds};
 ghost use Rattle.media_play.specs.Knowing.{has_written, IsNoted};
 ghost use Rattle.std.specs.Option.{option_map};
 ghost use Rattle.mask_register.specs.MaskRegister.{Remembers};
 ghost use Rattle.session_core.specs.Calls.{told, after_events};
-ghost use Rattle.session_core.specs.SessionRecord.{SessionRecord, StandsFor};
+ghost use Rattle.session_core.specs.SessionRecord.{SessionRecord};
 ghost use Rattle.media_play.specs.Packets.{write_at, seals_from, packet_told, packet_after, packet_in};
 
 use crate::fault::{StepError, StepFault};
@@ -22,13 +23,14 @@ use crate::starting::{no_numbers, start};
 use mask_register::MaskRegister;
 use media_base::{Bytes, Instant, Listed};
 use media_model::{Kind, Packet, Sealed, Setup, Side, Write};
+use queue_store::QueueStore;
 use rtcp_wire::{AppSpecificFeedback as Application, items_fit_by_lengths};
 use rtp_wire::{RtpHeader, SeqNo, Ssrc, header_reads_own_bytes, written_header_is_read_again};
 use session_core::{Datagram, Event, RtcError, Session};
 use srtp_core::SrtpCipher;
 use std::alloc::{AllocError, Global};
 use std::marker::Model;
-use stream_core::{Payload, RtpPacket, RtpWrite};
+use stream_core::{Payload, RtpPacket, RtpWrite, Sent};
 
 /// Numbers of packets are below it.
 const NUMBER_LIMIT: u64 = 1 << 48;
@@ -58,7 +60,7 @@ pub struct Received {
 /// it sends, in the order of the streams.
 #[derive(Drop)]
 pub struct End<C: SrtpCipher> {
-    session: Session<C, MaskRegister>,
+    session: Session<C, MaskRegister, QueueStore<Sent>>,
     written: Vec<Numbers>,
 }
 
@@ -86,7 +88,7 @@ fn rtp_write(alloc: Global, time: Instant, write: &Write) -> Result<RtpWrite, Al
 
 /// Puts a write behind those that wait on the stream at this place.
 fn put<C: SrtpCipher>(
-    session: &mut Session<C, MaskRegister>,
+    session: &mut Session<C, MaskRegister, QueueStore<Sent>>,
     place: usize,
     write: RtpWrite,
 ) -> Result<(), AllocError>
@@ -153,9 +155,11 @@ fn later_packet(event: Event, before: Option<RtpPacket>) -> Option<RtpPacket>
 
 /// Takes all that a session tells, and gives the packet of it, if there is one: no entry tells of the
 /// rest.
-fn take_packet<C: SrtpCipher>(session: &mut Session<C, MaskRegister>) -> Option<RtpPacket>
-    ensures packet { (r : SessionRecord) → StandsFor Remembers session.old r → result ≡ packet_in (told r) None }
-    ensures after { (r : SessionRecord) → StandsFor Remembers session.old r → StandsFor Remembers session.new (after_events r) }
+fn take_packet<C: SrtpCipher>(
+    session: &mut Session<C, MaskRegister, QueueStore<Sent>>,
+) -> Option<RtpPacket>
+    ensures packet { (r : SessionRecord) → SessionStands session.old r → result ≡ packet_in (told r) None }
+    ensures after { (r : SessionRecord) → SessionStands session.old r → SessionStands session.new (after_events r) }
 {
     let mut packet = None;
     while let Some(event) = session.poll_event() {

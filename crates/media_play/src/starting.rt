@@ -3,6 +3,7 @@ ghost use Rattle.std.specs.Prelude.{◌≡◌, ◌++◌, ℕ, List, [], None, tr
 ghost use Rattle.std.specs.List.{AllZip, filter_map};
 ghost use Rattle.srtp_core.specs.Cipher.{CipherMeaning};
 ghost use Rattle.srtp_core.specs.Keys.{material_len};
+ghost use Rattle.stream_core.specs.Repairing.{primary_type_of};
 ghost use Rattle.stream_core.specs.Tables.{place_of};
 ghost use Rattle.session_core.specs.Sending.{has_mid};
 ghost use Rattle.media_model.specs.declared.entry.Side.{Side as Party};
@@ -20,16 +21,18 @@ use crate::numbers::Numbers;
 use mask_register::MaskRegister;
 use media_base::Bytes;
 use media_model::{Media, MediaKind, Setup, Side, Stream};
+use queue_store::QueueStore;
 use rtp_wire::{Frequency, Mid, MidRid};
 use session_core::{Media as Section, MediaKind as SectionKind, Mtu, Session, SessionConfig};
 use srtp_core::{KeyingMaterial, SrtpCipher};
 use std::alloc::{AllocError, Global};
-use stream_core::{PayloadTypes, TypeRow};
+use stream_core::{PayloadTypes, Sent, TypeRow};
 
 /// The payload types of a setup. The clock of one without a rate has ticks of 1 s.
 fn payload_types(alloc: Global, setup: &Setup) -> Result<PayloadTypes, AllocError>
-    ensures { IfOk result (λ types. (pt : ℕ)
+    ensures types { IfOk result (λ types. (pt : ℕ)
         → is_some (place_of pt types) ≡ has (types_of setup.now) pt) }
+    ensures plain { IfOk result (λ types. (pt : ℕ) → primary_type_of types pt ≡ None) }
 {
     let mut types = PayloadTypes::new(alloc);
     for row in setup.types.as_slice() {
@@ -74,7 +77,7 @@ fn with_keys<C: SrtpCipher>(
     cipher: C,
     setup: &Setup,
     side: Side,
-) -> Result<Session<C, MaskRegister>, AllocError>
+) -> Result<Session<C, MaskRegister, QueueStore<Sent>>, AllocError>
     requires key { length (material_of setup.now) ≡ material_len setup.now.profile }
     requires mtu { is_mtu setup.now.mtu ≡ true }
     ensures { IfOk result (Starts C.meaning setup.now side [] []) }
@@ -104,7 +107,7 @@ fn with_keys<C: SrtpCipher>(
 
 /// Has a session of a side send or receive a stream of a media section.
 fn add_stream<C: SrtpCipher>(
-    session: &mut Session<C, MaskRegister>,
+    session: &mut Session<C, MaskRegister, QueueStore<Sent>>,
     side: Side,
     mid: Mid,
     stream: &Stream,
@@ -134,7 +137,7 @@ fn add_stream<C: SrtpCipher>(
 
 /// The same with all of these, in order.
 fn add_streams<C: SrtpCipher>(
-    session: &mut Session<C, MaskRegister>,
+    session: &mut Session<C, MaskRegister, QueueStore<Sent>>,
     side: Side,
     mid: Mid,
     streams: &[Stream],
@@ -156,7 +159,7 @@ fn add_streams<C: SrtpCipher>(
 /// Adds a media section of a setup to a session of a side, with its streams.
 fn add_media<C: SrtpCipher>(
     alloc: Global,
-    session: &mut Session<C, MaskRegister>,
+    session: &mut Session<C, MaskRegister, QueueStore<Sent>>,
     side: Side,
     media: &Media,
 ) -> Result<(), AllocError>
@@ -181,7 +184,7 @@ pub fn start<C: SrtpCipher>(
     cipher: C,
     setup: &Setup,
     side: Side,
-) -> Result<Session<C, MaskRegister>, AllocError>
+) -> Result<Session<C, MaskRegister, QueueStore<Sent>>, AllocError>
     requires { setup_fault setup.now ≡ None }
     ensures { IfOk result (Starts C.meaning setup.now side
         (streams_of side setup.now) (streams_of (peer_of side) setup.now)) }

@@ -1,12 +1,16 @@
 -- What a setup line says is how it is spelled, and the other way round.
-use Rattle.std.proofs.Common.{◌≡◌, ℕ, ◌^◌, lit≤, List, [], ◌∷◌, Some, refl, ap, ◌∙◌}
+use Rattle.std.proofs.Common.{◌≡◌, ℕ, ◌^◌, ◌<◌, ◌++◌, lit<, lit≤, List, [], ◌∷◌, Option, Some, None, refl, ap, ◌∙◌}
 use Rattle.std.specs.Prelude.{codes}
+use Rattle.std.specs.Fmt.{decimal}
+use Rattle.media_model.specs.declared.setup.Codec.{Codec}
 use Rattle.media_script.specs.declared.setup_line.SetupLine.{SetupLine}
 use Rattle.media_script.specs.declared.setup_line.SetupLine.TheVariants as line
-use Rattle.media_script.specs.Grammar.{cipher_line, profile_line, key_line, unix_line, mtu_line, pause_line, rtcp_line, local_line, ext_line, type_line, media_line, stream_line, no_other, side_kinds, side_line_of, named_kinds, named_line_of, number_kinds, number_line_of, setup_kinds, setup_line_of, in_few}
-use Rattle.media_script.specs.Spelling.{IsSetupLine}
-use Rattle.media_script.proofs.WordLaws.{number_spelled, number_again, millis_spelled, millis_again, index_spelled, index_again, narrow_spelled, narrow_again, side_spelled, side_again, cipher_spelled, cipher_again, profile_spelled, profile_again, key_spelled, key_again, extension_spelled, extension_again, codec_spelled, codec_again, media_kind_spelled, media_kind_again, rate_spelled, rate_again, name_spelled, name_again, rtx_spelled, rtx_again, rid_spelled, rid_again}
-use Rattle.media_script.proofs.KindLaws.{Tells, done_tells, then_tells, look_up_tells, none_tells}
+use Rattle.media_script.specs.Grammar.{cipher_line, profile_line, key_line, unix_line, mtu_line, pause_line, rtcp_line, local_line, ext_line, repairs_in, type_line, media_line, stream_line, start_line, cache_line, no_other, side_kinds, side_line_of, named_kinds, named_line_of, number_kinds, number_line_of, setup_kinds, setup_line_of, in_few}
+use Rattle.media_script.specs.Names.{codec_text}
+use Rattle.media_script.specs.Spelling.{IsRepairType, IsSetupLine}
+use Rattle.media_script.specs.Words.{repair_type_of, ◌>>=◌}
+use Rattle.media_script.proofs.WordLaws.{number_spelled, number_again, millis_spelled, millis_again, at_most_spelled, at_most_again, narrow_spelled, narrow_again, side_spelled, side_again, cipher_spelled, cipher_again, profile_spelled, profile_again, key_spelled, key_again, extension_spelled, extension_again, codec_spelled, codec_again, media_kind_spelled, media_kind_again, rate_spelled, rate_again, repair_type_spelled, repair_type_again, name_spelled, name_again, bind_some, optional_32_spelled, rtx_again, cap_again, rid_spelled, rid_again}
+use Rattle.media_script.proofs.KindLaws.{Tells, done_tells, then_tells, rest_tells, look_up_tells, none_tells}
 
 -- the words behind this first word
 abbrev Behind : List ℕ → List (List ℕ) → SetupLine → Type 0
@@ -34,7 +38,7 @@ pause_tells = then_tells millis_spelled (λ w threshold is. done_tells (is.0, is
 
 rtcp_tells : Tells rtcp_line (Behind (codes "rtcp"))
 rtcp_tells =
-    then_tells side_spelled (λ s side of. then_tells index_spelled (λ w index is. done_tells (is.1, λ i. codes "rtcp" ∷ of i ∷ is.0 i ∷ [])))
+    then_tells side_spelled (λ s side of. then_tells (at_most_spelled (2 ^ 31)) (λ w index is. done_tells (is.1, λ i. codes "rtcp" ∷ of i ∷ is.0 i ∷ [])))
 
 local_tells : Tells local_line (Behind (codes "local"))
 local_tells =
@@ -46,10 +50,23 @@ ext_tells =
     then_tells (narrow_spelled (2 ^ 8)) (λ n id is. then_tells extension_spelled (λ e extension has.
     done_tells (is.1, λ i. codes "ext" ∷ is.0 i ∷ has i ∷ [])))
 
+-- what stands behind the rate of a type
+repairs_are : (words : List (List ℕ)) (rtx : Option ℕ) → repairs_in words ≡ Some rtx → IsRepairType words rtx
+repairs_are [] None e = refl
+repairs_are [] (Some pt) e = absurd cc
+repairs_are (word ∷ []) rtx e = go rtx (bind_some (repair_type_of word) (λ pt. Some (Some pt)) rtx e) where
+  go : (o : Option ℕ) → (pt : ℕ) × (repair_type_of word ≡ Some pt) × (Some (Some pt) ≡ Some o) → IsRepairType (word ∷ []) o
+  go None p = absurd cc
+  go (Some n) p =
+      let same : p.0 ≡ n = cc in
+      let is = repair_type_spelled word n (p.1 ∙ ap (λ (k : ℕ). Some k) same) in
+      (ap (λ (w : List ℕ). w ∷ []) is.0, is.1)
+repairs_are (word ∷ other ∷ words) rtx e = absurd cc
+
 type_tells : Tells type_line (Behind (codes "type"))
 type_tells =
-    then_tells (narrow_spelled (2 ^ 8)) (λ p pt is. then_tells codec_spelled (λ c codec has. then_tells rate_spelled (λ r rate goes.
-    done_tells (is.1, goes.1, goes.2, λ i. codes "type" ∷ is.0 i ∷ has i ∷ goes.0 i ∷ []))))
+    then_tells (narrow_spelled (2 ^ 8)) (λ p pt is. then_tells codec_spelled (λ c codec has. then_tells rate_spelled (λ w rate goes.
+    rest_tells _ (λ r rtx e. (r, repairs_are r rtx e, is.1, goes.1, goes.2, λ i. codes "type" ∷ is.0 i ∷ has i ∷ goes.0 i ∷ r)))))
 
 media_tells : Tells media_line (Behind (codes "media"))
 media_tells =
@@ -59,8 +76,19 @@ media_tells =
 stream_tells : Tells stream_line (Behind (codes "stream"))
 stream_tells =
     then_tells side_spelled (λ s side from. then_tells (name_spelled 16) (λ m mid of. then_tells (narrow_spelled (2 ^ 32)) (λ n ssrc is.
-    then_tells rtx_spelled (λ w rtx again. then_tells rid_spelled (λ v rid layer.
+    then_tells (optional_32_spelled (codes "-")) (λ w rtx again. then_tells rid_spelled (λ v rid layer.
     done_tells (w, v, of.1, is.1, again, layer, λ i. codes "stream" ∷ from i ∷ of.0 i ∷ is.0 i ∷ w ∷ v ∷ []))))))
+
+start_tells : Tells start_line (Behind (codes "start"))
+start_tells =
+    then_tells (narrow_spelled (2 ^ 32)) (λ s ssrc is. then_tells (at_most_spelled (2 ^ 48)) (λ n number has.
+    done_tells (is.1, has.1, λ i. codes "start" ∷ is.0 i ∷ has.0 i ∷ [])))
+
+cache_tells : Tells cache_line (Behind (codes "cache"))
+cache_tells =
+    then_tells (narrow_spelled (2 ^ 32)) (λ s ssrc is. then_tells number_spelled (λ p packets has. then_tells millis_spelled (λ a age lasts.
+    then_tells (optional_32_spelled (codes "none")) (λ w cap caps.
+    done_tells (lasts.0, w, is.1, has.1, lasts.2, lasts.3, caps, λ i. codes "cache" ∷ is.0 i ∷ has.0 i ∷ lasts.1 i ∷ w ∷ [])))))
 
 side_line_spelled : (words : List (List ℕ)) (said : SetupLine) → side_line_of words ≡ Some said → IsSetupLine words said
 unfolding side_line_of
@@ -68,7 +96,7 @@ side_line_spelled = look_up_tells IsSetupLine no_other side_kinds (rtcp_tells, (
 
 named_line_spelled : (words : List (List ℕ)) (said : SetupLine) → named_line_of words ≡ Some said → IsSetupLine words said
 unfolding named_line_of
-named_line_spelled = look_up_tells IsSetupLine side_line_of named_kinds (media_tells, (stream_tells, tt)) side_line_spelled
+named_line_spelled = look_up_tells IsSetupLine side_line_of named_kinds (media_tells, (stream_tells, (start_tells, (cache_tells, tt)))) side_line_spelled
 
 number_line_spelled : (words : List (List ℕ)) (said : SetupLine) → number_line_of words ≡ Some said → IsSetupLine words said
 unfolding number_line_of
@@ -79,6 +107,16 @@ pub setup_line_spelled : (words : List (List ℕ)) (said : SetupLine) → setup_
 unfolding setup_line_of
 setup_line_spelled = look_up_tells IsSetupLine number_line_of setup_kinds (cipher_tells, (profile_tells, (key_tells, (ext_tells, (type_tells, tt))))) number_line_spelled
 
+type_again : (pt : ℕ) (codec : Codec) (rate : ℕ) (rtx : Option ℕ) (r : List (List ℕ)) → IsRepairType r rtx → pt < 2 ^ 8 → 0 < rate → rate < 2 ^ 32
+    → in_few setup_line_of (codes "type" ∷ decimal pt ∷ codec_text codec ∷ decimal rate ∷ r) ≡ Some (line.Type (record { pt = pt; codec = codec; rate = rate; rtx = rtx }))
+unfolding setup_line_of
+type_again pt codec rate None r none small some fits =
+    ap (λ (ws : List (List ℕ)). in_few setup_line_of (codes "type" ∷ decimal pt ∷ codec_text codec ∷ decimal rate ∷ ws)) none
+    ∙ rw (narrow_again (2 ^ 8) pt (lit≤ tt) small, codec_again codec, rate_again rate some fits) refl
+type_again pt codec rate (Some again) r one small some fits =
+    ap (λ (ws : List (List ℕ)). in_few setup_line_of (codes "type" ∷ decimal pt ∷ codec_text codec ∷ decimal rate ∷ ws)) one.0
+    ∙ rw (narrow_again (2 ^ 8) pt (lit≤ tt) small, codec_again codec, rate_again rate some fits, repair_type_again again one.1) refl
+
 -- and what is spelled so is read
 pub setup_line_again : (words : List (List ℕ)) (said : SetupLine) → IsSetupLine words said → in_few setup_line_of words ≡ Some said
 unfolding setup_line_of number_line_of named_line_of side_line_of
@@ -88,13 +126,13 @@ setup_line_again words (line.Key key) is = ap (in_few setup_line_of) is.2 ∙ rw
 setup_line_again words (line.Unix beginning) is = ap (in_few setup_line_of) is.1 ∙ rw (number_again beginning.unix_secs is.0) refl
 setup_line_again words (line.Mtu mtu) is = ap (in_few setup_line_of) is.2 ∙ rw (number_again mtu.target is.0, number_again mtu.warn is.1) refl
 setup_line_again words (line.Pause threshold) is = ap (in_few setup_line_of) is.3 ∙ rw (millis_again is.0 threshold is.1 is.2) refl
-setup_line_again words (line.Rtcp side index) is = ap (in_few setup_line_of) is.1 ∙ rw (side_again side, index_again index is.0) refl
+setup_line_again words (line.Rtcp side index) is = ap (in_few setup_line_of) is.1 ∙ rw (side_again side, at_most_again (2 ^ 31) index (lit< tt) is.0) refl
 setup_line_again words (line.Local side ssrc) is =
     ap (in_few setup_line_of) is.1 ∙ rw (side_again side, narrow_again (2 ^ 32) ssrc (lit≤ tt) is.0) refl
 setup_line_again words (line.Ext named) is =
     ap (in_few setup_line_of) is.1 ∙ rw (narrow_again (2 ^ 8) named.id (lit≤ tt) is.0, extension_again named.extension) refl
 setup_line_again words (line.Type t) is =
-    ap (in_few setup_line_of) is.3 ∙ rw (narrow_again (2 ^ 8) t.pt (lit≤ tt) is.0, codec_again t.codec, rate_again t.rate is.1 is.2) refl
+    ap (in_few setup_line_of) is.5 ∙ type_again t.pt t.codec t.rate t.rtx is.0 is.1 is.2 is.3 is.4
 setup_line_again words (line.Media mid kind cname) is =
     ap (in_few setup_line_of) is.2 ∙ rw (name_again 16 mid is.0, media_kind_again kind, name_again 255 cname is.1) refl
 setup_line_again words (line.Stream mid stream) is =
@@ -105,4 +143,15 @@ setup_line_again words (line.Stream mid stream) is =
       narrow_again (2 ^ 32) stream.ssrc (lit≤ tt) is.3,
       rtx_again is.0 stream.rtx is.4,
       rid_again is.1 stream.rid is.5,
+    ) refl
+setup_line_again words (line.Start start) is =
+    ap (in_few setup_line_of) is.2
+    ∙ rw (narrow_again (2 ^ 32) start.ssrc (lit≤ tt) is.0, at_most_again (2 ^ 48) start.number (lit< tt) is.1) refl
+setup_line_again words (line.Cache named) is =
+    ap (in_few setup_line_of) is.7
+    ∙ rw (
+      narrow_again (2 ^ 32) named.ssrc (lit≤ tt) is.2,
+      number_again named.cache.packets is.3,
+      millis_again is.0 named.cache.age is.4 is.5,
+      cap_again is.1 named.cache.cap is.6,
     ) refl

@@ -5,7 +5,7 @@ use Rattle.std.specs.Fmt.{decimal}
 use Rattle.std.specs.Str.{all_ascii_digits, bytes_eq}
 use Rattle.std.specs.Str.Parse.{digits_value}
 use Rattle.std.specs.Result.{result_ok}
-use Rattle.std.proofs.lemmas.Bool.{ltb-true, lt-ltb, eq-eqb}
+use Rattle.std.proofs.lemmas.Bool.{leb-true, ltb-true, lt-ltb, eq-eqb}
 use Rattle.std.proofs.lemmas.Bool.Decides.{nat_tests, Decides-eqb}
 use Rattle.std.proofs.lemmas.List.{get_or_at, length-append, take_at}
 use Rattle.std.proofs.lemmas.Slice.Eq.{bytes_eq-Decides, starts_is, ends_is}
@@ -34,9 +34,9 @@ use Rattle.media_model.specs.Application.{AreFew, are_few, data_of}
 use Rattle.rtp_wire.specs.Bytes.{words_of as numbers_in}
 use Rattle.rtp_wire.specs.declared.extension.Extension.{Extension}
 use Rattle.rtp_wire.specs.declared.extension.Extension.TheVariants.{AudioLevel, AbsoluteSendTime, TransportSequenceNumber, RtpMid, RtpStreamId, RepairedRtpStreamId, VideoOrientation, AbsoluteCaptureTime, PlayoutDelay}
-use Rattle.media_script.specs.Words.{◌>>=◌, below, plain_front, is_number, number_of, narrow_of, millis_of, has_ms, time_of, side_of, flag_of, hex_of, app_data_of, kinds, kind_of, index_of, key_of, one_of, ciphers, cipher_of, profiles, profile_of, codecs, codec_of, media_kind_of, rate_of, is_name, name_of, extensions, extension_of, numbers_of, has_c, sources_of, optional}
+use Rattle.media_script.specs.Words.{◌>>=◌, below, plain_front, is_number, number_of, narrow_of, millis_of, has_ms, time_of, side_of, flag_of, hex_of, app_data_of, kinds, kind_of, at_most, key_of, one_of, ciphers, cipher_of, profiles, profile_of, codecs, codec_of, media_kind_of, rate_of, is_name, name_of, extensions, extension_of, numbers_of, has_c, sources_of, has_rtx, repair_type_of, optional}
 use Rattle.media_script.specs.Names.{side_text, flag_text, kind_text, cipher_text, profile_text, codec_text, media_kind_text, extension_text}
-use Rattle.media_script.specs.Spelling.{IsTime, IsHex, IsName, IsKey, IsOptional, IsSsrc, IsNamed, IsSources}
+use Rattle.media_script.specs.Spelling.{IsTime, IsHex, IsName, IsKey, IsOptional, IsBelow, IsNamed, IsSources}
 
 own : IsNumeralModel (λ ds. all_ascii_digits ds ≡ true) (digits_value 10)
 own = numerals_by_value _ tells_all_ascii_digits
@@ -222,20 +222,19 @@ app_data_again word payload is few =
     let small : leb (length payload) 800 ≡ true = grind (arith, nat_tests, few.few) in
     rw (hex_again word payload is, whole, small) refl
 
--- an index of SRTCP
-pub index_spelled : (word : List ℕ) (index : ℕ) → index_of word ≡ Some index → (word ≡ decimal index) × (index ≤ 2 ^ 31)
-unfolding index_of
-index_spelled word index e =
-    let a = bind_some (number_of word) (λ n. cond (leb n (2 ^ 31)) (Some n) None) index e in
-    let b = if_some (leb a.0 (2 ^ 31)) a.0 index a.2 in
-    let small : a.0 ≤ 2 ^ 31 = grind (arith, nat_tests, b.0) in
-    ((number_spelled word a.0 a.1).0 ∙ ap decimal b.1, subst (λ k. k ≤ 2 ^ 31) b.1 small)
+-- a number that is at most so great
+pub at_most_spelled : (greatest : ℕ) (word : List ℕ) (n : ℕ) → at_most greatest word ≡ Some n → (word ≡ decimal n) × (n ≤ greatest)
+unfolding at_most
+at_most_spelled greatest word n e =
+    let a = bind_some (number_of word) (λ m. cond (leb m greatest) (Some m) None) n e in
+    let b = if_some (leb a.0 greatest) a.0 n a.2 in
+    ((number_spelled word a.0 a.1).0 ∙ ap decimal b.1, subst (λ k. k ≤ greatest) b.1 (leb-true a.0 greatest b.0))
 
-pub index_again : (index : ℕ) → index ≤ 2 ^ 31 → index_of (decimal index) ≡ Some index
-unfolding index_of
-index_again index le =
-    let small : leb index (2 ^ 31) ≡ true = grind (arith, nat_tests, le) in
-    rw (number_again index (omega (arith, le)), small) refl
+pub at_most_again : (greatest n : ℕ) → greatest < 2 ^ 64 → n ≤ greatest → at_most greatest (decimal n) ≡ Some n
+unfolding at_most
+at_most_again greatest n lt le =
+    let small : leb n greatest ≡ true = grind (arith, nat_tests, le) in
+    rw (number_again n (omega (arith, lt, le)), small) refl
 
 pub key_spelled : (word : List ℕ) (key : Key) → key_of word ≡ Some key → IsKey word key
 unfolding key_of
@@ -395,6 +394,22 @@ sources_again word csrc is =
     let small : leb (length is.bytes) 60 ≡ true = grind (arith, nat_tests, is.whole, is.few) in
     rw ((c_is word).1 is.digits is.spelled, behind, hex_again is.digits is.bytes is.hex, rest, small) (ap (λ (ns : List ℕ). Some ns) (sym is.numbers))
 
+-- the type of repairs
+rtx_is : (word : List ℕ) → (has_rtx word ≡ true → word ≡ codes "rtx=" ++ drop 4 word) × ((rest : List ℕ) → word ≡ codes "rtx=" ++ rest → has_rtx word ≡ true)
+rtx_is word = starts_is Decides-eqb word (codes "rtx=") (has_rtx word) refl
+
+pub repair_type_spelled : (word : List ℕ) (pt : ℕ) → repair_type_of word ≡ Some pt → (word ≡ codes "rtx=" ++ decimal pt) × (pt < 2 ^ 8)
+unfolding repair_type_of
+repair_type_spelled word pt e =
+    let a = if_then (has_rtx word) (narrow_of (2 ^ 8) (drop 4 word)) pt e in
+    let b = narrow_spelled (2 ^ 8) (drop 4 word) pt a.1 in
+    ((rtx_is word).0 a.0 ∙ ap (λ (digits : List ℕ). codes "rtx=" ++ digits) b.0, b.1)
+
+pub repair_type_again : (pt : ℕ) → pt < 2 ^ 8 → repair_type_of (codes "rtx=" ++ decimal pt) ≡ Some pt
+unfolding repair_type_of
+repair_type_again pt lt =
+    ap (λ b. cond b (narrow_of (2 ^ 8) (decimal pt)) None) ((rtx_is (codes "rtx=" ++ decimal pt)).1 (decimal pt) refl) ∙ narrow_again (2 ^ 8) pt (lit≤ tt) lt
+
 -- names
 pub name_spelled : (most : ℕ) (word name : List ℕ) → name_of most word ≡ Some name → (word ≡ name) × IsName most name
 unfolding name_of
@@ -414,42 +429,52 @@ name_again most name is =
     let q : leb (length name) most ≡ true = grind (arith, nat_tests, is.few) in
     rw (p, q, list_all-from_AllPass is_ascii_alphanumeric name is.plain) refl
 
--- a word, or - for none
-module _ {X : Type 0} (read : List ℕ → Option X) (Spells : List ℕ → X → Type 0) where
-  pub optional_spelled : ((word : List ℕ) (x : X) → read word ≡ Some x → Spells word x) → (word : List ℕ) (o : Option X) → optional read word ≡ Some o → IsOptional Spells word o
+-- a word, or the word for none
+module _ {X : Type 0} (none : List ℕ) (read : List ℕ → Option X) (Spells : List ℕ → X → Type 0) where
+  pub optional_spelled : ((word : List ℕ) (x : X) → read word ≡ Some x → Spells word x) → (word : List ℕ) (o : Option X) → optional none read word ≡ Some o → IsOptional none Spells word o
   unfolding optional
-  optional_spelled one word o e = go (bytes_eq word (codes "-")) refl e where
-    go : (b : Bool) → bytes_eq word (codes "-") ≡ b → cond b (Some None) (read word >>= λ x. Some (Some x)) ≡ Some o → IsOptional Spells word o
-    go true p e' = let is : None ≡ o = cc in subst (IsOptional Spells word) is (equal word (codes "-") p)
+  optional_spelled one word o e = go (bytes_eq word none) refl e where
+    go : (b : Bool) → bytes_eq word none ≡ b → cond b (Some None) (read word >>= λ x. Some (Some x)) ≡ Some o → IsOptional none Spells word o
+    go true p e' = let is : None ≡ o = cc in subst (IsOptional none Spells word) is (equal word none p)
     go false p e' =
         let a = bind_some (read word) (λ x. Some (Some x)) o e' in
         let is : Some a.0 ≡ o = cc in
-        subst (IsOptional Spells word) is (one word a.0 a.1)
+        subst (IsOptional none Spells word) is (one word a.0 a.1)
 
-  pub optional_again : read (codes "-") ≡ None → ((word : List ℕ) (x : X) → Spells word x → read word ≡ Some x) → (word : List ℕ) (o : Option X) → IsOptional Spells word o → optional read word ≡ Some o
+  pub optional_again : read none ≡ None → ((word : List ℕ) (x : X) → Spells word x → read word ≡ Some x) → (word : List ℕ) (o : Option X) → IsOptional none Spells word o → optional none read word ≡ Some o
   unfolding optional
-  optional_again none one word None is = ap (optional read) is ∙ refl
-  optional_again none one word (Some x) is = go (bytes_eq word (codes "-")) refl where
-    go : (b : Bool) → bytes_eq word (codes "-") ≡ b → cond b (Some None) (read word >>= λ y. Some (Some y)) ≡ Some (Some x)
-    go true p = absurd (let no = ap read (equal word (codes "-") p) ∙ none in let yes = one word x is in cc (no, yes))
+  optional_again not_read one word None is = rw ((bytes_eq-Decides word none).1 is) refl
+  optional_again not_read one word (Some x) is = go (bytes_eq word none) refl where
+    go : (b : Bool) → bytes_eq word none ≡ b → cond b (Some None) (read word >>= λ y. Some (Some y)) ≡ Some (Some x)
+    go true p = absurd (let missing = ap read (equal word none p) ∙ not_read in let found = one word x is in cc (missing, found))
     go false p = rw (one word x is) refl
 
 dash_no_number : narrow_of (2 ^ 32) (codes "-") ≡ None
 unfolding narrow_of number_of
 dash_no_number = refl
 
+none_no_number : narrow_of (2 ^ 32) (codes "none") ≡ None
+unfolding narrow_of number_of
+none_no_number = refl
+
 dash_no_name : name_of 16 (codes "-") ≡ None
 unfolding name_of
 dash_no_name = refl
 
-pub rtx_spelled : (word : List ℕ) (rtx : Option ℕ) → optional (narrow_of (2 ^ 32)) word ≡ Some rtx → IsOptional IsSsrc word rtx
-rtx_spelled = optional_spelled (narrow_of (2 ^ 32)) IsSsrc (λ word n e. narrow_spelled (2 ^ 32) word n e)
+number_below : (word : List ℕ) (n : ℕ) → IsBelow (2 ^ 32) word n → narrow_of (2 ^ 32) word ≡ Some n
+number_below word n is = ap (narrow_of (2 ^ 32)) is.0 ∙ narrow_again (2 ^ 32) n (lit≤ tt) is.1
 
-pub rtx_again : (word : List ℕ) (rtx : Option ℕ) → IsOptional IsSsrc word rtx → optional (narrow_of (2 ^ 32)) word ≡ Some rtx
-rtx_again = optional_again (narrow_of (2 ^ 32)) IsSsrc dash_no_number (λ word n is. ap (narrow_of (2 ^ 32)) is.0 ∙ narrow_again (2 ^ 32) n (lit≤ tt) is.1)
+pub optional_32_spelled : (none word : List ℕ) (o : Option ℕ) → optional none (narrow_of (2 ^ 32)) word ≡ Some o → IsOptional none (IsBelow (2 ^ 32)) word o
+optional_32_spelled none = optional_spelled none (narrow_of (2 ^ 32)) (IsBelow (2 ^ 32)) (narrow_spelled (2 ^ 32))
 
-pub rid_spelled : (word : List ℕ) (rid : Option (List ℕ)) → optional (name_of 16) word ≡ Some rid → IsOptional IsNamed word rid
-rid_spelled = optional_spelled (name_of 16) IsNamed (λ word name e. name_spelled 16 word name e)
+pub rtx_again : (word : List ℕ) (rtx : Option ℕ) → IsOptional (codes "-") (IsBelow (2 ^ 32)) word rtx → optional (codes "-") (narrow_of (2 ^ 32)) word ≡ Some rtx
+rtx_again = optional_again (codes "-") (narrow_of (2 ^ 32)) (IsBelow (2 ^ 32)) dash_no_number number_below
 
-pub rid_again : (word : List ℕ) (rid : Option (List ℕ)) → IsOptional IsNamed word rid → optional (name_of 16) word ≡ Some rid
-rid_again = optional_again (name_of 16) IsNamed dash_no_name (λ word name is. ap (name_of 16) is.0 ∙ name_again 16 name is.1)
+pub cap_again : (word : List ℕ) (cap : Option ℕ) → IsOptional (codes "none") (IsBelow (2 ^ 32)) word cap → optional (codes "none") (narrow_of (2 ^ 32)) word ≡ Some cap
+cap_again = optional_again (codes "none") (narrow_of (2 ^ 32)) (IsBelow (2 ^ 32)) none_no_number number_below
+
+pub rid_spelled : (word : List ℕ) (rid : Option (List ℕ)) → optional (codes "-") (name_of 16) word ≡ Some rid → IsOptional (codes "-") IsNamed word rid
+rid_spelled = optional_spelled (codes "-") (name_of 16) IsNamed (λ word name e. name_spelled 16 word name e)
+
+pub rid_again : (word : List ℕ) (rid : Option (List ℕ)) → IsOptional (codes "-") IsNamed word rid → optional (codes "-") (name_of 16) word ≡ Some rid
+rid_again = optional_again (codes "-") (name_of 16) IsNamed dash_no_name (λ word name is. ap (name_of 16) is.0 ∙ name_again 16 name is.1)

@@ -37,6 +37,8 @@ blank = record {
   exts = [];
   types = [];
   media = [];
+  starts = [];
+  caches = [];
 }
 
 -- the index of a side's first SRTCP datagram
@@ -64,6 +66,8 @@ told draft (line.Type payload_type) = record draft { types = draft.types ++ payl
 told draft (line.Media mid kind cname) =
     record draft { media = draft.media ++ record { mid = mid; kind = kind; cname = cname; streams = [] } ∷ [] }
 told draft (line.Stream mid stream) = record draft { media = with_stream mid stream draft.media }
+told draft (line.Start start) = record draft { starts = draft.starts ++ start ∷ [] }
+told draft (line.Cache named) = record draft { caches = draft.caches ++ named ∷ [] }
 
 -- the setup, if the key stands
 abbrev pub setup_of : Draft → Option Setup
@@ -79,4 +83,6 @@ setup_of draft = draft.key >>= λ key. Some (record {
   exts = draft.exts;
   types = draft.types;
   media = draft.media;
+  starts = draft.starts;
+  caches = draft.caches;
 })

@@ -14,7 +14,7 @@ use Rattle.media_model.specs.declared.step.Step.TheVariants as step
 use Rattle.media_script.specs.Draft.{setup_of}
 use Rattle.media_script.specs.Order.{none_said, with_line}
 use Rattle.media_script.specs.Spelling.{words_of, is_passed_over}
-use Rattle.media_script.specs.Words.{◌>>=◌, number_of, narrow_of, millis_of, time_of, side_of, flag_of, hex_of, app_data_of, kind_of, index_of, cipher_of, profile_of, key_of, codec_of, media_kind_of, rate_of, name_of, extension_of, sources_of, optional}
+use Rattle.media_script.specs.Words.{◌>>=◌, number_of, narrow_of, millis_of, time_of, side_of, flag_of, hex_of, app_data_of, kind_of, at_most, cipher_of, profile_of, key_of, codec_of, media_kind_of, rate_of, name_of, extension_of, sources_of, repair_type_of, optional}
 
 -- the words without where they lie in memory
 abbrev pub texts : List (Bor (List ℕ)) → List (List ℕ)
@@ -74,7 +74,7 @@ pause_line = and_then millis_of (λ threshold. done (line.Pause threshold))
 abbrev pub rtcp_line : List (List ℕ) → Option SetupLine
 rtcp_line =
     and_then side_of (λ side.
-    and_then index_of (λ index.
+    and_then (at_most (2 ^ 31)) (λ index.
     done (line.Rtcp side index)))
 
 abbrev pub local_line : List (List ℕ) → Option SetupLine
@@ -89,12 +89,18 @@ ext_line =
     and_then extension_of (λ extension.
     done (line.Ext (record { id = id; extension = extension }))))
 
+-- what the words behind the rate of a type say: no repairs, or the type of them
+abbrev pub repairs_in : List (List ℕ) → Option (Option ℕ)
+repairs_in [] = Some None
+repairs_in (word ∷ []) = repair_type_of word >>= λ pt. Some (Some pt)
+repairs_in words = None
+
 abbrev pub type_line : List (List ℕ) → Option SetupLine
 type_line =
     and_then (narrow_of (2 ^ 8)) (λ pt.
     and_then codec_of (λ codec.
-    and_then rate_of (λ rate.
-    done (line.Type (record { pt = pt; codec = codec; rate = rate })))))
+    and_then rate_of (λ rate words. repairs_in words >>= λ rtx.
+    Some (line.Type (record { pt = pt; codec = codec; rate = rate; rtx = rtx })))))
 
 abbrev pub media_line : List (List ℕ) → Option SetupLine
 media_line =
@@ -108,9 +114,23 @@ stream_line =
     and_then side_of (λ side.
     and_then (name_of 16) (λ mid.
     and_then (narrow_of (2 ^ 32)) (λ ssrc.
-    and_then (optional (narrow_of (2 ^ 32))) (λ rtx.
-    and_then (optional (name_of 16)) (λ rid.
+    and_then (optional (codes "-") (narrow_of (2 ^ 32))) (λ rtx.
+    and_then (optional (codes "-") (name_of 16)) (λ rid.
     done (line.Stream mid (record { side = side; ssrc = ssrc; rtx = rtx; rid = rid })))))))
+
+abbrev pub start_line : List (List ℕ) → Option SetupLine
+start_line =
+    and_then (narrow_of (2 ^ 32)) (λ ssrc.
+    and_then (at_most (2 ^ 48)) (λ number.
+    done (line.Start (record { ssrc = ssrc; number = number }))))
+
+abbrev pub cache_line : List (List ℕ) → Option SetupLine
+cache_line =
+    and_then (narrow_of (2 ^ 32)) (λ ssrc.
+    and_then number_of (λ packets.
+    and_then millis_of (λ age.
+    and_then (optional (codes "none") (narrow_of (2 ^ 32))) (λ cap.
+    done (line.Cache (record { ssrc = ssrc; cache = record { packets = packets; age = age; cap = cap } }))))))
 
 abbrev pub side_kinds : List (List ℕ × (List (List ℕ) → Option SetupLine))
 side_kinds = (codes "rtcp", rtcp_line) ∷ (codes "local", local_line) ∷ []
@@ -120,7 +140,8 @@ unfoldable pub side_line_of : List (List ℕ) → Option SetupLine
 side_line_of words = look_up no_other side_kinds words
 
 abbrev pub named_kinds : List (List ℕ × (List (List ℕ) → Option SetupLine))
-named_kinds = (codes "media", media_line) ∷ (codes "stream", stream_line) ∷ []
+named_kinds =
+    (codes "media", media_line) ∷ (codes "stream", stream_line) ∷ (codes "start", start_line) ∷ (codes "cache", cache_line) ∷ []
 
 -- what the lines of media, of streams and of one side say
 unfoldable pub named_line_of : List (List ℕ) → Option SetupLine

@@ -30,6 +30,8 @@ word (line.Ext named) = codes "ext"
 word (line.Type payload_type) = codes "type"
 word (line.Media mid kind cname) = codes "media"
 word (line.Stream mid stream) = codes "stream"
+word (line.Start start) = codes "start"
+word (line.Cache named) = codes "cache"
 
 -- it may stand once in a script, for a side or for an SSRC; or any number of times
 abbrev pub per : SetupLine → Option Per
@@ -39,11 +41,15 @@ per (line.Ext named) = None
 per (line.Type payload_type) = None
 per (line.Media mid kind cname) = None
 per (line.Stream mid stream) = None
+per (line.Start start) = Some (per_of.Ssrc start.ssrc)
+per (line.Cache named) = Some (per_of.Ssrc named.ssrc)
 per _ = Some per_of.Script
 
 -- what has to stand before it
 abbrev pub needs : SetupLine → Option Name
 needs (line.Stream mid stream) = Some (name.Media mid)
+needs (line.Start start) = Some (name.Stream start.ssrc)
+needs (line.Cache named) = Some (name.Stream named.ssrc)
 needs _ = None
 
 -- what it brings

@@ -38,16 +38,21 @@ abbrev pub IsKey : List ℕ → Key → Type 0
 IsKey word Zero = word ≡ codes "zero"
 IsKey word (Given bytes) = IsHex word bytes
 
--- a word, or - for none
-abbrev pub IsOptional : {X : Type 0} → (List ℕ → X → Type 0) → List ℕ → Option X → Type 0
-IsOptional Spells word None = word ≡ codes "-"
-IsOptional Spells word (Some x) = Spells word x
+-- a word, or the word for none
+abbrev pub IsOptional : {X : Type 0} → List ℕ → (List ℕ → X → Type 0) → List ℕ → Option X → Type 0
+IsOptional none Spells word None = word ≡ none
+IsOptional none Spells word (Some x) = Spells word x
 
-abbrev pub IsSsrc : List ℕ → ℕ → Type 0
-IsSsrc word ssrc = (word ≡ decimal ssrc) × (ssrc < 2 ^ 32)
+abbrev pub IsBelow : ℕ → List ℕ → ℕ → Type 0
+IsBelow limit word n = (word ≡ decimal n) × (n < limit)
 
 abbrev pub IsNamed : List ℕ → List ℕ → Type 0
 IsNamed word rid = (word ≡ rid) × IsName 16 rid
+
+-- no word where a type has no repairs, or one word that says their type
+abbrev pub IsRepairType : List (List ℕ) → Option ℕ → Type 0
+IsRepairType words None = words ≡ []
+IsRepairType words (Some pt) = (words ≡ (codes "rtx=" ++ decimal pt) ∷ []) × (pt < 2 ^ 8)
 
 -- the words of a setup line
 abbrev pub IsSetupLine : List (List ℕ) → SetupLine → Type 0
@@ -69,13 +74,25 @@ IsSetupLine words (line.Local side ssrc) = (ssrc < 2 ^ 32) × (words ≡ codes "
 -- an id and the header extension that it names
 IsSetupLine words (line.Ext named) =
     (named.id < 2 ^ 8) × (words ≡ codes "ext" ∷ decimal named.id ∷ extension_text named.extension ∷ [])
+-- a payload type, its clock rate, and the type of its repairs
 IsSetupLine words (line.Type t) =
-    (t.pt < 2 ^ 8) × (0 < t.rate) × (t.rate < 2 ^ 32) × (words ≡ codes "type" ∷ decimal t.pt ∷ codec_text t.codec ∷ decimal t.rate ∷ [])
+    (r : List (List ℕ)) × IsRepairType r t.rtx × (t.pt < 2 ^ 8) × (0 < t.rate) × (t.rate < 2 ^ 32)
+    × (words ≡ codes "type" ∷ decimal t.pt ∷ codec_text t.codec ∷ decimal t.rate ∷ r)
 IsSetupLine words (line.Media mid kind cname) =
     IsName 16 mid × IsName 255 cname × (words ≡ codes "media" ∷ mid ∷ media_kind_text kind ∷ cname ∷ [])
 IsSetupLine words (line.Stream mid stream) =
-    (rtx : List ℕ) × (rid : List ℕ) × IsName 16 mid × (stream.ssrc < 2 ^ 32) × IsOptional IsSsrc rtx stream.rtx × IsOptional IsNamed rid stream.rid
+    (rtx : List ℕ) × (rid : List ℕ) × IsName 16 mid × (stream.ssrc < 2 ^ 32)
+    × IsOptional (codes "-") (IsBelow (2 ^ 32)) rtx stream.rtx × IsOptional (codes "-") IsNamed rid stream.rid
     × (words ≡ codes "stream" ∷ side_text stream.side ∷ mid ∷ decimal stream.ssrc ∷ rtx ∷ rid ∷ [])
+-- the main SSRC of a stream and the number of its first repair
+IsSetupLine words (line.Start start) =
+    (start.ssrc < 2 ^ 32) × (start.number ≤ 2 ^ 48) × (words ≡ codes "start" ∷ decimal start.ssrc ∷ decimal start.number ∷ [])
+-- the main SSRC of a stream, how many packets it keeps and for how many milliseconds, and how many hundredths of what it
+-- sends may be repairs, or none for any number
+IsSetupLine words (line.Cache named) =
+    (ms : ℕ) × (cap : List ℕ) × (named.ssrc < 2 ^ 32) × (named.cache.packets < 2 ^ 64) × (named.cache.age ≡ ms * 1000000)
+    × (named.cache.age < 2 ^ 64) × IsOptional (codes "none") (IsBelow (2 ^ 32)) cap named.cache.cap
+    × (words ≡ codes "cache" ∷ decimal named.ssrc ∷ decimal named.cache.packets ∷ decimal ms ∷ cap ∷ [])
 
 -- the numbers of a packet are within their types
 pub record Fits (w : Write) : Type 0 where

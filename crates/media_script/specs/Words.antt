@@ -86,11 +86,11 @@ app_data_of word = do
   bytes ← hex_of word
   data_of bytes
 
--- an index of SRTCP, at most 2^31
-unfoldable pub index_of : List ℕ → Option ℕ
-index_of word = do
+-- a number that is at most so great
+unfoldable pub at_most : ℕ → List ℕ → Option ℕ
+at_most greatest word = do
   n ← number_of word
-  if nat_le n (2 ^ 31) then Some n else None
+  if nat_le n greatest then Some n else None
 
 unfoldable pub key_of : List ℕ → Option Key
 key_of word =
@@ -157,6 +157,13 @@ has_c word = starts_with nat_eq word (codes "c=")
 unfoldable pub sources_of : List ℕ → Option (List ℕ)
 sources_of word = if has_c word then (hex_of (drop 2 word) >>= λ bytes. numbers_of bytes) else None
 
+abbrev pub has_rtx : List ℕ → Bool
+has_rtx word = starts_with nat_eq word (codes "rtx=")
+
+-- rtx= and a payload type
+unfoldable pub repair_type_of : List ℕ → Option ℕ
+repair_type_of word = if has_rtx word then narrow_of (2 ^ 8) (drop 4 word) else None
+
 -- units of RTP time in a second
 unfoldable pub rate_of : List ℕ → Option ℕ
 rate_of word = do
@@ -170,6 +177,6 @@ is_name most word = not (length word == 0) && (nat_le (length word) most && list
 unfoldable pub name_of : ℕ → List ℕ → Option (List ℕ)
 name_of most word = if is_name most word then Some word else None
 
--- a word, or - for none
-unfoldable pub optional : {X : Type 0} → (List ℕ → Option X) → List ℕ → Option (Option X)
-optional read word = if bytes_eq word (codes "-") then Some None else (read word >>= λ x. Some (Some x))
+-- a word, or the word for none
+unfoldable pub optional : {X : Type 0} → List ℕ → (List ℕ → Option X) → List ℕ → Option (Option X)
+optional none read word = if bytes_eq word none then Some None else (read word >>= λ x. Some (Some x))

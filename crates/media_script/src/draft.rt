@@ -8,7 +8,8 @@ use crate::media_list::MediaList;
 use crate::setup_line::SetupLine;
 use media_base::{Beginning, Duration, Listed};
 use media_model::{
-    CipherName, Key, Local, Media, Mtu, NamedExtension, PayloadType, Setup, Side, SrtcpIndex,
+    CipherName, Key, Local, Media, Mtu, NamedCache, NamedExtension, NamedStart, PayloadType, Setup,
+    Side, SrtcpIndex,
 };
 use rtp_wire::Ssrc;
 use srtp_core::SrtpProfile;
@@ -44,6 +45,10 @@ pub struct Draft {
     pub exts: Listed<NamedExtension>,
     pub types: Listed<PayloadType>,
     pub media: MediaList,
+    /// The numbers of first repairs.
+    pub starts: Listed<NamedStart>,
+    /// What streams keep to send it again.
+    pub caches: Listed<NamedCache>,
 }
 
 impl Draft {
@@ -71,6 +76,8 @@ impl Draft {
             exts: Listed::new(alloc),
             types: Listed::new(alloc),
             media: MediaList::new(alloc),
+            starts: Listed::new(alloc),
+            caches: Listed::new(alloc),
         }
     }
 
@@ -116,6 +123,8 @@ impl Draft {
                 streams: Listed::new(alloc),
             })?,
             SetupLine::Stream { mid, stream } => self.media.push_stream(mid, stream)?,
+            SetupLine::Start(start) => self.starts.push(start)?,
+            SetupLine::Cache(named) => self.caches.push(named)?,
         }
         Ok(self)
     }
@@ -137,6 +146,8 @@ impl Draft {
             exts: self.exts,
             types: self.types,
             media: self.media.into_listed(),
+            starts: self.starts,
+            caches: self.caches,
         })
     }
 }

@@ -3,7 +3,8 @@ ghost use Rattle.media_script.specs.Order.{word, per, slot, needs, gives};
 
 use media_base::{Beginning, Bytes, Duration};
 use media_model::{
-    CipherName, Key, MediaKind, Mtu, NamedExtension, PayloadType, Side, SrtcpIndex, Stream,
+    CipherName, Key, MediaKind, Mtu, NamedCache, NamedExtension, NamedStart, PayloadType, Side,
+    SrtcpIndex, Stream,
 };
 use rtp_wire::{Mid, Ssrc};
 use srtp_core::SrtpProfile;
@@ -34,6 +35,10 @@ pub enum SetupLine {
         mid: Mid,
         stream: Stream,
     },
+    /// The number of the first repair of a stream.
+    Start(NamedStart),
+    /// What a stream keeps to send it again.
+    Cache(NamedCache),
 }
 
 /// For what a line may stand once.
@@ -88,6 +93,8 @@ impl SetupLine {
             SetupLine::Type(_) => b"type",
             SetupLine::Media { .. } => b"media",
             SetupLine::Stream { .. } => b"stream",
+            SetupLine::Start(_) => b"start",
+            SetupLine::Cache(_) => b"cache",
         }
     }
 
@@ -101,6 +108,8 @@ impl SetupLine {
             | SetupLine::Media { .. }
             | SetupLine::Stream { .. } => None,
             SetupLine::Rtcp(side, _) | SetupLine::Local(side, _) => Some(Per::Side(*side)),
+            SetupLine::Start(start) => Some(Per::Ssrc(start.ssrc)),
+            SetupLine::Cache(named) => Some(Per::Ssrc(named.ssrc)),
             _ => Some(Per::Script),
         }
     }
@@ -124,6 +133,8 @@ impl SetupLine {
     {
         match self {
             SetupLine::Stream { mid, .. } => Some(Name::Media(*mid)),
+            SetupLine::Start(start) => Some(Name::Stream(start.ssrc)),
+            SetupLine::Cache(named) => Some(Name::Stream(named.ssrc)),
             _ => None,
         }
     }

@@ -1,19 +1,19 @@
 // The words of a setup line.
 ghost use Rattle.std.specs.Prelude.{◌≡◌};
 ghost use Rattle.media_script.specs.Gives.{Gives};
-ghost use Rattle.media_script.specs.Grammar.{texts, cipher_line, profile_line, key_line, unix_line, mtu_line, pause_line, rtcp_line, local_line, ext_line, type_line, media_line, stream_line, side_line_of, named_line_of, number_line_of, setup_line_of, in_few};
+ghost use Rattle.media_script.specs.Grammar.{texts, cipher_line, profile_line, key_line, unix_line, mtu_line, pause_line, rtcp_line, local_line, ext_line, repairs_in, type_line, media_line, stream_line, start_line, cache_line, side_line_of, named_line_of, number_line_of, setup_line_of, in_few};
 ghost use Rattle.media_script.specs.Spelling.{words_of};
 
 use crate::error::LineError;
 use crate::lines::{is_long, words};
 use crate::setup_line::SetupLine;
 use crate::words::{
-    cipher as cipher_word, codec, extension, key as key_word, media_kind, mid, millis, name,
-    number, number_8, number_32, optional_32, optional_name, profile as profile_word, rate, rid,
-    side, srtcp_index,
+    cipher as cipher_word, codec, extension, first_number, key as key_word, media_kind, mid,
+    millis, name, number, number_8, number_32, optional_32, optional_name, profile as profile_word,
+    rate, repair_type, rid, side, srtcp_index,
 };
 use media_base::{Beginning, Bytes, Duration};
-use media_model::{Mtu, NamedExtension, PayloadType, Stream};
+use media_model::{Cache, Mtu, NamedCache, NamedExtension, NamedStart, PayloadType, Stream};
 use rtp_wire::{Pt, Ssrc};
 use std::alloc::Global;
 
@@ -106,14 +106,26 @@ fn ext(words: &[&[u8]]) -> Result<SetupLine, LineError>
     }
 }
 
+// The type of the repairs of a type, which the words behind its rate say.
+fn repairs(words: &[&[u8]]) -> Result<Option<Pt>, LineError>
+    ensures { Gives (λ o. o) result (repairs_in (texts words.now)) }
+{
+    match words {
+        [] => Ok(None),
+        [word] => Ok(Some(Pt::from(repair_type(word)?))),
+        _ => Err(LineError::Outside),
+    }
+}
+
 fn payload_type(words: &[&[u8]]) -> Result<SetupLine, LineError>
     ensures { Gives (λ l. l) result (type_line (texts words.now)) }
 {
     match words {
-        [pt, name, per_second] => Ok(SetupLine::Type(PayloadType {
+        [pt, name, per_second, rest @ ..] => Ok(SetupLine::Type(PayloadType {
             pt: Pt::from(number_8(pt)?),
             codec: codec(name)?,
             rate: rate(per_second)?,
+            rtx: repairs(rest)?,
         })),
         _ => Err(LineError::Outside),
     }
@@ -144,11 +156,39 @@ fn stream(words: &[&[u8]]) -> Result<SetupLine, LineError>
                 stream: Stream {
                     side,
                     ssrc: Ssrc::from(number_32(ssrc)?),
-                    rtx: optional_32(rtx)?.map(Ssrc::from),
+                    rtx: optional_32(rtx, b"-")?.map(Ssrc::from),
                     rid: rid(optional_name(layer)?),
                 },
             })
         }
+        _ => Err(LineError::Outside),
+    }
+}
+
+fn start(words: &[&[u8]]) -> Result<SetupLine, LineError>
+    ensures { Gives (λ l. l) result (start_line (texts words.now)) }
+{
+    match words {
+        [of, first] => Ok(SetupLine::Start(NamedStart {
+            ssrc: Ssrc::from(number_32(of)?),
+            number: first_number(first)?,
+        })),
+        _ => Err(LineError::Outside),
+    }
+}
+
+fn cache(words: &[&[u8]]) -> Result<SetupLine, LineError>
+    ensures { Gives (λ l. l) result (cache_line (texts words.now)) }
+{
+    match words {
+        [of, packets, age, cap] => Ok(SetupLine::Cache(NamedCache {
+            ssrc: Ssrc::from(number_32(of)?),
+            cache: Cache {
+                packets: number(packets)?,
+                age: Duration::from_nanos(millis(age)?),
+                cap: optional_32(cap, b"none")?,
+            },
+        })),
         _ => Err(LineError::Outside),
     }
 }
@@ -182,6 +222,10 @@ fn named_line(alloc: Global, words: &[&[u8]]) -> Result<SetupLine, LineError>
                 media(alloc, rest)
             } else if *kind == b"stream".as_slice() {
                 stream(rest)
+            } else if *kind == b"start".as_slice() {
+                start(rest)
+            } else if *kind == b"cache".as_slice() {
+                cache(rest)
             } else {
                 side_line(words)
             }

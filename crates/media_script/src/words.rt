@@ -1,15 +1,17 @@
 // What the words of a line say.
-ghost use Rattle.std.specs.Prelude.{◌≡◌, ◌^◌, IsTrue, IfOk};
+ghost use Rattle.std.specs.Prelude.{◌≡◌, ◌^◌, IsTrue, IfOk, codes};
 ghost use Rattle.std.specs.Option.{ForSome, option_copied};
 ghost use Rattle.std.specs.Char.{is_ascii_alphanumeric};
 ghost use Rattle.std.specs.List.{list_all};
-ghost use Rattle.media_script.specs.Words.{plain_front, number_of, narrow_of, millis_of, time_of, side_of, flag_of, hex_of, app_data_of, kind_of, index_of, cipher_of, profile_of, key_of, codec_of, media_kind_of, rate_of, is_name, name_of, extension_of, numbers_of, sources_of, optional};
+ghost use Rattle.media_script.specs.Words.{plain_front, number_of, narrow_of, millis_of, time_of, side_of, flag_of, hex_of, app_data_of, kind_of, at_most, cipher_of, profile_of, key_of, codec_of, media_kind_of, rate_of, is_name, name_of, extension_of, numbers_of, sources_of, repair_type_of, optional};
 ghost use Rattle.media_script.specs.Gives.{Gives};
 
 use crate::error::LineError;
 use hex::FromHexError;
 use media_base::Bytes;
-use media_model::{ApplicationData, CipherName, Codec, Key, Kind, MediaKind, Side, SrtcpIndex};
+use media_model::{
+    ApplicationData, CipherName, Codec, FirstNumber, Key, Kind, MediaKind, Side, SrtcpIndex,
+};
 use rtp_wire::{Extension, Mid, Rid};
 use srtp_core::SrtpProfile;
 use std::alloc::Global;
@@ -149,12 +151,23 @@ pub fn application_data(alloc: Global, word: &[u8]) -> Result<ApplicationData, L
 }
 
 // An index of SRTCP, at most 2^31.
-#[tactic(auto, unfolding(crate::specs::Words::index_of))]
+#[tactic(auto, unfolding(crate::specs::Words::at_most))]
 pub fn srtcp_index(word: &[u8]) -> Result<SrtcpIndex, LineError>
-    ensures { Gives (λ i. i) result (index_of word.now) }
+    ensures { Gives (λ i. i) result (at_most (2 ^ 31) word.now) }
 {
     match SrtcpIndex::new(number(word)?) {
         Some(index) => Ok(index),
+        None => Err(LineError::Outside),
+    }
+}
+
+// The number of a first packet, at most 2^48.
+#[tactic(auto, unfolding(crate::specs::Words::at_most))]
+pub fn first_number(word: &[u8]) -> Result<FirstNumber, LineError>
+    ensures { Gives (λ n. n) result (at_most (2 ^ 48) word.now) }
+{
+    match FirstNumber::new(number(word)?) {
+        Some(number) => Ok(number),
         None => Err(LineError::Outside),
     }
 }
@@ -313,6 +326,17 @@ pub fn sources(alloc: Global, word: &[u8]) -> Result<Vec<u32>, LineError>
     }
 }
 
+// The number of a type of repairs, behind rtx=.
+#[tactic(auto, unfolding(crate::specs::Words::repair_type_of))]
+pub fn repair_type(word: &[u8]) -> Result<u8, LineError>
+    ensures { Gives (λ n. n) result (repair_type_of word.now) }
+{
+    match word.strip_prefix(b"rtx=".as_slice()) {
+        Some(digits) => number_8(digits),
+        None => Err(LineError::Outside),
+    }
+}
+
 // Units of RTP time in a second.
 #[tactic(auto, unfolding(crate::specs::Words::rate_of))]
 pub fn rate(word: &[u8]) -> Result<u32, LineError>
@@ -372,12 +396,12 @@ pub fn rid(name: Option<&[u8]>) -> Option<Rid>
     }
 }
 
-// A number of 32 bits, or - for none.
+// A number of 32 bits, or the word for none.
 #[tactic(auto, unfolding(crate::specs::Words::optional))]
-pub fn optional_32(word: &[u8]) -> Result<Option<u32>, LineError>
-    ensures { Gives (λ n. n) result (optional (narrow_of (2 ^ 32)) word.now) }
+pub fn optional_32(word: &[u8], none: &[u8]) -> Result<Option<u32>, LineError>
+    ensures { Gives (λ n. n) result (optional none.now (narrow_of (2 ^ 32)) word.now) }
 {
-    if word == b"-".as_slice() {
+    if word == none {
         return Ok(None);
     }
     Ok(Some(number_32(word)?))
@@ -386,7 +410,7 @@ pub fn optional_32(word: &[u8]) -> Result<Option<u32>, LineError>
 // A name of 1 to 16 ASCII letters and digits, or - for none.
 #[tactic(auto, unfolding(crate::specs::Words::optional))]
 pub fn optional_name(word: &[u8]) -> Result<Option<&[u8]>, LineError>
-    ensures value { Gives (λ n. option_copied n) result (optional (name_of 16) word.now) }
+    ensures value { Gives (λ n. option_copied n) result (optional (codes "-") (name_of 16) word.now) }
     ensures name { IfOk result (λ n. ForSome n (λ n. IsTrue (is_name 16 n.now))) }
 {
     if word == b"-".as_slice() {

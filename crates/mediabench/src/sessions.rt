@@ -4,16 +4,17 @@ ghost use Rattle.std.specs.Prelude.{◌<◌, ◌≤◌, ◌^◌, length, IfOk};
 use crate::memory::answer;
 use mask_register::MaskRegister;
 use media_base::{Beginning, Bytes, Duration, Instant};
-use rtp_base::{Frequency, Mid, MidRid, Pt, SeqNo, Ssrc};
+use queue_store::QueueStore;
+use rtp_base::{Frequency, Mid, MidRid, NackEntry, Pt, SeqNo, Ssrc};
 use rtp_wire::ExtensionMap;
 use session_core::{
     DATAGRAM_MTU, DATAGRAM_MTU_WARN, Datagram, Media, MediaKind, Mtu, Session, SessionConfig,
 };
 use srtp_core::{KeyingMaterial, SrtpProfile, ToyCipher};
 use std::alloc::{AllocError, Global};
-use stream_core::{Payload, PayloadTypes, RtpWrite, Streams, TypeRow};
+use stream_core::{Payload, PayloadTypes, RtpWrite, Sent, Streams, TypeRow};
 
-type End = Session<ToyCipher, MaskRegister>;
+type End = Session<ToyCipher, MaskRegister, QueueStore<Sent>>;
 
 /// What is done with a session, with payloads of so many bytes.
 #[derive(Clone, Copy)]
@@ -22,6 +23,8 @@ pub enum SessionWork {
     Send(usize),
     /// A datagram comes, and what it opened to is taken.
     Receive(usize),
+    /// A packet is asked for, a tick comes, and all that leaves is taken: the packet as a repair.
+    Repair(usize),
 }
 
 /// So many datagrams are sealed once, and come to each of several sessions.
@@ -41,7 +44,7 @@ fn config(alloc: Global) -> Result<SessionConfig, AllocError>
     types.add(TypeRow {
         pt: Pt::from(96),
         clock: Frequency::NINETY_KHZ,
-        rtx: None,
+        rtx: Some(Pt::from(97)),
     })?;
     Ok(SessionConfig {
         id: 1,
@@ -75,12 +78,28 @@ fn give_keys(alloc: Global, session: &mut End, left: bool) -> Result<(), AllocEr
     answer(session.set_keying_material(ToyCipher, profile, &material, left))
 }
 
-fn declare(streams: &mut Streams<MaskRegister>, at: MidRid) -> Result<(), AllocError> {
+fn declare(
+    streams: &mut Streams<MaskRegister, QueueStore<Sent>>,
+    at: MidRid,
+) -> Result<(), AllocError> {
     streams.declare_stream_tx(Ssrc::from(42), None, at)
 }
 
-fn expect(streams: &mut Streams<MaskRegister>, at: MidRid) -> Result<(), AllocError> {
+fn expect(
+    streams: &mut Streams<MaskRegister, QueueStore<Sent>>,
+    at: MidRid,
+) -> Result<(), AllocError> {
     streams.expect_stream_rx(Ssrc::from(42), None, at, false)
+}
+
+// A stream that keeps what it sends, with repairs under the next SSRC, as many as are asked for.
+fn declare_repaired(
+    streams: &mut Streams<MaskRegister, QueueStore<Sent>>,
+    at: MidRid,
+) -> Result<(), AllocError> {
+    let (ssrc, rtx) = (Ssrc::from(42), Ssrc::from(43));
+    streams.declare_stream_tx(ssrc, Some((rtx, SeqNo::from(1))), at)?;
+    streams.set_rtx_cache(ssrc, 2_000, Duration::from_secs(3), None)
 }
 
 fn sender(alloc: Global, at: MidRid) -> Result<End, AllocError> {
@@ -98,17 +117,20 @@ fn receiver(alloc: Global, at: MidRid) -> Result<End, AllocError> {
 }
 
 // Writes a packet on the first stream.
-fn write_first(streams: &mut Streams<MaskRegister>, write: RtpWrite) -> Result<(), AllocError> {
+fn write_first(
+    streams: &mut Streams<MaskRegister, QueueStore<Sent>>,
+    write: RtpWrite,
+) -> Result<(), AllocError> {
     if streams.tx_len() == 0 {
         return Ok(());
     }
     answer(streams.tx_at(0).write_rtp(write))
 }
 
-// A packet of type 96.
+// A packet of type 96, which may be sent again.
 fn packet(number: u64, now: Instant, payload: Payload) -> RtpWrite {
     let seq = SeqNo::from(number % 0x1_0000_0000_0000);
-    RtpWrite::new(Pt::from(96), seq, 0, now, payload)
+    RtpWrite::new(Pt::from(96), seq, 0, now, payload).nackable(true)
 }
 
 // Ticks, and takes what leaves.
@@ -219,12 +241,48 @@ fn receive(alloc: Global, at: MidRid, size: usize, count: u64) -> Result<u64, Al
     Ok(opened)
 }
 
+// The packet of number 0 is asked for.
+fn ask(
+    streams: &mut Streams<MaskRegister, QueueStore<Sent>>,
+    now: Instant,
+) -> Result<(), AllocError> {
+    let entry = NackEntry { pid: 0, blp: 0 };
+    streams.handle_nack(Ssrc::from(42), &[entry], now)
+}
+
+// Asks, ticks, and takes what leaves; tells how many datagrams left.
+fn repair_one(session: &mut End, number: u64) -> Result<u64, AllocError> {
+    let now = Instant::from_nanos(number.wrapping_mul(1_000).max(1));
+    ask(session.streams(), now)?;
+    let datagrams = leave(session, now)?;
+    Ok(datagrams.len() as u64)
+}
+
+// Asks so often for the packet; tells how many datagrams left.
+fn repair_all(session: &mut End, count: u64) -> Result<u64, AllocError> {
+    let mut sent: u64 = 0;
+    for i in 0..count {
+        sent = sent.wrapping_add(repair_one(session, i)?);
+    }
+    Ok(sent)
+}
+
+fn repair(alloc: Global, at: MidRid, size: usize, count: u64) -> Result<u64, AllocError> {
+    let mut session = fresh(alloc, at.0)?;
+    give_keys(alloc, &mut session, true)?;
+    declare_repaired(session.streams(), at)?;
+    let bytes = vec![in alloc; 7; size]?;
+    send_one(alloc, &mut session, 0, &bytes)?;
+    repair_all(&mut session, count)
+}
+
 impl SessionWork {
     /// Does it so often.
     pub fn play(self, alloc: Global, count: u64) -> Result<u64, AllocError> {
         match (self, mid_rid()) {
             (SessionWork::Send(size), Some(at)) => send(alloc, at, size, count),
             (SessionWork::Receive(size), Some(at)) => receive(alloc, at, size, count),
+            (SessionWork::Repair(size), Some(at)) => repair(alloc, at, size, count),
             (_, None) => Ok(0),
         }
     }

@@ -79,7 +79,7 @@ pub struct Row {
 }
 
 /// The rows, in the order in which they are timed.
-pub const ROWS: [Row; 59] = [
+pub const ROWS: [Row; 61] = [
     Row {
         name: "take-in-order-slots",
         work: Work::Slots(RegisterWork::Take(Numbers::InOrder)),
@@ -373,6 +373,16 @@ pub const ROWS: [Row; 59] = [
     Row {
         name: "session-receive-1200",
         work: Work::Session(SessionWork::Receive(1_200)),
+        count: 50_000,
+    },
+    Row {
+        name: "session-repair-4",
+        work: Work::Session(SessionWork::Repair(4)),
+        count: 50_000,
+    },
+    Row {
+        name: "session-repair-1200",
+        work: Work::Session(SessionWork::Repair(1_200)),
         count: 50_000,
     },
 ];

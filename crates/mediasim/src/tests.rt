@@ -336,7 +336,7 @@ fn setup_script(alloc: Global, lines: &str) -> Result<Vec<u8>, Fail> {
 }
 
 // Setup lines, and the first rule that they break: each rule alone.
-const SETUP_FAULTS: [(&str, &str); 26] = [
+const SETUP_FAULTS: [(&str, &str); 37] = [
     (SHORT_KEY, "KeyLength"),
     ("key 00\nmtu 899 1280\n", "KeyLength"),
     ("key zero\nmtu 899 1280\nunix 2075000001\n", "Mtu"),
@@ -393,6 +393,41 @@ const SETUP_FAULTS: [(&str, &str); 26] = [
         "key zero\nmedia v video cam\nstream A v 42 43 -\n",
         "RtxLater",
     ),
+    (
+        "key zero\nmedia v video cam\nstream A v 42 - -\ncache 42 0 10000000001 15\next 0 mid\n",
+        "Times",
+    ),
+    ("key zero\ntype 96 vp8 90000 rtx=96\n", "TypeTwice"),
+    (
+        "key zero\ntype 96 vp8 90000 rtx=97\ntype 97 vp9 90000\n",
+        "TypeTwice",
+    ),
+    ("key zero\ntype 96 vp8 90000 rtx=128\n", "TypeTwice"),
+    (
+        "key zero\nmedia v video cam\nstream A v 42 0 -\ncache 42 0 1 1\n",
+        "SsrcZero",
+    ),
+    (
+        "key zero\nmedia v video cam\nstream A v 42 43 a\nstream B v 43 - b\n",
+        "SsrcTwice",
+    ),
+    (
+        "key zero\nmedia v video cam\nstream A v 42 - -\nstream A v 43 - -\ncache 43 0 1 1\n",
+        "RidTwice",
+    ),
+    (
+        "key zero\nmedia v video cam\nstream A v 42 43 -\ncache 42 0 10000000000 none\n",
+        "CacheSize",
+    ),
+    (
+        "key zero\nmedia v video cam\nstream A v 42 - -\ncache 42 32001 1 1\n",
+        "CacheSize",
+    ),
+    (
+        "key zero\nmedia v video cam\nstream A v 42 43 -\nstart 42 281474976710656\ncache 42 32000 1 1\n",
+        "RtxLater",
+    ),
+    ("key zero\ntype 96 vp8 90000 rtx=127\n", "RtxLater"),
 ];
 
 // How many bytes of keying material each profile asks for.
@@ -455,6 +490,22 @@ fn pause_threshold(rt: HostRuntime) -> Result<(), Fail> {
     let (report, sink) = ran_on(alloc, setup_script(alloc, "pause 1\npause 1\n")?)?;
     assert_eq!(rt; report.status, 7);
     assert_eq!(rt; sink.bytes(), b"fault syntax 3\n".as_slice());
+    Ok(())
+}
+
+// A stream without repairs keeps nothing, whatever the lines of it say.
+#[test]
+fn lines_of_a_stream_without_repairs(rt: HostRuntime) -> Result<(), Fail> {
+    let alloc = rt.alloc();
+    for lines in [
+        "start 42 5\n",
+        "cache 42 1 0 0\n",
+        "cache 42 32000 10000000000 none\nstart 42 281474976710656\n",
+    ] {
+        let (report, sink) = ran_on(alloc, script_with(alloc, lines, ONE_WRITE)?)?;
+        assert_eq!(rt; report.status, 0, "at {lines}");
+        assert_eq!(rt; sink.bytes(), ONE_WRITE_TEXT.as_bytes(), "at {lines}");
+    }
     Ok(())
 }
 

@@ -10,6 +10,8 @@ use std::test::Fail;
 const EVERY_LINE: &[u8] = b"# all of it\n\nstr0m-media 1\ntype 96 vp8 90000\nmedia v video cam\n\
 media a audio mic2\nstream A v 42 - -\next 14 delay\ncipher toy\nunix 5\next 0 mid\ntype 255 telephone 4294967295\n\
 stream B a 4294967295 0 hi\nkey 00Ff\nprofile gcm128\nstream B v 7 - lo\nrtcp B 2147483648\nmtu 900 1500\n\
+type 97 vp9 90000 rtx=255\nstart 4294967295 281474976710656\ncache 7 0 18446744073709 4294967295\n\
+cache 42 18446744073709551615 0 none\n\
 pause 250\nlocal A 4294967295\nbegin\n\
 write A 5ms 42 18446744073709551615 96 4294967295 1 0 8060Ff c=0000002AffFFffff\ntick B 1000\ndeliver A 0 3\n\
 foreign A 1 rtcp -\napp B 2ms 4294967295 0 0102fFfF\nforeign B 1 rtp 80\n#\nend\n\n# end\n";
@@ -73,14 +75,24 @@ fn each_line_is_read(rt: HostRuntime) -> Result<(), Fail> {
     assert_eq!(rt; setup.cipher, CipherName::Toy);
     assert_eq!(rt; setup.profile, SrtpProfile::AeadAes128Gcm);
     assert_eq!(rt; setup.key, Key::Given(Bytes::from_slice(alloc, &[0, 255])?));
-    assert_eq!(rt; setup.types.as_slice().len(), 2);
+    assert_eq!(rt; setup.types.as_slice().len(), 3);
     assert_eq!(rt;
-        setup.types.as_slice().last(),
-        Some(&PayloadType {
-            pt: Pt::from(255),
-            codec: Codec::Telephone,
-            rate: 4_294_967_295,
-        })
+        setup.types.as_slice().get(1..),
+        Some([
+            PayloadType {
+                pt: Pt::from(255),
+                codec: Codec::Telephone,
+                rate: 4_294_967_295,
+                rtx: None,
+            },
+            PayloadType {
+                pt: Pt::from(97),
+                codec: Codec::Vp9,
+                rate: 90_000,
+                rtx: Some(Pt::from(255)),
+            },
+        ]
+        .as_slice())
     );
     assert_eq!(rt; setup.media.as_slice().len(), 2);
     let video = setup.media.as_slice().first().ok_or("a media")?;
@@ -115,6 +127,42 @@ fn each_line_is_read(rt: HostRuntime) -> Result<(), Fail> {
             kind: Kind::Rtp,
             bytes: Bytes::from_slice(alloc, &[0x80])?,
         })
+    );
+    Ok(())
+}
+
+#[test]
+fn what_streams_keep_is_read(rt: HostRuntime) -> Result<(), Fail> {
+    let alloc = rt.alloc();
+    let (setup, _) = read_script(alloc, EVERY_LINE).ok().ok_or("a script")?;
+    let last = FirstNumber::new(281_474_976_710_656).ok_or("a number")?;
+    assert_eq!(rt; setup.starts.len(), 1);
+    assert_eq!(rt; setup.start(Ssrc::from(u32::MAX)), last);
+    assert_eq!(rt; setup.start(Ssrc::from(7)), FirstNumber::ZERO);
+    assert_eq!(rt; setup.caches.len(), 2);
+    assert_eq!(rt;
+        setup.cache(Ssrc::from(7)),
+        Cache {
+            packets: 0,
+            age: Duration::from_nanos(18_446_744_073_709_000_000),
+            cap: Some(u32::MAX),
+        }
+    );
+    assert_eq!(rt;
+        setup.cache(Ssrc::from(42)),
+        Cache {
+            packets: u64::MAX,
+            age: Duration::from_nanos(0),
+            cap: None,
+        }
+    );
+    assert_eq!(rt;
+        setup.cache(Ssrc::from(u32::MAX)),
+        Cache {
+            packets: 2_000,
+            age: Duration::from_nanos(3_000_000_000),
+            cap: Some(15),
+        }
     );
     Ok(())
 }
@@ -401,6 +449,12 @@ fn first_line_outside_is_told(rt: HostRuntime) {
         ("str0m-media 1\ntype 96 vp8 4294967296\n", 2),
         ("str0m-media 1\ntype 96 vp10 90000\n", 2),
         ("str0m-media 1\ntype 96 vp8 90000 pli\n", 2),
+        ("str0m-media 1\ntype 96 vp8 90000 rtx=\n", 2),
+        ("str0m-media 1\ntype 96 vp8 90000 rtx=256\n", 2),
+        ("str0m-media 1\ntype 96 vp8 90000 rtx=-\n", 2),
+        ("str0m-media 1\ntype 96 vp8 90000 red=97\n", 2),
+        ("str0m-media 1\ntype 96 vp8 90000 rtx=97 rtx=98\n", 2),
+        ("str0m-media 1\ntype 96 vp8 rtx=97\n", 2),
         ("str0m-media 1\nmedia 12345678901234567 video cam\n", 2),
         ("str0m-media 1\nmedia v-1 video cam\n", 2),
         ("str0m-media 1\nstream A v 42 - -\nmedia v video cam\n", 2),
@@ -452,6 +506,61 @@ fn first_line_outside_is_told(rt: HostRuntime) {
             "at {text:?}"
         );
     }
+}
+
+// Lines behind a stream of SSRC 42 with repairs on 43, the last of which is outside the grammar.
+const OUTSIDE_OF_A_STREAM: [&str; 17] = [
+    "start 42 281474976710657\n",
+    "start 42 -\n",
+    "start 42\n",
+    "start 42 0 0\n",
+    "start 43 0\n",
+    "start 7 0\n",
+    "start 4294967338 0\n",
+    "cache 42 18446744073709551616 0 none\n",
+    "cache 42 2000 18446744073710 none\n",
+    "cache 42 2000 3000ms none\n",
+    "cache 42 2000 3000 4294967296\n",
+    "cache 42 2000 3000 -\n",
+    "cache 42 2000 3000\n",
+    "cache 42 2000 3000 15 none\n",
+    "cache 43 2000 3000 15\n",
+    "cache 7 2000 3000 15\n",
+    "cache - 2000 3000 15\n",
+];
+
+#[test]
+fn lines_of_streams_outside_are_told(rt: HostRuntime) -> Result<(), Fail> {
+    let alloc = rt.alloc();
+    for line in OUTSIDE_OF_A_STREAM {
+        let text = format!(in alloc;
+            "str0m-media 1\nmedia v video cam\nstream A v 42 43 -\n{line}"
+        )?;
+        assert_eq!(rt;
+            syntax(alloc, text.as_bytes()),
+            Some(ScriptError::Syntax(4)),
+            "at {line}"
+        );
+    }
+    for (lines, line) in [
+        ("start 42 1\nstart 42 1\n", 5),
+        ("cache 42 1 1 1\nstart 42 1\ncache 42 1 1 1\n", 6),
+        ("start 42 1\nstart 50 1\nstream B v 50 - -\n", 5),
+        (
+            "cache 42 1 1 1\nstream B v 50 - -\ncache 50 1 1 1\nbegin\nstart 50 1\n",
+            8,
+        ),
+    ] {
+        let text = format!(in alloc;
+            "str0m-media 1\nmedia v video cam\nstream A v 42 43 -\n{lines}"
+        )?;
+        assert_eq!(rt;
+            syntax(alloc, text.as_bytes()),
+            Some(ScriptError::Syntax(line)),
+            "at {lines}"
+        );
+    }
+    Ok(())
 }
 
 // The head of a script with so many media lines, and so many stream lines of the first.
@@ -545,7 +654,11 @@ fn surface_ample(rt: HostRuntime) -> Result<(), Fail> {
     );
     assert_eq!(rt;
         setup.types(alloc)?.as_slice(),
-        [Pt::from(96), Pt::from(255)].as_slice()
+        [Pt::from(96), Pt::from(255), Pt::from(97)].as_slice()
+    );
+    assert_eq!(rt;
+        setup.claimed_types(alloc)?.as_slice(),
+        [Pt::from(96), Pt::from(255), Pt::from(97), Pt::from(255)].as_slice()
     );
     let transcript = one_opened(alloc)?;
     assert!(rt; transcript.genuine(alloc)?);

@@ -1,3 +1,5 @@
+pub mod Asked
+pub mod Asking
 pub mod Compounds
 pub mod Cuts
 pub mod Dues
@@ -5,7 +7,8 @@ pub mod Failing
 pub mod Fitting
 pub mod Heard
 pub mod Others
-pub mod Polls
+pub mod Passing
+pub mod RepairSteps
 pub mod Staying
 pub mod StreamsIn
 pub mod Tables

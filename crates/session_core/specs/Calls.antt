@@ -38,17 +38,20 @@ fresh_session config = record {
     sealing = None;
     opening = None;
     first_index = config.srtcp_index;
-    seen = [];
     tx = [];
     transport = record { exts = config.exts; beginning = config.beginning; twcc = 0 };
     last_round = 0;
+    released = false;
     feedback = [];
     application = None;
     packet = None;
     stopped = false;
   };
   rx = [];
+  originals = [];
   probes = expected 0 None probe_mid None true config.pause_threshold;
+  seen = [];
+  repairs = [];
 }
 
 -- the keys of one end, which seals as the left side of the material or as the right one; the indices of SRTCP datagrams
@@ -87,7 +90,7 @@ abbrev pub one_in : {X : Type 0} → Option X → ℕ
 one_in None = 0
 one_in (Some x) = 1
 
-abbrev pub events_in : {W : Type 0} → SessionView W → ℕ
+abbrev pub events_in : {W S : Type 0} → SessionView W S → ℕ
 events_in s = one_in s.state.application + (untold_in s.rx + one_in s.state.packet)
 
 -- all that is told, in order

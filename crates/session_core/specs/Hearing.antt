@@ -1,12 +1,13 @@
 -- What an RTCP datagram opens to, and what a session makes of it.
-use Rattle.std.specs.Prelude.{ℕ, ◌+◌, ◌-◌, ◌==◌, ◌&&◌, ◌||◌, Bool, nat_lt, nat_le, is_some, if◌then◌else◌, List, [], ◌∷◌, take, Option, Some, None}
+use Rattle.std.specs.Prelude.{◌≡◌, ℕ, ◌+◌, ◌-◌, ◌==◌, ◌&&◌, ◌||◌, Bool, nat_lt, nat_le, is_some, if◌then◌else◌, List, [], ◌∷◌, take, Option, Some, None}
 use Rattle.std.specs.Option.{option_or}
 use Rattle.std.specs.List.{flat_map}
 use Rattle.rtp_base.specs.declared.kind.Kind.TheVariants.{Rtcp}
 use Rattle.rtcp_wire.specs.declared.feedback.AppSpecificFeedback.{AppSpecificFeedback as Application}
 use Rattle.rtcp_wire.specs.declared.extended.DlrrItem.{DlrrItem as Delay}
+use Rattle.rtp_base.specs.declared.nack_entry.NackEntry.{NackEntry}
 use Rattle.rtcp_wire.specs.declared.rtcp_fb.RtcpFb.{RtcpFb}
-use Rattle.rtcp_wire.specs.declared.rtcp_fb.RtcpFb.TheVariants.{ReceptionReport, AppSpecificFeedback, DlrrItem}
+use Rattle.rtcp_wire.specs.declared.rtcp_fb.RtcpFb.TheVariants.{ReceptionReport, Nack, AppSpecificFeedback, DlrrItem}
 use Rattle.rtcp_wire.specs.Items.{items_of}
 use Rattle.rtcp_wire.specs.Streams.{feedback_of}
 use Rattle.srtp_core.specs.Cipher.{CipherMeaning}
@@ -15,7 +16,9 @@ use Rattle.srtp_core.specs.RtcpSeals.{RtcpOpensTo, stated_index, sender_of}
 use Rattle.media_units.specs.Trip.{middle_bits, trip_nanos}
 use Rattle.media_units.specs.Wallclock.{ntp_nanos}
 use Rattle.stream_core.specs.Pauses.{on_record, with_trip}
+use Rattle.stream_core.specs.Repairing.{RepairsRecord}
 use Rattle.stream_core.specs.RxRecord.{RxRecord}
+use Rattle.stream_core.specs.StreamsRecord.{Asked}
 use Rattle.stream_core.specs.Tables.{place_of, each, change_at}
 use Rattle.stream_core.specs.TxRecord.{TxRecord, after_reception}
 use Rattle.session_core.specs.declared.datagram.Opened.{Opened}
@@ -57,6 +60,18 @@ abbrev pub last_application : List RtcpFb → Option Application → Option Appl
 last_application [] before = before
 last_application (f ∷ fs) before = last_application fs (option_or (application_in f) before)
 
+-- what streams send again after an item came: a NACK asks for packets
+pub data AskedBy (now : ℕ) (f : RtcpFb) (qs : List (ℕ × RepairsRecord)) : List (ℕ × RepairsRecord) → Type 0 where
+  by_nack : (ssrc : ℕ) (entries : List NackEntry) (after : List (ℕ × RepairsRecord)) → f ≡ Nack ssrc entries → Asked now ssrc entries qs after
+      → AskedBy now f qs after
+  by_none : ((ssrc : ℕ) (entries : List NackEntry) → f ≡ Nack ssrc entries → ⊥) → AskedBy now f qs qs
+
+-- and after items came, in order
+pub data AskedByAll (now : ℕ) : List RtcpFb → List (ℕ × RepairsRecord) → List (ℕ × RepairsRecord) → Type 0 where
+  asked_none : (qs : List (ℕ × RepairsRecord)) → AskedByAll now [] qs qs
+  asked_next : (f : RtcpFb) (fs : List RtcpFb) (qs between after : List (ℕ × RepairsRecord)) → AskedBy now f qs between
+      → AskedByAll now fs between after → AskedByAll now (f ∷ fs) qs after
+
 -- whether an SSRC is the session's own, or that of a stream that it sends
 abbrev pub is_own : ℕ → List (ℕ × TxRecord) → ℕ → Bool
 is_own local tx ssrc = ssrc == local || is_some (place_of ssrc tx)
@@ -93,14 +108,16 @@ state_heard plain s = record s {
   application = last_application (feedback_in plain) s.application;
 }
 
-abbrev pub after_rtcp : ℕ → List ℕ → SessionRecord → SessionRecord
-after_rtcp now plain r = record r {
+abbrev pub after_rtcp : ℕ → List ℕ → List (ℕ × RepairsRecord) → SessionRecord → SessionRecord
+after_rtcp now plain repairs r = record r {
   state = state_heard plain r.state;
   rx = measured (ntp_of r.state now) (last_delay r.state.local_ssrc r.state.tx (feedback_in plain) None) r.rx;
+  repairs = repairs;
 }
 
 -- what bytes that come as RTCP at a moment make of a session: they open to some packet, or to none
 pub data ReceivesRtcp (cipher : CipherMeaning) (r : SessionRecord) (bytes : List ℕ) (now : ℕ) : SessionRecord → Option Opened → Type 0 where
-  opened : (plain : List ℕ) → RtcpOpensIn cipher r.state.opening bytes plain
-      → ReceivesRtcp cipher r bytes now (after_rtcp now plain r) (Some (rtcp_opening_of r.state.opening bytes plain))
+  opened : (plain : List ℕ) (repairs : List (ℕ × RepairsRecord)) → RtcpOpensIn cipher r.state.opening bytes plain
+      → AskedByAll now (feedback_in plain) r.repairs repairs
+      → ReceivesRtcp cipher r bytes now (after_rtcp now plain repairs r) (Some (rtcp_opening_of r.state.opening bytes plain))
   stays : ((plain : List ℕ) → RtcpOpensIn cipher r.state.opening bytes plain → ⊥) → ReceivesRtcp cipher r bytes now r None

@@ -1,6 +1,5 @@
 -- What a datagram opens to, and what a session makes of it.
-use Rattle.std.specs.Prelude.{◌≡◌, ◌==◌, ◌||◌, ℕ, Bool, true, false, IsTrue, IsSome, is_some, unwrap_or, if◌then◌else◌, nat_lt, slice_get, ◌<◌, ◌^◌, List, [], ◌∷◌, ◌++◌, take, Option, Some, None}
-use Rattle.std.specs.Map.{values_of}
+use Rattle.std.specs.Prelude.{◌≡◌, ◌==◌, ◌||◌, ℕ, Bool, true, false, IsTrue, IsSome, is_some, unwrap_or, if◌then◌else◌, List, ◌++◌, take, drop, option_and_then, Option, Some, None}
 use Rattle.std.specs.Option.{option_map_or}
 use Rattle.rtp_base.specs.declared.kind.Kind.TheVariants.{Rtp}
 use Rattle.rtp_wire.specs.declared.header.RtpHeader.{RtpHeader}
@@ -11,23 +10,14 @@ use Rattle.srtp_core.specs.Contexts.{SrtpState}
 use Rattle.srtp_core.specs.Seals.{OpensTo}
 use Rattle.stream_core.specs.declared.packet.RtpPacket.{RtpPacket}
 use Rattle.stream_core.specs.RxRecord.{RxRecord, fresh_number, opened_as}
-use Rattle.stream_core.specs.StreamsRecord.{accepted}
-use Rattle.stream_core.specs.Tables.{value_under, place_of, change_place, change_at}
+use Rattle.stream_core.specs.StreamsRecord.{accepted, restored_on, restored_number_on}
+use Rattle.stream_core.specs.Tables.{value_under, place_of, change_at}
 use Rattle.stream_core.specs.declared.payload_types.TypeRow.{TypeRow}
 use Rattle.session_core.specs.declared.datagram.Opened.{Opened}
+use Rattle.stream_core.specs.Seen.{seen_of, saw}
+use Rattle.stream_core.specs.RxRepairs.{repair_came, after_restored}
+use Rattle.session_core.specs.Repairs.{repaired_by, repair_accepted, original_number, restored_header}
 use Rattle.session_core.specs.SessionRecord.{SessionRecord}
-
--- the greatest number that opened under an SSRC
-abbrev pub seen_of : ℕ → List (ℕ × ℕ) → Option ℕ
-seen_of ssrc seen = value_under ssrc seen
-
--- one more number opened under an SSRC
-abbrev pub saw : ℕ → ℕ → List (ℕ × ℕ) → List (ℕ × ℕ)
-saw ssrc n seen = option_map_or (change_place (λ m. if nat_lt m n then n else m) seen) (place_of ssrc seen) (seen ++ (ssrc, n) ∷ [])
-
--- the numbers have 48 bits
-abbrev pub AreSmall : List (ℕ × ℕ) → Type 0
-AreSmall seen = (i n : ℕ) → slice_get (values_of seen) i ≡ Some n → n < 2 ^ 48
 
 -- on SSRC 0, under which probes come, all types are taken; on another the types that both ends know
 abbrev pub is_claimed : List (ℕ × TypeRow) → RtpHeader → Bool
@@ -57,13 +47,21 @@ abbrev pub OpensIn : CipherMeaning → Option SrtpState → RtpHeader → ℕ �
 OpensIn cipher None h n bytes payload = ⊥
 OpensIn cipher (Some state) h n bytes payload = OpensTo cipher state.profile state.keys h.ssrc n h.header_len bytes payload
 
--- the bytes open so to some payload: these are the plain datagram, and the payload without its padding
-pub record IsOpening (cipher : CipherMeaning) (opening : Option SrtpState) (h : RtpHeader) (n : ℕ) (bytes plain carried : List ℕ) : Type 0 where
+-- what a datagram carries, and where it is a repair what stands behind the number of the packet that it repairs
+abbrev pub carried_in : Bool → RtpHeader → List ℕ → List ℕ
+carried_in repair h payload = if repair then drop 2 (cut h payload) else cut h payload
+
+abbrev pub original_in : Bool → RtpHeader → List ℕ → Option ℕ
+original_in repair h payload = if repair then original_number (cut h payload) else None
+
+-- the bytes open so to some payload: these are the plain datagram, the number in front of a repair, and what is carried
+pub record IsOpening (cipher : CipherMeaning) (opening : Option SrtpState) (h : RtpHeader) (n : ℕ) (repair : Bool) (bytes plain : List ℕ) (original : Option ℕ) (carried : List ℕ) : Type 0 where
   pub payload : List ℕ
   pub opens : OpensIn cipher opening h n bytes payload
   pub unpads : Unpads h payload
   pub whole : plain ≡ take h.header_len bytes ++ payload
-  pub cuts : carried ≡ cut h payload
+  pub number : original ≡ original_in repair h payload
+  pub cuts : carried ≡ carried_in repair h payload
 
 -- the packet of a datagram that came
 abbrev pub packet_from : ℕ → RtpHeader → ℕ → List ℕ → RtpPacket
@@ -84,12 +82,46 @@ packet_after now h n payload before = if h.ssrc == 0 then before else Some (pack
 abbrev pub after_opened : ℕ → RtpHeader → ℕ → List ℕ → SessionRecord → SessionRecord
 after_opened now h n payload r = record {
   state = record r.state {
-    seen = saw h.ssrc n r.state.seen;
     packet = packet_after now h n (cut h payload) r.state.packet;
   };
-  rx = rx_opened (seen_of h.ssrc r.state.seen) now h.ssrc n r.rx;
-  probes = probes_opened (seen_of h.ssrc r.state.seen) now h.ssrc n r.probes;
+  rx = rx_opened (seen_of h.ssrc r.seen) now h.ssrc n r.rx;
+  originals = r.originals;
+  probes = probes_opened (seen_of h.ssrc r.seen) now h.ssrc n r.probes;
+  seen = saw h.ssrc n r.seen;
+  repairs = r.repairs;
 }
+
+-- a repair of a stream opened at a moment: it counts under the SSRC under which it came, and the stream is not paused
+abbrev pub after_repair : ℕ → RtpHeader → ℕ → ℕ → SessionRecord → SessionRecord
+after_repair now h original n r = record r {
+  rx = change_at original (repair_came (seen_of h.ssrc r.seen) now n) r.rx;
+  seen = saw h.ssrc n r.seen;
+}
+
+-- the packet that waits to be told after one was restored, where its number is fresh
+abbrev pub packet_restored : List (ℕ × TypeRow) → ℕ → RtpHeader → ℕ → List ℕ → Option ℕ → Option RtpPacket → Option RtpPacket
+packet_restored types now h original payload fresh before =
+    option_map_or (λ n. Some (packet_from now (restored_header types original n h) n payload)) fresh before
+
+-- the number of a packet was restored for a stream: it counts under the stream's SSRC, and where it is fresh the packet is
+-- taken and waits to be told
+abbrev pub after_original : ℕ → RtpHeader → ℕ → ℕ → List ℕ → SessionRecord → SessionRecord
+after_original now h original low payload r = record r {
+  state = record r.state {
+    packet = packet_restored r.state.types now h original payload (restored_on (seen_of original r.seen) r.rx original low) r.state.packet;
+  };
+  rx = change_at original (after_restored (seen_of original r.seen) low) r.rx;
+  seen = option_map_or (λ n. saw original n r.seen) (restored_number_on (seen_of original r.seen) r.rx original low) r.seen;
+}
+
+-- the session after both, where the repair carried so much
+abbrev pub after_restoring : ℕ → RtpHeader → ℕ → Option ℕ → List ℕ → SessionRecord → SessionRecord
+after_restoring now h original None payload r = r
+after_restoring now h original (Some low) payload r = after_original now h original low payload r
+
+abbrev pub after_repaired : ℕ → RtpHeader → ℕ → ℕ → List ℕ → SessionRecord → SessionRecord
+after_repaired now h original n payload r =
+    after_restoring now h original (original_number (cut h payload)) (drop 2 (cut h payload)) (after_repair now h original n r)
 
 -- what a datagram opened to: its header's bytes, and its payload with its padding
 abbrev pub opening_of : List ℕ → RtpHeader → ℕ → List ℕ → Opened
@@ -99,13 +131,25 @@ module _ (cipher : CipherMeaning) (r : SessionRecord) (bytes : List ℕ) where
   -- the bytes open under this header and number to this payload
   pub record Opens (h : RtpHeader) (n : ℕ) (payload : List ℕ) : Type 0 where
     pub reads : header_of r.state.transport.exts bytes ≡ Some h
+    pub original : repaired_by r.state.types r.rx r.originals h ≡ None
     pub claimed : is_claimed r.state.types h ≡ true
-    pub accepts : number_of (seen_of h.ssrc r.state.seen) r.rx r.probes h.ssrc h.sequence_number ≡ Some n
+    pub accepts : number_of (seen_of h.ssrc r.seen) r.rx r.probes h.ssrc h.sequence_number ≡ Some n
     pub opens : OpensIn cipher r.state.opening h n bytes payload
     pub unpads : Unpads h payload
 
-  -- what bytes that come at a moment make of a session: they open to some payload, or to none
+  -- the bytes open as a repair of a stream under this header and own number to this payload
+  pub record OpensRepair (h : RtpHeader) (original n : ℕ) (payload : List ℕ) : Type 0 where
+    pub reads : header_of r.state.transport.exts bytes ≡ Some h
+    pub repairs : repaired_by r.state.types r.rx r.originals h ≡ Some original
+    pub accepts : option_and_then (repair_accepted r.seen h) (value_under original r.rx) ≡ Some n
+    pub opens : OpensIn cipher r.state.opening h n bytes payload
+    pub unpads : Unpads h payload
+
+  -- what bytes that come at a moment make of a session: they open to a packet or as a repair, or to nothing
   pub data Receives (now : ℕ) : SessionRecord → Option Opened → Type 0 where
     opened : (h : RtpHeader) (n : ℕ) (payload : List ℕ) → Opens h n payload
         → Receives now (after_opened now h n payload r) (Some (opening_of bytes h n payload))
-    stays : ((h : RtpHeader) (n : ℕ) (payload : List ℕ) → Opens h n payload → ⊥) → Receives now r None
+    repaired : (h : RtpHeader) (original n : ℕ) (payload : List ℕ) → OpensRepair h original n payload
+        → Receives now (after_repaired now h original n payload r) (Some (opening_of bytes h n payload))
+    stays : ((h : RtpHeader) (n : ℕ) (payload : List ℕ) → Opens h n payload → ⊥)
+        → ((h : RtpHeader) (original n : ℕ) (payload : List ℕ) → OpensRepair h original n payload → ⊥) → Receives now r None

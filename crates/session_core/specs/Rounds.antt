@@ -1,5 +1,5 @@
 -- Ticks: rounds that ask for what is missing (RFC 4585 section 6.2.1), and streams that are paused.
-use Rattle.std.specs.Prelude.{ℕ, ◌+◌, ◌-◌, ◌^◌, ◌&&◌, ◌++◌, Bool, nat_le, min, if◌then◌else◌, List, [], ◌∷◌, Option, Some, None}
+use Rattle.std.specs.Prelude.{ℕ, ◌+◌, ◌-◌, ◌^◌, ◌&&◌, ◌++◌, Bool, true, nat_le, min, if◌then◌else◌, List, [], ◌∷◌, Option, Some, None}
 use Rattle.stream_core.specs.Missing.{any_enabled, after_round as stream_after_round, nacks}
 use Rattle.stream_core.specs.Pauses.{checked, on_record}
 use Rattle.stream_core.specs.Tables.{each}
@@ -32,12 +32,16 @@ after_round now r = record r {
 abbrev pub after_asks : ℕ → SessionRecord → SessionRecord
 after_asks now r = if is_round now r then after_round now r else r
 
--- streams are paused on which nothing came for their threshold, and the packets that were written may leave from now on
+-- streams are paused on which nothing came for their threshold, and the packets that were written, and those that are asked
+-- for, may leave from now on
 abbrev pub after_checks : ℕ → SessionRecord → SessionRecord
 after_checks now r = record {
-  state = record r.state { tx = each (stream_after_timeout now) r.state.tx };
+  state = record r.state { tx = each (stream_after_timeout now) r.state.tx; released = true };
   rx = each (on_record (checked now)) r.rx;
+  originals = r.originals;
   probes = on_record (checked now) r.probes;
+  seen = r.seen;
+  repairs = r.repairs;
 }
 
 -- a tick: which streams ask is said by what was before it

@@ -1,6 +1,8 @@
 -- The record of a session.
 use Rattle.std.specs.Prelude.{◌≡◌, ℕ, Bool, Option, List}
 use Rattle.session_core.specs.declared.media.MediaKind.{MediaKind}
+use Rattle.stream_core.specs.Seen.{SeenStandsFor}
+use Rattle.rtp_base.specs.declared.window.SeqNoWindow.{SeqNoWindow}
 use Rattle.srtp_core.specs.Contexts.{SrtpState}
 use Rattle.repair_core.specs.Rounds.{Heard}
 use Rattle.stream_core.specs.declared.packet.RtpPacket.{RtpPacket}
@@ -11,6 +13,9 @@ use Rattle.stream_core.specs.TxRecord.{TxRecord}
 use Rattle.rtcp_wire.specs.declared.packet.Rtcp.{Rtcp}
 use Rattle.rtcp_wire.specs.declared.feedback.AppSpecificFeedback.{AppSpecificFeedback}
 use Rattle.stream_core.specs.declared.payload_types.TypeRow.{TypeRow}
+use Rattle.stream_core.specs.Repairing.{SentPacket, RepairsView, RepairsRecord, RepairsStandFor}
+use Rattle.stream_core.specs.StreamsRecord.{StreamsRecord}
+use Rattle.resend_core.specs.ResendStore.{Past}
 
 -- a media section: its mid, its kind, and the canonical name of its sources
 pub record MediaRecord : Type 0 where
@@ -22,8 +27,9 @@ pub record MediaRecord : Type 0 where
 -- its feedback has where it sends on no stream; for how long nothing comes on an incoming stream until it is paused, where
 -- nothing else is set; mid and place of the data channel; the payload types, each under its number; the media sections; the
 -- contexts that seal and open, once there are keys; the index of the first SRTCP datagram under the keys that are set next;
--- the greatest number that opened under each SSRC; the outgoing streams, each under its SSRC, and what they share; the
--- moment of the last round in which it asked for what is missing, at first 0; the feedback that waits to be sent; the
+-- the outgoing streams, each under its SSRC, and what they share; the
+-- moment of the last round in which it asked for what is missing, at first 0; whether there was a tick since a poll gave no
+-- packet, so that packets that are asked for may leave; the feedback that waits to be sent; the
 -- feedback of an application and the packet that came and wait to be told; and whether an error stopped it
 pub record SessionState : Type 0 where
   pub id : ℕ
@@ -36,27 +42,42 @@ pub record SessionState : Type 0 where
   pub sealing : Option SrtpState
   pub opening : Option SrtpState
   pub first_index : ℕ
-  pub seen : List (ℕ × ℕ)
   pub tx : List (ℕ × TxRecord)
   pub transport : Transport
   pub last_round : ℕ
+  pub released : Bool
   pub feedback : List Rtcp
   pub application : Option AppSpecificFeedback
   pub packet : Option RtpPacket
   pub stopped : Bool
 
--- a session as its callers see it: incoming streams each under its SSRC, and the one of SSRC 0, on which probes come
-pub record SessionView (W : Type 0) : Type 0 where
+-- a session as its callers see it: incoming streams each under its SSRC; under each SSRC of repairs that comes, the SSRC of
+-- the stream that is repaired; the stream of SSRC 0, on which probes come; the numbers that opened under each SSRC; and what
+-- the outgoing streams that have repairs send again, each under its SSRC
+pub record SessionView (W S : Type 0) : Type 0 where
   pub state : SessionState
   pub rx : List (ℕ × RxView W)
+  pub originals : List (ℕ × ℕ)
   pub probes : RxView W
+  pub seen : List (ℕ × SeqNoWindow)
+  pub repairs : List (ℕ × RepairsView S)
 
 pub record SessionRecord : Type 0 where
   pub state : SessionState
   pub rx : List (ℕ × RxRecord)
+  pub originals : List (ℕ × ℕ)
   pub probes : RxRecord
+  pub seen : List (ℕ × List ℕ)
+  pub repairs : List (ℕ × RepairsRecord)
 
-pub record StandsFor {W : Type 0} (remembers : W → Heard → Type 0) (s : SessionView W) (r : SessionRecord) : Type 0 where
+pub record StandsFor {W S : Type 0} (remembers : W → Heard → Type 0) (stands_for : S → Past SentPacket → Type 0) (s : SessionView W S) (r : SessionRecord) : Type 0 where
   pub state : s.state ≡ r.state
   pub rx : Along (RxStandsFor remembers) s.rx r.rx
+  pub originals : s.originals ≡ r.originals
   pub probes : RxStandsFor remembers s.probes r.probes
+  pub seen : SeenStandsFor s.seen r.seen
+  pub repairs : Along (RepairsStandFor stands_for) s.repairs r.repairs
+
+-- its streams
+abbrev pub streams_in : SessionRecord → StreamsRecord
+streams_in r = record { threshold = r.state.pause_threshold; rx = r.rx; originals = r.originals; tx = r.state.tx; repairs = r.repairs }

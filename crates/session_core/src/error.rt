@@ -1,6 +1,7 @@
 ghost use Rattle.std.specs.Prelude.{◌≡◌};
 ghost use Rattle.session_core.specs.declared.error.RtcError.TheVariants.{Memory};
 
+use rtp_base::Ssrc;
 use srtp_core::Counter;
 use std::alloc::AllocError;
 use thiserror::Error;
@@ -11,12 +12,16 @@ pub enum RtcError {
     /// There is no memory left. The session is stopped then.
     #[error("out of memory")]
     Memory,
-    /// An earlier call answered `Memory` or `KeyExhausted`.
+    /// An earlier call answered `Memory`, `KeyExhausted` or `RepairsExhausted`.
     #[error("the session is stopped")]
     Stopped,
     /// A datagram was due behind the last number that its key can seal. The session is stopped then.
     #[error("a key has no number left")]
     KeyExhausted(Counter),
+    /// A packet that the peer asked for was due, and the 2^48 numbers of the repairs of its stream, under
+    /// this SSRC, were used. The session is stopped then.
+    #[error("the numbers of repairs are used up")]
+    RepairsExhausted(Ssrc),
     /// The keying material has another length than the profile's.
     #[error("the keying material has another length than the profile's")]
     KeyLength,

@@ -1,16 +1,18 @@
-ghost use Rattle.std.specs.Prelude.{◌≡◌, ◌≤◌, ℕ, List, None, length, IfOk, IfSome, IfNone};
+ghost use Rattle.std.specs.Prelude.{◌≡◌, ◌≤◌, ℕ, List, None, length, IfOk, IfSome, IfNone, OnOk};
+ghost use Rattle.stream_core.specs.Repairing.{RepairsRecord};
 ghost use Rattle.stream_core.specs.StreamsRecord.{StreamsRecord, StandsFor};
-ghost use Rattle.session_core.specs.Hearing.{RtcpOpensIn, stated, feedback_in, acknowledged_by, acknowledged, application_in, last_application, is_own, last_delay, trip_of, measured};
+ghost use Rattle.session_core.specs.Hearing.{RtcpOpensIn, stated, feedback_in, acknowledged_by, acknowledged, application_in, last_application, AskedBy, AskedByAll, is_own, last_delay, trip_of, measured};
 
-use media_base::{Duration, calculate_rtt};
+use media_base::{Duration, Instant, calculate_rtt};
 use repair_core::GapWindow;
+use resend_core::ResendStore;
 use rtcp_wire::{AppSpecificFeedback, DlrrItem, Rtcp, RtcpFb};
 use rtp_base::Ssrc;
 use srtp_core::laws::rtcp_seal_keeps_header;
 use srtp_core::{SrtpCipher, SrtpContext};
 use std::alloc::{AllocError, Global};
 use std::collections::VecDeque;
-use stream_core::Streams;
+use stream_core::{Sent, Streams};
 
 /// What bytes opened to as RTCP.
 #[derive(Drop)]
@@ -68,7 +70,7 @@ pub fn feedback_in(alloc: Global, plain: &[u8]) -> Result<Vec<RtcpFb>, AllocErro
 }
 
 /// Has a reception block tell the stream that it reports on that the peer knows its SSRC.
-fn acknowledge<W: GapWindow>(item: &RtcpFb, streams: &mut Streams<W>)
+fn acknowledge<W: GapWindow, S: ResendStore<Sent>>(item: &RtcpFb, streams: &mut Streams<W, S>)
     ensures { streams.new ≡ record streams.old { tx = acknowledged_by item.now streams.old.tx } }
 {
     if let RtcpFb::ReceptionReport(report) = item {
@@ -90,9 +92,9 @@ fn application_in(item: RtcpFb) -> Option<AppSpecificFeedback>
 
 /// Has feedback change what it concerns: a reception block the stream that it reports on, feedback of an
 /// application what is told next.
-pub fn hear<W: GapWindow>(
+pub fn hear<W: GapWindow, S: ResendStore<Sent>>(
     feedback: Vec<RtcpFb>,
-    streams: &mut Streams<W>,
+    streams: &mut Streams<W, S>,
     application: &mut Option<AppSpecificFeedback>,
 )
     ensures streams { streams.new ≡ record streams.old { tx = acknowledged feedback.items streams.old.tx } }
@@ -104,17 +106,55 @@ pub fn hear<W: GapWindow>(
     }
 }
 
+/// Has a NACK ask a stream for packets. Without memory nothing changes.
+fn ask<W: GapWindow, S: ResendStore<Sent>>(
+    item: &RtcpFb,
+    streams: &mut Streams<W, S>,
+    now: Instant,
+) -> Result<(), AllocError>
+    ensures ok { OnOk result ((r : StreamsRecord) → StandsFor W.remembers S.stands_for streams.old r
+        → (after : List (ℕ × RepairsRecord)) × AskedBy now item.now r.repairs after
+        × StandsFor W.remembers S.stands_for streams.new (record r { repairs = after })) }
+    ensures others { streams.new ≡ record streams.old { repairs = streams.new.repairs } }
+{
+    if let RtcpFb::Nack(ssrc, entries) = item {
+        streams.handle_nack(*ssrc, entries.as_slice(), now)?;
+    }
+    Ok(())
+}
+
+/// Has the NACKs of feedback ask streams for packets, in order.
+pub fn ask_all<W: GapWindow, S: ResendStore<Sent>>(
+    feedback: &[RtcpFb],
+    streams: &mut Streams<W, S>,
+    now: Instant,
+) -> Result<(), AllocError>
+    ensures ok { OnOk result ((r : StreamsRecord) → StandsFor W.remembers S.stands_for streams.old r
+        → (after : List (ℕ × RepairsRecord)) × AskedByAll now feedback.now r.repairs after
+        × StandsFor W.remembers S.stands_for streams.new (record r { repairs = after })) }
+    ensures others { streams.new ≡ record streams.old { repairs = streams.new.repairs } }
+{
+    for item in feedback {
+        ask(item, streams, now)?;
+    }
+    Ok(())
+}
+
 /// Whether an SSRC is the session's own, or that of a stream that it sends.
-fn is_own<W: GapWindow>(local_ssrc: Ssrc, streams: &Streams<W>, ssrc: Ssrc) -> bool
+fn is_own<W: GapWindow, S: ResendStore<Sent>>(
+    local_ssrc: Ssrc,
+    streams: &Streams<W, S>,
+    ssrc: Ssrc,
+) -> bool
     ensures { result ≡ is_own local_ssrc streams.now.tx ssrc }
 {
     ssrc == local_ssrc || streams.tx_place(ssrc).is_some()
 }
 
 /// The last item that tells how long ago a moment of the session came in (RFC 3611 section 4.5).
-pub fn last_delay<W: GapWindow>(
+pub fn last_delay<W: GapWindow, S: ResendStore<Sent>>(
     local_ssrc: Ssrc,
-    streams: &Streams<W>,
+    streams: &Streams<W, S>,
     feedback: &[RtcpFb],
 ) -> Option<DlrrItem>
     ensures { result ≡ last_delay local_ssrc streams.now.tx feedback.now None }
@@ -139,11 +179,17 @@ fn trip(ntp: Duration, delay: &DlrrItem) -> Option<Duration>
 
 /// Has the incoming streams know the round trip that an item tells, if there is one, at a moment, given
 /// from 1900.
-pub fn measure<W: GapWindow>(ntp: Duration, delay: &Option<DlrrItem>, streams: &mut Streams<W>)
-    ensures streams { (r : StreamsRecord) → StandsFor W.remembers streams.old r
-        → StandsFor W.remembers streams.new (record r { rx = measured ntp delay.now r.rx }) }
+pub fn measure<W: GapWindow, S: ResendStore<Sent>>(
+    ntp: Duration,
+    delay: &Option<DlrrItem>,
+    streams: &mut Streams<W, S>,
+)
+    ensures streams { (r : StreamsRecord) → StandsFor W.remembers S.stands_for streams.old r
+        → StandsFor W.remembers S.stands_for streams.new (record r { rx = measured ntp delay.now r.rx }) }
     ensures tx { streams.new.tx ≡ streams.old.tx }
+    ensures repairs { streams.new.repairs ≡ streams.old.repairs }
     ensures threshold { streams.new.threshold ≡ streams.old.threshold }
+    ensures originals { streams.new.originals ≡ streams.old.originals }
 {
     if let Some(delay) = delay {
         streams.set_trip(trip(ntp, delay));

@@ -9,7 +9,7 @@ mod feedback;
 mod hearing;
 mod media;
 mod receiving;
-mod seen;
+mod restoring;
 mod sending;
 mod session;
 

@@ -1,25 +1,31 @@
-ghost use Rattle.std.specs.Prelude.{◌≡◌, ◌==◌, ◌<◌, ◌^◌, ◌%◌, ℕ, List, ◌++◌, Some, take, length, is_none, IfOk, IfSome, IfNone, OnOk, OnErr};
+ghost use Rattle.std.specs.Prelude.{◌≡◌, ◌==◌, ◌<◌, ◌^◌, ◌%◌, ℕ, List, ◌++◌, Some, None, take, drop, length, is_none, if◌then◌else◌, IfOk, IfSome, IfNone, OnOk, OnErr};
 ghost use Rattle.std.specs.Option.{ForSome, option_map};
 ghost use Rattle.srtp_core.specs.Seals.{OpensTo};
 ghost use Rattle.stream_core.specs.RxRecord.{RxRecord, StandsFor};
-ghost use Rattle.stream_core.specs.Tables.{Along, place_of};
+ghost use Rattle.stream_core.specs.StreamsRecord.{StreamsRecord, StandsFor as StreamsStand};
+ghost use Rattle.stream_core.specs.Tables.{place_of};
 ghost use Rattle.session_core.specs.Receiving.{Unpads, OpensIn, IsOpening, cut, number_of, rx_opened, probes_opened, is_claimed, packet_from, packet_after};
+ghost use Rattle.session_core.specs.Repairs.{original_number};
 
 use media_base::{Bytes, Instant};
 use repair_core::GapWindow;
+use resend_core::ResendStore;
 use rtp_base::{Frequency, MediaTime, SeqNo, Ssrc};
 use rtp_wire::RtpHeader;
 use srtp_core::laws::rtp_opens_once;
 use srtp_core::{SrtpCipher, SrtpContext};
 use std::alloc::{AllocError, Global};
-use stream_core::{Payload, PayloadTypes, RtpPacket, StreamRx, Streams};
+use stream_core::{Payload, PayloadTypes, RtpPacket, Sent, StreamRx, Streams};
 
 /// What bytes opened to.
 #[derive(Debug, Drop)]
 pub struct Opening {
     /// The header's bytes, and the payload with its padding.
     pub plain: Bytes,
-    /// The payload without its padding.
+    /// Of a repair, the low 16 bits of the number of the packet that it repairs (RFC 4588 section 4), if
+    /// its payload has so many.
+    pub original: Option<u16>,
+    /// The payload without its padding; of a repair what stands behind that number.
     pub payload: Payload,
 }
 
@@ -43,6 +49,30 @@ fn cut_payload<'a>(header: &RtpHeader, payload: &'a [u8]) -> Option<&'a [u8]>
     }
 }
 
+/// The number in front of what a repair carries, if there are two bytes, and what stands behind it.
+fn split_original(carried: &[u8]) -> (Option<u16>, &[u8])
+    ensures number { result.0 ≡ original_number carried.now }
+    ensures rest { result.1.now ≡ drop 2 carried.now }
+{
+    if carried.len() < 2 {
+        return (None, &carried[carried.len()..]);
+    }
+    let number = u16::from_be_bytes([carried[0], carried[1]]);
+    (Some(number), &carried[2..])
+}
+
+/// What a datagram carries, split where it is a repair.
+fn split_carried(repair: bool, carried: &[u8]) -> (Option<u16>, &[u8])
+    ensures number { result.0 ≡ (if repair then original_number carried.now else None) }
+    ensures rest { result.1.now ≡ (if repair then drop 2 carried.now else carried.now) }
+{
+    if repair {
+        split_original(carried)
+    } else {
+        (None, carried)
+    }
+}
+
 /// Opens bytes under a number.
 fn open_with<C: SrtpCipher>(
     alloc: Global,
@@ -50,10 +80,11 @@ fn open_with<C: SrtpCipher>(
     bytes: &[u8],
     header: &RtpHeader,
     number: SeqNo,
+    repair: bool,
 ) -> Result<Option<Opening>, AllocError>
     requires index { number < 2 ^ 48 }
     requires low { number % 65536 ≡ header.now.sequence_number }
-    ensures opened { IfOk result (λ r. IfSome r (λ o. IsOpening C.meaning (Some context.old) header.now number bytes.now o.plain o.payload)) }
+    ensures opened { IfOk result (λ r. IfSome r (λ o. IsOpening C.meaning (Some context.old) header.now number repair bytes.now o.plain o.original o.payload)) }
     ensures none { IfOk result (λ r. IfNone r ((p : List ℕ) → OpensIn C.meaning (Some context.old) header.now number bytes.now p → Unpads header.now p → ⊥)) }
     ensures same { context.new ≡ context.old }
 {
@@ -68,9 +99,11 @@ fn open_with<C: SrtpCipher>(
     let mut plain = Vec::with_capacity(alloc, bytes.len())?;
     plain.extend_from_slice(&bytes[..front])?;
     plain.extend_from_slice(payload)?;
+    let (original, carried) = split_carried(repair, cut);
     Ok(Some(Opening {
         plain: Bytes::from_vec(plain),
-        payload: Payload::from_slice(alloc, cut)?,
+        original,
+        payload: Payload::from_slice(alloc, carried)?,
     }))
 }
 
@@ -81,31 +114,32 @@ pub fn open<C: SrtpCipher>(
     bytes: &[u8],
     header: &RtpHeader,
     number: SeqNo,
+    repair: bool,
 ) -> Result<Option<Opening>, AllocError>
     requires index { number < 2 ^ 48 }
     requires low { number % 65536 ≡ header.now.sequence_number }
-    ensures opened { IfOk result (λ r. IfSome r (λ o. IsOpening C.meaning opening.old header.now number bytes.now o.plain o.payload)) }
+    ensures opened { IfOk result (λ r. IfSome r (λ o. IsOpening C.meaning opening.old header.now number repair bytes.now o.plain o.original o.payload)) }
     ensures none { IfOk result (λ r. IfNone r ((p : List ℕ) → OpensIn C.meaning opening.old header.now number bytes.now p → Unpads header.now p → ⊥)) }
     ensures same { opening.new ≡ opening.old }
 {
     match opening {
-        Some(context) => open_with(alloc, context, bytes, header, number),
+        Some(context) => open_with(alloc, context, bytes, header, number, repair),
         None => Ok(None),
     }
 }
 
 /// Where the stream of an SSRC stands, None on SSRC 0, and the number under which its datagram with these
 /// low 16 bits may open.
-pub fn accepts<W: GapWindow>(
+pub fn accepts<W: GapWindow, S: ResendStore<Sent>>(
     ssrc: Ssrc,
     low: u16,
     remembered: &Option<SeqNo>,
-    streams: &Streams<W>,
+    streams: &Streams<W, S>,
     probes: &StreamRx<W>,
 ) -> Option<(Option<usize>, SeqNo)>
     requires { ForSome remembered.now (λ n. n < 2 ^ 48) }
-    ensures number { (rx : List (ℕ × RxRecord)) (p : RxRecord) → Along (StandsFor W.remembers) streams.now.rx rx → StandsFor W.remembers probes.now p
-        → option_map (λ f. f.1) result ≡ number_of remembered.now rx p ssrc low }
+    ensures number { (r : StreamsRecord) (p : RxRecord) → StreamsStand W.remembers S.stands_for streams.now r → StandsFor W.remembers probes.now p
+        → option_map (λ f. f.1) result ≡ number_of remembered.now r.rx p ssrc low }
     ensures probe { IfSome result (λ f. is_none f.0 ≡ (ssrc == 0)) }
     ensures place { IfSome result (λ f. IfSome f.0 (λ i. place_of ssrc streams.now.rx ≡ Some i)) }
     ensures within { IfSome result (λ f. IfSome f.0 (λ i. i < length streams.now.rx)) }
@@ -126,24 +160,26 @@ pub fn accepts<W: GapWindow>(
 
 /// Has the stream at a place, or with none that of SSRC 0, take a number under which a datagram opened at
 /// a moment.
-pub fn take<W: GapWindow>(
+pub fn take<W: GapWindow, S: ResendStore<Sent>>(
     place: Option<usize>,
     now: Instant,
     number: SeqNo,
     remembered: &Option<SeqNo>,
-    streams: &mut Streams<W>,
+    streams: &mut Streams<W, S>,
     probes: &mut StreamRx<W>,
 ) -> Result<(), AllocError>
     requires place { IfSome place (λ i. i < length streams.old.rx) }
     requires number { number < 2 ^ 48 }
     requires remembered { ForSome remembered.now (λ n. n < 2 ^ 48) }
-    ensures rx { OnOk result ((rx : List (ℕ × RxRecord)) (ssrc : ℕ) → Along (StandsFor W.remembers) streams.old.rx rx
+    ensures rx { OnOk result ((r : StreamsRecord) (ssrc : ℕ) → StreamsStand W.remembers S.stands_for streams.old r
         → is_none place ≡ (ssrc == 0) → IfSome place (λ i. place_of ssrc streams.old.rx ≡ Some i)
-        → Along (StandsFor W.remembers) streams.new.rx (rx_opened remembered.now now ssrc number rx)) }
+        → StreamsStand W.remembers S.stands_for streams.new (record r { rx = rx_opened remembered.now now ssrc number r.rx })) }
     ensures probes { OnOk result ((p : RxRecord) (ssrc : ℕ) → StandsFor W.remembers probes.old p → is_none place ≡ (ssrc == 0)
         → StandsFor W.remembers probes.new (probes_opened remembered.now now ssrc number p)) }
     ensures tx { streams.new.tx ≡ streams.old.tx }
+    ensures repairs { streams.new.repairs ≡ streams.old.repairs }
     ensures threshold { streams.new.threshold ≡ streams.old.threshold }
+    ensures originals { streams.new.originals ≡ streams.old.originals }
     ensures err { OnErr result ((streams.new ≡ streams.old) × (probes.new ≡ probes.old)) }
 {
     match place {
@@ -154,7 +190,7 @@ pub fn take<W: GapWindow>(
 }
 
 /// The packet of a datagram that came. Its RTP time is in ticks of 1 s, since its clock is not known.
-fn packet_from(now: Instant, header: &RtpHeader, number: SeqNo, payload: Payload) -> RtpPacket
+pub fn packet_from(now: Instant, header: &RtpHeader, number: SeqNo, payload: Payload) -> RtpPacket
     ensures { result ≡ packet_from now header.now number payload }
 {
     RtpPacket {

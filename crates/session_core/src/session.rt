@@ -14,25 +14,25 @@ mod ticks;
 use crate::config::SessionConfig;
 use crate::error::{AppError, RtcError};
 use crate::media::Media;
-use crate::seen::Seen;
 use crate::sending::has_mid;
 use media_base::{Instant, already_happened};
 use repair_core::GapWindow;
+use resend_core::ResendStore;
 use rtcp_wire::{AppSpecificFeedback, Rtcp};
 use rtp_base::{Mid, MidRid, SessionId, Ssrc};
 use srtp_core::{KeyingMaterial, SrtpCipher, SrtpContext, SrtpError, SrtpProfile};
 use std::alloc::Global;
 use std::collections::VecDeque;
 use std::marker::Model;
-use stream_core::{PayloadTypes, RtpPacket, StreamRx, Streams, Transport};
+use stream_core::{PayloadTypes, RtpPacket, Seen, Sent, StreamRx, Streams, Transport};
 
 /// What one end of a connection sends and receives: contexts that seal and open, streams, and media
 /// sections. It does no input or output: it is handed the datagrams that come and the moments of ticks,
 /// and is asked for what leaves. Without keys nothing opens or leaves, and at moment 0 nothing leaves.
-/// After a call answered `RtcError::Memory` or `KeyExhausted` each call that can answer an `RtcError`
-/// answers `Stopped`.
+/// After a call answered `RtcError::Memory`, `KeyExhausted` or `RepairsExhausted` each call that can
+/// answer an `RtcError` answers `Stopped`.
 #[derive(Drop)]
-pub struct Session<C: SrtpCipher, W: GapWindow> {
+pub struct Session<C: SrtpCipher, W: GapWindow, S: ResendStore<Sent>> {
     alloc: Global,
     id: SessionId,
     // The most bytes of a sealed compound.
@@ -46,12 +46,14 @@ pub struct Session<C: SrtpCipher, W: GapWindow> {
     opening: Option<SrtpContext<C>>,
     // The index of the first SRTCP datagram under the keys that are set next.
     first_index: u64,
-    streams: Streams<W>,
+    streams: Streams<W, S>,
     probes: StreamRx<W>,
     seen: Seen,
     transport: Transport,
     // When it asked last for what is missing, at first 0.
     last_round: Instant,
+    // Whether what peers asked for may leave: there was a tick since a poll gave no packet.
+    released: bool,
     feedback: VecDeque<Rtcp>,
     application: Option<AppSpecificFeedback>,
     packet: Option<RtpPacket>,
@@ -60,11 +62,11 @@ pub struct Session<C: SrtpCipher, W: GapWindow> {
     next_stream: usize,
 }
 
-impl<C: SrtpCipher, W: GapWindow> Model for Session<C, W> {
+impl<C: SrtpCipher, W: GapWindow, S: ResendStore<Sent>> Model for Session<C, W, S> {
     ghost use Rattle.session_core.specs.SessionRecord.{SessionView};
     ghost use Rattle.session_core.specs.Sending.{KeepsOrder};
 
-    ghost Value = { SessionView W };
+    ghost Value = { SessionView W S };
 
     ghost view = { λ s. record {
       state = record {
@@ -78,20 +80,23 @@ impl<C: SrtpCipher, W: GapWindow> Model for Session<C, W> {
         sealing = s.sealing;
         opening = s.opening;
         first_index = s.first_index;
-        seen = s.seen;
         tx = s.streams.tx;
         transport = s.transport;
         last_round = s.last_round;
+        released = s.released;
         feedback = s.feedback.items;
         application = s.application;
         packet = s.packet;
         stopped = s.stopped;
       };
       rx = s.streams.rx;
+      originals = s.streams.originals;
       probes = s.probes;
+      seen = s.seen;
+      repairs = s.streams.repairs;
     } };
 
-    ghost invariant = { λ s. KeepsOrder s.next_stream s.target s.first_index s.medias.items s.streams.tx s.feedback.items };
+    ghost invariant = { λ s. KeepsOrder s.next_stream s.target s.first_index s.medias.items s.released s.streams.repairs s.streams.tx s.feedback.items };
 }
 
 /// The media section that the stream of probes is told to have.
@@ -131,14 +136,14 @@ fn contexts<C: SrtpCipher>(
     Ok(BothWays { sealing, opening })
 }
 
-impl<C: SrtpCipher, W: GapWindow> Session<C, W> {
+impl<C: SrtpCipher, W: GapWindow, S: ResendStore<Sent>> Session<C, W, S> {
     /// A session without keys, streams and media sections. Takes no memory.
     pub fn new(alloc: Global, config: SessionConfig) -> Self
         requires target { 900 ≤ config.mtu.target }
         requires order { config.mtu.target ≤ config.mtu.warn }
         requires warn { config.mtu.warn ≤ 1500 }
         requires index { config.srtcp_index ≤ 2 ^ 31 }
-        ensures { StandsFor W.remembers result (fresh_session config) }
+        ensures { StandsFor W.remembers S.stands_for result (fresh_session config) }
     {
         Session {
             alloc,
@@ -167,6 +172,7 @@ impl<C: SrtpCipher, W: GapWindow> Session<C, W> {
                 twcc: 0,
             },
             last_round: already_happened(),
+            released: false,
             feedback: VecDeque::new(alloc),
             application: None,
             packet: None,
@@ -176,7 +182,7 @@ impl<C: SrtpCipher, W: GapWindow> Session<C, W> {
     }
 }
 
-impl<C: SrtpCipher, W: GapWindow> Session<C, W> {
+impl<C: SrtpCipher, W: GapWindow, S: ResendStore<Sent>> Session<C, W, S> {
     ghost use Rattle.session_core.specs.declared.error.RtcError.TheVariants.{Stopped, Memory, KeyLength};
     ghost use Rattle.session_core.specs.Calls.{keyed};
 
@@ -185,7 +191,7 @@ impl<C: SrtpCipher, W: GapWindow> Session<C, W> {
     /// configured one under the first keys, and with 0 under later ones.
     ///
     /// # Errors
-    /// `Stopped` where an earlier call answered `Memory` or `KeyExhausted`; `KeyLength` where the material has another
+    /// `Stopped` where an earlier call stopped the session; `KeyLength` where the material has another
     /// length than the profile's, and then nothing changes; `Memory`.
     pub fn set_keying_material(
         &mut self,
@@ -229,7 +235,7 @@ impl<C: SrtpCipher, W: GapWindow> Session<C, W> {
     /// Adds a media section behind the others.
     ///
     /// # Errors
-    /// `Stopped` where an earlier call answered `Memory` or `KeyExhausted`; `Memory`.
+    /// `Stopped` where an earlier call stopped the session; `Memory`.
     pub fn add_media(&mut self, media: Media) -> Result<(), RtcError>
         ensures stopped { IsErrOf result Stopped ↔ IsTrue self.old.state.stopped }
         ensures ok { OnOk result (self.new ≡ record self.old { state = record self.old.state { medias = self.old.state.medias ++ media ∷ [] } }) }
@@ -331,14 +337,16 @@ impl<C: SrtpCipher, W: GapWindow> Session<C, W> {
     }
 }
 
-impl<C: SrtpCipher, W: GapWindow> Session<C, W> {
+impl<C: SrtpCipher, W: GapWindow, S: ResendStore<Sent>> Session<C, W, S> {
     ghost use Rattle.std.specs.Borrow.{sem};
     ghost use Rattle.session_core.specs.LendingStreams.{LendsStreams};
 
     /// The streams, to be changed.
-    pub fn streams(&mut self) -> &mut Streams<W>
-        ensures* writes_back { sem 𝓛 (LendsStreams C.row C.Key128.row C.Key256.row W.row C.SrtpCipher W.GapWindow self.entry result) }
+    pub fn streams(&mut self) -> &mut Streams<W, S>
+        ensures* writes_back { sem 𝓛 (LendsStreams C.row C.Key128.row C.Key256.row W.row S.row C.SrtpCipher W.GapWindow S.ResendStore self.entry result) }
         ensures rx { result.now.rx ≡ self.old.rx }
+        ensures originals { result.now.originals ≡ self.old.originals }
+        ensures repairs { result.now.repairs ≡ self.old.repairs }
         ensures tx { result.now.tx ≡ self.old.state.tx }
         ensures threshold { result.now.threshold ≡ self.old.state.pause_threshold }
     {

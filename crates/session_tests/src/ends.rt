@@ -2,15 +2,16 @@ ghost use Rattle.std.specs.Prelude.{◌≤◌, ◌^◌, IfOk};
 
 use mask_register::MaskRegister;
 use media_base::{Beginning, Bytes, Duration, Instant};
+use queue_store::QueueStore;
 use rtp_base::{Frequency, Mid, MidRid, Pt, Rid, Ssrc};
 use rtp_wire::ExtensionMap;
 use session_core::{Media, MediaKind, Mtu, RtcError, Session, SessionConfig};
 use srtp_core::{KeyingMaterial, SrtpProfile, ToyCipher};
 use std::alloc::Global;
-use stream_core::{PayloadTypes, TypeRow};
+use stream_core::{PayloadTypes, Sent, TypeRow};
 
 /// One end with the toy cipher.
-pub type End = Session<ToyCipher, MaskRegister>;
+pub type End = Session<ToyCipher, MaskRegister, QueueStore<Sent>>;
 
 /// The moment of all calls: one second and a half after the beginning.
 pub fn moment() -> Instant {
@@ -91,4 +92,12 @@ pub fn expect_stream(end: &mut End) -> Result<(), RtcError> {
     end.streams()
         .expect_stream_rx(Ssrc::from(42), None, mid_rid, false)?;
     Ok(())
+}
+
+/// Whether a call ended with this error.
+pub fn ended_with<T>(answer: &Result<T, RtcError>, error: &RtcError) -> bool {
+    match answer {
+        Err(found) => found == error,
+        Ok(_) => false,
+    }
 }

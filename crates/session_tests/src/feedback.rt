@@ -1,4 +1,4 @@
-use crate::ends::{End, give_keys, moment};
+use crate::ends::{End, ended_with, give_keys, moment};
 use crate::leaving::{drains, sends, write};
 use crate::packets::{SEALED, seal_feedback};
 use media_base::Bytes;
@@ -171,14 +171,11 @@ fn ends_at_last_index(alloc: Global, a: &mut End) -> Result<bool, Fail> {
         None => false,
     };
     queue_one(alloc, a)?;
-    let ended = match a.poll_datagram(moment()) {
-        Err(error) => error == RtcError::KeyExhausted(Counter::Rtcp),
-        Ok(_) => false,
-    };
-    let stopped = match a.poll_datagram(moment()) {
-        Err(error) => error == RtcError::Stopped,
-        Ok(_) => false,
-    };
+    let ended = ended_with(
+        &a.poll_datagram(moment()),
+        &RtcError::KeyExhausted(Counter::Rtcp),
+    );
+    let stopped = ended_with(&a.poll_datagram(moment()), &RtcError::Stopped);
     Ok(sealed && ended && stopped)
 }
 

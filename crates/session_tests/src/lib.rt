@@ -17,6 +17,10 @@ mod packets;
 #[cfg(test)]
 mod repairs;
 #[cfg(test)]
+mod restored;
+#[cfg(test)]
+mod restoring;
+#[cfg(test)]
 mod rounds;
 #[cfg(test)]
 mod steps;

@@ -54,6 +54,22 @@ fn seal(alloc: Global, plain: &[u8]) -> Result<Vec<u8>, Fail> {
     Ok(sealed)
 }
 
+/// Seals a packet of this number as the sender does; one that begins with another number is nothing.
+pub fn seal_numbered(alloc: Global, plain: &[u8], number: u64) -> Result<Vec<u8>, Fail> {
+    let mut context = context(alloc, true)?;
+    let Some(header) = RtpHeader::parse(plain, &ExtensionMap::empty()) else {
+        return Ok(Vec::new(alloc));
+    };
+    if header.header_len > plain.len() || number >= 1 << 48 {
+        return Ok(Vec::new(alloc));
+    }
+    if number % 65_536 != u64::from(header.sequence_number) {
+        return Ok(Vec::new(alloc));
+    }
+    let sealed = context.protect_rtp(plain, &header, number)?;
+    Ok(sealed)
+}
+
 /// Seals a packet of feedback as the receiver does, under the index 0.
 pub fn seal_feedback(alloc: Global, plain: &[u8; 32]) -> Result<Vec<u8>, Fail> {
     let mut context = context(alloc, false)?;

@@ -1,280 +1,1155 @@
-use media_base::{Beginning, Duration, Instant};
+use crate::carrying::{Ids, map_of};
+use crate::ends::{End, config, ended_with, expect_stream, give_keys, mid, rid};
+use crate::packets::seal_report;
+use mask_register::MaskRegister;
+use media_base::{Bytes, Duration, Instant};
 use queue_store::QueueStore;
-use rtp_base::{Frequency, Mid, MidRid, NackEntry, Pt, SeqNo, Ssrc};
-use rtp_wire::ExtensionMap;
-use rtx_core::{ResendError, ResendQueue};
+use rtp_base::{Kind, MidRid, Pt, Rid, SeqNo, Ssrc};
+use rtp_wire::{Extension, ExtensionValues};
+use session_core::{Datagram, DrainFault, Media, MediaKind, RtcError};
 use std::alloc::Global;
 use std::test::Fail;
-use stream_core::{
-    PacketReceipt, Payload, PayloadTypes, RtpWrite, Sent, StreamTx, Transport, TypeRow,
-};
+use stream_core::{Payload, RtpWrite, Sent, Streams};
 
-/// What is done with a stream on SSRC 42 whose repairs, on SSRC 43, begin with a number. Moments are in
-/// milliseconds.
+/// What a pair of ends begins with: the ids of header extensions, and the number of the first
+/// repair on SSRC 43 of what is sent on SSRC 42.
 #[derive(Clone, Copy)]
-enum Step {
-    /// A packet of a number and a payload is written, nackable or not, with a type.
-    Writes(u64, &'static [u8], bool, u8),
-    /// A tick.
-    Tick(u64),
-    /// A NACK names a number, and others by bits.
-    Nack(u16, u16, u64),
-    /// This is sealed next: its SSRC, its number, and its bytes.
-    Gives(u64, u32, u64, &'static [u8]),
-    /// So many packets are sealed next.
-    GivesMany(u64, usize),
-    /// Nothing is sealed.
-    GivesNone(u64),
-    /// No number is left for what is asked for.
-    UsedUp(u64),
+struct Begins(Ids, u64);
+
+/// A datagram that leaves.
+#[derive(Clone, Copy)]
+enum Out {
+    /// A packet of type 96 at RTP time 0 on this SSRC, of this number, with this payload.
+    First(u8, u64, &'static [u8]),
+    /// A repair of type 97 at RTP time 0 on this SSRC, of this number, of the packet of the other
+    /// number, with that packet's payload.
+    Again(u8, u64, u64, &'static [u8]),
+    /// As `First` on SSRC 42, of this number, with 1,400 bytes of 7.
+    FirstLong(u64),
+    /// As `Again` on SSRC 43, of this number, of the packet of the other number, with 1,400 bytes
+    /// of 7.
+    AgainLong(u64, u64),
+    /// On this SSRC, of this number, with these plain bytes.
+    Plain(u8, u64, &'static [u8]),
 }
 
-use Step::{Gives, GivesMany, GivesNone, Nack, Tick, UsedUp, Writes};
+/// What is done with a pair of ends. Moments are in nanoseconds.
+#[derive(Clone, Copy)]
+enum Step {
+    /// It sends on one more SSRC, without repairs.
+    Declares(u8),
+    /// It sends on one more SSRC, with repairs on the next one from this number on.
+    Repairs(u8, u64),
+    /// It keeps so many packets of SSRC 42, for so long, with so many hundredths of repairs.
+    Keeps(usize, u64, Option<u32>),
+    /// It writes a packet of type 96 at RTP time 0 that may be sent again: its SSRC, its number and
+    /// its payload.
+    Writes(u8, u64, &'static [u8]),
+    /// It writes such a packet on SSRC 42, of this number, with 1,400 bytes of 7.
+    WritesLong(u64),
+    /// It writes a packet of this type on SSRC 42, which may be sent again or not: its RTP time,
+    /// its number and its payload.
+    Puts(u8, bool, u32, u64, &'static [u8]),
+    /// The numbers 1, 2 and 3 leave on SSRC 42 at 10 ms, with the payloads 01, 02 and 03.
+    SendsThree,
+    /// The numbers from one on up to another leave on SSRC 42 at a moment, each with its low byte
+    /// as the payload.
+    SendsMany(u64, u64, u64),
+    /// The peer asks for packets at a moment: on this SSRC, with this PID and this BLP.
+    Asks(u64, u8, u16, u16),
+    /// These plain bytes of RTCP come from the peer at a moment.
+    Hears(u64, &'static [u8]),
+    /// A drain at a moment gives exactly this.
+    Drains(u64, &'static [Out]),
+    /// A tick at a moment, and a drain then gives exactly this.
+    Ticks(u64, &'static [Out]),
+    /// The same, and all of it opens at the peer but this number, which is lost.
+    Loses(u64, u64, &'static [Out]),
+    /// A tick of the peer at a moment; its next datagram has these plain bytes, and comes.
+    PeerAsks(u64, &'static [u8]),
+    /// A tick at a moment, and a drain then ends for want of a number of repairs, behind exactly
+    /// this.
+    Ends(u64, &'static [Out]),
+    /// A tick at a moment, and the first poll then ends for want of a number of repairs.
+    EndsAtOnce(u64),
+}
 
-/// How many packets are kept, for how many milliseconds, and the cap.
-type Kept = (usize, u64, Option<u32>);
+use Out::{Again, AgainLong, First, FirstLong, Plain};
+use Step::{
+    Asks, Declares, Drains, Ends, EndsAtOnce, Hears, Keeps, Loses, PeerAsks, Puts, Repairs,
+    SendsMany, SendsThree, Ticks, Writes, WritesLong,
+};
 
-const ALL: Kept = (2_000, 3_000, None);
+/// What a pair of ends is asked, by steps one after the other.
+type Row = (&'static str, Begins, &'static [Step]);
 
-type Row = (&'static str, u64, Kept, &'static [Step]);
+// No header extension, and 5 as the number of the first repair.
+const FROM_5: Begins = Begins(Ids::Nothing, 5);
 
-// The header of RFC 3550 section 5.1 with type 97, number 5, time 0 and SSRC 43; then the low 16 bits of
-// the number of the packet, and its payload (RFC 4588 section 4).
-const REPAIR_OF_2: &[u8] = &[0x80, 0x61, 0, 5, 0, 0, 0, 0, 0, 0, 0, 43, 0, 2, 2];
+// The least number that is one too many, 2^48.
+const PAST_LAST: u64 = 281_474_976_710_656;
 
-// The packet of number 4 on SSRC 42.
-const FIRST_4: &[u8] = &[0x80, 0x60, 0, 4, 0, 0, 0, 0, 0, 0, 0, 42, 4];
+// SSRC 2 asks on SSRC 42 for the number 2 (RFC 4585 section 6.2.1).
+const ASKS_2: &[u8] = &[0x81, 0xcd, 0, 3, 0, 0, 0, 2, 0, 0, 0, 0x2a, 0, 2, 0, 0];
 
-// Without a payload: number 4 alone stands behind the header.
-const REPAIR_OF_4: &[u8] = &[0x80, 0x61, 0, 5, 0, 0, 0, 0, 0, 0, 0, 43, 0, 4];
-
-const THREE: [Step; 5] = [
-    Writes(1, &[1], true, 96),
-    Writes(2, &[2], true, 96),
-    Writes(3, &[3], true, 96),
-    Tick(1),
-    GivesMany(1, 3),
+// SSRC 2 asks on SSRC 42 for the number 3 and then for 1: two entries in one item.
+const ASKS_3_THEN_1: &[u8] = &[
+    0x81, 0xcd, 0, 4, 0, 0, 0, 2, 0, 0, 0, 0x2a, 0, 3, 0, 0, 0, 1, 0, 0,
 ];
 
-const ROWS: [Row; 10] = [
+// The same in two items of one packet.
+const ASKS_3_AND_ASKS_1: &[u8] = &[
+    0x81, 0xcd, 0, 3, 0, 0, 0, 2, 0, 0, 0, 0x2a, 0, 3, 0, 0, 0x81, 0xcd, 0, 3, 0, 0, 0, 2, 0, 0, 0,
+    0x2a, 0, 1, 0, 0,
+];
+
+// The number 2, with the payload 02, as the first repair (RFC 4588 section 4): its own header with
+// the payload type 97, the number 5 and SSRC 43, the number 2 in two bytes, and the payload.
+const REPAIR_OF_2: &[u8] = &[0x80, 0x61, 0, 5, 0, 0, 0, 0, 0, 0, 0, 0x2b, 0, 2, 2];
+
+const ASKED: [Row; 13] = [
     (
         "lost and repaired",
-        5,
-        ALL,
-        &[Nack(2, 0, 33), Gives(33, 43, 5, REPAIR_OF_2), GivesNone(33)],
+        FROM_5,
+        &[
+            Keeps(2000, 3_000_000_000, None),
+            SendsThree,
+            Hears(20_000_000, ASKS_2),
+            Drains(20_000_000, &[]),
+            Drains(30_000_000, &[]),
+            Ticks(30_000_000, &[Plain(43, 5, REPAIR_OF_2)]),
+            Ticks(40_000_000, &[]),
+        ],
+    ),
+    (
+        "as it is made",
+        FROM_5,
+        &[
+            SendsThree,
+            Hears(20_000_000, ASKS_2),
+            Ticks(30_000_000, &[Plain(43, 5, REPAIR_OF_2)]),
+        ],
     ),
     (
         "asked twice",
-        5,
-        ALL,
+        FROM_5,
         &[
-            Nack(2, 0, 33),
-            Nack(2, 0, 33),
-            Gives(33, 43, 5, REPAIR_OF_2),
-            GivesMany(33, 1),
-            GivesNone(33),
+            Keeps(2000, 3_000_000_000, None),
+            SendsThree,
+            Asks(20_000_000, 42, 2, 0),
+            Ticks(30_000_000, &[Again(43, 5, 2, &[2])]),
+            Asks(90_000_000, 42, 2, 0),
+            Ticks(100_000_000, &[Again(43, 6, 2, &[2])]),
         ],
     ),
     (
-        "two by a bit",
-        5,
-        ALL,
-        &[Nack(1, 1, 33), GivesMany(33, 2), GivesNone(33)],
-    ),
-    ("never written", 5, ALL, &[Nack(9, 0, 33), GivesNone(33)]),
-    (
-        "nothing is kept",
-        5,
-        (0, 3_000, None),
-        &[Nack(2, 0, 33), GivesNone(33)],
-    ),
-    (
-        "one is kept",
-        5,
-        (1, 3_000, None),
-        &[Nack(1, 3, 33), GivesMany(33, 1), GivesNone(33)],
-    ),
-    (
-        "used up",
-        281_474_976_710_655,
-        ALL,
-        &[Nack(2, 1, 33), GivesMany(33, 1), UsedUp(33), UsedUp(34)],
-    ),
-    (
-        "repairs go first",
-        5,
-        ALL,
+        "asked twice before a tick",
+        FROM_5,
         &[
-            Writes(4, &[4], true, 96),
-            Tick(33),
-            Nack(2, 0, 33),
-            Gives(33, 43, 5, REPAIR_OF_2),
-            Gives(33, 42, 4, FIRST_4),
-            GivesNone(33),
+            SendsThree,
+            Asks(20_000_000, 42, 2, 0),
+            Asks(20_000_000, 42, 2, 0),
+            Ticks(30_000_000, &[Again(43, 5, 2, &[2]), Again(43, 6, 2, &[2])]),
         ],
     ),
     (
-        "no payload",
-        5,
-        ALL,
+        "a bitmask, before what waits",
+        FROM_5,
         &[
-            Writes(4, &[], true, 96),
-            Tick(33),
-            GivesMany(33, 1),
-            Nack(4, 0, 34),
-            Gives(34, 43, 5, REPAIR_OF_4),
-            GivesNone(34),
+            SendsThree,
+            Writes(42, 4, &[4]),
+            Asks(20_000_000, 42, 1, 3),
+            Writes(42, 5, &[5]),
+            Ticks(
+                30_000_000,
+                &[
+                    Again(43, 5, 1, &[1]),
+                    Again(43, 6, 2, &[2]),
+                    Again(43, 7, 3, &[3]),
+                    First(42, 4, &[4]),
+                    First(42, 5, &[5]),
+                ],
+            ),
         ],
     ),
     (
-        "not kept",
-        5,
-        ALL,
+        "a bitmask with a gap",
+        FROM_5,
         &[
-            Writes(4, &[4], false, 96),
-            Writes(5, &[5], true, 98),
-            Tick(33),
-            GivesMany(33, 2),
-            Nack(4, 1, 34),
-            GivesNone(34),
+            SendsThree,
+            Asks(20_000_000, 42, 1, 2),
+            Ticks(30_000_000, &[Again(43, 5, 1, &[1]), Again(43, 6, 3, &[3])]),
+        ],
+    ),
+    (
+        "two entries in order",
+        FROM_5,
+        &[
+            SendsThree,
+            Hears(20_000_000, ASKS_3_THEN_1),
+            Ticks(30_000_000, &[Again(43, 5, 3, &[3]), Again(43, 6, 1, &[1])]),
+        ],
+    ),
+    (
+        "two items in order",
+        FROM_5,
+        &[
+            SendsThree,
+            Hears(20_000_000, ASKS_3_AND_ASKS_1),
+            Ticks(30_000_000, &[Again(43, 5, 3, &[3]), Again(43, 6, 1, &[1])]),
+        ],
+    ),
+    (
+        "a number that was never written",
+        FROM_5,
+        &[
+            Asks(5_000_000, 42, 2, 0),
+            Ticks(6_000_000, &[]),
+            SendsThree,
+            Asks(20_000_000, 42, 9, 0xffff),
+            Ticks(30_000_000, &[]),
+            Asks(40_000_000, 42, 3, 0xffff),
+            Ticks(50_000_000, &[Again(43, 5, 3, &[3])]),
+        ],
+    ),
+    (
+        "a number that waits",
+        FROM_5,
+        &[
+            SendsThree,
+            Writes(42, 4, &[4]),
+            Asks(20_000_000, 42, 4, 0),
+            Ticks(30_000_000, &[First(42, 4, &[4])]),
+            Ticks(40_000_000, &[]),
+        ],
+    ),
+    (
+        "the numbers round 2^16",
+        FROM_5,
+        &[
+            Writes(42, 65_535, &[1]),
+            Writes(42, 65_536, &[2]),
+            Ticks(
+                10_000_000,
+                &[First(42, 65_535, &[1]), First(42, 65_536, &[2])],
+            ),
+            Asks(20_000_000, 42, 65_535, 1),
+            Ticks(
+                30_000_000,
+                &[Again(43, 5, 65_535, &[1]), Again(43, 6, 65_536, &[2])],
+            ),
+        ],
+    ),
+    (
+        "repairs round 2^16",
+        Begins(Ids::Nothing, 65_535),
+        &[
+            SendsThree,
+            Asks(20_000_000, 42, 2, 1),
+            Ticks(
+                30_000_000,
+                &[Again(43, 65_535, 2, &[2]), Again(43, 65_536, 3, &[3])],
+            ),
+        ],
+    ),
+    (
+        "payloads of 0, 1 and 1,400 bytes",
+        FROM_5,
+        &[
+            Writes(42, 1, &[]),
+            Writes(42, 2, &[9]),
+            WritesLong(3),
+            Ticks(
+                10_000_000,
+                &[First(42, 1, &[]), First(42, 2, &[9]), FirstLong(3)],
+            ),
+            Asks(20_000_000, 42, 1, 3),
+            Ticks(
+                30_000_000,
+                &[Again(43, 5, 1, &[]), Again(43, 6, 2, &[9]), AgainLong(7, 3)],
+            ),
         ],
     ),
 ];
 
-/// A stream, what it sends again, and what it shares with others.
-#[derive(Drop)]
-struct Owner {
-    stream: StreamTx,
-    repairs: ResendQueue<Sent, QueueStore<Sent>>,
-    transport: Transport,
-    types: PayloadTypes,
-}
+// The cap is read at a tick at which something is asked for, if it was not read for 50 ms. The
+// first reading finds no repairs yet.
+const CAPPED: [Row; 7] = [
+    (
+        "more than 15 hundredths",
+        FROM_5,
+        &[
+            Keeps(2000, 3_000_000_000, Some(15)),
+            SendsThree,
+            Asks(100_000_000, 42, 2, 0),
+            Ticks(100_000_000, &[Again(43, 5, 2, &[2])]),
+            Asks(150_000_000, 42, 2, 0),
+            // One byte of four: 100 > 60.
+            Ticks(150_000_000, &[]),
+            Ticks(2_000_000_000, &[]),
+        ],
+    ),
+    (
+        "the cap as it is made",
+        FROM_5,
+        &[
+            SendsThree,
+            Asks(100_000_000, 42, 2, 0),
+            Ticks(100_000_000, &[Again(43, 5, 2, &[2])]),
+            Asks(140_000_000, 42, 1, 0),
+            Ticks(149_999_999, &[Again(43, 6, 1, &[1])]),
+            Asks(149_999_999, 42, 2, 0),
+            // Two bytes of five: 200 > 75.
+            Ticks(150_000_000, &[]),
+            Asks(160_000_000, 42, 2, 0),
+            Ticks(199_999_999, &[]),
+        ],
+    ),
+    (
+        "what waits goes past the cap",
+        FROM_5,
+        &[
+            SendsThree,
+            Asks(100_000_000, 42, 2, 0),
+            Ticks(100_000_000, &[Again(43, 5, 2, &[2])]),
+            Asks(150_000_000, 42, 2, 0),
+            Writes(42, 4, &[4]),
+            Ticks(150_000_000, &[First(42, 4, &[4])]),
+        ],
+    ),
+    (
+        "not more than 15 hundredths",
+        FROM_5,
+        &[
+            Puts(96, false, 0, 1, &[0; 14]),
+            Writes(42, 2, &[2, 2, 2]),
+            Ticks(
+                10_000_000,
+                &[First(42, 1, &[0; 14]), First(42, 2, &[2, 2, 2])],
+            ),
+            Asks(100_000_000, 42, 2, 0),
+            Ticks(100_000_000, &[Again(43, 5, 2, &[2, 2, 2])]),
+            Asks(150_000_000, 42, 2, 0),
+            // Three bytes of twenty: 300 = 15 * 20.
+            Ticks(150_000_000, &[Again(43, 6, 2, &[2, 2, 2])]),
+            Asks(200_000_000, 42, 2, 0),
+            // Six bytes of 23: 600 > 345.
+            Ticks(200_000_000, &[]),
+        ],
+    ),
+    (
+        "a second ago still counts",
+        FROM_5,
+        &[
+            SendsThree,
+            Asks(100_000_000, 42, 2, 0),
+            Ticks(100_000_000, &[Again(43, 5, 2, &[2])]),
+            Asks(1_100_000_000, 42, 2, 0),
+            // Only the repair counts: 100 > 15.
+            Ticks(1_100_000_000, &[]),
+            Asks(1_149_999_999, 42, 2, 0),
+            Ticks(1_149_999_999, &[]),
+            Asks(1_150_000_000, 42, 2, 0),
+            Ticks(1_150_000_000, &[Again(43, 6, 2, &[2])]),
+        ],
+    ),
+    (
+        "longer ago counts no more",
+        FROM_5,
+        &[
+            SendsThree,
+            Asks(100_000_000, 42, 2, 0),
+            Ticks(100_000_000, &[Again(43, 5, 2, &[2])]),
+            Asks(1_100_000_001, 42, 2, 0),
+            Ticks(1_100_000_001, &[Again(43, 6, 2, &[2])]),
+        ],
+    ),
+    (
+        "a cap of 0",
+        FROM_5,
+        &[
+            Keeps(2000, 3_000_000_000, Some(0)),
+            SendsThree,
+            Asks(100_000_000, 42, 2, 0),
+            Ticks(100_000_000, &[Again(43, 5, 2, &[2])]),
+            Asks(150_000_000, 42, 2, 0),
+            Ticks(150_000_000, &[]),
+        ],
+    ),
+];
+
+const KEPT: [Row; 13] = [
+    (
+        "a cache of one packet",
+        FROM_5,
+        &[
+            Keeps(1, 3_000_000_000, None),
+            SendsThree,
+            Asks(20_000_000, 42, 1, 3),
+            Ticks(30_000_000, &[Again(43, 5, 3, &[3])]),
+        ],
+    ),
+    (
+        "a cache of no packet",
+        FROM_5,
+        &[
+            Keeps(0, 3_000_000_000, None),
+            SendsThree,
+            Asks(20_000_000, 42, 1, 3),
+            Ticks(30_000_000, &[]),
+        ],
+    ),
+    (
+        "a cache for no time",
+        FROM_5,
+        &[
+            Keeps(2000, 0, None),
+            SendsThree,
+            Asks(10_000_000, 42, 1, 3),
+            Ticks(10_000_000, &[]),
+        ],
+    ),
+    (
+        "a cache of 32,000 packets",
+        FROM_5,
+        &[
+            Keeps(32_000, 3_000_000_000, None),
+            SendsMany(10_000_000, 1, 32_001),
+            Asks(20_000_000, 42, 1, 0),
+            Ticks(30_000_000, &[Again(43, 5, 1, &[1])]),
+            SendsMany(40_000_000, 32_001, 32_002),
+            Asks(50_000_000, 42, 1, 1),
+            Ticks(60_000_000, &[Again(43, 6, 2, &[2])]),
+        ],
+    ),
+    (
+        "2,000 packets as it is made",
+        FROM_5,
+        &[
+            SendsMany(10_000_000, 1, 2001),
+            Asks(20_000_000, 42, 1, 0),
+            Ticks(30_000_000, &[Again(43, 5, 1, &[1])]),
+            SendsMany(40_000_000, 2001, 2002),
+            Asks(50_000_000, 42, 1, 1),
+            Ticks(60_000_000, &[Again(43, 6, 2, &[2])]),
+        ],
+    ),
+    (
+        "a cache made anew",
+        FROM_5,
+        &[
+            SendsThree,
+            Asks(20_000_000, 42, 1, 3),
+            Keeps(2000, 3_000_000_000, None),
+            Ticks(30_000_000, &[]),
+            Asks(40_000_000, 42, 1, 3),
+            Ticks(50_000_000, &[]),
+        ],
+    ),
+    (
+        "as old as its age",
+        FROM_5,
+        &[
+            Keeps(2000, 100_000_000, None),
+            SendsThree,
+            Writes(42, 4, &[4]),
+            Ticks(110_000_000, &[First(42, 4, &[4])]),
+            Asks(120_000_000, 42, 1, 0),
+            Ticks(130_000_000, &[Again(43, 5, 1, &[1])]),
+        ],
+    ),
+    (
+        "older by 1 ns",
+        FROM_5,
+        &[
+            Keeps(2000, 100_000_000, None),
+            SendsThree,
+            Writes(42, 4, &[4]),
+            Ticks(110_000_001, &[First(42, 4, &[4])]),
+            Asks(120_000_000, 42, 1, 7),
+            Ticks(130_000_000, &[Again(43, 5, 4, &[4])]),
+        ],
+    ),
+    (
+        "as old as 3 s as it is made",
+        FROM_5,
+        &[
+            SendsThree,
+            Writes(42, 4, &[4]),
+            Ticks(3_010_000_000, &[First(42, 4, &[4])]),
+            Asks(3_010_000_000, 42, 1, 0),
+            Ticks(3_010_000_000, &[Again(43, 5, 1, &[1])]),
+            Writes(42, 5, &[5]),
+            Ticks(3_010_000_001, &[First(42, 5, &[5])]),
+            Asks(3_010_000_001, 42, 1, 0),
+            Ticks(3_010_000_001, &[]),
+        ],
+    ),
+    (
+        "it goes when one more is kept",
+        FROM_5,
+        &[
+            Keeps(2000, 100_000_000, None),
+            SendsThree,
+            Asks(5_000_000_000, 42, 1, 0),
+            Ticks(5_000_000_000, &[Again(43, 5, 1, &[1])]),
+            Writes(42, 4, &[4]),
+            Asks(5_000_000_000, 42, 1, 0),
+            Ticks(5_000_000_000, &[Again(43, 6, 1, &[1]), First(42, 4, &[4])]),
+            Asks(5_000_000_000, 42, 1, 0),
+            Ticks(5_000_000_000, &[]),
+        ],
+    ),
+    (
+        "numbers out of order",
+        FROM_5,
+        &[
+            Writes(42, 1, &[1]),
+            Writes(42, 3, &[3]),
+            Writes(42, 2, &[2]),
+            Ticks(
+                10_000_000,
+                &[First(42, 1, &[1]), First(42, 3, &[3]), First(42, 2, &[2])],
+            ),
+            Asks(20_000_000, 42, 1, 3),
+            Ticks(
+                30_000_000,
+                &[
+                    Again(43, 5, 1, &[1]),
+                    Again(43, 6, 2, &[2]),
+                    Again(43, 7, 3, &[3]),
+                ],
+            ),
+        ],
+    ),
+    (
+        "a number below the first",
+        FROM_5,
+        &[
+            Writes(42, 5, &[5]),
+            Writes(42, 4, &[4]),
+            Ticks(10_000_000, &[First(42, 5, &[5]), First(42, 4, &[4])]),
+            Asks(20_000_000, 42, 4, 1),
+            Ticks(30_000_000, &[Again(43, 5, 5, &[5])]),
+        ],
+    ),
+    (
+        "not to be sent again, and of a type without repairs",
+        FROM_5,
+        &[
+            Puts(96, false, 0x0102_0304, 1, &[1]),
+            Puts(98, true, 0x0102_0304, 2, &[2]),
+            Puts(96, true, 0x0102_0304, 3, &[3]),
+            Ticks(
+                10_000_000,
+                &[
+                    Plain(42, 1, &[0x80, 0x60, 0, 1, 1, 2, 3, 4, 0, 0, 0, 0x2a, 1]),
+                    Plain(42, 2, &[0x80, 0x62, 0, 2, 1, 2, 3, 4, 0, 0, 0, 0x2a, 2]),
+                    Plain(42, 3, &[0x80, 0x60, 0, 3, 1, 2, 3, 4, 0, 0, 0, 0x2a, 3]),
+                ],
+            ),
+            Asks(20_000_000, 42, 1, 3),
+            Ticks(
+                30_000_000,
+                &[Plain(
+                    43,
+                    5,
+                    &[0x80, 0x61, 0, 5, 1, 2, 3, 4, 0, 0, 0, 0x2b, 0, 3, 3],
+                )],
+            ),
+        ],
+    ),
+];
+
+const SEVERAL: [Row; 4] = [
+    (
+        "a stream without repairs",
+        FROM_5,
+        &[
+            Declares(44),
+            SendsThree,
+            Writes(44, 2, &[8]),
+            Ticks(15_000_000, &[First(44, 2, &[8])]),
+            Asks(20_000_000, 44, 2, 0),
+            Asks(20_000_000, 43, 2, 0),
+            Asks(20_000_000, 45, 2, 0),
+            Ticks(30_000_000, &[]),
+            Asks(40_000_000, 42, 2, 0),
+            Ticks(50_000_000, &[Again(43, 5, 2, &[2])]),
+        ],
+    ),
+    (
+        "stream by stream, repairs first",
+        FROM_5,
+        &[
+            Repairs(44, 9),
+            SendsThree,
+            Writes(44, 2, &[8]),
+            Ticks(15_000_000, &[First(44, 2, &[8])]),
+            Writes(44, 3, &[9]),
+            Writes(42, 4, &[4]),
+            Asks(20_000_000, 44, 2, 0),
+            Asks(20_000_000, 42, 2, 0),
+            Drains(20_000_000, &[]),
+            Ticks(
+                30_000_000,
+                &[
+                    Again(43, 5, 2, &[2]),
+                    First(42, 4, &[4]),
+                    Again(45, 9, 2, &[8]),
+                    First(44, 3, &[9]),
+                ],
+            ),
+        ],
+    ),
+    (
+        "the peer asks",
+        FROM_5,
+        &[
+            Writes(42, 1, &[1]),
+            Writes(42, 2, &[2]),
+            Writes(42, 3, &[3]),
+            Loses(
+                1_000_000,
+                2,
+                &[First(42, 1, &[1]), First(42, 2, &[2]), First(42, 3, &[3])],
+            ),
+            PeerAsks(33_000_000, ASKS_2),
+            Drains(33_000_000, &[]),
+            Ticks(34_000_000, &[Plain(43, 5, REPAIR_OF_2)]),
+        ],
+    ),
+    (
+        "the peer asks again",
+        FROM_5,
+        &[
+            Keeps(2000, 3_000_000_000, None),
+            Writes(42, 1, &[1]),
+            Writes(42, 2, &[2]),
+            Writes(42, 3, &[3]),
+            Loses(
+                1_000_000,
+                2,
+                &[First(42, 1, &[1]), First(42, 2, &[2]), First(42, 3, &[3])],
+            ),
+            PeerAsks(33_000_000, ASKS_2),
+            Ticks(34_000_000, &[Plain(43, 5, REPAIR_OF_2)]),
+            PeerAsks(138_000_000, ASKS_2),
+            Ticks(139_000_000, &[Again(43, 6, 2, &[2])]),
+        ],
+    ),
+];
+
+// A header extension has one element, of the id 1 (RFC 8285 section 4.2).
+const CARRIED: [Row; 4] = [
+    (
+        "the mid",
+        Begins(Ids::Only(Extension::RtpMid), 5),
+        &[
+            Writes(42, 2, &[2]),
+            Ticks(
+                10_000_000,
+                &[Plain(
+                    42,
+                    2,
+                    &[
+                        0x90, 0x60, 0, 2, 0, 0, 0, 0, 0, 0, 0, 0x2a, 0xbe, 0xde, 0, 1, 0x10, 0x76,
+                        0, 0, 2,
+                    ],
+                )],
+            ),
+            Asks(20_000_000, 42, 2, 0),
+            Ticks(
+                30_000_000,
+                &[Plain(
+                    43,
+                    5,
+                    &[
+                        0x90, 0x61, 0, 5, 0, 0, 0, 0, 0, 0, 0, 0x2b, 0xbe, 0xde, 0, 1, 0x10, 0x76,
+                        0, 0, 0, 2, 2,
+                    ],
+                )],
+            ),
+        ],
+    ),
+    (
+        "the rid of a first sending alone",
+        Begins(Ids::Only(Extension::RtpStreamId), 5),
+        &[
+            Writes(42, 2, &[2]),
+            Ticks(
+                10_000_000,
+                &[Plain(
+                    42,
+                    2,
+                    &[
+                        0x90, 0x60, 0, 2, 0, 0, 0, 0, 0, 0, 0, 0x2a, 0xbe, 0xde, 0, 1, 0x11, 0x68,
+                        0x69, 0, 2,
+                    ],
+                )],
+            ),
+            Asks(20_000_000, 42, 2, 0),
+            Ticks(30_000_000, &[Plain(43, 5, REPAIR_OF_2)]),
+        ],
+    ),
+    (
+        "the rid that a repair repairs",
+        Begins(Ids::Only(Extension::RepairedRtpStreamId), 5),
+        &[
+            SendsThree,
+            Asks(20_000_000, 42, 2, 0),
+            Ticks(
+                30_000_000,
+                &[Plain(
+                    43,
+                    5,
+                    &[
+                        0x90, 0x61, 0, 5, 0, 0, 0, 0, 0, 0, 0, 0x2b, 0xbe, 0xde, 0, 1, 0x11, 0x68,
+                        0x69, 0, 0, 2, 2,
+                    ],
+                )],
+            ),
+        ],
+    ),
+    (
+        "the transport number",
+        Begins(Ids::Only(Extension::TransportSequenceNumber), 5),
+        &[
+            Writes(42, 2, &[2]),
+            Ticks(
+                10_000_000,
+                &[Plain(
+                    42,
+                    2,
+                    &[
+                        0x90, 0x60, 0, 2, 0, 0, 0, 0, 0, 0, 0, 0x2a, 0xbe, 0xde, 0, 1, 0x11, 0, 0,
+                        0, 2,
+                    ],
+                )],
+            ),
+            Asks(20_000_000, 42, 2, 0),
+            Ticks(
+                30_000_000,
+                &[Plain(
+                    43,
+                    5,
+                    &[
+                        0x90, 0x61, 0, 5, 0, 0, 0, 0, 0, 0, 0, 0x2b, 0xbe, 0xde, 0, 1, 0x11, 0, 1,
+                        0, 0, 2, 2,
+                    ],
+                )],
+            ),
+        ],
+    ),
+];
+
+const USED_UP: [Row; 3] = [
+    (
+        "the last number of repairs",
+        Begins(Ids::Nothing, 281_474_976_710_655),
+        &[
+            SendsThree,
+            Asks(20_000_000, 42, 2, 1),
+            Writes(42, 4, &[4]),
+            Ends(30_000_000, &[Again(43, 281_474_976_710_655, 2, &[2])]),
+        ],
+    ),
+    (
+        "no number of repairs",
+        Begins(Ids::Nothing, PAST_LAST),
+        &[
+            SendsThree,
+            Asks(20_000_000, 42, 2, 0),
+            EndsAtOnce(30_000_000),
+        ],
+    ),
+    (
+        "no number, and nothing to repair",
+        Begins(Ids::Nothing, PAST_LAST),
+        &[
+            SendsThree,
+            Asks(20_000_000, 42, 9, 0),
+            Writes(42, 4, &[4]),
+            Ticks(30_000_000, &[First(42, 4, &[4])]),
+        ],
+    ),
+];
 
 fn at(moment: u64) -> Instant {
-    Instant::from_nanos(moment % 1_000_000 * 1_000_000)
+    Instant::from_nanos(moment)
 }
 
-fn types(alloc: Global) -> Result<PayloadTypes, ResendError> {
-    let mut types = PayloadTypes::new(alloc);
-    types.add(TypeRow {
-        pt: Pt::from(96),
-        clock: Frequency::NINETY_KHZ,
-        rtx: Some(Pt::from(97)),
-    })?;
-    types.add(TypeRow {
-        pt: Pt::from(98),
-        clock: Frequency::NINETY_KHZ,
-        rtx: None,
-    })?;
-    Ok(types)
+fn ssrc(low: u8) -> Ssrc {
+    Ssrc::from(u32::from(low))
 }
 
-fn new_owner(alloc: Global, first: u64, kept: Kept) -> Result<Owner, ResendError> {
-    let mid = match Mid::from_slice(b"v") {
-        Some(mid) => mid,
-        None => unreachable!(),
-    };
-    let mut repairs = ResendQueue::new(alloc, SeqNo::from(first % 281_474_976_710_656))?;
-    repairs.set_rtx_cache(kept.0, Duration::from_millis(kept.1 % 1_000_000), kept.2)?;
-    let ssrc = Ssrc::from(42);
-    Ok(Owner {
-        stream: StreamTx::new(alloc, ssrc, Some(Ssrc::from(43)), MidRid(mid, None)),
-        repairs,
-        transport: Transport {
-            exts: ExtensionMap::empty(),
-            beginning: Beginning {
-                unix_secs: 1_700_000_000,
-            },
-            twcc: 0,
-        },
-        types: types(alloc)?,
-    })
+// A packet of a type at RTP time 0 on this SSRC, of this number, with bytes between its header and
+// a payload (RFC 3550 section 5.1).
+fn packet(
+    alloc: Global,
+    pt: u8,
+    low: u8,
+    number: u64,
+    between: &[u8],
+    payload: &[u8],
+) -> Result<Vec<u8>, Fail> {
+    let mut plain = vec![in alloc; 0x80, pt]?;
+    plain.extend_from_slice(&((number % 65536) as u16).to_be_bytes())?;
+    plain.extend_from_slice(&[0, 0, 0, 0, 0, 0, 0, low])?;
+    plain.extend_from_slice(between)?;
+    plain.extend_from_slice(payload)?;
+    Ok(plain)
 }
 
-fn write(alloc: Global, owner: &mut Owner, step: Step) -> Result<bool, ResendError> {
-    let Writes(number, payload, nackable, pt) = step else {
+// Whether a datagram is RTP on this SSRC, of this number, with these plain bytes.
+fn is_rtp(datagram: &Datagram, low: u8, number: u64, plain: &[u8]) -> bool {
+    datagram.kind == Kind::Rtp
+        && datagram.ssrc == ssrc(low)
+        && datagram.index == SeqNo::from(number)
+        && datagram.plain.as_slice() == plain
+}
+
+// Whether a datagram is a packet of type 96 at RTP time 0.
+fn is_first(
+    alloc: Global,
+    datagram: &Datagram,
+    low: u8,
+    number: u64,
+    payload: &[u8],
+) -> Result<bool, Fail> {
+    let plain = packet(alloc, 96, low, number, &[], payload)?;
+    Ok(is_rtp(datagram, low, number, plain.as_slice()))
+}
+
+// Whether a datagram is a repair of type 97 at RTP time 0 (RFC 4588 section 4).
+fn is_again(
+    alloc: Global,
+    datagram: &Datagram,
+    low: u8,
+    numbers: (u64, u64),
+    payload: &[u8],
+) -> Result<bool, Fail> {
+    let first = ((numbers.1 % 65536) as u16).to_be_bytes();
+    let plain = packet(alloc, 97, low, numbers.0, &first, payload)?;
+    Ok(is_rtp(datagram, low, numbers.0, plain.as_slice()))
+}
+
+// The longest payload.
+fn longest(alloc: Global) -> Result<Vec<u8>, Fail> {
+    Ok(vec![in alloc; 7; 1400]?)
+}
+
+fn is_sent(alloc: Global, out: Out, datagram: &Datagram) -> Result<bool, Fail> {
+    match out {
+        Out::First(low, number, payload) => is_first(alloc, datagram, low, number, payload),
+        Out::Again(low, number, first, payload) => {
+            is_again(alloc, datagram, low, (number, first), payload)
+        }
+        Out::FirstLong(number) => {
+            let payload = longest(alloc)?;
+            is_first(alloc, datagram, 42, number, payload.as_slice())
+        }
+        Out::AgainLong(number, first) => {
+            let payload = longest(alloc)?;
+            is_again(alloc, datagram, 43, (number, first), payload.as_slice())
+        }
+        Out::Plain(low, number, plain) => Ok(is_rtp(datagram, low, number, plain)),
+    }
+}
+
+// Whether the datagrams are exactly these, in order.
+fn are_sent(alloc: Global, outs: &[Out], datagrams: &[Datagram]) -> Result<bool, Fail> {
+    for (out, datagram) in outs.iter().zip(datagrams.iter()) {
+        if !is_sent(alloc, *out, datagram)? {
+            return Ok(false);
+        }
+    }
+    Ok(outs.len() == datagrams.len())
+}
+
+fn declare(end: &mut End, low: u8) -> Result<(), Fail> {
+    let mid_rid = MidRid(mid(), Some(rid()));
+    end.streams().declare_stream_tx(ssrc(low), None, mid_rid)?;
+    Ok(())
+}
+
+fn declare_repaired(end: &mut End, low: u8, first: u64) -> Result<(), Fail> {
+    let mid_rid = MidRid(mid(), Some(rid()));
+    let repairs = Ssrc::from(u32::from(low) + 1);
+    let first = SeqNo::from(first.min(281_474_976_710_656));
+    end.streams()
+        .declare_stream_tx(ssrc(low), Some((repairs, first)), mid_rid)?;
+    Ok(())
+}
+
+fn keep(end: &mut End, packets: usize, age: u64, cap: Option<u32>) -> Result<(), Fail> {
+    let age = Duration::from_nanos(age);
+    end.streams().set_rtx_cache(ssrc(42), packets, age, cap)?;
+    Ok(())
+}
+
+// Writes a packet on the stream of this SSRC, if there is one.
+fn put(
+    streams: &mut Streams<MaskRegister, QueueStore<Sent>>,
+    low: u8,
+    write: RtpWrite,
+) -> Result<(), Fail> {
+    if let Some(place) = streams.tx_place(ssrc(low)) {
+        streams.tx_at(place).write_rtp(write)?;
+    }
+    Ok(())
+}
+
+// What a packet is written with: values that are the sender's to give, and that do not leave.
+fn written() -> ExtensionValues {
+    ExtensionValues {
+        transport_cc: Some(7),
+        rid: Rid::from_slice(b"lo"),
+        rid_repair: Rid::from_slice(b"lo"),
+        ..ExtensionValues::none()
+    }
+}
+
+// A packet of type 96 at RTP time 0 that may be sent again.
+fn write(alloc: Global, end: &mut End, low: u8, number: u64, bytes: &[u8]) -> Result<(), Fail> {
+    let payload = Payload::from_slice(alloc, bytes)?;
+    let write = RtpWrite::new(Pt::from(96), SeqNo::from(number), 0, at(1), payload);
+    put(end.streams(), low, write.ext_vals(written()).nackable(true))
+}
+
+fn write_long(alloc: Global, end: &mut End, number: u64) -> Result<(), Fail> {
+    let payload = longest(alloc)?;
+    write(alloc, end, 42, number, payload.as_slice())
+}
+
+// A packet of a type and an RTP time on SSRC 42 that may be sent again, or may not.
+fn write_as(
+    alloc: Global,
+    end: &mut End,
+    way: (u8, bool, u32),
+    number: u64,
+    bytes: &[u8],
+) -> Result<(), Fail> {
+    let payload = Payload::from_slice(alloc, bytes)?;
+    let write = RtpWrite::new(Pt::from(way.0), SeqNo::from(number), way.2, at(1), payload);
+    put(end.streams(), 42, write.nackable(way.1))
+}
+
+// Whether a drain gives exactly this.
+fn drains(alloc: Global, end: &mut End, now: Instant, outs: &[Out]) -> Result<bool, Fail> {
+    let drained = end.drain(now)?;
+    are_sent(alloc, outs, drained.datagrams.as_slice())
+}
+
+fn ticks(alloc: Global, end: &mut End, now: Instant, outs: &[Out]) -> Result<bool, Fail> {
+    end.handle_timeout(now)?;
+    drains(alloc, end, now, outs)
+}
+
+fn sends_three(alloc: Global, end: &mut End) -> Result<bool, Fail> {
+    write(alloc, end, 42, 1, &[1])?;
+    write(alloc, end, 42, 2, &[2])?;
+    write(alloc, end, 42, 3, &[3])?;
+    let three = [
+        Out::First(42, 1, &[1]),
+        Out::First(42, 2, &[2]),
+        Out::First(42, 3, &[3]),
+    ];
+    ticks(alloc, end, at(10_000_000), &three)
+}
+
+// Whether the datagrams are those of the numbers from one on up to another.
+fn are_numbered(datagrams: &[Datagram], from: u64, to: u64) -> bool {
+    let mut next = from;
+    for datagram in datagrams {
+        if datagram.ssrc != ssrc(42) || datagram.index != SeqNo::from(next) {
+            return false;
+        }
+        next = next.saturating_add(1);
+    }
+    next == to
+}
+
+fn sends_many(
+    alloc: Global,
+    end: &mut End,
+    now: Instant,
+    from: u64,
+    to: u64,
+) -> Result<bool, Fail> {
+    for number in from..to {
+        write(alloc, end, 42, number, &[(number % 256) as u8])?;
+    }
+    end.handle_timeout(now)?;
+    let drained = end.drain(now)?;
+    Ok(are_numbered(drained.datagrams.as_slice(), from, to))
+}
+
+// Whether plain bytes of RTCP from the peer open.
+fn hears(alloc: Global, end: &mut End, now: Instant, plain: &[u8]) -> Result<bool, Fail> {
+    let sealed = seal_report(alloc, plain)?;
+    let opened = end.handle_rtcp_receive(now, sealed.as_slice())?;
+    Ok(opened.is_some())
+}
+
+// SSRC 2 asks on this SSRC (RFC 4585 section 6.2.1): the PID and the BLP.
+fn is_asked(
+    alloc: Global,
+    end: &mut End,
+    now: Instant,
+    low: u8,
+    entry: (u16, u16),
+) -> Result<bool, Fail> {
+    let mut plain = vec![in alloc; 0x81, 0xcd, 0, 3, 0, 0, 0, 2, 0, 0, 0, low]?;
+    plain.extend_from_slice(&entry.0.to_be_bytes())?;
+    plain.extend_from_slice(&entry.1.to_be_bytes())?;
+    hears(alloc, end, now, plain.as_slice())
+}
+
+// Whether all datagrams but that of a number open at the peer.
+fn arrive(peer: &mut End, now: Instant, lost: u64, datagrams: &[Datagram]) -> Result<bool, Fail> {
+    for datagram in datagrams {
+        if datagram.index != SeqNo::from(lost) {
+            let opened = peer.handle_rtp_receive(now, datagram.bytes.as_slice())?;
+            if opened.is_none() {
+                return Ok(false);
+            }
+        }
+    }
+    Ok(true)
+}
+
+fn loses(
+    alloc: Global,
+    end: &mut End,
+    peer: &mut End,
+    now: Instant,
+    lost: u64,
+    outs: &[Out],
+) -> Result<bool, Fail> {
+    end.handle_timeout(now)?;
+    let drained = end.drain(now)?;
+    let sent = are_sent(alloc, outs, drained.datagrams.as_slice())?;
+    let opened = arrive(peer, now, lost, drained.datagrams.as_slice())?;
+    Ok(sent && opened)
+}
+
+fn peer_asks(end: &mut End, peer: &mut End, now: Instant, plain: &[u8]) -> Result<bool, Fail> {
+    peer.handle_timeout(now)?;
+    let Some(sent) = peer.poll_datagram(now)? else {
         return Ok(false);
     };
-    let payload = Payload::from_slice(alloc, payload)?;
-    let write = RtpWrite::new(Pt::from(pt), SeqNo::from(number), 0, at(0), payload);
-    Ok(owner.stream.write_rtp(write.nackable(nackable)).is_ok())
+    let opened = end.handle_rtcp_receive(now, sent.bytes.as_slice())?;
+    Ok(sent.kind == Kind::Rtcp && sent.plain.as_slice() == plain && opened.is_some())
 }
 
-fn next(alloc: Global, owner: &mut Owner, now: u64) -> Result<Option<PacketReceipt>, ResendError> {
-    if owner.stream.rtx().is_none() {
-        return Ok(None);
-    }
-    owner.stream.poll_with_repairs(
-        alloc,
-        &mut owner.repairs,
-        at(now),
-        &mut owner.transport,
-        &owner.types,
-    )
+// Whether each call answers that the session is stopped.
+fn is_stopped(end: &mut End, now: Instant) -> bool {
+    let drained = end.drain(now);
+    let drain = match &drained {
+        Err(fault) => fault.error == RtcError::Stopped && fault.sofar.datagrams.is_empty(),
+        Ok(_) => false,
+    };
+    let poll = ended_with(&end.poll_datagram(now), &RtcError::Stopped);
+    let tick = ended_with(&end.handle_timeout(now), &RtcError::Stopped);
+    let rtcp = ended_with(&end.handle_rtcp_receive(now, &[]), &RtcError::Stopped);
+    drain && poll && tick && rtcp
 }
 
-fn gives_many(
-    alloc: Global,
-    owner: &mut Owner,
-    now: u64,
-    count: usize,
-) -> Result<bool, ResendError> {
-    for _turn in 0..count {
-        if next(alloc, owner, now)?.is_none() {
-            return Ok(false);
-        }
-    }
-    Ok(true)
+// Whether a drain gave exactly this, and then there was no number of repairs.
+fn is_used_up(alloc: Global, fault: &DrainFault, outs: &[Out]) -> Result<bool, Fail> {
+    let sent = are_sent(alloc, outs, fault.sofar.datagrams.as_slice())?;
+    Ok(sent && fault.error == RtcError::RepairsExhausted(ssrc(43)))
 }
 
-fn is_given(receipt: &Option<PacketReceipt>, ssrc: u32, number: u64, bytes: &[u8]) -> bool {
-    match receipt {
-        Some(receipt) => {
-            receipt.header.ssrc == Ssrc::from(ssrc)
-                && receipt.seq_no == SeqNo::from(number)
-                && receipt.plain.as_slice() == bytes
-        }
-        None => false,
-    }
+fn ends(alloc: Global, end: &mut End, now: Instant, outs: &[Out]) -> Result<bool, Fail> {
+    end.handle_timeout(now)?;
+    let ended = match end.drain(now) {
+        Err(fault) => is_used_up(alloc, &fault, outs)?,
+        Ok(_) => false,
+    };
+    Ok(ended && is_stopped(end, now))
 }
 
-fn goes(alloc: Global, owner: &mut Owner, step: Step) -> Result<bool, ResendError> {
+fn ends_at_once(end: &mut End, now: Instant) -> Result<bool, Fail> {
+    end.handle_timeout(now)?;
+    let ended = ended_with(
+        &end.poll_datagram(now),
+        &RtcError::RepairsExhausted(ssrc(43)),
+    );
+    Ok(ended && is_stopped(end, now))
+}
+
+// Does a step, and tells whether it went so.
+fn goes(alloc: Global, end: &mut End, peer: &mut End, step: Step) -> Result<bool, Fail> {
     match step {
-        Writes(_, _, _, _) => return write(alloc, owner, step),
-        Tick(now) => owner.stream.handle_timeout(at(now)),
-        Nack(pid, blp, now) => owner
-            .repairs
-            .handle_nack(&[NackEntry { pid, blp }], at(now))?,
-        Gives(now, ssrc, number, bytes) => {
-            return Ok(is_given(&next(alloc, owner, now)?, ssrc, number, bytes));
+        Step::Declares(low) => declare(end, low)?,
+        Step::Repairs(low, first) => declare_repaired(end, low, first)?,
+        Step::Keeps(packets, age, cap) => keep(end, packets, age, cap)?,
+        Step::Writes(low, number, bytes) => write(alloc, end, low, number, bytes)?,
+        Step::WritesLong(number) => write_long(alloc, end, number)?,
+        Step::Puts(pt, again, time, number, bytes) => {
+            write_as(alloc, end, (pt, again, time), number, bytes)?
         }
-        GivesMany(now, count) => return gives_many(alloc, owner, now, count),
-        GivesNone(now) => return Ok(next(alloc, owner, now)?.is_none()),
-        UsedUp(now) => {
-            return match next(alloc, owner, now) {
-                Ok(_) => Ok(false),
-                Err(error) => Ok(error == ResendError::Exhausted),
-            };
+        Step::SendsThree => return sends_three(alloc, end),
+        Step::SendsMany(now, from, to) => return sends_many(alloc, end, at(now), from, to),
+        Step::Asks(now, low, pid, blp) => {
+            return is_asked(alloc, end, at(now), low, (pid, blp));
+        }
+        Step::Hears(now, plain) => return hears(alloc, end, at(now), plain),
+        Step::Drains(now, outs) => return drains(alloc, end, at(now), outs),
+        Step::Ticks(now, outs) => return ticks(alloc, end, at(now), outs),
+        Step::Loses(now, lost, outs) => {
+            return loses(alloc, end, peer, at(now), lost, outs);
+        }
+        Step::PeerAsks(now, plain) => return peer_asks(end, peer, at(now), plain),
+        Step::Ends(now, outs) => return ends(alloc, end, at(now), outs),
+        Step::EndsAtOnce(now) => return ends_at_once(end, at(now)),
+    }
+    Ok(true)
+}
+
+// Whether an end that sends on SSRC 42, with repairs on SSRC 43, and a peer that receives on SSRC
+// 42 go through all steps.
+fn go_through(
+    alloc: Global,
+    end: &mut End,
+    peer: &mut End,
+    first: u64,
+    steps: &[Step],
+) -> Result<bool, Fail> {
+    let cname = Bytes::from_slice(alloc, b"cam")?;
+    end.add_media(Media::new(mid(), MediaKind::Video, cname))?;
+    declare_repaired(end, 42, first)?;
+    expect_stream(peer)?;
+    give_keys(alloc, end, false)?;
+    give_keys(alloc, peer, true)?;
+    for step in steps {
+        if !goes(alloc, end, peer, *step)? {
+            return Ok(false);
         }
     }
     Ok(true)
 }
 
-fn goes_all(alloc: Global, owner: &mut Owner, steps: &[Step]) -> Result<bool, ResendError> {
-    for step in steps {
-        if !goes(alloc, owner, *step)? {
-            return Ok(false);
-        }
-    }
-    Ok(true)
+// Makes two ends, and takes them through the steps: the one function that owns sessions, with one
+// exit.
+fn play(alloc: Global, begins: Begins, steps: &[Step]) -> Result<bool, Fail> {
+    let exts = map_of(begins.0);
+    let sender = config(alloc, exts, 1150, 0)?;
+    let receiver = config(alloc, exts, 1150, 0)?;
+    let mut end = End::new(alloc, sender);
+    let mut peer = End::new(alloc, receiver);
+    go_through(alloc, &mut end, &mut peer, begins.1, steps)
 }
 
 #[test]
-fn streams_send_again(rt: HostRuntime) -> Result<(), Fail> {
-    for (_name, first, kept, steps) in ROWS {
-        let mut owner = new_owner(rt.alloc(), first, kept)?;
-        assert!(rt; goes_all(rt.alloc(), &mut owner, &THREE)?);
-        assert!(rt; goes_all(rt.alloc(), &mut owner, steps)?);
+fn repairs_hold(rt: HostRuntime) -> Result<(), Fail> {
+    let asked = ASKED.iter().chain(CAPPED.iter()).chain(KEPT.iter());
+    let all = asked.chain(SEVERAL.iter()).chain(CARRIED.iter());
+    for (name, begins, steps) in all.chain(USED_UP.iter()) {
+        let held = play(rt.alloc(), *begins, steps)?;
+        assert!(rt; held, "{name}");
     }
     Ok(())
 }

@@ -1,4 +1,4 @@
-use crate::ends::{End, mid, rid};
+use crate::ends::{End, ended_with, mid, rid};
 use crate::feedback::{FEEDBACK, queue_one};
 use crate::packets::{packet_of, seal_report};
 use mask_register::MaskRegister;
@@ -239,14 +239,11 @@ fn first_answers(end: &mut End, first: First) -> bool {
 
 fn ends(end: &mut End, now: Instant) -> Result<bool, Fail> {
     end.handle_timeout(now)?;
-    let ended = match end.poll_datagram(now) {
-        Err(error) => error == RtcError::KeyExhausted(Counter::Rtcp),
-        Ok(_) => false,
-    };
-    let stopped = match end.handle_timeout(now) {
-        Err(error) => error == RtcError::Stopped,
-        Ok(()) => false,
-    };
+    let ended = ended_with(
+        &end.poll_datagram(now),
+        &RtcError::KeyExhausted(Counter::Rtcp),
+    );
+    let stopped = ended_with(&end.handle_timeout(now), &RtcError::Stopped);
     Ok(ended && stopped)
 }
 

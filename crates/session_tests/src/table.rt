@@ -57,7 +57,7 @@ const ROWS: [(&str, Row); 31] = [
     ("2,000 bytes", Row::Tells(Long(2000), 1972)),
     ("2,001 bytes", Row::Refuses(Long(2001))),
     ("an unknown SSRC", Row::Refuses(SealOf(11, 0x2b))),
-    ("an unclaimed type", Row::Refuses(SealOf(1, 0x61))),
+    ("an unclaimed type", Row::Refuses(SealOf(1, 0x62))),
     ("a wrong tag", Row::Refuses(Changed(29, 2))),
     ("another payload", Row::Refuses(Changed(12, 2))),
     ("another version", Row::Refuses(Changed(0, 0x40))),

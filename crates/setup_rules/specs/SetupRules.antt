@@ -4,15 +4,17 @@ use Rattle.std.specs.List.{flat_map, list_any}
 use Rattle.std.specs.Str.{bytes_eq}
 use Rattle.rtp_wire.specs.Extensions.{extension_number}
 use Rattle.media_model.specs.declared.setup.NamedExtension.{NamedExtension}
+use Rattle.media_model.specs.declared.setup.PayloadType.{PayloadType}
 use Rattle.media_model.specs.declared.setup.Stream.{Stream}
+use Rattle.media_model.specs.declared.setup.NamedCache.{NamedCache}
 use Rattle.media_model.specs.declared.setup.Media.{Media}
 use Rattle.media_model.specs.declared.setup.Mtu.{Mtu}
 use Rattle.media_model.specs.declared.setup.Setup.{Setup}
 use Rattle.srtp_core.specs.Keys.{material_len}
-use Rattle.media_model.specs.Setup.{material_of, types_of, is_extension_id}
+use Rattle.media_model.specs.Setup.{material_of, claimed_of, is_extension_id}
 use Rattle.media_model.specs.Sides.{same_side}
 use Rattle.setup_rules.specs.declared.fault.SetupFault.{SetupFault}
-use Rattle.setup_rules.specs.declared.fault.SetupFault.TheVariants.{KeyLength, Mtu as MtuRule, Times, ExtId, TypeTwice, SsrcZero, SsrcTwice, RidTwice, RtxLater}
+use Rattle.setup_rules.specs.declared.fault.SetupFault.TheVariants.{KeyLength, Mtu as MtuRule, Times, ExtId, TypeTwice, SsrcZero, SsrcTwice, RidTwice, CacheSize, RtxLater}
 
 -- a number stands in a list
 abbrev pub has : List ℕ → ℕ → Bool
@@ -56,9 +58,14 @@ all_ssrcs setup = setup.a.ssrc ∷ setup.b.ssrc ∷ stream_ssrcs setup
 abbrev pub is_mtu : Mtu → Bool
 is_mtu mtu = nat_le 900 mtu.target && nat_le mtu.target mtu.warn && nat_le mtu.warn 1500
 
--- the Unix time of the moment 0 in seconds, or the threshold of pauses in nanoseconds, is too great
+-- the age of a cache, in nanoseconds, is too great
+abbrev pub is_old : NamedCache → Bool
+is_old named = nat_lt (10 ^ 16) named.cache.age
+
+-- the Unix time of the moment 0 in seconds, or the threshold of pauses or the age of a cache in nanoseconds, is too great
 abbrev pub is_beyond : Setup → Bool
-is_beyond setup = nat_lt 2075000000 setup.beginning.unix_secs || nat_lt (10 ^ 16) setup.pause_threshold
+is_beyond setup =
+    nat_lt 2075000000 setup.beginning.unix_secs || nat_lt (10 ^ 16) setup.pause_threshold || list_any is_old setup.caches
 
 abbrev pub any_mid_again : List Media → Bool
 any_mid_again [] = false
@@ -77,14 +84,30 @@ abbrev pub any_rid_again : List Stream → Bool
 any_rid_again [] = false
 any_rid_again (s ∷ ss) = list_any (meets s) ss || any_rid_again ss
 
+-- 1 to 32,000 packets
+abbrev pub has_size : NamedCache → Bool
+has_size named = nat_le 1 named.cache.packets && nat_le named.cache.packets 32000
+
+abbrev pub any_size_wrong : List NamedCache → Bool
+any_size_wrong caches = list_any (λ (n : NamedCache). not (has_size n)) caches
+
 abbrev pub has_rtx : Stream → Bool
 has_rtx stream = is_some stream.rtx
 
--- the rules of media and their streams
-abbrev pub media_rules : List Media → List (Bool × SetupFault)
-media_rules media =
-    (any_mid_again media || list_any (λ (m : Media). any_rid_again m.streams) media, RidTwice)
-    ∷ (list_any (λ (m : Media). list_any has_rtx m.streams) media, RtxLater) ∷ []
+abbrev pub is_repaired : PayloadType → Bool
+is_repaired t = is_some t.rtx
+
+-- a stream has an SSRC of repairs, or a payload type one of repairs
+abbrev pub any_repairs : Setup → Bool
+any_repairs setup =
+    list_any (λ (m : Media). list_any has_rtx m.streams) setup.media || list_any is_repaired setup.types
+
+-- the rules of media, their streams and repairs
+abbrev pub media_rules : Setup → List (Bool × SetupFault)
+media_rules setup =
+    (any_mid_again setup.media || list_any (λ (m : Media). any_rid_again m.streams) setup.media, RidTwice)
+    ∷ (any_size_wrong setup.caches, CacheSize)
+    ∷ (any_repairs setup, RtxLater) ∷ []
 
 -- the rules of a setup, in their order
 abbrev pub setup_rules : Setup → List (Bool × SetupFault)
@@ -93,13 +116,13 @@ setup_rules setup =
     ∷ (not (is_mtu setup.mtu), MtuRule)
     ∷ (is_beyond setup, Times)
     ∷ (any_ext_wrong setup.exts, ExtId)
-    ∷ (list_any (nat_lt 127) (types_of setup) || repeats (types_of setup), TypeTwice)
+    ∷ (list_any (nat_lt 127) (claimed_of setup) || repeats (claimed_of setup), TypeTwice)
     ∷ (has (all_ssrcs setup) 0, SsrcZero)
     ∷ (repeats (all_ssrcs setup), SsrcTwice)
-    ∷ media_rules setup.media
+    ∷ media_rules setup
 
-abbrev pub media_fault : List Media → Option SetupFault
-media_fault media = first_fault (media_rules media)
+abbrev pub media_fault : Setup → Option SetupFault
+media_fault setup = first_fault (media_rules setup)
 
 abbrev pub setup_fault : Setup → Option SetupFault
 setup_fault setup = first_fault (setup_rules setup)

@@ -11,13 +11,13 @@ pub enum SetupFault {
     /// The target for the length of datagrams is below 900, above the length to warn of, or this
     /// one above 1,500.
     Mtu,
-    /// The Unix time of the moment 0 is above 2,075,000,000 s, or the threshold of pauses above
-    /// 10^16 ns.
+    /// The Unix time of the moment 0 is above 2,075,000,000 s, or the threshold of pauses or the age
+    /// of a cache above 10^16 ns.
     Times,
     /// An id of a header extension is outside 1 to 14, or stands twice, or an extension stands
     /// twice.
     ExtId,
-    /// A payload type is claimed twice, or is above 127.
+    /// A payload type, of packets or of their repairs, is claimed twice, or is above 127.
     TypeTwice,
     /// An SSRC among the main, RTX and local ones of both sides is 0.
     SsrcZero,
@@ -26,7 +26,9 @@ pub enum SetupFault {
     /// Two media have one mid, or two streams of one media and side one rid. A stream without a rid
     /// shares every rid.
     RidTwice,
-    /// A stream has an RTX SSRC, which runs do not support yet.
+    /// A cache has no packets, or more than 32,000.
+    CacheSize,
+    /// A stream has an RTX SSRC, or a payload type one of repairs, which runs do not support yet.
     RtxLater,
 }
 
@@ -43,6 +45,7 @@ impl fmt::Display for SetupFault {
             SetupFault::SsrcZero => write!(f, "SsrcZero"),
             SetupFault::SsrcTwice => write!(f, "SsrcTwice"),
             SetupFault::RidTwice => write!(f, "RidTwice"),
+            SetupFault::CacheSize => write!(f, "CacheSize"),
             SetupFault::RtxLater => write!(f, "RtxLater"),
         }
     }

@@ -2,12 +2,12 @@
 ghost use Rattle.std.specs.Prelude.{◌≡◌, ◌||◌, ◌++◌, ◌==◌, bytes_eq, nat_lt, length, IfOk, OnOk};
 ghost use Rattle.std.specs.List.{list_any, flat_map};
 ghost use Rattle.srtp_core.specs.Keys.{material_len};
-ghost use Rattle.media_model.specs.Setup.{material_of, types_of};
+ghost use Rattle.media_model.specs.Setup.{material_of, claimed_of};
 ghost use Rattle.setup_rules.specs.SetupRules.{has};
-ghost use Rattle.setup_rules.specs.SetupRules.{repeats, clash, any_ext_wrong, both_of, all_ssrcs, is_mtu, is_beyond, any_mid_again, rids_meet, meets, any_rid_again, has_rtx, media_fault, setup_fault};
+ghost use Rattle.setup_rules.specs.SetupRules.{repeats, clash, any_ext_wrong, both_of, all_ssrcs, is_mtu, is_beyond, any_mid_again, rids_meet, meets, any_rid_again, is_old, any_size_wrong, has_rtx, is_repaired, any_repairs, media_fault, setup_fault};
 
 use crate::fault::SetupFault;
-use media_model::{Media, Mtu, NamedExtension, Setup, Stream};
+use media_model::{Media, Mtu, NamedCache, NamedExtension, PayloadType, Setup, Stream};
 use rtp_wire::{Mid, Pt, Rid};
 use std::alloc::{AllocError, Global};
 
@@ -23,8 +23,12 @@ const GREATEST_WARN: u64 = 1_500;
 /// The greatest Unix time of the moment 0, in seconds: the NTP seconds of every step fit 32 bits.
 const MAX_UNIX_SECS: u64 = 2_075_000_000;
 
-/// The greatest threshold of pauses, in nanoseconds: that of the time of a step.
-const MAX_PAUSE_NANOS: u64 = 10_000_000_000_000_000;
+/// The greatest threshold of pauses and the greatest age of a cache, in nanoseconds: that of the time
+/// of a step.
+const MAX_NANOS: u64 = 10_000_000_000_000_000;
+
+/// The most packets of a cache.
+const MOST_PACKETS: u64 = 32_000;
 
 fn has_number(numbers: &[u32], number: u32) -> bool
     ensures { result ≡ has numbers.now number }
@@ -113,11 +117,21 @@ fn is_mtu(mtu: &Mtu) -> bool
     LEAST_TARGET <= mtu.target && mtu.target <= mtu.warn && mtu.warn <= GREATEST_WARN
 }
 
+fn any_cache_old(caches: &[NamedCache]) -> bool
+    ensures { result ≡ list_any is_old caches.now }
+{
+    caches
+        .iter()
+        .any(|named| named.cache.age.as_nanos() > MAX_NANOS)
+}
+
 /// Whether a time of the setup is too great.
 fn is_beyond(setup: &Setup) -> bool
     ensures { result ≡ is_beyond setup.now }
 {
-    setup.beginning.unix_secs > MAX_UNIX_SECS || setup.pause_threshold.as_nanos() > MAX_PAUSE_NANOS
+    setup.beginning.unix_secs > MAX_UNIX_SECS
+        || setup.pause_threshold.as_nanos() > MAX_NANOS
+        || any_cache_old(setup.caches.as_slice())
 }
 
 fn has_mid(media: &[Media], mid: &Mid) -> bool
@@ -181,17 +195,36 @@ fn any_media_rtx(media: &[Media]) -> bool
     media.iter().any(|m| any_rtx(m.streams.as_slice()))
 }
 
-/// The first rule of media and their streams that a setup breaks.
-fn check_media(media: &[Media]) -> Option<SetupFault>
-    ensures { result ≡ media_fault media.now }
+fn any_size_wrong(caches: &[NamedCache]) -> bool
+    ensures { result ≡ any_size_wrong caches.now }
 {
-    if any_mid_again(media) {
+    caches.iter().any(|named| named.cache.packets < 1 || named.cache.packets > MOST_PACKETS)
+}
+
+fn any_type_repaired(types: &[PayloadType]) -> bool
+    ensures { result ≡ list_any is_repaired types.now }
+{
+    types.iter().any(|payload_type| payload_type.rtx.is_some())
+}
+
+fn any_repairs(setup: &Setup) -> bool
+    ensures { result ≡ any_repairs setup.now }
+{
+    any_media_rtx(setup.media.as_slice()) || any_type_repaired(setup.types.as_slice())
+}
+
+/// The first rule of media, their streams and repairs that a setup breaks.
+fn check_media(setup: &Setup) -> Option<SetupFault>
+    ensures { result ≡ media_fault setup.now }
+{
+    let media = setup.media.as_slice();
+    if any_mid_again(media) || any_media_rid_again(media) {
         return Some(SetupFault::RidTwice);
     }
-    if any_media_rid_again(media) {
-        return Some(SetupFault::RidTwice);
+    if any_size_wrong(setup.caches.as_slice()) {
+        return Some(SetupFault::CacheSize);
     }
-    if any_media_rtx(media) {
+    if any_repairs(setup) {
         return Some(SetupFault::RtxLater);
     }
     None
@@ -202,7 +235,7 @@ pub fn check_setup(alloc: Global, setup: &Setup) -> Result<Option<SetupFault>, A
     ensures { IfOk result (λ fault. fault ≡ setup_fault setup.now) }
 {
     let material = setup.material(alloc)?;
-    let types = setup.types(alloc)?;
+    let types = setup.claimed_types(alloc)?;
     let ssrcs = all_ssrcs(alloc, setup)?;
     if material.len() != setup.profile.keying_material_len() {
         return Ok(Some(SetupFault::KeyLength));
@@ -225,5 +258,5 @@ pub fn check_setup(alloc: Global, setup: &Setup) -> Result<Option<SetupFault>, A
     if any_number_again(&ssrcs) {
         return Ok(Some(SetupFault::SsrcTwice));
     }
-    Ok(check_media(setup.media.as_slice()))
+    Ok(check_media(setup))
 }

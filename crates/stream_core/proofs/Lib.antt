@@ -2,9 +2,13 @@ pub mod Accepting
 pub mod Alongside
 pub mod Any
 pub mod Mending
+pub mod PollSteps
 pub mod Polling
+pub mod Primaries
+pub mod RepairSteps
 pub mod RxSteps
 pub mod Stamps
+pub mod SeenSteps
 pub mod StreamsSteps
 pub mod TableSteps
 pub mod Totals

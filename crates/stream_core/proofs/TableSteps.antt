@@ -1,6 +1,6 @@
 -- A table of streams, step by step.
 use Rattle.std.proofs.Common.{◌≡◌, ℕ, zero, suc, ◌+◌, Bool, true, false, cond, List, [], ◌∷◌, ◌++◌, Option, Some, None, is_some, length, take, drop, slice_get, nat_eq, refl, sym, ap, subst, ◌∙◌, add-one}
-use Rattle.std.specs.Map.{values_of}
+use Rattle.std.specs.Map.{keys_of, values_of}
 use Rattle.std.specs.Option.{option_map_or}
 use Rattle.indexmap.specs.IndexMap.{set_value_at}
 use Rattle.stream_core.specs.Tables.{place_of, without_key, with_new, each, Along}
@@ -43,7 +43,8 @@ pub with_new_absent : {X : Type 0} (k : ℕ) (x : X) (es : List (ℕ × X)) → 
 with_new_absent k x es h = absent (place_of k es) es (es ++ (k, x) ∷ []) h
 
 module _ {A B : Type 0} (R : A → B → Type 0) where
-  same_place : (xs : List (ℕ × A)) (ys : List (ℕ × B)) (k : ℕ) (b : Bool) → Along R xs ys → is_some (place_of k xs) ≡ b → is_some (place_of k ys) ≡ b
+  -- a key has a place in both tables, or in none
+  pub same_place : (xs : List (ℕ × A)) (ys : List (ℕ × B)) (k : ℕ) (b : Bool) → Along R xs ys → is_some (place_of k xs) ≡ b → is_some (place_of k ys) ≡ b
   same_place xs ys k b h e = ap is_some (sym (place_along R xs ys k h)) ∙ e
 
   pub along_there : (xs : List (ℕ × A)) (ys : List (ℕ × B)) (k : ℕ) (y : B) → Along R xs ys → is_some (place_of k xs) ≡ true → Along R xs (with_new k y ys)
@@ -64,3 +65,9 @@ module _ {A B : Type 0} (R : A → B → Type 0) where
       by : (b : Bool) → Along R (without_key k xs) (without_key k ys) → Along R (cond b xs (x ∷ without_key k xs)) (cond b ys (y ∷ without_key k ys))
       by true rest = h.1
       by false rest = (h.0, rest)
+
+-- a value is written over, and the keys stay
+pub keys_set_value_at : {X : Type 0} (es : List (ℕ × X)) (i : ℕ) (w : X) → keys_of (set_value_at es i w) ≡ keys_of es
+keys_set_value_at [] i w = refl
+keys_set_value_at (e ∷ es) zero w = refl
+keys_set_value_at (e ∷ es) (suc i) w = ap (λ ks. e.0 ∷ ks) (keys_set_value_at es i w)

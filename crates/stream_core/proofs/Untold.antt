@@ -77,3 +77,16 @@ module _ {X : Type 0} (p : X → Bool) where
   none_over (e ∷ es) (suc i) (suc n) x not h =
       let k = none_here (p e.1) (first_where p (take n es)) h in
       none_cons e (take n (set_value_at es i x)) k.0 (none_over es i n x not k.1)
+
+  -- and where it holds of the new value as of the old one
+  pub none_same : (es : List (ℕ × X)) (i n : ℕ) (old x : X) → slice_get (values_of es) i ≡ Some old → p x ≡ p old → first_where p (take n es) ≡ None → first_where p (take n (set_value_at es i x)) ≡ None
+  none_same [] i n old x at same h = h
+  none_same (e ∷ es) zero zero old x at same h = refl
+  none_same (e ∷ es) zero (suc n) old x at same h =
+      let k = none_here (p e.1) (first_where p (take n es)) h in
+      let here : old ≡ e.1 = cc in
+      none_cons (e.0, x) (take n es) (same ∙ ap p here ∙ k.0) k.1
+  none_same (e ∷ es) (suc i) zero old x at same h = refl
+  none_same (e ∷ es) (suc i) (suc n) old x at same h =
+      let k = none_here (p e.1) (first_where p (take n es)) h in
+      none_cons e (take n (set_value_at es i x)) k.0 (none_same es i n old x at same k.1)

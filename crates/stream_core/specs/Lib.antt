@@ -5,7 +5,9 @@ pub mod Pauses
 pub mod Queue
 pub mod Repairing
 pub mod RxRecord
+pub mod RxRepairs
 pub mod Sealing
+pub mod Seen
 pub mod StreamsRecord
 pub mod Tables
 pub mod Totals

@@ -1,5 +1,5 @@
 -- What a stream sends again (RFC 4588), and what a poll of it gives.
-use Rattle.std.specs.Prelude.{◌≡◌, ℕ, ◌+◌, ◌%◌, ◌<◌, ◌^◌, ◌==◌, ◌||◌, not, Bool, false, if◌then◌else◌, is_some, Option, Some, None, option_and_then, List, [], ◌∷◌, ◌++◌, length, drop, slice_get}
+use Rattle.std.specs.Prelude.{◌≡◌, ℕ, ◌+◌, ◌%◌, ◌<◌, ◌^◌, ◌==◌, ◌||◌, not, Bool, false, if◌then◌else◌, is_some, Option, Some, None, option_and_then, List, [], ◌∷◌, ◌++◌, length, drop, slice_get, slice_index_or}
 use Rattle.std.specs.Int.{w16, to_be_bytes}
 use Rattle.std.specs.Map.{values_of}
 use Rattle.std.specs.Option.{option_map, option_map_or}
@@ -8,14 +8,14 @@ use Rattle.resend_core.specs.declared.rtx_cache.RtxCache.{RtxCache}
 use Rattle.rtp_wire.specs.declared.header.RtpHeader.{RtpHeader}
 use Rattle.rtp_wire.specs.declared.values.ExtensionValues.{ExtensionValues}
 use Rattle.rtp_wire.specs.Header.{header_bytes}
-use Rattle.rtx_core.specs.Resends.{ResendState, ResendView, ResendRecord, StandsFor, Caches, after_first, after_next, IsNext}
+use Rattle.rtx_core.specs.Resends.{ResendState, ResendView, ResendRecord, StandsFor, Caches, after_first, after_next, IsNext, created}
 use Rattle.stream_core.specs.declared.packet.RtpPacket.{RtpPacket}
 use Rattle.stream_core.specs.declared.payload_types.TypeRow.{TypeRow}
 use Rattle.stream_core.specs.declared.stream_tx.PacketReceipt.{PacketReceipt}
 use Rattle.stream_core.specs.declared.transport.Transport.{Transport}
 use Rattle.stream_core.specs.Queue.{next_of}
 use Rattle.stream_core.specs.Sealing.{with_sealing, with_values}
-use Rattle.stream_core.specs.Tables.{value_under}
+use Rattle.stream_core.specs.Tables.{value_under, change_at}
 use Rattle.stream_core.specs.TxRecord.{TxRecord, receipt_of, polled, after_poll}
 
 -- a packet that was sent and may be sent again, and the payload type of its repairs
@@ -42,6 +42,19 @@ RepairsStandFor stands_for q r = StandsFor stands_for size_of_sent q r
 -- the type of the repairs of packets of a type
 abbrev pub rtx_type_of : List (ℕ × TypeRow) → ℕ → Option ℕ
 rtx_type_of types pt = option_and_then (λ row. row.rtx) (value_under pt types)
+
+abbrev pub is_type : ℕ → Option ℕ → Bool
+is_type pt None = false
+is_type pt (Some t) = t == pt
+
+-- the first type whose packets have repairs of a type
+abbrev pub primary_type_of : List (ℕ × TypeRow) → ℕ → Option ℕ
+primary_type_of [] pt = None
+primary_type_of (e ∷ es) pt = if is_type pt e.1.rtx then Some e.1.pt else primary_type_of es pt
+
+-- under each type the first one whose packets have repairs of it
+abbrev pub ArePrimaries : List (Option ℕ) → List (ℕ × TypeRow) → Type 0
+ArePrimaries primaries types = (pt : ℕ) → pt < 256 → slice_index_or primaries pt None ≡ primary_type_of types pt
 
 -- the type of the repairs of a packet: none where the packet is not kept to be sent again
 abbrev pub kept_as : List (ℕ × TypeRow) → RtpPacket → Option ℕ
@@ -103,3 +116,14 @@ IsUsedUp now q = (p : SentPacket) × (rest : List _) × IsNext now q (Some (p, r
 abbrev pub has_asked : Option ResendState → Bool
 has_asked None = false
 has_asked (Some s) = not (length s.resends == 0)
+
+abbrev pub state_in : {C : Type 0} → Option (ResendView C) → Option ResendState
+state_in q = option_map (λ v. v.state) q
+
+-- the repairs of a stream, among those of all streams, each under the SSRC of its stream
+abbrev pub repairs_of : {X : Type 0} → TxRecord → List (ℕ × X) → Option X
+repairs_of x qs = option_and_then (λ rtx. value_under x.ssrc qs) x.rtx
+
+abbrev pub with_repairs : {X : Type 0} → ℕ → Option X → List (ℕ × X) → List (ℕ × X)
+with_repairs ssrc None qs = qs
+with_repairs ssrc (Some q) qs = change_at ssrc (λ old. q) qs

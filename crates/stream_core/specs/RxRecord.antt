@@ -2,7 +2,9 @@
 use Rattle.std.specs.Prelude.{◌≡◌, ℕ, ◌+◌, ◌-◌, ◌*◌, ◌^◌, ◌||◌, Bool, false, min, is_none, if◌then◌else◌, List, Option, Some, None, unwrap_or}
 use Rattle.rtp_base.specs.Widen.{widen16}
 use Rattle.repair_core.specs.Fresh.{is_fresh, greatest_of}
+use Rattle.rtp_base.specs.declared.window.SeqNoWindow.{SeqNoWindow}
 use Rattle.repair_core.specs.Rounds.{Heard, started_at, came, taken}
+use Rattle.rtx_core.specs.Repairs.{RepairPast, Remembers as RepairsRemember}
 
 -- all of an incoming stream but its window: its SSRC and that of its repairs, the media section and the stream in it; the
 -- rollover count that the next datagram is taken to have, if one was set; whether it asks for nothing that is missing; how
@@ -20,15 +22,18 @@ pub record RxState : Type 0 where
   pub untold : Bool
   pub trip : Option ℕ
 
--- an incoming stream as its callers see it
+-- an incoming stream as its callers see it: the windows of its packets and of its repairs
 pub record RxView (W : Type 0) : Type 0 where
   pub state : RxState
   pub window : Option W
+  pub repairs : Option SeqNoWindow
 
--- an incoming stream: what its window was told is None before the first datagram opened
+-- an incoming stream: what its window was told is None before the first number was taken, and what is known of its repairs
+-- before the first one opened
 pub record RxRecord : Type 0 where
   pub state : RxState
   pub numbers : Option Heard
+  pub repairs : Option RepairPast
 
 -- a stream on which nothing was opened: it is paused
 abbrev pub expected : ℕ → Option ℕ → List ℕ → Option (List ℕ) → Bool → ℕ → RxRecord
@@ -46,9 +51,10 @@ expected ssrc rtx mid rid suppressed threshold = record {
     trip = None;
   };
   numbers = None;
+  repairs = None;
 }
 
--- what a window was told, or will have been told once the first datagram opens: a window begins with the greatest number
+-- what a window was told, or will have been told once the first number is taken: a window begins with the greatest number
 -- that is remembered of the SSRC by then
 abbrev pub heard : Option ℕ → RxRecord → Heard
 heard remembered r = unwrap_or r.numbers (started_at remembered)
@@ -69,21 +75,24 @@ abbrev pub fresh_number : Option ℕ → RxRecord → ℕ → Option ℕ
 fresh_number remembered r low =
     if is_fresh (taken_of remembered r) (number_for remembered r low) then Some (number_for remembered r low) else None
 
--- a datagram opened at a moment: the stream is not paused until its threshold has passed
-abbrev pub came_at : ℕ → RxState → RxState
-came_at now s = record s {
-  roc = None;
+-- something opened at a moment: the stream is not paused until its threshold has passed
+abbrev pub unpaused : ℕ → RxState → RxState
+unpaused now s = record s {
   pause_at = Some (min (now + s.threshold) (2 ^ 64 - 1));
   untold = s.untold || is_none s.pause_at;
 }
 
--- a datagram opened under this number at a moment
-abbrev pub opened_as : Option ℕ → ℕ → ℕ → RxRecord → RxRecord
-opened_as remembered now n r = record { state = came_at now r.state; numbers = Some (came (heard remembered r) n) }
+-- a packet opened at a moment: a rollover count that was set is used up
+abbrev pub came_at : ℕ → RxState → RxState
+came_at now s = record (unpaused now s) { roc = None }
 
--- the numbers are forgotten, and a rollover count was set
+-- a packet opened under this number at a moment
+abbrev pub opened_as : Option ℕ → ℕ → ℕ → RxRecord → RxRecord
+opened_as remembered now n r = record r { state = came_at now r.state; numbers = Some (came (heard remembered r) n) }
+
+-- the numbers are forgotten, those of the repairs too, and a rollover count was set
 abbrev pub restarted : ℕ → RxRecord → RxRecord
-restarted roc r = record { state = record r.state { roc = Some roc }; numbers = None }
+restarted roc r = record { state = record r.state { roc = Some roc }; numbers = None; repairs = None }
 
 -- there is a window exactly where the record says so, and it remembers what it was told
 abbrev pub Remembers : {W : Type 0} → (W → Heard → Type 0) → Option W → Option Heard → Type 0
@@ -95,3 +104,4 @@ Remembers remembers (Some w) (Some past) = remembers w past
 pub record StandsFor {W : Type 0} (remembers : W → Heard → Type 0) (s : RxView W) (r : RxRecord) : Type 0 where
   pub state : s.state ≡ r.state
   pub window : Remembers remembers s.window r.numbers
+  pub repairs : RepairsRemember s.repairs r.repairs

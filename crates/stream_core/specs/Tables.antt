@@ -1,6 +1,6 @@
 -- Values under keys, in order.
-use Rattle.std.specs.Prelude.{◌≡◌, ℕ, zero, suc, nat_eq, position, Option, option_and_then, slice_get, List, [], ◌∷◌, ◌++◌, map}
-use Rattle.std.specs.List.{AllZip}
+use Rattle.std.specs.Prelude.{◌≡◌, ◌==◌, not, ℕ, zero, suc, nat_eq, position, Option, option_and_then, slice_get, List, [], ◌∷◌, ◌++◌, map}
+use Rattle.std.specs.List.{AllZip, filter}
 use Rattle.std.specs.Map.{keys_of, values_of, remove_entry}
 use Rattle.std.specs.Option.{option_map_or}
 
@@ -15,6 +15,10 @@ value_under k es = option_and_then (slice_get (values_of es)) (place_of k es)
 -- the table without the first value under a key
 abbrev pub without_key : {X : Type 0} → ℕ → List (ℕ × X) → List (ℕ × X)
 without_key k es = remove_entry (nat_eq k) es
+
+-- the table without the entries of a value
+abbrev pub without_value : ℕ → List (ℕ × ℕ) → List (ℕ × ℕ)
+without_value v es = filter (λ e. not (e.1 == v)) es
 
 -- the table with a value behind the others, or as it is where the key has one
 abbrev pub with_new : {X : Type 0} → ℕ → X → List (ℕ × X) → List (ℕ × X)

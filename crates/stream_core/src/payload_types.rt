@@ -1,7 +1,7 @@
 ghost use Rattle.std.specs.Prelude.{◌≡◌, [], nat_eq, is_some, OnOk, OnErr};
 ghost use Rattle.indexmap.specs.IndexMap.{insert_entry};
 ghost use Rattle.stream_core.specs.Tables.{place_of};
-ghost use Rattle.stream_core.specs.Repairing.{rtx_type_of};
+ghost use Rattle.stream_core.specs.Repairing.{rtx_type_of, primary_type_of, ArePrimaries};
 
 use indexmap::IndexMap;
 use rtp_base::{Frequency, Pt};
@@ -24,6 +24,8 @@ pub struct TypeRow {
 #[derive(Drop)]
 pub struct PayloadTypes {
     rows: IndexMap<Pt, TypeRow>,
+    // Under each type of repairs, the first type whose packets have such repairs.
+    primaries: [Option<Pt>; 256],
 }
 
 impl Model for PayloadTypes {
@@ -32,7 +34,29 @@ impl Model for PayloadTypes {
 
     ghost Value = { List (ℕ × TypeRow) };
 
+    ghost use Rattle.stream_core.specs.Repairing.{ArePrimaries};
+
     ghost view = { λ t. t.rows.entries };
+
+    ghost invariant = { λ t. ArePrimaries t.primaries t.rows.entries };
+}
+
+/// Under each type the first one whose packets have repairs of it. The time grows with the number of
+/// types.
+fn primaries_of(rows: &IndexMap<Pt, TypeRow>) -> [Option<Pt>; 256]
+    ensures { ArePrimaries result rows.now.entries }
+{
+    let mut primaries = [None; 256];
+    for place in 0..rows.len() {
+        let row = rows[place];
+        if let Some(rtx) = row.rtx {
+            let at = usize::from(u8::from(rtx));
+            if primaries[at].is_none() {
+                primaries[at] = Some(row.pt);
+            }
+        }
+    }
+    primaries
 }
 
 impl PayloadTypes {
@@ -42,15 +66,18 @@ impl PayloadTypes {
     {
         PayloadTypes {
             rows: IndexMap::new(alloc),
+            primaries: [None; 256],
         }
     }
 
     /// Adds a type, or puts it in the place of the one with its number. Without memory nothing changes.
+    /// The time grows with the number of types.
     pub fn add(&mut self, row: TypeRow) -> Result<(), AllocError>
         ensures ok { OnOk result (self.new ≡ insert_entry nat_eq self.old row.pt row) }
         ensures err { OnErr result (self.new ≡ self.old) }
     {
         self.rows.insert(row.pt, row)?;
+        self.primaries = primaries_of(&self.rows);
         Ok(())
     }
 
@@ -67,5 +94,13 @@ impl PayloadTypes {
     {
         let place = self.rows.get_index_of(&pt)?;
         self.rows[place].rtx
+    }
+
+    /// The first type whose packets have repairs of a type: one look-up in an array. None where it is no
+    /// type of repairs.
+    pub fn primary(&self, pt: Pt) -> Option<Pt>
+        ensures { result ≡ primary_type_of self.now pt }
+    {
+        self.primaries[usize::from(u8::from(pt))]
     }
 }

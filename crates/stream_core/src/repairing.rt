@@ -1,5 +1,5 @@
 //! What a stream sends again (RFC 4588), and its packets, which go after that.
-ghost use Rattle.std.specs.Prelude.{◌≡◌, ◌≤◌, ◌<◌, ◌+◌, ◌^◌, ◌↔◌, [], ◌||◌, if◌then◌else◌, length, is_some, true, None, Some, IfOk, IfSome, IfNone, OnOk, OnErr, IsErrOf};
+ghost use Rattle.std.specs.Prelude.{◌≡◌, ◌≤◌, ◌<◌, ◌+◌, ◌^◌, ◌↔◌, [], ◌||◌, length, is_some, true, None, Some, IfOk, IfSome, IfNone, OnOk, OnErr, IsErrOf};
 ghost use Rattle.rtp_wire.specs.Header.{header_bytes};
 ghost use Rattle.rtp_wire.specs.HeaderLaws.{IsReadAgain};
 ghost use Rattle.stream_core.specs.Queue.{IsSendable, next_of};
@@ -200,8 +200,13 @@ fn poll_first<S: ResendStore<Sent>>(
     Ok(Some(receipt))
 }
 
-/// As `StreamTx::poll_with_repairs`, but for the transport's count.
-fn poll_both<S: ResendStore<Sent>>(
+/// What a stream with repairs gives at a moment: first what is to be sent again, then the packet at the
+/// front of those that wait.
+///
+/// # Errors
+/// `Exhausted` where something is to be sent again and 2^48 numbers were used, and nothing changes then;
+/// `Memory`, and then nothing changes but that nothing may be asked for any more.
+pub(crate) fn poll_both<S: ResendStore<Sent>>(
     alloc: Global,
     stream: &mut StreamTx,
     ssrc: Ssrc,
@@ -234,44 +239,25 @@ fn poll_both<S: ResendStore<Sent>>(
     }
 }
 
-impl StreamTx {
-    /// What is to be sealed next of a stream with repairs (RFC 4588): first what was asked for, as far as it
-    /// is kept and its cap is not met, under the number of the next repair; then the packet at the front of
-    /// those that wait, if there was a tick since it was written. Its header is made for this moment. It is
-    /// taken out, kept to be sent again where it is nackable and its type has a type of repairs, and the
-    /// transport counts it. The time grows with what was asked for and is not kept any more.
-    ///
-    /// # Errors
-    /// `Exhausted` where something is to be sent again and the 2^48 numbers of repairs were used, and
-    /// nothing changes then; `Memory`, and then nothing changes but that nothing may be asked for any more.
-    pub fn poll_with_repairs<S: ResendStore<Sent>>(
-        &mut self,
-        alloc: Global,
-        repairs: &mut ResendQueue<Sent, S>,
-        now: Instant,
-        transport: &mut Transport,
-        types: &PayloadTypes,
-    ) -> Result<Option<PacketReceipt>, ResendError>
-        requires { is_some self.old.rtx ≡ true }
-        ensures polled { IfOk result (λ o. (r : RepairsRecord) → RepairsStandFor S.stands_for repairs.old r
-            → (after : RepairsRecord) × Polls types.now transport.old now self.old (Some r) self.new (Some after) o × RepairsStandFor S.stands_for repairs.new after) }
-        ensures counted { IfOk result (λ o. transport.new ≡ (if is_some o then after_packet transport.old else transport.old)) }
-        ensures small { IfOk result (λ o. IfSome o IsSealable) }
-        ensures reads { IfOk result (λ o. IfSome o (λ p. IsReadAgain transport.old.exts p.header)) }
-        ensures fewer { OnOk result ((has_asked (Some repairs.old.state) || is_some (next_of self.old.queue)) ≡ true
-            → length repairs.new.state.resends + length self.new.queue < length repairs.old.state.resends + length self.old.queue) }
-        ensures exhausted { IsErrOf result ResendError.Exhausted → (self.new ≡ self.old) × (repairs.new ≡ repairs.old)
-            × ((r : RepairsRecord) → RepairsStandFor S.stands_for repairs.old r → IsUsedUp now r) }
-        ensures failed { OnErr result ((self.new ≡ self.old) × (transport.new ≡ transport.old) × ((r : RepairsRecord) → RepairsStandFor S.stands_for repairs.old r
-            → (after : RepairsRecord) × Stays now (Some r) (Some after) × RepairsStandFor S.stands_for repairs.new after)) }
-    {
-        let Some(ssrc) = self.rtx() else {
-            unreachable!();
-        };
-        let polled = poll_both(alloc, self, ssrc, repairs, now, transport, types)?;
-        if polled.is_some() {
-            transport.count();
+/// As `poll_both`, of a stream without repairs.
+pub(crate) fn poll_alone(
+    alloc: Global,
+    stream: &mut StreamTx,
+    now: Instant,
+    transport: &Transport,
+) -> Result<Option<PacketReceipt>, ResendError>
+    ensures polled { IfOk result (λ o. o ≡ polled stream.old transport.now now) }
+    ensures after { OnOk result (stream.new ≡ after_poll stream.old) }
+    ensures small { IfOk result (λ o. IfSome o IsSealable) }
+    ensures reads { IfOk result (λ o. IfSome o (λ p. IsReadAgain transport.now.exts p.header)) }
+    ensures memory { IsErrOf result ResendError.Exhausted → ⊥ }
+    ensures err { OnErr result (stream.new ≡ stream.old) }
+{
+    match stream.next_receipt(alloc, now, transport) {
+        Ok(polled) => {
+            stream.pop_packet();
+            Ok(polled)
         }
-        Ok(polled)
+        Err(_) => Err(ResendError::Memory),
     }
 }

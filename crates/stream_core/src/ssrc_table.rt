@@ -1,6 +1,6 @@
-ghost use Rattle.std.specs.Prelude.{◌≡◌, ◌<◌, ◌∷◌, ◌++◌, [], None, Some, length, slice_get, IfSome, OnOk, OnErr, is_some};
+ghost use Rattle.std.specs.Prelude.{◌≡◌, ◌==◌, not, ◌<◌, ◌∷◌, ◌++◌, [], None, Some, length, take, slice_get, IfSome, OnOk, OnErr, is_some};
 ghost use Rattle.std.specs.Map.{values_of};
-ghost use Rattle.stream_core.specs.Tables.{place_of, without_key};
+ghost use Rattle.stream_core.specs.Tables.{place_of, without_key, without_value};
 
 use indexmap::IndexMap;
 use rtp_base::Ssrc;
@@ -70,6 +70,13 @@ impl<T: Drop> SsrcTable<T> {
         found
     }
 
+    /// Takes out all but so many from the front.
+    pub fn truncate(&mut self, len: usize)
+        ensures { self.new ≡ take len self.old }
+    {
+        self.streams.truncate(len);
+    }
+
     /// The stream at a place.
     pub fn at(&self, place: usize) -> &T
         requires { place < length self.now }
@@ -85,5 +92,18 @@ impl<T: Drop> SsrcTable<T> {
         ensures value { slice_get (values_of self.old) place ≡ Some result.now }
     {
         &mut self.streams[place]
+    }
+}
+
+impl SsrcTable<Ssrc> {
+    /// Takes out all entries of an SSRC. The time grows with the number of entries.
+    pub fn remove_all(&mut self, ssrc: Ssrc)
+        ensures { self.new ≡ without_value ssrc self.old }
+    {
+        self.streams.retain(
+            |_key: &Ssrc, value: &mut Ssrc| -> bool
+                ensures { (result ≡ not (value.old == ssrc)) × (value.new ≡ value.old) }
+            { *value != ssrc },
+        );
     }
 }

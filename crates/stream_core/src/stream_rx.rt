@@ -5,19 +5,22 @@ ghost use Rattle.repair_core.specs.Entries.{packed};
 ghost use Rattle.repair_core.specs.Rounds.{came, started_at};
 ghost use Rattle.stream_core.specs.Missing.{is_enabled, due_of, after_round};
 ghost use Rattle.stream_core.specs.Pauses.{checked, told_of, told};
-ghost use Rattle.stream_core.specs.RxRecord.{RxRecord, StandsFor, expected, taken_of, number_for, fresh_number, came_at, opened_as, restarted};
+ghost use Rattle.stream_core.specs.RxRecord.{RxRecord, StandsFor, expected, taken_of, number_for, fresh_number, unpaused, came_at, opened_as, restarted};
+ghost use Rattle.stream_core.specs.RxRepairs.{own_number, fresh_repair, repair_came, restored_for, restored, with_packet, after_restored};
 
 use crate::stream_paused::StreamPaused;
 use media_base::{Duration, Instant};
 use repair_core::GapWindow;
 use rtp_base::{Mid, MidRid, NackEntry, ReportList, Rid, SeqNo, Ssrc, widen16};
+use rtx_core::RepairWindow;
 use std::alloc::{AllocError, Global};
 use std::marker::Model;
 
-/// A stream that a session receives (RFC 3550 section 3). Its window is made when the first datagram
-/// opens, from the greatest number that is remembered of its SSRC by then. What is remembered is handed
-/// in by the caller, below 2^48; once there is a window, it does not count. A stream is paused at first,
-/// and again where nothing came for its threshold.
+/// A stream that a session receives (RFC 3550 section 3). Its window is made when the first number is
+/// taken, from the greatest number that is remembered of its SSRC by then. What is remembered is handed
+/// in by the caller, below 2^48; once there is a window, it does not count. Repairs (RFC 4588) have
+/// numbers and a window of their own. A stream is paused at first, and again where nothing came for its
+/// threshold.
 #[derive(Drop)]
 pub struct StreamRx<W: GapWindow> {
     alloc: Global,
@@ -35,6 +38,7 @@ pub struct StreamRx<W: GapWindow> {
     // The round trip to its sender.
     trip: Option<Duration>,
     window: Option<W>,
+    repairs: RepairWindow,
 }
 
 impl<W: GapWindow> Model for StreamRx<W> {
@@ -56,6 +60,7 @@ impl<W: GapWindow> Model for StreamRx<W> {
         trip = s.trip;
       };
       window = s.window;
+      repairs = s.repairs;
     } };
 }
 
@@ -120,6 +125,7 @@ impl<W: GapWindow> StreamRx<W> {
             untold: false,
             trip: None,
             window: None,
+            repairs: RepairWindow::new(),
         }
     }
 
@@ -151,7 +157,7 @@ impl<W: GapWindow> StreamRx<W> {
         self.rid
     }
 
-    /// Whether nothing was opened yet, so that what is remembered counts.
+    /// Whether no number was taken yet, so that what is remembered counts.
     pub fn is_new(&self) -> bool
         ensures { (r : RxRecord) → StandsFor W.remembers self.now r → result ≡ is_none r.numbers }
     {
@@ -214,6 +220,33 @@ impl<W: GapWindow> StreamRx<W> {
         }
     }
 
+    /// Takes a number. Without memory nothing changes.
+    fn put(&mut self, number: SeqNo, remembered: Option<SeqNo>) -> Result<(), AllocError>
+        requires number { number < 2 ^ 48 }
+        requires remembered { ForSome remembered (λ n. n < 2 ^ 48) }
+        ensures ok { OnOk result ((r : RxRecord) → StandsFor W.remembers self.old r → StandsFor W.remembers self.new (with_packet remembered (Some number) r)) }
+        ensures state { self.new.state ≡ self.old.state }
+        ensures err { OnErr result (self.new ≡ self.old) }
+    {
+        match &mut self.window {
+            Some(window) => {
+                window.update(number);
+            }
+            None => {
+                self.window = Some(window_with::<W>(self.alloc, remembered, number)?);
+            }
+        }
+        Ok(())
+    }
+
+    /// Something opened at a moment: the stream is not paused until its threshold has passed.
+    fn unpause(&mut self, now: Instant)
+        ensures { self.new ≡ record self.old { state = unpaused now self.old.state } }
+    {
+        self.untold = self.untold || self.pause_at.is_none();
+        self.pause_at = Some(now.saturating_add(self.pause_threshold));
+    }
+
     /// Takes a number under which a datagram opened at a moment: the stream is not paused until its
     /// threshold has passed. Without memory nothing changes.
     pub fn take(
@@ -228,28 +261,98 @@ impl<W: GapWindow> StreamRx<W> {
         ensures state { OnOk result (self.new.state ≡ came_at now self.old.state) }
         ensures err { OnErr result (self.new ≡ self.old) }
     {
-        match &mut self.window {
-            Some(window) => {
-                window.update(number);
-            }
-            None => {
-                self.window = Some(window_with::<W>(self.alloc, remembered, number)?);
-            }
-        }
+        self.put(number, remembered)?;
+        self.unpause(now);
         self.roc = None;
-        self.untold = self.untold || self.pause_at.is_none();
-        self.pause_at = Some(now.saturating_add(self.pause_threshold));
         Ok(())
     }
 
-    /// Forgets the numbers that were taken, and takes the rollover count for granted that the next datagram
-    /// that opens has (RFC 3711 section 3.3.1).
+    /// A repair's own number with these low 16 bits (RFC 3711 section 3.3.1), where `seen` is the greatest
+    /// number that was seen on the SSRC of its datagram, below 2^48: nearest to the greatest repair that
+    /// was taken, before the first one to what was seen.
+    pub fn repair_number(&self, low: u16, seen: Option<SeqNo>) -> SeqNo
+        requires { ForSome seen (λ n. n < 2 ^ 48) }
+        ensures number { (r : RxRecord) → StandsFor W.remembers self.now r → result ≡ own_number seen r low }
+        ensures small { result < 2 ^ 48 }
+        ensures low { result % 65536 ≡ low }
+    {
+        self.repairs.number_for(low, seen)
+    }
+
+    /// The own number under which a repair with these low 16 bits may open (RFC 4588), None where it may
+    /// not be taken any more: up to the greatest number that was seen when the first repair opened, no
+    /// repair is taken.
+    pub fn accepts_repair(&self, low: u16, seen: Option<SeqNo>) -> Option<SeqNo>
+        requires { ForSome seen (λ n. n < 2 ^ 48) }
+        ensures fresh { (r : RxRecord) → StandsFor W.remembers self.now r → result ≡ fresh_repair seen r low }
+        ensures small { IfSome result (λ n. n < 2 ^ 48) }
+        ensures low { IfSome result (λ n. n % 65536 ≡ low) }
+    {
+        let before = &seen;
+        let number = self.repair_number(low, *before);
+        if self.repairs.accepts(number, *before) {
+            Some(number)
+        } else {
+            None
+        }
+    }
+
+    /// Takes the own number of a repair that opened at a moment: the stream is not paused until its
+    /// threshold has passed. A rollover count that was set stays for the next datagram that is no repair.
+    pub fn take_repair(&mut self, now: Instant, number: SeqNo, seen: Option<SeqNo>)
+        requires number { number < 2 ^ 48 }
+        requires seen { ForSome seen (λ n. n < 2 ^ 48) }
+        ensures taken { (r : RxRecord) → StandsFor W.remembers self.old r → StandsFor W.remembers self.new (repair_came seen now number r) }
+        ensures state { self.new.state ≡ unpaused now self.old.state }
+    {
+        self.repairs.take(number, seen);
+        self.unpause(now);
+    }
+
+    /// The number with these low 16 bits that is nearest to the greatest one that was taken, fresh or not.
+    pub fn restored_number(&self, low: u16, remembered: &Option<SeqNo>) -> SeqNo
+        requires { ForSome remembered.now (λ n. n < 2 ^ 48) }
+        ensures number { (r : RxRecord) → StandsFor W.remembers self.now r → result ≡ restored_for remembered.now r low }
+        ensures small { result < 2 ^ 48 }
+        ensures low { result % 65536 ≡ low }
+    {
+        SeqNo::from(widen16(number_of(self.max_seq(*remembered)), low))
+    }
+
+    /// Takes the number of the packet that a repair repairs, and gives it: the payload of the repair
+    /// begins with its low 16 bits (RFC 4588 section 4). None where it is not fresh, and then nothing
+    /// changes. Without memory nothing changes.
+    pub fn restore(
+        &mut self,
+        low: u16,
+        remembered: Option<SeqNo>,
+    ) -> Result<Option<SeqNo>, AllocError>
+        requires { ForSome remembered (λ n. n < 2 ^ 48) }
+        ensures restored { IfOk result (λ o. (r : RxRecord) → StandsFor W.remembers self.old r → o ≡ restored remembered r low) }
+        ensures after { OnOk result ((r : RxRecord) → StandsFor W.remembers self.old r → StandsFor W.remembers self.new (after_restored remembered low r)) }
+        ensures state { self.new.state ≡ self.old.state }
+        ensures small { IfOk result (λ o. IfSome o (λ n. n < 2 ^ 48)) }
+        ensures low { IfOk result (λ o. IfSome o (λ n. n % 65536 ≡ low)) }
+        ensures err { OnErr result (self.new ≡ self.old) }
+    {
+        let number = self.restored_number(low, &remembered);
+        if !self.is_fresh(number, &remembered) {
+            return Ok(None);
+        }
+        self.put(number, remembered)?;
+        Ok(Some(number))
+    }
+
+    /// Forgets the numbers that were taken, those of repairs too, and takes the rollover count for granted
+    /// that the next datagram has that opens and is no repair (RFC 3711 section 3.3.1).
     pub fn reset_roc(&mut self, roc: u32)
         ensures { (r : RxRecord) → StandsFor W.remembers self.old r → StandsFor W.remembers self.new (restarted roc r) }
     {
         self.window = None;
+        self.repairs = RepairWindow::new();
         self.roc = Some(roc);
     }
+
     /// Sets how long nothing comes on the stream until it is paused, from the next datagram on.
     pub fn set_pause_threshold(&mut self, threshold: Duration)
         ensures { self.new ≡ record self.old { state = record self.old.state { threshold = threshold } } }

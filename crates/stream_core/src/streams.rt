@@ -1,46 +1,60 @@
-ghost use Rattle.std.specs.Prelude.{◌≡◌, ◌<◌, ◌≤◌, ◌^◌, ◌%◌, ◌+◌, ◌++◌, ℕ, List, [], None, Some, length, take, slice_get, IfSome, IfNone, OnOk, OnErr, is_some};
+ghost use Rattle.std.specs.Prelude.{◌≡◌, ◌<◌, ◌≤◌, ◌^◌, ◌%◌, ◌+◌, ◌++◌, ◌∷◌, ℕ, List, [], None, Some, true, if◌then◌else◌, length, take, slice_get, IfOk, IfSome, IfNone, OnOk, OnErr, IsErrOf, is_some};
 ghost use Rattle.std.specs.List.{AllByRecursion};
-ghost use Rattle.std.specs.Map.{values_of};
+ghost use Rattle.std.specs.Map.{keys_of, values_of};
 ghost use Rattle.std.specs.Option.{ForSome, option_map};
 ghost use Rattle.rtcp_wire.specs.declared.packet.Rtcp.{Rtcp as Item};
 ghost use Rattle.std.specs.VecDeque.{deque_len, deque_capacity};
 ghost use Rattle.stream_core.specs.Missing.{IsShortNack, any_enabled, after_round, nack_with, nacks};
 ghost use Rattle.stream_core.specs.Pauses.{checked, on_view, on_record, first_where, view_untold, next_pause, after_pause, untold_in, first_pause, sooner, with_trip};
-ghost use Rattle.stream_core.specs.RxRecord.{RxRecord, StandsFor as RxStandsFor, expected, opened_as};
-ghost use Rattle.stream_core.specs.StreamsRecord.{StreamsRecord, StandsFor, no_streams, accepted};
-ghost use Rattle.stream_core.specs.Tables.{Along, place_of, with_new, without_key, each, change_at};
-ghost use Rattle.stream_core.specs.TxRecord.{declared, after_timeout, any_waits};
+ghost use Rattle.stream_core.specs.RxRecord.{RxRecord, StandsFor as RxStandsFor, opened_as};
+ghost use Rattle.stream_core.specs.RxRepairs.{repair_came, after_restored};
+ghost use Rattle.rtx_core.specs.Resends.{recached};
+ghost use Rattle.rtp_wire.specs.HeaderLaws.{IsReadAgain};
+ghost use Rattle.stream_core.specs.Repairing.{RepairsRecord};
+ghost use Rattle.stream_core.specs.Sealing.{after_packet};
+ghost use Rattle.stream_core.specs.StreamsRecord.{StreamsRecord, StandsFor, no_streams, accepted, accepted_repair, restored_on, own_number_on, restored_number_on, with_stream_rx, without_stream_rx, repair_place, with_stream_tx, is_asked, is_ready, Asked, PollsAt, StaysAt, IsUsedUpAt, all_waiting, all_asked};
+ghost use Rattle.stream_core.specs.Tables.{Along, place_of, value_under, with_new, without_key, each, change_at};
+ghost use Rattle.stream_core.specs.TxRecord.{TxRecord, declared, after_timeout, any_waits, IsSealable};
 
+use crate::payload_types::PayloadTypes;
+use crate::repairing::{Sent, poll_alone, poll_both};
 use crate::ssrc_table::SsrcTable;
 use crate::stream_paused::StreamPaused;
 use crate::stream_rx::StreamRx;
-use crate::stream_tx::StreamTx;
+use crate::stream_tx::{PacketReceipt, StreamTx};
+use crate::transport::Transport;
 use media_base::{Duration, Instant};
 use repair_core::GapWindow;
+use resend_core::ResendStore;
 use rtcp_wire::{Nack, Rtcp};
 use rtp_base::{MidRid, NackEntry, ReportList, SeqNo, Ssrc};
+use rtx_core::{ResendError, ResendQueue};
 use std::alloc::{AllocError, Global};
 use std::collections::VecDeque;
 use std::marker::Model;
 
 /// The streams that a session sends and receives, each under its SSRC, in order of declaration.
 #[derive(Drop)]
-pub struct Streams<W: GapWindow> {
+pub struct Streams<W: GapWindow, S: ResendStore<Sent>> {
     alloc: Global,
     pause_threshold: Duration,
     rx: SsrcTable<StreamRx<W>>,
+    // Under each SSRC of repairs that comes, the SSRC of the stream that is repaired.
+    originals: SsrcTable<Ssrc>,
     tx: SsrcTable<StreamTx>,
+    // What the streams that have repairs send again, under the SSRC of their packets.
+    repairs: SsrcTable<ResendQueue<Sent, S>>,
     // Where polling stands: of no incoming stream before this place anything is to be told.
     next_untold: usize,
 }
 
-impl<W: GapWindow> Model for Streams<W> {
+impl<W: GapWindow, S: ResendStore<Sent>> Model for Streams<W, S> {
     ghost use Rattle.stream_core.specs.StreamsRecord.{StreamsView};
     ghost use Rattle.stream_core.specs.Pauses.{IsToldTo};
 
-    ghost Value = { StreamsView W };
+    ghost Value = { StreamsView W S };
 
-    ghost view = { λ s. record { threshold = s.pause_threshold; rx = s.rx; tx = s.tx } };
+    ghost view = { λ s. record { threshold = s.pause_threshold; rx = s.rx; originals = s.originals; tx = s.tx; repairs = s.repairs } };
 
     ghost invariant = { λ s. IsToldTo s.next_untold s.rx };
 }
@@ -144,23 +158,69 @@ fn first_untold<W: GapWindow>(streams: &SsrcTable<StreamRx<W>>, from: usize) -> 
     None
 }
 
-impl<W: GapWindow> Streams<W> {
+/// The SSRC of a stream's repairs, and where what it sends again stands, if it has repairs.
+fn find_repairs<S: ResendStore<Sent>>(
+    stream: &StreamTx,
+    repairs: &SsrcTable<ResendQueue<Sent, S>>,
+) -> Option<(Ssrc, usize)>
+    ensures found { IfSome result (λ f. (stream.now.rtx ≡ Some f.0) × (place_of stream.now.ssrc repairs.now ≡ Some f.1)) }
+    ensures within { IfSome result (λ f. f.1 < length repairs.now) }
+    ensures none { IfNone result ((rtx i : ℕ) → stream.now.rtx ≡ Some rtx → place_of stream.now.ssrc repairs.now ≡ Some i → ⊥) }
+{
+    let rtx = stream.rtx()?;
+    let place = repairs.place(stream.ssrc())?;
+    Some((rtx, place))
+}
+
+/// Puts a value behind the others of a table, under a key that none has, and another one behind those of
+/// a second table, where none has its key. Without memory nothing changes.
+fn add_both<A: Drop, B: Drop>(
+    one: &mut SsrcTable<A>,
+    other: &mut SsrcTable<B>,
+    key: Ssrc,
+    value: A,
+    other_key: Ssrc,
+    other_value: B,
+) -> Result<(), AllocError>
+    requires { place_of key one.old ≡ None }
+    ensures one { OnOk result (one.new ≡ one.old ++ (key, value) ∷ []) }
+    ensures other { OnOk result (other.new ≡ with_new other_key other_value other.old) }
+    ensures err { OnErr result ((one.new ≡ one.old) × (other.new ≡ other.old)) }
+{
+    let len = one.len();
+    one.add(key, value)?;
+    if other.place(other_key).is_some() {
+        return Ok(());
+    }
+    match other.add(other_key, other_value) {
+        Ok(()) => Ok(()),
+        Err(error) => {
+            one.truncate(len);
+            Err(error)
+        }
+    }
+}
+
+impl<W: GapWindow, S: ResendStore<Sent>> Streams<W, S> {
     /// No streams. Incoming ones are paused where nothing came for `pause_threshold`.
     pub fn new(alloc: Global, pause_threshold: Duration) -> Self
-        ensures { StandsFor W.remembers result (no_streams pause_threshold) }
+        ensures { StandsFor W.remembers S.stands_for result (no_streams pause_threshold) }
     {
         Streams {
             alloc,
             pause_threshold,
             rx: SsrcTable::new(alloc),
+            originals: SsrcTable::new(alloc),
             tx: SsrcTable::new(alloc),
+            repairs: SsrcTable::new(alloc),
             next_untold: 0,
         }
     }
 
     /// Has datagrams of an SSRC be those of a stream of a media section, behind the other streams. With
-    /// `suppress_nack` it asks for nothing that is missing. A stream of that SSRC stays as it is. No
-    /// stream has repairs yet. Without memory nothing changes.
+    /// `rtx` datagrams of that SSRC are its repairs (RFC 4588), unless they are another stream's. With
+    /// `suppress_nack` it asks for nothing that is missing. A stream of that SSRC stays as it is. Without
+    /// memory nothing changes.
     pub fn expect_stream_rx(
         &mut self,
         ssrc: Ssrc,
@@ -168,58 +228,99 @@ impl<W: GapWindow> Streams<W> {
         mid_rid: MidRid,
         suppress_nack: bool,
     ) -> Result<(), AllocError>
-        requires no_repairs { rtx ≡ None }
-        ensures ok { OnOk result ((r : StreamsRecord) → StandsFor W.remembers self.old r
-            → StandsFor W.remembers self.new (record r { rx = with_new ssrc (expected ssrc rtx mid_rid.0 mid_rid.1 suppress_nack r.threshold) r.rx })) }
+        ensures ok { OnOk result ((r : StreamsRecord) → StandsFor W.remembers S.stands_for self.old r
+            → StandsFor W.remembers S.stands_for self.new (with_stream_rx ssrc rtx mid_rid.0 mid_rid.1 suppress_nack r)) }
         ensures err { OnErr result (self.new ≡ self.old) }
     {
         if self.rx.place(ssrc).is_some() {
             return Ok(());
         }
         let threshold = self.pause_threshold;
-        let stream = StreamRx::new(self.alloc, ssrc, rtx, mid_rid, suppress_nack, threshold);
         self.next_untold = 0;
-        self.rx.add(ssrc, stream)?;
+        match rtx {
+            Some(rtx) => {
+                let repairs = Some(rtx);
+                let stream = StreamRx::new(
+                    self.alloc,
+                    ssrc,
+                    repairs,
+                    mid_rid,
+                    suppress_nack,
+                    threshold,
+                );
+                add_both(&mut self.rx, &mut self.originals, ssrc, stream, rtx, ssrc)?;
+            }
+            None => {
+                let stream = StreamRx::new(
+                    self.alloc,
+                    ssrc,
+                    None,
+                    mid_rid,
+                    suppress_nack,
+                    threshold,
+                );
+                self.rx.add(ssrc, stream)?;
+            }
+        }
         Ok(())
     }
 
-    /// Takes out the stream that receives datagrams of an SSRC, and tells whether there was one. The
-    /// time grows with the number of streams declared after it.
+    /// Takes out the stream that receives datagrams of an SSRC, with its SSRC of repairs, and tells whether
+    /// there was one. The time grows with the number of streams.
     pub fn remove_stream_rx(&mut self, ssrc: Ssrc) -> bool
-        ensures removed { (r : StreamsRecord) → StandsFor W.remembers self.old r
-            → StandsFor W.remembers self.new (record r { rx = without_key ssrc r.rx }) }
+        ensures removed { (r : StreamsRecord) → StandsFor W.remembers S.stands_for self.old r
+            → StandsFor W.remembers S.stands_for self.new (without_stream_rx ssrc r) }
         ensures found { result ≡ is_some (place_of ssrc self.old.rx) }
     {
         self.next_untold = 0;
+        self.originals.remove_all(ssrc);
         self.rx.remove(ssrc)
     }
 
-    /// Declares a stream of a media section that sends under an SSRC, behind the other streams. A stream
-    /// of that SSRC stays as it is. No stream has repairs yet. Without memory nothing changes.
+    /// Declares a stream of a media section that sends under an SSRC, behind the other streams. With `rtx`
+    /// it keeps packets to send them again, as repairs under that SSRC and numbers from that one on
+    /// (RFC 4588 section 4); at 2^48 there is none. A stream of that SSRC stays as it is. Without memory
+    /// nothing changes.
     pub fn declare_stream_tx(
         &mut self,
         ssrc: Ssrc,
-        rtx: Option<Ssrc>,
+        rtx: Option<(Ssrc, SeqNo)>,
         mid_rid: MidRid,
     ) -> Result<(), AllocError>
-        requires no_repairs { rtx ≡ None }
-        ensures ok { OnOk result (self.new ≡ record self.old { tx = with_new ssrc (declared ssrc rtx mid_rid.0 mid_rid.1) self.old.tx }) }
+        requires { ForSome rtx (λ x. x.1 ≤ 2 ^ 48) }
+        ensures ok { OnOk result ((r : StreamsRecord) → StandsFor W.remembers S.stands_for self.old r
+            → StandsFor W.remembers S.stands_for self.new (with_stream_tx ssrc rtx mid_rid.0 mid_rid.1 r)) }
+        ensures tx { OnOk result (self.new.tx ≡ with_new ssrc (declared ssrc (option_map (λ x. x.0) rtx) mid_rid.0 mid_rid.1) self.old.tx) }
+        ensures plain { OnOk result (rtx ≡ None → self.new.repairs ≡ self.old.repairs) }
+        ensures rx { self.new.rx ≡ self.old.rx }
+        ensures threshold { self.new.threshold ≡ self.old.threshold }
+        ensures originals { self.new.originals ≡ self.old.originals }
         ensures err { OnErr result (self.new ≡ self.old) }
     {
         if self.tx.place(ssrc).is_some() {
             return Ok(());
         }
-        let stream = StreamTx::new(self.alloc, ssrc, rtx, mid_rid);
-        self.tx.add(ssrc, stream)?;
+        match rtx {
+            Some(start) => {
+                let repairs = ResendQueue::new(self.alloc, start.1)?;
+                let stream = StreamTx::new(self.alloc, ssrc, Some(start.0), mid_rid);
+                add_both(&mut self.tx, &mut self.repairs, ssrc, stream, ssrc, repairs)?;
+            }
+            None => {
+                let stream = StreamTx::new(self.alloc, ssrc, None, mid_rid);
+                self.tx.add(ssrc, stream)?;
+            }
+        }
         Ok(())
     }
 
-    /// Takes out the stream that sends under an SSRC, with the packets that wait on it, and tells whether
-    /// there was one. The time grows with the number of streams declared after it.
+    /// Takes out the stream that sends under an SSRC, with the packets that wait on it and those that it
+    /// keeps, and tells whether there was one. The time grows with the number of streams declared after it.
     pub fn remove_stream_tx(&mut self, ssrc: Ssrc) -> bool
-        ensures removed { self.new ≡ record self.old { tx = without_key ssrc self.old.tx } }
+        ensures removed { self.new ≡ record self.old { tx = without_key ssrc self.old.tx; repairs = without_key ssrc self.old.repairs } }
         ensures found { result ≡ is_some (place_of ssrc self.old.tx) }
     {
+        self.repairs.remove(ssrc);
         self.tx.remove(ssrc)
     }
 
@@ -246,6 +347,145 @@ impl<W: GapWindow> Streams<W> {
         self.tx.at(place)
     }
 
+    /// As `poll_packet`, but for the transport's count.
+    fn poll_stream(
+        &mut self,
+        place: usize,
+        now: Instant,
+        transport: &Transport,
+        types: &PayloadTypes,
+    ) -> Result<Option<PacketReceipt>, ResendError>
+        requires { place < length self.old.tx }
+        ensures polled { IfOk result (λ o. (r : StreamsRecord) → StandsFor W.remembers S.stands_for self.old r
+            → (after : StreamsRecord) × PollsAt types.now transport.now now place r after o × StandsFor W.remembers S.stands_for self.new after) }
+        ensures small { IfOk result (λ o. IfSome o IsSealable) }
+        ensures reads { IfOk result (λ o. IfSome o (λ p. IsReadAgain transport.now.exts p.header)) }
+        ensures fewer { OnOk result (option_map (is_ready self.old.repairs) (slice_get (values_of self.old.tx) place) ≡ Some true
+            → all_waiting self.new.tx + all_asked self.new.repairs < all_waiting self.old.tx + all_asked self.old.repairs) }
+        ensures before { take place self.new.tx ≡ take place self.old.tx }
+        ensures asked { (x : TxRecord) → is_asked self.new.repairs x ≡ true → is_asked self.old.repairs x ≡ true }
+        ensures exhausted { IsErrOf result ResendError.Exhausted → (self.new ≡ self.old)
+            × ((r : StreamsRecord) → StandsFor W.remembers S.stands_for self.old r → (ssrc : ℕ) × IsUsedUpAt now place ssrc r) }
+        ensures failed { OnErr result ((r : StreamsRecord) → StandsFor W.remembers S.stands_for self.old r
+            → (after : StreamsRecord) × StaysAt now place r after × StandsFor W.remembers S.stands_for self.new after) }
+        ensures rx { self.new.rx ≡ self.old.rx }
+        ensures threshold { self.new.threshold ≡ self.old.threshold }
+        ensures originals { self.new.originals ≡ self.old.originals }
+    {
+        let stream = self.tx.at_mut(place);
+        match find_repairs(stream, &self.repairs) {
+            Some((rtx, at)) => {
+                let repairs = self.repairs.at_mut(at);
+                poll_both(self.alloc, stream, rtx, repairs, now, transport, types)
+            }
+            None => poll_alone(self.alloc, stream, now, transport),
+        }
+    }
+
+    /// Whether some packet of the stream at a place is asked for.
+    pub fn is_asked(&self, place: usize) -> bool
+        requires { place < length self.now.tx }
+        ensures { Some result ≡ option_map (is_asked self.now.repairs) (slice_get (values_of self.now.tx) place) }
+    {
+        match find_repairs(self.tx.at(place), &self.repairs) {
+            Some((_, at)) => !self.repairs.at(at).is_empty(),
+            None => false,
+        }
+    }
+
+    /// Makes anew what the stream of an SSRC keeps to send again, if it has repairs: for so many packets,
+    /// each for an age, none where one of the two is 0; and sets how many hundredths of what it sends may
+    /// be repairs, any number where that is None. Without memory nothing changes.
+    pub fn set_rtx_cache(
+        &mut self,
+        ssrc: Ssrc,
+        max_packets: usize,
+        max_age: Duration,
+        cap: Option<u32>,
+    ) -> Result<(), AllocError>
+        ensures ok { OnOk result ((r : StreamsRecord) → StandsFor W.remembers S.stands_for self.old r
+            → StandsFor W.remembers S.stands_for self.new (record r { repairs = change_at ssrc (recached max_packets max_age cap) r.repairs })) }
+        ensures tx { self.new.tx ≡ self.old.tx }
+        ensures rx { self.new.rx ≡ self.old.rx }
+        ensures threshold { self.new.threshold ≡ self.old.threshold }
+        ensures originals { self.new.originals ≡ self.old.originals }
+        ensures err { OnErr result (self.new ≡ self.old) }
+    {
+        match self.repairs.place(ssrc) {
+            Some(at) => self
+                .repairs
+                .at_mut(at)
+                .set_rtx_cache(max_packets, max_age, cap)?,
+            None => {}
+        }
+        Ok(())
+    }
+
+    /// A NACK (RFC 4585 section 6.2.1) for packets of an SSRC: those that the stream keeps are asked for,
+    /// in order, and sent again after the next tick. A stream without repairs hears nothing of it. Without
+    /// memory nothing changes. The time grows with the numbers that are named.
+    pub fn handle_nack(
+        &mut self,
+        ssrc: Ssrc,
+        entries: &[NackEntry],
+        now: Instant,
+    ) -> Result<(), AllocError>
+        ensures ok { OnOk result ((r : StreamsRecord) → StandsFor W.remembers S.stands_for self.old r
+            → (after : List (ℕ × RepairsRecord)) × Asked now ssrc entries.now r.repairs after
+            × StandsFor W.remembers S.stands_for self.new (record r { repairs = after })) }
+        ensures tx { self.new.tx ≡ self.old.tx }
+        ensures rx { self.new.rx ≡ self.old.rx }
+        ensures threshold { self.new.threshold ≡ self.old.threshold }
+        ensures originals { self.new.originals ≡ self.old.originals }
+        ensures err { OnErr result (self.new ≡ self.old) }
+    {
+        match self.repairs.place(ssrc) {
+            Some(at) => self.repairs.at_mut(at).handle_nack(entries, now)?,
+            None => {}
+        }
+        Ok(())
+    }
+
+    /// What the stream at a place gives to be sealed at a moment: first what is to be sent again, then the
+    /// packet at the front of those that wait, if there was a tick since it was written. Its header is made
+    /// for this moment. It is taken out, kept to be sent again where it may be, and the transport counts it.
+    ///
+    /// # Errors
+    /// `Exhausted` where something is to be sent again and the 2^48 numbers of its repairs were used, and
+    /// nothing changes then; `Memory`, and then nothing changes but that nothing may be asked for any more.
+    pub fn poll_packet(
+        &mut self,
+        place: usize,
+        now: Instant,
+        transport: &mut Transport,
+        types: &PayloadTypes,
+    ) -> Result<Option<PacketReceipt>, ResendError>
+        requires { place < length self.old.tx }
+        ensures polled { IfOk result (λ o. (r : StreamsRecord) → StandsFor W.remembers S.stands_for self.old r
+            → (after : StreamsRecord) × PollsAt types.now transport.old now place r after o × StandsFor W.remembers S.stands_for self.new after) }
+        ensures counted { IfOk result (λ o. transport.new ≡ (if is_some o then after_packet transport.old else transport.old)) }
+        ensures small { IfOk result (λ o. IfSome o IsSealable) }
+        ensures reads { IfOk result (λ o. IfSome o (λ p. IsReadAgain transport.old.exts p.header)) }
+        ensures fewer { OnOk result (option_map (is_ready self.old.repairs) (slice_get (values_of self.old.tx) place) ≡ Some true
+            → all_waiting self.new.tx + all_asked self.new.repairs < all_waiting self.old.tx + all_asked self.old.repairs) }
+        ensures before { take place self.new.tx ≡ take place self.old.tx }
+        ensures asked { (x : TxRecord) → is_asked self.new.repairs x ≡ true → is_asked self.old.repairs x ≡ true }
+        ensures exhausted { IsErrOf result ResendError.Exhausted → (self.new ≡ self.old)
+            × ((r : StreamsRecord) → StandsFor W.remembers S.stands_for self.old r → (ssrc : ℕ) × IsUsedUpAt now place ssrc r) }
+        ensures failed { OnErr result ((r : StreamsRecord) → StandsFor W.remembers S.stands_for self.old r
+            → (after : StreamsRecord) × StaysAt now place r after × StandsFor W.remembers S.stands_for self.new after) }
+        ensures uncounted { OnErr result (transport.new ≡ transport.old) }
+        ensures rx { self.new.rx ≡ self.old.rx }
+        ensures threshold { self.new.threshold ≡ self.old.threshold }
+        ensures originals { self.new.originals ≡ self.old.originals }
+    {
+        let polled = self.poll_stream(place, now, transport, types)?;
+        if polled.is_some() {
+            transport.count();
+        }
+        Ok(polled)
+    }
+
     /// How many streams receive.
     pub fn rx_len(&self) -> usize
         ensures { result ≡ length self.now.rx }
@@ -264,18 +504,38 @@ impl<W: GapWindow> Streams<W> {
     /// Where the stream stands that receives datagrams of an SSRC: one look-up in a hash table.
     pub fn rx_place(&self, ssrc: Ssrc) -> Option<usize>
         ensures place { result ≡ place_of ssrc self.now.rx }
+        ensures stands { (r : StreamsRecord) → StandsFor W.remembers S.stands_for self.now r → result ≡ place_of ssrc r.rx }
         ensures within { IfSome result (λ i. i < length self.now.rx) }
     {
         self.rx.place(ssrc)
     }
 
+    /// The SSRC of the stream whose repairs come under an SSRC: one look-up in a hash table.
+    pub fn original(&self, ssrc: Ssrc) -> Option<Ssrc>
+        ensures { result ≡ value_under ssrc self.now.originals }
+    {
+        let place = self.originals.place(ssrc)?;
+        Some(*self.originals.at(place))
+    }
+
+    /// Where the stream stands whose repairs come under an SSRC: two look-ups in hash tables.
+    pub fn repair_place(&self, ssrc: Ssrc) -> Option<usize>
+        ensures place { result ≡ repair_place ssrc self.now.originals self.now.rx }
+        ensures within { IfSome result (λ i. i < length self.now.rx) }
+    {
+        let original = self.original(ssrc)?;
+        self.rx_place(original)
+    }
+
     /// A tick of each stream: those are paused on which nothing came for their threshold.
     pub fn handle_timeout(&mut self, now: Instant)
-        ensures streams { (r : StreamsRecord) → StandsFor W.remembers self.old r → StandsFor W.remembers self.new
+        ensures streams { (r : StreamsRecord) → StandsFor W.remembers S.stands_for self.old r → StandsFor W.remembers S.stands_for self.new
             (record r { rx = each (on_record (checked now)) r.rx; tx = each (after_timeout now) r.tx }) }
         ensures tx { self.new.tx ≡ each (after_timeout now) self.old.tx }
+        ensures repairs { self.new.repairs ≡ self.old.repairs }
         ensures rx { self.new.rx ≡ each (on_view (checked now)) self.old.rx }
         ensures threshold { self.new.threshold ≡ self.old.threshold }
+        ensures originals { self.new.originals ≡ self.old.originals }
     {
         self.next_untold = 0;
         check_all(&mut self.rx, now);
@@ -284,7 +544,7 @@ impl<W: GapWindow> Streams<W> {
 
     /// Whether some stream asks for what is missing. The time grows with the number of streams.
     pub fn any_nack_enabled(&self) -> bool
-        ensures { (r : StreamsRecord) → StandsFor W.remembers self.now r → result ≡ any_enabled r.rx }
+        ensures { (r : StreamsRecord) → StandsFor W.remembers S.stands_for self.now r → result ≡ any_enabled r.rx }
     {
         for place in 0..self.rx.len() {
             if self.rx.at(place).nack_enabled() {
@@ -303,12 +563,14 @@ impl<W: GapWindow> Streams<W> {
         sender_ssrc: Ssrc,
         feedback: &mut VecDeque<Rtcp>,
     ) -> Result<(), AllocError>
-        ensures asked { OnOk result ((r : StreamsRecord) → StandsFor W.remembers self.old r
-            → StandsFor W.remembers self.new (record r { rx = each (after_round now) r.rx })
+        ensures asked { OnOk result ((r : StreamsRecord) → StandsFor W.remembers S.stands_for self.old r
+            → StandsFor W.remembers S.stands_for self.new (record r { rx = each (after_round now) r.rx })
             × (feedback.new.items ≡ feedback.old.items ++ nacks sender_ssrc now r.rx)) }
         ensures short { OnOk result ((more : List Item) × (feedback.new.items ≡ feedback.old.items ++ more) × AllByRecursion IsShortNack more) }
         ensures tx { self.new.tx ≡ self.old.tx }
+        ensures repairs { self.new.repairs ≡ self.old.repairs }
         ensures threshold { self.new.threshold ≡ self.old.threshold }
+        ensures originals { self.new.originals ≡ self.old.originals }
         ensures err { OnErr result ((self.new ≡ self.old) × (feedback.new.items ≡ feedback.old.items)) }
     {
         feedback.reserve(self.rx.len())?;
@@ -319,10 +581,12 @@ impl<W: GapWindow> Streams<W> {
 
     /// Sets the round trip of each stream. The time grows with the number of streams.
     pub fn set_trip(&mut self, trip: Option<Duration>)
-        ensures streams { (r : StreamsRecord) → StandsFor W.remembers self.old r → StandsFor W.remembers self.new
+        ensures streams { (r : StreamsRecord) → StandsFor W.remembers S.stands_for self.old r → StandsFor W.remembers S.stands_for self.new
             (record r { rx = each (on_record (with_trip trip)) r.rx }) }
         ensures tx { self.new.tx ≡ self.old.tx }
+        ensures repairs { self.new.repairs ≡ self.old.repairs }
         ensures threshold { self.new.threshold ≡ self.old.threshold }
+        ensures originals { self.new.originals ≡ self.old.originals }
     {
         self.next_untold = 0;
         set_trips(&mut self.rx, &trip);
@@ -331,11 +595,13 @@ impl<W: GapWindow> Streams<W> {
     /// Tells of the first stream, in order, that was paused or unpaused since that was told. A call looks
     /// at the streams behind those of which the last call found nothing to tell.
     pub fn poll_stream_paused(&mut self) -> Option<StreamPaused>
-        ensures event { (r : StreamsRecord) → StandsFor W.remembers self.old r → result ≡ next_pause r.rx }
-        ensures after { (r : StreamsRecord) → StandsFor W.remembers self.old r
-            → StandsFor W.remembers self.new (record r { rx = after_pause r.rx }) }
+        ensures event { (r : StreamsRecord) → StandsFor W.remembers S.stands_for self.old r → result ≡ next_pause r.rx }
+        ensures after { (r : StreamsRecord) → StandsFor W.remembers S.stands_for self.old r
+            → StandsFor W.remembers S.stands_for self.new (record r { rx = after_pause r.rx }) }
         ensures tx { self.new.tx ≡ self.old.tx }
+        ensures repairs { self.new.repairs ≡ self.old.repairs }
         ensures threshold { self.new.threshold ≡ self.old.threshold }
+        ensures originals { self.new.originals ≡ self.old.originals }
         ensures fewer { IfSome result (λ p. untold_in self.new.rx < untold_in self.old.rx) }
         ensures none { IfNone result (self.new ≡ self.old) }
     {
@@ -362,7 +628,7 @@ impl<W: GapWindow> Streams<W> {
     /// The first moment at which some stream is paused unless something comes, None where all are. The
     /// time grows with the number of streams.
     pub fn paused_at(&self) -> Option<Instant>
-        ensures { (r : StreamsRecord) → StandsFor W.remembers self.now r → result ≡ first_pause r.rx }
+        ensures { (r : StreamsRecord) → StandsFor W.remembers S.stands_for self.now r → result ≡ first_pause r.rx }
     {
         let mut first = None;
         for place in 0..self.rx.len() {
@@ -375,7 +641,7 @@ impl<W: GapWindow> Streams<W> {
     /// may open, where a greatest number may be remembered of the SSRC.
     pub fn accepts(&self, ssrc: Ssrc, low: u16, remembered: Option<SeqNo>) -> Option<(usize, SeqNo)>
         requires { ForSome remembered (λ n. n < 2 ^ 48) }
-        ensures number { (r : StreamsRecord) → StandsFor W.remembers self.now r → option_map (λ f. f.1) result ≡ accepted remembered r.rx ssrc low }
+        ensures number { (r : StreamsRecord) → StandsFor W.remembers S.stands_for self.now r → option_map (λ f. f.1) result ≡ accepted remembered r.rx ssrc low }
         ensures place { IfSome result (λ f. place_of ssrc self.now.rx ≡ Some f.0) }
         ensures within { IfSome result (λ f. f.0 < length self.now.rx) }
         ensures small { IfSome result (λ f. f.1 < 2 ^ 48) }
@@ -403,10 +669,12 @@ impl<W: GapWindow> Streams<W> {
         requires place { place < length self.old.rx }
         requires number { number < 2 ^ 48 }
         requires remembered { ForSome remembered (λ n. n < 2 ^ 48) }
-        ensures ok { OnOk result ((r : StreamsRecord) (ssrc : ℕ) → StandsFor W.remembers self.old r → place_of ssrc self.old.rx ≡ Some place
-            → StandsFor W.remembers self.new (record r { rx = change_at ssrc (opened_as remembered now number) r.rx })) }
+        ensures ok { OnOk result ((r : StreamsRecord) (ssrc : ℕ) → StandsFor W.remembers S.stands_for self.old r → place_of ssrc self.old.rx ≡ Some place
+            → StandsFor W.remembers S.stands_for self.new (record r { rx = change_at ssrc (opened_as remembered now number) r.rx })) }
         ensures tx { self.new.tx ≡ self.old.tx }
+        ensures repairs { self.new.repairs ≡ self.old.repairs }
         ensures threshold { self.new.threshold ≡ self.old.threshold }
+        ensures originals { self.new.originals ≡ self.old.originals }
         ensures err { OnErr result (self.new ≡ self.old) }
     {
         self.rx.at_mut(place).take(now, number, remembered)?;
@@ -415,16 +683,101 @@ impl<W: GapWindow> Streams<W> {
         }
         Ok(())
     }
+
+    /// The own number under which a repair of the stream at a place may open, where `seen` is the greatest
+    /// number that was seen on the SSRC of its datagram.
+    pub fn accepts_repair(&self, place: usize, low: u16, seen: Option<SeqNo>) -> Option<SeqNo>
+        requires place { place < length self.now.rx }
+        requires seen { ForSome seen (λ n. n < 2 ^ 48) }
+        ensures number { (r : StreamsRecord) (ssrc : ℕ) → StandsFor W.remembers S.stands_for self.now r → place_of ssrc self.now.rx ≡ Some place
+            → result ≡ accepted_repair seen r.rx ssrc low }
+        ensures small { IfSome result (λ n. n < 2 ^ 48) }
+        ensures low { IfSome result (λ n. n % 65536 ≡ low) }
+    {
+        self.rx.at(place).accepts_repair(low, seen)
+    }
+
+    /// The own number of a repair of the stream at a place with these low 16 bits, fresh or not.
+    pub fn repair_number_at(&self, place: usize, low: u16, seen: Option<SeqNo>) -> SeqNo
+        requires place { place < length self.now.rx }
+        requires seen { ForSome seen (λ n. n < 2 ^ 48) }
+        ensures number { (r : StreamsRecord) (ssrc : ℕ) → StandsFor W.remembers S.stands_for self.now r → place_of ssrc self.now.rx ≡ Some place
+            → Some result ≡ own_number_on seen r.rx ssrc low }
+        ensures small { result < 2 ^ 48 }
+        ensures low { result % 65536 ≡ low }
+    {
+        self.rx.at(place).repair_number(low, seen)
+    }
+
+    /// The number of the packet that a repair of the stream at a place restores, whose low 16 bits begin
+    /// the payload of the repair, fresh or not.
+    pub fn restored_number_at(&self, place: usize, low: u16, remembered: &Option<SeqNo>) -> SeqNo
+        requires place { place < length self.now.rx }
+        requires remembered { ForSome remembered.now (λ n. n < 2 ^ 48) }
+        ensures number { (r : StreamsRecord) (ssrc : ℕ) → StandsFor W.remembers S.stands_for self.now r → place_of ssrc self.now.rx ≡ Some place
+            → Some result ≡ restored_number_on remembered.now r.rx ssrc low }
+        ensures small { result < 2 ^ 48 }
+    {
+        self.rx.at(place).restored_number(low, remembered)
+    }
+
+    /// Has the stream at a place take the own number of a repair that opened at a moment.
+    #[tactic(auto, using(crate::proofs::Alongside::set_same))]
+    pub fn take_repair_at(&mut self, place: usize, now: Instant, number: SeqNo, seen: Option<SeqNo>)
+        requires place { place < length self.old.rx }
+        requires number { number < 2 ^ 48 }
+        requires seen { ForSome seen (λ n. n < 2 ^ 48) }
+        ensures taken { (r : StreamsRecord) (ssrc : ℕ) → StandsFor W.remembers S.stands_for self.old r → place_of ssrc self.old.rx ≡ Some place
+            → StandsFor W.remembers S.stands_for self.new (record r { rx = change_at ssrc (repair_came seen now number) r.rx }) }
+        ensures places { keys_of self.new.rx ≡ keys_of self.old.rx }
+        ensures tx { self.new.tx ≡ self.old.tx }
+        ensures repairs { self.new.repairs ≡ self.old.repairs }
+        ensures threshold { self.new.threshold ≡ self.old.threshold }
+        ensures originals { self.new.originals ≡ self.old.originals }
+    {
+        self.rx.at_mut(place).take_repair(now, number, seen);
+        if self.rx.at(place).is_untold() {
+            self.next_untold = self.next_untold.min(place);
+        }
+    }
+
+    /// Has the stream at a place take the number of the packet that a repair repairs, whose low 16 bits
+    /// begin the payload of the repair, and gives it. None where it is not fresh, and then nothing
+    /// changes. Without memory nothing changes.
+    #[tactic(auto, using(crate::proofs::Alongside::set_same))]
+    pub fn restore_at(
+        &mut self,
+        place: usize,
+        low: u16,
+        remembered: Option<SeqNo>,
+    ) -> Result<Option<SeqNo>, AllocError>
+        requires place { place < length self.old.rx }
+        requires remembered { ForSome remembered (λ n. n < 2 ^ 48) }
+        ensures restored { IfOk result (λ o. (r : StreamsRecord) (ssrc : ℕ) → StandsFor W.remembers S.stands_for self.old r → place_of ssrc self.old.rx ≡ Some place
+            → o ≡ restored_on remembered r.rx ssrc low) }
+        ensures after { OnOk result ((r : StreamsRecord) (ssrc : ℕ) → StandsFor W.remembers S.stands_for self.old r → place_of ssrc self.old.rx ≡ Some place
+            → StandsFor W.remembers S.stands_for self.new (record r { rx = change_at ssrc (after_restored remembered low) r.rx })) }
+        ensures small { IfOk result (λ o. IfSome o (λ n. n < 2 ^ 48)) }
+        ensures low { IfOk result (λ o. IfSome o (λ n. n % 65536 ≡ low)) }
+        ensures tx { self.new.tx ≡ self.old.tx }
+        ensures repairs { self.new.repairs ≡ self.old.repairs }
+        ensures threshold { self.new.threshold ≡ self.old.threshold }
+        ensures originals { self.new.originals ≡ self.old.originals }
+        ensures err { OnErr result (self.new ≡ self.old) }
+    {
+        let number = self.rx.at_mut(place).restore(low, remembered)?;
+        Ok(number)
+    }
 }
 
-impl<W: GapWindow> Streams<W> {
+impl<W: GapWindow, S: ResendStore<Sent>> Streams<W, S> {
     ghost use Rattle.std.specs.Borrow.{sem};
     ghost use Rattle.stream_core.specs.LendingStreams.{LendsTx, LendsRx};
 
     /// The stream at a place among those that send, to be changed there.
     pub fn tx_at(&mut self, place: usize) -> &mut StreamTx
         requires { place < length self.old.tx }
-        ensures* writes_back { sem 𝓛 (LendsTx W.row W.GapWindow self.entry place result) }
+        ensures* writes_back { sem 𝓛 (LendsTx W.row S.row W.GapWindow S.ResendStore self.entry place result) }
         ensures value { slice_get (values_of self.old.tx) place ≡ Some result.now }
     {
         self.tx.at_mut(place)
@@ -433,7 +786,7 @@ impl<W: GapWindow> Streams<W> {
     /// The stream at a place among those that receive, to be changed there.
     pub fn rx_at(&mut self, place: usize) -> &mut StreamRx<W>
         requires { place < length self.old.rx }
-        ensures* writes_back { sem 𝓛 (LendsRx W.row W.GapWindow self.entry place result) }
+        ensures* writes_back { sem 𝓛 (LendsRx W.row S.row W.GapWindow S.ResendStore self.entry place result) }
         ensures value { slice_get (values_of self.old.rx) place ≡ Some result.now }
     {
         self.next_untold = 0;

@@ -4,6 +4,7 @@ use Rattle.std.specs.Prelude.{IfSome, ◌&&◌, nat_le, if◌then◌else◌}
 use Rattle.std.specs.Map.{values_of}
 use Rattle.indexmap.specs.IndexMap.{set_value_at}
 use Rattle.repair_core.specs.Rounds.{Heard}
+use Rattle.resend_core.specs.ResendStore.{Past}
 use Rattle.rtp_wire.specs.Extensions.{no_values}
 use Rattle.rtp_wire.specs.HeaderLaws.{WrittenIsReadAgain}
 use Rattle.srtp_core.specs.Contexts.{SrtpState, new_state}
@@ -12,6 +13,7 @@ use Rattle.srtp_core.specs.Toy.{toy_meaning}
 use Rattle.srtp_core.specs.declared.profile.SrtpProfile.TheVariants.{AeadAes128Gcm}
 use Rattle.stream_core.specs.declared.transport.Transport.{Transport}
 use Rattle.stream_core.specs.Missing.{any_enabled}
+use Rattle.stream_core.specs.Repairing.{SentPacket, RepairsStandFor}
 use Rattle.stream_core.specs.RxRecord.{expected, StandsFor as RxStandsFor}
 use Rattle.stream_core.specs.StreamsRecord.{StreamsView, StreamsRecord, no_streams, StandsFor as StreamsStandsFor}
 use Rattle.stream_core.specs.Tables.{Along, change_place, with_new}
@@ -23,7 +25,7 @@ use Rattle.session_core.specs.declared.datagram.Opened.{Opened}
 use Rattle.session_core.specs.Calls.{after_event, Polled}
 use Rattle.session_core.specs.Receiving.{Receives}
 use Rattle.session_core.specs.Rounds.{round_interval, after_round, after_asks, after_checks, after_timeout}
-use Rattle.session_core.specs.Sending.{next_datagram}
+use Rattle.session_core.specs.Sending.{NextDatagram}
 use Rattle.session_core.specs.SessionRecord.{SessionState, SessionView, SessionRecord, StandsFor}
 use Rattle.uses.specs.Exchange.{payload_told, first_write, end_config, end_of}
 use Rattle.uses.proofs.Exchanged.{Expects, awaited, streams, sent_bytes, packet_bytes, second_carries}
@@ -35,13 +37,13 @@ set_change f (e ∷ es) zero x at = let same : x ≡ e.1 = cc in λ j. (e.0, f (
 set_change f (e ∷ es) (suc i) x at = ap (λ l. e ∷ l) (set_change f es i x at)
 
 -- a session whose stream at the first place changed
-pub changed_first : {W : Type 0} (s : SessionView W) (lent : StreamsView W) (f : TxRecord → TxRecord) (was is : TxRecord) → lent.rx ≡ s.rx → lent.tx ≡ s.state.tx
-    → lent.threshold ≡ s.state.pause_threshold → slice_get (values_of lent.tx) 0 ≡ Some was → is ≡ f was
-    → record s { state = record s.state { tx = set_value_at lent.tx 0 is; pause_threshold = lent.threshold }; rx = lent.rx } ≡ record s { state = record s.state { tx = change_place f s.state.tx 0 } }
-changed_first s lent f was is rx tx threshold at same =
+pub changed_first : {W S : Type 0} (s : SessionView W S) (lent : StreamsView W S) (f : TxRecord → TxRecord) (was is : TxRecord) → lent.rx ≡ s.rx → lent.tx ≡ s.state.tx
+    → lent.threshold ≡ s.state.pause_threshold → lent.originals ≡ s.originals → lent.repairs ≡ s.repairs → slice_get (values_of lent.tx) 0 ≡ Some was → is ≡ f was
+    → record s { state = record s.state { tx = set_value_at lent.tx 0 is; pause_threshold = lent.threshold }; rx = lent.rx; originals = lent.originals; repairs = lent.repairs } ≡ record s { state = record s.state { tx = change_place f s.state.tx 0 } }
+changed_first s lent f was is rx tx threshold originals repairs at same =
     let list : set_value_at lent.tx 0 is ≡ change_place f s.state.tx 0 =
     ap (set_value_at lent.tx 0) same ∙ set_change f lent.tx 0 was at ∙ ap (λ es. change_place f es 0) tx in
-    λ j. record s { state = record s.state { tx = list j; pause_threshold = threshold j }; rx = rx j }
+    λ j. record s { state = record s.state { tx = list j; pause_threshold = threshold j }; rx = rx j; originals = originals j; repairs = repairs j }
 
 -- a table that one stream was put into
 pub holds_one : {X : Type 0} (key : ℕ) (x : X) (es list : List (ℕ × X)) → es ≡ [] → list ≡ with_new key x es → 0 < length list
@@ -82,17 +84,19 @@ module _ (material mid payload : List ℕ) where
   transport = (end_of material mid true).state.transport
 
   -- a session that stands for an end, with a stream that it expects
-  pub expects : {W : Type 0} (remembers : W → Heard → Type 0) (s : SessionView W) (lent left : StreamsView W) (ssrc : ℕ) → ssrc ≡ 42
-      → StandsFor remembers s (end_of material mid false) → lent.rx ≡ s.rx → lent.tx ≡ s.state.tx → lent.threshold ≡ s.state.pause_threshold
-      → ((r : StreamsRecord) → StreamsStandsFor remembers lent r
-      → StreamsStandsFor remembers left (record r { rx = with_new ssrc (expected ssrc None mid None false r.threshold) r.rx }))
-      → StandsFor remembers (record s { state = record s.state { tx = left.tx; pause_threshold = left.threshold }; rx = left.rx }) receiver
-  expects remembers s lent left ssrc is made rx tx threshold ok =
-      let before : StreamsStandsFor remembers lent (no_streams end_config.pause_threshold) =
+  pub expects : {W S : Type 0} (remembers : W → Heard → Type 0) (holds : S → Past SentPacket → Type 0) (s : SessionView W S) (lent left : StreamsView W S) (ssrc : ℕ) → ssrc ≡ 42
+      → StandsFor remembers holds s (end_of material mid false) → lent.rx ≡ s.rx → lent.tx ≡ s.state.tx → lent.threshold ≡ s.state.pause_threshold → lent.originals ≡ s.originals → lent.repairs ≡ s.repairs
+      → ((r : StreamsRecord) → StreamsStandsFor remembers holds lent r
+      → StreamsStandsFor remembers holds left (record r { rx = with_new ssrc (expected ssrc None mid None false r.threshold) r.rx }))
+      → StandsFor remembers holds (record s { state = record s.state { tx = left.tx; pause_threshold = left.threshold }; rx = left.rx; originals = left.originals; repairs = left.repairs }) receiver
+  expects remembers holds s lent left ssrc is made rx tx threshold originals repairs ok =
+      let before : StreamsStandsFor remembers holds lent (no_streams end_config.pause_threshold) =
       record {
         threshold = threshold ∙ ap (λ (x : SessionState). x.pause_threshold) made.state;
         rx = subst (λ es. Along (RxStandsFor remembers) es []) (sym rx) made.rx;
+        originals = originals ∙ made.originals;
         tx = tx ∙ ap (λ (x : SessionState). x.tx) made.state;
+        repairs = subst (λ qs. Along (RepairsStandFor holds) qs []) (sym repairs) made.repairs;
       } in
       let after = ok (no_streams end_config.pause_threshold) before in
       let empty : left.tx ≡ [] = after.tx in
@@ -100,51 +104,56 @@ module _ (material mid payload : List ℕ) where
       record {
         state = λ j. record (made.state j) { tx = empty j; pause_threshold = same j };
         rx = subst (λ n. Along (RxStandsFor remembers) left.rx (with_new n (expected n None mid None false end_config.pause_threshold) [])) is after.rx;
+        originals = after.originals;
         probes = made.probes;
+        seen = made.seen;
+        repairs = after.repairs;
       }
 
   -- one that stands for the other end, with the packet written on a stream that was declared
-  pub writes : {W : Type 0} (remembers : W → Heard → Type 0) (now ssrc : ℕ) (w : WriteRecord) (s ended : SessionView W) (lent left : StreamsView W) → ssrc ≡ 42 → w ≡ first_write now payload
-      → StandsFor remembers s (end_of material mid true) → lent.rx ≡ s.rx → lent.tx ≡ s.state.tx → lent.threshold ≡ s.state.pause_threshold
+  pub writes : {W S : Type 0} (remembers : W → Heard → Type 0) (holds : S → Past SentPacket → Type 0) (now ssrc : ℕ) (w : WriteRecord) (s ended : SessionView W S) (lent left : StreamsView W S) → ssrc ≡ 42 → w ≡ first_write now payload
+      → StandsFor remembers holds s (end_of material mid true) → lent.rx ≡ s.rx → lent.tx ≡ s.state.tx → lent.threshold ≡ s.state.pause_threshold → lent.originals ≡ s.originals → lent.repairs ≡ s.repairs
       → left ≡ record lent { tx = with_new ssrc (declared ssrc None mid None) lent.tx }
-      → ended ≡ record s { state = record s.state { tx = change_place (written w) left.tx 0; pause_threshold = left.threshold }; rx = left.rx }
-      → StandsFor remembers ended (sender now)
-  writes remembers now ssrc w s ended lent left is same made rx tx threshold added wrote =
+      → ended ≡ record s { state = record s.state { tx = change_place (written w) left.tx 0; pause_threshold = left.threshold }; rx = left.rx; originals = left.originals; repairs = left.repairs }
+      → StandsFor remembers holds ended (sender now)
+  writes remembers holds now ssrc w s ended lent left is same made rx tx threshold originals repairs added wrote =
       let none : lent.tx ≡ [] = tx ∙ ap (λ (x : SessionState). x.tx) made.state in
       let list : left.tx ≡ (42, declared 42 None mid None) ∷ [] =
-      ap (λ (v : StreamsView _). v.tx) added ∙ (λ j. with_new (is j) (declared (is j) None mid None) (none j)) in
-      let wait : left.threshold ≡ s.state.pause_threshold = ap (λ (v : StreamsView _). v.threshold) added ∙ threshold in
-      let ins : left.rx ≡ s.rx = ap (λ (v : StreamsView _). v.rx) added ∙ rx in
-      let stands : StandsFor remembers (record s { state = record s.state { tx = (sender now).state.tx } }) (sender now) =
-      record { state = λ j. record (made.state j) { tx = (sender now).state.tx }; rx = made.rx; probes = made.probes } in
-      subst (λ (v : SessionView _). StandsFor remembers v (sender now))
-      (sym (wrote ∙ (λ j. record s { state = record s.state { tx = change_place (written (same j)) (list j) 0; pause_threshold = wait j }; rx = ins j }))) stands
+      ap (λ (v : StreamsView _ _). v.tx) added ∙ (λ j. with_new (is j) (declared (is j) None mid None) (none j)) in
+      let wait : left.threshold ≡ s.state.pause_threshold = ap (λ (v : StreamsView _ _). v.threshold) added ∙ threshold in
+      let ins : left.rx ≡ s.rx = ap (λ (v : StreamsView _ _). v.rx) added ∙ rx in
+      let sources : left.originals ≡ s.originals = ap (λ (v : StreamsView _ _). v.originals) added ∙ originals in
+      let kept : left.repairs ≡ s.repairs = ap (λ (v : StreamsView _ _). v.repairs) added ∙ repairs in
+      let stands : StandsFor remembers holds (record s { state = record s.state { tx = (sender now).state.tx } }) (sender now) =
+      record { state = λ j. record (made.state j) { tx = (sender now).state.tx }; rx = made.rx; originals = made.originals; probes = made.probes; seen = made.seen; repairs = made.repairs } in
+      subst (λ (v : SessionView _ _). StandsFor remembers holds v (sender now))
+      (sym (wrote ∙ (λ j. record s { state = record s.state { tx = change_place (written (same j)) (list j) 0; pause_threshold = wait j }; rx = ins j; originals = sources j; repairs = kept j }))) stands
 
   -- and what it is after a tick
-  pub ticked : {W : Type 0} (remembers : W → Heard → Type 0) (now : ℕ) (s after : SessionView W) → StandsFor remembers s (sender now)
-      → ((r : SessionRecord) → StandsFor remembers s r → StandsFor remembers after (after_timeout now r)) → after.state ≡ (after_checks now (sender now)).state
-  ticked remembers now s after stands ok =
-      (ok (sender now) stands).state ∙ ap (λ (r : SessionRecord). (after_checks now r).state) (asks_none now (sender now) refl)
+  pub ticked : {W S : Type 0} (remembers : W → Heard → Type 0) (holds : S → Past SentPacket → Type 0) (now : ℕ) (s after : SessionView W S) → StandsFor remembers holds s (sender now)
+      → ((r : SessionRecord) → StandsFor remembers holds s r → StandsFor remembers holds after (after_timeout now r)) → StandsFor remembers holds after (after_checks now (sender now))
+  ticked remembers holds now s after stands ok =
+      subst (λ (r : SessionRecord). StandsFor remembers holds after (after_checks now r)) (asks_none now (sender now) refl) (ok (sender now) stands)
 
-  pub at_end : {W : Type 0} (remembers : W → Heard → Type 0) (now : ℕ) (left : SessionState) (before came between : SessionView W) (sent : Datagram) (bytes : List ℕ)
+  pub at_end : {W S : Type 0} (remembers : W → Heard → Type 0) (holds : S → Past SentPacket → Type 0) (now : ℕ) (left leaves_behind before came between : SessionView W S) (sent : Datagram) (bytes : List ℕ)
       (opened : Option Opened) (first second : Option Event)
       → WrittenIsReadAgain → RtpSealKeepsHeader toy_meaning → RtpSealsApart toy_meaning
-      → left ≡ (after_checks now (sender now)).state → Some sent ≡ next_datagram toy_meaning now left → bytes ≡ sent.bytes
-      → StandsFor remembers before receiver
-      → ((r : SessionRecord) → StandsFor remembers before r → (after : SessionRecord) × Receives toy_meaning r bytes now after opened × StandsFor remembers came after)
-      → ((r : SessionRecord) → StandsFor remembers came r → Polled r first (after_event r))
-      → ((r : SessionRecord) → StandsFor remembers came r → StandsFor remembers between (after_event r))
-      → ((r : SessionRecord) → StandsFor remembers between r → Polled r second (after_event r))
+      → StandsFor remembers holds left (after_checks now (sender now))
+      → ((r : SessionRecord) → StandsFor remembers holds left r → (after : SessionRecord) × NextDatagram toy_meaning now r after (Some sent) × StandsFor remembers holds leaves_behind after)
+      → bytes ≡ sent.bytes
+      → StandsFor remembers holds before receiver
+      → ((r : SessionRecord) → StandsFor remembers holds before r → (after : SessionRecord) × Receives toy_meaning r bytes now after opened × StandsFor remembers holds came after)
+      → ((r : SessionRecord) → StandsFor remembers holds came r → Polled r first (after_event r))
+      → ((r : SessionRecord) → StandsFor remembers holds came r → StandsFor remembers holds between (after_event r))
+      → ((r : SessionRecord) → StandsFor remembers holds between r → Polled r second (after_event r))
       → IfSome second (λ e. payload_told e ≡ payload)
-  at_end remembers now left before came between sent bytes opened first second again keeps apart sends polled handed stands received told leaves told_next =
-      let tx : left.tx ≡ streams toy_meaning key transport now mid payload = ap (λ (s : SessionState). s.tx) sends in
-      let sealing : left.sealing ≡ Some key = ap (λ (s : SessionState). s.sealing) sends in
-      let shares : left.transport ≡ transport = ap (λ (s : SessionState). s.transport) sends in
-      let feedback : left.feedback ≡ [] = ap (λ (s : SessionState). s.feedback) sends in
-      let sealed : bytes ≡ packet_bytes toy_meaning key transport now mid payload = handed ∙ sent_bytes toy_meaning key transport now mid payload left sent sealing shares tx feedback (sym polled) in
+  at_end remembers holds now left leaves_behind before came between sent bytes opened first second again keeps apart sends polled handed stands received told leaves told_next =
+      let next = polled (after_checks now (sender now)) sends in
+      let sealed : bytes ≡ packet_bytes toy_meaning key transport now mid payload =
+      handed ∙ sent_bytes toy_meaning key transport now mid payload (after_checks now (sender now)) next.0 sent refl refl (record { transport = refl; tx = refl; repairs = refl }) next.1 in
       let after = received receiver stands in
       second_carries toy_meaning key transport now mid payload receiver after.0 (after_event after.0) (after_event (after_event after.0)) opened bytes first second again keeps apart waits sealed after.1
       (told after.0 after.2) (told_next (after_event after.0) (leaves after.0 after.2))
     where
       waits : Expects toy_meaning key transport now mid payload receiver
-      waits = record { keys = refl; opening = refl; transport = refl; rx = refl; seen = refl; application = refl; silent = refl; quiet = refl }
+      waits = record { keys = refl; opening = refl; transport = refl; rx = refl; plain = λ pt. refl; seen = refl; application = refl; silent = refl; quiet = refl }

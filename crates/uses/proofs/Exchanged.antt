@@ -1,6 +1,6 @@
 -- What a session tells of the packet that another one sealed.
 use Rattle.std.proofs.Common.{◌≡◌, ℕ, zero, suc, Bool, true, false, List, [], ◌∷◌, length, Option, Some, None, refl, sym, ap, ◌∙◌, subst, arith, slice_get}
-use Rattle.std.specs.Prelude.{◌==◌, ◌++◌, IfSome, if◌then◌else◌, option_and_then, map}
+use Rattle.std.specs.Prelude.{◌==◌, ◌++◌, IfSome, if◌then◌else◌, is_some, option_and_then, map}
 use Rattle.std.specs.Map.{values_of}
 use Rattle.std.specs.Option.{option_map, option_to_list}
 use Rattle.std.specs.Prelude.{replicate}
@@ -19,6 +19,11 @@ use Rattle.stream_core.specs.declared.transport.Transport.{Transport}
 use Rattle.stream_core.specs.Queue.{with_stamp}
 use Rattle.stream_core.specs.Pauses.{pause_of, pauses}
 use Rattle.stream_core.specs.RxRecord.{RxRecord, expected, came_at}
+use Rattle.stream_core.specs.declared.payload_types.TypeRow.{TypeRow}
+use Rattle.stream_core.specs.Repairing.{RepairsRecord, primary_type_of, Polls, without, again as sends_again, first as sends_first, nothing, repairs_of}
+use Rattle.stream_core.specs.Seen.{seen_of}
+use Rattle.stream_core.specs.StreamsRecord.{StreamsRecord, polls_at}
+use Rattle.stream_core.specs.Tables.{value_under, place_of}
 use Rattle.stream_core.specs.TxRecord.{TxRecord, declared, written, after_timeout, polled, receipt_of, sealed_header}
 use Rattle.stream_core.specs.Write.{packet_of}
 use Rattle.session_core.specs.declared.datagram.Datagram.{Datagram}
@@ -26,9 +31,10 @@ use Rattle.session_core.specs.declared.datagram.Event.{Event}
 use Rattle.session_core.specs.declared.datagram.Event.TheVariants as event
 use Rattle.session_core.specs.declared.datagram.Opened.{Opened}
 use Rattle.session_core.specs.Calls.{lacks_keys, told, after_events, Polled}
-use Rattle.session_core.specs.Receiving.{Receives, Opens, OpensIn, number_of, seen_of, rx_opened, after_opened, packet_from, cut, opened, stays}
-use Rattle.session_core.specs.Feedback.{due_of}
-use Rattle.session_core.specs.Sending.{next_rtp, next_by, next_datagram, next_place, sealed_as, sealed_by, receipt_at}
+use Rattle.session_core.specs.Receiving.{Receives, Opens, OpensRepair, OpensIn, number_of, rx_opened, after_opened, packet_from, cut, opened, repaired, stays}
+use Rattle.session_core.specs.Repairs.{repaired_by, original_under}
+use Rattle.session_core.specs.Feedback.{due_of, some_due}
+use Rattle.session_core.specs.Sending.{sealed_as, sealed_by, Gives, NextPacket, none_due, given, passed, NextDatagram, silent, packet as leaves, compound}
 use Rattle.session_core.specs.SessionRecord.{SessionState, SessionRecord}
 use Rattle.uses.specs.Exchange.{payload_told, first_write, end_config}
 use Rattle.uses.proofs.Opening.{sealed_packet, opens_to_it, reads_header}
@@ -57,9 +63,9 @@ second_of payload r between after x y (Some e) (Some f) is carries p q =
 -- where nothing is told, nothing is told second
 none_then : (payload : List ℕ) (r between after : SessionRecord) (first second : Option Event) → told r ≡ [] → told (after_events r) ≡ []
     → Polled r first between → Polled between second after → IfSome second (λ e. payload_told e ≡ payload)
-none_then payload r between after (Some e) second silent quiet p q = absurd (never (sym p.0 ∙ silent))
-none_then payload r between after None None silent quiet p q = tt
-none_then payload r between after None (Some f) silent quiet p q = absurd (never (sym q.0 ∙ ap told p.1 ∙ quiet))
+none_then payload r between after (Some e) second unsaid quiet p q = absurd (never (sym p.0 ∙ unsaid))
+none_then payload r between after None None unsaid quiet p q = tt
+none_then payload r between after None (Some f) unsaid quiet p q = absurd (never (sym q.0 ∙ ap told p.1 ∙ quiet))
 
 zeros : (n : ℕ) → AreWords (replicate n 0)
 zeros zero = tt
@@ -70,12 +76,28 @@ abbrev pub awaited : List ℕ → RxRecord
 awaited mid = expected 42 None mid None false end_config.pause_threshold
 
 -- no feedback is due where none waits
-none_due : (now : ℕ) (s : SessionState) → s.feedback ≡ [] → due_of now s ≡ []
-none_due now s none = by (now == 0)
+no_feedback : (now : ℕ) (s : SessionState) → s.feedback ≡ [] → due_of now s ≡ []
+no_feedback now s none = by (now == 0)
   where
     by : (b : Bool) → (if b then [] else s.feedback) ≡ []
     by true = refl
     by false = none
+
+-- a stream whose packets are not kept gives the packet at its front
+
+no_repairs : (x : TxRecord) → repairs_of x (let none : List (ℕ × RepairsRecord) = [] in none) ≡ None
+no_repairs x = by x.rtx
+  where
+    by : (rtx : Option ℕ) → option_and_then (λ (r : ℕ). value_under x.ssrc (let none : List (ℕ × RepairsRecord) = [] in none)) rtx ≡ None
+    by None = refl
+    by (Some r) = refl
+
+polls_front : (types : List (ℕ × TypeRow)) (t : Transport) (now : ℕ) (x after : TxRecord) (p q : Option RepairsRecord) (o : Option PacketReceipt) → p ≡ None
+    → Polls types t now x p after q o → o ≡ polled x t now
+polls_front types t now x _ _ _ _ none without = refl
+polls_front types t now x _ _ _ _ none (sends_again ssrc q after receipt rtx repairs) = absurd cc
+polls_front types t now x _ _ _ _ none (sends_first ssrc q between after p rtx repairs next keeps) = absurd cc
+polls_front types t now x _ _ _ _ none (nothing ssrc q after rtx repairs next) = absurd cc
 
 module _ (cipher : CipherMeaning) (k : SrtpState) (t : Transport) (now : ℕ) (mid payload : List ℕ) where
   -- the stream, with the packet that waits after a write and a tick
@@ -97,12 +119,27 @@ module _ (cipher : CipherMeaning) (k : SrtpState) (t : Transport) (now : ℕ) (m
   abbrev pub streams : List (ℕ × TxRecord)
   streams = (42, stream) ∷ []
 
-  -- what is polled at any place is its packet
-  polled_at : (place : Option ℕ) (p : PacketReceipt)
-      → option_and_then (λ r. polled r t now) (option_and_then (slice_get (values_of streams)) place) ≡ Some p → p ≡ receipt
-  polled_at None p e = absurd cc
-  polled_at (Some zero) p e = sym (some_same receipt p e)
-  polled_at (Some (suc i)) p e = absurd cc
+  -- the stream at any place gives its packet
+  at_place : (place : ℕ) (x : TxRecord) → slice_get (values_of streams) place ≡ Some x → polled x t now ≡ Some receipt
+  at_place zero x at = ap (λ y. polled y t now) (sym (some_same stream x at))
+  at_place (suc i) x at = absurd cc
+
+  -- a session with that stream alone, whose packets are not kept
+  pub record Sends (r : SessionRecord) : Type 0 where
+    pub transport : r.state.transport ≡ t
+    pub tx : r.state.tx ≡ streams
+    pub repairs : r.repairs ≡ []
+
+  gives_it : (r : SessionRecord) (place : ℕ) (s : StreamsRecord) (o : Option PacketReceipt) → Sends r → Gives now r place s o → o ≡ Some receipt
+  gives_it r place _ _ is (polls_at x after q o at polls) =
+      polls_front r.state.types r.state.transport now x after (repairs_of x r.repairs) q o (ap (λ (l : List (ℕ × RepairsRecord)). repairs_of x l) is.repairs ∙ no_repairs x) polls
+      ∙ ap (λ (u : Transport). polled x u now) is.transport
+      ∙ at_place place x (ap (λ (es : List (ℕ × TxRecord)). slice_get (values_of es) place) (sym is.tx) ∙ at)
+
+  next_is : (r after : SessionRecord) (o : Option PacketReceipt) (p : PacketReceipt) → Sends r → o ≡ Some p → NextPacket now r after o → p ≡ receipt
+  next_is r _ _ p is same (none_due _ e) = absurd cc
+  next_is r _ _ p is same (given _ place s _ e gives) = some_same p receipt (sym same ∙ gives_it r place s _ is gives)
+  next_is r after o p is same (passed _ _ place s _ e gives rest) = let not = gives_it r place s None is gives in absurd cc
 
   from_receipt : (o : Option PacketReceipt) (d : Datagram) → ((p : PacketReceipt) → o ≡ Some p → p ≡ receipt) → sealed_by cipher (Some k) o ≡ Some d
       → d ≡ sealed_as cipher k receipt
@@ -117,15 +154,18 @@ module _ (cipher : CipherMeaning) (k : SrtpState) (t : Transport) (now : ℕ) (m
   bytes_are = refl
 
   -- what leaves is that packet, sealed
-  pub sent_bytes : (s : SessionState) (d : Datagram) → s.sealing ≡ Some k → s.transport ≡ t → s.tx ≡ streams → s.feedback ≡ [] → next_datagram cipher now s ≡ Some d
+  sealed_bytes : (r after : SessionRecord) (o : Option Datagram) (d : Datagram) → r.state.sealing ≡ Some k → r.state.feedback ≡ [] → Sends r → o ≡ Some d
+      → NextDatagram cipher now r after o → d.bytes ≡ packet_bytes
+  sealed_bytes r _ _ d sealing feedback is same (silent spoken none) = absurd cc
+  sealed_bytes r _ _ d sealing feedback is same (leaves after o spoken none next) =
+      ap (λ (x : Datagram). x.bytes) (from_receipt o d (λ p e. next_is r after o p is e next) (ap (λ (q : Option SrtpState). sealed_by cipher q o) (sym sealing) ∙ same)) ∙ bytes_are
+  sealed_bytes r _ _ d sealing feedback is same (compound some fresh) =
+      let not : true ≡ false = sym some ∙ ap some_due (no_feedback now r.state feedback) in
+      absurd cc
+
+  pub sent_bytes : (r after : SessionRecord) (d : Datagram) → r.state.sealing ≡ Some k → r.state.feedback ≡ [] → Sends r → NextDatagram cipher now r after (Some d)
       → d.bytes ≡ packet_bytes
-  sent_bytes s d sealing transport tx feedback given =
-      let next : next_rtp cipher now s ≡ Some d = sym (ap (next_by cipher now s) (none_due now s feedback)) ∙ given in
-      let place : Option ℕ = next_place now s in
-      let polls : (p : PacketReceipt) → receipt_at now s place ≡ Some p → p ≡ receipt = λ p e. polled_at place p
-      (ap (λ (u : Transport). option_and_then (λ r. polled r u now) (option_and_then (slice_get (values_of streams)) place)) (sym transport)
-      ∙ ap (λ (es : List (ℕ × TxRecord)). option_and_then (λ r. polled r s.transport now) (option_and_then (slice_get (values_of es)) place)) (sym tx) ∙ e) in
-      ap (λ (x : Datagram). x.bytes) (from_receipt (receipt_at now s place) d polls (ap (λ o. sealed_by cipher o (receipt_at now s place)) (sym sealing) ∙ next)) ∙ bytes_are
+  sent_bytes r after d sealing feedback is next = sealed_bytes r after (Some d) d sealing feedback is refl next
 
   -- the header that is read off it
   record Reads (h : RtpHeader) : Type 0 where
@@ -150,7 +190,8 @@ module _ (cipher : CipherMeaning) (k : SrtpState) (t : Transport) (now : ℕ) (m
     pub opening : r.state.opening ≡ Some k
     pub transport : r.state.transport.exts ≡ t.exts
     pub rx : r.rx ≡ (42, awaited mid) ∷ []
-    pub seen : r.state.seen ≡ []
+    pub plain : (pt : ℕ) → primary_type_of r.state.types pt ≡ None
+    pub seen : r.seen ≡ []
     pub application : r.state.application ≡ None
     pub silent : told r ≡ []
     pub quiet : told (after_events r) ≡ []
@@ -166,10 +207,10 @@ module _ (cipher : CipherMeaning) (k : SrtpState) (t : Transport) (now : ℕ) (m
       (subst (λ (x : ℕ). OpensTo cipher k.profile k.keys a c e bytes other → OpensTo cipher k.profile k.keys a c x bytes other) r (λ x. x)))
 
   number_is : (r : SessionRecord) (h : RtpHeader) (n : ℕ) → Expects r → Reads h
-      → number_of (seen_of h.ssrc r.state.seen) r.rx r.probes h.ssrc h.sequence_number ≡ Some n → n ≡ 1
+      → number_of (seen_of h.ssrc r.seen) r.rx r.probes h.ssrc h.sequence_number ≡ Some n → n ≡ 1
   number_is r h n x y e =
       let at : number_of (seen_of 42 []) ((42, awaited mid) ∷ []) r.probes 42 1 ≡ Some 1 = refl in
-      let moved : number_of (seen_of h.ssrc r.state.seen) r.rx r.probes h.ssrc h.sequence_number ≡ number_of (seen_of 42 []) ((42, awaited mid) ∷ []) r.probes 42 1 =
+      let moved : number_of (seen_of h.ssrc r.seen) r.rx r.probes h.ssrc h.sequence_number ≡ number_of (seen_of 42 []) ((42, awaited mid) ∷ []) r.probes 42 1 =
       cc (x.seen, x.rx, y.source, y.low) in
       some_same n 1 (sym e ∙ moved ∙ at)
 
@@ -197,6 +238,14 @@ module _ (cipher : CipherMeaning) (k : SrtpState) (t : Transport) (now : ℕ) (m
       ++ (map event.StreamPaused (pauses (rx_opened (seen_of (y.source j) (x.seen j)) now (y.source j) n (x.rx j)))
       ++ option_to_list (option_map event.RtpPacket (if y.source j == 0 then r.state.packet else Some (packet_from now h n (cut h other)))))
 
+  -- no datagram of the stream is a repair
+  no_repair : (r : SessionRecord) (h : RtpHeader) → Expects r → h.ssrc ≡ 42 → repaired_by r.state.types r.rx r.originals h ≡ None
+  no_repair r h x source =
+      λ j.
+      if source j == 0 then None
+      else (if is_some (place_of (source j) (x.rx j)) then (if is_some (x.plain h.payload_type j) then Some (source j) else None)
+      else original_under r.state.types (x.rx j) r.originals h)
+
   -- what is told second after it came is a packet of the payload
   pub second_carries : (r came between after : SessionRecord) (o : Option Opened) (bytes : List ℕ) (first second : Option Event)
       → WrittenIsReadAgain → RtpSealKeepsHeader cipher → RtpSealsApart cipher
@@ -206,5 +255,10 @@ module _ (cipher : CipherMeaning) (k : SrtpState) (t : Transport) (now : ℕ) (m
       let at : Opens cipher r packet_bytes h n other = subst (λ (l : List ℕ). Opens cipher r l h n other) same opens in
       let y : Reads h = reads h again keeps (ap (λ (m : ExtensionMap). header_of m packet_bytes) (sym x.transport) ∙ at.reads) in
       second_of payload came between after _ _ first second (told_then r h n other x y) (opened_payload r h n other again keeps apart x at) p q
-  second_carries r came between after o bytes first second again keeps apart x same (stays refused) p q =
+  second_carries r came between after o bytes first second again keeps apart x same (repaired h original n other opens) p q =
+      let at : OpensRepair cipher r packet_bytes h original n other = subst (λ (l : List ℕ). OpensRepair cipher r l h original n other) same opens in
+      let y : Reads h = reads h again keeps (ap (λ (m : ExtensionMap). header_of m packet_bytes) (sym x.transport) ∙ at.reads) in
+      let not : None ≡ Some original = sym (no_repair r h x y.source) ∙ at.repairs in
+      absurd cc
+  second_carries r came between after o bytes first second again keeps apart x same (stays refused others) p q =
       none_then payload r between after first second x.silent x.quiet p q

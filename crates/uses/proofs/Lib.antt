@@ -1,3 +1,4 @@
 mod Ending
 mod Exchanged
 mod Opening
+mod Repairing

@@ -1,6 +1,7 @@
 //! Two sessions that exchange a packet.
 ghost use Rattle.std.specs.Prelude.{◌≡◌, ◌<◌, length, IfOk, IfSome, OnOk};
 ghost use Rattle.mask_register.specs.MaskRegister.{Remembers};
+ghost use Rattle.queue_store.specs.Queue.{StandsFor as Holds};
 ghost use Rattle.stream_core.specs.Tables.{change_place};
 ghost use Rattle.stream_core.specs.TxRecord.{written};
 ghost use Rattle.session_core.specs.SessionRecord.{StandsFor};
@@ -8,6 +9,7 @@ ghost use Rattle.uses.specs.Exchange.{end_of, payload_told};
 
 use mask_register::MaskRegister;
 use media_base::{Beginning, Bytes, Duration, Instant};
+use queue_store::QueueStore;
 use rtp_base::{Frequency, Mid, MidRid, Pt, SeqNo, Ssrc};
 use rtp_wire::{ExtensionMap, written_header_is_read_again};
 use session_core::{
@@ -16,15 +18,15 @@ use session_core::{
 use srtp_core::laws::{rtp_seal_keeps_header, rtp_seals_apart};
 use srtp_core::{KeyingMaterial, SrtpProfile, ToyCipher};
 use std::alloc::Global;
-use stream_core::{Payload, PayloadTypes, RtpWrite, TypeRow};
+use stream_core::{Payload, PayloadTypes, RtpWrite, Sent, TypeRow};
 
 /// One end, under the toy cipher.
-pub type End = Session<ToyCipher, MaskRegister>;
+pub type End = Session<ToyCipher, MaskRegister, QueueStore<Sent>>;
 
 /// An end with the keys of one side of the material, which knows payload type 96 and has one media
 /// section.
 pub fn end(alloc: Global, material: &KeyingMaterial, mid: Mid, left: bool) -> Result<End, RtcError>
-    ensures made { IfOk result (λ s. StandsFor Remembers s (end_of material.now mid left)) }
+    ensures made { IfOk result (λ s. StandsFor Remembers Holds s (end_of material.now mid left)) }
 {
     let mut types = PayloadTypes::new(alloc);
     let (pt, clock) = (Pt::from(96), Frequency::NINETY_KHZ);

@@ -10,14 +10,15 @@ use rtp_wire::{Mid, Pt, SeqNo, Ssrc};
 use srtp_core::SrtpProfile;
 use std::alloc::Global;
 
-/// A payload type that both sides know, with its clock in ticks a second.
+/// A payload type that both sides know, with its clock in ticks a second, without repairs.
 pub fn payload_type(pt: u8, codec: Codec, rate: u32) -> PayloadType
-    ensures { result ≡ record { pt = pt; codec = codec; rate = rate } }
+    ensures { result ≡ record { pt = pt; codec = codec; rate = rate; rtx = None } }
 {
     PayloadType {
         pt: Pt::from(pt),
         codec,
         rate,
+        rtx: None,
     }
 }
 
@@ -76,6 +77,8 @@ pub fn setup(alloc: Global, types: Vec<PayloadType>, media: Vec<Media>) -> Setup
       exts = [];
       types = types.items;
       media = media.items;
+      starts = [];
+      caches = [];
     } }
 {
     Setup {
@@ -93,6 +96,8 @@ pub fn setup(alloc: Global, types: Vec<PayloadType>, media: Vec<Media>) -> Setup
         exts: Listed::new(alloc),
         types: Listed::from_vec(types),
         media: Listed::from_vec(media),
+        starts: Listed::new(alloc),
+        caches: Listed::new(alloc),
     }
 }
 

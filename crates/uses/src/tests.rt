@@ -18,6 +18,7 @@ use crate::register_by_mask::is_taken_twice;
 use crate::register_numbers::ask_for_missing;
 use crate::report_arrivals::{report_arrival, round_trip};
 use crate::seal_and_open::seal_and_open;
+use crate::send_again::{declare, send_again};
 use crate::time_a_packet::leaves_at;
 use crate::widen_a_number::take_number;
 use mask_register::MaskRegister;
@@ -27,6 +28,7 @@ use pace_core::{NullPacer, QueuePriority, QueueSnapshot, QueueState};
 use payload_core::{
     Arrival, Codec, CodecDepacketizer, CodecSpec, DepacketizingBuffer, FormatParams, RtpMeta,
 };
+use queue_store::QueueStore;
 use repair_core::{GapWindow, NackRegister};
 use resend_core::{Cached, EvictingBuffer, ResendStore, RtxCache};
 use rtp_base::{
@@ -38,7 +40,10 @@ use session_core::Event;
 use srtp_core::{KeyingMaterial, ShaCipher, SrtpError, SrtpProfile};
 use std::alloc::{AllocError, Global};
 use std::test::Fail;
-use stream_core::{Payload, RtpWrite, StreamTx, Transport};
+use stream_core::{
+    PacketReceipt, Payload, PayloadTypes, RtpWrite, Sent as SentPacket, StreamTx, Streams,
+    Transport, TypeRow,
+};
 use twcc_core::{TwccRecvRegister, TwccSendRegister};
 
 // A packet of SSRC 42 with number 1 and two bytes of payload (RFC 3550 section 5.1).
@@ -198,6 +203,70 @@ fn a_packet_is_queued(rt: HostRuntime) -> Result<(), Fail> {
     };
     let len = plain_len(rt.alloc(), &mut transport)?;
     assert_eq!(rt; len, 14);
+    Ok(())
+}
+
+type Kept = Streams<MaskRegister, QueueStore<SentPacket>>;
+
+// Type 96, whose repairs have type 97.
+fn types(alloc: Global) -> Result<PayloadTypes, AllocError> {
+    let mut types = PayloadTypes::new(alloc);
+    types.add(TypeRow {
+        pt: Pt::from(96),
+        clock: Frequency::NINETY_KHZ,
+        rtx: Some(Pt::from(97)),
+    })?;
+    Ok(types)
+}
+
+// A packet of number 1 is sent on the stream of SSRC 42, if there is one.
+fn send_first(
+    alloc: Global,
+    streams: &mut Kept,
+    transport: &mut Transport,
+    types: &PayloadTypes,
+) -> Result<(), Fail> {
+    let now = Instant::from_nanos(1);
+    let payload = Payload::from_slice(alloc, &[1, 2])?;
+    let write = RtpWrite::new(Pt::from(96), SeqNo::from(1), 0, now, payload);
+    if let Some(place) = streams.tx_place(Ssrc::from(42)) {
+        streams.tx_at(place).write_rtp(write.nackable(true))?;
+    }
+    streams.handle_timeout(now);
+    if let Some(place) = streams.tx_place(Ssrc::from(42)) {
+        streams.poll_packet(place, now, transport, types)?;
+    }
+    Ok(())
+}
+
+// What is sent after the peer asked for that packet.
+fn repair(alloc: Global, transport: &mut Transport) -> Result<Option<PacketReceipt>, Fail> {
+    let mut streams: Kept = Streams::new(alloc, Duration::from_millis(1_500));
+    let types = types(alloc)?;
+    let (ssrc, rtx) = (Ssrc::from(42), Ssrc::from(43));
+    declare(&mut streams, ssrc, rtx, MidRid(mid(), None))?;
+    send_first(alloc, &mut streams, transport, &types)?;
+    let entry = NackEntry { pid: 1, blp: 0 };
+    let now = Instant::from_nanos(2);
+    let receipt = send_again(&mut streams, ssrc, &[entry], now, transport, &types)?;
+    Ok(receipt)
+}
+
+#[test]
+fn a_packet_is_sent_again(rt: HostRuntime) -> Result<(), Fail> {
+    let mut transport = Transport {
+        exts: ExtensionMap::empty(),
+        beginning: Beginning { unix_secs: 0 },
+        twcc: 0,
+    };
+    let sent = repair(rt.alloc(), &mut transport)?;
+    let plain = match &sent {
+        Some(receipt) => receipt.plain.as_slice(),
+        None => &[],
+    };
+    // Type 97, number 1 and SSRC 43, and in front of the payload the number 1 (RFC 4588 section 4).
+    let expected = [0x80, 0x61, 0, 1, 0, 0, 0, 0, 0, 0, 0, 0x2b, 0, 1, 1, 2];
+    assert!(rt; plain == expected.as_slice());
     Ok(())
 }
 

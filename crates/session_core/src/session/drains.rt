@@ -3,7 +3,7 @@ ghost use Rattle.std.specs.Prelude.{◌≡◌, ◌||◌, ◌++◌, [], None, fal
 ghost use Rattle.session_core.specs.Sending.{Drains};
 ghost use Rattle.session_core.specs.Draining.{IsDrainCut, IsCutOff};
 ghost use Rattle.session_core.specs.SessionRecord.{SessionRecord, StandsFor};
-ghost use Rattle.session_core.specs.Calls.{state_told, after_events, told, wake_of};
+ghost use Rattle.session_core.specs.Calls.{after_events, told, wake_of};
 ghost use Rattle.session_core.specs.declared.error.RtcError.TheVariants.{Stopped, Memory};
 
 use super::Session;
@@ -11,8 +11,10 @@ use crate::datagram::{Datagram, DrainFault, Drained, Event};
 use crate::error::RtcError;
 use media_base::Instant;
 use repair_core::GapWindow;
+use resend_core::ResendStore;
 use srtp_core::SrtpCipher;
 use std::alloc::AllocError;
+use stream_core::Sent;
 
 /// A drain that was cut off, with what the session told and sent before.
 fn cut_off(error: RtcError, events: Vec<Event>, datagrams: Vec<Datagram>) -> DrainFault
@@ -28,14 +30,14 @@ fn cut_off(error: RtcError, events: Vec<Event>, datagrams: Vec<Datagram>) -> Dra
     }
 }
 
-impl<C: SrtpCipher, W: GapWindow> Session<C, W> {
+impl<C: SrtpCipher, W: GapWindow, S: ResendStore<Sent>> Session<C, W, S> {
     /// Takes all that the session tells, behind what was taken before. Room is reserved before each poll.
     fn take_events(&mut self, sofar: &mut Vec<Event>) -> Result<(), AllocError>
         requires none { sofar.old.items ≡ [] }
-        ensures taken { OnOk result ((r : SessionRecord) → StandsFor W.remembers self.old r
-            → (sofar.new.items ≡ told r) × StandsFor W.remembers self.new (after_events r)) }
-        ensures front { OnErr result ((r : SessionRecord) → StandsFor W.remembers self.old r
-            → (between : SessionRecord) × StandsFor W.remembers self.new between
+        ensures taken { OnOk result ((r : SessionRecord) → StandsFor W.remembers S.stands_for self.old r
+            → (sofar.new.items ≡ told r) × StandsFor W.remembers S.stands_for self.new (after_events r)) }
+        ensures front { OnErr result ((r : SessionRecord) → StandsFor W.remembers S.stands_for self.old r
+            → (between : SessionRecord) × StandsFor W.remembers S.stands_for self.new between
             × (told r ≡ sofar.new.items ++ told between) × (after_events between ≡ after_events r)) }
         ensures runs { self.new.state.stopped ≡ self.old.state.stopped }
     {
@@ -52,9 +54,10 @@ impl<C: SrtpCipher, W: GapWindow> Session<C, W> {
     fn drain_datagrams(&mut self, now: Instant, sofar: &mut Vec<Datagram>) -> Result<(), RtcError>
         requires runs { self.old.state.stopped ≡ false }
         requires none { sofar.old.items ≡ [] }
-        ensures drained { OnOk result (Drains C.meaning now self.old.state self.new.state sofar.new.items) }
-        ensures others { self.new ≡ record self.old { state = self.new.state } }
-        ensures sofar { IfErr result (λ e. IsDrainCut C.meaning now self.old.state e self.new.state sofar.new.items) }
+        ensures drained { OnOk result ((r : SessionRecord) → StandsFor W.remembers S.stands_for self.old r
+            → (after : SessionRecord) × Drains C.meaning now r after sofar.new.items × StandsFor W.remembers S.stands_for self.new after) }
+        ensures sofar { IfErr result (λ e. (r : SessionRecord) → StandsFor W.remembers S.stands_for self.old r
+            → (after : SessionRecord) × IsDrainCut C.meaning now r e after sofar.new.items × StandsFor W.remembers S.stands_for self.new after) }
         ensures latch { self.new.state.stopped ≡ is_err result }
     {
         loop {
@@ -74,21 +77,21 @@ impl<C: SrtpCipher, W: GapWindow> Session<C, W> {
     /// with the number of streams.
     ///
     /// # Errors
-    /// `Stopped` where an earlier call answered `Memory` or `KeyExhausted`; `KeyExhausted` where feedback is
-    /// due behind the last index of SRTCP datagrams; `Memory`; each with what was taken before.
+    /// `Stopped` where an earlier call stopped the session; `KeyExhausted` where feedback is due behind the
+    /// last index of SRTCP datagrams; `RepairsExhausted` where a packet that is asked for is due and no
+    /// number is left for it; `Memory`; each with what was taken before.
     pub fn drain(&mut self, now: Instant) -> Result<Drained, DrainFault>
         ensures stopped { IsTrue self.old.state.stopped → IsErrAnd result (λ fault. (fault.error ≡ Stopped)
             × (fault.sofar.events.items ≡ []) × (fault.sofar.datagrams.items ≡ [])) }
         ensures still { IsTrue self.old.state.stopped → self.new ≡ self.old }
         ensures latch { self.new.state.stopped ≡ self.old.state.stopped || is_err result }
-        ensures drained { IfOk result (λ all. (r : SessionRecord) → StandsFor W.remembers self.old r
-            → (all.events.items ≡ told r)
-            × Drains C.meaning now (state_told r.state) self.new.state all.datagrams.items
-            × StandsFor W.remembers self.new (record (after_events r) { state = self.new.state })) }
-        ensures wake { IfOk result (λ all. (r : SessionRecord) → StandsFor W.remembers self.new r → all.wake ≡ wake_of r) }
-        ensures sofar { self.old.state.stopped ≡ false → IfErr result (λ fault. (r : SessionRecord) → StandsFor W.remembers self.old r
+        ensures drained { IfOk result (λ all. (r : SessionRecord) → StandsFor W.remembers S.stands_for self.old r
+            → (all.events.items ≡ told r) × ((after : SessionRecord)
+            × Drains C.meaning now (after_events r) after all.datagrams.items × StandsFor W.remembers S.stands_for self.new after)) }
+        ensures wake { IfOk result (λ all. (r : SessionRecord) → StandsFor W.remembers S.stands_for self.new r → all.wake ≡ wake_of r) }
+        ensures sofar { self.old.state.stopped ≡ false → IfErr result (λ fault. (r : SessionRecord) → StandsFor W.remembers S.stands_for self.old r
             → (after : SessionRecord) × IsCutOff C.meaning now r fault.error after fault.sofar.events.items fault.sofar.datagrams.items
-            × StandsFor W.remembers self.new after) }
+            × StandsFor W.remembers S.stands_for self.new after) }
         ensures no_wake { IfErr result (λ fault. fault.sofar.wake ≡ None) }
     {
         let mut events = Vec::new(self.alloc);

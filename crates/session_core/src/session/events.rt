@@ -8,16 +8,18 @@ use super::Session;
 use crate::datagram::Event;
 use crate::error::RtcError;
 use repair_core::GapWindow;
+use resend_core::ResendStore;
 use srtp_core::SrtpCipher;
+use stream_core::Sent;
 
-impl<C: SrtpCipher, W: GapWindow> Session<C, W> {
+impl<C: SrtpCipher, W: GapWindow, S: ResendStore<Sent>> Session<C, W, S> {
     /// What the session tells next, where there are keys: the feedback of an application that came last,
     /// then which incoming streams were paused or unpaused, in order, then the packet that came last, each
     /// if it was not told.
     pub fn poll_event(&mut self) -> Option<Event>
-        ensures event { (r : SessionRecord) → StandsFor W.remembers self.old r → result ≡ next_event r }
-        ensures after { (r : SessionRecord) → StandsFor W.remembers self.old r → StandsFor W.remembers self.new (after_event r) }
-        ensures told { (r : SessionRecord) → StandsFor W.remembers self.old r → Polled r result (after_event r) }
+        ensures event { (r : SessionRecord) → StandsFor W.remembers S.stands_for self.old r → result ≡ next_event r }
+        ensures after { (r : SessionRecord) → StandsFor W.remembers S.stands_for self.old r → StandsFor W.remembers S.stands_for self.new (after_event r) }
+        ensures told { (r : SessionRecord) → StandsFor W.remembers S.stands_for self.old r → Polled r result (after_event r) }
         ensures runs { self.new.state.stopped ≡ self.old.state.stopped }
         ensures fewer { IfSome result (λ e. events_in self.new < events_in self.old) }
     {
@@ -37,7 +39,7 @@ impl<C: SrtpCipher, W: GapWindow> Session<C, W> {
     /// What the session tells next of what may want memory: nothing yet.
     ///
     /// # Errors
-    /// `Stopped` where an earlier call answered `Memory` or `KeyExhausted`.
+    /// `Stopped` where an earlier call stopped the session.
     pub fn poll_event_fallible(&mut self) -> Result<Option<Event>, RtcError>
         ensures stopped { IsErrOf result Stopped ↔ IsTrue self.old.state.stopped }
         ensures only { IfErr result (λ e. e ≡ Stopped) }

@@ -1,8 +1,11 @@
 //! What comes to a session: the datagrams of RTP and of RTCP.
-ghost use Rattle.std.specs.Prelude.{◌≡◌, ◌↔◌, ◌||◌, Some, true, false, is_err, IsTrue, IfOk, IfErr, IfNone, OnErr, IsErrOf};
+ghost use Rattle.std.specs.Prelude.{◌≡◌, ◌<◌, ◌^◌, ◌↔◌, ◌||◌, ℕ, Some, None, true, false, length, OnOk, is_err, IsTrue, IfOk, IfErr, IfNone, OnErr, IsErrOf};
 ghost use Rattle.rtp_wire.specs.Header.{header_of};
 ghost use Rattle.session_core.specs.Hearing.{ReceivesRtcp};
-ghost use Rattle.session_core.specs.Receiving.{Receives, is_claimed};
+ghost use Rattle.std.specs.Map.{keys_of};
+ghost use Rattle.stream_core.specs.Tables.{place_of};
+ghost use Rattle.session_core.specs.Receiving.{Receives, is_claimed, after_repair, after_original, after_restoring};
+ghost use Rattle.session_core.specs.Repairs.{repaired_by};
 ghost use Rattle.session_core.specs.Draining.{stopped_from};
 ghost use Rattle.session_core.specs.SessionRecord.{SessionRecord, StandsFor};
 ghost use Rattle.session_core.specs.declared.error.RtcError.TheVariants.{Stopped, Memory};
@@ -11,32 +14,37 @@ use super::Session;
 use crate::datagram::Opened;
 use crate::error::RtcError;
 use crate::feedback::sender;
-use crate::hearing::{RtcpOpening, feedback_in, hear, last_delay, measure, open_rtcp};
+use crate::hearing::{RtcpOpening, ask_all, feedback_in, hear, last_delay, measure, open_rtcp};
 use crate::receiving::{Opening, accepts, is_claimed, open, put_packet, take};
+use crate::restoring::{accepts_repair, put_restored, repaired_by};
 use media_base::{Bytes, Instant, InstantExt};
 use repair_core::GapWindow;
-use rtp_base::{Kind, SeqNo};
+use resend_core::ResendStore;
+use rtp_base::{Kind, SeqNo, Ssrc};
 use rtp_wire::RtpHeader;
 use srtp_core::SrtpCipher;
 use std::alloc::AllocError;
+use stream_core::{Payload, Sent};
 
-impl<C: SrtpCipher, W: GapWindow> Session<C, W> {
+impl<C: SrtpCipher, W: GapWindow, S: ResendStore<Sent>> Session<C, W, S> {
     /// Takes in an RTP datagram that came, and tells what it opened to; its packet is told by
-    /// `poll_event`, but for SSRC 0. None where it does not open, and then nothing changes: where it has
-    /// no header, or more than 2,000 bytes; where its SSRC is no incoming stream's, nor 0, or its payload
+    /// `poll_event`, but for SSRC 0. A repair (RFC 4588), which comes under the SSRC of a stream's repairs,
+    /// or under the stream's own with a type of repairs, tells the packet that it restores, where that did
+    /// not come before. None where it does not open, and then nothing changes: where it has no header, or
+    /// more than 2,000 bytes; where its SSRC is no incoming stream's or its repairs', nor 0, or its payload
     /// type is not known; where its number was taken, or is too old; where its tag does not hold, there
     /// are no keys, or it does not end in the padding that its header tells of.
     ///
     /// # Errors
-    /// `Stopped` where an earlier call answered `Memory` or `KeyExhausted`; `Memory`.
+    /// `Stopped` where an earlier call stopped the session; `Memory`.
     pub fn handle_rtp_receive(
         &mut self,
         now: Instant,
         bytes: &[u8],
     ) -> Result<Option<Opened>, RtcError>
         ensures stopped { IsErrOf result Stopped ↔ IsTrue self.old.state.stopped }
-        ensures received { IfOk result (λ opened. (r : SessionRecord) → StandsFor W.remembers self.old r
-            → (after : SessionRecord) × Receives C.meaning r bytes.now now after opened × StandsFor W.remembers self.new after) }
+        ensures received { IfOk result (λ opened. (r : SessionRecord) → StandsFor W.remembers S.stands_for self.old r
+            → (after : SessionRecord) × Receives C.meaning r bytes.now now after opened × StandsFor W.remembers S.stands_for self.new after) }
         ensures unopened { IfOk result (λ opened. IfNone opened (self.new ≡ self.old)) }
         ensures latch { self.new.state.stopped ≡ self.old.state.stopped || is_err result }
         ensures unchanged { IsErrOf result Stopped → self.new ≡ self.old }
@@ -55,8 +63,8 @@ impl<C: SrtpCipher, W: GapWindow> Session<C, W> {
     }
 
     fn receive(&mut self, now: Instant, bytes: &[u8]) -> Result<Option<Opened>, AllocError>
-        ensures received { IfOk result (λ opened. (r : SessionRecord) → StandsFor W.remembers self.old r
-            → (after : SessionRecord) × Receives C.meaning r bytes.now now after opened × StandsFor W.remembers self.new after) }
+        ensures received { IfOk result (λ opened. (r : SessionRecord) → StandsFor W.remembers S.stands_for self.old r
+            → (after : SessionRecord) × Receives C.meaning r bytes.now now after opened × StandsFor W.remembers S.stands_for self.new after) }
         ensures unopened { IfOk result (λ opened. IfNone opened (self.new ≡ self.old)) }
         ensures runs { self.new.state.stopped ≡ self.old.state.stopped }
     {
@@ -64,22 +72,140 @@ impl<C: SrtpCipher, W: GapWindow> Session<C, W> {
         let Some(header) = &read else {
             return Ok(None);
         };
+        if let Some(found) = repaired_by(&self.types, &self.streams, header) {
+            return self.receive_repair(now, bytes, header, found.0, found.1);
+        }
         if !is_claimed(&self.types, header) {
             return Ok(None);
         }
         self.receive_under(now, bytes, header)
     }
 
-    /// Takes in a datagram that begins with this header, of a type that is taken.
+    /// A repair of the stream at a place opened under its own number.
+    fn take_repair(
+        &mut self,
+        now: Instant,
+        header: &RtpHeader,
+        place: usize,
+        number: SeqNo,
+    ) -> Result<(), AllocError>
+        requires place { place < length self.old.rx }
+        requires number { number < 2 ^ 48 }
+        ensures ok { OnOk result ((r : SessionRecord) (original : ℕ) → StandsFor W.remembers S.stands_for self.old r → place_of original self.old.rx ≡ Some place
+            → StandsFor W.remembers S.stands_for self.new (after_repair now header.now original number r)) }
+        ensures places { OnOk result (keys_of self.new.rx ≡ keys_of self.old.rx) }
+        ensures runs { self.new.state.stopped ≡ self.old.state.stopped }
+    {
+        let under = header.ssrc;
+        let greatest = self.seen.get(under);
+        self.seen.put(under, number)?;
+        self.streams.take_repair_at(place, now, number, greatest);
+        Ok(())
+    }
+
+    /// A repair of the stream at a place restores the packet whose number has these low 16 bits, with
+    /// what it carries.
+    fn restore(
+        &mut self,
+        now: Instant,
+        header: &RtpHeader,
+        original: Ssrc,
+        place: usize,
+        low: u16,
+        payload: Payload,
+    ) -> Result<(), AllocError>
+        requires { place < length self.old.rx }
+        ensures ok { OnOk result ((r : SessionRecord) → StandsFor W.remembers S.stands_for self.old r → place_of original self.old.rx ≡ Some place
+            → StandsFor W.remembers S.stands_for self.new (after_original now header.now original low payload r)) }
+        ensures runs { self.new.state.stopped ≡ self.old.state.stopped }
+    {
+        let greatest = self.seen.get(original);
+        let number = self.streams.restored_number_at(place, low, &greatest);
+        let fresh = self.streams.restore_at(place, low, greatest)?;
+        self.seen.put(original, number)?;
+        put_restored(
+            now,
+            &self.types,
+            header,
+            original,
+            fresh,
+            payload,
+            &mut self.packet,
+        );
+        Ok(())
+    }
+
+    /// A repair of the stream at a place restores a packet with what it carries, where the low 16 bits of
+    /// the packet's number stand in front of that.
+    fn restore_packet(
+        &mut self,
+        now: Instant,
+        header: &RtpHeader,
+        original: Ssrc,
+        place: usize,
+        low: Option<u16>,
+        payload: Payload,
+    ) -> Result<(), AllocError>
+        requires { place < length self.old.rx }
+        ensures ok { OnOk result ((r : SessionRecord) → StandsFor W.remembers S.stands_for self.old r → place_of original self.old.rx ≡ Some place
+            → StandsFor W.remembers S.stands_for self.new (after_restoring now header.now original low payload r)) }
+        ensures runs { self.new.state.stopped ≡ self.old.state.stopped }
+    {
+        let Some(low) = low else {
+            return Ok(());
+        };
+        self.restore(now, header, original, place, low, payload)
+    }
+
+    /// Takes in a datagram that begins with this header, and is a repair of the stream at a place.
+    fn receive_repair(
+        &mut self,
+        now: Instant,
+        bytes: &[u8],
+        header: &RtpHeader,
+        original: Ssrc,
+        place: usize,
+    ) -> Result<Option<Opened>, AllocError>
+        requires { place < length self.old.rx }
+        ensures received { IfOk result (λ opened. (r : SessionRecord) → StandsFor W.remembers S.stands_for self.old r
+            → header_of r.state.transport.exts bytes.now ≡ Some header.now → repaired_by r.state.types r.rx r.originals header.now ≡ Some original
+            → place_of original self.old.rx ≡ Some place
+            → (after : SessionRecord) × Receives C.meaning r bytes.now now after opened × StandsFor W.remembers S.stands_for self.new after) }
+        ensures unopened { IfOk result (λ opened. IfNone opened (self.new ≡ self.old)) }
+        ensures runs { self.new.state.stopped ≡ self.old.state.stopped }
+    {
+        let Some(number) = accepts_repair(header, place, &self.seen, &self.streams) else {
+            return Ok(None);
+        };
+        let Some(opening) = open(self.alloc, &mut self.opening, bytes, header, number, true)? else {
+            return Ok(None);
+        };
+        let Opening {
+            plain,
+            original: low,
+            payload,
+        } = opening;
+        self.take_repair(now, header, place, number)?;
+        self.restore_packet(now, header, original, place, low, payload)?;
+        Ok(Some(Opened {
+            kind: Kind::Rtp,
+            ssrc: header.ssrc,
+            index: number,
+            plain,
+        }))
+    }
+
+    /// Takes in a datagram that begins with this header, of a type that is taken, and is no repair.
     fn receive_under(
         &mut self,
         now: Instant,
         bytes: &[u8],
         header: &RtpHeader,
     ) -> Result<Option<Opened>, AllocError>
-        ensures received { IfOk result (λ opened. (r : SessionRecord) → StandsFor W.remembers self.old r
-            → header_of r.state.transport.exts bytes.now ≡ Some header.now → is_claimed r.state.types header.now ≡ true
-            → (after : SessionRecord) × Receives C.meaning r bytes.now now after opened × StandsFor W.remembers self.new after) }
+        ensures received { IfOk result (λ opened. (r : SessionRecord) → StandsFor W.remembers S.stands_for self.old r
+            → header_of r.state.transport.exts bytes.now ≡ Some header.now → repaired_by r.state.types r.rx r.originals header.now ≡ None
+            → is_claimed r.state.types header.now ≡ true
+            → (after : SessionRecord) × Receives C.meaning r bytes.now now after opened × StandsFor W.remembers S.stands_for self.new after) }
         ensures unopened { IfOk result (λ opened. IfNone opened (self.new ≡ self.old)) }
         ensures runs { self.new.state.stopped ≡ self.old.state.stopped }
     {
@@ -94,7 +220,8 @@ impl<C: SrtpCipher, W: GapWindow> Session<C, W> {
             return Ok(None);
         };
         let number = found.1;
-        let Some(opening) = open(self.alloc, &mut self.opening, bytes, header, number)? else {
+        let Some(opening) = open(self.alloc, &mut self.opening, bytes, header, number, false)?
+        else {
             return Ok(None);
         };
         take(
@@ -106,7 +233,7 @@ impl<C: SrtpCipher, W: GapWindow> Session<C, W> {
             &mut self.probes,
         )?;
         self.seen.put(header.ssrc, number)?;
-        let Opening { plain, payload } = opening;
+        let Opening { plain, payload, .. } = opening;
         put_packet(now, header, number, payload, &mut self.packet);
         Ok(Some(Opened {
             kind: Kind::Rtp,
@@ -116,29 +243,30 @@ impl<C: SrtpCipher, W: GapWindow> Session<C, W> {
         }))
     }
 
-    /// Takes in an RTCP datagram that came, and tells what it opened to: its reception blocks acknowledge
-    /// streams without repairs, its last item that tells how long ago a moment of this session came in
-    /// gives the round trip of the incoming streams, its last feedback of an application is told by
-    /// `poll_event`. None where it does not open, and then nothing changes: where it is shorter than a
-    /// packet of 8 bytes and what seals it, where its tag does not hold, and without keys. One that comes
-    /// again opens again. The time grows with its items, and with the number of incoming streams where one
-    /// gives the round trip.
+    /// Takes in an RTCP datagram that came, and tells what it opened to: its NACKs ask for packets that were
+    /// sent, which may leave again after the next tick, its reception blocks acknowledge streams without
+    /// repairs, its last item that tells how long ago a moment of this session came in gives the round
+    /// trip of the incoming streams, its last feedback of an application is told by `poll_event`. None
+    /// where it does not open, and then nothing changes: where it is shorter than a packet of 8 bytes and
+    /// what seals it, where its tag does not hold, and without keys. One that comes again opens again. The
+    /// time grows with its items and the numbers that they name, and with the number of incoming streams
+    /// where one gives the round trip.
     ///
     /// # Errors
-    /// `Stopped` where an earlier call answered `Memory` or `KeyExhausted`; `Memory`.
+    /// `Stopped` where an earlier call stopped the session; `Memory`.
     pub fn handle_rtcp_receive(
         &mut self,
         now: Instant,
         bytes: &[u8],
     ) -> Result<Option<Opened>, RtcError>
         ensures stopped { IsErrOf result Stopped ↔ IsTrue self.old.state.stopped }
-        ensures received { IfOk result (λ opened. (r : SessionRecord) → StandsFor W.remembers self.old r
-            → (after : SessionRecord) × ReceivesRtcp C.meaning r bytes.now now after opened × StandsFor W.remembers self.new after) }
+        ensures received { IfOk result (λ opened. (r : SessionRecord) → StandsFor W.remembers S.stands_for self.old r
+            → (after : SessionRecord) × ReceivesRtcp C.meaning r bytes.now now after opened × StandsFor W.remembers S.stands_for self.new after) }
         ensures unopened { IfOk result (λ opened. IfNone opened (self.new ≡ self.old)) }
         ensures latch { self.new.state.stopped ≡ self.old.state.stopped || is_err result }
         ensures unchanged { IsErrOf result Stopped → self.new ≡ self.old }
         ensures memory { self.old.state.stopped ≡ false → IfErr result (λ e. e ≡ Memory) }
-        ensures failed { IsErrOf result Memory → self.new ≡ record self.old { state = stopped_from self.old.state } }
+        ensures failed { IsErrOf result Memory → self.new ≡ record self.old { state = stopped_from self.old.state; repairs = self.new.repairs } }
     {
         if self.stopped {
             return Err(RtcError::Stopped);
@@ -153,21 +281,22 @@ impl<C: SrtpCipher, W: GapWindow> Session<C, W> {
     }
 
     fn receive_rtcp(&mut self, now: Instant, bytes: &[u8]) -> Result<Option<Opened>, AllocError>
-        ensures received { IfOk result (λ opened. (r : SessionRecord) → StandsFor W.remembers self.old r
-            → (after : SessionRecord) × ReceivesRtcp C.meaning r bytes.now now after opened × StandsFor W.remembers self.new after) }
+        ensures received { IfOk result (λ opened. (r : SessionRecord) → StandsFor W.remembers S.stands_for self.old r
+            → (after : SessionRecord) × ReceivesRtcp C.meaning r bytes.now now after opened × StandsFor W.remembers S.stands_for self.new after) }
         ensures unopened { IfOk result (λ opened. IfNone opened (self.new ≡ self.old)) }
         ensures runs { self.new.state.stopped ≡ self.old.state.stopped }
-        ensures err { OnErr result (self.new ≡ self.old) }
+        ensures err { OnErr result (self.new ≡ record self.old { repairs = self.new.repairs }) }
     {
         let Some(RtcpOpening { plain, index }) = open_rtcp(&mut self.opening, bytes)? else {
             return Ok(None);
         };
         let feedback = feedback_in(self.alloc, plain.as_slice())?;
         let delay = last_delay(self.local_ssrc, &self.streams, feedback.as_slice());
+        self.next_stream = 0;
+        ask_all(feedback.as_slice(), &mut self.streams, now)?;
         let ntp = now.to_ntp_duration(&self.transport.beginning);
         measure(ntp, &delay, &mut self.streams);
         hear(feedback, &mut self.streams, &mut self.application);
-        self.next_stream = 0;
         Ok(Some(Opened {
             kind: Kind::Rtcp,
             ssrc: sender(plain.as_slice()),

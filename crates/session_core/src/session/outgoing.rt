@@ -1,31 +1,48 @@
 //! What leaves a session: feedback, and one datagram a poll.
-ghost use Rattle.std.specs.Prelude.{◌≡◌, ◌≤◌, ◌%◌, ◌↔◌, ◌||◌, ◌<◌, [], true, false, length, is_err, IsTrue, IfOk, IfErr, IfSome, OnOk, OnErr, IsErrOf};
+ghost use Rattle.std.specs.Prelude.{◌≡◌, ◌≤◌, ◌%◌, ◌↔◌, ◌||◌, ◌<◌, ◌⊎◌, ℕ, Some, None, [], true, false, length, is_err, IsTrue, IfOk, IfErr, IfSome, IfNone, OnOk, OnErr, IsErrOf};
 ghost use Rattle.rtcp_wire.specs.declared.packet.Rtcp.TheVariants as item;
 ghost use Rattle.srtp_core.specs.declared.counter.Counter.TheVariants as counter;
 ghost use Rattle.session_core.specs.Feedback.{exhausts};
-ghost use Rattle.session_core.specs.Sending.{next_rtp, after_rtp, next_datagram, after_datagram, all_waiting, waiting_in};
-ghost use Rattle.session_core.specs.Draining.{stopped_from, IsPacketLeft, IsPollLeft, PollFails};
+ghost use Rattle.stream_core.specs.TxRecord.{IsSealable};
+ghost use Rattle.session_core.specs.SessionRecord.{SessionRecord, StandsFor};
+ghost use Rattle.session_core.specs.Sending.{next_place, unreleased, after_streams, Gives, NextPacket, NextDatagram, waiting_in};
+ghost use Rattle.stream_core.specs.StreamsRecord.{StreamsRecord};
+ghost use Rattle.session_core.specs.Draining.{stopped_from, stopped_record, PacketFails, PollFails};
 ghost use Rattle.session_core.specs.Calls.{with_feedback};
-ghost use Rattle.session_core.specs.declared.error.RtcError.TheVariants.{Stopped, Memory, KeyExhausted};
+ghost use Rattle.session_core.specs.declared.error.RtcError.TheVariants.{Stopped, Memory, KeyExhausted, RepairsExhausted};
 
 use super::Session;
 use crate::datagram::Datagram;
 use crate::error::RtcError;
 use crate::feedback::poll_compound;
-use crate::sending::{first_due, is_silent, poll_place, seal};
+use crate::sending::{first_due, seal};
 use media_base::{Bytes, Instant, already_happened};
 use repair_core::GapWindow;
+use resend_core::ResendStore;
 use rtcp_wire::{AppSpecificFeedback, Rtcp, items_fit_by_lengths};
 use rtp_base::Ssrc;
+use rtx_core::ResendError;
 use srtp_core::SrtpCipher;
-use std::alloc::AllocError;
+use stream_core::{PacketReceipt, Sent};
 
-impl<C: SrtpCipher, W: GapWindow> Session<C, W> {
+/// What it means for a session that a stream gives nothing, whose repairs have this SSRC.
+fn cause(error: ResendError, rtx: Option<Ssrc>) -> RtcError
+    ensures memory { error ≡ ResendError.Memory → result ≡ Memory }
+    ensures exhausted { error ≡ ResendError.Exhausted → (ssrc : ℕ) → rtx ≡ Some ssrc → result ≡ RepairsExhausted ssrc }
+    ensures causes { (result ≡ Memory) ⊎ ((ssrc : ℕ) × (result ≡ RepairsExhausted ssrc)) }
+{
+    match (error, rtx) {
+        (ResendError::Exhausted, Some(ssrc)) => RtcError::RepairsExhausted(ssrc),
+        _ => RtcError::Memory,
+    }
+}
+
+impl<C: SrtpCipher, W: GapWindow, S: ResendStore<Sent>> Session<C, W, S> {
     /// Queues feedback of an application (RFC 4585 section 6.4): whole words of 4 bytes, at most 800 bytes.
     /// It leaves at the next poll behind what waits.
     ///
     /// # Errors
-    /// `Stopped` where an earlier call answered `Memory` or `KeyExhausted`; `Memory`.
+    /// `Stopped` where an earlier call stopped the session; `Memory`.
     pub fn send_app_specific_feedback(
         &mut self,
         sender_ssrc: Ssrc,
@@ -73,26 +90,30 @@ impl<C: SrtpCipher, W: GapWindow> Session<C, W> {
 
     /// The datagram that leaves next: where feedback waits, the compound of the first items that fit the
     /// target; else of the first stream, in order of declaration, that has a packet written before the last
-    /// tick and whose mid is a media section's. None where there is no such stream, at moment 0 and without
-    /// keys; a compound that is due without keys is lost.
+    /// tick, or one that is asked for since before it, and whose mid is a media section's: first what is
+    /// asked for, as far as it is kept and its cap is not met (RFC 4588), then the packets that wait. None
+    /// where there is no such stream, at moment 0 and without keys; a compound that is due without keys is
+    /// lost.
     ///
     /// # Errors
-    /// `Stopped` where an earlier call answered `Memory` or `KeyExhausted`; `KeyExhausted` exactly where
-    /// feedback is due behind the last index of SRTCP datagrams; `Memory`.
+    /// `Stopped` where an earlier call stopped the session; `KeyExhausted` exactly where feedback is due
+    /// behind the last index of SRTCP datagrams; `RepairsExhausted` where a packet that is asked for is due
+    /// and its stream has no number left for it; `Memory`. All but the first stop the session.
     pub fn poll_datagram(&mut self, now: Instant) -> Result<Option<Datagram>, RtcError>
         ensures stopped { IsErrOf result Stopped ↔ IsTrue self.old.state.stopped }
         ensures exhausted { IsErrOf result (KeyExhausted counter.Rtcp)
             ↔ ((self.old.state.stopped ≡ false) × (exhausts now self.old.state ≡ true)) }
-        ensures polled { IfOk result (λ d. d ≡ next_datagram C.meaning now self.old.state) }
-        ensures after { OnOk result (self.new ≡ record self.old { state = after_datagram now self.old.state }) }
+        ensures polled { IfOk result (λ d. (r : SessionRecord) → StandsFor W.remembers S.stands_for self.old r
+            → (after : SessionRecord) × NextDatagram C.meaning now r after d × StandsFor W.remembers S.stands_for self.new after) }
         ensures latch { self.new.state.stopped ≡ self.old.state.stopped || is_err result }
         ensures unchanged { IsErrOf result Stopped → self.new ≡ self.old }
-        ensures fewer { IfOk result (λ d. IfSome d (λ s. waiting_in self.new.state < waiting_in self.old.state)) }
-        ensures memory { self.old.state.stopped ≡ false → exhausts now self.old.state ≡ false
-            → IfErr result (λ e. e ≡ Memory) }
-        ensures ended { IsErrOf result (KeyExhausted counter.Rtcp) → self.new.state ≡ stopped_from self.old.state }
-        ensures failed { IsErrOf result Memory → PollFails now self.old.state self.new.state }
-        ensures others { self.new ≡ record self.old { state = self.new.state } }
+        ensures fewer { IfOk result (λ d. IfSome d (λ s. waiting_in self.new < waiting_in self.old)) }
+        ensures failed { self.old.state.stopped ≡ false → IfErr result (λ e. (r : SessionRecord) → StandsFor W.remembers S.stands_for self.old r
+            → (after : SessionRecord) × PollFails now r after e × StandsFor W.remembers S.stands_for self.new (stopped_record after)) }
+        ensures rx { self.new.rx ≡ self.old.rx }
+        ensures originals { self.new.originals ≡ self.old.originals }
+        ensures probes { self.new.probes ≡ self.old.probes }
+        ensures seen { self.new.seen ≡ self.old.seen }
     {
         if self.stopped {
             return Err(RtcError::Stopped);
@@ -107,59 +128,106 @@ impl<C: SrtpCipher, W: GapWindow> Session<C, W> {
     }
 
     fn poll_next(&mut self, now: Instant) -> Result<Option<Datagram>, RtcError>
+        ensures running { IsErrOf result Stopped → ⊥ }
         ensures exhausted { IsErrOf result (KeyExhausted counter.Rtcp) ↔ IsTrue (exhausts now self.old.state) }
-        ensures memory { exhausts now self.old.state ≡ false → IfErr result (λ e. e ≡ Memory) }
-        ensures polled { IfOk result (λ d. d ≡ next_datagram C.meaning now self.old.state) }
-        ensures after { OnOk result (self.new ≡ record self.old { state = after_datagram now self.old.state }) }
+        ensures polled { IfOk result (λ d. (r : SessionRecord) → StandsFor W.remembers S.stands_for self.old r
+            → (after : SessionRecord) × NextDatagram C.meaning now r after d × StandsFor W.remembers S.stands_for self.new after) }
         ensures runs { self.new.state.stopped ≡ self.old.state.stopped }
-        ensures fewer { IfOk result (λ d. IfSome d (λ s. waiting_in self.new.state < waiting_in self.old.state)) }
-        ensures ended { exhausts now self.old.state ≡ true → self.new.state ≡ self.old.state }
-        ensures failed { OnErr result (IsPollLeft now self.old.state self.new.state) }
-        ensures others { self.new ≡ record self.old { state = self.new.state } }
+        ensures fewer { IfOk result (λ d. IfSome d (λ s. waiting_in self.new < waiting_in self.old)) }
+        ensures failed { IfErr result (λ e. (r : SessionRecord) → StandsFor W.remembers S.stands_for self.old r
+            → (after : SessionRecord) × PollFails now r after e × StandsFor W.remembers S.stands_for self.new after) }
+        ensures rx { self.new.rx ≡ self.old.rx }
+        ensures originals { self.new.originals ≡ self.old.originals }
+        ensures probes { self.new.probes ≡ self.old.probes }
+        ensures seen { self.new.seen ≡ self.old.seen }
     {
         if now == already_happened() {
             return Ok(None);
         }
-        if self.feedback.is_empty() {
-            Ok(self.poll_rtp(now)?)
-        } else {
-            poll_compound(
+        if !self.feedback.is_empty() {
+            return poll_compound(
                 self.alloc,
                 self.target,
                 &mut self.feedback,
                 &mut self.sealing,
-            )
+            );
+        }
+        if self.sealing.is_none() {
+            return Ok(None);
+        }
+        let receipt = match self.poll_packet(now) {
+            Ok(Some(receipt)) => receipt,
+            Ok(None) => return Ok(None),
+            Err(error) => return Err(error),
+        };
+        let sealed = match seal(&mut self.sealing, receipt) {
+            Ok(sealed) => sealed,
+            Err(_) => return Err(RtcError::Memory),
+        };
+        Ok(sealed)
+    }
+
+    /// The packet that leaves next, where there are keys.
+    fn poll_packet(&mut self, now: Instant) -> Result<Option<PacketReceipt>, RtcError>
+        ensures causes { IfErr result (λ e. (e ≡ Memory) ⊎ ((ssrc : ℕ) × (e ≡ RepairsExhausted ssrc))) }
+        ensures polled { IfOk result (λ o. (r : SessionRecord) → StandsFor W.remembers S.stands_for self.old r
+            → (after : SessionRecord) × NextPacket now r after o × StandsFor W.remembers S.stands_for self.new after) }
+        ensures sealable { IfOk result (λ o. IfSome o IsSealable) }
+        ensures runs { self.new.state.stopped ≡ self.old.state.stopped }
+        ensures feedback { self.new.state.feedback ≡ self.old.state.feedback }
+        ensures sealing { self.new.state.sealing ≡ self.old.state.sealing }
+        ensures fewer { IfOk result (λ o. IfSome o (λ s. waiting_in self.new < waiting_in self.old)) }
+        ensures failed { IfErr result (λ e. (r : SessionRecord) → StandsFor W.remembers S.stands_for self.old r
+            → (after : SessionRecord) × PacketFails now r after e × StandsFor W.remembers S.stands_for self.new after) }
+        ensures rx { self.new.rx ≡ self.old.rx }
+        ensures originals { self.new.originals ≡ self.old.originals }
+        ensures probes { self.new.probes ≡ self.old.probes }
+        ensures seen { self.new.seen ≡ self.old.seen }
+    {
+        loop {
+            match self.poll_stream(now) {
+                Ok(Some(Some(receipt))) => return Ok(Some(receipt)),
+                Ok(Some(None)) => {}
+                Ok(None) => return Ok(None),
+                Err(error) => return Err(error),
+            }
         }
     }
 
-    fn poll_rtp(&mut self, now: Instant) -> Result<Option<Datagram>, AllocError>
-        ensures polled { IfOk result (λ d. d ≡ next_rtp C.meaning now self.old.state) }
-        ensures after { OnOk result (self.new ≡ record self.old { state = after_rtp now self.old.state }) }
+    /// What the first stream that is due gives, which may be nothing; None where none is due.
+    fn poll_stream(&mut self, now: Instant) -> Result<Option<Option<PacketReceipt>>, RtcError>
+        ensures causes { IfErr result (λ e. (e ≡ Memory) ⊎ ((ssrc : ℕ) × (e ≡ RepairsExhausted ssrc))) }
+        ensures none { IfOk result (λ o. IfNone o ((r : SessionRecord) → StandsFor W.remembers S.stands_for self.old r
+            → (next_place r ≡ None) × StandsFor W.remembers S.stands_for self.new (unreleased r))) }
+        ensures polled { IfOk result (λ o. IfSome o (λ p. (r : SessionRecord) → StandsFor W.remembers S.stands_for self.old r
+            → (place : ℕ) × (s : StreamsRecord) × (next_place r ≡ Some place) × Gives now r place s p × StandsFor W.remembers S.stands_for self.new (after_streams r s p))) }
+        ensures sealable { IfOk result (λ o. IfSome o (λ p. IfSome p IsSealable)) }
         ensures runs { self.new.state.stopped ≡ self.old.state.stopped }
         ensures feedback { self.new.state.feedback ≡ self.old.state.feedback }
-        ensures fewer { IfOk result (λ d. IfSome d (λ s. all_waiting self.new.state.tx < all_waiting self.old.state.tx)) }
-        ensures failed { OnErr result (IsPacketLeft now self.old.state self.new.state) }
-        ensures others { self.new ≡ record self.old { state = self.new.state } }
+        ensures sealing { self.new.state.sealing ≡ self.old.state.sealing }
+        ensures fewer { IfOk result (λ o. IfSome o (λ p. waiting_in self.new < waiting_in self.old)) }
+        ensures failed { IfErr result (λ e. (r : SessionRecord) → StandsFor W.remembers S.stands_for self.old r
+            → (after : SessionRecord) × PacketFails now r after e × StandsFor W.remembers S.stands_for self.new after) }
+        ensures rx { self.new.rx ≡ self.old.rx }
+        ensures originals { self.new.originals ≡ self.old.originals }
+        ensures probes { self.new.probes ≡ self.old.probes }
+        ensures seen { self.new.seen ≡ self.old.seen }
     {
-        if is_silent(now, &self.sealing) {
-            return Ok(None);
-        }
         let medias = self.medias.as_slice();
-        let Some(place) = first_due(&self.streams, medias, self.next_stream) else {
+        let Some(place) = first_due(&self.streams, medias, self.released, self.next_stream) else {
             self.next_stream = self.streams.tx_len();
+            self.released = false;
             return Ok(None);
         };
         self.next_stream = place;
-        let polled = poll_place(
-            self.alloc,
-            &mut self.streams,
-            place,
-            now,
-            &mut self.transport,
-        )?;
-        let Some(receipt) = polled else {
-            return Ok(None);
+        let rtx = self.streams.tx(place).rtx();
+        let polled = self
+            .streams
+            .poll_packet(place, now, &mut self.transport, &self.types);
+        let polled = match polled {
+            Ok(polled) => polled,
+            Err(error) => return Err(cause(error, rtx)),
         };
-        seal(&mut self.sealing, receipt)
+        Ok(Some(polled))
     }
 }

@@ -1,9 +1,9 @@
 use Rattle.std.proofs.Common.{Some, None, refl, sym, ap, subst, ◌∙◌}
 use Rattle.std.specs.Prelude.{List}
-use Rattle.mask_register.specs.MaskRegister.{Remembers}
+use Rattle.media_play.specs.Ends.{SessionStands}
 use Rattle.session_core.specs.declared.datagram.Event.{Event}
 use Rattle.session_core.specs.Calls.{after_event, told, Polled}
-use Rattle.session_core.specs.SessionRecord.{SessionRecord, StandsFor}
+use Rattle.session_core.specs.SessionRecord.{SessionRecord}
 use Rattle.media_play.specs.Packets.{packet_in}
 use Rattle.media_play.proofs.end.take_packet.Goals as goal
 
@@ -35,4 +35,4 @@ returns-clause-after g c = λ r h.
     let k = c.loop-event.invariant r h in
     let s = k.0 in
     let step : Polled s None (after_event s) = c.in_default.ensures.told s k.1 in
-    subst (λ (x : SessionRecord). StandsFor Remembers c.poll_event.new.self x) (step.1 ∙ k.3) (c.in_default.ensures.after s k.1)
+    subst (λ (x : SessionRecord). SessionStands c.poll_event.new.self x) (step.1 ∙ k.3) (c.in_default.ensures.after s k.1)

@@ -1,9 +1,9 @@
 use Rattle.std.proofs.Common.{◌++◌, List, ℕ, sym, ap, subst, ◌∙◌}
 use Rattle.std.specs.List.{filter_map}
 use Rattle.std.proofs.lemmas.Result.{on_ok_weaker}
-use Rattle.mask_register.specs.declared.register.MaskRegister.{MaskRegister}
+use Rattle.media_play.specs.Ends.{EndSession}
 use Rattle.session_core.specs.Sending.{has_mid}
-use Rattle.session_core.specs.SessionRecord.{MediaRecord, SessionView}
+use Rattle.session_core.specs.SessionRecord.{MediaRecord}
 use Rattle.media_model.specs.declared.setup.Stream.{Stream}
 use Rattle.media_model.specs.Setup.{main_in}
 use Rattle.media_model.specs.Sides.{peer_of}
@@ -16,7 +16,7 @@ returns-in-Ok g c =
     let mid = c.args.media.now.mid in
     let streams = c.as_slice-in-Ok.ensures in
     let known =
-    ap (λ (v : SessionView MaskRegister). has_mid mid v.state.medias) c.in-Ok.ensures.ok
+    ap (λ (v : EndSession). has_mid mid v.state.medias) c.in-Ok.ensures.ok
     ∙ has_last c.args.session.now.state.medias c.new-section.result mid (ap (λ (m : MediaRecord). m.mid) c.new-section.ensures) in
     on_ok_weaker c.add_streams.result
     (λ starts cipher setup sent received once_sent once_heard h.

@@ -12,5 +12,5 @@ returns-in-Ok g c =
     let config : SessionConfig = record { id = c.identification.result; beginning = setup.beginning; mtu = record { target = setup.mtu.target; warn = setup.mtu.warn }; local_ssrc = c.local.result.ssrc; pause_threshold = setup.pause_threshold; srtcp_index = c.get.result; exts = c.extension_map.result; types = c.in_ok-payload_types.field-0 } in
     starts_keyed g.C.SrtpCipher.meaning setup c.args.side config c.new-session.result c.set_keying_material.new.self c.in_ok-material-2.material c.is_left.result
     refl refl (c.get.ensures.value ∙ ap (λ (l : Local). l.srtcp_index) same) c.extension_map.ensures
-    c.in_ok-payload_types.ensures (c.in_ok-material-2.ensures ∙ c.deref.ensures.value ∙ c.in_ok-material.ensures) c.is_left.ensures
+    c.in_ok-payload_types.ensures.types c.in_ok-payload_types.ensures.plain (c.in_ok-material-2.ensures ∙ c.deref.ensures.value ∙ c.in_ok-material.ensures) c.is_left.ensures
     (subst (λ (l : Local). l.srtcp_index ≤ 2 ^ 31) same c.get.ensures.bounded) c.new-session.ensures c.in-Ok.ensures.ok

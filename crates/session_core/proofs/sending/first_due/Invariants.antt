@@ -4,5 +4,5 @@ use Rattle.session_core.proofs.sending.first_due.Given as goal
 
 abbrev pub invariant-loop-place : goal.invariant-loop-place
 invariant-loop-place g l = record {
-  before : first_due l.medias (take l.place l.streams.tx) ≡ None;
+  before : first_due l.medias l.fn.released l.streams.repairs (take l.place l.streams.tx) ≡ None;
 }

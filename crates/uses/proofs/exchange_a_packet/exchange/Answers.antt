@@ -1,6 +1,7 @@
-use Rattle.std.proofs.Common.{None, sym, ap, ◌∙◌}
+use Rattle.std.proofs.Common.{◌≡◌, None, refl, sym, ap, ◌∙◌}
 use Rattle.mask_register.specs.MaskRegister.{Remembers}
-use Rattle.stream_core.specs.StreamsRecord.{StreamsView}
+use Rattle.queue_store.specs.Queue.{StandsFor as Holds}
+use Rattle.stream_core.specs.Tables.{with_new}
 use Rattle.stream_core.specs.TxRecord.{declared}
 use Rattle.session_core.specs.SessionRecord.{SessionState}
 use Rattle.uses.proofs.Ending.{at_end, expects, writes, ticked, holds_one, write_is}
@@ -11,7 +12,7 @@ pub write-requires : goal.write-requires
 write-requires c =
     holds_one c.from-ssrc.result (declared c.from-ssrc.result None c.args.mid None) c.streams.result.now.tx c.declare_stream_tx.new.self.tx
     (c.streams.ensures.tx ∙ ap (λ (s : SessionState). s.tx) c.in_ok-a.ensures.made.state)
-    (ap (λ (s : StreamsView _). s.tx) c.in_ok-declare_stream_tx.ensures.ok)
+    c.in_ok-declare_stream_tx.ensures.tx
 
 -- what is told second is what was written
 pub returns : goal.returns
@@ -22,13 +23,16 @@ returns c =
     let now = c.from_nanos-now.result in
     let ssrc = c.from-ssrc.result in
     let written_is = c.new-packet.ensures ∙ write_is c.from.result c.from-2.result now c.in_ok-payload.payload payload c.from.ensures c.from-2.ensures c.in_ok-payload.ensures in
-    let sends = writes material mid payload Remembers now ssrc c.new-packet.result c.in_ok-a.a c.write.new.end c.streams.result.now c.declare_stream_tx.new.self c.from-ssrc.ensures written_is
-    c.in_ok-a.ensures.made c.streams.ensures.rx c.streams.ensures.tx c.streams.ensures.threshold c.in_ok-declare_stream_tx.ensures.ok c.in_ok-write.ensures in
-    let waits = expects material mid payload Remembers c.in_ok-b.b c.streams-2.result.now c.expect_stream_rx.new.self ssrc c.from-ssrc.ensures
-    c.in_ok-b.ensures.made c.streams-2.ensures.rx c.streams-2.ensures.tx c.streams-2.ensures.threshold c.in_ok-expect_stream_rx.ensures.ok in
-    at_end material mid payload Remembers now c.handle_timeout.new.self.state _ c.handle_rtp_receive.new.self c.poll_event-unpaused.new.self
+    let said = c.in_ok-declare_stream_tx.ensures in
+    let added : c.declare_stream_tx.new.self ≡ record c.streams.result.now { tx = with_new ssrc (declared ssrc None mid None) c.streams.result.now.tx } =
+    λ j. record { threshold = said.threshold j; rx = said.rx j; originals = said.originals j; tx = said.tx j; repairs = said.plain refl j } in
+    let sends = writes material mid payload Remembers Holds now ssrc c.new-packet.result c.in_ok-a.a c.write.new.end c.streams.result.now c.declare_stream_tx.new.self c.from-ssrc.ensures written_is
+    c.in_ok-a.ensures.made c.streams.ensures.rx c.streams.ensures.tx c.streams.ensures.threshold c.streams.ensures.originals c.streams.ensures.repairs added c.in_ok-write.ensures in
+    let waits = expects material mid payload Remembers Holds c.in_ok-b.b c.streams-2.result.now c.expect_stream_rx.new.self ssrc c.from-ssrc.ensures
+    c.in_ok-b.ensures.made c.streams-2.ensures.rx c.streams-2.ensures.tx c.streams-2.ensures.threshold c.streams-2.ensures.originals c.streams-2.ensures.repairs c.in_ok-expect_stream_rx.ensures.ok in
+    at_end material mid payload Remembers Holds now c.handle_timeout.new.self c.poll_datagram.new.self _ c.handle_rtp_receive.new.self c.poll_event-unpaused.new.self
     c.in-Some.sent c.as_slice.result.now c.in_ok-handle_rtp_receive.field-0 c.poll_event-unpaused.result c.poll_event.result
     c.written_header_is_read_again.ensures c.rtp_seal_keeps_header.ensures c.rtp_seals_apart.ensures
-    (ticked material mid payload Remembers now c.write.new.end c.handle_timeout.new.self sends c.in_ok-handle_timeout.ensures.ok)
-    (sym c.in-Some.is ∙ c.in_ok-sent.ensures.polled) c.as_slice.ensures waits
+    (ticked material mid payload Remembers Holds now c.write.new.end c.handle_timeout.new.self sends c.in_ok-handle_timeout.ensures.ok)
+    (rw c.in-Some.is at c.in_ok-sent.ensures.polled) c.as_slice.ensures waits
     c.in_ok-handle_rtp_receive.ensures.received c.poll_event-unpaused.ensures.told c.poll_event-unpaused.ensures.after c.poll_event.ensures.told

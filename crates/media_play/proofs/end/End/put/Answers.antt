@@ -1,7 +1,6 @@
 use Rattle.std.proofs.Common.{◌≡◌, List, ap, sym, subst, ◌∙◌}
 use Rattle.std.proofs.lemmas.Result.{on_ok_weaker}
-use Rattle.mask_register.specs.declared.register.MaskRegister.{MaskRegister}
-use Rattle.session_core.specs.SessionRecord.{SessionView}
+use Rattle.media_play.specs.Ends.{EndSession}
 use Rattle.stream_core.specs.Tables.{change_place}
 use Rattle.stream_core.specs.TxRecord.{written}
 use Rattle.stream_core.specs.Write.{WriteRecord}
@@ -24,8 +23,8 @@ returns g c =
     on_ok_weaker c.put.result
     (λ h seal setup steps side entries played ready sound at fault.
     let is = h
-    ∙ ap {A = WriteRecord} {B = SessionView MaskRegister} (λ x. record c.self.inside.session { state = record c.self.inside.session.state { tx = change_place (written x) c.self.inside.session.state.tx place } }) c.in_ok-packet.ensures
-    ∙ ap {A = SessionView MaskRegister} {B = SessionView MaskRegister} (λ v. record v { state = record v.state { tx = change_place (written (write_at c.args.time w)) v.state.tx place } }) session in
+    ∙ ap {A = WriteRecord} {B = EndSession} (λ x. record c.self.inside.session { state = record c.self.inside.session.state { tx = change_place (written x) c.self.inside.session.state.tx place } }) c.in_ok-packet.ensures
+    ∙ ap {A = EndSession} {B = EndSession} (λ v. record v { state = record v.state { tx = change_place (written (write_at c.args.time w)) v.state.tx place } }) session in
     ready_wrote played side c.args.time w (unused setup entries side w fault) g.C.SrtpCipher.meaning old (record { session = c.put.new.session; written = c.self.inside.written.items })
     place sound at is noted ready)
     c.put.ensures

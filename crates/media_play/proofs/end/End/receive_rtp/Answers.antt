@@ -1,8 +1,6 @@
 use Rattle.std.proofs.Common.{◌≡◌, ℕ, List, [], ◌∷◌, ◌++◌, ap, sym, subst, ◌∙◌}
-use Rattle.mask_register.specs.declared.register.MaskRegister.{MaskRegister}
-use Rattle.mask_register.specs.MaskRegister.{Remembers}
+use Rattle.media_play.specs.Ends.{EndSession, SessionStands}
 use Rattle.session_core.specs.Receiving.{Receives as ReceivesHere}
-use Rattle.session_core.specs.SessionRecord.{SessionView, StandsFor}
 use Rattle.media_model.specs.declared.entry.Entry.{Entry}
 use Rattle.media_model.specs.declared.entry.Entry.TheVariants.{Got, Opened}
 use Rattle.rtp_base.specs.declared.kind.Kind.TheVariants.{Rtp}
@@ -16,13 +14,13 @@ pub returns-in_default : goal.returns-in_default
 returns-in_default g c setup entries came sound rtp same ready =
     let cipher = g.C.SrtpCipher.meaning in
     let view = ap (λ (e : EndState). e.session) c.self.view_is in
-    let stands : StandsFor Remembers c.self.inside.session ready.session = subst (λ (v : SessionView MaskRegister). StandsFor Remembers v ready.session) (sym view) ready.stands in
+    let stands : SessionStands c.self.inside.session ready.session = subst (λ (v : EndSession). SessionStands v ready.session) (sym view) ready.stands in
     let h = c.in-Ok.ensures.received ready.session stands in
     let received = subst (λ (l : List ℕ). ReceivesHere cipher ready.session l c.args.time h.0 c.in-Ok.opened) (sym same) h.1 in
     let after = arrival_stays cipher setup came c.header_reads_own_bytes.ensures sound c.args.self.now entries ready c.args.time rtp received c.in_default.is in
     let unopened : c.handle_rtp_receive.new.self ≡ c.self.inside.session = rw c.in_default.is at c.in-Ok.ensures.unopened in
     let still : ◌≡◌ {A = EndState} (record { session = c.handle_rtp_receive.new.self; written = c.self.inside.written.items }) c.args.self.now =
-    ap {A = SessionView MaskRegister} {B = EndState} (λ v. record { session = v; written = c.self.inside.written.items }) unopened ∙ c.self.view_is in
+    ap {A = EndSession} {B = EndState} (λ v. record { session = v; written = c.self.inside.written.items }) unopened ∙ c.self.view_is in
     (after.0, subst (λ (e : EndState). Ready cipher setup came.side e (entries ++ Got came ∷ [])) (sym still) after.1)
 
 pub returns : goal.returns
@@ -35,7 +33,7 @@ returns g c setup entries came sound rtp same ready =
     let packet = c.in_ok-packet_of.field-0 in
     let final = c.take_packet-told.new.session in
     let brought : List Entry = Opened (record { side = came.side; kind = Rtp; ssrc = told.ssrc; index = told.index; plain = told.plain }) ∷ yielded came.side packet in
-    let stands : StandsFor Remembers c.self.inside.session ready.session = subst (λ (v : SessionView MaskRegister). StandsFor Remembers v ready.session) (sym view) ready.stands in
+    let stands : SessionStands c.self.inside.session ready.session = subst (λ (v : EndSession). SessionStands v ready.session) (sym view) ready.stands in
     let r = c.in-Ok.ensures.received ready.session stands in
     let received = subst (λ (l : List ℕ). ReceivesHere cipher ready.session l c.args.time r.0 c.in-Ok.opened) (sym same) r.1 in
     subst (λ (w : List Numbers). Receives (sealing_of cipher setup) setup entries came brought × Ready cipher setup came.side (record { session = final; written = w }) (entries ++ Got came ∷ brought))

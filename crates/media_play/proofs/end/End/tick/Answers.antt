@@ -18,6 +18,7 @@ returns-in-Ok-drain-clause-sealed g c =
     let is_ready : Ready K setup side before entries = subst (λ (e : EndState). Ready K setup side e entries) (sym c.self.view_is) ready in
     let after = after_timeout time is_ready.session in
     let d = c.in-Ok-drain.ensures.drained after (c.in-Ok.ensures.ok is_ready.session is_ready.stands) in
-    let ticked = ready_ticked K c.written_header_is_read_again.ensures setup side time c.requires before c.drain.new.self datagrams sound played is_ready d.1 d.2 in
+    let left = d.1 in
+    let ticked = ready_ticked K c.written_header_is_read_again.ensures setup side time c.requires before c.drain.new.self left.0 datagrams sound played is_ready left.1 left.2 in
     (seals_from side datagrams, ticked.0, logged, ticked.1))
     c.log_all.ensures.logged

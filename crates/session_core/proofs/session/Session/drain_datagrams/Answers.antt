@@ -1,65 +1,64 @@
-use Rattle.std.proofs.Common.{◌≡◌, ◌++◌, ◌∷◌, [], Some, None, Err, ap, sym, subst, ◌∙◌, false, refl}
+use Rattle.std.proofs.Common.{◌≡◌, ◌++◌, ◌∷◌, [], Some, None, ap, sym, subst, ◌∙◌, false}
 use Rattle.std.specs.Prelude.{◌||◌, List}
 use Rattle.session_core.specs.declared.datagram.Datagram.{Datagram}
-use Rattle.session_core.specs.SessionRecord.{SessionState, SessionView}
-use Rattle.session_core.specs.Feedback.{exhausts}
-use Rattle.session_core.specs.Sending.{next_datagram, after_datagram, DrainsTo, start, more}
-use Rattle.session_core.specs.Draining.{kept, at_poll}
-use Rattle.session_core.proofs.Cuts.{stopped_left, drain_cut}
-use Rattle.session_core.proofs.Failing.{not_true, ok_is_not, same_error}
-use Rattle.session_core.proofs.Others.{others_more}
+use Rattle.session_core.specs.SessionRecord.{SessionView, StandsFor}
+use Rattle.session_core.specs.Sending.{NextDatagram, DrainsTo, start, more}
+use Rattle.session_core.specs.Draining.{stopped_from, stopped_record, at_poll, between_polls}
 use Rattle.session_core.proofs.session.Session.drain_datagrams.Goals as goal
 
 pub loop-now-init : goal.loop-now-init
 loop-now-init g c = record {
   runs = c.requires.runs;
-  others = refl;
-  drained = subst (DrainsTo g.C.SrtpCipher.meaning c.args.now c.args.self.now.state c.args.self.now.state) (sym c.requires.none) start;
+  drained = λ r h. (r, subst (DrainsTo g.C.SrtpCipher.meaning c.args.now r r) (sym c.requires.none) start, h);
 }
 
 pub loop-now-preserved : goal.loop-now-preserved
 loop-now-preserved g c =
     let K = g.C.SrtpCipher.meaning in
+    let now = c.args.now in
     let l = c.loop-now.invariant in
-    let state = ap (λ s. s.state) c.in-Ok-Some.ensures.after in
-    let next : next_datagram K c.args.now c.loop-now.self.state ≡ Some c.in-Ok-Some.datagram = sym (rw c.in-Ok-Some.field-0-is at c.in-Ok-Some.ensures.polled) in
-    let index : exhausts c.args.now c.loop-now.self.state ≡ false =
-    not_true (exhausts c.args.now c.loop-now.self.state) (λ ended. ok_is_not c.in-Ok-Some.field-0 _ (c.in-Ok-Some.ensures.exhausted.1 (l.runs, ended))) in
     record {
       runs = c.in-Ok-Some.ensures.latch ∙ ap (λ b. b || false) l.runs;
-      others = others_more c.args.self.now c.loop-now.self c.poll_datagram.new.self (after_datagram c.args.now c.loop-now.self.state) l.others c.in-Ok-Some.ensures.after;
-      drained =
-          subst (λ (s : SessionState). DrainsTo K c.args.now c.args.self.now.state s c.push_reserved.new.self.items) (sym state)
-          (subst (λ (d : List Datagram). DrainsTo K c.args.now c.args.self.now.state (after_datagram c.args.now c.loop-now.self.state) d)
-          (sym (c.push_reserved.ensures.items ∙ ap (λ d. d ++ c.in-Ok-Some.datagram ∷ []) c.reserve.ensures.items))
-          (more c.loop-now.self.state c.loop-now.sofar.items c.in-Ok-Some.datagram l.drained index next));
+      drained = λ r h.
+          let here = l.drained r h in
+          let k = c.in-Ok-Some.ensures.polled here.0 here.2 in
+          let next : NextDatagram K now here.0 k.0 (Some c.in-Ok-Some.datagram) = subst (λ d. NextDatagram K now here.0 k.0 d) c.in-Ok-Some.field-0-is k.1 in (
+            k.0,
+            subst (λ (d : List Datagram). DrainsTo K now r k.0 d) (sym (c.push_reserved.ensures.items ∙ ap (λ d. d ++ c.in-Ok-Some.datagram ∷ []) c.reserve.ensures.items))
+                (more here.0 k.0 c.loop-now.sofar.items c.in-Ok-Some.datagram here.1 next),
+            k.2,
+          );
     }
 
 pub returns-in-Ok-None-clause-drained : goal.returns-in-Ok-None-clause-drained
-returns-in-Ok-None-clause-drained g c =
+returns-in-Ok-None-clause-drained g c = λ r h.
     let K = g.C.SrtpCipher.meaning in
     let now = c.args.now in
-    let s = c.loop-now.self.state in
-    let none : next_datagram K now s ≡ None = sym (rw c.in-Ok-None.field-0-is at c.in-Ok-None.ensures.polled) in
-    record {
-      last = s;
-      sent = subst (λ (l : List Datagram). DrainsTo K now c.args.self.now.state s l) (sym c.reserve.ensures.items) c.loop-now.invariant.drained;
-      ended = none;
-      leaves = ap (λ (v : SessionView g.row.W.Denot). v.state) c.in-Ok-None.ensures.after;
-    }
+    let here = c.loop-now.invariant.drained r h in
+    let k = c.in-Ok-None.ensures.polled here.0 here.2 in (
+      k.0,
+      record {
+        last = here.0;
+        sent = subst (λ (l : List Datagram). DrainsTo K now r here.0 l) (sym c.reserve.ensures.items) here.1;
+        ended = subst (λ d. NextDatagram K now here.0 k.0 d) c.in-Ok-None.field-0-is k.1;
+      },
+      k.2,
+    )
 
 pub returns-then-is_err-clause-sofar : goal.returns-then-is_err-clause-sofar
-returns-then-is_err-clause-sofar g c =
-    let s = c.loop-now.self.state in
-    at_poll s _ _
-    (subst (λ (l : List Datagram). DrainsTo g.C.SrtpCipher.meaning c.args.now c.args.self.now.state s l) (sym c.reserve.ensures.items) c.loop-now.invariant.drained)
-    (stopped_left c.args.now s _ s (ap (λ (v : SessionView g.row.W.Denot). v.state) c.self.view_is) kept)
+returns-then-is_err-clause-sofar g c = λ r h.
+    let here = c.loop-now.invariant.drained r h in
+    let mine = subst (λ s. StandsFor g.W.GapWindow.remembers g.S.ResendStore.stands_for s here.0) (sym c.self.view_is) here.2 in (
+      stopped_record here.0,
+      between_polls here.0 _ (subst (λ (l : List Datagram). DrainsTo g.C.SrtpCipher.meaning c.args.now r here.0 l) (sym c.reserve.ensures.items) here.1),
+      record { state = ap stopped_from mine.state; rx = mine.rx; originals = mine.originals; probes = mine.probes; seen = mine.seen; repairs = mine.repairs },
+    )
 
 pub returns-in-Err-clause-sofar : goal.returns-in-Err-clause-sofar
-returns-in-Err-clause-sofar g c =
-    let s = c.loop-now.self.state in
-    let runs = c.loop-now.invariant.runs in
-    drain_cut g.C.SrtpCipher.meaning c.args.now c.args.self.now.state s c.poll_datagram.new.self.state c.in-Err.error _
-    (subst (λ (l : List Datagram). DrainsTo g.C.SrtpCipher.meaning c.args.now c.args.self.now.state s l) (sym c.reserve.ensures.items) c.loop-now.invariant.drained)
-    (λ index. let key = c.in-Err.ensures.exhausted.1 (runs, index) in (same_error c.in-Err.error _ key, c.in-Err.ensures.ended key))
-    (λ index. let memory = c.in-Err.ensures.memory runs index in (memory, c.in-Err.ensures.failed (ap Err memory)))
+returns-in-Err-clause-sofar g c = λ r h.
+    let here = c.loop-now.invariant.drained r h in
+    let k = c.in-Err.ensures.failed c.loop-now.invariant.runs here.0 here.2 in (
+      stopped_record k.0,
+      at_poll here.0 k.0 c.in-Err.error _ (subst (λ (l : List Datagram). DrainsTo g.C.SrtpCipher.meaning c.args.now r here.0 l) (sym c.reserve.ensures.items) here.1) k.1,
+      k.2,
+    )

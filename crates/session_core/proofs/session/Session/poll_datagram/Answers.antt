@@ -1,8 +1,10 @@
-use Rattle.std.proofs.Common.{ap}
-use Rattle.session_core.specs.SessionRecord.{SessionView}
-use Rattle.session_core.proofs.Cuts.{stopped_left}
+use Rattle.std.proofs.Common.{sym, ap, subst}
+use Rattle.session_core.specs.SessionRecord.{StandsFor}
+use Rattle.session_core.specs.Draining.{stopped_from}
 use Rattle.session_core.proofs.session.Session.poll_datagram.Goals as goal
 
 pub returns-in-Err-clause-failed : goal.returns-in-Err-clause-failed
-returns-in-Err-clause-failed g c = λ is.
-    stopped_left c.args.now c.args.self.now.state _ c.poll_next.new.self.state (ap (λ (v : SessionView g.row.W.Denot). v.state) c.self-2.view_is) c.in-Err.ensures.failed
+returns-in-Err-clause-failed g c = λ runs r h.
+    let k = c.in-Err.ensures.failed r h in
+    let mine = subst (λ s. StandsFor g.W.GapWindow.remembers g.S.ResendStore.stands_for s k.0) (sym c.self-2.view_is) k.2 in
+    (k.0, k.1, record { state = ap stopped_from mine.state; rx = mine.rx; originals = mine.originals; probes = mine.probes; seen = mine.seen; repairs = mine.repairs })

@@ -2,15 +2,15 @@ use Rattle.std.proofs.Common.{◌≡◌, sym, ap, subst, ◌∙◌}
 use Rattle.stream_core.specs.Pauses.{first_pause, sooner}
 use Rattle.stream_core.specs.RxRecord.{RxState}
 use Rattle.session_core.specs.Rounds.{send_at}
-use Rattle.session_core.specs.SessionRecord.{SessionState, StandsFor}
-use Rattle.session_core.proofs.StreamsIn.{streams_of, streams_stand}
+use Rattle.session_core.specs.SessionRecord.{streams_in, SessionState, StandsFor}
+use Rattle.session_core.proofs.StreamsIn.{streams_stand}
 use Rattle.session_core.proofs.session.Session.poll_timeout.Goals as goal
 
 pub returns : goal.returns
 returns g c = λ r h.
     let m = g.W.GapWindow.remembers in
-    let mine = subst (λ s. StandsFor m s r) (sym c.self.view_is) h in
-    let rx = c.paused_at.ensures (streams_of r) (streams_stand m _ r mine) in
+    let mine = subst (λ s. StandsFor m g.S.ResendStore.stands_for s r) (sym c.self.view_is) h in
+    let rx = c.paused_at.ensures (streams_in r) (streams_stand m g.S.ResendStore.stands_for _ r mine) in
     let probes = c.paused_at-2.ensures ∙ ap (λ (s : RxState). s.pause_at) mine.probes.state in
     let paused : c.sooner-paused_at.result ≡ sooner (first_pause r.rx) r.probes.state.pause_at = c.sooner-paused_at.ensures ∙ (λ j. sooner (rx j) (probes j)) in
     let send = c.send_at.ensures ∙ ap (λ (s : SessionState). send_at s) h.state in

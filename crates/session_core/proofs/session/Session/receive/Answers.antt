@@ -2,49 +2,86 @@ use Rattle.std.proofs.Common.{◌≡◌, ℕ, List, Some, None, Ok, Err, refl, s
 use Rattle.rtp_wire.specs.declared.header.RtpHeader.{RtpHeader}
 use Rattle.rtp_wire.specs.Header.{header_of}
 use Rattle.std.specs.Prelude.{true, false, Option, Result, IfOk}
+use Rattle.std.specs.Option.{option_map}
 use Rattle.std.specs.declared.alloc.AllocError.{AllocError}
 use Rattle.repair_core.specs.Rounds.{Heard}
 use Rattle.srtp_core.specs.Cipher.{CipherMeaning}
 use Rattle.session_core.specs.declared.datagram.Opened.{Opened}
-use Rattle.session_core.specs.SessionRecord.{SessionRecord, SessionState, SessionView, StandsFor}
+use Rattle.session_core.specs.SessionRecord.{SessionRecord, SessionState, SessionView, StandsFor, streams_in}
+use Rattle.resend_core.specs.ResendStore.{Past}
+use Rattle.stream_core.specs.Repairing.{SentPacket}
+use Rattle.stream_core.specs.Tables.{place_of}
 use Rattle.session_core.specs.Receiving.{Receives, is_claimed, stays}
-use Rattle.session_core.proofs.Staying.{stays_unread, stays_unclaimed}
+use Rattle.session_core.specs.Repairs.{repaired_by}
+use Rattle.session_core.proofs.Staying.{stays_unread, repair_unread, stays_unclaimed, packet_only}
+use Rattle.session_core.proofs.StreamsIn.{streams_stand}
 use Rattle.session_core.proofs.session.Session.receive.Goals as goal
 
-received_of : {W : Type 0} (remembers : W → Heard → Type 0) (cipher : CipherMeaning) (o : Result (Option Opened) AllocError) (bytes : List ℕ) (now : ℕ) (h : RtpHeader) (v u new : SessionView W)
-    → u ≡ v
-    → IfOk o (λ opened. (r : SessionRecord) → StandsFor remembers u r → header_of r.state.transport.exts bytes ≡ Some h → is_claimed r.state.types h ≡ true
-    → (after : SessionRecord) × Receives cipher r bytes now after opened × StandsFor remembers new after)
-    → ((r : SessionRecord) → StandsFor remembers v r → (header_of r.state.transport.exts bytes ≡ Some h) × (is_claimed r.state.types h ≡ true))
-    → IfOk o (λ opened. (r : SessionRecord) → StandsFor remembers v r → (after : SessionRecord) × Receives cipher r bytes now after opened × StandsFor remembers new after)
-received_of remembers cipher (Ok x) bytes now h v u new e f known =
-    λ r s. let k = known r s in f r (subst (λ w. StandsFor remembers w r) (sym e) s) k.0 k.1
-received_of remembers cipher (Err x) bytes now h v u new e f known = tt
+-- a call that needs three facts of a session that hold of this one
+received_of : {W S : Type 0} (remembers : W → Heard → Type 0) (stands_for : S → Past SentPacket → Type 0) (cipher : CipherMeaning) (o : Result (Option Opened) AllocError) (bytes : List ℕ) (now : ℕ) (A B C : SessionRecord → Type 0) (v new : SessionView W S)
+    → IfOk o (λ opened. (r : SessionRecord) → StandsFor remembers stands_for v r → A r → B r → C r
+    → (after : SessionRecord) × Receives cipher r bytes now after opened × StandsFor remembers stands_for new after)
+    → ((r : SessionRecord) → StandsFor remembers stands_for v r → A r × B r × C r)
+    → IfOk o (λ opened. (r : SessionRecord) → StandsFor remembers stands_for v r → (after : SessionRecord) × Receives cipher r bytes now after opened × StandsFor remembers stands_for new after)
+received_of remembers stands_for cipher (Ok x) bytes now A B C v new f known = λ r s. let k = known r s in f r s k.0 k.1 k.2
+received_of remembers stands_for cipher (Err x) bytes now A B C v new f known = tt
 
 pub returns-in_default-clause-received : goal.returns-in_default-clause-received
 returns-in_default-clause-received g c = λ r h.
-    let mine = subst (λ s. StandsFor g.W.GapWindow.remembers s r) (sym c.self.view_is) h in
+    let mine = subst (λ s. StandsFor g.W.GapWindow.remembers g.S.ResendStore.stands_for s r) (sym c.self.view_is) h in
     let none : header_of r.state.transport.exts c.args.bytes.now ≡ None =
     ap (λ (s : SessionState). header_of s.transport.exts c.args.bytes.now) (sym mine.state) ∙ sym c.parse-read.ensures ∙ c.in_default.is in
-    (r, stays (stays_unread g.C.SrtpCipher.meaning r c.args.bytes.now none), h)
+    (r, stays (stays_unread g.C.SrtpCipher.meaning r c.args.bytes.now none) (repair_unread g.C.SrtpCipher.meaning r c.args.bytes.now none), h)
+
+pub returns-in-Some-repaired_by-clause-received : goal.returns-in-Some-repaired_by-clause-received
+returns-in-Some-repaired_by-clause-received g c =
+    let R = g.W.GapWindow.remembers in
+    let S = g.S.ResendStore.stands_for in
+    let x = c.in-Some.header in
+    let original = c.in-Some-repaired_by.found.0 in
+    let place = c.in-Some-repaired_by.found.1 in
+    let there : place_of original c.args.self.now.rx ≡ Some place =
+    ap (λ (v : SessionView g.row.W.Denot g.row.S.Denot). place_of original v.rx) (sym c.self.view_is) ∙ c.in-Some-repaired_by.ensures.place in
+    received_of R S g.C.SrtpCipher.meaning c.receive_repair.result c.args.bytes.now c.args.now
+    (λ r. header_of r.state.transport.exts c.args.bytes.now ≡ Some x) (λ r. repaired_by r.state.types r.rx r.originals x ≡ Some original) (λ r. place_of original c.args.self.now.rx ≡ Some place)
+    c.args.self.now c.receive_repair.new.self c.receive_repair.ensures.received
+    (λ r h.
+    let mine = subst (λ s. StandsFor R S s r) (sym c.self.view_is) h in
+    let reads : header_of r.state.transport.exts c.args.bytes.now ≡ Some x =
+    ap (λ (s : SessionState). header_of s.transport.exts c.args.bytes.now) (sym mine.state) ∙ sym c.parse-read.ensures ∙ c.in-Some.is in
+    let repairs : repaired_by r.state.types r.rx r.originals x ≡ Some original =
+    ap (λ (s : SessionState). repaired_by s.types r.rx r.originals x) (sym mine.state)
+    ∙ sym (c.repaired_by.ensures.original (streams_in r) (streams_stand R S _ r mine)) ∙ ap (option_map (λ f. f.0)) c.in-Some-repaired_by.is in
+    (reads, repairs, there))
 
 pub returns-then-not-is_claimed-clause-received : goal.returns-then-not-is_claimed-clause-received
 returns-then-not-is_claimed-clause-received g c = λ r h.
-    let mine = subst (λ s. StandsFor g.W.GapWindow.remembers s r) (sym c.self.view_is) h in
+    let R = g.W.GapWindow.remembers in
+    let S = g.S.ResendStore.stands_for in
+    let mine = subst (λ s. StandsFor R S s r) (sym c.self.view_is) h in
     let x = c.in-Some.header in
     let reads : header_of r.state.transport.exts c.args.bytes.now ≡ Some x =
     ap (λ (s : SessionState). header_of s.transport.exts c.args.bytes.now) (sym mine.state) ∙ sym c.parse-read.ensures ∙ c.in-Some.is in
+    let plain : repaired_by r.state.types r.rx r.originals x ≡ None =
+    ap (λ (s : SessionState). repaired_by s.types r.rx r.originals x) (sym mine.state)
+    ∙ sym (c.repaired_by.ensures.original (streams_in r) (streams_stand R S _ r mine)) ∙ ap (option_map (λ f. f.0)) c.in_default-repaired_by.is in
     let none : is_claimed r.state.types x ≡ false = ap (λ (s : SessionState). is_claimed s.types x) (sym mine.state) ∙ sym c.is_claimed.ensures ∙ c.if-not-is_claimed.true in
-    (r, stays (stays_unclaimed g.C.SrtpCipher.meaning r c.args.bytes.now x reads none), h)
+    (r, stays (stays_unclaimed g.C.SrtpCipher.meaning r c.args.bytes.now x reads none) (packet_only g.C.SrtpCipher.meaning r c.args.bytes.now x reads plain), h)
 
 pub returns-clause-received : goal.returns-clause-received
 returns-clause-received g c =
-    received_of g.W.GapWindow.remembers g.C.SrtpCipher.meaning c.receive_under.result c.args.bytes.now c.args.now c.in-Some.header c.args.self.now c.args.self.now c.receive_under.new.self refl
-    c.receive_under.ensures.received
-    (λ r h.
-    let mine = subst (λ s. StandsFor g.W.GapWindow.remembers s r) (sym c.self.view_is) h in
+    let R = g.W.GapWindow.remembers in
+    let S = g.S.ResendStore.stands_for in
     let x = c.in-Some.header in
+    received_of R S g.C.SrtpCipher.meaning c.receive_under.result c.args.bytes.now c.args.now
+    (λ r. header_of r.state.transport.exts c.args.bytes.now ≡ Some x) (λ r. repaired_by r.state.types r.rx r.originals x ≡ None) (λ r. is_claimed r.state.types x ≡ true)
+    c.args.self.now c.receive_under.new.self c.receive_under.ensures.received
+    (λ r h.
+    let mine = subst (λ s. StandsFor R S s r) (sym c.self.view_is) h in
     let reads : header_of r.state.transport.exts c.args.bytes.now ≡ Some x =
     ap (λ (s : SessionState). header_of s.transport.exts c.args.bytes.now) (sym mine.state) ∙ sym c.parse-read.ensures ∙ c.in-Some.is in
+    let plain : repaired_by r.state.types r.rx r.originals x ≡ None =
+    ap (λ (s : SessionState). repaired_by s.types r.rx r.originals x) (sym mine.state)
+    ∙ sym (c.repaired_by.ensures.original (streams_in r) (streams_stand R S _ r mine)) ∙ ap (option_map (λ f. f.0)) c.in_default-repaired_by.is in
     let claimed : is_claimed r.state.types x ≡ true = ap (λ (s : SessionState). is_claimed s.types x) (sym mine.state) ∙ sym c.is_claimed.ensures ∙ c.if-not-is_claimed.false in
-    (reads, claimed))
+    (reads, plain, claimed))

@@ -7,8 +7,10 @@ use Rattle.stream_core.specs.RxRecord.{RxView, StandsFor as StreamStandsFor}
 use Rattle.stream_core.specs.StreamsRecord.{StreamsView}
 use Rattle.stream_core.specs.Tables.{Along}
 use Rattle.session_core.specs.declared.datagram.Opened.{Opened}
-use Rattle.session_core.specs.Hearing.{RtcpOpensIn, stated, rtcp_opening_of, feedback_in, acknowledged, last_application, last_delay, measured, ntp_of, after_rtcp, ReceivesRtcp, opened, stays}
-use Rattle.session_core.specs.SessionRecord.{SessionState, StandsFor}
+use Rattle.session_core.specs.Hearing.{RtcpOpensIn, stated, rtcp_opening_of, feedback_in, acknowledged, last_application, last_delay, measured, ntp_of, after_rtcp, AskedByAll, ReceivesRtcp, opened, stays}
+use Rattle.session_core.specs.SessionRecord.{streams_in, SessionState, StandsFor}
+use Rattle.stream_core.specs.Repairing.{RepairsStandFor}
+use Rattle.session_core.proofs.StreamsIn.{streams_stand}
 use Rattle.session_core.proofs.Heard.{heard_state}
 use Rattle.session_core.proofs.Others.{opening_kept}
 use Rattle.session_core.proofs.session.Session.receive_rtcp.Goals as goal
@@ -16,7 +18,7 @@ use Rattle.session_core.proofs.session.Session.receive_rtcp.Goals as goal
 pub returns-in_default-clause-received : goal.returns-in_default-clause-received
 returns-in_default-clause-received g c = λ r h.
     let K = g.C.SrtpCipher.meaning in
-    let mine = subst (λ s. StandsFor g.W.GapWindow.remembers s r) (sym c.self.view_is) h in
+    let mine = subst (λ s. StandsFor g.W.GapWindow.remembers g.S.ResendStore.stands_for s r) (sym c.self.view_is) h in
     let none : (p : List ℕ) → RtcpOpensIn K c.self.inside.opening c.args.bytes.now p → ⊥ = rw c.in_default.is at c.in_ok-plain.ensures.none in (
       r,
       stays (subst (λ (s : SessionState). (p : List ℕ) → RtcpOpensIn K s.opening c.args.bytes.now p → ⊥) mine.state none),
@@ -24,6 +26,9 @@ returns-in_default-clause-received g c = λ r h.
         state = opening_kept _ r.state c.open_rtcp.new.opening mine.state c.open_rtcp.ensures.same;
         rx = mine.rx;
         probes = mine.probes;
+        seen = mine.seen;
+        originals = mine.originals;
+        repairs = mine.repairs;
       },
     )
 
@@ -34,41 +39,43 @@ returns-clause-received g c = λ r h.
     let bytes = c.args.bytes.now in
     let now = c.args.now in
     let plain = c.in-Some.field-0.plain.items in
-    let mine = subst (λ s. StandsFor g.W.GapWindow.remembers s r) (sym c.self.view_is) h in
+    let mine = subst (λ s. StandsFor g.W.GapWindow.remembers g.S.ResendStore.stands_for s r) (sym c.self.view_is) h in
     let opens : RtcpOpensIn K c.self.inside.opening bytes plain = rw c.in-Some.is at c.in_ok-plain.ensures.opened in
     let index : c.in-Some.field-0.index ≡ stated c.self.inside.opening bytes = rw c.in-Some.is at c.in_ok-plain.ensures.index in
     let heard : c.in_ok-feedback.feedback.items ≡ feedback_in plain = c.in_ok-feedback.ensures ∙ ap feedback_in c.as_slice.ensures.value in
-    let ssrc : c.sender.result ≡ sender_of (take 8 plain) = c.sender.ensures ∙ ap (λ (l : List ℕ). sender_of (take 8 l)) c.as_slice-3.ensures.value in
+    let ssrc : c.sender.result ≡ sender_of (take 8 plain) = c.sender.ensures ∙ ap (λ (l : List ℕ). sender_of (take 8 l)) c.as_slice-4.ensures.value in
     let stands : c.from-2.result ≡ stated c.self.inside.opening bytes = c.from-2.ensures ∙ c.from.ensures ∙ index in
     let moment : c.to_ntp_duration-ntp.result ≡ ntp_of r.state now = c.to_ntp_duration-ntp.ensures ∙ ap (λ (s : SessionState). ntp_of s now) mine.state in
     let delay : c.last_delay-delay.result ≡ last_delay r.state.local_ssrc r.state.tx (feedback_in plain) None =
     c.last_delay-delay.ensures
     ∙ ap (λ (fs : List RtcpFb). last_delay c.self.inside.local_ssrc c.self.inside.streams.tx fs None) (c.as_slice-2.ensures.value ∙ heard)
     ∙ ap (λ (s : SessionState). last_delay s.local_ssrc s.tx (feedback_in plain) None) mine.state in
-    let known = c.measure.ensures.streams (record { threshold = r.state.pause_threshold; rx = r.rx; tx = r.state.tx }) (record {
-      threshold = ap (λ (s : SessionState). s.pause_threshold) mine.state;
-      rx = mine.rx;
-      tx = ap (λ (s : SessionState). s.tx) mine.state;
-    }) in
-    let kept : c.hear.new.streams.rx ≡ c.measure.new.streams.rx = ap (λ (v : StreamsView g.row.W.Denot). v.rx) c.hear.ensures.streams in
+    let asked = c.in_ok-ask_all.ensures.ok (streams_in r) (streams_stand g.W.GapWindow.remembers g.S.ResendStore.stands_for _ r mine) in
+    let others = c.in_ok-ask_all.ensures.others in
+    let known = c.measure.ensures.streams (record (streams_in r) { repairs = asked.0 }) asked.2 in
+    let kept : c.hear.new.streams.rx ≡ c.measure.new.streams.rx = ap (λ (v : StreamsView g.row.W.Denot g.row.S.Denot). v.rx) c.hear.ensures.streams in
     let threshold : c.hear.new.streams.threshold ≡ c.self.inside.streams.threshold =
-    ap (λ (v : StreamsView g.row.W.Denot). v.threshold) c.hear.ensures.streams ∙ c.measure.ensures.threshold in
+    ap (λ (v : StreamsView g.row.W.Denot g.row.S.Denot). v.threshold) c.hear.ensures.streams ∙ c.measure.ensures.threshold ∙ ap (λ (v : StreamsView g.row.W.Denot g.row.S.Denot). v.threshold) others in
     let tx : c.hear.new.streams.tx ≡ acknowledged (feedback_in plain) c.self.inside.streams.tx =
-    ap (λ (v : StreamsView g.row.W.Denot). v.tx) c.hear.ensures.streams
+    ap (λ (v : StreamsView g.row.W.Denot g.row.S.Denot). v.tx) c.hear.ensures.streams
     ∙ ap (λ (fs : List RtcpFb). acknowledged fs c.measure.new.streams.tx) heard
-    ∙ ap (acknowledged (feedback_in plain)) c.measure.ensures.tx in
+    ∙ ap (acknowledged (feedback_in plain)) (c.measure.ensures.tx ∙ ap (λ (v : StreamsView g.row.W.Denot g.row.S.Denot). v.tx) others) in
     let application : c.hear.new.application ≡ last_application (feedback_in plain) c.self.inside.application =
     c.hear.ensures.application ∙ ap (λ (fs : List RtcpFb). last_application fs c.self.inside.application) heard in
     let told : record { kind = Rtcp; ssrc = c.sender.result; index = c.from-2.result; plain = c.from_vec.result } ≡ rtcp_opening_of r.state.opening bytes plain =
     (λ j. record { kind = Rtcp; ssrc = ssrc j; index = stands j; plain = c.from_vec.ensures j }) ∙ ap (λ (s : SessionState). rtcp_opening_of s.opening bytes plain) mine.state in (
-      after_rtcp now plain r,
-      subst (λ (o : Opened). ReceivesRtcp K r bytes now (after_rtcp now plain r) (Some o)) (sym told)
-          (opened plain (subst (λ (s : SessionState). RtcpOpensIn K s.opening bytes plain) mine.state opens)),
+      after_rtcp now plain asked.0 r,
+      subst (λ (o : Opened). ReceivesRtcp K r bytes now (after_rtcp now plain asked.0 r) (Some o)) (sym told)
+          (opened plain asked.0 (subst (λ (s : SessionState). RtcpOpensIn K s.opening bytes plain) mine.state opens)
+          (subst (λ (fs : List RtcpFb). AskedByAll now fs r.repairs asked.0) (c.as_slice-3.ensures.value ∙ heard) asked.1)),
       record {
         state = heard_state _ r.state plain c.hear.new.streams.threshold c.open_rtcp.new.opening c.hear.new.streams.tx c.hear.new.application mine.state threshold c.open_rtcp.ensures.same tx application;
         rx = subst (λ (l : List (ℕ × RxView g.row.W.Denot)). Along R l (measured (ntp_of r.state now) (last_delay r.state.local_ssrc r.state.tx (feedback_in plain) None) r.rx)) (sym kept)
             (subst (λ (t : ℕ). Along R c.measure.new.streams.rx (measured t (last_delay r.state.local_ssrc r.state.tx (feedback_in plain) None) r.rx)) moment
             (subst (λ (o : Option DlrrItem). Along R c.measure.new.streams.rx (measured c.to_ntp_duration-ntp.result o r.rx)) delay known.rx));
         probes = mine.probes;
+        seen = mine.seen;
+        originals = ap (λ (v : StreamsView g.row.W.Denot g.row.S.Denot). v.originals) c.hear.ensures.streams ∙ known.originals;
+        repairs = subst (λ (v : StreamsView g.row.W.Denot g.row.S.Denot). Along (RepairsStandFor g.S.ResendStore.stands_for) v.repairs asked.0) (sym c.hear.ensures.streams) known.repairs;
       },
     )

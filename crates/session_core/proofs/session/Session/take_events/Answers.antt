@@ -38,5 +38,5 @@ returns-in-None-clause-taken g c = λ r h.
     let s = k.0 in
     let step : Polled s None (after_event s) = c.in-None.ensures.told s k.1 in (
       c.reserve.ensures.items ∙ sym (append-nil c.loop-self.sofar.items) ∙ sym (k.2 ∙ ap (λ (t : List Event). c.loop-self.sofar.items ++ t) step.0),
-      subst (λ (x : SessionRecord). StandsFor g.W.GapWindow.remembers c.poll_event.new.self x) (step.1 ∙ k.3) (c.in-None.ensures.after s k.1),
+      subst (λ (x : SessionRecord). StandsFor g.W.GapWindow.remembers g.S.ResendStore.stands_for c.poll_event.new.self x) (step.1 ∙ k.3) (c.in-None.ensures.after s k.1),
     )

@@ -16,14 +16,14 @@ loop-place-preserved g c = λ rs h.
 
 pub returns-then-nack_enabled : goal.returns-then-nack_enabled
 returns-then-nack_enabled g c = λ r h.
-    let mine = subst (λ s. StandsFor g.W.GapWindow.remembers s r) (sym c.self.view_is) h in
+    let mine = subst (λ s. StandsFor g.W.GapWindow.remembers g.S.ResendStore.stands_for s r) (sym c.self.view_is) h in
     let y = value_along (RxStandsFor g.W.GapWindow.remembers) c.self.inside.rx r.rx c.loop-place.place c.at.result.now mine.rx c.at.ensures in
     sym (any_there is_enabled r.rx c.loop-place.place y.0 y.1 (sym (c.nack_enabled.ensures y.0 y.2) ∙ c.if-nack_enabled.true))
 
 pub returns : goal.returns
 returns g c = λ r h.
     let R = RxStandsFor g.W.GapWindow.remembers in
-    let mine = subst (λ s. StandsFor g.W.GapWindow.remembers s r) (sym c.self.view_is) h in
+    let mine = subst (λ s. StandsFor g.W.GapWindow.remembers g.S.ResendStore.stands_for s r) (sym c.self.view_is) h in
     let same = length_along R c.self.inside.rx r.rx mine.rx in
     let long : length r.rx ≤ c.loop-place.place = omega arith in
     sym (none_all is_enabled r.rx c.loop-place.place (c.loop-place.invariant r.rx mine.rx) long)

@@ -12,10 +12,10 @@ loop-place-preserved g c =
 pub returns-then-need_timeout : goal.returns-then-need_timeout
 returns-then-need_timeout g c =
     sym (any_there (λ (r : TxRecord). needs_tick r.queue) c.self.inside.tx c.loop-place.place c.at.result.now c.at.ensures (sym c.need_timeout.ensures ∙ c.if-need_timeout.true))
-    ∙ ap (λ (v : StreamsView g.row.W.Denot). any_waits v.tx) c.self.view_is
+    ∙ ap (λ (v : StreamsView g.row.W.Denot g.row.S.Denot). any_waits v.tx) c.self.view_is
 
 pub returns : goal.returns
 returns g c =
     let long : length c.self.inside.tx ≤ c.loop-place.place = omega arith in
     sym (none_all (λ (r : TxRecord). needs_tick r.queue) c.self.inside.tx c.loop-place.place c.loop-place.invariant long)
-    ∙ ap (λ (v : StreamsView g.row.W.Denot). any_waits v.tx) c.self.view_is
+    ∙ ap (λ (v : StreamsView g.row.W.Denot g.row.S.Denot). any_waits v.tx) c.self.view_is

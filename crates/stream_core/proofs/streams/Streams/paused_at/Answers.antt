@@ -20,7 +20,7 @@ loop-place-preserved g c = λ rs h.
 pub returns : goal.returns
 returns g c = λ r h.
     let R = RxStandsFor g.W.GapWindow.remembers in
-    let mine = subst (λ s. StandsFor g.W.GapWindow.remembers s r) (sym c.self.view_is) h in
+    let mine = subst (λ s. StandsFor g.W.GapWindow.remembers g.S.ResendStore.stands_for s r) (sym c.self.view_is) h in
     let same = length_along R c.self.inside.rx r.rx mine.rx in
     let long : length r.rx ≤ c.loop-place.place = omega arith in
     sym (ap (pause_before c.loop-place.first) (drop_all c.loop-place.place r.rx long)) ∙ c.loop-place.invariant r.rx mine.rx

@@ -2,4 +2,5 @@ use Rattle.stream_core.proofs.StreamsSteps.{rx_removed}
 use Rattle.stream_core.proofs.streams.Streams.remove_stream_rx.Goals as goal
 
 pub returns-clause-removed : goal.returns-clause-removed
-returns-clause-removed g c = rx_removed g.W.GapWindow.remembers c.args.ssrc c.args.self.now _ c.remove.new.self c.self.view_is c.remove.ensures.removed
+returns-clause-removed g c =
+    rx_removed g.W.GapWindow.remembers g.S.ResendStore.stands_for c.args.ssrc c.args.self.now _ c.remove.new.self c.remove_all.new.self c.self.view_is c.remove.ensures.removed c.remove_all.ensures

@@ -10,10 +10,12 @@ use Rattle.stream_core.proofs.streams.Streams.set_trip.Goals as goal
 pub returns-clause-streams : goal.returns-clause-streams
 returns-clause-streams g c = λ r h.
     let m = g.W.GapWindow.remembers in
-    let mine = subst (λ s. StandsFor m s r) (sym c.self.view_is) h in
+    let mine = subst (λ s. StandsFor m g.S.ResendStore.stands_for s r) (sym c.self.view_is) h in
     record {
       threshold = mine.threshold;
+      originals = mine.originals;
       rx = subst (λ (l : List (ℕ × RxView g.row.W.Denot)). Along (RxStandsFor m) l (each (on_record (with_trip c.args.trip)) r.rx)) (sym c.set_trips.ensures)
           (states_along m (with_trip c.args.trip) c.self.inside.rx r.rx mine.rx);
       tx = mine.tx;
+      repairs = mine.repairs;
     }

@@ -1,0 +1,39 @@
+use Rattle.std.proofs.Common.{◌≡◌, Some, sym, ap, subst, ◌∙◌}
+use Rattle.std.specs.Option.{option_map_or}
+use Rattle.stream_core.specs.RxRecord.{StandsFor as StreamStandsFor}
+use Rattle.stream_core.specs.RxRepairs.{after_restored}
+use Rattle.stream_core.specs.Seen.{SeenStandsFor, seen_of, saw}
+use Rattle.stream_core.specs.StreamsRecord.{restored_on, restored_number_on}
+use Rattle.stream_core.specs.Tables.{place_of, change_at, Along}
+use Rattle.session_core.specs.Receiving.{packet_restored}
+use Rattle.session_core.specs.SessionRecord.{streams_in, SessionView, StandsFor}
+use Rattle.session_core.proofs.Others.{restored_state}
+use Rattle.session_core.proofs.StreamsIn.{streams_stand}
+use Rattle.session_core.proofs.session.Session.restore.Goals as goal
+
+pub returns-clause-ok : goal.returns-clause-ok
+returns-clause-ok g c = λ r h place.
+    let R = g.W.GapWindow.remembers in
+    let S = g.S.ResendStore.stands_for in
+    let original = c.args.original in
+    let low = c.args.low in
+    let mine = subst (λ s. StandsFor R S s r) (sym c.self.view_is) h in
+    let here = ap (λ (v : SessionView g.row.W.Denot g.row.S.Denot). place_of original v.rx) c.self.view_is ∙ place in
+    let stands = streams_stand R S _ r mine in
+    let greatest : c.get-greatest.result ≡ seen_of original r.seen = c.get-greatest.ensures.value r.seen mine.seen in
+    let number : Some c.restored_number_at-number.result ≡ restored_number_on (seen_of original r.seen) r.rx original low =
+    c.restored_number_at-number.ensures.number (streams_in r) original stands here ∙ ap (λ o. restored_number_on o r.rx original low) greatest in
+    let fresh : c.in_ok-fresh.fresh ≡ restored_on (seen_of original r.seen) r.rx original low =
+    c.in_ok-fresh.ensures.restored (streams_in r) original stands here ∙ ap (λ o. restored_on o r.rx original low) greatest in
+    let after = c.in_ok-fresh.ensures.after (streams_in r) original stands here in
+    record {
+      state = restored_state _ r.state c.restore_at.new.self.threshold c.restore_at.new.self.tx c.put_restored.new.packet
+          (λ s. packet_restored s.types c.args.now c.args.header.now original c.args.payload (restored_on (seen_of original r.seen) r.rx original low) s.packet) mine.state
+          c.in_ok-fresh.ensures.threshold c.in_ok-fresh.ensures.tx
+          (c.put_restored.ensures ∙ ap (λ o. packet_restored c.self.inside.types c.args.now c.args.header.now original c.args.payload o c.self.inside.packet) fresh);
+      rx = subst (λ o. Along (StreamStandsFor R) c.restore_at.new.self.rx (change_at original (after_restored o low) r.rx)) greatest after.rx;
+      originals = after.originals;
+      probes = mine.probes;
+      seen = subst (λ o. SeenStandsFor c.put.new.self (option_map_or (λ n. saw original n r.seen) o r.seen)) number (c.in_ok-put.ensures.ok r.seen mine.seen);
+      repairs = after.repairs;
+    }
