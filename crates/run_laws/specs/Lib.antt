@@ -1,0 +1,15 @@
+pub mod Events
+pub mod Seals
+pub mod Listing
+pub mod Sending
+pub mod TxPlay
+pub mod TxLaws
+pub mod Receiving
+pub mod RxPlay
+pub mod RxLaws
+pub mod Runs
+pub mod Tables
+pub mod Asking
+pub mod Whole
+pub mod Capping
+pub mod Example
