@@ -1,0 +1,66 @@
+-- What a session does at each call of a run is a turn.
+use Rattle.std.specs.Prelude.{◌≡◌, ◌≤◌, ◌<◌, ◌^◌, ℕ, List, [], ◌∷◌, ◌++◌, Option, Some, None}
+use Rattle.rtp_base.specs.declared.kind.Kind.TheVariants.{Rtp, Rtcp}
+use Rattle.rtcp_wire.specs.declared.feedback.AppSpecificFeedback.{AppSpecificFeedback as Application}
+use Rattle.rtcp_wire.specs.declared.packet.Rtcp.TheVariants.{AppSpecificFeedback}
+use Rattle.srtp_core.specs.Cipher.{CipherMeaning}
+use Rattle.stream_core.specs.Tables.{place_of, change_place}
+use Rattle.stream_core.specs.TxRecord.{written}
+use Rattle.session_core.specs.declared.datagram.Datagram.{Datagram}
+use Rattle.session_core.specs.declared.datagram.Opened.{Opened as Opening}
+use Rattle.session_core.specs.Calls.{after_events, with_feedback}
+use Rattle.session_core.specs.Feedback.{FitsAlone}
+use Rattle.session_core.specs.Hearing.{ReceivesRtcp}
+use Rattle.session_core.specs.Receiving.{Receives}
+use Rattle.session_core.specs.Rounds.{after_timeout}
+use Rattle.session_core.specs.Sending.{NextDatagram, Drains}
+use Rattle.session_core.specs.SessionRecord.{SessionRecord}
+use Rattle.media_model.specs.declared.entry.Side.{Side}
+use Rattle.media_model.specs.declared.entry.Write.{Write}
+use Rattle.run_model.specs.Events.{Event, wrote, ticked, called, got}
+use Rattle.run_model.specs.Tables.{IsUnused}
+use Rattle.run_model.specs.Whole.{Config, Session, Turns}
+use Rattle.session_turns.specs.Reading.{event_of, events_of, events_opened}
+use Rattle.session_turns.specs.Mirrors.{IsGiven, write_at, Mirrors, IsFit}
+
+-- a turn of a plain session that brings these events, to one that a record mirrors
+pub record TurnsTo (cipher : CipherMeaning) (C : Config) (side : Side) (a : Session) (after : SessionRecord) (events : List Event) : Type 0 where
+  pub session : Session
+  pub turn : Turns C side a session events
+  pub mirrors : Mirrors cipher C side after session
+
+-- a write whose number was not used is handed to its stream
+abbrev pub WritesTurn : Type 0
+WritesTurn =
+    (cipher : CipherMeaning) (C : Config) (side : Side) (r : SessionRecord) (a : Session) (place time : ℕ) (w : Write) → IsFit C → Mirrors cipher C side r a
+    → a.rx.now ≤ time → IsGiven w.ssrc w → IsUnused w a.tx → place_of w.ssrc r.state.tx ≡ Some place
+    → TurnsTo cipher C side a (record r { state = record r.state { tx = change_place (written (write_at time w)) r.state.tx place } }) (wrote time w ∷ [])
+
+-- a tick, and all that leaves after it
+abbrev pub TicksTurn : Type 0
+TicksTurn =
+    (cipher : CipherMeaning) (C : Config) (side : Side) (r after : SessionRecord) (a : Session) (time : ℕ) (all : List Datagram) → IsFit C → Mirrors cipher C side r a
+    → a.rx.now ≤ time → 0 < time → time ≤ 10 ^ 16 → Drains cipher time (after_events (after_timeout time r)) after all
+    → TurnsTo cipher C side a after (ticked time ∷ events_of r.state.transport.exts all)
+
+-- an RTP datagram comes, and all that is told then is taken
+abbrev pub OpensTurn : Type 0
+OpensTurn =
+    (cipher : CipherMeaning) (C : Config) (side : Side) (r after : SessionRecord) (a : Session) (time : ℕ) (bytes : List ℕ) (o : Option Opening) → IsFit C → Mirrors cipher C side r a
+    → a.rx.now ≤ time → time ≤ 10 ^ 16 → Receives cipher r bytes time after o
+    → TurnsTo cipher C side a (after_events after) (got time Rtp bytes ∷ events_opened r.state.transport.exts o after.state.packet)
+
+-- an RTCP datagram comes, and all that is told then is taken
+abbrev pub HearsTurn : Type 0
+HearsTurn =
+    (cipher : CipherMeaning) (C : Config) (side : Side) (r after : SessionRecord) (a : Session) (time : ℕ) (bytes : List ℕ) (o : Option Opening) → IsFit C → Mirrors cipher C side r a
+    → a.rx.now ≤ time → time ≤ 10 ^ 16 → ReceivesRtcp cipher r bytes time after o
+    → TurnsTo cipher C side a (after_events after) (got time Rtcp bytes ∷ events_opened r.state.transport.exts o None)
+
+-- the application sends feedback of its own, which leaves at once
+abbrev pub CallsTurn : Type 0
+CallsTurn =
+    (cipher : CipherMeaning) (C : Config) (side : Side) (r after : SessionRecord) (a : Session) (time : ℕ) (feedback : Application) (d : Datagram) → IsFit C → Mirrors cipher C side r a
+    → a.rx.now ≤ time → 0 < time → FitsAlone (AppSpecificFeedback feedback)
+    → NextDatagram cipher time (record r { state = with_feedback (AppSpecificFeedback feedback) r.state }) after (Some d)
+    → TurnsTo cipher C side a after (called time ∷ event_of r.state.transport.exts d ∷ [])

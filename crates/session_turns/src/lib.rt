@@ -1,0 +1,5 @@
+//! What a session does at each call of a run is a turn of the plain sessions of `run_laws`: a write, a tick with its drain,
+//! a datagram that comes, a call of the application.
+#![tactic(auto)]
+
+
