@@ -130,6 +130,7 @@ pub data RxSideStep (S : RxSetup) (peer : Sealing) (side : RxSide) : RxSide → 
   ticks : (time : ℕ) (new : List Event) → list_all is_sealing new ≡ true → Feedback side time side.table (items_in new) → RxSideStep S peer side (ticked_side side time) (ticked time ∷ new)
   hears : (time : ℕ) (bytes : List ℕ) (index : ℕ) (items : List RtcpFb)
       → RxSideStep S peer side (record side { now = time; trip = fold (trip_after S time) side.trip items }) (got time Rtcp bytes ∷ opened_items index items ∷ [])
+  calls : (time : ℕ) (index : ℕ) (items : List RtcpFb) → RxSideStep S peer side (record side { now = time }) (called time ∷ sealed_items index items ∷ [])
   passes : (e : Event) → IsUnheard e → RxSideStep S peer side (side_step S side e) (e ∷ [])
 
 pub data RxSidePlays (S : RxSetup) (peer : Sealing) : RxSide → List Event → Type 0 where

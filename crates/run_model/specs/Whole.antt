@@ -1,5 +1,5 @@
 -- A whole run: two sessions, each with its outgoing and its incoming streams.
-use Rattle.std.specs.Prelude.{◌+◌, ◌↔◌, ◌%◌, ◌==◌, true, false, length, ◌≡◌, ◌≤◌, ℕ, Bool, not, map, List, [], ◌∷◌, ◌++◌}
+use Rattle.std.specs.Prelude.{◌+◌, ◌↔◌, ◌%◌, true, false, length, ◌≡◌, ◌≤◌, ℕ, Bool, not, map, List, [], ◌∷◌, ◌++◌, Option, None}
 use Rattle.std.specs.List.{flat_map, fold, list_all}
 use Rattle.rtp_base.specs.Widen.{widen16}
 use Rattle.repair_core.specs.Fresh.{greatest_of, is_fresh}
