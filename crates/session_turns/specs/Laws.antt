@@ -23,39 +23,43 @@ use Rattle.run_model.specs.Whole.{Config, Session, Turns}
 use Rattle.session_turns.specs.Reading.{event_of, events_of, events_opened}
 use Rattle.session_turns.specs.Mirrors.{IsGiven, write_at, Mirrors, IsFit}
 
--- a turn of a plain session that brings these events, to one that a record mirrors
-pub record TurnsTo (cipher : CipherMeaning) (C : Config) (side : Side) (a : Session) (after : SessionRecord) (events : List Event) : Type 0 where
+-- a turn of a plain session that brings these events, to one that a record mirrors; types, header extensions and the latch of
+-- the session are as they were
+pub record TurnsTo (cipher : CipherMeaning) (C : Config) (side : Side) (r : SessionRecord) (a : Session) (after : SessionRecord) (events : List Event) : Type 0 where
   pub session : Session
   pub turn : Turns C side a session events
   pub mirrors : Mirrors cipher C side after session
+  pub types : after.state.types ≡ r.state.types
+  pub exts : after.state.transport.exts ≡ r.state.transport.exts
+  pub runs : after.state.stopped ≡ r.state.stopped
 
 -- a write whose number was not used is handed to its stream
 abbrev pub WritesTurn : Type 0
 WritesTurn =
     (cipher : CipherMeaning) (C : Config) (side : Side) (r : SessionRecord) (a : Session) (place time : ℕ) (w : Write) → IsFit C → Mirrors cipher C side r a
     → a.rx.now ≤ time → IsGiven w.ssrc w → IsUnused w a.tx → place_of w.ssrc r.state.tx ≡ Some place
-    → TurnsTo cipher C side a (record r { state = record r.state { tx = change_place (written (write_at time w)) r.state.tx place } }) (wrote time w ∷ [])
+    → TurnsTo cipher C side r a (record r { state = record r.state { tx = change_place (written (write_at time w)) r.state.tx place } }) (wrote time w ∷ [])
 
 -- a tick, and all that leaves after it
 abbrev pub TicksTurn : Type 0
 TicksTurn =
     (cipher : CipherMeaning) (C : Config) (side : Side) (r after : SessionRecord) (a : Session) (time : ℕ) (all : List Datagram) → IsFit C → Mirrors cipher C side r a
     → a.rx.now ≤ time → 0 < time → time ≤ 10 ^ 16 → Drains cipher time (after_events (after_timeout time r)) after all
-    → TurnsTo cipher C side a after (ticked time ∷ events_of r.state.transport.exts all)
+    → TurnsTo cipher C side r a after (ticked time ∷ events_of r.state.transport.exts all)
 
 -- an RTP datagram comes, and all that is told then is taken
 abbrev pub OpensTurn : Type 0
 OpensTurn =
     (cipher : CipherMeaning) (C : Config) (side : Side) (r after : SessionRecord) (a : Session) (time : ℕ) (bytes : List ℕ) (o : Option Opening) → IsFit C → Mirrors cipher C side r a
     → a.rx.now ≤ time → time ≤ 10 ^ 16 → Receives cipher r bytes time after o
-    → TurnsTo cipher C side a (after_events after) (got time Rtp bytes ∷ events_opened r.state.transport.exts o after.state.packet)
+    → TurnsTo cipher C side r a (after_events after) (got time Rtp bytes ∷ events_opened r.state.transport.exts o after.state.packet)
 
 -- an RTCP datagram comes, and all that is told then is taken
 abbrev pub HearsTurn : Type 0
 HearsTurn =
     (cipher : CipherMeaning) (C : Config) (side : Side) (r after : SessionRecord) (a : Session) (time : ℕ) (bytes : List ℕ) (o : Option Opening) → IsFit C → Mirrors cipher C side r a
     → a.rx.now ≤ time → time ≤ 10 ^ 16 → ReceivesRtcp cipher r bytes time after o
-    → TurnsTo cipher C side a (after_events after) (got time Rtcp bytes ∷ events_opened r.state.transport.exts o None)
+    → TurnsTo cipher C side r a (after_events after) (got time Rtcp bytes ∷ events_opened r.state.transport.exts o None)
 
 -- the application sends feedback of its own, which leaves at once
 abbrev pub CallsTurn : Type 0
@@ -63,4 +67,4 @@ CallsTurn =
     (cipher : CipherMeaning) (C : Config) (side : Side) (r after : SessionRecord) (a : Session) (time : ℕ) (feedback : Application) (d : Datagram) → IsFit C → Mirrors cipher C side r a
     → a.rx.now ≤ time → 0 < time → FitsAlone (AppSpecificFeedback feedback)
     → NextDatagram cipher time (record r { state = with_feedback (AppSpecificFeedback feedback) r.state }) after (Some d)
-    → TurnsTo cipher C side a after (called time ∷ event_of r.state.transport.exts d ∷ [])
+    → TurnsTo cipher C side r a after (called time ∷ event_of r.state.transport.exts d ∷ [])

@@ -1,3 +1,4 @@
 pub mod Reading
 pub mod Mirrors
+pub mod Packets
 pub mod Laws
