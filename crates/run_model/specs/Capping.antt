@@ -1,5 +1,5 @@
 -- When the repairs of a stream are capped, read off the events, and how a stream finds it out.
-use Rattle.std.specs.Prelude.{◌≡◌, ◌⊎◌, ◌≤◌, ◌+◌, ◌-◌, ◌*◌, ℕ, Bool, true, false, nat_lt, nat_le, if◌then◌else◌, length, map, filter, sum, List, [], ◌∷◌, ◌++◌, Option, Some, None}
+use Rattle.std.specs.Prelude.{◌≡◌, ◌⊎◌, ◌≤◌, ◌+◌, ◌-◌, ℕ, Bool, true, false, nat_le, if◌then◌else◌, length, List, [], ◌∷◌, ◌++◌, Option, Some, None}
 use Rattle.std.specs.List.{fold}
 use Rattle.rtx_core.specs.Ratio.{bytes_in, recent, is_above}
 use Rattle.run_model.specs.Events.{Event, wrote, ticked, called, got, sealed, sealed_items, opened, opened_items, yielded, Outgoing}

@@ -1,5 +1,5 @@
 -- Which numbers an incoming stream has, read off what was opened, and what it yields.
-use Rattle.std.specs.Prelude.{◌≡◌, ◌≤◌, ◌+◌, ◌-◌, ◌*◌, ◌%◌, ℕ, Bool, true, IsTrue, ◌&&◌, ◌||◌, ◌==◌, nat_le, not, if◌then◌else◌, length, take, slice_index, List, [], ◌∷◌, ◌++◌, Option, Some, None, IsSome, unwrap_or}
+use Rattle.std.specs.Prelude.{◌≡◌, ◌≤◌, ◌+◌, ◌*◌, ◌%◌, ℕ, Bool, true, IsTrue, ◌&&◌, ◌||◌, ◌==◌, not, if◌then◌else◌, length, List, [], ◌∷◌, ◌++◌, Option, Some, None, IsSome, unwrap_or}
 use Rattle.std.specs.List.{flat_map, fold}
 use Rattle.rtp_base.specs.Widen.{widen16}
 use Rattle.rtp_base.specs.Window.{is_fresh_rtx, is_fresh_after, greatest_after}

@@ -1,5 +1,5 @@
 -- Runs of two sides: a stream that one side sends and the other receives.
-use Rattle.std.specs.Prelude.{◌≡◌, ℕ, Bool, true, false, cond, map, List, [], ◌∷◌, ◌++◌, Some}
+use Rattle.std.specs.Prelude.{◌≡◌, ℕ, true, cond, map, List, [], ◌∷◌, ◌++◌, Some}
 use Rattle.std.specs.List.{flat_map}
 use Rattle.media_model.specs.declared.entry.Side.{Side}
 use Rattle.media_model.specs.declared.entry.Write.{Write}

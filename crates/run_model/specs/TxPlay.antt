@@ -5,7 +5,7 @@ use Rattle.resend_core.specs.ResendStore.{Event as Stored, pushed, evicted, Past
 use Rattle.rtp_base.specs.declared.kind.Kind.TheVariants.{Rtcp}
 use Rattle.rtcp_wire.specs.declared.rtcp_fb.RtcpFb.{RtcpFb}
 use Rattle.media_model.specs.declared.entry.Write.{Write}
-use Rattle.run_model.specs.Events.{Plain, Event, wrote, ticked, called, got, sealed, sealed_items, opened, opened_items, yielded, Types, Outgoing}
+use Rattle.run_model.specs.Events.{Event, wrote, ticked, called, got, sealed, sealed_items, opened, opened_items, yielded, Types, Outgoing}
 use Rattle.run_model.specs.Listing.{IsIn}
 use Rattle.run_model.specs.Capping.{Reading, reading_after, reading_for}
 use Rattle.run_model.specs.Seals.{Sealing, IsSeal}
