@@ -11,5 +11,6 @@ pub mod Runs
 pub mod Tables
 pub mod Asking
 pub mod Whole
+pub mod Transcripts
 pub mod Capping
 pub mod Example
