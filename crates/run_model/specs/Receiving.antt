@@ -101,7 +101,10 @@ restored L l ssrc n p = restored_by (with_tried L l ssrc n) (low_of (cut p))
 
 abbrev pub with_restored : Lists → Option ℕ → Lists
 with_restored l None = l
-with_restored l (Some q) = record l { seen_main = l.seen_main ++ q ∷ []; taken = with_number (begun_taken l) q }
+with_restored l (Some q) = record l {
+  seen_main = l.seen_main ++ q ∷ [];
+  taken = if is_fresh (begun_taken l) q then begun_taken l ++ q ∷ [] else l.taken;
+}
 
 -- the lists after a datagram of the stream was opened
 abbrev pub after_first : Lists → ℕ → Lists

@@ -1,14 +1,14 @@
 -- The record of an incoming stream, and how each call changes it.
 use Rattle.std.specs.Prelude.{◌≡◌, ◌+◌, ◌==◌, nat_le, ℕ, Bool, true, false, not, ◌&&◌, ◌||◌, if◌then◌else◌, map, List, [], ◌∷◌, ◌++◌, Option, Some, None}
 use Rattle.std.specs.List.{list_all}
-use Rattle.repair_core.specs.Fresh.{greatest_of}
+use Rattle.repair_core.specs.Fresh.{greatest_of, is_fresh}
 use Rattle.repair_core.specs.Rounds.{Heard, started_at, came, round, taken, is_pending}
 use Rattle.rtp_base.specs.declared.kind.Kind.TheVariants.{Rtp}
 use Rattle.run_model.specs.Events.{Plain, Event, ticked, got, opened, yielded, Types, Incoming}
 use Rattle.run_model.specs.Sending.{is_some}
 use Rattle.run_model.specs.Seals.{Sealing}
 use Rattle.run_model.specs.TxPlay.{is_sealing}
-use Rattle.run_model.specs.Receiving.{Lists, is_repair, floor_of, restored, concerns, yields, Opens}
+use Rattle.run_model.specs.Receiving.{begun_taken, Lists, is_repair, floor_of, restored, concerns, yields, Opens}
 
 -- what the register was told since it was made, if it was; the numbers of the repair datagrams, with their floor; the numbers seen
 -- under both SSRCs; and when the stream is paused, while it is not
@@ -49,10 +49,13 @@ rx_tried L pause ssrc n x = record x {
   pause_at = Some pause;
 }
 
--- then the number that it restores
+-- then the number that it restores, which is taken where it is fresh
 abbrev pub rx_restored : Option ℕ → RxRecord → RxRecord
 rx_restored None x = x
-rx_restored (Some q) x = record x { numbers = Some (came (register x.seen_main x.numbers) q); seen_main = x.seen_main ++ q ∷ [] }
+rx_restored (Some q) x = record x {
+  numbers = if is_fresh (begun_taken (lists_in x)) q then Some (came (register x.seen_main x.numbers) q) else x.numbers;
+  seen_main = x.seen_main ++ q ∷ [];
+}
 
 abbrev pub rx_opened : Types → Incoming → ℕ → ℕ → ℕ → Plain → RxRecord → RxRecord
 rx_opened T L pause ssrc n p x =

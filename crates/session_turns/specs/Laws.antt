@@ -1,5 +1,5 @@
 -- What a session does at each call of a run is a turn.
-use Rattle.std.specs.Prelude.{◌≡◌, ◌≤◌, ◌<◌, ◌^◌, ℕ, List, [], ◌∷◌, ◌++◌, Option, Some, None}
+use Rattle.std.specs.Prelude.{◌≡◌, ◌≤◌, ◌<◌, ◌^◌, ℕ, List, [], ◌∷◌, ◌++◌, slice_index, Option, Some, None}
 use Rattle.rtp_base.specs.declared.kind.Kind.TheVariants.{Rtp, Rtcp}
 use Rattle.rtcp_wire.specs.declared.feedback.AppSpecificFeedback.{AppSpecificFeedback as Application}
 use Rattle.rtcp_wire.specs.declared.packet.Rtcp.TheVariants.{AppSpecificFeedback}
@@ -47,11 +47,11 @@ TicksTurn =
     → a.rx.now ≤ time → 0 < time → time ≤ 10 ^ 16 → Drains cipher time (after_events (after_timeout time r)) after all
     → TurnsTo cipher C side r a after (ticked time ∷ events_of r.state.transport.exts all)
 
--- an RTP datagram comes, and all that is told then is taken
+-- an RTP datagram of bytes comes, and all that is told then is taken
 abbrev pub OpensTurn : Type 0
 OpensTurn =
     (cipher : CipherMeaning) (C : Config) (side : Side) (r after : SessionRecord) (a : Session) (time : ℕ) (bytes : List ℕ) (o : Option Opening) → IsFit C → Mirrors cipher C side r a
-    → a.rx.now ≤ time → time ≤ 10 ^ 16 → Receives cipher r bytes time after o
+    → a.rx.now ≤ time → time ≤ 10 ^ 16 → ((i : ℕ) → slice_index bytes i < 256) → Receives cipher r bytes time after o
     → TurnsTo cipher C side r a (after_events after) (got time Rtp bytes ∷ events_opened r.state.transport.exts o after.state.packet)
 
 -- an RTCP datagram comes, and all that is told then is taken

@@ -5,6 +5,7 @@ use Rattle.rtp_base.specs.Window.{greatest, is_fresh_rtx, is_fresh_after, greate
 use Rattle.rtp_wire.specs.BytesLaws.{AreWords}
 use Rattle.rtp_wire.specs.Extensions.{no_values}
 use Rattle.resend_core.specs.ResendStore.{Event as Stored, pushed, evicted, Past}
+use Rattle.repair_core.specs.Rounds.{Heard, taken}
 use Rattle.rtx_core.specs.Ratio.{CapRecord, recent}
 use Rattle.rtx_core.specs.Repairs.{RepairPast}
 use Rattle.rtx_core.specs.declared.resend.Resend.{Resend}
@@ -41,6 +42,11 @@ pub record IsGiven (ssrc : ℕ) (w : Write) : Type 0 where
   pub few : length w.csrc ≤ 15
   pub sources : AreWords w.csrc
   pub payload : length w.payload ≤ 1400
+
+-- a write that is kept to be sent again: its type has a type of repairs
+pub record IsKept (rows : List (ℕ × TypeRow)) (ssrc : ℕ) (w : Write) : Type 0 where
+  pub given : IsGiven ssrc w
+  pub type : is_some (rtx_type_of rows w.pt) ≡ true
 
 -- a write as it is handed to its stream, at a moment, and the packet of it, with the moment of the first tick since, if there
 -- was one
@@ -118,7 +124,7 @@ pub record TxMirrors (rows : List (ℕ × TypeRow)) (medias : List MediaRecord) 
   pub mid : has_mid e.1.mid medias ≡ true
   pub queue : e.1.queue ≡ map (packet_at stamp) s.1.queue
   pub given : AllByRecursion (IsGiven s.0.ssrc) s.1.queue
-  pub cached : AllByRecursion (IsGiven s.0.ssrc) (flat_map write_in s.1.store)
+  pub cached : AllByRecursion (IsKept rows s.0.ssrc) (flat_map write_in s.1.store)
   pub again : MirrorsRepairs rows now s.0 s.1 (repairs_of e.1 repairs)
 
 -- two lists of which the greatest is the same, and after which the same numbers are fresh
@@ -142,6 +148,11 @@ abbrev pub rtx_seen : List (ℕ × List ℕ) → Option ℕ → List ℕ → Typ
 rtx_seen seen None ys = ys ≡ []
 rtx_seen seen (Some rtx) ys = MirrorsSeen (value_under rtx seen) ys
 
+-- a register that was made has taken a number
+abbrev pub HasBegun : Option Heard → Type 0
+HasBegun None = Unit {0}
+HasBegun (Some h) = taken h ≡ [] → ⊥
+
 -- an incoming stream
 pub record RxMirrors (threshold : ℕ) (seen : List (ℕ × List ℕ)) (x : StreamRx) (s : Incoming × RxRecord) : Type 0 where
   pub ssrc : x.state.ssrc ≡ s.0.ssrc
@@ -150,6 +161,7 @@ pub record RxMirrors (threshold : ℕ) (seen : List (ℕ × List ℕ)) (x : Stre
   pub threshold_is : x.state.threshold ≡ threshold
   pub pause : x.state.pause_at ≡ s.1.pause_at
   pub numbers : x.numbers ≡ s.1.numbers
+  pub begun : HasBegun s.1.numbers
   pub repairs : MirrorsPast x.repairs s.1.floor s.1.tried
   pub seen_main : MirrorsSeen (value_under s.0.ssrc seen) s.1.seen_main
   pub seen_rtx : rtx_seen seen s.0.rtx s.1.seen_rtx

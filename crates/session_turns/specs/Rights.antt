@@ -1,5 +1,5 @@
 -- That what a session seals, and what it opens, is a seal of the plain datagram that it tells of.
-use Rattle.std.specs.Prelude.{◌≡◌, ◌<◌, ◌≤◌, ◌^◌, ◌%◌, ℕ, Bool, true, false, List, ◌++◌, length, take, drop, Some}
+use Rattle.std.specs.Prelude.{◌≡◌, ◌<◌, ◌≤◌, ◌^◌, ◌%◌, ℕ, Bool, true, false, List, ◌++◌, length, take, drop, slice_index, Some}
 use Rattle.std.specs.List.{list_any, AllByRecursion}
 use Rattle.rtp_base.specs.declared.kind.Kind.TheVariants.{Rtp, Rtcp}
 use Rattle.rtp_wire.specs.declared.extension.ExtensionMap.{ExtensionMap}
@@ -90,7 +90,7 @@ pub record IsRightOpening (cipher : CipherMeaning) (exts : ExtensionMap) (other 
 abbrev pub OpeningsAreRight : Type 0
 OpeningsAreRight =
     (cipher : CipherMeaning) (C : Config) (side : Side) (r after : SessionRecord) (a : Session) (other : SrtpState) (time : ℕ) (bytes : List ℕ) (o : Opening)
-    → Mirrors cipher C side r a → r.state.opening ≡ Some other → Receives cipher r bytes time after (Some o)
+    → Mirrors cipher C side r a → r.state.opening ≡ Some other → ((i : ℕ) → slice_index bytes i < 256) → Receives cipher r bytes time after (Some o)
     → IsRightOpening cipher r.state.transport.exts other bytes o
 
 -- what an RTCP datagram opened to: at least 8 bytes, of which the bytes are the seal that they state
