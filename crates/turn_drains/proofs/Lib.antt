@@ -1,0 +1,4 @@
+pub mod Held
+pub mod Caps
+pub mod Wires
+pub mod Streams
