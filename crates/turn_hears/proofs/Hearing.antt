@@ -1,12 +1,11 @@
 -- RTCP that comes is a turn.
-use Rattle.std.proofs.Common.{◌≡◌, ℕ, ◌≤◌, List, [], ◌∷◌, ◌++◌, Option, Some, None, refl, sym, ap, ◌∙◌, subst}
+use Rattle.std.proofs.Common.{◌≡◌, ℕ, ◌≤◌, List, [], ◌∷◌, ◌++◌, Option, None, refl, sym, ap, ◌∙◌, subst}
 use Rattle.std.specs.List.{AllZip, fold, flat_map}
 use Rattle.std.specs.Map.{keys_of}
-use Rattle.rtp_base.specs.declared.kind.Kind.TheVariants.{Rtp, Rtcp}
+use Rattle.rtp_base.specs.declared.kind.Kind.TheVariants.{Rtcp}
 use Rattle.rtcp_wire.specs.declared.extended.DlrrItem.{DlrrItem as Delay}
 use Rattle.rtcp_wire.specs.declared.rtcp_fb.RtcpFb.{RtcpFb}
 use Rattle.rtcp_wire.specs.declared.rtcp_fb.RtcpFb.TheVariants.{SenderInfo, ReceptionReport, SourceDescription, Goodbye, Rrtr, DlrrItem, Nack, Pli, Fir, Twcc, Remb, AppSpecificFeedback}
-use Rattle.resend_core.specs.ResendStore.{last_position}
 use Rattle.srtp_core.specs.Cipher.{CipherMeaning}
 use Rattle.srtp_core.specs.RtcpSeals.{RtcpOpensTo, sealed_rtcp, stated_bit, stated_index}
 use Rattle.stream_core.specs.declared.payload_types.TypeRow.{TypeRow}
@@ -14,12 +13,12 @@ use Rattle.stream_core.specs.Repairing.{RepairsRecord, repairs_of}
 use Rattle.stream_core.specs.Tables.{place_of}
 use Rattle.stream_core.specs.TxRecord.{TxRecord as StreamTx, after_reception}
 use Rattle.session_core.specs.declared.datagram.Opened.{Opened as Opening}
-use Rattle.session_core.specs.Calls.{lacks_keys, after_events}
-use Rattle.session_core.specs.Hearing.{RtcpOpensIn, stated, rtcp_opening_of, feedback_in, acknowledged_by, acknowledged, AskedByAll, last_delay, trip_of, ntp_of, after_rtcp, ReceivesRtcp, opened as opened_so, stays as stays_so}
+use Rattle.session_core.specs.Calls.{after_events}
+use Rattle.session_core.specs.Hearing.{RtcpOpensIn, stated, feedback_in, acknowledged_by, acknowledged, AskedByAll, last_delay, ntp_of, after_rtcp, ReceivesRtcp, opened as opened_so, stays as stays_so}
 use Rattle.session_core.specs.SessionRecord.{MediaRecord, SessionRecord}
 use Rattle.media_model.specs.declared.entry.Side.{Side}
 use Rattle.media_model.specs.Sides.{peer_of}
-use Rattle.run_model.specs.Events.{Event, Outgoing, Incoming, got, opened_items}
+use Rattle.run_model.specs.Events.{Outgoing, Incoming, got, opened_items}
 use Rattle.run_model.specs.Seals.{Reporting, IsReport}
 use Rattle.run_model.specs.Sending.{named_on}
 use Rattle.run_model.specs.RxPlay.{RxRecord}
@@ -28,10 +27,10 @@ use Rattle.run_model.specs.Asking.{trip_after}
 use Rattle.run_model.specs.Tables.{Table, lines, Hears, none as hears_none, one as hears_one}
 use Rattle.run_model.specs.Whole.{Config, Session, setup_of, hears, stays}
 use Rattle.session_turns.specs.Laws.{TurnsTo, HearsTurn}
-use Rattle.session_turns.specs.Mirrors.{TxMirrors, RxStands, RxMirror, rx_mirror, Mirrors, IsFit}
+use Rattle.session_turns.specs.Mirrors.{TxMirrors, RxStands, RxMirror, rx_mirror, Mirrors}
 use Rattle.session_turns.specs.Reading.{reporting_of, events_opened}
 use Rattle.turn_hears.proofs.Keys.{same_owns, keys_changed_at, zip_changed_at, zip_weaker}
-use Rattle.turn_hears.proofs.Later.{tx_later, rx_still, keys_there, told_record, told_all}
+use Rattle.turn_hears.proofs.Later.{tx_later, keys_there, told_record, told_all}
 use Rattle.turn_hears.proofs.Asking.{Heard, heard_on}
 use Rattle.turn_hears.proofs.Queued.{Queued, queued_of}
 use Rattle.turn_hears.proofs.Trips.{told_trip, trip_told, all_told, all_measured}

@@ -5,3 +5,4 @@ pub mod Asking
 pub mod Queued
 pub mod Trips
 pub mod Hearing
+pub mod Calling

@@ -1,10 +1,10 @@
 -- What a stream sends again is what the plain stream does.
-use Rattle.std.proofs.Common.{◌≡◌, ◌⊎◌, inl, inr, ℕ, ◌+◌, ◌<◌, ◌≤◌, Bool, true, false, ◌&&◌, max, min, map, List, [], ◌∷◌, ◌++◌, Option, Some, None, refl, sym, ap, ◌∙◌, subst}
+use Rattle.std.proofs.Common.{◌≡◌, inl, inr, ℕ, ◌+◌, ◌<◌, ◌≤◌, Bool, true, false, ◌&&◌, max, min, map, List, [], ◌∷◌, ◌++◌, Option, Some, None, refl, sym, ap, ◌∙◌, subst}
 use Rattle.std.specs.Prelude.{◌==◌, if◌then◌else◌}
 use Rattle.std.specs.Option.{option_map}
 use Rattle.std.proofs.lemmas.List.{map-append}
 use Rattle.std.proofs.lemmas.Option.{none-some, some_pair_parts}
-use Rattle.resend_core.specs.ResendStore.{Event as Stored, pushed, evicted, Past, latter, last_under, stored_under, last_position, stored_at, greatest_stored, stored_position, latest_eviction, evicted_at, RisesFrom, IsRising, MayGo, HeldAs, size_of}
+use Rattle.resend_core.specs.ResendStore.{Event as Stored, pushed, evicted, Past, latter, last_under, stored_under, last_position, stored_at, greatest_stored, stored_position, latest_eviction, RisesFrom, IsRising, MayGo, HeldAs, size_of}
 use Rattle.rtp_base.specs.declared.nack_entry.NackEntry.{NackEntry}
 use Rattle.rtx_core.specs.Resends.{Asks, none as asks_nothing, gone as asks_gone, held as asks_held, numbers_of}
 use Rattle.rtx_core.specs.declared.resend.Resend.{Resend}
@@ -15,7 +15,7 @@ use Rattle.run_model.specs.Events.{Outgoing}
 use Rattle.run_model.specs.Sending.{wanted}
 use Rattle.run_model.specs.TxPlay.{TxRecord, past_of, Queues, none, held, missing}
 use Rattle.session_turns.specs.Mirrors.{sent_packet, sent_event, MirrorsRepairs}
-use Rattle.turn_hears.proofs.Asking.{with_more, Heard}
+use Rattle.turn_hears.proofs.Asking.{Heard}
 use Rattle.turn_hears.proofs.Later.{cap_later}
 
 -- the events of a cache are those of the plain one, each with its packet

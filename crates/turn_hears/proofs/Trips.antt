@@ -7,7 +7,7 @@ use Rattle.rtcp_wire.specs.declared.extended.DlrrItem.{DlrrItem as Delay}
 use Rattle.rtcp_wire.specs.declared.rtcp_fb.RtcpFb.{RtcpFb}
 use Rattle.rtcp_wire.specs.declared.rtcp_fb.RtcpFb.TheVariants.{SenderInfo, ReceptionReport, SourceDescription, Goodbye, Rrtr, DlrrItem, Nack, Pli, Fir, Twcc, Remb, AppSpecificFeedback}
 use Rattle.stream_core.specs.Pauses.{on_record, told as stream_told, with_trip}
-use Rattle.stream_core.specs.RxRecord.{RxState, RxRecord as StreamRx}
+use Rattle.stream_core.specs.RxRecord.{RxRecord as StreamRx}
 use Rattle.stream_core.specs.Tables.{each}
 use Rattle.stream_core.specs.TxRecord.{TxRecord}
 use Rattle.session_core.specs.Hearing.{is_own, delay_in, last_delay, trip_of, measured}

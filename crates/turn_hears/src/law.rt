@@ -1,4 +1,6 @@
-ghost use Rattle.session_turns.specs.Laws.{HearsTurn, WritesTurn};
+ghost use Rattle.session_turns.specs.Laws.{CallsTurn, HearsTurn, WritesTurn};
+
+use rtcp_wire::frames_read_back;
 
 /// A write whose number was not used is a turn.
 pub fn writes_turn()
@@ -9,3 +11,10 @@ pub fn writes_turn()
 pub fn hears_turn()
     ensures { HearsTurn }
 {}
+
+/// Feedback of the application, which leaves at once and names no missing packet, is a turn.
+pub fn calls_turn()
+    ensures { CallsTurn }
+{
+    frames_read_back();
+}
