@@ -1,15 +1,15 @@
 -- When the cap of repairs is read in a drain.
-use Rattle.std.proofs.Common.{◌≡◌, ◌⊎◌, inl, inr, ℕ, ◌+◌, ◌-◌, ◌≤◌, ◌<◌, Bool, true, false, cond, ltb, leb, List, [], ◌∷◌, ◌++◌, Option, Some, None, refl, sym, ap, ◌∙◌, subst, arith}
-use Rattle.std.specs.Prelude.{nat_lt, nat_le, if◌then◌else◌, length}
+use Rattle.std.proofs.Common.{◌≡◌, ◌⊎◌, inl, inr, ℕ, ◌-◌, ◌≤◌, Bool, true, false, List, [], ◌∷◌, ◌++◌, Option, Some, None, refl, sym, ap, ◌∙◌, subst, arith}
+use Rattle.std.specs.Prelude.{nat_le, if◌then◌else◌}
 use Rattle.std.specs.Option.{option_map}
-use Rattle.std.proofs.lemmas.Bool.{ltb-true, lt-ltb, leb-true, leb-false, le-leb}
+use Rattle.std.proofs.lemmas.Bool.{ltb-true, lt-ltb, leb-true}
 use Rattle.std.proofs.lemmas.List.{append-nil}
 use Rattle.rtx_core.specs.Ratio.{bytes_in, is_old, recent, CapRecord, is_above, is_above_at, is_reading_due, after_reading, with_sent, with_resent}
 use Rattle.run_model.specs.Events.{Outgoing}
 use Rattle.run_model.specs.Capping.{Reading, is_met, reading_after}
 use Rattle.run_model.specs.TxPlay.{TxRecord}
 use Rattle.rtx_core.specs.Resends.{is_capped}
-use Rattle.session_turns.specs.Mirrors.{IsRecent, CapMirrors, MirrorsCap}
+use Rattle.session_turns.specs.Mirrors.{IsRecent, MirrorsCap}
 
 tested : (b : Bool) → (b ≡ true) ⊎ (b ≡ false)
 tested true = inl refl

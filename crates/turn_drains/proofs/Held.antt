@@ -1,10 +1,10 @@
 -- What a store of sent packets holds, and what that of their writes holds.
-use Rattle.std.proofs.Common.{◌≡◌, ◌⊎◌, inl, inr, ℕ, ◌+◌, ◌<◌, ◌≤◌, Bool, true, false, List, [], ◌∷◌, ◌++◌, map, Option, Some, None, refl, sym, ap, ◌∙◌, subst, arith}
+use Rattle.std.proofs.Common.{◌≡◌, inl, inr, ℕ, ◌+◌, ◌<◌, ◌≤◌, Bool, true, false, List, [], ◌∷◌, map, Option, Some, None, refl, sym, ap, ◌∙◌, subst, arith}
 use Rattle.std.specs.Prelude.{◌&&◌, ◌==◌, if◌then◌else◌, max, min}
 use Rattle.std.specs.List.{flat_map, AllByRecursion}
 use Rattle.std.specs.Option.{option_map}
 use Rattle.std.proofs.lemmas.Option.{same_Some}
-use Rattle.resend_core.specs.ResendStore.{Event as Stored, pushed, evicted, Past, latter, last_by, last_under, stored_under, greatest_by, evicted_at, latest_eviction, stored_position, greatest_stored, after_pushed, next_position, size_of, RisesFrom, IsRising, MustStore, MayGo, HeldAs}
+use Rattle.resend_core.specs.ResendStore.{Event as Stored, pushed, evicted, Past, latter, last_under, stored_under, latest_eviction, greatest_stored, next_position, size_of, RisesFrom, IsRising, MustStore, MayGo, HeldAs}
 use Rattle.stream_core.specs.declared.payload_types.TypeRow.{TypeRow}
 use Rattle.stream_core.specs.Repairing.{SentPacket}
 use Rattle.media_model.specs.declared.entry.Write.{Write}

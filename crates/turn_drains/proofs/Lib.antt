@@ -2,3 +2,6 @@ pub mod Held
 pub mod Caps
 pub mod Wires
 pub mod Streams
+pub mod Values
+pub mod Tables
+pub mod Sessions

@@ -8,11 +8,11 @@ use Rattle.std.proofs.lemmas.Bool.Decides.{nat_tests}
 use Rattle.std.proofs.lemmas.Option.{same_Some}
 use Rattle.std.proofs.lemmas.List.{map-append}
 use Rattle.std.proofs.lemmas.Grind.{flat_map-append}
-use Rattle.resend_core.specs.ResendStore.{Event as Stored, pushed, evicted, Past, MustStore, HeldAs, last_under}
+use Rattle.resend_core.specs.ResendStore.{Event as Stored, pushed, evicted, Past, HeldAs}
 use Rattle.rtp_wire.specs.declared.extension.ExtensionMap.{ExtensionMap}
 use Rattle.rtp_wire.specs.HeaderLaws.{WrittenIsReadAgain}
-use Rattle.rtx_core.specs.Ratio.{CapRecord, after_reading, with_sent, with_resent}
-use Rattle.rtx_core.specs.Resends.{ResendState, after_first, after_next, cap_after, is_capped, unless_capped, Caches as Cached, cached, FirstHeld, none_held, passed, found, IsNext}
+use Rattle.rtx_core.specs.Ratio.{CapRecord, after_reading, with_resent}
+use Rattle.rtx_core.specs.Resends.{ResendState, after_first, after_next, cap_after, is_capped, cached, FirstHeld, none_held, passed, found, IsNext}
 use Rattle.rtx_core.specs.declared.resend.Resend.{Resend}
 use Rattle.srtp_core.specs.Cipher.{CipherMeaning}
 use Rattle.srtp_core.specs.Contexts.{SrtpState}
@@ -22,18 +22,18 @@ use Rattle.stream_core.specs.declared.stream_tx.PacketReceipt.{PacketReceipt}
 use Rattle.stream_core.specs.declared.transport.Transport.{Transport}
 use Rattle.stream_core.specs.Queue.{next_of, rest_of}
 use Rattle.stream_core.specs.Sealing.{sealed_values}
-use Rattle.stream_core.specs.Repairing.{SentPacket, RepairsRecord, number_of_sent, size_of_sent, rtx_type_of, kept_as, repair_values, repair_of, Repairs, repaired, none_asked, Keeps, kept, counted, Polls, without, again, first, nothing}
+use Rattle.stream_core.specs.Repairing.{SentPacket, RepairsRecord, size_of_sent, rtx_type_of, repair_values, repair_of, Repairs, repaired, none_asked, Keeps, kept, counted, Polls, without, again, first, nothing}
 use Rattle.stream_core.specs.TxRecord.{TxRecord as StreamTx, receipt_of, polled, after_poll}
 use Rattle.session_core.specs.Sending.{has_mid}
 use Rattle.session_core.specs.SessionRecord.{MediaRecord}
 use Rattle.media_model.specs.declared.entry.Write.{Write}
 use Rattle.run_model.specs.Events.{Plain, Event, sealed, Types, Outgoing}
-use Rattle.run_model.specs.Sending.{is_some as plain_some, is_cached, two_bytes, sending_of, repair_of as repair_plain}
+use Rattle.run_model.specs.Sending.{is_some as plain_some, two_bytes, sending_of, repair_of as repair_plain}
 use Rattle.run_model.specs.Seals.{Sealing}
 use Rattle.run_model.specs.TxPlay.{TxRecord, past_of, Caches, ignored, stored, Polls as PlainPolls, drops, misses, resends, sends}
 use Rattle.session_turns.specs.Reading.{types_in}
 use Rattle.session_turns.specs.Mirrors.{IsGiven, IsKept, packet_at, sent_packet, sent_event, write_in, SendsNothingAgain, IsWide}
-use Rattle.turn_drains.proofs.Held.{Same, Holds, gone, holds, must_store, last_in}
+use Rattle.turn_drains.proofs.Held.{Same, gone, holds, must_store, last_in}
 use Rattle.turn_drains.proofs.Caps.{MirrorsMid, sent_mirrors, resent_mirrors, read_once, met_mirrors}
 use Rattle.turn_drains.proofs.Wires.{IsRead, seal, event_given, bytes_given, event_is, seal_is, is_read}
 

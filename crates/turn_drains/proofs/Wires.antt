@@ -1,5 +1,5 @@
 -- How what a stream gives to be sealed is read again.
-use Rattle.std.proofs.Common.{◌≡◌, ℕ, zero, suc, ◌+◌, ◌-◌, ◌≤◌, ◌<◌, ◌%◌, ◌^◌, Bool, true, false, List, [], ◌∷◌, ◌++◌, length, take, drop, replicate, Option, Some, None, refl, sym, ap, ◌∙◌, subst, arith}
+use Rattle.std.proofs.Common.{◌≡◌, ℕ, zero, suc, ◌-◌, ◌≤◌, ◌<◌, ◌%◌, ◌^◌, Bool, false, List, [], ◌∷◌, ◌++◌, length, take, drop, replicate, Option, Some, refl, sym, ap, ◌∙◌, arith}
 use Rattle.std.specs.Prelude.{unwrap_or}
 use Rattle.std.specs.Option.{option_map}
 use Rattle.std.proofs.lemmas.List.{length-append, length-replicate, take_at, drop_at}
@@ -16,7 +16,6 @@ use Rattle.srtp_core.specs.Seals.{sealed_rtp}
 use Rattle.stream_core.specs.declared.stream_tx.PacketReceipt.{PacketReceipt}
 use Rattle.stream_core.specs.declared.transport.Transport.{Transport}
 use Rattle.stream_core.specs.Sealing.{with_values}
-use Rattle.session_core.specs.declared.datagram.Datagram.{Datagram}
 use Rattle.session_core.specs.Sending.{sealed_as}
 use Rattle.run_model.specs.Events.{Plain, Event, sealed}
 use Rattle.run_model.specs.Seals.{Sealing, IsSeal}
