@@ -1,5 +1,5 @@
 -- When the cap of repairs is read in a drain.
-use Rattle.std.proofs.Common.{◌≡◌, ◌⊎◌, inl, inr, ℕ, ◌-◌, ◌≤◌, Bool, true, false, List, [], ◌∷◌, ◌++◌, Option, Some, None, refl, sym, ap, ◌∙◌, subst, arith}
+use Rattle.std.proofs.Common.{◌≡◌, inl, inr, ℕ, ◌-◌, ◌≤◌, Bool, true, false, List, [], ◌∷◌, ◌++◌, Option, Some, None, refl, sym, ap, ◌∙◌, subst, arith}
 use Rattle.std.specs.Prelude.{nat_le, if◌then◌else◌}
 use Rattle.std.specs.Option.{option_map}
 use Rattle.std.proofs.lemmas.Bool.{ltb-true, lt-ltb, leb-true}
@@ -10,10 +10,7 @@ use Rattle.run_model.specs.Capping.{Reading, is_met, reading_after}
 use Rattle.run_model.specs.TxPlay.{TxRecord}
 use Rattle.rtx_core.specs.Resends.{is_capped}
 use Rattle.session_turns.specs.Mirrors.{IsRecent, MirrorsCap}
-
-tested : (b : Bool) → (b ≡ true) ⊎ (b ≡ false)
-tested true = inl refl
-tested false = inr refl
+use Rattle.turn_drains.proofs.Basics.{tested}
 
 -- what counted no more at a moment counts no more at a later one
 still_old : (m now t : ℕ) → m ≤ now → is_old m t ≡ true → is_old now t ≡ true

@@ -1,3 +1,4 @@
+pub mod Basics
 pub mod Held
 pub mod Caps
 pub mod Wires

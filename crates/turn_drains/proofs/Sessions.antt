@@ -1,10 +1,9 @@
 -- A session that is drained, as its plain streams are.
-use Rattle.std.proofs.Common.{◌≡◌, ◌⊎◌, inl, inr, ℕ, suc, ◌<◌, ◌^◌, Bool, true, false, ◌&&◌, ◌||◌, List, [], ◌∷◌, ◌++◌, length, map, Option, Some, None, refl, sym, ap, ◌∙◌, subst, arith}
+use Rattle.std.proofs.Common.{◌≡◌, ◌⊎◌, inl, inr, ℕ, suc, ◌<◌, ◌^◌, Bool, true, false, ◌&&◌, ◌||◌, List, [], ◌∷◌, ◌++◌, length, map, Option, Some, None, refl, sym, ap, ◌∙◌, subst}
 use Rattle.std.specs.Prelude.{◌==◌, not, is_some, is_none, if◌then◌else◌}
 use Rattle.std.specs.List.{AllByRecursion, AllZip}
 use Rattle.std.specs.Map.{keys_of}
 use Rattle.std.specs.Option.{option_map}
-use Rattle.std.proofs.lemmas.Bool.Decides.{nat_tests}
 use Rattle.std.proofs.lemmas.List.{append-nil, map-append}
 use Rattle.std.proofs.lemmas.Option.{same_Some}
 use Rattle.rtp_wire.specs.HeaderLaws.{WrittenIsReadAgain}
@@ -33,16 +32,10 @@ use Rattle.run_model.specs.Tables.{Table, lines, AreApart, AreIdle, DrainsAll, d
 use Rattle.session_turns.specs.Reading.{types_in, sealing_of, event_of, events_of}
 use Rattle.session_turns.specs.Mirrors.{TxMirrors, MirrorsRepairs, IsWide}
 use Rattle.session_turns.specs.Packets.{DrainsPackets}
+use Rattle.turn_drains.proofs.Basics.{suc_asked, numbers_in, no_numbers}
 use Rattle.turn_drains.proofs.Caps.{MirrorsMid, mid_from, mid_to, begin_mirrors}
-use Rattle.turn_drains.proofs.Streams.{numbers_in, MirrorsAgain, NoFront, Front, front_of}
+use Rattle.turn_drains.proofs.Streams.{MirrorsAgain, NoFront, Front, front_of}
 use Rattle.turn_drains.proofs.Tables.{Many, none, many_append, many_drains, T, S, given_in, MidAt, table_polls, keys_changed}
-
-suc_asked : (n : ℕ) → (suc n == 0) ≡ false
-suc_asked n = grind (arith, nat_tests)
-
-no_numbers : (rs : List Resend) → numbers_in rs ≡ [] → rs ≡ []
-no_numbers [] e = refl
-no_numbers (r ∷ rs) e = absurd cc
 
 no_resends : (rs : List Resend) → not (length rs == 0) ≡ false → rs ≡ []
 no_resends [] e = refl

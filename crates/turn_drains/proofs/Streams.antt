@@ -1,10 +1,9 @@
 -- One poll of a stream, as polls of the plain stream that it mirrors.
-use Rattle.std.proofs.Common.{◌≡◌, ◌⊎◌, inl, inr, ℕ, suc, ◌+◌, ◌/◌, ◌%◌, ◌<◌, ◌^◌, Bool, true, false, List, [], ◌∷◌, ◌++◌, length, map, Option, Some, None, refl, sym, ap, ◌∙◌, subst, arith, append_assoc}
+use Rattle.std.proofs.Common.{◌≡◌, ◌⊎◌, inl, inr, ℕ, ◌+◌, ◌/◌, ◌%◌, ◌<◌, ◌^◌, Bool, true, false, List, [], ◌∷◌, ◌++◌, length, map, Option, Some, None, refl, sym, ap, ◌∙◌, subst, arith, append_assoc}
 use Rattle.std.specs.Prelude.{◌==◌, ◌&&◌, not, is_some, unwrap_or, if◌then◌else◌}
 use Rattle.std.specs.List.{flat_map, AllByRecursion}
 use Rattle.std.specs.Int.{w16, to_be_bytes}
 use Rattle.std.specs.Option.{option_map}
-use Rattle.std.proofs.lemmas.Bool.Decides.{nat_tests}
 use Rattle.std.proofs.lemmas.Option.{same_Some}
 use Rattle.std.proofs.lemmas.List.{map-append}
 use Rattle.std.proofs.lemmas.Grind.{flat_map-append}
@@ -36,13 +35,7 @@ use Rattle.session_turns.specs.Mirrors.{IsGiven, IsKept, packet_at, sent_packet,
 use Rattle.turn_drains.proofs.Held.{Same, gone, holds, must_store, last_in}
 use Rattle.turn_drains.proofs.Caps.{MirrorsMid, sent_mirrors, resent_mirrors, read_once, met_mirrors}
 use Rattle.turn_drains.proofs.Wires.{IsRead, seal, event_given, bytes_given, event_is, seal_is, is_read}
-
-tested : (b : Bool) → (b ≡ true) ⊎ (b ≡ false)
-tested true = inl refl
-tested false = inr refl
-
-abbrev pub numbers_in : List Resend → List ℕ
-numbers_in rs = map (λ (r : Resend). r.seq_no) rs
+use Rattle.turn_drains.proofs.Basics.{tested, suc_asked, numbers_in, no_numbers}
 
 -- what a stream sends again, in the midst of a drain
 pub record MidRepairs (rows : List (ℕ × TypeRow)) (now : ℕ) (L : Outgoing) (t : TxRecord) (q : RepairsRecord) : Type 0 where
@@ -102,16 +95,9 @@ front_of now x t e = go t.queue refl
         let q : x.queue ≡ packet_at (Some now) w ∷ map (packet_at (Some now)) ws = e ∙ ap (map (packet_at (Some now))) is in
         inr (record { write = w; behind = ws; is = is; next = ap next_of q; rest = ap rest_of q })
 
-none_asked_of : (rs : List Resend) → [] ≡ numbers_in rs → rs ≡ []
-none_asked_of [] e = refl
-none_asked_of (r ∷ rs) e = absurd cc
-
 some_of : {X : Type 0} (o : Option X) → is_some o ≡ true → (x : X) × (o ≡ Some x)
 some_of None h = absurd cc
 some_of (Some x) h = (x, refl)
-
-suc_asked : (n : ℕ) → (suc n == 0) ≡ false
-suc_asked n = grind (arith, nat_tests)
 
 asked_of : {P : Type 0} (past : Past P) (rs : List Resend) (o : Option (P × List Resend)) (f : P × List Resend) → FirstHeld past rs o → o ≡ Some f → (length rs == 0) ≡ false
 asked_of past _ _ f none_held e = absurd cc
@@ -381,7 +367,7 @@ module _ (cipher : CipherMeaning) (own : SrtpState) (exts : ExtensionMap) (read_
 
           sent_cap : (q : RepairsRecord) → MidRepairs rows now L t q → MirrorsMid now L.cap (t.sent ++ (now, length w.payload) ∷ []) t.resent t.reading (cap_after now (after_first now (length w.payload) q.state))
           sent_cap q m =
-              let empty : q.state.resends ≡ [] = none_asked_of q.state.resends (sym (m.resends ∙ none)) in
+              let empty : q.state.resends ≡ [] = no_numbers q.state.resends (m.resends ∙ none) in
               subst (MirrorsMid now L.cap (t.sent ++ (now, length w.payload) ∷ []) t.resent t.reading) (sym (cap_none now (after_first now (length w.payload) q.state) empty))
               (sent_mirrors now L.cap t.sent t.resent t.reading (length w.payload) q.state.cap
               (subst (MirrorsMid now L.cap t.sent t.resent t.reading) (cap_none now q.state empty) m.cap))
