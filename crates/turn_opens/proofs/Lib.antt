@@ -3,3 +3,7 @@ pub mod Keyed
 pub mod Streams
 pub mod Records
 pub mod Changes
+pub mod Later
+pub mod Sealing
+pub mod Session
+pub mod Opening

@@ -24,10 +24,9 @@ Plain = Incoming × RxRecord
 pub record IsStrange (L M : Incoming) : Type 0 where
   pub strange : (k : ℕ) → concerns L k ≡ true → concerns M k ≡ false
 
--- its two SSRCs are not one, and none is 0
+-- its two SSRCs are not one
 pub record IsLine (L : Incoming) : Type 0 where
   pub apart : is_just L.ssrc L.rtx ≡ false
-  pub nonzero : concerns L 0 ≡ false
 
 abbrev pub AllStrangeIn : Incoming → List Plain → Type 0
 AllStrangeIn L [] = Unit {0}

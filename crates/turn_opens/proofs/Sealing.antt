@@ -1,0 +1,136 @@
+-- What opens in a session is a seal of the plain datagram that it opens to, and a seal opens.
+use Rattle.std.proofs.Common.{◌≡◌, ℕ, zero, suc, ◌+◌, ◌%◌, ◌<◌, ◌≤◌, List, [], ◌∷◌, ◌++◌, length, take, drop, get_or, Option, Some, None, refl, sym, ap, ◌∙◌, subst, append_assoc, arith}
+use Rattle.std.specs.Prelude.{slice_index, unwrap_or}
+use Rattle.std.specs.Int.{w16, from_be_bytes}
+use Rattle.std.specs.Option.{option_map}
+use Rattle.std.proofs.lemmas.List.{take-append-drop, length-take-le, take_at, drop_at}
+use Rattle.std.proofs.lemmas.Option.{cond_some}
+use Rattle.rtp_wire.specs.declared.extension.ExtensionMap.{ExtensionMap}
+use Rattle.rtp_wire.specs.declared.header.RtpHeader.{RtpHeader}
+use Rattle.rtp_wire.specs.Header.{has_header, fields_of, header_of, csrc_of}
+use Rattle.rtp_wire.specs.HeaderLaws.{ReadsOwnBytes}
+use Rattle.srtp_core.specs.Cipher.{CipherMeaning}
+use Rattle.srtp_core.specs.Contexts.{SrtpState}
+use Rattle.srtp_core.specs.Keys.{SessionKeys}
+use Rattle.srtp_core.specs.Seals.{sealed_rtp, OpensTo}
+use Rattle.srtp_core.specs.declared.profile.SrtpProfile.{SrtpProfile}
+use Rattle.srtp_core.specs.declared.profile.SrtpProfile.TheVariants.{Aes128CmSha1_80, AeadAes128Gcm, AeadAes256Gcm}
+use Rattle.run_model.specs.Events.{Plain}
+use Rattle.run_model.specs.Seals.{Sealing, IsSeal}
+use Rattle.session_turns.specs.Reading.{plain_of, read_of, reading, len_in, plain_in, no_plain, sealing_of}
+
+-- the number that a header states, of bytes, has 16 bits
+two_bytes : (l : List ℕ) → ((i : ℕ) → slice_index l i < 256) → from_be_bytes w16 l < 65536
+two_bytes l h = omega (arith, h 0, h 1)
+
+cut_bytes : (n : ℕ) (l : List ℕ) → ((i : ℕ) → get_or l i 0 < 256) → (i : ℕ) → get_or (take n l) i 0 < 256
+cut_bytes zero l h i = omega arith
+cut_bytes (suc n) [] h i = omega arith
+cut_bytes (suc n) (x ∷ l) h zero = h zero
+cut_bytes (suc n) (x ∷ l) h (suc i) = cut_bytes n l (λ j. h (suc j)) i
+
+left_bytes : (n : ℕ) (l : List ℕ) → ((i : ℕ) → get_or l i 0 < 256) → (i : ℕ) → get_or (drop n l) i 0 < 256
+left_bytes zero l h i = h i
+left_bytes (suc n) [] h i = omega arith
+left_bytes (suc n) (x ∷ l) h i = left_bytes n l (λ j. h (suc j)) i
+
+pub low_fits : (exts : ExtensionMap) (bytes : List ℕ) (h : RtpHeader) → ((i : ℕ) → slice_index bytes i < 256) → header_of exts bytes ≡ Some h → h.sequence_number < 65536
+unfolding header_of
+low_fits exts bytes h are e =
+    let is : fields_of exts bytes ≡ h = (cond_some (has_header bytes) (fields_of exts bytes) h e).1 in
+    subst (λ (g : RtpHeader). g.sequence_number < 65536) is (two_bytes (take 2 (drop 2 bytes)) (cut_bytes 2 (drop 2 bytes) (left_bytes 2 bytes are)))
+
+-- a seal begins with the header
+pub record BeginsWith (front bytes : List ℕ) : Type 0 where
+  pub rest : List ℕ
+  pub is : bytes ≡ front ++ rest
+
+in_three : (a b c : List ℕ) → BeginsWith a ((a ++ b) ++ c)
+in_three a b c = record { rest = b ++ c; is = append_assoc a b c }
+
+in_two : (a b : List ℕ) → BeginsWith a (a ++ b)
+in_two a b = record { rest = b; is = refl }
+
+seal_begins : (cipher : CipherMeaning) (profile : SrtpProfile) (keys : SessionKeys) (ssrc index n : ℕ) (plain : List ℕ)
+    → BeginsWith (take n plain) (sealed_rtp cipher profile keys ssrc index n plain)
+unfolding sealed_rtp
+seal_begins cipher Aes128CmSha1_80 keys ssrc index n plain = in_three (take n plain) _ _
+seal_begins cipher AeadAes128Gcm keys ssrc index n plain = in_two (take n plain) _
+seal_begins cipher AeadAes256Gcm keys ssrc index n plain = in_two (take n plain) _
+
+-- a header with what stands behind it
+abbrev pub plain_by : RtpHeader → List ℕ → Plain
+plain_by h payload = record { pt = h.payload_type; padded = h.has_padding; marker = h.marker; time = h.timestamp; csrc = csrc_of h; payload = payload }
+
+module _ (cipher : CipherMeaning) (exts : ExtensionMap) (other : SrtpState) (own : ReadsOwnBytes) (bytes : List ℕ) where
+  abbrev opens_to : RtpHeader → ℕ → List ℕ → Type 0
+  opens_to h n payload = OpensTo cipher other.profile other.keys h.ssrc n h.header_len bytes payload
+
+  module _ (h : RtpHeader) (payload : List ℕ) (reads : header_of exts bytes ≡ Some h) where
+    abbrev plain : List ℕ
+    plain = take h.header_len bytes ++ payload
+
+    again : header_of exts plain ≡ Some h
+    again = (own exts bytes payload h reads).0
+
+    behind : drop h.header_len plain ≡ payload
+    behind = drop_at (take h.header_len bytes) payload h.header_len (length-take-le h.header_len bytes (own exts bytes [] h reads).2)
+
+    len_is : len_in exts plain ≡ h.header_len
+    len_is = ap (λ (o : Option RtpHeader). unwrap_or (option_map (λ (g : RtpHeader). g.header_len) o) 0) again
+
+    pub plain_is : plain_in exts plain ≡ plain_by h payload
+    plain_is = ap (λ (o : Option RtpHeader). unwrap_or (option_map (λ (g : RtpHeader). plain_of g plain) o) no_plain) again ∙ ap (plain_by h) behind
+
+    pub is_seal : (n : ℕ) → h.sequence_number ≡ n % 65536 → opens_to h n payload → IsSeal (sealing_of cipher exts other) h.ssrc n (plain_by h payload) bytes
+    is_seal n low to = record {
+      plain = plain;
+      reads = ap (λ (o : Option RtpHeader). option_map (λ (g : RtpHeader). read_of g plain) o) again ∙ ap (λ (l : List ℕ). Some (h.ssrc, h.sequence_number, plain_by h l)) behind
+          ∙ ap (λ (m : ℕ). Some (h.ssrc, m, plain_by h payload)) low;
+      sealed = ap (λ (m : ℕ). sealed_rtp cipher other.profile other.keys h.ssrc n m plain) len_is ∙ to.seal;
+    }
+
+  -- what a seal opens to
+  pub record OpensSo (ssrc n : ℕ) (p : Plain) : Type 0 where
+    pub header : RtpHeader
+    pub payload : List ℕ
+    pub reads : header_of exts bytes ≡ Some header
+    pub source : header.ssrc ≡ ssrc
+    pub low : header.sequence_number ≡ n % 65536
+    pub is : plain_by header payload ≡ p
+    pub to : opens_to header n payload
+
+  from_reading : (ssrc low : ℕ) (p : Plain) (plain : List ℕ) (o : Option RtpHeader) → option_map (λ (g : RtpHeader). read_of g plain) o ≡ Some (ssrc, low, p)
+      → (h : RtpHeader) × (o ≡ Some h) × (h.ssrc ≡ ssrc) × (h.sequence_number ≡ low) × (plain_by h (drop h.header_len plain) ≡ p)
+  from_reading ssrc low p plain None e = absurd cc
+  from_reading ssrc low p plain (Some h) e =
+      let same : read_of h plain ≡ (ssrc, low, p) = cc in
+      (h, refl, ap (λ (t : ℕ × ℕ × Plain). t.0) same, ap (λ (t : ℕ × ℕ × Plain). t.1) same, ap (λ (t : ℕ × ℕ × Plain). t.2) same)
+
+  pub seal_opens : (ssrc n : ℕ) (p : Plain) → length bytes ≤ 2000 → IsSeal (sealing_of cipher exts other) ssrc n p bytes → OpensSo ssrc n p
+  seal_opens ssrc n p short is =
+      let found = from_reading ssrc (n % 65536) p is.plain (header_of exts is.plain) is.reads in
+      let h : RtpHeader = found.0 in
+      let long : h.header_len ≤ length is.plain = (own exts is.plain [] h found.1).2 in
+      let len : len_in exts is.plain ≡ h.header_len = ap (λ (o : Option RtpHeader). unwrap_or (option_map (λ (g : RtpHeader). g.header_len) o) 0) found.1 in
+      let sealed : sealed_rtp cipher other.profile other.keys ssrc n h.header_len is.plain ≡ bytes =
+      ap (λ (m : ℕ). sealed_rtp cipher other.profile other.keys ssrc n m is.plain) (sym len) ∙ is.sealed in
+      let begins = seal_begins cipher other.profile other.keys ssrc n h.header_len is.plain in
+      let whole : bytes ≡ take h.header_len is.plain ++ begins.rest = sym sealed ∙ begins.is in
+      let front : take h.header_len bytes ≡ take h.header_len is.plain =
+      ap (take h.header_len) whole ∙ take_at (take h.header_len is.plain) begins.rest h.header_len (length-take-le h.header_len is.plain long) in
+      let reads : header_of exts bytes ≡ Some h = ap (header_of exts) whole ∙ (own exts is.plain begins.rest h found.1).0 in
+      let same : take h.header_len bytes ++ drop h.header_len is.plain ≡ is.plain = ap (λ (l : List ℕ). l ++ drop h.header_len is.plain) front ∙ take-append-drop h.header_len is.plain in record {
+        header = h;
+        payload = drop h.header_len is.plain;
+        reads = reads;
+        source = found.2;
+        low = found.3;
+        is = found.4;
+        to = record {
+          within = short;
+          header = (own exts bytes [] h reads).2;
+          seal = ap (λ (l : List ℕ). sealed_rtp cipher other.profile other.keys h.ssrc n h.header_len l) same
+              ∙ ap (λ (m : ℕ). sealed_rtp cipher other.profile other.keys m n h.header_len is.plain) found.2 ∙ sealed;
+        };
+      }
