@@ -202,7 +202,7 @@ module _ {threshold : ℕ} {seen : List (ℕ × List ℕ)} {x : StreamRx} {s : I
       go true = with_number_some (taken (register s.1.seen_main s.1.numbers)) q
       go false = k.begun
 
-  same_state : (o : Option ℕ) → (with_packet (greatest_seen s.0.ssrc seen) o x).state ≡ x.state
+  pub same_state : (o : Option ℕ) → (with_packet (greatest_seen s.0.ssrc seen) o x).state ≡ x.state
   same_state None = refl
   same_state (Some n) = refl
 

@@ -7,3 +7,4 @@ pub mod Later
 pub mod Sealing
 pub mod Session
 pub mod Opening
+pub mod Turning
