@@ -1,9 +1,9 @@
 -- An RTP datagram that comes is a turn of the plain session.
-use Rattle.std.proofs.Common.{◌≡◌, ◌⊎◌, inl, inr, ℕ, ◌+◌, ◌*◌, ◌%◌, ◌^◌, ◌<◌, ◌≤◌, Bool, true, false, cond, List, [], ◌∷◌, map, drop, Option, Some, None, is_some, refl, sym, ap, ◌∙◌, subst, arith}
-use Rattle.std.specs.Prelude.{◌==◌, ◌||◌, if◌then◌else◌, option_and_then, slice_index, unwrap_or}
+use Rattle.std.proofs.Common.{◌≡◌, inl, inr, ℕ, ◌+◌, ◌*◌, ◌%◌, ◌^◌, ◌<◌, ◌≤◌, Bool, true, false, List, [], ◌∷◌, map, drop, Option, Some, None, is_some, refl, sym, ap, ◌∙◌, subst, arith}
+use Rattle.std.specs.Prelude.{◌==◌, ◌||◌, if◌then◌else◌, option_and_then, slice_index}
 use Rattle.std.specs.Option.{option_map_or}
 use Rattle.std.proofs.lemmas.Bool.{eq-eqb, ne_eqb, false≢true, or_left, or_right, cases_Bool, cases_eq}
-use Rattle.rtp_base.specs.declared.kind.Kind.TheVariants.{Rtp, Rtcp}
+use Rattle.rtp_base.specs.declared.kind.Kind.TheVariants.{Rtp}
 use Rattle.rtp_base.specs.Widen.{widen16}
 use Rattle.repair_core.specs.Fresh.{greatest_of, is_fresh}
 use Rattle.rtp_wire.specs.declared.header.RtpHeader.{RtpHeader}
@@ -19,30 +19,30 @@ use Rattle.stream_core.specs.StreamsRecord.{restored_on, restored_number_on}
 use Rattle.stream_core.specs.Tables.{value_under, place_of, change_place, change_at}
 use Rattle.session_core.specs.declared.datagram.Opened.{Opened as Opening}
 use Rattle.session_core.specs.Calls.{after_events}
-use Rattle.session_core.specs.Receiving.{number_of, packet_from, packet_after, packet_restored, rx_opened as real_opened, probes_opened, cut as cut_here, after_opened, after_repair, after_restoring, after_repaired, opening_of, Opens as OpensHere, OpensRepair as OpensRepairHere, Receives, opened as opened_so, repaired as repaired_so, stays as stays_so}
-use Rattle.session_core.specs.Repairs.{is_known, repaired_by, repair_accepted, original_number, restored_header}
+use Rattle.session_core.specs.Receiving.{packet_from, packet_after, packet_restored, rx_opened as real_opened, probes_opened, cut as cut_here, after_opened, after_repair, after_restoring, after_repaired, opening_of, Opens as OpensHere, OpensRepair as OpensRepairHere, Receives, opened as opened_so, repaired as repaired_so, stays as stays_so}
+use Rattle.session_core.specs.Repairs.{is_known, repair_accepted, original_number}
 use Rattle.session_core.specs.SessionRecord.{SessionRecord}
 use Rattle.media_model.specs.declared.entry.Side.{Side}
 use Rattle.media_model.specs.declared.entry.Packet.{Packet}
 use Rattle.media_model.specs.Sides.{peer_of}
-use Rattle.run_model.specs.Events.{Incoming, Types, Plain as Datagram, Event, got, yielded}
+use Rattle.run_model.specs.Events.{Incoming, Types, got, yielded}
 use Rattle.run_model.specs.Listing.{IsIn}
 use Rattle.run_model.specs.Sending.{is_just}
-use Rattle.run_model.specs.Receiving.{Lists, concerns, begun_taken, is_repair, low_of, behind_two, cut, with_tried, restored_by, restored, first_packet, restored_packet, repair_yields, yields, Opens}
-use Rattle.run_model.specs.RxPlay.{RxRecord, lists_in, rx_first, rx_tried, rx_restored, rx_opened}
+use Rattle.run_model.specs.Receiving.{concerns, begun_taken, floor_of, base_with, is_repair, low_of, behind_two, with_tried, restored_by, restored, first_packet, restored_packet, repair_yields, yields, Opens}
+use Rattle.run_model.specs.RxPlay.{RxRecord, lists_in, rx_first, rx_tried, rx_restored}
 use Rattle.run_model.specs.Whole.{Config, Session, probes, stays}
 use Rattle.session_turns.specs.Reading.{types_in, packet_told, yields_of, events_opened}
-use Rattle.session_turns.specs.Mirrors.{RxMirrors, RxStands, Mirrors, IsFit}
+use Rattle.session_turns.specs.Mirrors.{TxMirrors, RxMirrors, RxStands, Mirrors, IsFit}
 use Rattle.session_turns.specs.Laws.{TurnsTo, OpensTurn}
 use Rattle.turn_opens.proofs.Records.{low_again, where_fresh, fresh_where}
 use Rattle.turn_opens.proofs.Keyed.{place_changed, changed_again, value_changed}
 use Rattle.turn_opens.proofs.Changes.{restored_at, own_at, is_own_fresh, number_is, restored_is, restored_where, accepted_is, others_same, first_opened, repair_opened_as, original_opened, same_state}
-use Rattle.turn_opens.proofs.Later.{keys_there, told_all, told_record, tx_later, zip_weaker}
+use Rattle.turn_opens.proofs.Later.{keys_there, told_all, tx_later, zip_weaker}
 use Rattle.turn_opens.proofs.Sealing.{low_fits, plain_by}
-use Rattle.turn_opens.proofs.Session.{RxParts, repair_main, repair_rtx, repair_probes, repaired_here, number_here, zero_repaired, zero_number, main_repaired, main_number, rtx_repaired, rtx_number, away_repaired, away_number}
+use Rattle.turn_opens.proofs.Session.{RxParts, repair_main, repair_rtx, repair_probes, zero_repaired, zero_number, main_repaired, main_number, rtx_repaired, rtx_number, away_repaired, away_number}
 use Rattle.turn_opens.proofs.Opening.{parts, fits, no_zero, originals, Comes, first_opens, repair_opens, opened_to, in_none, none_some, nothing_opens}
 use Rattle.turn_opens.proofs.Turning.{made, moves, Made, turn_from, moved_to, streams_at, streams_first, rx_told}
-use Rattle.turn_opens.proofs.Streams.{Real, Plain, IsLine, AllAway, At, IsAt, in_at, at_stands, at_in, at_place, at_value, concerned, concerns_main, HasOne, find_one}
+use Rattle.turn_opens.proofs.Streams.{Real, Plain, IsLine, AllAway, IsAt, in_at, at_stands, at_place, at_value, concerned, concerns_main, find_one}
 
 -- what a repair carries
 
@@ -142,13 +142,16 @@ module _ (cipher : CipherMeaning) (C : Config) (side : Side) (r : SessionRecord)
     probe_yields : [] ≡ yields C.types p.head.0 (lists_in p.head.1) h.ssrc n (plain_by h payload)
     probe_yields =
         sym (ap (λ b. if b then repair_yields C.types p.head.0 (with_tried p.head.0 (lists_in p.head.1) h.ssrc n) (restored p.head.0 (lists_in p.head.1) h.ssrc n (plain_by h payload)) (plain_by h payload)
-            else (if p.head.0.ssrc == 0 then [] else first_packet p.head.0 n (plain_by h payload) ∷ [])) head_first
+        else (if p.head.0.ssrc == 0 then [] else first_packet p.head.0 n (plain_by h payload) ∷ [])) head_first
         ∙ ap (λ b. if b then [] else first_packet p.head.0 n (plain_by h payload) ∷ []) (eq-eqb p.head.0.ssrc 0 head_ssrc))
 
     probe_moved : (p.head.0, rx_first (time + C.threshold) n p.head.1) ≡ moves cipher C side r a fit mirrors own bytes time le h n payload p.head
     probe_moved =
-        sym (ap (λ b. (p.head.0, if b then rx_restored (restored p.head.0 (lists_in p.head.1) h.ssrc n (plain_by h payload)) (rx_tried p.head.0 (time + C.threshold) h.ssrc n p.head.1)
-            else rx_first (time + C.threshold) n p.head.1)) head_first)
+        sym (ap (λ b. (
+          p.head.0,
+          if b then rx_restored (restored p.head.0 (lists_in p.head.1) h.ssrc n (plain_by h payload)) (rx_tried p.head.0 (time + C.threshold) h.ssrc n p.head.1)
+              else rx_first (time + C.threshold) n p.head.1,
+        )) head_first)
         ∙ moved_to cipher C side r a fit mirrors own bytes time le h n payload p p.head head_of
 
     probe_opened : Turn (after_opened time h n payload r) h n payload
@@ -258,13 +261,16 @@ module _ (cipher : CipherMeaning) (C : Config) (side : Side) (r : SessionRecord)
       first_yields =
           ap (λ (j : ℕ). packet_under j ∷ []) is
           ∙ sym (ap (λ b. if b then repair_yields C.types s.0 (with_tried s.0 (lists_in s.1) h.ssrc n) (restored s.0 (lists_in s.1) h.ssrc n (plain_by h payload)) (plain_by h payload)
-              else (if s.0.ssrc == 0 then [] else first_packet s.0 n (plain_by h payload) ∷ [])) main_first
+          else (if s.0.ssrc == 0 then [] else first_packet s.0 n (plain_by h payload) ∷ [])) main_first
           ∙ ap (λ b. if b then [] else first_packet s.0 n (plain_by h payload) ∷ []) (ne_eqb s.0.ssrc 0 main_nonzero))
 
       first_moved : (s.0, rx_first (time + C.threshold) n s.1) ≡ moves cipher C side r a fit mirrors own bytes time le h n payload s
       first_moved =
-          sym (ap (λ b. (s.0, if b then rx_restored (restored s.0 (lists_in s.1) h.ssrc n (plain_by h payload)) (rx_tried s.0 (time + C.threshold) h.ssrc n s.1)
-              else rx_first (time + C.threshold) n s.1)) main_first)
+          sym (ap (λ b. (
+            s.0,
+            if b then rx_restored (restored s.0 (lists_in s.1) h.ssrc n (plain_by h payload)) (rx_tried s.0 (time + C.threshold) h.ssrc n s.1)
+                else rx_first (time + C.threshold) n s.1,
+          )) main_first)
           ∙ moved_to cipher C side r a fit mirrors own bytes time le h n payload p s of
 
       first_turn : Turn (after_opened time h n payload r) h n payload
@@ -284,5 +290,261 @@ module _ (cipher : CipherMeaning) (C : Config) (side : Side) (r : SessionRecord)
             told = ap (map yielded) first_yields;
           })
 
+    -- a repair
+    module _ (repair : is_repair C.types s.0 h.ssrc (plain_by h payload) ≡ true) (known : is_known r.state.types h.payload_type ≡ true) (o : OpensRepairHere cipher r bytes h s.0.ssrc n payload) where
+      own_number : (is_own_fresh s.0 (lists_in s.1) h.ssrc h.has_padding (own_at s.0 (lists_in s.1) h.ssrc h.sequence_number) ≡ true) × (own_at s.0 (lists_in s.1) h.ssrc h.sequence_number ≡ n)
+      own_number =
+          fresh_where (is_own_fresh s.0 (lists_in s.1) h.ssrc h.has_padding (own_at s.0 (lists_in s.1) h.ssrc h.sequence_number)) (own_at s.0 (lists_in s.1) h.ssrc h.sequence_number) n
+          (sym (ap (option_and_then (repair_accepted r.seen h)) valued ∙ accepted_is stands.mirrors h.ssrc spot.line of h refl) ∙ o.accepts)
+
+      repair_comes : Comes cipher C side r a fit mirrors own bytes h n payload
+      repair_comes = record {
+        reads = o.reads;
+        to = opened_to cipher C side r a fit mirrors own bytes h n payload o.opens;
+        unpads = o.unpads;
+        low = widened_low h n (base_with (floor_of s.0 (lists_in s.1) h.ssrc) s.1.tried) o.reads (sym own_number.1);
+      }
+
+      opens_repair : Opens C.types s.0 (C.seals (peer_of side)) (lists_in s.1) bytes h.ssrc n (plain_by h payload)
+      opens_repair =
+          repair_opens cipher C side r a fit mirrors own bytes s h n payload repair_comes of repair known
+          (sym own_number.1) (subst (λ (m : ℕ). is_own_fresh s.0 (lists_in s.1) h.ssrc h.has_padding m ≡ true) own_number.1 own_number.0)
+
+      -- the stream once the repair's own number is known
+      abbrev tried : RxRecord
+      tried = rx_tried s.0 (time + C.threshold) h.ssrc n s.1
+
+      abbrev came : StreamRx → StreamRx
+      came x = repair_came (seen_of h.ssrc r.seen) time n x
+
+      abbrev seen_own : List (ℕ × List ℕ)
+      seen_own = saw h.ssrc n r.seen
+
+      own_mirrors : RxMirrors C.threshold seen_own (came spot.real.1) (s.0, tried)
+      own_mirrors = repair_opened_as stands.mirrors h.ssrc time n early fit.threshold spot.line of
+
+      abbrev carried : List ℕ
+      carried = cut_here h payload
+
+      abbrev restores : Option ℕ → SessionRecord
+      restores low = after_restoring time h s.0.ssrc low (drop 2 carried) (after_repair time h s.0.ssrc n r)
+
+      -- how the plain stream moves, where the repair carries so much
+      repair_moved : (low : Option ℕ) → low_of carried ≡ low → (s.0, rx_restored (restored_by (lists_in tried) low) tried) ≡ moves cipher C side r a fit mirrors own bytes time le h n payload s
+      repair_moved low is =
+          sym (ap (λ b. (s.0, if b then rx_restored (restored s.0 (lists_in s.1) h.ssrc n (plain_by h payload)) tried else rx_first (time + C.threshold) n s.1)) repair
+          ∙ ap (λ (x : Option ℕ). (s.0, rx_restored (restored_by (lists_in tried) x) tried)) is)
+          ∙ moved_to cipher C side r a fit mirrors own bytes time le h n payload p s of
+
+      repair_told : (low : Option ℕ) → low_of carried ≡ low
+          → repair_yields C.types s.0 (lists_in tried) (restored_by (lists_in tried) low) (plain_by h payload) ≡ yields C.types s.0 (lists_in s.1) h.ssrc n (plain_by h payload)
+      repair_told low is =
+          sym (ap (λ b. if b then repair_yields C.types s.0 (with_tried s.0 (lists_in s.1) h.ssrc n) (restored s.0 (lists_in s.1) h.ssrc n (plain_by h payload)) (plain_by h payload)
+          else (if s.0.ssrc == 0 then [] else first_packet s.0 n (plain_by h payload) ∷ [])) repair
+          ∙ ap (λ (x : Option ℕ). repair_yields C.types s.0 (lists_in tried) (restored_by (lists_in tried) x) (plain_by h payload)) is)
+
+      keeps_own : (x : StreamRx) (t : Plain) → RxMirrors C.threshold r.seen x t → ((k : ℕ) → concerns s.0 k ≡ true → concerns t.0 k ≡ false) → RxMirrors C.threshold seen_own x t
+      keeps_own x t k strange = others_same k h.ssrc n (strange h.ssrc of)
+
+      nothing_restored : low_of carried ≡ None → Made cipher C side r a fit mirrors own bytes time le h n payload s (restores None)
+      nothing_restored is = record {
+        packet = r.state.packet;
+        rx = change_place came r.rx spot.place;
+        first = r.probes;
+        seen = seen_own;
+        is = λ j. made r r.state.packet (changed came j) r.probes seen_own;
+        streams = streams_at cipher C side r a fit mirrors own bytes time le h n payload p r.state.packet seen_own came tried spot.at of away keeps_own (repair_moved None is) own_mirrors refl;
+        told = ap yields_of mirrors.packet ∙ ap (map yielded) (repair_told None is);
+      }
+
+      -- the number that is restored, where the repair carries so much
+      module _ (low : ℕ) (is : low_of carried ≡ Some low) where
+        abbrev q : ℕ
+        q = restored_at (lists_in tried) low
+
+        abbrev fresh : Bool
+        fresh = is_fresh (begun_taken (lists_in tried)) q
+
+        abbrev original : StreamRx → StreamRx
+        original x = after_restored (seen_of s.0.ssrc seen_own) low x
+
+        abbrev rx_own : List Real
+        rx_own = change_at s.0.ssrc came r.rx
+
+        value_own : value_under s.0.ssrc rx_own ≡ Some (came spot.real.1)
+        value_own = ap (value_under s.0.ssrc) (changed came) ∙ value_changed s.0.ssrc came r.rx spot.place spot.real.1 placed valued
+
+        place_own : place_of s.0.ssrc rx_own ≡ Some spot.place
+        place_own = ap (place_of s.0.ssrc) (changed came) ∙ place_changed s.0.ssrc came r.rx spot.place ∙ placed
+
+        rx_again : change_at s.0.ssrc original rx_own ≡ change_place (λ x. original (came x)) r.rx spot.place
+        rx_again =
+            ap (λ o. option_map_or (change_place original rx_own) o rx_own) place_own
+            ∙ ap (λ l. change_place original l spot.place) (changed came)
+            ∙ changed_again came original r.rx spot.place
+
+        fresh_restored : restored_on (seen_of s.0.ssrc seen_own) rx_own s.0.ssrc low ≡ where_fresh fresh q
+        fresh_restored = ap (option_and_then (λ x. restored_fresh (seen_of s.0.ssrc seen_own) x low)) value_own ∙ restored_where own_mirrors low
+
+        number_restored : restored_number_on (seen_of s.0.ssrc seen_own) rx_own s.0.ssrc low ≡ Some q
+        number_restored = ap (option_and_then (λ x. Some (restored_for (seen_of s.0.ssrc seen_own) x low))) value_own ∙ ap Some (restored_is own_mirrors low)
+
+        seen_again : option_map_or (λ m. saw s.0.ssrc m seen_own) (restored_number_on (seen_of s.0.ssrc seen_own) rx_own s.0.ssrc low) seen_own ≡ saw s.0.ssrc q seen_own
+        seen_again = ap (λ o. option_map_or (λ m. saw s.0.ssrc m seen_own) o seen_own) number_restored
+
+        abbrev packet_with : Option ℕ → Option RtpPacket
+        packet_with o = packet_restored r.state.types time h s.0.ssrc (drop 2 carried) o None
+
+        packet_again : packet_restored r.state.types time h s.0.ssrc (drop 2 carried) (restored_on (seen_of s.0.ssrc seen_own) rx_own s.0.ssrc low) r.state.packet ≡ packet_with (where_fresh fresh q)
+        packet_again =
+            ap (λ (b : Option RtpPacket). packet_restored r.state.types time h s.0.ssrc (drop 2 carried) (restored_on (seen_of s.0.ssrc seen_own) rx_own s.0.ssrc low) b) mirrors.packet
+            ∙ ap packet_with fresh_restored
+
+        abbrev packet_typed : Types → List ℕ → Packet
+        packet_typed T l = record { ssrc = s.0.ssrc; number = q; pt = T.primary_of h.payload_type; rtp_time = h.timestamp; marker = h.marker; csrc = csrc_of h; payload = l }
+
+        told_again : (b : Bool) → yields_of (packet_with (where_fresh b q)) ≡ map yielded (if b then restored_packet C.types s.0 q (plain_by h payload) ∷ [] else [])
+        told_again true =
+            ap (λ (l : List ℕ). yielded (packet_typed (types_in r.state.types) l) ∷ []) (behind_same carried)
+            ∙ ap (λ (T : Types). yielded (packet_typed T (behind_two carried)) ∷ []) (sym mirrors.types)
+        told_again false = refl
+
+        keeps_again : (x : StreamRx) (t : Plain) → RxMirrors C.threshold r.seen x t → ((k : ℕ) → concerns s.0 k ≡ true → concerns t.0 k ≡ false)
+            → RxMirrors C.threshold (saw s.0.ssrc q seen_own) x t
+        keeps_again x t k strange = others_same (keeps_own x t k strange) s.0.ssrc q (strange s.0.ssrc (concerns_main s.0))
+
+        original_restored : Made cipher C side r a fit mirrors own bytes time le h n payload s (restores (Some low))
+        original_restored = record {
+          packet = packet_with (where_fresh fresh q);
+          rx = change_place (λ x. original (came x)) r.rx spot.place;
+          first = r.probes;
+          seen = saw s.0.ssrc q seen_own;
+          is = λ j. made r (packet_again j) (rx_again j) r.probes (seen_again j);
+          streams = streams_at cipher C side r a fit mirrors own bytes time le h n payload p (packet_with (where_fresh fresh q)) (saw s.0.ssrc q seen_own) (λ x. original (came x))
+              (rx_restored (Some q) tried) spot.at of away keeps_again (repair_moved (Some low) is) (original_opened own_mirrors low spot.line)
+              (ap (λ t. t.trip) (same_state own_mirrors (restored_fresh (seen_of s.0.ssrc seen_own) (came spot.real.1) low)));
+          told = told_again fresh ∙ ap (map yielded) (repair_told (Some low) is);
+        }
+
+      restored_all : (low : Option ℕ) → low_of carried ≡ low → Made cipher C side r a fit mirrors own bytes time le h n payload s (restores low)
+      restored_all None is = nothing_restored is
+      restored_all (Some low) is = original_restored low is
+
+      repair_turn : Turn (after_repaired time h s.0.ssrc n payload r) h n payload
+      repair_turn =
+          turn_from cipher C side r a fit mirrors own bytes time le h n payload s in_table repair_comes opens_repair
+          (subst (Made cipher C side r a fit mirrors own bytes time le h n payload s) (sym (ap restores (low_same carried))) (restored_all (low_of carried) refl))
+
+    -- of which stream a repair is
+    pub record IsOf (original : ℕ) : Type 0 where
+      pub repair : is_repair C.types s.0 h.ssrc (plain_by h payload) ≡ true
+      pub known : is_known r.state.types h.payload_type ≡ true
+      pub same : s.0.ssrc ≡ original
+
+    where_some : (b : Bool) (m k : ℕ) → (if b then Some m else None) ≡ Some k → (b ≡ true) × (m ≡ k)
+    where_some b m k e = fresh_where b m k e
+
+    is_of : (original : ℕ) → OpensRepairHere cipher r bytes h original n payload → IsOf original
+    is_of original o =
+        elim (concerned s.0 h.ssrc of) [
+          | inl is ↦
+              let found = where_some (is_some (primary_type_of r.state.types h.payload_type)) h.ssrc original
+              (sym (main_repaired r h nonzero C.threshold a.rx.trip p.rest p.others (originals cipher C side r a fit mirrors own bytes) spot.at is) ∙ o.repairs) in record {
+                repair = ap (λ (T : Types). is_repair T s.0 h.ssrc (plain_by h payload)) mirrors.types
+                    ∙ repair_main r.state.types s.0 h.ssrc (plain_by h payload) spot.line is nonzero ∙ found.0;
+                known = or_right (is_some (place_of h.payload_type r.state.types)) (is_some (primary_type_of r.state.types h.payload_type)) found.0;
+                same = sym is ∙ found.1;
+              }
+          | inr is ↦
+              let found = where_some (is_known r.state.types h.payload_type) s.0.ssrc original
+              (sym (rtx_repaired r h nonzero C.threshold a.rx.trip p.rest p.others (originals cipher C side r a fit mirrors own bytes) spot.at spot.line is) ∙ o.repairs) in record {
+                repair = repair_rtx C.types s.0 h.ssrc (plain_by h payload) is;
+                known = found.0;
+                same = found.1;
+              }
+        ]
+
+    repairs_turn : (original : ℕ) → OpensRepairHere cipher r bytes h original n payload → Turn (after_repaired time h original n payload r) h n payload
+    repairs_turn original o =
+        let so = is_of original o in
+        subst (λ (k : ℕ). OpensRepairHere cipher r bytes h k n payload → Turn (after_repaired time h k n payload r) h n payload) so.same (repair_turn so.repair so.known) o
+
+    firsts_turn : OpensHere cipher r bytes h n payload → Turn (after_opened time h n payload r) h n payload
+    firsts_turn o =
+        elim (concerned s.0 h.ssrc of) [
+          | inl is ↦ first_turn o is
+          | inr is ↦ absurd (none_some n (sym (rtx_number r h nonzero C.threshold a.rx.trip p.rest p.others (originals cipher C side r a fit mirrors own bytes) spot.at spot.line is) ∙ o.accepts))
+        ]
+
+  -- all that opens
+
+  opened_turn : (h : RtpHeader) (n : ℕ) (payload : List ℕ) → OpensHere cipher r bytes h n payload → Turn (after_opened time h n payload r) h n payload
+  opened_turn h n payload o =
+      elim (cases_eq h.ssrc 0) [
+        | inl zero ↦ probe_opened h n payload o zero
+        | inr other ↦ elim (find_one h.ssrc p.rest) [
+          | inl found ↦ firsts_turn h n payload found.one found.is_in found.of o
+          | inr none ↦ absurd (none_some n (sym (away_number r h other C.threshold a.rx.trip p.rest p.others (originals cipher C side r a fit mirrors own bytes) none) ∙ o.accepts))
+        ]
+      ]
+
+  repaired_turn : (h : RtpHeader) (original n : ℕ) (payload : List ℕ) → OpensRepairHere cipher r bytes h original n payload → Turn (after_repaired time h original n payload r) h n payload
+  repaired_turn h original n payload o =
+      elim (cases_eq h.ssrc 0) [
+        | inl zero ↦ absurd (none_some original (sym (zero_repaired r h zero) ∙ o.repairs))
+        | inr other ↦ elim (find_one h.ssrc p.rest) [
+          | inl found ↦ repairs_turn h n payload found.one found.is_in found.of original o
+          | inr none ↦ absurd (none_some original (sym (away_repaired r h other C.threshold a.rx.trip p.rest p.others (originals cipher C side r a fit mirrors own bytes) none) ∙ o.repairs))
+        ]
+      ]
+
+  -- nothing opens
+
+  stays_turn : ((h : RtpHeader) (n : ℕ) (payload : List ℕ) → OpensHere cipher r bytes h n payload → ⊥)
+      → ((h : RtpHeader) (original n : ℕ) (payload : List ℕ) → OpensRepairHere cipher r bytes h original n payload → ⊥)
+      → TurnsTo cipher C side r a (after_events r) (got time Rtp bytes ∷ [])
+  stays_turn no_first no_repair =
+      subst (λ (x : SessionRecord). TurnsTo cipher C side r a x (got time Rtp bytes ∷ [])) (sym (told_all r (keys_there r.state mirrors.seals mirrors.opens))) (record {
+        session = record { tx = a.tx; rx = record (a.rx) { now = time }; rtcp = a.rtcp };
+        turn = stays time Rtp bytes le (λ e. nothing_opens cipher C side r a fit mirrors own bytes no_first no_repair) (λ e index items is. absurd (cc e));
+        mirrors = record {
+          own = mirrors.own;
+          other = mirrors.other;
+          seals = mirrors.seals;
+          opens = mirrors.opens;
+          own_seals = mirrors.own_seals;
+          other_seals = mirrors.other_seals;
+          own_reports = mirrors.own_reports;
+          other_reports = mirrors.other_reports;
+          index = mirrors.index;
+          bounded = mirrors.bounded;
+          types = mirrors.types;
+          trip = mirrors.trip;
+          owns = mirrors.owns;
+          outgoing = mirrors.outgoing;
+          incoming = mirrors.incoming;
+          tx =
+              zip_weaker (TxMirrors r.state.types r.state.medias a.rx.now None r.repairs) (TxMirrors r.state.types r.state.medias time None r.repairs)
+              (tx_later r.state.types a.rx.now time le r.state.medias None r.repairs) r.state.tx a.tx mirrors.tx;
+          rx = rx_told C.threshold a.rx.trip r a.rx.table mirrors.rx;
+          originals = mirrors.originals;
+          last_round = mirrors.last_round;
+          target = mirrors.target;
+          feedback = mirrors.feedback;
+          released = mirrors.released;
+          application = refl;
+          packet = refl;
+        };
+        types = refl;
+        exts = refl;
+        runs = refl;
+      })
+
+  pub turns_so : (after : SessionRecord) (o : Option Opening) → Receives cipher r bytes time after o
+      → TurnsTo cipher C side r a (after_events after) (got time Rtp bytes ∷ events_opened r.state.transport.exts o after.state.packet)
+  turns_so _ _ (opened_so h n payload o) = opened_turn h n payload o
+  turns_so _ _ (repaired_so h original n payload o) = repaired_turn h original n payload o
+  turns_so _ _ (stays_so no_first no_repair) = stays_turn no_first no_repair
+
 pub opens_turn : ReadsOwnBytes → OpensTurn
-opens_turn own cipher C side r after a time bytes o fit h le early are receives = ?
+opens_turn own cipher C side r after a time bytes o fit h le early are receives = turns_so cipher C side r a fit h own bytes time le early are after o receives
