@@ -1,12 +1,11 @@
 -- An incoming stream, and the plain one that it mirrors, as a datagram of it opens.
-use Rattle.std.proofs.Common.{◌≡◌, ◌⊎◌, inl, inr, ℕ, ◌+◌, ◌-◌, ◌*◌, ◌%◌, ◌^◌, ◌<◌, ◌≤◌, Bool, true, false, cond, List, [], ◌∷◌, ◌++◌, Option, Some, None, refl, sym, ap, ◌∙◌, subst, arith}
+use Rattle.std.proofs.Common.{◌≡◌, ◌⊎◌, inl, inr, ℕ, ◌+◌, ◌-◌, ◌^◌, ◌≤◌, Bool, true, false, List, [], ◌∷◌, ◌++◌, Option, Some, None, refl, sym, ap, ◌∙◌, subst}
 use Rattle.std.specs.Prelude.{◌==◌, min, unwrap_or, if◌then◌else◌}
-use Rattle.std.specs.Option.{option_map, option_map_or}
-use Rattle.std.proofs.lemmas.Bool.{eqb-true, eq-eqb, ne_eqb, false≢true, or_parts, cases_Bool, cases_eq}
+use Rattle.std.proofs.lemmas.Bool.{eq-eqb, ne_eqb, false≢true, or_parts, cases_eq}
 use Rattle.rtp_base.specs.Widen.{widen16}
-use Rattle.rtp_base.specs.Window.{greatest, is_fresh_rtx, is_fresh_after}
+use Rattle.rtp_base.specs.Window.{is_fresh_rtx, is_fresh_after}
 use Rattle.repair_core.specs.Fresh.{greatest_of, is_fresh}
-use Rattle.repair_core.specs.Rounds.{Heard, started_at, came, taken}
+use Rattle.repair_core.specs.Rounds.{started_at, came, taken}
 use Rattle.rtx_core.specs.Repairs.{is_fresh_repair, repair_opened}
 use Rattle.rtp_wire.specs.declared.header.RtpHeader.{RtpHeader}
 use Rattle.stream_core.specs.RxRecord.{RxState, RxRecord as StreamRx, heard, taken_of, number_with, fresh_number, opened_as}
@@ -19,7 +18,7 @@ use Rattle.run_model.specs.Sending.{is_just}
 use Rattle.run_model.specs.Receiving.{Lists, concerns, seen_of, begun_taken, floor_with, floor_of, base_with}
 use Rattle.run_model.specs.RxPlay.{RxRecord, lists_in, register, rx_first, rx_tried, rx_restored}
 use Rattle.session_turns.specs.Mirrors.{MirrorsSeen, MirrorsPast, rtx_seen, HasBegun, RxMirrors}
-use Rattle.turn_opens.proofs.Records.{seen_greatest, unseen_same, saw_main, saw_other, saw_rtx, saw_rtx_other, heard_is, register_takes, with_number_some, base_same, fresh_same, past_opened, pause_is, where_fresh, fresh_where}
+use Rattle.turn_opens.proofs.Records.{seen_greatest, unseen_same, saw_main, saw_other, saw_rtx, saw_rtx_other, heard_is, register_takes, with_number_some, base_same, fresh_same, past_opened, pause_is, where_fresh}
 use Rattle.turn_opens.proofs.Streams.{IsLine, concerned, not_main}
 
 -- the number that a repair restores
@@ -97,7 +96,7 @@ module _ {threshold : ℕ} {seen : List (ℕ × List ℕ)} {x : StreamRx} {s : I
         ≡ where_fresh (is_own_fresh s.0 (lists_in s.1) m h.has_padding (own_at s.0 (lists_in s.1) m h.sequence_number)) (own_at s.0 (lists_in s.1) m h.sequence_number)
     accepted_is h is =
         ap (λ (j : ℕ). accept h.has_padding (is_unseen j (own_number (greatest_seen j seen) x h.sequence_number) seen)
-            (is_fresh_repair (greatest_seen j seen) x.repairs (own_number (greatest_seen j seen) x h.sequence_number)) (own_number (greatest_seen j seen) x h.sequence_number)) is
+        (is_fresh_repair (greatest_seen j seen) x.repairs (own_number (greatest_seen j seen) x h.sequence_number)) (own_number (greatest_seen j seen) x h.sequence_number)) is
         ∙ ap (λ n. accept h.has_padding (is_unseen m n seen) (is_fresh_repair (greatest_seen m seen) x.repairs n) n) (own_is h.sequence_number)
         ∙ ap (λ b. accept h.has_padding (is_unseen m (own_at s.0 (lists_in s.1) m h.sequence_number) seen) b (own_at s.0 (lists_in s.1) m h.sequence_number)) (own_fresh (own_at s.0 (lists_in s.1) m h.sequence_number))
         ∙ ap (λ b. accept h.has_padding b (is_fresh_after (floor_of s.0 (lists_in s.1) m) s.1.tried (own_at s.0 (lists_in s.1) m h.sequence_number)) (own_at s.0 (lists_in s.1) m h.sequence_number))
@@ -191,6 +190,7 @@ module _ {threshold : ℕ} {seen : List (ℕ × List ℕ)} {x : StreamRx} {s : I
     where
       q : ℕ
       q = restored_at (lists_in s.1) low
+
       go : (b : Bool) → (with_packet (greatest_seen s.0.ssrc seen) (where_fresh b q) x).numbers ≡ (if b then Some (came (register s.1.seen_main s.1.numbers) q) else s.1.numbers)
       go true = ap (λ h. Some (came h q)) heard_same
       go false = k.numbers

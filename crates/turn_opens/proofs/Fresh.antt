@@ -1,10 +1,10 @@
 -- Lists of numbers after which the same numbers are fresh.
-use Rattle.std.proofs.Common.{◌≡◌, ◌⊎◌, inl, inr, ℕ, ◌+◌, ◌-◌, ◌<◌, ◌≤◌, Bool, true, false, cond, ltb, List, [], ◌∷◌, ◌++◌, nat_eq, Option, Some, None, refl, sym, ap, ◌∙◌, subst, arith}
+use Rattle.std.proofs.Common.{◌≡◌, ◌⊎◌, inl, inr, ℕ, ◌+◌, ◌-◌, ◌<◌, ◌≤◌, Bool, true, false, cond, List, [], ◌∷◌, ◌++◌, nat_eq, Option, Some, None, refl, sym, ap, ◌∙◌, subst, arith}
 use Rattle.std.specs.Prelude.{◌&&◌, ◌||◌, not, nat_lt, max}
 use Rattle.std.specs.List.{list_any}
-use Rattle.std.proofs.lemmas.Bool.{eqb-true, eq-eqb, ltb-true, ltb-false, lt-ltb, le-ltb, false≢true, or_cases, or_parts, or_from, or_left, or_right, and_parts, and_from, not-true, not_from_false, cases_Bool, cases_lt}
-use Rattle.rtp_base.specs.Window.{greatest, is_fresh_rtx, is_fresh_after, with_fresh, greatest_after}
-use Rattle.repair_core.specs.Fresh.{greatest as greatest_number, greatest_of}
+use Rattle.std.proofs.lemmas.Bool.{eqb-true, ltb-true, ltb-false, lt-ltb, false≢true, or_cases, or_parts, or_from, or_left, or_right, and_parts, and_from, not-true, not_from_false, cases_Bool, cases_lt}
+use Rattle.rtp_base.specs.Window.{greatest, is_fresh_rtx, is_fresh_after, with_fresh}
+use Rattle.repair_core.specs.Fresh.{greatest as greatest_number}
 use Rattle.session_turns.specs.Mirrors.{SameNumbers}
 
 -- the greatest number is the same in both readings

@@ -8,3 +8,4 @@ pub mod Sealing
 pub mod Session
 pub mod Opening
 pub mod Turning
+pub mod Turns

@@ -1,10 +1,9 @@
 -- What opens in a session opens on a plain stream, and what opens on a plain stream opens in the session.
-use Rattle.std.proofs.Common.{◌≡◌, ◌⊎◌, inl, inr, ℕ, ◌+◌, ◌%◌, ◌<◌, ◌≤◌, Bool, true, false, cond, List, [], ◌∷◌, length, map, Option, Some, None, is_some, refl, sym, ap, ◌∙◌, subst, arith}
-use Rattle.std.specs.Prelude.{◌==◌, ◌||◌, if◌then◌else◌, option_and_then, slice_index}
-use Rattle.std.specs.List.{AllZip, flat_map}
-use Rattle.std.proofs.lemmas.Bool.{eq-eqb, ne_eqb, false≢true, or_cases, or_left, or_right, cases_Bool, cases_eq}
-use Rattle.rtp_base.specs.Widen.{widen16}
-use Rattle.repair_core.specs.Fresh.{greatest_of, is_fresh}
+use Rattle.std.proofs.Common.{◌≡◌, inl, inr, ℕ, ◌%◌, Bool, true, false, List, [], ◌∷◌, map, Option, Some, None, is_some, refl, sym, ap, ◌∙◌, subst}
+use Rattle.std.specs.Prelude.{◌==◌, ◌||◌, if◌then◌else◌, option_and_then}
+use Rattle.std.specs.List.{flat_map}
+use Rattle.std.proofs.lemmas.Bool.{eq-eqb, ne_eqb, false≢true, or_left, or_right, cases_Bool}
+use Rattle.repair_core.specs.Fresh.{is_fresh}
 use Rattle.rtp_wire.specs.declared.header.RtpHeader.{RtpHeader}
 use Rattle.rtp_wire.specs.Header.{header_of}
 use Rattle.rtp_wire.specs.HeaderLaws.{ReadsOwnBytes}
@@ -12,27 +11,27 @@ use Rattle.srtp_core.specs.Cipher.{CipherMeaning}
 use Rattle.srtp_core.specs.Contexts.{SrtpState}
 use Rattle.srtp_core.specs.Seals.{OpensTo}
 use Rattle.stream_core.specs.Repairing.{primary_type_of}
-use Rattle.stream_core.specs.RxRecord.{RxRecord as StreamRx, fresh_number}
+use Rattle.stream_core.specs.RxRecord.{fresh_number}
 use Rattle.stream_core.specs.Seen.{seen_of}
-use Rattle.stream_core.specs.Tables.{value_under, place_of}
-use Rattle.session_core.specs.Receiving.{is_claimed, number_of, Unpads, OpensIn, Opens as OpensHere, OpensRepair as OpensRepairHere}
-use Rattle.session_core.specs.Repairs.{is_known, repaired_by, repair_accepted}
+use Rattle.stream_core.specs.Tables.{place_of}
+use Rattle.session_core.specs.Receiving.{Unpads, OpensIn, Opens as OpensHere, OpensRepair as OpensRepairHere}
+use Rattle.session_core.specs.Repairs.{is_known, repair_accepted}
 use Rattle.session_core.specs.SessionRecord.{SessionRecord}
 use Rattle.media_model.specs.declared.entry.Side.{Side}
 use Rattle.media_model.specs.Sides.{peer_of}
-use Rattle.run_model.specs.Events.{Outgoing, Incoming, Types, Plain as Datagram}
+use Rattle.run_model.specs.Events.{Incoming, Types, Plain as Datagram}
 use Rattle.run_model.specs.Listing.{IsIn}
 use Rattle.run_model.specs.Seals.{Sealing, IsSeal}
-use Rattle.run_model.specs.Receiving.{Lists, concerns, begun_taken, is_repair, widened, is_fresh_number, Opens}
+use Rattle.run_model.specs.Receiving.{concerns, begun_taken, is_repair, Opens}
 use Rattle.run_model.specs.RxPlay.{lists_in}
 use Rattle.run_model.specs.Whole.{Config, Session, incoming_of, probes}
 use Rattle.session_turns.specs.Reading.{types_in, sealing_of}
 use Rattle.session_turns.specs.Mirrors.{original_in, RxMirrors, RxStands, Mirrors, IsFit}
-use Rattle.turn_opens.proofs.Records.{low_again, where_fresh, fresh_where}
+use Rattle.turn_opens.proofs.Records.{where_fresh}
 use Rattle.turn_opens.proofs.Changes.{restored_at, own_at, is_own_fresh, number_is, accepted_is}
-use Rattle.turn_opens.proofs.Sealing.{low_fits, plain_by, is_seal, OpensSo, seal_opens}
-use Rattle.turn_opens.proofs.Session.{RxParts, parts_of, lines_of, fit_of, away_zero, repair_main, repair_rtx, repair_probes, repaired_here, number_here, zero_repaired, zero_number, main_repaired, main_number, rtx_repaired, rtx_number, away_repaired, away_number}
-use Rattle.turn_opens.proofs.Streams.{Plain, IsLine, AreFit, AllAway, At, IsAt, in_at, at_stands, at_in, at_value, originals_of, concerned, concerns_main, concerns_rtx, HasOne, find_one}
+use Rattle.turn_opens.proofs.Sealing.{plain_by, is_seal, seal_opens}
+use Rattle.turn_opens.proofs.Session.{RxParts, parts_of, lines_of, fit_of, away_zero, repair_main, repair_rtx, repair_probes, repaired_here, zero_repaired, zero_number, main_repaired, main_number, rtx_repaired}
+use Rattle.turn_opens.proofs.Streams.{Plain, AreFit, AllAway, IsAt, in_at, at_stands, at_in, at_value, originals_of, concerned, concerns_main}
 
 -- numbers that are as the plain stream has them
 

@@ -1,12 +1,12 @@
 -- What is known of the numbers of an incoming stream, and of the plain one that it mirrors.
-use Rattle.std.proofs.Common.{◌≡◌, ◌⊎◌, inl, inr, ℕ, ◌+◌, ◌-◌, ◌*◌, ◌%◌, ◌/◌, ◌^◌, ◌<◌, ◌≤◌, Bool, true, false, cond, List, [], ◌∷◌, ◌++◌, Option, Some, None, refl, sym, ap, ◌∙◌, subst, arith}
-use Rattle.std.specs.Prelude.{◌==◌, max, min, unwrap_or, if◌then◌else◌}
+use Rattle.std.proofs.Common.{◌≡◌, inl, inr, ℕ, ◌+◌, ◌-◌, ◌*◌, ◌%◌, ◌/◌, ◌^◌, ◌<◌, ◌≤◌, Bool, true, false, cond, List, [], ◌∷◌, ◌++◌, Option, Some, None, refl, sym, ap, ◌∙◌, subst, arith}
+use Rattle.std.specs.Prelude.{max, min, unwrap_or, if◌then◌else◌}
 use Rattle.std.specs.Option.{option_map, option_map_or}
-use Rattle.std.proofs.lemmas.Bool.{eqb-true, eq-eqb, ne_eqb, false≢true, or_cases, or_parts, or_from, or_left, or_right, cases_Bool, cases_eq}
+use Rattle.std.proofs.lemmas.Bool.{eq-eqb, false≢true, cases_Bool}
 use Rattle.rtp_base.specs.Widen.{widen16, rollover}
 use Rattle.rtp_base.specs.Window.{greatest, is_fresh_rtx, is_fresh_after, with_fresh, greatest_after}
 use Rattle.repair_core.specs.Fresh.{greatest_of, is_fresh, with_number}
-use Rattle.repair_core.specs.Rounds.{Heard, started_at, came, taken}
+use Rattle.repair_core.specs.Rounds.{Heard, started_at, taken}
 use Rattle.rtx_core.specs.Repairs.{RepairPast, repair_near, is_fresh_repair, repair_opened}
 use Rattle.stream_core.specs.Seen.{saw}
 use Rattle.stream_core.specs.Tables.{value_under}

@@ -1,5 +1,5 @@
 -- What opens in a session is a seal of the plain datagram that it opens to, and a seal opens.
-use Rattle.std.proofs.Common.{◌≡◌, ℕ, zero, suc, ◌+◌, ◌%◌, ◌<◌, ◌≤◌, List, [], ◌∷◌, ◌++◌, length, take, drop, get_or, Option, Some, None, refl, sym, ap, ◌∙◌, subst, append_assoc, arith}
+use Rattle.std.proofs.Common.{◌≡◌, ℕ, zero, suc, ◌%◌, ◌<◌, ◌≤◌, List, [], ◌∷◌, ◌++◌, length, take, drop, get_or, Option, Some, None, refl, sym, ap, ◌∙◌, subst, append_assoc, arith}
 use Rattle.std.specs.Prelude.{slice_index, unwrap_or}
 use Rattle.std.specs.Int.{w16, from_be_bytes}
 use Rattle.std.specs.Option.{option_map}
@@ -16,8 +16,8 @@ use Rattle.srtp_core.specs.Seals.{sealed_rtp, OpensTo}
 use Rattle.srtp_core.specs.declared.profile.SrtpProfile.{SrtpProfile}
 use Rattle.srtp_core.specs.declared.profile.SrtpProfile.TheVariants.{Aes128CmSha1_80, AeadAes128Gcm, AeadAes256Gcm}
 use Rattle.run_model.specs.Events.{Plain}
-use Rattle.run_model.specs.Seals.{Sealing, IsSeal}
-use Rattle.session_turns.specs.Reading.{plain_of, read_of, reading, len_in, plain_in, no_plain, sealing_of}
+use Rattle.run_model.specs.Seals.{IsSeal}
+use Rattle.session_turns.specs.Reading.{plain_of, read_of, len_in, plain_in, no_plain, sealing_of}
 
 -- the number that a header states, of bytes, has 16 bits
 two_bytes : (l : List ℕ) → ((i : ℕ) → slice_index l i < 256) → from_be_bytes w16 l < 65536

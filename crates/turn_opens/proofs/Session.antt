@@ -1,9 +1,9 @@
 -- Which plain stream a datagram of a session is of, and how the session takes it.
-use Rattle.std.proofs.Common.{◌≡◌, ◌⊎◌, inl, inr, ℕ, ◌<◌, Bool, true, false, cond, List, [], ◌∷◌, map, slice_get, Option, Some, None, is_some, refl, sym, ap, ◌∙◌, subst, arith}
+use Rattle.std.proofs.Common.{◌≡◌, ℕ, ◌<◌, Bool, true, false, List, [], ◌∷◌, map, slice_get, Option, Some, None, is_some, refl, sym, ap, ◌∙◌, arith}
 use Rattle.std.specs.Prelude.{◌==◌, ◌||◌, ◌&&◌, not, if◌then◌else◌, option_and_then}
 use Rattle.std.specs.List.{AllByRecursion, AllZip}
 use Rattle.std.specs.Map.{values_of}
-use Rattle.std.proofs.lemmas.Bool.{eq-eqb, ne_eqb, false≢true, or_from, or_left, or_right, cases_Bool}
+use Rattle.std.proofs.lemmas.Bool.{eq-eqb, ne_eqb, or_from, or_left}
 use Rattle.rtp_wire.specs.declared.header.RtpHeader.{RtpHeader}
 use Rattle.stream_core.specs.declared.payload_types.TypeRow.{TypeRow}
 use Rattle.stream_core.specs.Repairing.{primary_type_of}
@@ -16,11 +16,11 @@ use Rattle.session_core.specs.SessionRecord.{SessionRecord}
 use Rattle.run_model.specs.Events.{Outgoing, Incoming, Types, Plain as Datagram}
 use Rattle.run_model.specs.Sending.{is_just}
 use Rattle.run_model.specs.Receiving.{concerns, is_repair}
-use Rattle.run_model.specs.Tables.{has, AllStrange, AreApart}
+use Rattle.run_model.specs.Tables.{AllStrange, AreApart}
 use Rattle.run_model.specs.Whole.{incoming_of, probes}
 use Rattle.session_turns.specs.Reading.{types_in}
 use Rattle.session_turns.specs.Mirrors.{RxMirrors, RxStands, RxMirror, rx_mirror, IsWide}
-use Rattle.turn_opens.proofs.Streams.{Real, Plain, IsStrange, IsLine, AllStrangeIn, AreFit, AllAway, At, originals_of, at_place, at_value, at_repairs, at_original, away_place, away_original}
+use Rattle.turn_opens.proofs.Streams.{Real, Plain, IsLine, AllStrangeIn, AreFit, AllAway, At, originals_of, at_place, at_value, at_repairs, at_original, away_place, away_original}
 
 -- the stream of the probes and the others
 pub record RxParts (threshold : ℕ) (trip : Option ℕ) (r : SessionRecord) (table : List Plain) : Type 0 where

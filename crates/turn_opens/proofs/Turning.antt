@@ -1,7 +1,6 @@
 -- A session to which a datagram opened mirrors the plain session to which it opened.
-use Rattle.std.proofs.Common.{◌≡◌, ◌⊎◌, inl, inr, ℕ, ◌+◌, ◌%◌, ◌^◌, ◌<◌, ◌≤◌, Bool, true, false, cond, List, [], ◌∷◌, map, drop, Option, Some, None, is_some, refl, sym, ap, ◌∙◌, subst, arith}
-use Rattle.std.specs.Prelude.{◌==◌, if◌then◌else◌}
-use Rattle.std.specs.List.{AllZip}
+use Rattle.std.proofs.Common.{◌≡◌, ℕ, ◌+◌, ◌≤◌, true, false, List, [], ◌∷◌, map, Option, Some, None, refl, sym, ap, ◌∙◌, subst}
+use Rattle.std.specs.Prelude.{if◌then◌else◌}
 use Rattle.rtp_base.specs.declared.kind.Kind.TheVariants.{Rtp}
 use Rattle.rtp_wire.specs.declared.header.RtpHeader.{RtpHeader}
 use Rattle.rtp_wire.specs.HeaderLaws.{ReadsOwnBytes}
@@ -9,25 +8,25 @@ use Rattle.srtp_core.specs.Cipher.{CipherMeaning}
 use Rattle.stream_core.specs.declared.packet.RtpPacket.{RtpPacket}
 use Rattle.stream_core.specs.Pauses.{on_record, told as stream_told}
 use Rattle.stream_core.specs.RxRecord.{RxRecord as StreamRx}
-use Rattle.stream_core.specs.Tables.{change_place, each}
+use Rattle.stream_core.specs.Tables.{change_place}
 use Rattle.session_core.specs.Calls.{after_events}
 use Rattle.session_core.specs.Receiving.{opening_of}
 use Rattle.session_core.specs.SessionRecord.{SessionRecord}
 use Rattle.media_model.specs.declared.entry.Side.{Side}
 use Rattle.media_model.specs.Sides.{peer_of}
-use Rattle.run_model.specs.Events.{Incoming, Plain as Datagram, Event, got, opened, yielded}
+use Rattle.run_model.specs.Events.{Incoming, Event, got, opened, yielded}
 use Rattle.run_model.specs.Listing.{IsIn}
 use Rattle.run_model.specs.Receiving.{concerns, yields, Opens}
 use Rattle.run_model.specs.RxPlay.{RxRecord, lists_in, rx_opened}
 use Rattle.run_model.specs.Asking.{opened_in}
 use Rattle.run_model.specs.Whole.{Config, Session, setup_of, probes, opens}
-use Rattle.session_turns.specs.Reading.{plain_in, yields_of, events_opened}
+use Rattle.session_turns.specs.Reading.{yields_of, events_opened}
 use Rattle.session_turns.specs.Mirrors.{TxMirrors, RxMirrors, RxStands, RxMirror, rx_mirror, Mirrors, IsFit}
 use Rattle.session_turns.specs.Laws.{TurnsTo}
 use Rattle.turn_opens.proofs.Later.{tx_later, keys_there, told_record, told_all, zip_weaker}
 use Rattle.turn_opens.proofs.Sealing.{plain_by, plain_is}
 use Rattle.turn_opens.proofs.Session.{RxParts}
-use Rattle.turn_opens.proofs.Opening.{peer, Comes}
+use Rattle.turn_opens.proofs.Opening.{Comes}
 use Rattle.turn_opens.proofs.Streams.{Real, Plain, IsStrange, AllAway, At, zip_changed, zip_away, zip_each}
 
 -- what is told changes nothing that is mirrored
@@ -120,10 +119,10 @@ module _ (cipher : CipherMeaning) (C : Config) (side : Side) (r : SessionRecord)
     turn_from {after} i c o m =
         let whole : SessionRecord = made r m.packet m.rx m.first m.seen in
         let events : events_opened r.state.transport.exts (Some (opening_of bytes h n payload)) m.packet
-            ≡ opened h.ssrc n (plain_by h payload) ∷ map yielded (yields C.types s.0 (lists_in s.1) h.ssrc n (plain_by h payload)) =
+        ≡ opened h.ssrc n (plain_by h payload) ∷ map yielded (yields C.types s.0 (lists_in s.1) h.ssrc n (plain_by h payload)) =
         (λ j. opened h.ssrc n (plain_is cipher r.state.transport.exts mirrors.other own bytes h payload c.reads j) ∷ m.told j) in
         let turn : TurnsTo cipher C side r a (told_record whole)
-            (got time Rtp bytes ∷ opened h.ssrc n (plain_by h payload) ∷ map yielded (yields C.types s.0 (lists_in s.1) h.ssrc n (plain_by h payload))) = record {
+        (got time Rtp bytes ∷ opened h.ssrc n (plain_by h payload) ∷ map yielded (yields C.types s.0 (lists_in s.1) h.ssrc n (plain_by h payload))) = record {
           session = left;
           turn = opens time bytes h.ssrc n (plain_by h payload) s le i o;
           mirrors = left_mirrors m;
