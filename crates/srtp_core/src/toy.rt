@@ -165,6 +165,7 @@ impl Simulated for ToyCipher {
         xor_words(&first, input, output)
     }
 
+    #[inline(always)]
     fn tag(&self, key: &[u8], iv: &[u8; 12], aad1: &[u8], aad2: &[u8], text: &[u8]) -> [u8; 16] {
         let second = aad1.len() % 16;
         let third = (second + aad2.len() % 16) % 16;
