@@ -160,6 +160,7 @@ impl BlockCipher for ToyCipher {
 impl Simulated for ToyCipher {
     ghost tag_of = { toy_tag };
 
+    #[inline(always)]
     fn xor_text(&self, key: &[u8], iv: &[u8; 12], input: &[u8], output: &mut [u8]) {
         let first = self.block(key, &nonce_and_word(iv, 0));
         xor_words(&first, input, output)
