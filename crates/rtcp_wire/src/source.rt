@@ -203,7 +203,8 @@ fn read_items(alloc: Global, bytes: &[u8]) -> Result<Option<(Listed<SdesItem>, &
     ensures found { IfOk result (λ r. option_map (λ x. (x.0, x.1.now)) r ≡ first_31 (sdes_items_of bytes.now)) }
     ensures within { IfOk result (λ r. IfSome r (λ x. length x.1.now ≤ length bytes.now)) }
 {
-    let mut values = Listed::new(alloc);
+    // Most chunks have one item, a name.
+    let mut values = Listed::from_vec(Vec::with_capacity(alloc, 1)?);
     let mut rest = bytes;
     for _ in 0..bytes.len() {
         if rest.is_empty() {
@@ -250,7 +251,7 @@ pub(crate) fn read_descriptions(
 ) -> Result<Option<Descriptions>, AllocError>
     ensures { IfOk result (λ r. r ≡ descriptions_of count body.now) }
 {
-    let mut reports = Listed::new(alloc);
+    let mut reports = Listed::from_vec(Vec::with_capacity(alloc, usize::from(count))?);
     let mut rest = body;
     for _ in 0..count {
         match read_sdes(alloc, rest) {

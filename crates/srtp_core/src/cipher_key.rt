@@ -54,6 +54,7 @@ impl<C: SrtpCipher> CipherKey<C> {
         }
     }
 
+    #[inline(always)]
     pub(crate) fn seal(
         &self,
         cipher: C,
@@ -72,6 +73,7 @@ impl<C: SrtpCipher> CipherKey<C> {
         }
     }
 
+    #[inline(always)]
     pub(crate) fn open(
         &self,
         cipher: C,

@@ -44,6 +44,7 @@ pub struct SimulatedKey<const N: usize> {
     bytes: [u8; N],
 }
 
+#[inline(always)]
 #[tactic(auto, unfolding(crate::specs::Simulated::sealed_text))]
 fn seal<S: Simulated>(
     cipher: S,
@@ -63,6 +64,7 @@ fn seal<S: Simulated>(
     end.copy_from_slice(&cipher.tag(key, iv, aad1, aad2, input));
 }
 
+#[inline(always)]
 fn open<S: Simulated>(
     cipher: S,
     key: &[u8],
@@ -119,6 +121,7 @@ impl<S: Simulated> SrtpCipher for S {
         xor_stream(*self, &key.bytes, &counter, input, output)
     }
 
+    #[inline(always)]
     fn seal_128(
         &self,
         key: &SimulatedKey<16>,
@@ -131,6 +134,7 @@ impl<S: Simulated> SrtpCipher for S {
         seal(*self, &key.bytes, iv, aad1, aad2, input, output)
     }
 
+    #[inline(always)]
     fn open_128(
         &self,
         key: &SimulatedKey<16>,
@@ -143,6 +147,7 @@ impl<S: Simulated> SrtpCipher for S {
         open(*self, &key.bytes, iv, aad1, aad2, input, output)
     }
 
+    #[inline(always)]
     fn seal_256(
         &self,
         key: &SimulatedKey<32>,
@@ -155,6 +160,7 @@ impl<S: Simulated> SrtpCipher for S {
         seal(*self, &key.bytes, iv, aad1, aad2, input, output)
     }
 
+    #[inline(always)]
     fn open_256(
         &self,
         key: &SimulatedKey<32>,

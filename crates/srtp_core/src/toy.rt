@@ -80,9 +80,9 @@ fn mix_blocks(tag: &mut [u8; 16], blocks: &[u8])
     *tag = lanes.to_array();
 }
 
-/// Like `mix_bytes`, by blocks where a block begins in column 0.
-#[inline(always)]
-fn mix(tag: &mut [u8; 16], at: usize, bytes: &[u8])
+/// Like `mix_bytes`, of bytes that may go past the last column: by blocks where a block begins in
+/// column 0.
+fn mix_long(tag: &mut [u8; 16], at: usize, bytes: &[u8])
     requires { at < 16 }
     ensures long { length tag.new ≡ 16 }
     ensures columns { (j : ℕ) → j < 16 → slice_index tag.new j
@@ -93,6 +93,22 @@ fn mix(tag: &mut [u8; 16], at: usize, bytes: &[u8])
     mix_bytes(tag, at, first);
     mix_blocks(tag, blocks);
     mix_bytes(tag, 0, last);
+}
+
+/// XORs each byte into its column, the first one into column `at`, and after the last column into
+/// the first one again.
+#[inline(always)]
+fn mix(tag: &mut [u8; 16], at: usize, bytes: &[u8])
+    requires { at < 16 }
+    ensures long { length tag.new ≡ 16 }
+    ensures columns { (j : ℕ) → j < 16 → slice_index tag.new j
+        ≡ bit_xor (slice_index tag.old j) (column j at bytes.now) }
+{
+    if bytes.len() <= 16 - at {
+        mix_bytes(tag, at, bytes);
+    } else {
+        mix_long(tag, at, bytes);
+    }
 }
 
 /// A word as the last 4 of 16 bytes.
@@ -144,11 +160,13 @@ impl BlockCipher for ToyCipher {
 impl Simulated for ToyCipher {
     ghost tag_of = { toy_tag };
 
+    #[inline(always)]
     fn xor_text(&self, key: &[u8], iv: &[u8; 12], input: &[u8], output: &mut [u8]) {
         let first = self.block(key, &nonce_and_word(iv, 0));
         xor_words(&first, input, output)
     }
 
+    #[inline(always)]
     fn tag(&self, key: &[u8], iv: &[u8; 12], aad1: &[u8], aad2: &[u8], text: &[u8]) -> [u8; 16] {
         let second = aad1.len() % 16;
         let third = (second + aad2.len() % 16) % 16;

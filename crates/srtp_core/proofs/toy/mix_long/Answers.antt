@@ -2,7 +2,7 @@ use Rattle.std.proofs.Common.{◌≡◌, ◌+◌, ◌*◌, ◌/◌, ◌%◌, ◌
 use Rattle.std.specs.Prelude.{slice_index}
 use Rattle.srtp_core.specs.Toy.{column}
 use Rattle.srtp_core.proofs.Columns.{column-parts, three_parts}
-use Rattle.srtp_core.proofs.toy.mix.Goals as goal
+use Rattle.srtp_core.proofs.toy.mix_long.Goals as goal
 
 pub returns-clause-columns : goal.returns-clause-columns
 returns-clause-columns c j h =
