@@ -5,7 +5,6 @@ use Rattle.std.specs.Map.{keys_of, values_of}
 use Rattle.std.specs.Option.{option_map}
 use Rattle.resend_core.specs.ResendStore.{Past}
 use Rattle.rtx_core.specs.Resends.{ResendView, ResendState}
-use Rattle.stream_core.specs.Pauses.{first_where}
 use Rattle.stream_core.specs.Queue.{next_of}
 use Rattle.stream_core.specs.Repairing.{SentPacket, RepairsView, RepairsRecord, RepairsStandFor, has_asked, state_in}
 use Rattle.stream_core.specs.StreamsRecord.{is_asked, is_ready}

@@ -1,8 +1,7 @@
 -- What a poll leaves where it fails, by the feedback that is due.
-use Rattle.std.proofs.Common.{◌≡◌, ℕ, Bool, true, false, List, [], ◌∷◌, Option, Ok, Err, length, refl, sym, ap, subst, ◌∙◌}
-use Rattle.std.specs.Prelude.{◌==◌, ◌&&◌, if◌then◌else◌, Result, OnOk, OnErr, is_err}
+use Rattle.std.proofs.Common.{◌≡◌, ℕ, Bool, true, false, List, [], ◌∷◌, Ok, Err, length, refl, ap}
+use Rattle.std.specs.Prelude.{◌==◌, if◌then◌else◌, Result, OnOk, OnErr, is_err}
 use Rattle.rtcp_wire.specs.declared.packet.Rtcp.{Rtcp}
-use Rattle.session_core.specs.declared.error.RtcError.{RtcError}
 use Rattle.session_core.specs.declared.error.RtcError.TheVariants.{Memory}
 use Rattle.session_core.specs.Feedback.{AreLeft, items_kept, items_lost, due_of, some_due, exhausts}
 use Rattle.session_core.specs.Draining.{PollFails, compound_kept, compound_lost}

@@ -1,5 +1,5 @@
 -- A stream that is due is polled: the session after that, by its record.
-use Rattle.std.proofs.Common.{◌≡◌, ℕ, Bool, true, false, List, [], ◌∷◌, Option, Some, None, Ok, Err, is_some, not, refl, sym, ap, subst, ◌∙◌}
+use Rattle.std.proofs.Common.{◌≡◌, ℕ, Bool, true, false, List, [], Option, Some, None, Ok, Err, is_some, not, refl, sym, ap, subst, ◌∙◌}
 use Rattle.std.specs.Prelude.{if◌then◌else◌, ◌==◌, ◌&&◌, ◌||◌, is_none, ◌↔◌, IsTrue, IfSome, IfNone, IfOk, IfErr, OnOk, OnErr, IsErrOf, Result}
 use Rattle.std.specs.Option.{option_map}
 use Rattle.rtcp_wire.specs.declared.packet.Rtcp.{Rtcp}
@@ -13,11 +13,10 @@ use Rattle.resend_core.specs.ResendStore.{Past}
 use Rattle.stream_core.specs.declared.stream_tx.PacketReceipt.{PacketReceipt}
 use Rattle.stream_core.specs.declared.transport.Transport.{Transport}
 use Rattle.stream_core.specs.RxRecord.{RxView, StandsFor as RxStandsFor}
-use Rattle.stream_core.specs.Repairing.{SentPacket, RepairsView, RepairsStandFor}
+use Rattle.stream_core.specs.Repairing.{SentPacket}
 use Rattle.stream_core.specs.Sealing.{after_packet}
 use Rattle.stream_core.specs.StreamsRecord.{StreamsView, StreamsRecord, PollsAt, StandsFor as StreamsStand}
 use Rattle.stream_core.specs.Tables.{Along}
-use Rattle.stream_core.specs.TxRecord.{TxRecord}
 use Rattle.session_core.specs.SessionRecord.{SessionState, SessionView, SessionRecord, StandsFor, streams_in}
 use Rattle.rtx_core.specs.declared.resend.ResendError.{ResendError}
 use Rattle.rtx_core.specs.declared.resend.ResendError.TheVariants.{Memory as ResendMemory, Exhausted}

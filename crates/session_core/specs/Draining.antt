@@ -1,5 +1,5 @@
 -- What a session gave before an error ended a drain, and what it leaves then.
-use Rattle.std.specs.Prelude.{◌≡◌, ℕ, true, false, List, [], ◌++◌, Option, Some, None}
+use Rattle.std.specs.Prelude.{◌≡◌, ℕ, true, false, List, [], ◌++◌, Some, None}
 use Rattle.srtp_core.specs.Cipher.{CipherMeaning}
 use Rattle.srtp_core.specs.declared.counter.Counter.TheVariants.{Rtcp}
 use Rattle.stream_core.specs.declared.stream_tx.PacketReceipt.{PacketReceipt}

@@ -3,6 +3,7 @@ use media_base::{Bytes, Instant};
 use rtcp_wire::AppSpecificFeedback;
 use rtp_base::{Kind, SeqNo, Ssrc};
 use stream_core::{RtpPacket, StreamPaused};
+use thiserror::Error;
 
 /// What a datagram opened to.
 #[derive(Debug, PartialEq, Eq, Drop)]
@@ -55,7 +56,8 @@ pub struct Drained {
 }
 
 /// A drain that did not come to its end.
-#[derive(Debug, Drop)]
+#[derive(Debug, Drop, Error)]
+#[error("{error}")]
 pub struct DrainFault {
     /// Why it did not.
     pub error: RtcError,

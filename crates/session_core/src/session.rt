@@ -206,6 +206,7 @@ impl<C: SrtpCipher, W: GapWindow, S: ResendStore<Sent>> Session<C, W, S> {
         ensures unchanged { IsErrOf result KeyLength → self.new ≡ self.old }
         ensures still { IsErrOf result Stopped → self.new ≡ self.old }
         ensures memory { IsErrOf result Memory → self.new ≡ record self.old { state = record self.old.state { stopped = true } } }
+        ensures only { self.old.state.stopped ≡ false → length material.now ≡ material_len profile → IfErr result (λ e. e ≡ Memory) }
     {
         if self.stopped {
             return Err(RtcError::Stopped);

@@ -1,5 +1,5 @@
 -- The stream at a place is polled.
-use Rattle.std.proofs.Common.{◌≡◌, ℕ, ◌+◌, ◌<◌, Bool, true, false, List, [], ◌∷◌, Option, Some, None, Ok, Err, is_some, length, slice_get, refl, sym, ap, subst, ◌∙◌, arith, option_and_then}
+use Rattle.std.proofs.Common.{◌≡◌, ℕ, ◌+◌, ◌<◌, true, List, [], ◌∷◌, Option, Some, None, Ok, Err, is_some, length, slice_get, refl, sym, ap, subst, ◌∙◌, arith, option_and_then}
 use Rattle.std.specs.Prelude.{◌||◌, Result, IfOk, OnOk}
 use Rattle.std.specs.Map.{values_of}
 use Rattle.std.specs.Option.{option_map}

@@ -1,15 +1,14 @@
 -- What streams send again, as a table of which one value changes.
-use Rattle.std.proofs.Common.{◌≡◌, ℕ, zero, suc, ◌+◌, ◌<◌, Bool, true, false, List, [], ◌∷◌, ◌++◌, Option, Some, None, Ok, Err, is_some, not, length, take, slice_get, nat_eq, position, refl, sym, ap, subst, ◌∙◌, arith, option_and_then}
+use Rattle.std.proofs.Common.{◌≡◌, ℕ, zero, suc, ◌+◌, Bool, true, false, List, [], ◌∷◌, ◌++◌, Option, Some, None, Ok, Err, is_some, not, length, take, slice_get, nat_eq, position, refl, sym, ap, subst, ◌∙◌, arith, option_and_then}
 use Rattle.std.specs.Prelude.{◌==◌, Result, OnErr, if◌then◌else◌}
 use Rattle.std.specs.Map.{keys_of, values_of}
-use Rattle.std.specs.Option.{option_map}
 use Rattle.indexmap.specs.IndexMap.{set_value_at}
 use Rattle.resend_core.specs.ResendStore.{Past, last_position}
 use Rattle.rtx_core.specs.Resends.{ResendView, Asks, asked_for, numbers_of, created}
 use Rattle.rtx_core.specs.declared.resend.Resend.{Resend}
 use Rattle.rtp_base.specs.declared.nack_entry.NackEntry.{NackEntry}
 use Rattle.repair_core.specs.Rounds.{Heard}
-use Rattle.stream_core.specs.Repairing.{SentPacket, RepairsView, RepairsRecord, RepairsStandFor, has_asked, state_in, repairs_of, size_of_sent}
+use Rattle.stream_core.specs.Repairing.{SentPacket, RepairsView, RepairsRecord, RepairsStandFor, has_asked, state_in, size_of_sent}
 use Rattle.stream_core.specs.StreamsRecord.{StreamsView, StreamsRecord, StandsFor, Asked, no_repairs, asked, with_stream_tx, is_asked, all_waiting, all_asked}
 use Rattle.stream_core.specs.Tables.{place_of, value_under, with_new, change_place, change_at, Along}
 use Rattle.stream_core.specs.TxRecord.{TxRecord, declared}

@@ -1,14 +1,13 @@
 -- What a stream sends again (RFC 4588), and what a poll of it gives.
-use Rattle.std.specs.Prelude.{◌≡◌, ℕ, ◌+◌, ◌%◌, ◌<◌, ◌^◌, ◌==◌, ◌||◌, not, Bool, false, if◌then◌else◌, is_some, Option, Some, None, option_and_then, List, [], ◌∷◌, ◌++◌, length, drop, slice_get, slice_index_or}
+use Rattle.std.specs.Prelude.{◌≡◌, ℕ, ◌%◌, ◌<◌, ◌^◌, ◌==◌, not, Bool, false, if◌then◌else◌, Option, Some, None, option_and_then, List, [], ◌∷◌, ◌++◌, length, slice_index_or}
 use Rattle.std.specs.Int.{w16, to_be_bytes}
-use Rattle.std.specs.Map.{values_of}
-use Rattle.std.specs.Option.{option_map, option_map_or}
+use Rattle.std.specs.Option.{option_map}
 use Rattle.resend_core.specs.ResendStore.{Past}
 use Rattle.resend_core.specs.declared.rtx_cache.RtxCache.{RtxCache}
 use Rattle.rtp_wire.specs.declared.header.RtpHeader.{RtpHeader}
 use Rattle.rtp_wire.specs.declared.values.ExtensionValues.{ExtensionValues}
 use Rattle.rtp_wire.specs.Header.{header_bytes}
-use Rattle.rtx_core.specs.Resends.{ResendState, ResendView, ResendRecord, StandsFor, Caches, after_first, after_next, IsNext, created}
+use Rattle.rtx_core.specs.Resends.{ResendState, ResendView, ResendRecord, StandsFor, Caches, after_first, after_next, IsNext}
 use Rattle.stream_core.specs.declared.packet.RtpPacket.{RtpPacket}
 use Rattle.stream_core.specs.declared.payload_types.TypeRow.{TypeRow}
 use Rattle.stream_core.specs.declared.stream_tx.PacketReceipt.{PacketReceipt}

@@ -1,5 +1,5 @@
 -- The numbers under which datagrams opened, for each SSRC.
-use Rattle.std.specs.Prelude.{◌≡◌, ◌<◌, ◌^◌, ℕ, Bool, true, List, [], ◌∷◌, ◌++◌, Option, None}
+use Rattle.std.specs.Prelude.{◌<◌, ◌^◌, ℕ, Bool, true, List, [], ◌∷◌, ◌++◌, Option, None}
 use Rattle.std.specs.Option.{option_map, option_map_or}
 use Rattle.rtp_base.specs.declared.window.SeqNoWindow.{SeqNoWindow}
 use Rattle.rtp_base.specs.Window.{greatest, is_fresh_rtx, with_fresh, StandsFor as WindowStandsFor}

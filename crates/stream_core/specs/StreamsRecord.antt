@@ -1,11 +1,11 @@
 -- The streams of a session as a record, and what each call makes of it.
-use Rattle.std.specs.Prelude.{◌≡◌, ◌<◌, ℕ, ◌+◌, ◌||◌, Bool, is_some, if◌then◌else◌, List, [], ◌∷◌, Option, Some, None, slice_get, length, option_and_then}
+use Rattle.std.specs.Prelude.{◌≡◌, ℕ, ◌+◌, ◌||◌, Bool, is_some, if◌then◌else◌, List, [], ◌∷◌, Option, Some, None, slice_get, length, option_and_then}
 use Rattle.std.specs.Map.{values_of}
 use Rattle.std.specs.Option.{option_map}
 use Rattle.repair_core.specs.Rounds.{Heard}
 use Rattle.resend_core.specs.ResendStore.{Past}
 use Rattle.rtp_base.specs.declared.nack_entry.NackEntry.{NackEntry}
-use Rattle.rtx_core.specs.Resends.{ResendView, ResendState, Asks, asked_for, numbers_of, created}
+use Rattle.rtx_core.specs.Resends.{ResendView, Asks, asked_for, numbers_of, created}
 use Rattle.rtx_core.specs.declared.resend.Resend.{Resend}
 use Rattle.resend_core.specs.ResendStore.{last_position}
 use Rattle.stream_core.specs.declared.payload_types.TypeRow.{TypeRow}

@@ -1,9 +1,12 @@
-ghost use Rattle.std.specs.Prelude.{◌≡◌, [], nat_eq, is_some, OnOk, OnErr};
+ghost use Rattle.std.specs.Prelude.{◌≡◌, ◌==◌, ℕ, [], length, nat_eq, is_some, OnOk, OnErr};
+ghost use Rattle.std.specs.Map.Iter.{ShowsInOrder, deref_pair};
 ghost use Rattle.indexmap.specs.IndexMap.{insert_entry};
 ghost use Rattle.stream_core.specs.Tables.{place_of};
+ghost use Rattle.stream_core.specs.declared.payload_types.TypeRow.{TypeRow as Row};
 ghost use Rattle.stream_core.specs.Repairing.{rtx_type_of, primary_type_of, ArePrimaries};
 
 use indexmap::IndexMap;
+use indexmap::map::Iter;
 use rtp_base::{Frequency, Pt};
 use std::alloc::{AllocError, Global};
 use std::marker::Model;
@@ -79,6 +82,28 @@ impl PayloadTypes {
         self.rows.insert(row.pt, row)?;
         self.primaries = primaries_of(&self.rows);
         Ok(())
+    }
+
+    /// How many types there are.
+    pub fn len(&self) -> usize
+        ensures { result ≡ length self.now }
+    {
+        self.rows.len()
+    }
+
+    /// Whether there are no types.
+    pub fn is_empty(&self) -> bool
+        ensures { result ≡ (length self.now == 0) }
+    {
+        self.rows.is_empty()
+    }
+
+    /// The numbers, each with its type, one after another.
+    pub fn iter(&self) -> Iter<'_, Pt, TypeRow>
+        ensures rest { result ≡ self.now }
+        ensures runs { ShowsInOrder (deref_pair {K = ℕ} {X = Row}) }
+    {
+        self.rows.iter()
     }
 
     /// Whether a type is one of them: one look-up in a hash table.

@@ -236,6 +236,13 @@ impl SendQueue {
         Some(front.packet)
     }
 
+    /// How many packets wait.
+    pub fn len(&self) -> usize
+        ensures { result ≡ length self.now }
+    {
+        self.packets.len()
+    }
+
     /// Whether no packet waits.
     pub fn is_empty(&self) -> bool
         ensures { result ≡ (length self.now == 0) }

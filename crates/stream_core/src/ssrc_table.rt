@@ -1,8 +1,10 @@
-ghost use Rattle.std.specs.Prelude.{◌≡◌, ◌==◌, not, ◌<◌, ◌∷◌, ◌++◌, [], None, Some, length, take, slice_get, IfSome, OnOk, OnErr, is_some};
+ghost use Rattle.std.specs.Prelude.{◌≡◌, ◌==◌, not, ◌<◌, ◌∷◌, ◌++◌, ℕ, [], None, Some, length, take, slice_get, IfSome, OnOk, OnErr, is_some};
 ghost use Rattle.std.specs.Map.{values_of};
+ghost use Rattle.std.specs.Map.Iter.{ShowsInOrder, deref_pair};
 ghost use Rattle.stream_core.specs.Tables.{place_of, without_key, without_value};
 
 use indexmap::IndexMap;
+use indexmap::map::Iter;
 use rtp_base::Ssrc;
 use std::alloc::{AllocError, Global};
 use std::marker::Model;
@@ -39,6 +41,21 @@ impl<T: Drop> SsrcTable<T> {
         ensures { result ≡ length self.now }
     {
         self.streams.len()
+    }
+
+    /// Whether there are no streams.
+    pub fn is_empty(&self) -> bool
+        ensures { result ≡ (length self.now == 0) }
+    {
+        self.streams.is_empty()
+    }
+
+    /// The SSRCs, each with its stream, one after another.
+    pub fn iter(&self) -> Iter<'_, Ssrc, T>
+        ensures rest { result ≡ self.now }
+        ensures runs { ShowsInOrder (deref_pair {K = ℕ} {X = T}) }
+    {
+        self.streams.iter()
     }
 
     /// Where the stream of an SSRC stands: one look-up in a hash table.

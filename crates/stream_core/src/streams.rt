@@ -759,6 +759,7 @@ impl<W: GapWindow, S: ResendStore<Sent>> Streams<W, S> {
             → StandsFor W.remembers S.stands_for self.new (record r { rx = change_at ssrc (after_restored remembered low) r.rx })) }
         ensures small { IfOk result (λ o. IfSome o (λ n. n < 2 ^ 48)) }
         ensures low { IfOk result (λ o. IfSome o (λ n. n % 65536 ≡ low)) }
+        ensures places { keys_of self.new.rx ≡ keys_of self.old.rx }
         ensures tx { self.new.tx ≡ self.old.tx }
         ensures repairs { self.new.repairs ≡ self.old.repairs }
         ensures threshold { self.new.threshold ≡ self.old.threshold }

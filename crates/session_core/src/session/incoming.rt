@@ -49,6 +49,7 @@ impl<C: SrtpCipher, W: GapWindow, S: ResendStore<Sent>> Session<C, W, S> {
         ensures latch { self.new.state.stopped ≡ self.old.state.stopped || is_err result }
         ensures unchanged { IsErrOf result Stopped → self.new ≡ self.old }
         ensures memory { self.old.state.stopped ≡ false → IfErr result (λ e. e ≡ Memory) }
+        ensures failed { IsErrOf result Memory → self.new ≡ record self.old { state = stopped_from self.old.state; rx = self.new.rx; probes = self.new.probes; seen = self.new.seen } }
     {
         if self.stopped {
             return Err(RtcError::Stopped);
@@ -67,6 +68,7 @@ impl<C: SrtpCipher, W: GapWindow, S: ResendStore<Sent>> Session<C, W, S> {
             → (after : SessionRecord) × Receives C.meaning r bytes.now now after opened × StandsFor W.remembers S.stands_for self.new after) }
         ensures unopened { IfOk result (λ opened. IfNone opened (self.new ≡ self.old)) }
         ensures runs { self.new.state.stopped ≡ self.old.state.stopped }
+        ensures err { OnErr result (self.new ≡ record self.old { rx = self.new.rx; probes = self.new.probes; seen = self.new.seen }) }
     {
         let read = RtpHeader::parse(bytes, &self.transport.exts);
         let Some(header) = &read else {
@@ -95,6 +97,7 @@ impl<C: SrtpCipher, W: GapWindow, S: ResendStore<Sent>> Session<C, W, S> {
             → StandsFor W.remembers S.stands_for self.new (after_repair now header.now original number r)) }
         ensures places { OnOk result (keys_of self.new.rx ≡ keys_of self.old.rx) }
         ensures runs { self.new.state.stopped ≡ self.old.state.stopped }
+        ensures others { self.new ≡ record self.old { rx = self.new.rx; probes = self.new.probes; seen = self.new.seen } }
     {
         let under = header.ssrc;
         let greatest = self.seen.get(under);
@@ -118,6 +121,7 @@ impl<C: SrtpCipher, W: GapWindow, S: ResendStore<Sent>> Session<C, W, S> {
         ensures ok { OnOk result ((r : SessionRecord) → StandsFor W.remembers S.stands_for self.old r → place_of original self.old.rx ≡ Some place
             → StandsFor W.remembers S.stands_for self.new (after_original now header.now original low payload r)) }
         ensures runs { self.new.state.stopped ≡ self.old.state.stopped }
+        ensures err { OnErr result (self.new ≡ record self.old { rx = self.new.rx; probes = self.new.probes; seen = self.new.seen }) }
     {
         let greatest = self.seen.get(original);
         let number = self.streams.restored_number_at(place, low, &greatest);
@@ -150,6 +154,7 @@ impl<C: SrtpCipher, W: GapWindow, S: ResendStore<Sent>> Session<C, W, S> {
         ensures ok { OnOk result ((r : SessionRecord) → StandsFor W.remembers S.stands_for self.old r → place_of original self.old.rx ≡ Some place
             → StandsFor W.remembers S.stands_for self.new (after_restoring now header.now original low payload r)) }
         ensures runs { self.new.state.stopped ≡ self.old.state.stopped }
+        ensures err { OnErr result (self.new ≡ record self.old { rx = self.new.rx; probes = self.new.probes; seen = self.new.seen }) }
     {
         let Some(low) = low else {
             return Ok(());
@@ -173,6 +178,7 @@ impl<C: SrtpCipher, W: GapWindow, S: ResendStore<Sent>> Session<C, W, S> {
             → (after : SessionRecord) × Receives C.meaning r bytes.now now after opened × StandsFor W.remembers S.stands_for self.new after) }
         ensures unopened { IfOk result (λ opened. IfNone opened (self.new ≡ self.old)) }
         ensures runs { self.new.state.stopped ≡ self.old.state.stopped }
+        ensures err { OnErr result (self.new ≡ record self.old { rx = self.new.rx; probes = self.new.probes; seen = self.new.seen }) }
     {
         let Some(number) = accepts_repair(header, place, &self.seen, &self.streams) else {
             return Ok(None);
@@ -208,6 +214,7 @@ impl<C: SrtpCipher, W: GapWindow, S: ResendStore<Sent>> Session<C, W, S> {
             → (after : SessionRecord) × Receives C.meaning r bytes.now now after opened × StandsFor W.remembers S.stands_for self.new after) }
         ensures unopened { IfOk result (λ opened. IfNone opened (self.new ≡ self.old)) }
         ensures runs { self.new.state.stopped ≡ self.old.state.stopped }
+        ensures err { OnErr result (self.new ≡ record self.old { rx = self.new.rx; probes = self.new.probes; seen = self.new.seen }) }
     {
         let remembered = self.seen.get(header.ssrc);
         let Some(found) = accepts(

@@ -1,4 +1,4 @@
-use Rattle.std.proofs.Common.{◌≡◌, refl, ap, subst}
+use Rattle.std.proofs.Common.{refl, subst}
 use Rattle.stream_core.specs.StreamsRecord.{Asked}
 use Rattle.session_core.specs.Hearing.{by_nack, by_none}
 use Rattle.session_core.proofs.hearing.ask.Goals as goal

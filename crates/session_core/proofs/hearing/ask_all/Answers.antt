@@ -1,6 +1,5 @@
-use Rattle.std.proofs.Common.{◌≡◌, ◌++◌, ◌∷◌, [], ◌+◌, ℕ, List, take, refl, sym, ap, subst, ◌∙◌}
+use Rattle.std.proofs.Common.{List, take, refl, sym, ap, subst, ◌∙◌}
 use Rattle.rtcp_wire.specs.declared.rtcp_fb.RtcpFb.{RtcpFb}
-use Rattle.stream_core.specs.Repairing.{RepairsRecord}
 use Rattle.stream_core.specs.StreamsRecord.{StreamsView}
 use Rattle.session_core.specs.Hearing.{AskedByAll, asked_none}
 use Rattle.session_core.proofs.Asking.{asked_more, one_more}

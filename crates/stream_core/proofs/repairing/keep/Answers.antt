@@ -1,5 +1,5 @@
 use Rattle.std.proofs.Common.{sym, subst, ◌∙◌}
-use Rattle.rtx_core.specs.Resends.{Caches, after_first}
+use Rattle.rtx_core.specs.Resends.{Caches}
 use Rattle.stream_core.specs.Repairing.{kept, counted, size_of_sent, number_of_sent}
 use Rattle.stream_core.proofs.Mending.{counted_alone}
 use Rattle.stream_core.proofs.repairing.keep.Goals as goal

@@ -1,4 +1,4 @@
-use Rattle.std.proofs.Common.{ap, take, ◌∙◌}
+use Rattle.std.proofs.Common.{take, ◌∙◌}
 use Rattle.stream_core.proofs.RepairSteps.{all_but_new}
 use Rattle.stream_core.proofs.streams.add_both.Goals as goal
 

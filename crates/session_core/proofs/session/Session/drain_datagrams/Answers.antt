@@ -1,7 +1,7 @@
-use Rattle.std.proofs.Common.{◌≡◌, ◌++◌, ◌∷◌, [], Some, None, ap, sym, subst, ◌∙◌, false}
+use Rattle.std.proofs.Common.{◌++◌, ◌∷◌, [], Some, ap, sym, subst, ◌∙◌, false}
 use Rattle.std.specs.Prelude.{◌||◌, List}
 use Rattle.session_core.specs.declared.datagram.Datagram.{Datagram}
-use Rattle.session_core.specs.SessionRecord.{SessionView, StandsFor}
+use Rattle.session_core.specs.SessionRecord.{StandsFor}
 use Rattle.session_core.specs.Sending.{NextDatagram, DrainsTo, start, more}
 use Rattle.session_core.specs.Draining.{stopped_from, stopped_record, at_poll, between_polls}
 use Rattle.session_core.proofs.session.Session.drain_datagrams.Goals as goal

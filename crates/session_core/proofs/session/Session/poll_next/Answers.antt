@@ -1,10 +1,9 @@
-use Rattle.std.proofs.Common.{◌≡◌, ℕ, [], false, true, None, Some, length, refl, sym, ap, subst, ◌∙◌, arith}
+use Rattle.std.proofs.Common.{◌≡◌, ℕ, [], false, true, None, Some, length, sym, ap, subst, ◌∙◌, arith}
 use Rattle.std.proofs.lemmas.Bool.Decides.{nat_tests}
 use Rattle.std.specs.Prelude.{◌==◌}
-use Rattle.session_core.specs.SessionRecord.{SessionState, SessionView, StandsFor}
+use Rattle.session_core.specs.SessionRecord.{SessionView, StandsFor}
 use Rattle.session_core.specs.declared.error.RtcError.TheVariants.{Memory}
 use Rattle.session_core.specs.Sending.{NextPacket, sealed_by}
-use Rattle.session_core.specs.Draining.{PacketFails}
 use Rattle.session_core.proofs.Failing.{empty_of}
 use Rattle.session_core.proofs.Passing.{zero_given, keyless_given, packet_given, packet_failed, compound_given, compound_failed, given_from, failed_from, none_when, sealed_none, sealed_stands, lost_packet}
 use Rattle.session_core.proofs.session.Session.poll_next.Goals as goal

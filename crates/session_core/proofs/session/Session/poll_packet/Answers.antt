@@ -1,5 +1,4 @@
-use Rattle.std.proofs.Common.{◌≡◌, ◌<◌, ◌≤◌, Some, None, refl, subst, ◌∙◌, arith}
-use Rattle.std.specs.Prelude.{IfSome}
+use Rattle.std.proofs.Common.{◌≤◌, Some, None, refl, subst, ◌∙◌, arith}
 use Rattle.session_core.specs.Sending.{Gives, after_streams, unreleased, none_due, given, passed, waiting_in}
 use Rattle.session_core.specs.Draining.{after_pass}
 use Rattle.session_core.specs.SessionRecord.{StandsFor}

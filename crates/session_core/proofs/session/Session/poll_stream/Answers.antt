@@ -1,12 +1,10 @@
-use Rattle.std.proofs.Common.{◌≡◌, ◌<◌, ◌≤◌, ◌+◌, Some, None, Err, false, true, length, take, slice_get, refl, sym, ap, subst, ◌∙◌, arith}
+use Rattle.std.proofs.Common.{◌≡◌, ◌≤◌, Some, None, Err, false, length, take, slice_get, sym, ap, subst, ◌∙◌, arith}
 use Rattle.std.proofs.lemmas.List.{take_all}
-use Rattle.std.specs.Prelude.{is_some, if◌then◌else◌, Option, option_and_then, List, ℕ}
+use Rattle.std.specs.Prelude.{Option, option_and_then}
 use Rattle.std.specs.Map.{values_of}
-use Rattle.stream_core.specs.StreamsRecord.{all_waiting, all_asked}
 use Rattle.stream_core.specs.TxRecord.{TxRecord}
-use Rattle.session_core.specs.declared.error.RtcError.{RtcError}
-use Rattle.session_core.specs.SessionRecord.{SessionState, SessionView, SessionRecord, StandsFor, streams_in}
-use Rattle.session_core.specs.Sending.{first_due, PollsFrom, after_streams, waiting_in}
+use Rattle.session_core.specs.SessionRecord.{SessionState, StandsFor, streams_in}
+use Rattle.session_core.specs.Sending.{first_due, PollsFrom, after_streams}
 use Rattle.session_core.specs.Draining.{PacketFails, stream_stays, used_up}
 use Rattle.session_core.proofs.Asked.{still_none, none_released}
 use Rattle.session_core.proofs.Passing.{place_is, polled_stands, same_stands, unreleased_stands, gives_is, either}

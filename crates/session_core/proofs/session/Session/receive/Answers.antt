@@ -1,5 +1,4 @@
-use Rattle.std.proofs.Common.{◌≡◌, ℕ, List, Some, None, Ok, Err, refl, sym, ap, subst, ◌∙◌}
-use Rattle.rtp_wire.specs.declared.header.RtpHeader.{RtpHeader}
+use Rattle.std.proofs.Common.{◌≡◌, ℕ, List, Some, None, Ok, Err, sym, ap, subst, ◌∙◌}
 use Rattle.rtp_wire.specs.Header.{header_of}
 use Rattle.std.specs.Prelude.{true, false, Option, Result, IfOk}
 use Rattle.std.specs.Option.{option_map}

@@ -1,8 +1,8 @@
-use Rattle.std.proofs.Common.{◌≡◌, ◌++◌, ◌∷◌, [], Some, None, refl, sym, ap, subst, ◌∙◌}
-use Rattle.std.specs.Prelude.{List, Option}
+use Rattle.std.proofs.Common.{◌++◌, ◌∷◌, [], Some, None, refl, sym, ap, subst, ◌∙◌}
+use Rattle.std.specs.Prelude.{List}
 use Rattle.std.proofs.lemmas.List.{append_assoc, append-nil}
 use Rattle.session_core.specs.declared.datagram.Event.{Event}
-use Rattle.session_core.specs.Calls.{next_event, after_event, told}
+use Rattle.session_core.specs.Calls.{after_event, told}
 use Rattle.session_core.specs.SessionRecord.{SessionRecord, StandsFor}
 use Rattle.session_core.specs.Calls.{Polled}
 use Rattle.session_core.proofs.session.Session.take_events.Goals as goal

@@ -1,4 +1,4 @@
-use Rattle.std.proofs.Common.{ℕ, None, sym, ap, ◌∙◌}
+use Rattle.std.proofs.Common.{None, sym, ap, ◌∙◌}
 use Rattle.std.proofs.lemmas.List.{get_or-replicate}
 use Rattle.stream_core.specs.Repairing.{primary_type_of}
 use Rattle.stream_core.proofs.payload_types.PayloadTypes.new.Goals as goal

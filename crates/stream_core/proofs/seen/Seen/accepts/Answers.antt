@@ -1,4 +1,4 @@
-use Rattle.std.proofs.Common.{◌≡◌, ℕ, true, List, Some, None, sym, ap, subst, ◌∙◌}
+use Rattle.std.proofs.Common.{ℕ, true, List, None, sym, ap, subst, ◌∙◌}
 use Rattle.std.specs.Option.{option_map_or}
 use Rattle.rtp_base.specs.declared.window.SeqNoWindow.{SeqNoWindow}
 use Rattle.rtp_base.specs.Window.{is_fresh_rtx}

@@ -1,4 +1,4 @@
-use Rattle.std.proofs.Common.{sym, ap, subst, is_some, [], ◌∷◌, ◌++◌, ◌∙◌, Some}
+use Rattle.std.proofs.Common.{sym, ap, subst, is_some, [], ◌∷◌, ◌++◌, ◌∙◌}
 use Rattle.stream_core.specs.StreamsRecord.{StreamsView, StandsFor, with_stream_tx}
 use Rattle.stream_core.specs.TxRecord.{TxRecord}
 use Rattle.stream_core.proofs.RepairSteps.{tx_new}

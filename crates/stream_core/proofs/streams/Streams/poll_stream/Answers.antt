@@ -1,4 +1,4 @@
-use Rattle.std.proofs.Common.{◌≡◌, Some, None, Err, sym, ap, ◌∙◌, take}
+use Rattle.std.proofs.Common.{sym, ap, ◌∙◌, take}
 use Rattle.std.proofs.lemmas.Result.{IfOk-weaker, on_ok_weaker, on_err_weaker}
 use Rattle.stream_core.specs.StreamsRecord.{StreamsView, is_asked}
 use Rattle.stream_core.proofs.Alongside.{set_same}

@@ -4,6 +4,8 @@ use Rattle.stream_core.specs.RxRecord.{RxState, RxRecord}
 use Rattle.stream_core.specs.RxRepairs.{restored, after_restored}
 use Rattle.stream_core.specs.StreamsRecord.{StreamsView, StandsFor}
 use Rattle.stream_core.specs.Tables.{place_of}
+use Rattle.std.specs.Map.{keys_of}
+use Rattle.stream_core.proofs.TableSteps.{keys_set_value_at}
 use Rattle.stream_core.proofs.Accepting.{says_at}
 use Rattle.stream_core.proofs.StreamsSteps.{rx_changed}
 use Rattle.stream_core.proofs.Untold.{none_same}
@@ -28,3 +30,7 @@ returns-clause-restored g c = λ r ssrc h there.
 pub returns-clause-after : goal.returns-clause-after
 returns-clause-after g c = λ r ssrc.
     rx_changed g.W.GapWindow.remembers g.S.ResendStore.stands_for ssrc c.args.self.now _ c.args.place c.at_mut.result.now c.restore.new.self (after_restored c.args.remembered c.args.low) _ c.self.view_is c.at_mut.ensures.value c.in_ok-number.ensures.after refl r
+
+pub returns-clause-places : goal.returns-clause-places
+returns-clause-places g c =
+    keys_set_value_at c.self.inside.rx c.args.place c.restore.new.self ∙ ap (λ (v : StreamsView g.row.W.Denot g.row.S.Denot). keys_of v.rx) c.self.view_is
