@@ -1,53 +1,63 @@
-ghost use Rattle.std.specs.Prelude.{Some};
+ghost use Rattle.std.specs.Prelude.{◌≡◌};
 ghost use Rattle.media_play.specs.FaultNames.{step_fault_name};
 
 use media_model::{Side, Transcript};
 use setup_rules::SetupFault;
 use srtp_core::Counter;
 use std::alloc::AllocError;
-use std::fmt;
 use thiserror::Error;
 
 /// The first rule that a step breaks, in this order.
-#[derive(Clone, Copy, Debug, PartialEq, Eq)]
+#[derive(Clone, Copy, Debug, PartialEq, Eq, Error)]
 pub enum StepFault {
     /// Its time is 0.
+    #[error("its time is 0")]
     TimeZero,
     /// Its time is below that of the step before, of either side.
+    #[error("its time is below that of the step before")]
     TimeBack,
     /// Its time is above 10^16 ns.
+    #[error("its time is too great")]
     TimeBeyond,
     /// No stream of the side has the SSRC.
+    #[error("no stream of the side has the SSRC")]
     UnknownStream,
     /// The other side has not sealed so many datagrams yet.
+    #[error("the other side has not sealed so many datagrams yet")]
     UnknownDatagram,
     /// The setup does not claim the payload type.
+    #[error("the setup does not claim the payload type")]
     UnknownType,
     /// The number is 2^48 or more.
+    #[error("the number is 2^48 or more")]
     NumberTooBig,
     /// The number was written before on the SSRC.
+    #[error("the number was written before on the SSRC")]
     NumberUsed,
     /// The payload has more than 1,400 bytes.
+    #[error("the payload has more than 1,400 bytes")]
     PayloadTooLong,
     /// There are more than 15 contributing sources, of which no script tells.
+    #[error("there are more than 15 contributing sources")]
     TooManySources,
 }
 
-impl fmt::Display for StepFault {
-    ghost output = { λ f. Some (step_fault_name f) };
-
-    fn fmt<W: fmt::Write>(&self, f: &mut fmt::Formatter<W>) -> fmt::Result {
+impl StepFault {
+    /// The word for it in the line that names it.
+    pub fn word(self) -> &'static str
+        ensures { result.now ≡ step_fault_name self }
+    {
         match self {
-            StepFault::TimeZero => write!(f, "TimeZero"),
-            StepFault::TimeBack => write!(f, "TimeBack"),
-            StepFault::TimeBeyond => write!(f, "TimeBeyond"),
-            StepFault::UnknownStream => write!(f, "UnknownStream"),
-            StepFault::UnknownDatagram => write!(f, "UnknownDatagram"),
-            StepFault::UnknownType => write!(f, "UnknownType"),
-            StepFault::NumberTooBig => write!(f, "NumberTooBig"),
-            StepFault::NumberUsed => write!(f, "NumberUsed"),
-            StepFault::PayloadTooLong => write!(f, "PayloadTooLong"),
-            StepFault::TooManySources => write!(f, "TooManySources"),
+            StepFault::TimeZero => "TimeZero",
+            StepFault::TimeBack => "TimeBack",
+            StepFault::TimeBeyond => "TimeBeyond",
+            StepFault::UnknownStream => "UnknownStream",
+            StepFault::UnknownDatagram => "UnknownDatagram",
+            StepFault::UnknownType => "UnknownType",
+            StepFault::NumberTooBig => "NumberTooBig",
+            StepFault::NumberUsed => "NumberUsed",
+            StepFault::PayloadTooLong => "PayloadTooLong",
+            StepFault::TooManySources => "TooManySources",
         }
     }
 }
@@ -67,7 +77,6 @@ pub enum StepError {
 }
 
 impl From<AllocError> for StepError {
-    ghost use Rattle.std.specs.Prelude.{◌≡◌};
     ghost use Rattle.media_play.specs.declared.fault.StepError.TheVariants.{Memory};
 
     ghost from_gives = { λ _ e. e ≡ Memory };
@@ -78,7 +87,6 @@ impl From<AllocError> for StepError {
 }
 
 impl From<StepFault> for StepError {
-    ghost use Rattle.std.specs.Prelude.{◌≡◌};
     ghost use Rattle.media_play.specs.declared.fault.StepError.TheVariants.{Rule};
 
     ghost from_gives = { λ fault e. e ≡ Rule fault };
@@ -89,7 +97,8 @@ impl From<StepFault> for StepError {
 }
 
 /// Why a step was not played, and the transcript until then.
-#[derive(Debug, Drop)]
+#[derive(Debug, Drop, Error)]
+#[error("{cause}")]
 pub struct PlayFault {
     /// Why it was not played.
     pub cause: StepError,
@@ -116,7 +125,6 @@ pub enum RunError {
 }
 
 impl From<AllocError> for RunError {
-    ghost use Rattle.std.specs.Prelude.{◌≡◌};
     ghost use Rattle.media_play.specs.declared.fault.RunError.TheVariants.{Memory};
 
     ghost from_gives = { λ _ e. e ≡ Memory };
@@ -127,7 +135,8 @@ impl From<AllocError> for RunError {
 }
 
 /// Why a run ended before its last step, and the transcript of the steps that were played.
-#[derive(Debug, Drop)]
+#[derive(Debug, Drop, Error)]
+#[error("{cause}")]
 pub struct RunFault {
     /// Why it ended.
     pub cause: RunError,

@@ -85,14 +85,16 @@ pub fn syntax_line(alloc: Global, line: u64) -> Result<String, AllocError>
 fn setup_line(alloc: Global, fault: SetupFault) -> Result<String, AllocError>
     ensures { IfOk result (λ text. string_bytes text ≡ setup_line fault) }
 {
-    format!(in alloc; "fault setup {fault}\n")
+    let word = fault.word();
+    format!(in alloc; "fault setup {word}\n")
 }
 
 fn step_line(alloc: Global, number: u64, fault: StepFault) -> Result<String, AllocError>
     ensures { IfOk result (λ text. string_bytes text ≡ step_line number fault) }
 {
+    let word = fault.word();
     let mut text = String::new(alloc);
-    writeln!(text, "fault step {number} {fault}")?;
+    writeln!(text, "fault step {number} {word}")?;
     Ok(text)
 }
 

@@ -1,6 +1,6 @@
 //! The packets that leave a session at a tick are those that its plain streams send.
 #![tactic(auto)]
 
-mod law;
+mod laws;
 
-pub use law::packets_drain;
+pub use laws::packets_drain;

@@ -1,6 +1,6 @@
 //! Writes, RTCP that comes and calls of the application are turns of the plain sessions that sessions mirror.
 #![tactic(auto)]
 
-mod law;
+mod laws;
 
-pub use law::{calls_turn, hears_turn, writes_turn};
+pub use laws::{calls_turn, hears_turn, writes_turn};
