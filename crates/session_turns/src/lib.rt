@@ -1,5 +1,3 @@
-//! What a session does at each call of a run is a turn of the plain sessions of `run_laws`: a write, a tick with its drain,
+//! What a session does at each call of a run is a turn of the plain sessions of `run_model`: a write, a tick with its drain,
 //! a datagram that comes, a call of the application.
 #![tactic(auto)]
-
-
