@@ -1,5 +1,5 @@
 -- When a step has a side seal a datagram behind the last number of a key.
-use Rattle.std.specs.Prelude.{◌≡◌, ◌⊎◌, ◌^◌, ℕ, List}
+use Rattle.std.specs.Prelude.{◌≡◌, ◌⊎◌, ◌^◌, ℕ, List, [], ◌∷◌}
 use Rattle.srtp_core.specs.Cipher.{CipherMeaning}
 use Rattle.srtp_core.specs.declared.counter.Counter.TheVariants as srtcp
 use Rattle.session_core.specs.declared.datagram.Datagram.{Datagram}
@@ -12,7 +12,9 @@ use Rattle.session_core.specs.SessionRecord.{SessionRecord}
 use Rattle.session_turns.specs.Mirrors.{Mirrors}
 use Rattle.media_model.specs.declared.entry.Side.{Side}
 use Rattle.media_model.specs.declared.entry.Side.TheVariants.{A, B}
+use Rattle.media_model.specs.declared.entry.Call.TheVariants as call
 use Rattle.media_model.specs.declared.entry.Entry.{Entry}
+use Rattle.media_model.specs.declared.entry.Entry.TheVariants.{Called}
 use Rattle.media_model.specs.declared.step.Step.{Step}
 use Rattle.media_model.specs.declared.step.Step.TheVariants.{Application, Tick}
 use Rattle.media_model.specs.declared.setup.Setup.{Setup}
@@ -50,3 +52,12 @@ Exhausts cipher setup entries (Tick by time) side counter =
     (by ≡ side) × (((counter ≡ Rtcp) × IsCutAt cipher setup entries by time (KeyExhausted srtcp.Rtcp))
     ⊎ ((ssrc : ℕ) × (counter ≡ Rtx ssrc) × IsCutAt cipher setup entries by time (RepairsExhausted ssrc)))
 Exhausts cipher setup entries step side counter = ⊥
+
+-- what is told of a step that finds a key used up: the call of an application, and of a tick nothing
+abbrev pub call_of : Step → List Entry
+call_of (Application side time sender media payload) = Called side time call.Application ∷ []
+call_of step = []
+
+abbrev pub told_of : Step → List Step
+told_of (Application side time sender media payload) = Application side time sender media payload ∷ []
+told_of step = []

@@ -5,7 +5,7 @@ ghost use Rattle.media_model.specs.declared.step.Step.{Step};
 ghost use Rattle.media_model.specs.declared.entry.Entry.{Entry};
 ghost use Rattle.media_model.specs.declared.entry.Side.{Side};
 ghost use Rattle.media_laws.specs.declared.counter.Counter.{Counter};
-ghost use Rattle.media_laws.specs.Exhausting.{Exhausts, call_of};
+ghost use Rattle.media_laws.specs.Exhausting.{Exhausts, call_of, told_of};
 ghost use Rattle.media_laws.specs.Headline.{HoldsOfRun, HoldsOfFront, PlaysSteps};
 ghost use Rattle.media_laws.specs.Keys.{sealing_of};
 ghost use Rattle.media_laws.specs.Play.{Played};
@@ -56,4 +56,8 @@ pub fn holds_of_run<C: SrtpCipher>()
 pub fn plays_steps<C: SrtpCipher>()
     ensures whole { (setup : Setup) (steps : List Step) (entries : List Entry)
         → Played (sealing_of C.meaning setup) setup steps entries → PlaysSteps steps entries }
+    ensures exhausted { (setup : Setup) (steps : List Step) (entries : List Entry) (step : Step)
+        (side : Side) (counter : Counter) → Played (sealing_of C.meaning setup) setup steps entries
+        → Exhausts C.meaning setup entries step side counter
+        → PlaysSteps (steps ++ told_of step) (entries ++ call_of step) }
 {}

@@ -12,7 +12,7 @@ use Rattle.media_model.specs.declared.setup.Setup.{Setup}
 use Rattle.media_laws.specs.declared.fault.StepFault.{StepFault}
 use Rattle.media_play.specs.declared.fault.StepError.{StepError}
 use Rattle.media_play.specs.declared.fault.StepError.TheVariants.{Memory, Rule, KeyExhausted}
-use Rattle.media_laws.specs.Exhausting.{Exhausts}
+use Rattle.media_laws.specs.Exhausting.{Exhausts, call_of}
 use Rattle.media_laws.specs.Feedback.{next_index}
 use Rattle.media_laws.specs.Rules.{step_fault}
 
@@ -39,11 +39,6 @@ IsSendingCause setup side entries Memory = Unit {0}
 IsSendingCause setup side entries (Rule fault) = ⊥
 IsSendingCause setup side entries (KeyExhausted by counter) =
     (by ≡ side) × (counter ≡ key.Rtcp) × (next_index setup side entries ≡ 2 ^ 31)
-
--- the entry of an application's call
-abbrev pub call_of : Step → List Entry
-call_of (Application side time sender media payload) = Called side time call.Application ∷ []
-call_of step = []
 
 -- what a step brought that was not played: its call, where a key had no number left for what it sends
 abbrev pub left_by : Step → StepError → List Entry
