@@ -89,7 +89,7 @@ side_mains (step h s) = step_mains s ∙ side_mains h
 -- the NACKs of a tick on one SSRC
 
 other_names : (m : ℕ) (item : RtcpFb) → IsOther item → named_on m item ≡ []
-other_names m (Nack media entries) is = absurd is
+other_names m (Nack media entries) is = absurd (false≢true is)
 other_names m _ is = refl
 
 -- none on an SSRC of no stream

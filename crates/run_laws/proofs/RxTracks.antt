@@ -67,7 +67,13 @@ first_same x pause n some fresh =
 restored_same : (y : RxRecord) (q : Option ℕ) → HasBegun y.numbers → with_restored (lists_in y) q ≡ lists_in (rx_restored q y)
 restored_same y None some = refl
 restored_same y (Some q) some =
-    ap (λ l. let z : Lists = record { seen_main = y.seen_main ++ q ∷ []; seen_rtx = y.seen_rtx; tried = y.tried; floor = y.floor; taken = with_number l q } in z) (sym (register_takes y.seen_main y.numbers some))
+    elim (tested (is_fresh (begun_taken (lists_in y)) q)) [
+      | inl t ↦ rw t (ap (λ l. let z : Lists = record { seen_main = y.seen_main ++ q ∷ []; seen_rtx = y.seen_rtx; tried = y.tried; floor = y.floor; taken = l } in z) (takes t))
+      | inr t ↦ rw t refl
+    ]
+  where
+    takes : is_fresh (begun_taken (lists_in y)) q ≡ true → begun_taken (lists_in y) ++ q ∷ [] ≡ taken (came (register y.seen_main y.numbers) q)
+    takes t = sym (with_fresh (begun_taken (lists_in y)) q t) ∙ ap (λ l. with_number l q) (sym (register_takes y.seen_main y.numbers some))
 
 pub opened_same : (T : Types) (L : Incoming) (x : RxRecord) (pause ssrc n : ℕ) (p : Plain) → HasBegun x.numbers → is_fresh_number T L (lists_in x) ssrc p n ≡ true
     → after_opened T L (lists_in x) ssrc n p ≡ lists_in (rx_opened T L pause ssrc n p x)
@@ -86,7 +92,11 @@ opened_begun T L x pause ssrc n p some =
   where
     after : (q : Option ℕ) → HasBegun (rx_restored q (rx_tried L pause ssrc n x)).numbers
     after None = some
-    after (Some q) = with_number_some (taken (register (rx_tried L pause ssrc n x).seen_main x.numbers)) q
+    after (Some q) =
+        elim (tested (is_fresh (begun_taken (lists_in (rx_tried L pause ssrc n x))) q)) [
+          | inl t ↦ rw t (with_number_some (taken (register (rx_tried L pause ssrc n x).seen_main x.numbers)) q)
+          | inr t ↦ rw t some
+        ]
 
 -- events that leave the lists as they are
 

@@ -5,7 +5,7 @@ use Rattle.std.specs.List.{flat_map, list_all}
 use Rattle.std.proofs.lemmas.List.{map-append, append-nil}
 use Rattle.std.proofs.lemmas.List.Concat.{flat_map-append}
 use Rattle.std.proofs.lemmas.Bool.{and_parts, eq-eqb, false≢true}
-use Rattle.repair_core.specs.Fresh.{greatest_of, is_fresh, with_number}
+use Rattle.repair_core.specs.Fresh.{greatest_of, is_fresh}
 use Rattle.rtp_base.specs.declared.kind.Kind.TheVariants.{Rtp}
 use Rattle.media_model.specs.declared.entry.Packet.{Packet}
 use Rattle.run_model.specs.Events.{Plain, Event, ticked, got, opened, yielded, Types, Incoming}
@@ -38,12 +38,13 @@ begun_keeps seen (n ∷ ns) k i = i
 not_begun : (seen : Option ℕ) (l : List ℕ) (k : ℕ) → (IsIn k (begun_with seen l) → ⊥) → IsIn k l → ⊥
 not_begun seen l k out i = out (begun_keeps seen l k i)
 
-with_number_keeps : (l : List ℕ) (n k : ℕ) → IsIn k l → IsIn k (with_number l n)
-with_number_keeps l n k i = elim (tested (is_fresh l n)) [ inl t ↦ rw t (IsIn-left k l (n ∷ []) i) | inr t ↦ rw t i ]
-
 restored_keeps : (l : Lists) (q : Option ℕ) (k : ℕ) → IsIn k l.taken → IsIn k (with_restored l q).taken
 restored_keeps l None k i = i
-restored_keeps l (Some q) k i = with_number_keeps (begun_taken l) q k (begun_keeps (greatest_of l.seen_main) l.taken k i)
+restored_keeps l (Some q) k i =
+    elim (tested (is_fresh (begun_taken l) q)) [
+      | inl t ↦ rw t (IsIn-left k (begun_taken l) (q ∷ []) (begun_keeps (greatest_of l.seen_main) l.taken k i))
+      | inr t ↦ rw t i
+    ]
 
 opened_keeps : (T : Types) (L : Incoming) (l : Lists) (ssrc n : ℕ) (p : Plain) (k : ℕ) → IsIn k l.taken → IsIn k (after_opened T L l ssrc n p).taken
 opened_keeps T L l ssrc n p k i =

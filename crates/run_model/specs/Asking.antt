@@ -101,13 +101,12 @@ abbrev pub asked : ℕ → List Event → List ℕ
 asked m events = flat_map names (flat_map (named_on m) (items_in events))
 
 -- the feedback of a tick: the streams in order, each with its NACK where it owes one, and items of other kinds anywhere
-abbrev pub IsOther : RtcpFb → Type 0
-IsOther (Nack media entries) = ⊥
-IsOther _ = Unit {0}
-
 abbrev pub is_other : RtcpFb → Bool
 is_other (Nack media entries) = false
 is_other _ = true
+
+abbrev pub IsOther : RtcpFb → Type 0
+IsOther item = is_other item ≡ true
 
 pub data Feedback (side : RxSide) (time : ℕ) : List (Incoming × RxRecord) → List RtcpFb → Type 0 where
   none : Feedback side time [] []

@@ -3,7 +3,7 @@ use Rattle.std.specs.Prelude.{◌≡◌, ◌≤◌, ◌+◌, ◌*◌, ◌%◌, �
 use Rattle.std.specs.List.{flat_map, fold}
 use Rattle.rtp_base.specs.Widen.{widen16}
 use Rattle.rtp_base.specs.Window.{is_fresh_rtx, is_fresh_after, greatest_after}
-use Rattle.repair_core.specs.Fresh.{greatest_of, is_fresh, with_number, started_from}
+use Rattle.repair_core.specs.Fresh.{greatest_of, is_fresh, started_from}
 use Rattle.rtp_wire.specs.Padding.{unpadded}
 use Rattle.media_model.specs.declared.entry.Packet.{Packet}
 use Rattle.run_model.specs.Events.{Plain, Event, opened, yielded, Types, Incoming}

@@ -1,0 +1,5 @@
+use Rattle.turn_seals.proofs.Openings.{openings_are_right}
+use Rattle.turn_seals.proofs.law.openings_are_right.Goals as goal
+
+pub returns : goal.returns
+returns c = openings_are_right c.header_reads_own_bytes.ensures
