@@ -1,5 +1,5 @@
 -- What a session knows of the entries so far.
-use Rattle.std.specs.Prelude.{◌≡◌, ◌≤◌, ◌^◌, ℕ, Bool, true, false, is_some, List, [], ◌∷◌, ◌++◌, Option, Some, None}
+use Rattle.std.specs.Prelude.{◌≡◌, ◌<◌, ◌≤◌, ◌^◌, ℕ, Bool, true, false, is_some, List, [], ◌∷◌, ◌++◌, Option, Some, None}
 use Rattle.std.specs.List.{AllByRecursion}
 use Rattle.srtp_core.specs.Cipher.{CipherMeaning}
 use Rattle.srtp_core.specs.Contexts.{SrtpState, new_state}
@@ -8,15 +8,25 @@ use Rattle.srtp_core.specs.Seals.{sealed_rtp}
 use Rattle.srtp_core.specs.RtcpSeals.{sealed_rtcp, stated_bit, stated_index}
 use Rattle.stream_core.specs.Tables.{place_of}
 use Rattle.session_core.specs.SessionRecord.{SessionRecord}
+use Rattle.session_core.specs.declared.datagram.Datagram.{Datagram}
+use Rattle.session_core.specs.declared.datagram.Event.{Event as Told}
+use Rattle.session_core.specs.declared.error.RtcError.{RtcError}
+use Rattle.session_core.specs.declared.error.RtcError.TheVariants as rtc
+use Rattle.session_core.specs.Draining.{IsCutOff}
+use Rattle.session_core.specs.Rounds.{after_timeout}
+use Rattle.srtp_core.specs.declared.counter.Counter.TheVariants as srtcp
+use Rattle.media_laws.specs.declared.counter.Counter.TheVariants.{Rtcp, Rtx}
+use Rattle.media_laws.specs.Right.{IsRightSeal}
+use Rattle.media_play.specs.declared.fault.StepError.{StepError}
+use Rattle.media_play.specs.declared.fault.StepError.TheVariants.{Memory, Rule, KeyExhausted}
 use Rattle.session_turns.specs.Mirrors.{Mirrors}
 use Rattle.session_turns.specs.Reading.{len_in}
-use Rattle.rtp_base.specs.declared.kind.Kind.{Kind}
 use Rattle.media_model.specs.declared.entry.Side.{Side}
 use Rattle.media_model.specs.declared.entry.Side.TheVariants.{A, B}
 use Rattle.media_model.specs.declared.entry.Packet.{Packet}
 use Rattle.media_model.specs.declared.entry.Got.{Got as GotEntry}
 use Rattle.media_model.specs.declared.entry.Entry.{Entry}
-use Rattle.media_model.specs.declared.entry.Entry.TheVariants.{Got, Opened, Yielded}
+use Rattle.media_model.specs.declared.entry.Entry.TheVariants.{Ticked, Got, Opened, Yielded}
 use Rattle.media_model.specs.declared.setup.Setup.{Setup}
 use Rattle.media_model.specs.Setup.{material_of, types_of}
 use Rattle.run_model.specs.Events.{Event}
@@ -30,7 +40,6 @@ use Rattle.media_laws.specs.Config.{config_of}
 use Rattle.media_play.specs.Ends.{EndSession, SessionStands}
 use Rattle.media_play.specs.Knowing.{AreUsed}
 use Rattle.media_laws.specs.Keys.{sealing_of}
-use Rattle.media_laws.specs.Opening.{got_as}
 use Rattle.media_laws.specs.Plain.{extensions_of}
 use Rattle.media_laws.specs.Play.{IsBroughtBy}
 use Rattle.media_laws.specs.Rules.{has}
@@ -63,20 +72,46 @@ received_entries side (Some r) =
     Opened (record { side = side; kind = r.kind; ssrc = r.ssrc; index = r.number; plain = r.plain })
     ∷ yielded side r.packet
 
--- it turns so, and is ready again
-pub record TurnsBy (cipher : CipherMeaning) (setup : Setup) (side : Side) (a : Session) (new : EndState) (entries : List Entry)
-    (came : GotEntry) (received : Option Received) : Type 0 where
+-- the session of a side turns so, from one plain session to another, and the end is ready again after these entries more
+pub record TurnsOn (cipher : CipherMeaning) (setup : Setup) (side : Side) (a : Session) (new : EndState) (entries chunk : List Entry) : Type 0 where
   pub session : Session
   pub events : List Event
-  pub read : happenings setup (Got came ∷ received_entries side received) ≡ on_side side events
+  pub read : happenings setup chunk ≡ on_side side events
   pub turn : Turns (config_of (sealing_of cipher setup) setup) side a session events
-  pub brought : AllByRecursion (IsBroughtBy (sealing_of cipher setup) setup came) (received_entries side received)
-  pub ready : Ready cipher setup side new session (entries ++ Got came ∷ received_entries side received)
+  pub ready : Ready cipher setup side new session (entries ++ chunk)
 
--- the session takes in bytes of a kind that come to its side: this is what they open to
-abbrev pub TakesIn : CipherMeaning → EndState → Kind → ℕ → List ℕ → EndState → Option Received
-    → Type 0
-TakesIn cipher old kind time bytes new received =
-    (setup : Setup) (side : Side) (a : Session) (entries : List Entry)
-    → setup_fault setup ≡ None → a.rx.now ≤ time → time ≤ 10 ^ 16 → Ready cipher setup side old a entries
-    → TurnsBy cipher setup side a new entries (got_as side time kind bytes) received
+-- an end that is ready at a moment
+pub record ReadyAt (cipher : CipherMeaning) (setup : Setup) (side : Side) (end : EndState) (a : Session) (entries : List Entry) (time : ℕ) : Type 0 where
+  pub valid : setup_fault setup ≡ None
+  pub late : a.rx.now ≤ time
+  pub early : time ≤ 10 ^ 16
+  pub some : 0 < time
+  pub ready : Ready cipher setup side end a entries
+
+-- what comes to an end at a moment brings this, and is right
+pub record TakesIn (cipher : CipherMeaning) (setup : Setup) (side : Side) (a : Session) (new : EndState) (entries : List Entry)
+    (came : GotEntry) (received : Option Received) : Type 0 where
+  pub turns : TurnsOn cipher setup side a new entries (Got came ∷ received_entries side received)
+  pub brought : AllByRecursion (IsBroughtBy (sealing_of cipher setup) setup came) (received_entries side received)
+
+-- a tick of an end at a moment seals this, and is right
+pub record TicksOn (cipher : CipherMeaning) (setup : Setup) (side : Side) (a : Session) (new : EndState) (entries : List Entry)
+    (time : ℕ) (sealed : List Entry) : Type 0 where
+  pub turns : TurnsOn cipher setup side a new entries (Ticked side time ∷ sealed)
+  pub right : AllByRecursion (IsRightSeal (sealing_of cipher setup) setup) sealed
+
+-- why a tick of an end at a moment is not played: its session is cut off as it finds no index or no number of repairs left;
+-- memory may run out
+pub record IsCutBy (cipher : CipherMeaning) (time : ℕ) (session : SessionRecord) (error : RtcError) : Type 0 where
+  pub after : SessionRecord
+  pub told : List Told
+  pub sent : List Datagram
+  pub cut : IsCutOff cipher time (after_timeout time session) error after told sent
+
+abbrev pub IsTickCause : CipherMeaning → Side → EndState → ℕ → StepError → Type 0
+IsTickCause cipher side old time Memory = Unit {0}
+IsTickCause cipher side old time (Rule fault) = ⊥
+IsTickCause cipher side old time (KeyExhausted by Rtcp) =
+    (by ≡ side) × ((r : SessionRecord) → SessionStands old.session r → r.state.stopped ≡ false → IsCutBy cipher time r (rtc.KeyExhausted srtcp.Rtcp))
+IsTickCause cipher side old time (KeyExhausted by (Rtx ssrc)) =
+    (by ≡ side) × ((r : SessionRecord) → SessionStands old.session r → r.state.stopped ≡ false → IsCutBy cipher time r (rtc.RepairsExhausted ssrc))

@@ -8,7 +8,7 @@ ghost use Rattle.media_model.specs.declared.entry.Entry.{Entry};
 ghost use Rattle.media_model.specs.declared.setup.Setup.{Setup as Given};
 ghost use Rattle.media_model.specs.declared.step.Step.{Step};
 ghost use Rattle.media_play.specs.Ends.{SessionStands};
-ghost use Rattle.media_play.specs.Listing.{OnlyAdds};
+ghost use Rattle.media_laws.specs.Listing.{OnlyAdds};
 ghost use Rattle.media_play.specs.Knowing.{has_written, IsNoted};
 ghost use Rattle.std.specs.Option.{option_map};
 ghost use Rattle.mask_register.specs.MaskRegister.{Remembers};
@@ -16,7 +16,7 @@ ghost use Rattle.session_core.specs.Calls.{told, after_events};
 ghost use Rattle.session_core.specs.SessionRecord.{SessionRecord};
 ghost use Rattle.media_play.specs.Packets.{write_at, seals_from, packet_told, packet_after, packet_in};
 
-use crate::fault::{StepError, StepFault};
+use crate::fault::StepError;
 use crate::log::Log;
 use crate::numbers::Numbers;
 use crate::starting::{no_numbers, start};
@@ -189,9 +189,9 @@ fn log_all(side: Side, datagrams: Vec<Datagram>, log: &mut Log) -> Result<(), Al
 impl<C: SrtpCipher> End<C> {
     ghost use Rattle.media_model.specs.declared.entry.Entry.TheVariants.{Wrote, Ticked, Called};
     ghost use Rattle.media_model.specs.Setup.{material_of};
-    ghost use Rattle.media_play.specs.Opening.{Sealing};
-    ghost use Rattle.media_play.specs.Play.{Played, Seals};
-    ghost use Rattle.media_play.specs.Rules.{write_fault};
+    ghost use Rattle.media_laws.specs.Opening.{Sealing};
+    ghost use Rattle.media_laws.specs.Play.{Played, Seals};
+    ghost use Rattle.media_laws.specs.Rules.{write_fault};
     ghost use Rattle.media_play.specs.SetupFacts.{IsSound};
     ghost use Rattle.setup_rules.specs.SetupRules.{setup_fault};
     ghost use Rattle.media_play.specs.Sessions.{Ready, TakesIn, sealing_of};
@@ -201,7 +201,7 @@ impl<C: SrtpCipher> End<C> {
     ghost use Rattle.media_model.specs.declared.entry.Call.TheVariants as call;
     ghost use Rattle.media_model.specs.declared.entry.Entry.TheVariants as happening;
     ghost use Rattle.media_play.specs.Errors.{is_rule, IsSendingCause};
-    ghost use Rattle.media_play.specs.Feedback.{IsSealOfPacket};
+    ghost use Rattle.media_laws.specs.Feedback.{IsSealOfPacket};
     ghost use Rattle.media_play.specs.Packets.{sealed_from};
 
     /// The end of a side of a setup that breaks no rule, before any step.

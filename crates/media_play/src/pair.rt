@@ -9,16 +9,16 @@ ghost use Rattle.media_model.specs.declared.setup.Setup.{Setup as Given};
 ghost use Rattle.media_model.specs.Sides.{peer_of};
 ghost use Rattle.media_model.specs.Entries.{datagrams};
 ghost use Rattle.media_play.specs.Errors.{IsCauseAt, is_rule, IsSendingCause, left_by};
-ghost use Rattle.media_play.specs.Listing.{OnlyAdds};
-ghost use Rattle.media_play.specs.Opening.{Sealing, got_as};
-ghost use Rattle.media_play.specs.Play.{Brings, IsTick, IsArrival, IsCall, Played};
-ghost use Rattle.media_play.specs.Rules.{write_fault, deliver_fault};
+ghost use Rattle.media_laws.specs.Listing.{OnlyAdds};
+ghost use Rattle.media_laws.specs.Opening.{Sealing, got_as};
+ghost use Rattle.media_laws.specs.Play.{Brings, IsTick, IsArrival, IsCall, Played};
+ghost use Rattle.media_laws.specs.Rules.{write_fault, deliver_fault};
 ghost use Rattle.media_play.specs.SetupFacts.{IsSound};
 ghost use Rattle.setup_rules.specs.SetupRules.{setup_fault};
 ghost use Rattle.media_play.specs.Sessions.{Ready, sealing_of, received_entries};
 
 use crate::end::{End, Received};
-use crate::fault::{StepError, StepFault};
+use crate::fault::StepError;
 use crate::log::Log;
 use media_base::{Bytes, Instant, Listed};
 use media_model::{
@@ -53,7 +53,7 @@ impl<C: SrtpCipher> Model for Pair<C> {
 impl<C: SrtpCipher> Pair<C> {
     ghost use Rattle.std.specs.Result.{result_err};
     ghost use Rattle.media_model.specs.Entries.{last_time};
-    ghost use Rattle.media_play.specs.Rules.{time_fault, step_fault};
+    ghost use Rattle.media_laws.specs.Rules.{time_fault, step_fault};
     ghost use Rattle.media_play.specs.Running.{IsRunOf, PlaysOn, Plays, Refuses};
 
     /// The two ends of a setup that breaks no rule, before any step.

@@ -2,8 +2,8 @@ ghost use Rattle.std.specs.Prelude.{◌≡◌, ◌++◌, List, [], None, IfOk, I
 ghost use Rattle.media_model.specs.declared.step.Step.{Step as Act};
 ghost use Rattle.media_model.specs.declared.setup.Setup.{Setup as Given};
 ghost use Rattle.media_play.specs.Errors.{left_by};
-ghost use Rattle.media_play.specs.Headline.{HoldsOfRun, StepsAreAnswered, SealsAreRight, NoNonceTwice, SendsWrites, YieldsWrites, NoPacketTwice, FirstSendingsAreYielded};
-ghost use Rattle.media_play.specs.Play.{Played};
+ghost use Rattle.media_laws.specs.Headline.{HoldsOfRun, StepsAreAnswered, SealsAreRight, NoNonceTwice, SendsWrites, YieldsWrites, NoPacketTwice, FirstSendingsAreYielded};
+ghost use Rattle.media_laws.specs.Play.{Played};
 ghost use Rattle.media_play.specs.Running.{HasCause, OfRun, run_cause};
 ghost use Rattle.setup_rules.specs.SetupRules.{setup_fault};
 ghost use Rattle.media_play.specs.Sessions.{sealing_of};
