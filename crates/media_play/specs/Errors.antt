@@ -2,6 +2,8 @@
 use Rattle.std.specs.Prelude.{◌≡◌, ◌^◌, Bool, true, false, List, [], ◌∷◌, Option, Some, None}
 use Rattle.srtp_core.specs.Cipher.{CipherMeaning}
 use Rattle.media_laws.specs.declared.counter.Counter.TheVariants as key
+use Rattle.session_core.specs.declared.error.RtcError.{RtcError}
+use Rattle.session_core.specs.declared.error.RtcError.TheVariants as rtc
 use Rattle.media_model.specs.declared.entry.Side.{Side}
 use Rattle.media_model.specs.declared.entry.Call.TheVariants as call
 use Rattle.media_model.specs.declared.entry.Entry.{Entry}
@@ -44,3 +46,9 @@ IsSendingCause setup side entries (KeyExhausted by counter) =
 abbrev pub left_by : Step → StepError → List Entry
 left_by step (KeyExhausted side counter) = call_of step
 left_by step _ = []
+
+-- the error of a step at which a side's session is cut off with an error
+abbrev pub cut_as : Side → RtcError → StepError
+cut_as side (rtc.KeyExhausted counter) = KeyExhausted side key.Rtcp
+cut_as side (rtc.RepairsExhausted ssrc) = KeyExhausted side (key.Rtx ssrc)
+cut_as side _ = Memory
