@@ -1,6 +1,5 @@
 -- What mirrors a plain session goes on to do so as time passes.
-use Rattle.std.proofs.Common.{◌≡◌, ℕ, ◌≤◌, List, [], ◌∷◌, Option, Some, None, is_none, refl, sym, ap, ◌∙◌, subst, arith, cond, ◌||◌, false}
-use Rattle.std.specs.List.{AllZip}
+use Rattle.std.proofs.Common.{◌≡◌, ℕ, ◌≤◌, List, Option, Some, None, is_none, ap, ◌∙◌, arith, cond, ◌||◌, false}
 use Rattle.rtx_core.specs.Ratio.{CapRecord}
 use Rattle.stream_core.specs.declared.payload_types.TypeRow.{TypeRow}
 use Rattle.stream_core.specs.Repairing.{RepairsRecord, repairs_of}
@@ -14,7 +13,7 @@ use Rattle.media_model.specs.declared.entry.Write.{Write}
 use Rattle.run_model.specs.Events.{Outgoing, Incoming}
 use Rattle.run_model.specs.RxPlay.{RxRecord}
 use Rattle.run_model.specs.TxPlay.{TxRecord}
-use Rattle.session_turns.specs.Mirrors.{IsRecent, CapMirrors, MirrorsCap, RepairsMirror, SendsNothingAgain, MirrorsRepairs, TxMirrors, RxMirror, rx_mirror}
+use Rattle.session_turns.specs.Mirrors.{IsRecent, MirrorsCap, MirrorsRepairs, TxMirrors, RxMirror, rx_mirror}
 
 -- all but what was written, what waits and what is sent again
 abbrev pub changed : TxRecord → List ℕ → List Write → List ℕ → TxRecord

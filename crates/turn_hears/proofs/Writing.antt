@@ -1,27 +1,25 @@
 -- A write is a turn.
-use Rattle.std.proofs.Common.{◌≡◌, inl, inr, ℕ, zero, suc, ◌≤◌, Bool, true, false, cond, ◌||◌, List, [], ◌∷◌, ◌++◌, map, slice_get, Option, Some, None, refl, sym, ap, ◌∙◌, subst}
+use Rattle.std.proofs.Common.{◌≡◌, inl, inr, ℕ, zero, suc, ◌≤◌, Bool, true, false, cond, ◌||◌, List, [], ◌∷◌, ◌++◌, map, slice_get, Some, None, refl, sym, ap, ◌∙◌, subst}
 use Rattle.std.specs.Prelude.{◌==◌}
-use Rattle.std.specs.List.{AllByRecursion, AllZip}
+use Rattle.std.specs.List.{AllZip}
 use Rattle.std.specs.Map.{keys_of}
 use Rattle.std.proofs.lemmas.Bool.{eqb-true, eq-eqb, false≢true}
 use Rattle.std.proofs.lemmas.List.{map-append}
 use Rattle.std.proofs.lemmas.Option.{none-some, same_Some}
-use Rattle.srtp_core.specs.Cipher.{CipherMeaning}
 use Rattle.stream_core.specs.declared.payload_types.TypeRow.{TypeRow}
 use Rattle.stream_core.specs.Repairing.{RepairsRecord, repairs_of}
-use Rattle.stream_core.specs.Tables.{place_of, change_place}
+use Rattle.stream_core.specs.Tables.{change_place}
 use Rattle.stream_core.specs.TxRecord.{TxRecord as StreamTx, written}
 use Rattle.stream_core.specs.Write.{packet_of}
-use Rattle.session_core.specs.SessionRecord.{MediaRecord, SessionRecord}
-use Rattle.media_model.specs.declared.entry.Side.{Side}
+use Rattle.session_core.specs.SessionRecord.{MediaRecord}
 use Rattle.media_model.specs.declared.entry.Write.{Write}
-use Rattle.run_model.specs.Events.{Outgoing, wrote}
+use Rattle.run_model.specs.Events.{Outgoing}
 use Rattle.run_model.specs.Sending.{is_just}
 use Rattle.run_model.specs.TxPlay.{TxRecord, after_write}
-use Rattle.run_model.specs.Tables.{Table, lines, has, AllStrange, AreApart, written_to, IsUnused}
-use Rattle.run_model.specs.Whole.{Config, Session, writes}
-use Rattle.session_turns.specs.Laws.{TurnsTo, WritesTurn}
-use Rattle.session_turns.specs.Mirrors.{IsGiven, write_at, packet_at, TxMirrors, Mirrors, IsFit}
+use Rattle.run_model.specs.Tables.{Table, lines, has, AllStrange, AreApart, written_to}
+use Rattle.run_model.specs.Whole.{writes}
+use Rattle.session_turns.specs.Laws.{WritesTurn}
+use Rattle.session_turns.specs.Mirrors.{IsGiven, write_at, packet_at, TxMirrors}
 use Rattle.turn_hears.proofs.Keys.{tested, left_false, key_at, keys_changed, same_owns, all_push}
 use Rattle.turn_hears.proofs.Later.{again_later, tx_later, rx_still}
 

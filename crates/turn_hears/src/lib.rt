@@ -3,4 +3,4 @@
 
 mod law;
 
-pub use law::writes_turn;
+pub use law::{calls_turn, hears_turn, writes_turn};

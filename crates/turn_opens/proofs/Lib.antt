@@ -1,0 +1,5 @@
+pub mod Fresh
+pub mod Keyed
+pub mod Streams
+pub mod Records
+pub mod Changes

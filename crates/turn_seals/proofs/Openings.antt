@@ -1,6 +1,6 @@
 -- What a session opens is a seal of the plain datagram that it tells of.
-use Rattle.std.proofs.Common.{◌≡◌, ◌⊎◌, inl, inr, ℕ, zero, suc, ◌+◌, ◌*◌, ◌/◌, ◌%◌, ◌<◌, Bool, true, false, List, [], ◌∷◌, ◌++◌, take, drop, slice_get, get_or, Option, Some, None, refl, sym, ap, ◌∙◌, subst, arith}
-use Rattle.std.specs.Prelude.{◌==◌, if◌then◌else◌, option_and_then, slice_index, unwrap_or}
+use Rattle.std.proofs.Common.{◌≡◌, inl, inr, ℕ, zero, suc, ◌+◌, ◌*◌, ◌/◌, ◌%◌, ◌<◌, Bool, true, false, List, [], ◌∷◌, ◌++◌, take, drop, slice_get, get_or, Option, Some, None, refl, sym, ap, ◌∙◌, subst, arith}
+use Rattle.std.specs.Prelude.{◌==◌, if◌then◌else◌, slice_index, unwrap_or}
 use Rattle.std.specs.List.{AllByRecursion, AllZip}
 use Rattle.std.specs.Map.{values_of}
 use Rattle.std.specs.Int.{w16, from_be_bytes}
@@ -31,12 +31,8 @@ use Rattle.run_model.specs.Events.{Incoming}
 use Rattle.run_model.specs.RxPlay.{RxRecord as PlainRx}
 use Rattle.session_turns.specs.Reading.{len_in}
 use Rattle.session_turns.specs.Mirrors.{RxStands, RxMirror, rx_mirror}
-use Rattle.session_turns.specs.Rights.{IsRightOpening, IsRightRtcpOpening, RtcpOpeningsAreRight}
-use Rattle.turn_seals.specs.Openings.{OpeningsAreRight}
-
-tested : (b : Bool) → (b ≡ true) ⊎ (b ≡ false)
-tested true = inl refl
-tested false = inr refl
+use Rattle.session_turns.specs.Rights.{IsRightOpening, OpeningsAreRight, IsRightRtcpOpening, RtcpOpeningsAreRight}
+use Rattle.turn_seals.proofs.Tests.{some_and_then, tested}
 
 -- the number that a header states, of bytes, has 16 bits
 two_bytes : (l : List ℕ) → ((i : ℕ) → slice_index l i < 256) → from_be_bytes w16 l < 65536
@@ -99,11 +95,6 @@ repair_low seen h x n lt e =
       | inl t ↦ padded_low seen h x n lt (rw t at e)
       | inr t ↦ fresh_repair_low (seen_of h.ssrc seen) x h.sequence_number n lt (rw t at e)
     ]
-
--- what an option that is there was made of
-some_and_then : {X Y : Type 0} (f : X → Option Y) (o : Option X) (y : Y) → option_and_then f o ≡ Some y → (x : X) × (o ≡ Some x) × (f x ≡ Some y)
-some_and_then f None y e = absurd cc
-some_and_then f (Some x) y e = (x, refl, e)
 
 -- no stream has a rollover count that was set
 pub record HasNoCount (e : ℕ × RxRecord) : Type 0 where
@@ -184,7 +175,7 @@ mirror_counts : (threshold : ℕ) (trip : Option ℕ) (r : SessionRecord) (ss : 
 mirror_counts threshold trip r _ (rx_mirror s rest is probes stands) = (probes.roc, no_counts threshold trip r.seen r.rx rest stands)
 
 pub openings_are_right : ReadsOwnBytes → OpeningsAreRight
-openings_are_right own cipher C side r after a other time bytes o mirrors are key receives =
+openings_are_right own cipher C side r after a other time bytes o mirrors key are receives =
     let counts = mirror_counts C.threshold a.rx.trip r a.rx.table mirrors.rx in
     opened_right cipher r other time bytes own counts.1 counts.0 are key after (Some o) o refl receives
 

@@ -1,7 +1,16 @@
-ghost use Rattle.session_turns.specs.Rights.{CallsAreRight, RtcpOpeningsAreRight};
-ghost use Rattle.turn_seals.specs.Openings.{OpeningsAreRight};
+ghost use Rattle.session_turns.specs.Rights.{CallsAreRight, OpeningsAreRight, RtcpOpeningsAreRight, SealsAreRight};
 
-use rtp_wire::header_reads_own_bytes;
+use rtcp_wire::items_fit_by_lengths;
+use rtp_wire::{header_reads_own_bytes, written_header_is_read_again};
+
+/// All that leaves at a tick is right: RTP of the session's own streams, whose plain reads with the SSRC and the low 16 bits of
+/// the number under which it is sealed, and encrypted RTCP.
+pub fn seals_are_right()
+    ensures { SealsAreRight }
+{
+    written_header_is_read_again();
+    items_fit_by_lengths();
+}
 
 /// What an application's call sends is the encrypted seal of its item, under the next index.
 pub fn calls_are_right()

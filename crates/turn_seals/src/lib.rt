@@ -3,4 +3,4 @@
 
 mod law;
 
-pub use law::{calls_are_right, openings_are_right, rtcp_openings_are_right};
+pub use law::{calls_are_right, openings_are_right, rtcp_openings_are_right, seals_are_right};

@@ -1,0 +1,5 @@
+use Rattle.turn_seals.proofs.Drains.{seals_are_right}
+use Rattle.turn_seals.proofs.law.seals_are_right.Goals as goal
+
+pub returns : goal.returns
+returns c = seals_are_right c.written_header_is_read_again.ensures c.items_fit_by_lengths.ensures

@@ -1,0 +1,223 @@
+-- A tick of a session, with its drain, is a turn of the plain session.
+use Rattle.std.proofs.Common.{◌≡◌, ℕ, ◌+◌, ◌-◌, ◌≤◌, ◌<◌, ◌^◌, Bool, true, false, List, [], ◌∷◌, ◌++◌, map, Some, None, is_some, is_none, refl, sym, ap, ◌∙◌, subst, arith}
+use Rattle.std.specs.Prelude.{◌&&◌, ◌||◌, ◌==◌, nat_eq, nat_le, position, if◌then◌else◌}
+use Rattle.std.specs.List.{AllByRecursion, flat_map}
+use Rattle.std.specs.Map.{keys_of}
+use Rattle.std.proofs.lemmas.List.{append-nil, map-append}
+use Rattle.media_units.specs.Wallclock.{ntp_nanos}
+use Rattle.rtp_wire.specs.declared.extension.ExtensionMap.{ExtensionMap}
+use Rattle.rtcp_wire.specs.declared.packet.Rtcp.{Rtcp}
+use Rattle.rtcp_wire.specs.declared.rtcp_fb.RtcpFb.{RtcpFb}
+use Rattle.rtcp_wire.specs.Laws.{ItemsReadBack, ItemsFitByLengths}
+use Rattle.rtcp_wire.specs.Streams.{feedback_of}
+use Rattle.srtp_core.specs.Cipher.{CipherMeaning}
+use Rattle.srtp_core.specs.Contexts.{SrtpState}
+use Rattle.repair_core.specs.Entries.{RoundsNameTheDue}
+use Rattle.repair_core.specs.Rounds.{wait_of}
+use Rattle.stream_core.specs.declared.transport.Transport.{Transport}
+use Rattle.stream_core.specs.Missing.{after_round as stream_after_round, nacks}
+use Rattle.stream_core.specs.Pauses.{checked, on_record, told as stream_told}
+use Rattle.stream_core.specs.Repairing.{RepairsRecord}
+use Rattle.stream_core.specs.Tables.{each}
+use Rattle.stream_core.specs.TxRecord.{TxRecord as StreamTx, after_timeout as stream_after_timeout}
+use Rattle.session_core.specs.declared.datagram.Datagram.{Datagram}
+use Rattle.session_core.specs.Calls.{lacks_keys, after_events}
+use Rattle.session_core.specs.Hearing.{trip_of}
+use Rattle.session_core.specs.Rounds.{is_round, round_interval, sender_ssrc, after_round, after_checks, after_timeout}
+use Rattle.session_core.specs.Sending.{Drains}
+use Rattle.session_core.specs.SessionRecord.{SessionRecord}
+use Rattle.media_model.specs.declared.entry.Side.{Side}
+use Rattle.media_model.specs.Sides.{peer_of}
+use Rattle.run_model.specs.Events.{Event, ticked, Types}
+use Rattle.run_model.specs.Asking.{any_enabled as any_plain_enabled, is_round as is_plain_round, item_in, items_in, Feedback, ticked_in, ticked_side}
+use Rattle.run_model.specs.Seals.{Sealing}
+use Rattle.run_model.specs.Tables.{AreApart, begun_at, DrainsAll}
+use Rattle.run_model.specs.Whole.{Config, Session, ticks, Counts, index_of, indices}
+use Rattle.session_turns.specs.Laws.{TurnsTo, TicksTurn}
+use Rattle.session_turns.specs.Mirrors.{IsWide, IsFit, Mirrors}
+use Rattle.session_turns.specs.Packets.{PacketsDrain, DrainsPackets}
+use Rattle.session_turns.specs.Reading.{event_of, events_of, types_in, sealing_of}
+use Rattle.turn_ticks.proofs.Lists.{map_map, flat_map_append, and_turned, far_enough}
+use Rattle.turn_ticks.proofs.Items.{IsRead}
+use Rattle.turn_ticks.proofs.Streams.{ticked_rx, enabled_mirrored, rx_ticked_mirror}
+use Rattle.turn_ticks.proofs.Compounds.{Splits, splits, no_items, no_indices}
+use Rattle.turn_ticks.proofs.Asks.{nacks_read, feedback_is}
+use Rattle.turn_ticks.proofs.Outgoing.{same_keys, all_stamped}
+
+-- a session after a tick, which may be a round, and after all was told
+abbrev begun_session : ℕ → Bool → SessionRecord → SessionRecord
+begun_session now b r = record {
+  state = record r.state {
+    tx = each (stream_after_timeout now) r.state.tx;
+    released = true;
+    feedback = if b then nacks (sender_ssrc r.state) now r.rx else [];
+    last_round = if b then now else r.state.last_round;
+    application = None;
+    packet = None;
+  };
+  rx = ticked_rx r.state.pause_threshold r.seen now b r.rx;
+  originals = r.originals;
+  probes = on_record (checked now) r.probes;
+  seen = r.seen;
+  repairs = r.repairs;
+}
+
+abbrev checked_session : ℕ → Bool → SessionRecord → SessionRecord
+checked_session now b r = record {
+  state = record r.state {
+    tx = each (stream_after_timeout now) r.state.tx;
+    released = true;
+    feedback = if b then r.state.feedback ++ nacks (sender_ssrc r.state) now r.rx else r.state.feedback;
+    last_round = if b then now else r.state.last_round;
+  };
+  rx = each (on_record (checked now)) (if b then each (stream_after_round now) r.rx else r.rx);
+  originals = r.originals;
+  probes = on_record (checked now) r.probes;
+  seen = r.seen;
+  repairs = r.repairs;
+}
+
+checks_are : (now : ℕ) (b : Bool) (r : SessionRecord) → after_checks now (if b then after_round now r else r) ≡ checked_session now b r
+checks_are now true r = refl
+checks_are now false r = refl
+
+told_all : (s : SessionRecord) → lacks_keys s.state ≡ false → after_events s ≡ record s { state = record s.state { application = None; packet = None }; rx = each (on_record stream_told) s.rx }
+told_all s keys = λ j. record s {
+  state = if keys j then s.state else record s.state { application = None; packet = None };
+  rx = if keys j then s.rx else each (on_record stream_told) s.rx;
+}
+
+begun_is : (now : ℕ) (b : Bool) (r : SessionRecord) {own other : SrtpState} → is_round now r ≡ b → r.state.sealing ≡ Some own → r.state.opening ≡ Some other → r.state.feedback ≡ []
+    → after_events (after_timeout now r) ≡ begun_session now b r
+begun_is now b r {own} {other} round seals opens quiet =
+    let keys : lacks_keys r.state ≡ false = λ i. is_none (seals i) || is_none (opens i) in
+    let timed : after_timeout now r ≡ checked_session now b r =
+    ap {A = Bool} {B = SessionRecord} (λ c. after_checks now (if c then after_round now r else r)) round ∙ checks_are now b r in
+    ap after_events timed ∙ told_all (checked_session now b r) keys
+    ∙ ap {A = List Rtcp} {B = SessionRecord}
+    (λ f. record (begun_session now b r) { state = record (begun_session now b r).state { feedback = if b then f ++ nacks (sender_ssrc r.state) now r.rx else f } }) quiet
+
+module _ (drain : PacketsDrain) (names : RoundsNameTheDue) (read_back : ItemsReadBack) (lengths : ItemsFitByLengths)
+    (cipher : CipherMeaning) (C : Config) (side : Side) (r : SessionRecord) (a : Session) (time : ℕ) (fit : IsFit C) (m : Mirrors cipher C side r a) (later : 0 < time) (after_now : a.rx.now ≤ time) where
+  abbrev round : Bool
+  round = is_plain_round a.rx time
+
+  abbrev exts : ExtensionMap
+  exts = r.state.transport.exts
+
+  abbrev asked_items : List Rtcp
+  asked_items = nacks (sender_ssrc r.state) time r.rx
+
+  round_is : is_round time r ≡ round
+  round_is =
+      (λ i. nat_le round_interval (time - m.last_round i) && enabled_mirrored C.threshold a.rx.trip r a.rx.table m.rx i)
+      ∙ ap (λ (b : Bool). b && any_plain_enabled a.rx.table) (far_enough a.rx.last_round time)
+      ∙ and_turned (nat_le (a.rx.last_round + 33000000) time) (any_plain_enabled a.rx.table)
+
+  abbrev first : SessionRecord
+  first = begun_session time round r
+
+  items_read : AllByRecursion IsRead first.state.feedback
+  items_read = by round where
+    by : (b : Bool) → AllByRecursion IsRead (if b then nacks (sender_ssrc r.state) time r.rx else [])
+    by true = nacks_read C.threshold a.rx.trip r (C.outgoing (peer_of side)) a.rx.table lengths (sender_ssrc r.state) time m.rx m.incoming (fit.words (peer_of side))
+    by false = tt
+
+  index_left : m.own.srtcp_index ≤ 2 ^ 31
+  index_left = let is = m.index in let most = m.bounded in omega (arith, is, most)
+
+  abbrev SplitsTo : SessionRecord → List Datagram → Type 0
+  SplitsTo after all = Splits cipher time later read_back first m.own index_left m.seals exts items_read after all
+
+  split : (after : SessionRecord) (all : List Datagram) → Drains cipher time (after_events (after_timeout time r)) after all → SplitsTo after all
+  split after all drains =
+      splits cipher time later read_back first m.own index_left m.seals exts items_read after all
+      (subst (λ (x : SessionRecord). Drains cipher time x after all) (begun_is time round r round_is m.seals m.opens m.feedback) drains)
+
+  -- the session before packets leave
+  abbrev before_packets : ℕ → SessionRecord
+  before_packets next = record first { state = record first.state { feedback = []; sealing = Some (record m.own { srtcp_index = next }) } }
+
+  abbrev own_at : ℕ → SrtpState
+  own_at next = record m.own { srtcp_index = next }
+
+  abbrev Emptied : ℕ → SessionRecord → List Datagram → Type 0
+  Emptied next after rest = DrainsPackets cipher (before_packets next) after (own_at next) time a.tx rest
+
+  emptied : (next : ℕ) (after : SessionRecord) (rest : List Datagram) → Drains cipher time (before_packets next) after rest → Emptied next after rest
+  emptied next after rest drains =
+      drain cipher (before_packets next) after (own_at next) time a.tx rest later refl refl refl
+      (subst AreApart (sym m.outgoing) (fit.apart side))
+      (subst (AllByRecursion IsWide) (sym m.outgoing) (fit.words side))
+      (λ pt rtx e. fit.rtx_types pt rtx (ap (λ (T : Types). T.rtx_of pt) m.types ∙ e))
+      (all_stamped r.state.types r.state.medias a.rx.now time after_now r.repairs r.state.tx a.tx m.tx)
+      drains
+
+  -- the session after all left
+  abbrev drained : ℕ → List (ℕ × StreamTx) → Transport → List (ℕ × RepairsRecord) → SessionRecord
+  drained next tx transport repairs = record (before_packets next) {
+    state = record (before_packets next).state { tx = tx; transport = transport; released = false };
+    repairs = repairs;
+  }
+
+  turned : (after : SessionRecord) (all : List Datagram) → (s : SplitsTo after all) → Emptied s.next after s.rest → TurnsTo cipher C side r a after (ticked time ∷ events_of exts all)
+  turned after all s d =
+      let ones : List Event = events_of exts s.front in
+      let others : List Event = events_of exts s.rest in
+      let events : events_of exts all ≡ ones ++ others = ap (events_of exts) s.is ∙ map-append (event_of exts) s.front s.rest in
+      let drains : DrainsAll C.types (C.seals side) time (map (begun_at time) a.tx) d.streams (ones ++ others) =
+      subst (λ (T : Types). DrainsAll T (C.seals side) time (map (begun_at time) a.tx) d.streams (ones ++ others)) (sym m.types)
+      (subst (λ (S : Sealing). DrainsAll (types_in r.state.types) S time (map (begun_at time) a.tx) d.streams (ones ++ others)) (sym m.own_seals)
+      (s.drains (types_in r.state.types) (sealing_of cipher exts m.own) time (map (begun_at time) a.tx) d.streams others d.drains)) in
+      let items : items_in (ones ++ others) ≡ flat_map feedback_of first.state.feedback =
+      flat_map_append item_in ones others ∙ ap (λ (l : List RtcpFb). items_in ones ++ l) (no_items exts s.rest s.rtp) ∙ append-nil (items_in ones) ∙ s.told in
+      let feedback : Feedback a.rx time a.rx.table (items_in (ones ++ others)) =
+      subst (λ (l : List RtcpFb). Feedback a.rx time a.rx.table l) (sym items) (feedback_is a.rx time names C.threshold (sender_ssrc r.state) r a.rx.table m.rx) in
+      let counted : indices (ones ++ others) ≡ indices ones =
+      flat_map_append index_of ones others ∙ ap (λ (l : List ℕ). indices ones ++ l) (no_indices exts s.rest s.rtp) ∙ append-nil (indices ones) in
+      let counts : Counts a.rtcp (indices (ones ++ others)) s.next =
+      subst (λ (l : List ℕ). Counts a.rtcp l s.next) (sym counted) (subst (λ (k : ℕ). Counts k (indices ones) s.next) m.index s.counts) in
+      let x : SessionRecord = drained s.next after.state.tx after.state.transport after.repairs in
+      let keys : keys_of after.state.tx ≡ keys_of r.state.tx = d.keys ∙ same_keys time r.state.tx in
+      subst (λ (l : List Event). TurnsTo cipher C side r a after (ticked time ∷ l)) (sym events)
+      (subst (λ (y : SessionRecord). TurnsTo cipher C side r a y (ticked time ∷ ones ++ others)) (sym d.rest)
+      (record {
+        session = record { tx = d.streams; rx = ticked_side a.rx time; rtcp = s.next };
+        turn = ticks time (ones ++ others) s.next after_now drains feedback counts;
+        mirrors = record {
+          own = own_at s.next;
+          other = m.other;
+          seals = refl;
+          opens = m.opens;
+          own_seals = m.own_seals ∙ ap (λ (e : ExtensionMap). sealing_of cipher e m.own) (sym d.exts);
+          other_seals = m.other_seals ∙ ap (λ (e : ExtensionMap). sealing_of cipher e m.other) (sym d.exts);
+          own_reports = m.own_reports;
+          other_reports = m.other_reports;
+          index = refl;
+          bounded = s.bounded;
+          types = m.types;
+          trip = m.trip ∙ (λ i now delay. trip_of (ntp_nanos (sym d.beginning i).unix_secs now) delay);
+          owns = m.owns ∙ (λ i ssrc. ssrc == r.state.local_ssrc || is_some (position (nat_eq ssrc) (sym keys i)));
+          outgoing = d.same_lines ∙ m.outgoing;
+          incoming = map_map (λ s. s.0) (ticked_in time round (wait_of a.rx.trip)) a.rx.table ∙ m.incoming;
+          tx = d.tx;
+          rx = rx_ticked_mirror C.threshold a.rx.trip time round r x a.rx.table m.rx refl refl refl;
+          originals = m.originals;
+          last_round = λ i. if round then time else m.last_round i;
+          target = m.target;
+          feedback = refl;
+          released = refl;
+          application = refl;
+          packet = refl;
+        };
+        types = refl;
+        exts = d.exts;
+        runs = refl;
+      }))
+
+  pub turns : (after : SessionRecord) (all : List Datagram) → Drains cipher time (after_events (after_timeout time r)) after all → TurnsTo cipher C side r a after (ticked time ∷ events_of exts all)
+  turns after all drains = let s = split after all drains in turned after all s (emptied s.next after s.rest s.packets)
+
+pub ticks_turn : PacketsDrain → RoundsNameTheDue → ItemsReadBack → ItemsFitByLengths → TicksTurn
+ticks_turn drain names read_back lengths cipher C side r after a time all fit m after_now later small drains =
+    turns drain names read_back lengths cipher C side r a time fit m later after_now after all drains
