@@ -28,8 +28,6 @@ pub enum SetupFault {
     RidTwice,
     /// A cache has no packets, or more than 32,000.
     CacheSize,
-    /// A stream has an RTX SSRC, or a payload type one of repairs, which runs do not support yet.
-    RtxLater,
 }
 
 impl fmt::Display for SetupFault {
@@ -46,7 +44,6 @@ impl fmt::Display for SetupFault {
             SetupFault::SsrcTwice => write!(f, "SsrcTwice"),
             SetupFault::RidTwice => write!(f, "RidTwice"),
             SetupFault::CacheSize => write!(f, "CacheSize"),
-            SetupFault::RtxLater => write!(f, "RtxLater"),
         }
     }
 }
