@@ -3,8 +3,8 @@ use Rattle.std.specs.Prelude.{◌≡◌, ◌<◌, ◌≤◌, ◌^◌, ℕ, true,
 use Rattle.media_model.specs.declared.entry.Side.{Side}
 use Rattle.media_model.specs.declared.setup.Setup.{Setup}
 use Rattle.media_model.specs.Setup.{streams_of, types_of}
-use Rattle.media_play.specs.Listing.{NoRepeat}
-use Rattle.media_play.specs.Rules.{has}
+use Rattle.media_laws.specs.Listing.{NoRepeat}
+use Rattle.media_laws.specs.Rules.{has}
 
 -- payload types fit the header's field, no SSRC of a side is 0 or stands twice, and the target for
 -- the length of datagrams is at least 900

@@ -9,8 +9,8 @@ use Rattle.media_model.specs.declared.step.Step.TheVariants.{Write, Tick, Delive
 use Rattle.media_model.specs.declared.setup.Setup.{Setup}
 use Rattle.media_model.specs.Sides.{peer_of}
 use Rattle.media_model.specs.Setup.{streams_of, types_of}
-use Rattle.media_play.specs.declared.fault.StepFault.{StepFault}
-use Rattle.media_play.specs.declared.fault.StepFault.TheVariants.{TimeZero, TimeBack, TimeBeyond, UnknownStream, UnknownDatagram, UnknownType, NumberTooBig, NumberUsed, PayloadTooLong, TooManySources}
+use Rattle.media_laws.specs.declared.fault.StepFault.{StepFault}
+use Rattle.media_laws.specs.declared.fault.StepFault.TheVariants.{TimeZero, TimeBack, TimeBeyond, UnknownStream, UnknownDatagram, UnknownType, NumberTooBig, NumberUsed, PayloadTooLong, TooManySources}
 use Rattle.media_model.specs.Entries.{last_time, writes_on, datagrams}
 pub use Rattle.setup_rules.specs.SetupRules.{has, first_fault}
 

@@ -3,19 +3,15 @@ use Rattle.std.specs.Prelude.{◌≡◌, ◌<◌, ◌≤◌, ◌+◌, ◌^◌, �
 use Rattle.rtcp_wire.specs.declared.packet.Rtcp.TheVariants.{AppSpecificFeedback}
 use Rattle.rtcp_wire.specs.Texts.{text_of}
 use Rattle.srtp_core.specs.RtcpSeals.{sender_of}
-use Rattle.srtp_core.specs.declared.counter.Counter.{Counter}
-use Rattle.srtp_core.specs.declared.counter.Counter.TheVariants as key
 use Rattle.rtp_base.specs.declared.kind.Kind.TheVariants.{Rtcp}
 use Rattle.media_model.specs.declared.entry.Side.{Side}
 use Rattle.media_model.specs.declared.entry.Sealed.{Sealed as SealedEntry}
 use Rattle.media_model.specs.declared.entry.Entry.{Entry}
 use Rattle.media_model.specs.declared.entry.Entry.TheVariants.{Sealed}
-use Rattle.media_model.specs.declared.step.Step.{Step}
-use Rattle.media_model.specs.declared.step.Step.TheVariants.{Application}
 use Rattle.media_model.specs.declared.setup.Setup.{Setup}
 use Rattle.media_model.specs.Entries.{srtcp_indices}
 use Rattle.media_model.specs.Setup.{local_of}
-use Rattle.media_play.specs.Opening.{Sealing}
+use Rattle.media_laws.specs.Opening.{Sealing}
 
 -- the index under which a side seals its next RTCP datagram: the setup's first one, and one more for each that it sealed
 abbrev pub next_index : Setup → Side → List Entry → ℕ
@@ -45,9 +41,3 @@ pub data SendsFeedback (seal : Sealing) (setup : Setup) (side : Side) (past : Li
       → IsSealOfPacket seal setup side past (application_packet sender media payload) s
       → SendsFeedback seal setup side past (Sealed s ∷ [])
   sends_none : next_index setup side past ≡ 2 ^ 31 → SendsFeedback seal setup side past []
-
--- after these entries a step has a side seal a datagram behind the last number of this counter
-abbrev pub Exhausts : Setup → List Entry → Step → Side → Counter → Type 0
-Exhausts setup entries (Application by time sender media payload) side counter =
-    (by ≡ side) × (counter ≡ key.Rtcp) × (next_index setup by entries ≡ 2 ^ 31)
-Exhausts setup entries step side counter = ⊥

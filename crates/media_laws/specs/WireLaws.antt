@@ -4,8 +4,8 @@ use Rattle.rtp_wire.specs.declared.header.RtpHeader.{RtpHeader}
 use Rattle.media_model.specs.declared.entry.Side.{Side}
 use Rattle.media_model.specs.declared.entry.Write.{Write as Writing}
 use Rattle.media_model.specs.declared.setup.Setup.{Setup}
-use Rattle.media_play.specs.Opening.{Sealing}
-use Rattle.media_play.specs.Plain.{extensions_of, read_header, Carries}
+use Rattle.media_laws.specs.Opening.{Sealing}
+use Rattle.media_laws.specs.Plain.{extensions_of, read_header, Carries}
 
 -- a header is read off its own bytes; one of a write has at most 160 bytes; a seal begins with the
 -- header, is at most 16 bytes longer than the plain datagram, and tells it
