@@ -1,1 +1,2 @@
+pub mod SentLaws
 pub mod TakenLaws
