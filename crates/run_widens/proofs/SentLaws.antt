@@ -196,6 +196,7 @@ module _ (T : Types) (k : Carried) where
       below : (a : ℕ) (g : Option ℕ) → g ≡ Some a → IsBelow g at → nat_lt a at ≡ true
       below a None u i = absurd cc
       below a (Some x) u i = let same : x ≡ a = cc in lt-ltb a at (let P : ℕ → Type 0 = λ y. y < at in subst P same i)
+
       now : (g : Option ℕ) → f ≡ g → (b : Bool) → is_before f l ≡ b → (any_sent T k s.sent || list_any (carried_by T k) s.waiting) ≡ is_before f (Some at)
       now None u b v =
           (λ i. (h.sent ∙ ap (λ o. is_before o l) u) i || h.never u i) ∙ sym (ap (λ o. is_before o (Some at)) u)

@@ -6,7 +6,7 @@ ghost use Rattle.run_model.specs.Transcripts.{outgoing_in, outgoing_of};
 ghost use Rattle.run_model.specs.Widening.{RunWidens};
 ghost use Rattle.run_widens.specs.Lines.{happening_in};
 ghost use Rattle.run_widens.specs.Sent.{Holds};
-ghost use Rattle.run_widens.specs.Widens.{AfterRepair, Told, taken_on, LineWidens, AllWiden};
+ghost use Rattle.run_widens.specs.Widens.{AfterRepair, IsCarried, Told, taken_on, LineWidens, AllWiden};
 
 use crate::line::Line;
 use crate::packet::{Packet, read};
@@ -121,17 +121,26 @@ fn after_repair(taken: Taken, sent: &Sent<'_>, packet: &Packet<'_>) -> Option<Ta
         return Some(taken);
     };
     let number = widen16(taken.greatest, low);
-    let key = Carried {
+    let key = key_in(packet, number, payload);
+    if was_sent(sent, &key) {
+        Some(taken.restored(number))
+    } else {
+        None
+    }
+}
+
+// What a repair carries, with the number that it restores and what stands behind its low 16 bits.
+fn key_in<'x>(packet: &'x Packet<'x>, number: u64, payload: &'x [u8]) -> Carried<'x>
+    requires { packet.now.csrc_count ≤ 15 }
+    ensures number { result.number ≡ number }
+    ensures carried { IsCarried result packet.now payload.now }
+{
+    Carried {
         number,
         pt: u8::from(packet.pt),
         marker: packet.marker,
         time: packet.time,
         csrc: &packet.csrc[..packet.csrc_count],
         payload,
-    };
-    if was_sent(sent, &key) {
-        Some(taken.restored(number))
-    } else {
-        None
     }
 }
