@@ -1,0 +1,3 @@
+pub mod SentLaws
+pub mod TakenLaws
+pub mod WidensLaws
