@@ -4,6 +4,7 @@ use Rattle.run_model.specs.Whole.{IsSound}
 use Rattle.media_laws.specs.Config.{config_of}
 use Rattle.media_laws.proofs.Wire.{wire_laws}
 use Rattle.media_laws.proofs.Soundness.{sound_config}
+use Rattle.media_laws.proofs.Streams.{hold_lists, repairs_count, plays_at}
 use Rattle.media_laws.proofs.laws.holds_of_run.Goals as goal
 
 pub returns-clause-whole : goal.returns-clause-whole
