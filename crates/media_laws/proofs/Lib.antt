@@ -1,3 +1,5 @@
 pub mod Wire
 pub mod Soundness
 pub mod Streams
+pub mod Playing
+pub mod Readings
