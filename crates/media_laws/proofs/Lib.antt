@@ -3,3 +3,4 @@ pub mod Soundness
 pub mod Streams
 pub mod Playing
 pub mod Readings
+pub mod Sendings

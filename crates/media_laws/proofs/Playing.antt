@@ -294,7 +294,7 @@ no_seals seal setup came past (Called s t c ∷ es) h = absurd h.0
 no_seals seal setup came past (Got g ∷ es) h = absurd h.0
 no_seals seal setup came past (Sealed s ∷ es) h = absurd h.0
 
-packet_right : {seal : Sealing} {setup : Setup} {past : List Entry} {side : Side} {packet : List ℕ} {s : SealedEntry} → IsSealOfPacket seal setup side past packet s → IsRight seal setup s
+pub packet_right : {seal : Sealing} {setup : Setup} {past : List Entry} {side : Side} {packet : List ℕ} {s : SealedEntry} → IsSealOfPacket seal setup side past packet s → IsRight seal setup s
 packet_right {seal} {side = side} {packet = packet} {s = s} is = right_rtcp (record {
   rtcp = is.kind;
   header = subst (λ p. 8 ≤ length p) (sym is.plain) is.header;

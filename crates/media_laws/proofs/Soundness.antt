@@ -92,7 +92,7 @@ is_just_in r (Some x) e = inl (sym (eqb-true x r e))
 own_in : (r : ℕ) (s : Stream) → ((r == s.ssrc) || is_just r s.rtx) ≡ true → IsIn r (both_of s)
 own_in r s e = elim (or_cases (r == s.ssrc) (is_just r s.rtx) e) [ inl t ↦ inl (eqb-true r s.ssrc t) | inr t ↦ inr (is_just_in r s.rtx t) ]
 
-apart_ends : {X : Type 0} (xs ys : List X) (x : X) → NoRepeat (xs ++ ys) → IsIn x xs → IsIn x ys → ⊥
+pub apart_ends : {X : Type 0} (xs ys : List X) (x : X) → NoRepeat (xs ++ ys) → IsIn x xs → IsIn x ys → ⊥
 apart_ends [] ys x h i j = i
 apart_ends (z ∷ xs) ys x h (inl e) j = h.0 (IsIn-right z xs ys (subst (λ w. IsIn w ys) e j))
 apart_ends (z ∷ xs) ys x h (inr i) j = apart_ends xs ys x h.1 i j

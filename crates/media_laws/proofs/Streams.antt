@@ -115,7 +115,7 @@ counts_at k (x ∷ xs) i ys n h = let r = counts_at (k + 1) xs i ys n h.1 in ome
 abbrev pub repair_numbers : Outgoing → List Event → List ℕ
 repair_numbers L events = map (λ x. x.0) (repairs L events)
 
-numbers_more : (L : Outgoing) (xs ys : List Event) → repair_numbers L (xs ++ ys) ≡ repair_numbers L xs ++ repair_numbers L ys
+pub numbers_more : (L : Outgoing) (xs ys : List Event) → repair_numbers L (xs ++ ys) ≡ repair_numbers L xs ++ repair_numbers L ys
 numbers_more L xs ys = ap (map (λ x. x.0)) (flat_map-append (repair_on L) xs ys) ∙ map-append (λ x. x.0) (repairs L xs) (repairs L ys)
 
 poll_counts : {T : Types} {L : Outgoing} {seal : Sealing} {now : ℕ} {t u : TxRecord} {events : List Event} → IsApart L → Polls T L seal now t u events → Counts t.next_rtx (repair_numbers L events) u.next_rtx
