@@ -4,3 +4,4 @@ pub mod Streams
 pub mod Playing
 pub mod Readings
 pub mod Sendings
+pub mod Yields
