@@ -5,3 +5,5 @@ pub mod Playing
 pub mod Readings
 pub mod Sendings
 pub mod Yields
+pub mod Writes
+pub mod Exactly

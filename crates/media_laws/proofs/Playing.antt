@@ -90,7 +90,7 @@ module _ (P : List Entry → Entry → List Entry → Type 0) where
 
 -- what a step brings are no steps
 
-seals_only : (seal : Sealing) (setup : Setup) (es : List Entry) → AllByRecursion (IsRightSeal seal setup) es → NoSteps es
+pub seals_only : (seal : Sealing) (setup : Setup) (es : List Entry) → AllByRecursion (IsRightSeal seal setup) es → NoSteps es
 seals_only seal setup [] h = tt
 seals_only seal setup (Sealed s ∷ es) h = (refl, seals_only seal setup es h.1)
 seals_only seal setup (Wrote s t w ∷ es) h = absurd h.0
@@ -100,7 +100,7 @@ seals_only seal setup (Got g ∷ es) h = absurd h.0
 seals_only seal setup (Opened o ∷ es) h = absurd h.0
 seals_only seal setup (Yielded s p ∷ es) h = absurd h.0
 
-brought_only : (seal : Sealing) (setup : Setup) (came : GotEntry) (es : List Entry) → AllByRecursion (IsBroughtBy seal setup came) es → NoSteps es
+pub brought_only : (seal : Sealing) (setup : Setup) (came : GotEntry) (es : List Entry) → AllByRecursion (IsBroughtBy seal setup came) es → NoSteps es
 brought_only seal setup came [] h = tt
 brought_only seal setup came (Opened o ∷ es) h = (refl, brought_only seal setup came es h.1)
 brought_only seal setup came (Yielded s p ∷ es) h = (refl, brought_only seal setup came es h.1)

@@ -28,14 +28,14 @@ use Rattle.run_model.specs.Capping.{IsCapped}
 use Rattle.run_model.specs.Events.{Plain, Event, sealed, Types, Outgoing}
 use Rattle.run_model.specs.Listing.{IsIn, NoRepeat}
 use Rattle.run_model.specs.Runs.{Happening, event_of, events_of, on_side}
-use Rattle.run_model.specs.Sending.{is_just, is_sending, is_repair_on, sendings, sending_of, sending_on, repair_on, repairs, first_sendings, is_cached, cached, two_bytes, writes_on as event_writes, Carries as Repairs, Carry, nothing, one as and_one, Answers as Answering}
+use Rattle.run_model.specs.Sending.{is_just, is_sending, is_repair_on, numbers, nothing_sent, sendings, sending_of, sending_on, repair_on, repairs, first_sendings, is_cached, cached, two_bytes, writes_on as event_writes, Carries as Repairs, Carry, nothing, one as and_one, Answers as Answering}
 use Rattle.run_model.specs.Tables.{has as has_ssrc}
 use Rattle.run_model.specs.Transcripts.{plain_in, plain_of, no_plain, sealed_event, opened_event, happening_of, happenings, types_of, outgoing_of}
 use Rattle.run_model.specs.TxLaws.{SendsWrites as StreamSends}
 use Rattle.run_model.specs.TxPlay.{TxRecord, TxPlays}
 use Rattle.run_model.specs.Whole.{IsSound, Session, Counts}
 use Rattle.run_laws.proofs.Lists.{IsIn-left, IsIn-right, IsIn-append, IsIn-map, IsIn-from_map, IsIn-flat_map, IsIn-from_flat_map, IsIn-from_filter, in-from_any, tested}
-use Rattle.run_laws.proofs.TxPlays.{streams_send_writes}
+use Rattle.run_laws.proofs.TxPlays.{tracks, writes_are, streams_send_writes}
 use Rattle.run_laws.proofs.Whole.{runs_repeat_no_nonce}
 use Rattle.run_laws.proofs.Indices.{runs_repeat_no_index}
 use Rattle.media_laws.specs.Config.{config_of}
@@ -179,6 +179,7 @@ pub record Sent (setup : Setup) (side : Side) (L : Outgoing) (entries : List Ent
   pub t : TxRecord
   pub law : StreamSends (types_of setup) L t (past_of setup side entries)
   pub counts : Counts L.start (repair_numbers L (past_of setup side entries)) t.next_rtx
+  pub distinct : NoRepeat (numbers (writes_on side L.ssrc entries))
 
 pub sent_at : {seal : Sealing} {setup : Setup} {a b : Session} {steps : List Step} {entries : List Entry} → IsSound (config_of seal setup) → Plays seal setup a b steps entries
     → (side : Side) (L : Outgoing) → IsIn L (outgoing_of side setup) → Sent setup side L entries
@@ -189,6 +190,9 @@ sent_at {seal} {setup} {entries = entries} sound h side L i =
       t = p.0;
       law = streams_send_writes (types_of setup) L ((config_of seal setup).seals side) p.0 (past_of setup side entries) apart p.1;
       counts = repairs_count apart p.1;
+      distinct =
+          let f = (tracks apart p.1).follows in
+          subst NoRepeat (f.written ∙ ap numbers (writes_are L.ssrc (past_of setup side entries) nothing_sent ∙ writes_read setup side L.ssrc entries)) f.once;
     }
 
 -- a write that was sent, or that waits, was written
@@ -229,7 +233,7 @@ carried_by {T} (and_one j n p x there number carries rest) z (inl e) = (x, there
 carried_by (and_one j n p x there number carries rest) z (inr i) = carried_by rest z i
 
 -- a write of an SSRC has it
-write_ssrc : (side : Side) (r : ℕ) (w : Writing) (entries : List Entry) → IsIn w (writes_on side r entries) → w.ssrc ≡ r
+pub write_ssrc : (side : Side) (r : ℕ) (w : Writing) (entries : List Entry) → IsIn w (writes_on side r entries) → w.ssrc ≡ r
 write_ssrc side r w entries i = let f = IsIn-from_flat_map (write_on side r) w entries i in one f.0 f.2
   where
     one : (x : Entry) → IsIn w (write_on side r x) → w.ssrc ≡ r
@@ -267,7 +271,7 @@ read_side setup side new es s rtp read i =
     let e : (s.side, sealed s.ssrc s.index (plain_in (extensions_of setup) s.plain) s.bytes) ≡ (side, f.0) = sym (sealed_happens setup s rtp) ∙ f.2 in
     (ap (λ (z : Happening). z.0) e, subst (λ g. IsIn g new) (ap (λ (z : Happening). z.1) (sym e)) f.1)
 
-sending_there : (m r n : ℕ) (p : Plain) (bytes : List ℕ) → (r == m) ≡ true → p.padded ≡ false → IsIn {X = ℕ × Plain} (n, p) (sending_on m (sealed r n p bytes))
+pub sending_there : (m r n : ℕ) (p : Plain) (bytes : List ℕ) → (r == m) ≡ true → p.padded ≡ false → IsIn {X = ℕ × Plain} (n, p) (sending_on m (sealed r n p bytes))
 sending_there m r n p bytes main bare = rw (main, bare) (inl refl)
 
 repair_there : (L : Outgoing) (r n : ℕ) (p : Plain) (bytes : List ℕ) → is_just r L.rtx ≡ true → p.padded ≡ false → IsIn {X = ℕ × Plain} (n, p) (repair_on L (sealed r n p bytes))

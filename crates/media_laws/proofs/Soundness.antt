@@ -52,7 +52,7 @@ no_repeats (x ∷ xs) e =
     let both = neither (has_number xs x) (repeats xs) e in
     (λ i. false≢true (sym both.0 ∙ has_in xs x i), no_repeats xs both.1)
 
-NoRepeat-right : {X : Type 0} (xs ys : List X) → NoRepeat (xs ++ ys) → NoRepeat ys
+pub NoRepeat-right : {X : Type 0} (xs ys : List X) → NoRepeat (xs ++ ys) → NoRepeat ys
 NoRepeat-right [] ys h = h
 NoRepeat-right (x ∷ xs) ys h = NoRepeat-right xs ys h.1
 
@@ -147,7 +147,7 @@ module _ (setup : Setup) (side : Side) where
 
 -- types
 
-type_in : (t : PayloadType) (rtx : ℕ) → is_type rtx t.rtx ≡ true → IsIn rtx (option_to_list t.rtx)
+pub type_in : (t : PayloadType) (rtx : ℕ) → is_type rtx t.rtx ≡ true → IsIn rtx (option_to_list t.rtx)
 type_in t rtx e = go t.rtx e
   where
     go : (o : Option ℕ) → is_type rtx o ≡ true → IsIn rtx (option_to_list o)
@@ -250,3 +250,6 @@ sound_config {seal} {setup} wire e =
       seals = λ side. seals_apart wire side;
       types = types_pair setup f.types;
     }
+
+pub sound_types : (setup : Setup) → setup_fault setup ≡ None → NoRepeat (claimed_of setup)
+sound_types setup e = (facts setup e).types

@@ -83,7 +83,7 @@ turn_yields {C} {side} past packet l (opens time bytes ssrc n p s late at o) (in
           ]
     ]
 
-read_yield : (setup : Setup) (side owner : Side) (packet : Packet) (new : List Event) (es : List Entry) → happenings setup es ≡ on_side owner new → IsIn (Yielded side packet) es → (side ≡ owner) × IsIn (yielded packet) new
+pub read_yield : (setup : Setup) (side owner : Side) (packet : Packet) (new : List Event) (es : List Entry) → happenings setup es ≡ on_side owner new → IsIn (Yielded side packet) es → (side ≡ owner) × IsIn (yielded packet) new
 read_yield setup side owner packet new es read i =
     let h : IsIn {X = Happening} (side, yielded packet) (on_side owner new) = subst (IsIn {X = Happening} (side, yielded packet)) read (IsIn-map (happening_of (extensions_of setup)) (Yielded side packet) es i) in
     let f = IsIn-from_map (λ (e : Event). (owner, e)) (side, yielded packet) new h in

@@ -6,6 +6,7 @@ use Rattle.media_laws.proofs.Wire.{wire_laws}
 use Rattle.media_laws.proofs.Soundness.{sound_config}
 use Rattle.media_laws.proofs.Streams.{hold_lists, repairs_count, plays_at}
 use Rattle.media_laws.proofs.Playing.{steps_are_answered, seals_are_right}
+use Rattle.media_laws.proofs.Exactly.{first_sendings_are_yielded}
 use Rattle.media_laws.proofs.Yields.{no_packet_twice, yields_writes}
 use Rattle.media_laws.proofs.Sendings.{no_nonce_twice, sends_writes}
 use Rattle.media_laws.proofs.Readings.{nonces_once, writes_read, packets_read, number_nonce, sealed_from}
