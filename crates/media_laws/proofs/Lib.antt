@@ -7,3 +7,5 @@ pub mod Sendings
 pub mod Yields
 pub mod Writes
 pub mod Exactly
+pub mod Fronts
+pub mod Holding

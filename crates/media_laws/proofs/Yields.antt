@@ -50,7 +50,7 @@ both_false false = refl
 probes_quiet : (T : Types) (l : Lists) (ssrc n : ℕ) (p : Plain) → yields T probes l ssrc n p ≡ []
 probes_quiet T l ssrc n p = rw (both_false (T.is_rtx p.pt)) refl
 
-all_in : (p : Event → Bool) (xs : List Event) (x : Event) → list_all p xs ≡ true → IsIn x xs → p x ≡ true
+pub all_in : (p : Event → Bool) (xs : List Event) (x : Event) → list_all p xs ≡ true → IsIn x xs → p x ≡ true
 all_in p [] x h i = absurd i
 all_in p (y ∷ xs) x h (inl e) = ap p e ∙ (and_parts (p y) (list_all p xs) h).0
 all_in p (y ∷ xs) x h (inr i) = all_in p xs x (and_parts (p y) (list_all p xs) h).1 i
