@@ -1,7 +1,5 @@
 -- Where the first sending of a write comes, the write is yielded exactly where its number widens to itself and is fresh.
-use Rattle.std.proofs.Common.{◌≡◌, ◌⊎◌, inl, inr, ℕ, ◌+◌, ◌≤◌, ◌%◌, true, false, List, [], ◌∷◌, ◌++◌, map, length, Some, None, refl, sym, ap, ◌∙◌, subst, arith}
-use Rattle.std.specs.Prelude.{◌==◌, ◌↔◌}
-use Rattle.std.specs.List.{flat_map}
+use Rattle.std.proofs.Common.{◌≡◌, inl, inr, ℕ, ◌+◌, ◌≤◌, ◌%◌, true, List, [], ◌∷◌, length, Some, None, sym, ap, ◌∙◌, subst, arith}
 use Rattle.std.specs.Option.{option_map}
 use Rattle.std.proofs.lemmas.Bool.{eq-eqb}
 use Rattle.rtp_base.specs.Widen.{widen16}
@@ -9,7 +7,7 @@ use Rattle.rtp_base.specs.declared.kind.Kind.{Kind}
 use Rattle.rtp_base.specs.declared.kind.Kind.TheVariants.{Rtp, Rtcp}
 use Rattle.repair_core.specs.Fresh.{greatest_of, is_fresh}
 use Rattle.setup_rules.specs.SetupRules.{setup_fault}
-use Rattle.session_turns.specs.Reading.{reading, read_of}
+use Rattle.session_turns.specs.Reading.{read_of}
 use Rattle.media_model.specs.declared.entry.Packet.{Packet}
 use Rattle.media_model.specs.declared.entry.Side.{Side}
 use Rattle.media_model.specs.declared.entry.Write.{Write as Writing}
@@ -21,15 +19,14 @@ use Rattle.media_model.specs.declared.entry.Entry.TheVariants.{Wrote, Ticked, Ca
 use Rattle.media_model.specs.declared.setup.Setup.{Setup}
 use Rattle.media_model.specs.declared.step.Step.{Step}
 use Rattle.media_model.specs.Entries.{writes_on}
-use Rattle.media_model.specs.Setup.{claimed_of}
 use Rattle.media_model.specs.Sides.{peer_of}
 use Rattle.run_model.specs.Events.{Plain, Event, got as event_got, sealed, yielded, Outgoing}
 use Rattle.run_model.specs.Listing.{IsIn, NoRepeat}
-use Rattle.run_model.specs.Runs.{Happening, events_of, on_side}
+use Rattle.run_model.specs.Runs.{Happening, on_side}
 use Rattle.run_model.specs.Seals.{IsSeal}
 use Rattle.run_model.specs.Sending.{numbers, number_of, sendings, sending_of, sending_on, first_sendings}
-use Rattle.run_model.specs.Transcripts.{plain_in, sealed_event, opened_event, happening_of, happenings, types_of, outgoing_of}
-use Rattle.run_model.specs.Whole.{IsSound, HeadsApart, IsPlainWrite, Session, session_of, Turns}
+use Rattle.run_model.specs.Transcripts.{plain_in, sealed_event, opened_event, happening_of, happenings}
+use Rattle.run_model.specs.Whole.{IsSound, IsPlainWrite, Session, session_of, Turns}
 use Rattle.run_laws.proofs.Exactly.{runs_yield_exactly}
 use Rattle.run_laws.proofs.Lists.{IsIn-map, IsIn-from_map, IsIn-flat_map}
 use Rattle.media_laws.specs.Config.{config_of, rtp_sealing}
@@ -43,7 +40,7 @@ use Rattle.media_laws.proofs.Playing.{as_run, Taken, each_step, heads}
 use Rattle.media_laws.proofs.Readings.{event_in, sealed_happens}
 use Rattle.media_laws.proofs.Sendings.{right_kind, plain_is, unpadded_plain, carries_write, all_right, Sent, sent_at, sent_written, sending_there, write_ssrc}
 use Rattle.media_laws.proofs.Soundness.{sound_heads, sound_types}
-use Rattle.media_laws.proofs.Writes.{IsFit, writes_fit, type_claimed, type_primary}
+use Rattle.media_laws.proofs.Writes.{writes_fit, type_claimed, type_primary}
 use Rattle.media_laws.proofs.Yields.{read_yield}
 
 -- a packet among the events of some entries is yielded among these
@@ -143,9 +140,10 @@ module _ {seal : Sealing} {setup : Setup} (wire : WireLaws seal setup) (fine : s
       (subst (λ v. IsSeal (rtp_sealing seal setup peer) L.ssrc v.number (sending_of v) s.bytes) (sym f.is) (seal_of_write L s w r at ssrc number f.plain)) in
       let n : f.sent.1.number ≡ s.index = ap (λ (v : Writing). v.number) f.is ∙ number in
       let packet : yielded (as_packet f.sent.1) ≡ yielded (as_packet w) = ap (λ v. yielded (as_packet v)) f.is in
-      let Fits = λ (m : ℕ). (widen16 (greatest_of (taken setup came.side L past)) (m % 65536) ≡ m) × (is_fresh (taken setup came.side L past) m ≡ true) in
-      (λ j. subst Fits n (law.0 (subst (λ e. IsIn e h.new) (sym packet) (read_yield setup came.side came.side (as_packet w) h.new brought h.tail j).1)),
-      λ fits. yield_read setup came.side (as_packet w) h.new brought h.tail (subst (λ e. IsIn e h.new) packet (law.1 (subst Fits (sym n) fits))))
+      let Fits = λ (m : ℕ). (widen16 (greatest_of (taken setup came.side L past)) (m % 65536) ≡ m) × (is_fresh (taken setup came.side L past) m ≡ true) in (
+        λ j. subst Fits n (law.0 (subst (λ e. IsIn e h.new) (sym packet) (read_yield setup came.side came.side (as_packet w) h.new brought h.tail j).1)),
+        λ fits. yield_read setup came.side (as_packet w) h.new brought h.tail (subst (λ e. IsIn e h.new) packet (law.1 (subst Fits (sym n) fits))),
+      )
 
   exactly : {past : List Entry} {side : Side} {step : Step} {first : Entry} {rest : List Entry} → AreEntriesOf seal setup past side step (first ∷ rest)
       → Taken seal setup past side step (first ∷ rest) → YieldsExactly setup past first rest

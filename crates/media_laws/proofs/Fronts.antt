@@ -1,5 +1,5 @@
 -- What holds of each front of a run, and of a run up to the call that finds a key used up.
-use Rattle.std.proofs.Common.{◌≡◌, ◌⊎◌, inl, inr, ℕ, ◌^◌, List, [], ◌∷◌, ◌++◌, map, None, refl, sym, ap, ◌∙◌, subst, append_assoc}
+use Rattle.std.proofs.Common.{◌≡◌, ◌⊎◌, inl, inr, ℕ, ◌^◌, List, [], ◌∷◌, ◌++◌, map, refl, sym, ap, ◌∙◌, subst, append_assoc}
 use Rattle.std.proofs.lemmas.List.{append-nil, map-append}
 use Rattle.std.proofs.lemmas.List.Concat.{flat_map-append}
 use Rattle.rtp_base.specs.declared.kind.Kind.TheVariants.{Rtp}
@@ -14,8 +14,7 @@ use Rattle.media_model.specs.declared.step.Step.{Step}
 use Rattle.media_model.specs.declared.step.Step.TheVariants.{Write, Tick, Deliver, Foreign, Application}
 use Rattle.media_model.specs.Entries.{nonce_by, nonces, packet_by, packets}
 use Rattle.media_model.specs.Genuine.{IsGenuine}
-use Rattle.media_model.specs.Sides.{peer_of}
-use Rattle.run_model.specs.Events.{Plain, Event, got, opened, yielded}
+use Rattle.run_model.specs.Events.{Event, got, opened, yielded}
 use Rattle.run_model.specs.Listing.{IsIn, NoRepeat}
 use Rattle.run_model.specs.Receiving.{yields}
 use Rattle.run_model.specs.Runs.{Happening, on_side, WidensAt, EachFrom as EachHappening}

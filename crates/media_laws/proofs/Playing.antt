@@ -1,13 +1,11 @@
 -- A run over entries is, as it is read, a run of plain sessions; and what holds step by step.
-use Rattle.std.proofs.Common.{◌≡◌, ◌≤◌, inl, inr, ℕ, true, false, cond, List, [], ◌∷◌, ◌++◌, length, take, map, refl, sym, ap, ◌∙◌, subst, append_assoc}
+use Rattle.std.proofs.Common.{◌≡◌, ◌≤◌, ℕ, true, false, cond, List, [], ◌∷◌, ◌++◌, length, take, map, refl, sym, ap, ◌∙◌, subst, append_assoc}
 use Rattle.std.specs.List.{AllByRecursion}
 use Rattle.std.proofs.lemmas.List.{append-nil, map-append}
 use Rattle.rtp_base.specs.declared.kind.Kind.TheVariants.{Rtp, Rtcp}
-use Rattle.rtcp_wire.specs.declared.rtcp_fb.RtcpFb.{RtcpFb}
 use Rattle.srtp_core.specs.RtcpSeals.{sender_of}
 use Rattle.media_model.specs.declared.entry.Side.{Side}
 use Rattle.media_model.specs.declared.entry.Side.TheVariants.{A, B}
-use Rattle.media_model.specs.declared.entry.Write.{Write as Writing}
 use Rattle.media_model.specs.declared.entry.Got.{Got as GotEntry}
 use Rattle.media_model.specs.declared.entry.Sealed.{Sealed as SealedEntry}
 use Rattle.media_model.specs.declared.entry.Entry.{Entry}
@@ -18,24 +16,22 @@ use Rattle.media_model.specs.declared.step.Step.TheVariants.{Write, Tick, Delive
 use Rattle.media_model.specs.declared.setup.Setup.{Setup}
 use Rattle.media_model.specs.Entries.{is_step}
 use Rattle.media_model.specs.Sides.{peer_of}
-use Rattle.run_model.specs.Events.{Plain, Event, wrote as event_wrote, ticked as event_ticked, called as event_called, got as event_got, opened, opened_items, yielded, Incoming}
-use Rattle.run_model.specs.Listing.{IsIn}
-use Rattle.run_model.specs.Receiving.{Lists, yields, lists, Opens}
-use Rattle.run_model.specs.Runs.{Happening, events_of, on_side}
-use Rattle.run_model.specs.RxPlay.{RxRecord, lists_in}
+use Rattle.run_model.specs.Events.{Event, ticked as event_ticked, got as event_got, opened, opened_items, yielded}
+use Rattle.run_model.specs.Receiving.{yields, lists, Opens}
+use Rattle.run_model.specs.Runs.{Happening, on_side}
+use Rattle.run_model.specs.RxPlay.{lists_in}
 use Rattle.run_model.specs.Seals.{IsReport}
 use Rattle.run_model.specs.Transcripts.{happenings, types_of}
-use Rattle.run_model.specs.Whole.{Config, setup_of, Session, session_of, IsSound, Turns, writes, ticks, calls, opens, hears, stays, Played as RunPlayed, begun, of_a, of_b}
-use Rattle.run_laws.proofs.Lists.{tested}
+use Rattle.run_model.specs.Whole.{Session, session_of, IsSound, Turns, writes, ticks, calls, opens, hears, stays, Played as RunPlayed, begun, of_a, of_b}
 use Rattle.run_laws.proofs.Whole.{runs_answer, runs_ask_the_due}
 use Rattle.media_laws.specs.Config.{config_of, rtp_sealing, reporting}
 use Rattle.media_laws.specs.Exhausting.{call_of, told_of}
-use Rattle.media_laws.specs.Feedback.{application_packet, IsSealOfPacket, sends}
-use Rattle.media_laws.specs.Headline.{past_of, IsRightIfSealed, SealsAreRight, TickAnswers, Receives, opens as opens_rtp, opens_rtcp, stays as stays_shut, Arrives, Answers, StepsAreAnswered, PlaysFrom, PlaysSteps}
+use Rattle.media_laws.specs.Feedback.{IsSealOfPacket, sends}
+use Rattle.media_laws.specs.Headline.{past_of, IsRightIfSealed, SealsAreRight, TickAnswers, Receives, opens as opens_rtp, opens_rtcp, stays as stays_shut, Answers, StepsAreAnswered, PlaysFrom, PlaysSteps}
 use Rattle.media_laws.specs.Listing.{EachFrom, brought, StepsFrom, EachStep}
 use Rattle.media_laws.specs.Opening.{Sealing}
-use Rattle.media_laws.specs.Play.{Brings, IsBroughtBy, AreEntriesOf, wrote, ticked, called, got, Outcome, Plays, begins, by_a, by_b}
-use Rattle.media_laws.specs.Right.{IsRight, right_rtp, right_rtcp, IsRightSeal}
+use Rattle.media_laws.specs.Play.{IsBroughtBy, AreEntriesOf, wrote, ticked, called, got, Outcome, Plays, begins, by_a, by_b}
+use Rattle.media_laws.specs.Right.{IsRight, right_rtcp, IsRightSeal}
 use Rattle.media_laws.proofs.Streams.{HoldsLists, hold_lists}
 
 module _ (P : List Entry → Entry → Type 0) where
@@ -167,8 +163,8 @@ pub each_step : {seal : Sealing} {setup : Setup} {a b : Session} {steps : List S
 each_step {seal} {setup} P now h =
     each_taken (EachStep P) tt
     (λ past side step new t each. let f = cut_new t.outcome.are_of in
-        subst (λ es. EachStep P (past ++ es)) (sym f.is)
-        (EachStep-more P past f.first f.rest each f.starts f.none (now past side step f.first f.rest (subst (Taken seal setup past side step) f.is t)))) h
+    subst (λ es. EachStep P (past ++ es)) (sym f.is)
+    (EachStep-more P past f.first f.rest each f.starts f.none (now past side step f.first f.rest (subst (Taken seal setup past side step) f.is t)))) h
 
 -- the first event of a step, and what it brings
 pub record Heads (x : Happening) (rest : List Happening) (side : Side) (events : List Event) : Type 0 where
@@ -220,10 +216,10 @@ receives_of {seal} {setup} entries came new all e l (stays time kind bytes late 
     subst (Receives seal setup entries came) news
     (stays_shut
     (λ rtp L i ssrc n p o. let f = l.found L i in
-        out (same_kind ∙ rtp) f.0 f.1 ssrc n p
-        (subst (λ ls. Opens (types_of setup) f.0.0 (rtp_sealing seal setup (peer_of came.side)) ls bytes ssrc n p) (l.same f.0 f.1)
-        (subst (λ K. Opens (types_of setup) K (rtp_sealing seal setup (peer_of came.side)) (lists (types_of setup) K (past_of setup came.side entries)) bytes ssrc n p) f.2
-        (subst (λ bs. Opens (types_of setup) L (rtp_sealing seal setup (peer_of came.side)) (lists (types_of setup) L (past_of setup came.side entries)) bs ssrc n p) (sym same) o))))
+    out (same_kind ∙ rtp) f.0 f.1 ssrc n p
+    (subst (λ ls. Opens (types_of setup) f.0.0 (rtp_sealing seal setup (peer_of came.side)) ls bytes ssrc n p) (l.same f.0 f.1)
+    (subst (λ K. Opens (types_of setup) K (rtp_sealing seal setup (peer_of came.side)) (lists (types_of setup) K (past_of setup came.side entries)) bytes ssrc n p) f.2
+    (subst (λ bs. Opens (types_of setup) L (rtp_sealing seal setup (peer_of came.side)) (lists (types_of setup) L (past_of setup came.side entries)) bs ssrc n p) (sym same) o))))
     (λ rtcp index items r. unread (same_kind ∙ rtcp) index items (subst (λ bs. IsReport (reporting seal (peer_of came.side)) bs index items) (sym same) r)))
   where
     same_kind : kind ≡ came.kind

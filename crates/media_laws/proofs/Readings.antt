@@ -1,8 +1,7 @@
 -- What is read off entries, and off the events as which they are read.
-use Rattle.std.proofs.Common.{◌≡◌, inl, inr, ℕ, Bool, true, false, cond, not, ◌&&◌, eqb, List, [], ◌∷◌, ◌++◌, map, Option, Some, None, refl, sym, ap, ◌∙◌, subst}
-use Rattle.std.specs.Prelude.{◌==◌, unwrap_or, filter}
+use Rattle.std.proofs.Common.{◌≡◌, inl, inr, ℕ, Bool, true, false, cond, ◌&&◌, List, [], ◌∷◌, ◌++◌, refl, sym, ap, ◌∙◌, subst}
+use Rattle.std.specs.Prelude.{◌==◌, filter}
 use Rattle.std.specs.List.{flat_map}
-use Rattle.std.specs.Option.{option_map}
 use Rattle.std.proofs.lemmas.Bool.{and_parts, eqb-true, eq-eqb, false≢true}
 use Rattle.std.proofs.lemmas.List.Concat.{flat_map-append}
 use Rattle.rtp_base.specs.declared.kind.Kind.{Kind}
@@ -12,18 +11,17 @@ use Rattle.rtcp_wire.specs.declared.rtcp_fb.RtcpFb.{RtcpFb}
 use Rattle.rtp_wire.specs.declared.extension.ExtensionMap.{ExtensionMap}
 use Rattle.media_model.specs.declared.entry.Side.{Side}
 use Rattle.media_model.specs.declared.entry.Side.TheVariants.{A, B}
-use Rattle.media_model.specs.declared.entry.Packet.{Packet}
 use Rattle.media_model.specs.declared.entry.Sealed.{Sealed as SealedEntry}
 use Rattle.media_model.specs.declared.entry.Opened.{Opened as OpenedEntry}
 use Rattle.media_model.specs.declared.entry.Entry.{Entry}
 use Rattle.media_model.specs.declared.entry.Entry.TheVariants.{Wrote, Ticked, Called, Got, Sealed, Opened, Yielded}
 use Rattle.media_model.specs.declared.setup.Setup.{Setup}
-use Rattle.media_model.specs.Entries.{writes_on, write_on, sealed_number_on, sealed_numbers, nonce_by, nonces, packet_by, packets}
+use Rattle.media_model.specs.Entries.{writes_on, sealed_number_on, sealed_numbers, nonce_by, nonces, packets}
 use Rattle.media_model.specs.Sides.{same_side}
-use Rattle.run_model.specs.Events.{Plain, Event, wrote, ticked, called, got, sealed, sealed_items, opened, opened_items, yielded, Incoming}
+use Rattle.run_model.specs.Events.{Plain, Event, wrote, ticked, called, got, sealed, opened, opened_items, yielded, Incoming}
 use Rattle.run_model.specs.Listing.{IsIn, NoRepeat}
 use Rattle.run_model.specs.Receiving.{packet_on, packets_on}
-use Rattle.run_model.specs.Runs.{Happening, event_of, events_of, on_side}
+use Rattle.run_model.specs.Runs.{Happening, event_of, events_of}
 use Rattle.run_model.specs.Sending.{write_on as event_write, writes_on as event_writes}
 use Rattle.run_model.specs.Tables.{nonce_of, nonces as event_nonces}
 use Rattle.run_model.specs.Transcripts.{plain_in, sealed_event, opened_event, happening_of, happenings}

@@ -1,17 +1,15 @@
 -- Each RTP datagram that is sealed is the first sending of a write, or the repair of one that was sent.
-use Rattle.std.proofs.Common.{◌≡◌, ◌⊎◌, inl, inr, ℕ, zero, suc, ◌+◌, ◌%◌, ◌/◌, ◌<◌, Bool, true, false, cond, not, ◌&&◌, ◌||◌, eqb, List, [], ◌∷◌, ◌++◌, map, length, drop, get_or, Option, Some, None, refl, sym, ap, ◌∙◌, subst, append_assoc, arith}
-use Rattle.std.specs.Prelude.{◌==◌, unwrap_or, filter}
-use Rattle.std.specs.List.{flat_map, list_any, AllByRecursion}
+use Rattle.std.proofs.Common.{◌≡◌, ◌⊎◌, inl, inr, ℕ, zero, suc, ◌+◌, ◌%◌, ◌/◌, ◌<◌, Bool, true, false, cond, not, ◌&&◌, List, [], ◌∷◌, ◌++◌, map, length, drop, get_or, Option, Some, None, refl, sym, ap, ◌∙◌, subst, append_assoc, arith}
+use Rattle.std.specs.Prelude.{◌==◌, unwrap_or}
+use Rattle.std.specs.List.{AllByRecursion}
 use Rattle.std.specs.Option.{option_map}
 use Rattle.std.specs.Int.{w16, to_be_bytes}
 use Rattle.std.proofs.lemmas.Bool.{and_parts, or_cases, eqb-true, eq-eqb, false≢true}
-use Rattle.std.proofs.lemmas.List.{map-append}
 use Rattle.std.proofs.lemmas.List.Concat.{flat_map-append}
 use Rattle.std.proofs.lemmas.Nat.{be_bytes_2}
 use Rattle.rtp_base.specs.declared.kind.Kind.{Kind}
 use Rattle.rtp_base.specs.declared.kind.Kind.TheVariants.{Rtp, Rtcp}
-use Rattle.rtp_wire.specs.declared.header.RtpHeader.{RtpHeader}
-use Rattle.rtp_wire.specs.Header.{header_of, header_bytes}
+use Rattle.rtp_wire.specs.Header.{header_bytes}
 use Rattle.media_model.specs.declared.entry.Side.{Side}
 use Rattle.media_model.specs.declared.entry.Write.{Write as Writing}
 use Rattle.media_model.specs.declared.entry.Got.{Got as GotEntry}
@@ -27,25 +25,25 @@ use Rattle.rtp_base.specs.Kind.{same_kind}
 use Rattle.run_model.specs.Capping.{IsCapped}
 use Rattle.run_model.specs.Events.{Plain, Event, sealed, Types, Outgoing}
 use Rattle.run_model.specs.Listing.{IsIn, NoRepeat}
-use Rattle.run_model.specs.Runs.{Happening, event_of, events_of, on_side}
-use Rattle.run_model.specs.Sending.{is_just, is_sending, is_repair_on, numbers, nothing_sent, sendings, sending_of, sending_on, repair_on, repairs, first_sendings, is_cached, cached, two_bytes, writes_on as event_writes, Carries as Repairs, Carry, nothing, one as and_one, Answers as Answering}
+use Rattle.run_model.specs.Runs.{Happening, event_of, on_side}
+use Rattle.run_model.specs.Sending.{is_just, numbers, nothing_sent, sendings, sending_of, sending_on, repair_on, repairs, first_sendings, is_cached, two_bytes, Carries as Repairs, Carry, nothing, one as and_one, Answers as Answering}
 use Rattle.run_model.specs.Tables.{has as has_ssrc}
 use Rattle.run_model.specs.Transcripts.{plain_in, plain_of, no_plain, sealed_event, opened_event, happening_of, happenings, types_of, outgoing_of}
 use Rattle.run_model.specs.TxLaws.{SendsWrites as StreamSends}
-use Rattle.run_model.specs.TxPlay.{TxRecord, TxPlays}
+use Rattle.run_model.specs.TxPlay.{TxRecord}
 use Rattle.run_model.specs.Whole.{IsSound, Session, Counts}
 use Rattle.run_laws.proofs.Lists.{IsIn-left, IsIn-right, IsIn-append, IsIn-map, IsIn-from_map, IsIn-flat_map, IsIn-from_flat_map, IsIn-from_filter, in-from_any, tested}
 use Rattle.run_laws.proofs.TxPlays.{tracks, writes_are, streams_send_writes}
 use Rattle.run_laws.proofs.Whole.{runs_repeat_no_nonce}
 use Rattle.run_laws.proofs.Indices.{runs_repeat_no_index}
 use Rattle.media_laws.specs.Config.{config_of}
-use Rattle.media_laws.specs.Headline.{past_of, TickAnswers, NoNonceTwice, IsSending, IsRepair, IsSentWrite, SendsWrites}
+use Rattle.media_laws.specs.Headline.{past_of, NoNonceTwice, IsSending, IsRepair, IsSentWrite, SendsWrites}
 use Rattle.media_laws.specs.Opening.{Sealing}
-use Rattle.media_laws.specs.Plain.{extensions_of, read_header, Carries}
+use Rattle.media_laws.specs.Plain.{extensions_of, Carries}
 use Rattle.media_laws.specs.Play.{IsBroughtBy, AreEntriesOf, wrote, ticked, called, got, Plays}
 use Rattle.media_laws.specs.Right.{IsSealOf, IsRight, right_rtp, right_rtcp, IsRightSeal}
 use Rattle.media_laws.proofs.Playing.{packet_right, EachFrom-append, EachFrom-places, as_run, Taken, plays_more, each_taken, tick_answers}
-use Rattle.media_laws.proofs.Readings.{past-more, same_is, is_same, event_in, IsSealed, sealed_from, sealed_happens, writes_read, number_in, number_nonce, nonces_once}
+use Rattle.media_laws.proofs.Readings.{is_same, sealed_from, sealed_happens, writes_read, number_in, number_nonce, nonces_once}
 use Rattle.media_laws.proofs.Soundness.{apart_ends}
 use Rattle.media_laws.proofs.Streams.{plays_at, apart_at, repair_numbers, numbers_more, repairs_count, counts_at}
 

@@ -1,5 +1,5 @@
 -- A setup that breaks no rule gives plain sessions for which the laws of runs hold.
-use Rattle.std.proofs.Common.{◌≡◌, ◌⊎◌, inl, inr, Bool, true, false, not, cond, ◌||◌, ℕ, ◌%◌, eqb, List, [], ◌∷◌, ◌++◌, length, take, drop, Option, Some, None, refl, sym, ap, ◌∙◌, subst}
+use Rattle.std.proofs.Common.{◌≡◌, inl, inr, Bool, true, false, not, cond, ◌||◌, ℕ, ◌%◌, List, [], ◌∷◌, ◌++◌, length, take, drop, Option, Some, None, refl, sym, ap, ◌∙◌, subst}
 use Rattle.std.specs.Prelude.{◌==◌, nat_lt, find, option_to_list, unwrap_or}
 use Rattle.std.specs.List.{flat_map, filter_map, list_any}
 use Rattle.std.specs.Option.{option_map, option_and_then}
@@ -7,9 +7,8 @@ use Rattle.std.proofs.lemmas.Bool.{eqb-true, eq-eqb, or_cases, false≢true}
 use Rattle.std.proofs.lemmas.List.{take-append-drop}
 use Rattle.std.proofs.lemmas.List.Elements.{filter_map-append}
 use Rattle.rtp_wire.specs.declared.header.RtpHeader.{RtpHeader}
-use Rattle.rtp_wire.specs.Header.{header_of}
 use Rattle.srtp_core.specs.Keys.{material_len}
-use Rattle.session_turns.specs.Reading.{reading, read_of}
+use Rattle.session_turns.specs.Reading.{read_of}
 use Rattle.media_model.specs.declared.entry.Side.{Side}
 use Rattle.media_model.specs.declared.setup.PayloadType.{PayloadType}
 use Rattle.media_model.specs.declared.setup.Stream.{Stream}
@@ -26,13 +25,13 @@ use Rattle.run_model.specs.Runs.{SealsApart, TypesPair}
 use Rattle.run_model.specs.Seals.{IsSeal}
 use Rattle.run_model.specs.Sending.{is_just}
 use Rattle.run_model.specs.Tables.{has, AllStrange, AreApart}
-use Rattle.run_model.specs.Transcripts.{types_of, has_type, is_type, repairs_as, outgoing_as, outgoing_in, outgoing_of}
+use Rattle.run_model.specs.Transcripts.{types_of, has_type, is_type, repairs_as, outgoing_as, outgoing_in}
 use Rattle.run_model.specs.TxPlay.{IsApart}
 use Rattle.run_model.specs.Whole.{IsSound, HeadsApart}
 use Rattle.run_laws.proofs.Lists.{IsIn-left, IsIn-right, tested, any-from_in, in-from_any}
 use Rattle.media_laws.specs.Config.{rtp_sealing, config_of}
 use Rattle.media_laws.specs.Opening.{Sealing}
-use Rattle.media_laws.specs.Plain.{extensions_of, read_header}
+use Rattle.media_laws.specs.Plain.{read_header}
 use Rattle.media_laws.specs.WireLaws.{WireLaws}
 
 fault_none : (b : Bool) (fault : SetupFault) (other : Option SetupFault) → cond b (Some fault) other ≡ None → (b ≡ false) × (other ≡ None)
@@ -133,8 +132,11 @@ module _ (setup : Setup) (side : Side) where
       elim (tested (same_side s.side side)) [
         | inl t ↦ rw t (
           apart_line s (flat_map both_of ss) h,
-          (strange_lines (outgoing_as setup s (cache_of s.ssrc setup)) (filter_map (outgoing_in setup side) ss)
-          (λ M i r own other. apart_ends (both_of s) (flat_map both_of ss) r h (own_in r s own) (lines_in ss M i r other)), rest),
+          (
+            strange_lines (outgoing_as setup s (cache_of s.ssrc setup)) (filter_map (outgoing_in setup side) ss)
+                (λ M i r own other. apart_ends (both_of s) (flat_map both_of ss) r h (own_in r s own) (lines_in ss M i r other)),
+            rest,
+          ),
         )
         | inr t ↦ rw t rest
       ]
@@ -165,12 +167,13 @@ module _ (pt rtx : ℕ) where
             let repairs : repairs_as rtx t ≡ true = ap (is_type rtx) own ∙ eq-eqb rtx rtx refl in
             (IsIn-left rtx (claimed_in t) (flat_map claimed_in ts) (inr (type_in t rtx repairs)), rw repairs (ap (λ n. Some n) (eqb-true t.pt pt is)))
         | inr is ↦
-            let r = found_type ts (rw is at e) (NoRepeat-right (claimed_in t) (flat_map claimed_in ts) h) in
-            (IsIn-right rtx (claimed_in t) (flat_map claimed_in ts) r.0,
-            elim (tested (repairs_as rtx t)) [
-              | inl k ↦ absurd (apart_ends (claimed_in t) (flat_map claimed_in ts) rtx h (inr (type_in t rtx k)) r.0)
-              | inr k ↦ rw k r.1
-            ])
+            let r = found_type ts (rw is at e) (NoRepeat-right (claimed_in t) (flat_map claimed_in ts) h) in (
+              IsIn-right rtx (claimed_in t) (flat_map claimed_in ts) r.0,
+              elim (tested (repairs_as rtx t)) [
+                | inl k ↦ absurd (apart_ends (claimed_in t) (flat_map claimed_in ts) rtx h (inr (type_in t rtx k)) r.0)
+                | inr k ↦ rw k r.1
+              ],
+            )
       ]
 
 types_pair : (setup : Setup) → NoRepeat (claimed_of setup) → TypesPair (types_of setup)
@@ -220,10 +223,11 @@ module _ {seal : Sealing} {setup : Setup} (wire : WireLaws seal setup) (side : S
           let y = read_seal b in
           let e : x.header ≡ y.header = let u = x.reads_bytes in let v = y.reads_bytes in cc (u, v) in
           let t = x.tells in
-          let u = y.tells in
-          (ap (λ (z : ℕ × ℕ × Plain). z.0) (sym t) ∙ ap (λ (h : RtpHeader). h.ssrc) e ∙ ap (λ (z : ℕ × ℕ × Plain). z.0) u,
-          ap (λ (z : ℕ × ℕ × Plain). z.1) (sym t) ∙ ap (λ (h : RtpHeader). h.sequence_number) e ∙ ap (λ (z : ℕ × ℕ × Plain). z.1) u,
-          ap (λ (z : ℕ × ℕ × Plain). z.2.pt) (sym t) ∙ ap (λ (h : RtpHeader). h.payload_type) e ∙ ap (λ (z : ℕ × ℕ × Plain). z.2.pt) u)
+          let u = y.tells in (
+            ap (λ (z : ℕ × ℕ × Plain). z.0) (sym t) ∙ ap (λ (h : RtpHeader). h.ssrc) e ∙ ap (λ (z : ℕ × ℕ × Plain). z.0) u,
+            ap (λ (z : ℕ × ℕ × Plain). z.1) (sym t) ∙ ap (λ (h : RtpHeader). h.sequence_number) e ∙ ap (λ (z : ℕ × ℕ × Plain). z.1) u,
+            ap (λ (z : ℕ × ℕ × Plain). z.2.pt) (sym t) ∙ ap (λ (h : RtpHeader). h.payload_type) e ∙ ap (λ (z : ℕ × ℕ × Plain). z.2.pt) u,
+          )
 
   seals_apart : SealsApart (rtp_sealing seal setup side)
   seals_apart ssrc n p q bytes a b =

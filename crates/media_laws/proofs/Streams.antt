@@ -1,36 +1,29 @@
 -- The streams of a run, in a run of plain sessions.
-use Rattle.std.proofs.Common.{◌≡◌, ◌⊎◌, inl, inr, ℕ, ◌+◌, Bool, true, false, eqb, List, [], ◌∷◌, ◌++◌, length, map, refl, sym, ap, ◌∙◌, subst, arith}
-use Rattle.std.specs.Prelude.{◌==◌, filter}
-use Rattle.std.specs.List.{flat_map}
-use Rattle.std.proofs.lemmas.Bool.{eqb-true, eq-eqb, false≢true}
-use Rattle.std.proofs.lemmas.List.{map-append, append-nil}
+use Rattle.std.proofs.Common.{◌≡◌, inl, inr, ℕ, ◌+◌, List, [], ◌∷◌, ◌++◌, length, map, refl, sym, ap, ◌∙◌, subst, arith}
+use Rattle.std.proofs.lemmas.List.{map-append}
 use Rattle.std.proofs.lemmas.List.Concat.{flat_map-append}
-use Rattle.rtp_base.specs.declared.kind.Kind.TheVariants.{Rtp, Rtcp}
-use Rattle.media_model.specs.declared.entry.Packet.{Packet}
 use Rattle.media_model.specs.declared.entry.Side.{Side}
 use Rattle.media_model.specs.declared.entry.Side.TheVariants.{A, B}
 use Rattle.media_model.specs.Sides.{peer_of}
-use Rattle.run_model.specs.Asking.{RxSide}
-use Rattle.run_model.specs.Events.{Plain, Event, wrote, ticked, called, got, sealed, sealed_items, opened, opened_items, yielded, Types, Outgoing, Incoming}
+use Rattle.run_model.specs.Events.{Plain, Event, sealed, Types, Outgoing, Incoming}
 use Rattle.run_model.specs.Listing.{IsIn}
-use Rattle.run_model.specs.Receiving.{Lists, yields, lists}
-use Rattle.run_model.specs.Runs.{Happening, events_of, on_side}
+use Rattle.run_model.specs.Receiving.{lists}
+use Rattle.run_model.specs.Runs.{Happening, events_of}
 use Rattle.run_model.specs.RxPlay.{RxRecord, new_rx, lists_in, RxPlays, begun as rx_begun, step as rx_step}
 use Rattle.run_model.specs.Seals.{Sealing}
-use Rattle.run_model.specs.Sending.{repairs, repair_on, repair_of, sending_of}
+use Rattle.run_model.specs.Sending.{repairs, repair_on, sending_of}
 use Rattle.run_model.specs.Tables.{Table, lines}
-use Rattle.run_model.specs.TxPlay.{TxRecord, IsApart, is_of, IsBeside, AreBeside, clock_step, Polls, drops, misses, resends, sends, Drains, empty, polls, TxStep, writes as tx_writes, ticks as tx_ticks, hears as tx_hears, passes as tx_passes, TxPlays, begun as tx_begun, step as tx_step}
-use Rattle.run_model.specs.Whole.{Config, setup_of, Session, session_of, IsSound, Counts, Turns, writes, ticks, calls, opens, hears, stays, Played, begun, of_a, of_b, incoming_of, probes}
+use Rattle.run_model.specs.TxPlay.{TxRecord, IsApart, IsBeside, AreBeside, clock_step, Polls, drops, misses, resends, sends, Drains, empty, polls, TxStep, writes as tx_writes, ticks as tx_ticks, hears as tx_hears, passes as tx_passes, TxPlays, begun as tx_begun, step as tx_step}
+use Rattle.run_model.specs.Whole.{Config, setup_of, Session, session_of, IsSound, Counts, Played, begun, of_a, of_b}
 use Rattle.run_laws.proofs.Asks.{side_mains, mains}
-use Rattle.run_laws.proofs.Lists.{IsIn-map, IsIn-from_map, IsIn-append, tested}
+use Rattle.run_laws.proofs.Lists.{IsIn-map, IsIn-from_map}
 use Rattle.run_laws.proofs.Nonces.{apart_in}
 use Rattle.run_laws.proofs.RunYields.{events_more, events_same}
 use Rattle.run_laws.proofs.RxTracks.{rx_tracks}
-use Rattle.run_laws.proofs.RxYields.{yields_new}
 use Rattle.run_laws.proofs.Tables.{AllPlay, sides}
-use Rattle.run_laws.proofs.TxDrains.{rtx_other, repair-send, repair-repair}
+use Rattle.run_laws.proofs.TxDrains.{repair-send, repair-repair}
 use Rattle.run_laws.proofs.TxPlays.{reading_share, repair_other}
-use Rattle.run_laws.proofs.Whole.{Half, half_of, apart_a, apart_b, RxSteps, no_streams, and_stream, turn_streams}
+use Rattle.run_laws.proofs.Whole.{half_of, apart_a, apart_b, RxSteps, no_streams, and_stream, turn_streams}
 
 -- each incoming stream of a side plays
 

@@ -1,5 +1,5 @@
 -- What the rules of a step say of the writes of a run.
-use Rattle.std.proofs.Common.{◌≡◌, inl, inr, ℕ, ◌≤◌, ◌^◌, Bool, true, false, not, cond, ◌||◌, List, [], ◌∷◌, ◌++◌, length, map, Option, Some, None, refl, sym, ap, ◌∙◌, subst, arith}
+use Rattle.std.proofs.Common.{◌≡◌, inl, inr, ℕ, ◌≤◌, ◌^◌, Bool, true, false, not, cond, List, [], ◌∷◌, length, map, Option, Some, None, refl, sym, ◌∙◌, subst, arith}
 use Rattle.std.specs.Prelude.{◌==◌, nat_lt, nat_le, find, is_some, option_to_list}
 use Rattle.std.specs.List.{flat_map, list_any}
 use Rattle.std.specs.Option.{option_map}
@@ -7,25 +7,23 @@ use Rattle.std.proofs.lemmas.Bool.{eqb-true, eq-eqb, ltb-false, false≢true, no
 use Rattle.std.proofs.lemmas.List.Concat.{flat_map-append}
 use Rattle.media_model.specs.declared.entry.Side.{Side}
 use Rattle.media_model.specs.declared.entry.Write.{Write as Writing}
-use Rattle.media_model.specs.declared.entry.Got.{Got as GotEntry}
 use Rattle.media_model.specs.declared.entry.Entry.{Entry}
 use Rattle.media_model.specs.declared.entry.Entry.TheVariants.{Wrote, Ticked, Called, Got, Sealed, Opened, Yielded}
 use Rattle.media_model.specs.declared.setup.PayloadType.{PayloadType}
 use Rattle.media_model.specs.declared.setup.Setup.{Setup}
 use Rattle.media_model.specs.declared.step.Step.{Step}
 use Rattle.media_model.specs.declared.step.Step.TheVariants.{Write}
-use Rattle.media_model.specs.Entries.{write_on, writes_on, is_step}
+use Rattle.media_model.specs.Entries.{write_on, writes_on}
 use Rattle.media_model.specs.Setup.{pt_in, types_of as main_types, claimed_in, claimed_of, streams_of}
 use Rattle.run_model.specs.Listing.{IsIn, NoRepeat}
-use Rattle.run_model.specs.Transcripts.{repairs_as, primary_in, types_of}
+use Rattle.run_model.specs.Transcripts.{repairs_as, types_of}
 use Rattle.run_model.specs.Whole.{Session}
 use Rattle.run_laws.proofs.Lists.{IsIn-left, IsIn-right, IsIn-append, any-from_in, in-from_any, tested}
-use Rattle.media_laws.specs.declared.fault.StepFault.{StepFault}
-use Rattle.media_laws.specs.declared.fault.StepFault.TheVariants.{UnknownStream, UnknownType, NumberTooBig, NumberUsed, PayloadTooLong, TooManySources}
+use Rattle.media_laws.specs.declared.fault.StepFault.TheVariants.{UnknownStream, UnknownType, NumberTooBig, NumberUsed, PayloadTooLong}
 use Rattle.media_laws.specs.Opening.{Sealing}
 use Rattle.media_laws.specs.Play.{AreEntriesOf, wrote, ticked, called, got, Plays}
 use Rattle.media_laws.specs.Rules.{has, or_else, time_fault, write_fault, step_fault}
-use Rattle.media_laws.proofs.Playing.{NoSteps, seals_only, brought_only, Taken, each_taken}
+use Rattle.media_laws.proofs.Playing.{NoSteps, seals_only, brought_only, each_taken}
 use Rattle.media_laws.proofs.Soundness.{NoRepeat-right, type_in, apart_ends}
 
 rule_none : {F : Type 0} (b : Bool) (fault : F) (other : Option F) → cond b (Some fault) other ≡ None → (b ≡ false) × (other ≡ None)

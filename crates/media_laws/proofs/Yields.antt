@@ -1,10 +1,9 @@
 -- What is yielded: no packet twice, and in a genuine run whose repairs widen the writes of the other side.
-use Rattle.std.proofs.Common.{◌≡◌, ◌⊎◌, inl, inr, ℕ, Bool, true, false, cond, not, ◌&&◌, ◌||◌, eqb, List, [], ◌∷◌, ◌++◌, map, Option, Some, None, refl, sym, ap, ◌∙◌, subst, append_assoc}
+use Rattle.std.proofs.Common.{◌≡◌, inl, inr, ℕ, Bool, true, false, cond, ◌&&◌, List, [], ◌∷◌, ◌++◌, map, Option, Some, None, refl, sym, ap, ◌∙◌, subst, append_assoc}
 use Rattle.std.specs.Prelude.{◌==◌, filter}
-use Rattle.std.specs.List.{flat_map, fold, list_all}
-use Rattle.std.proofs.lemmas.Bool.{and_parts, eqb-true, eq-eqb, false≢true}
+use Rattle.std.specs.List.{fold, list_all}
+use Rattle.std.proofs.lemmas.Bool.{and_parts, eq-eqb, false≢true}
 use Rattle.std.proofs.lemmas.List.{append-nil}
-use Rattle.std.proofs.lemmas.List.Concat.{flat_map-append}
 use Rattle.rtp_base.specs.declared.kind.Kind.{Kind}
 use Rattle.rtp_base.specs.declared.kind.Kind.TheVariants.{Rtp, Rtcp}
 use Rattle.media_model.specs.declared.entry.Packet.{Packet}
@@ -16,29 +15,28 @@ use Rattle.media_model.specs.declared.entry.Entry.{Entry}
 use Rattle.media_model.specs.declared.entry.Entry.TheVariants.{Wrote, Ticked, Called, Got, Sealed, Opened, Yielded}
 use Rattle.media_model.specs.declared.step.Step.{Step}
 use Rattle.media_model.specs.declared.setup.Setup.{Setup}
-use Rattle.media_model.specs.Entries.{writes_by, write_by, writes_on, write_on, packet_by, packets, got_after, last_got}
+use Rattle.media_model.specs.Entries.{writes_by, write_by, writes_on, write_on, packet_by, packets, got_after}
 use Rattle.media_model.specs.Genuine.{IsPeersSeal, IsGenuine}
 use Rattle.media_model.specs.Sides.{peer_of, same_side}
-use Rattle.run_model.specs.Events.{Plain, Event, wrote, ticked, called, got, sealed, opened, yielded, Types, Outgoing, Incoming}
+use Rattle.run_model.specs.Events.{Plain, Event, got, sealed, yielded, Types, Outgoing, Incoming}
 use Rattle.run_model.specs.Listing.{IsIn, NoRepeat}
-use Rattle.run_model.specs.Receiving.{Lists, yields, packets_on}
-use Rattle.run_model.specs.Runs.{Happening, events_of, on_side, EachFrom as EachHappening, last_got as last_event, IsGenuineAt, IsGenuine as RunGenuine, IsOwedAt}
+use Rattle.run_model.specs.Receiving.{Lists, yields}
+use Rattle.run_model.specs.Runs.{Happening, on_side, EachFrom as EachHappening, last_got as last_event, IsGenuineAt, IsGenuine as RunGenuine, IsOwedAt}
 use Rattle.run_model.specs.RxPlay.{lists_in}
 use Rattle.run_model.specs.TxPlay.{is_sealing}
-use Rattle.run_model.specs.Transcripts.{plain_in, sealed_event, opened_event, happening_of, happenings, types_of, outgoing_of}
-use Rattle.run_model.specs.Whole.{Config, incoming_of, probes, setup_of, IsSound, Session, Turns, writes, ticks, calls, opens, hears, stays}
-use Rattle.run_laws.proofs.Lists.{IsIn-left, IsIn-right, IsIn-append, IsIn-map, IsIn-from_map, IsIn-flat_map, IsIn-from_flat_map, IsIn-filter, tested}
+use Rattle.run_model.specs.Transcripts.{plain_in, sealed_event, opened_event, happening_of, happenings}
+use Rattle.run_model.specs.Whole.{Config, incoming_of, probes, IsSound, Session, Turns, writes, ticks, calls, opens, hears, stays}
+use Rattle.run_laws.proofs.Lists.{IsIn-right, IsIn-append, IsIn-map, IsIn-from_map, IsIn-flat_map, IsIn-from_flat_map, IsIn-filter, tested}
 use Rattle.run_laws.proofs.RxYields.{yields_new}
 use Rattle.run_laws.proofs.Tables.{drain_seals}
 use Rattle.run_laws.proofs.Whole.{runs_yield_once, runs_yield_writes}
 use Rattle.media_laws.specs.Config.{config_of}
-use Rattle.media_laws.specs.Headline.{past_of, NoPacketTwice, RunWidens, IsOwedTo, YieldsWrites}
-use Rattle.media_laws.specs.Listing.{EachFrom}
+use Rattle.media_laws.specs.Headline.{past_of, NoPacketTwice, IsOwedTo, YieldsWrites}
 use Rattle.media_laws.specs.Opening.{Sealing}
 use Rattle.media_laws.specs.Plain.{extensions_of}
 use Rattle.media_laws.specs.Play.{Plays}
-use Rattle.media_laws.proofs.Playing.{happenings-more, EachFrom-places, as_run, Taken, each_taken}
-use Rattle.media_laws.proofs.Readings.{same_is, is_same, sealed_happens, writes_read, packets_read}
+use Rattle.media_laws.proofs.Playing.{happenings-more, EachFrom-places, as_run, each_taken}
+use Rattle.media_laws.proofs.Readings.{same_is, sealed_happens, writes_read, packets_read}
 use Rattle.media_laws.proofs.Streams.{HoldsLists, hold_lists}
 
 -- of which stream a packet is
@@ -106,9 +104,9 @@ once_all : (ps : List Packet) → ((p : Packet) → IsIn p ps → NoRepeat (map 
 once_all [] h = tt
 once_all (p ∷ ps) h = (
   λ i.
-    let own : (p.ssrc == p.ssrc) ≡ true = eq-eqb p.ssrc p.ssrc refl in
-    let all : NoRepeat (p.number ∷ map (λ (q : Packet). q.number) (filter (λ q. q.ssrc == p.ssrc) ps)) = rw own at (h p (inl refl)) in
-    all.0 (IsIn-map (λ (q : Packet). q.number) p (filter (λ q. q.ssrc == p.ssrc) ps) (IsIn-filter (λ q. q.ssrc == p.ssrc) p ps i own)),
+      let own : (p.ssrc == p.ssrc) ≡ true = eq-eqb p.ssrc p.ssrc refl in
+      let all : NoRepeat (p.number ∷ map (λ (q : Packet). q.number) (filter (λ q. q.ssrc == p.ssrc) ps)) = rw own at (h p (inl refl)) in
+      all.0 (IsIn-map (λ (q : Packet). q.number) p (filter (λ q. q.ssrc == p.ssrc) ps) (IsIn-filter (λ q. q.ssrc == p.ssrc) p ps i own)),
   once_all ps (λ q i. rest q (h q (inr i))),
 )
   where
@@ -134,10 +132,10 @@ pub no_packet_twice : {seal : Sealing} {setup : Setup} {a b : Session} {steps : 
 no_packet_twice {seal} {setup} {a} {b} {entries = entries} sound h side =
     once_all (packets side entries)
     (λ p i.
-        let m = yielded_of sound h side p (packet_in side p entries i) in
-        subst (λ r. NoRepeat (map (λ (q : Packet). q.number) (filter (λ q. q.ssrc == r) (packets side entries)))) (sym m.2)
-        (subst (λ ps. NoRepeat (map (λ (q : Packet). q.number) ps)) (packets_read setup side (incoming_of m.0) entries)
-        (runs_yield_once (config_of seal setup) a b (happenings setup entries) sound (as_run h) side m.0 m.1)))
+    let m = yielded_of sound h side p (packet_in side p entries i) in
+    subst (λ r. NoRepeat (map (λ (q : Packet). q.number) (filter (λ q. q.ssrc == r) (packets side entries)))) (sym m.2)
+    (subst (λ ps. NoRepeat (map (λ (q : Packet). q.number) ps)) (packets_read setup side (incoming_of m.0) entries)
+    (runs_yield_once (config_of seal setup) a b (happenings setup entries) sound (as_run h) side m.0 m.1)))
 
 -- the bytes that came last
 

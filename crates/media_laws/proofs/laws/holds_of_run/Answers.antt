@@ -1,4 +1,3 @@
-use Rattle.media_model.specs.declared.setup.Setup.{Setup}
 use Rattle.media_laws.specs.Keys.{sealing_of}
 use Rattle.media_laws.specs.WireLaws.{WireLaws}
 use Rattle.media_laws.proofs.Fronts.{holds_of_front, holds_at_key}
