@@ -1,6 +1,5 @@
 -- The plain sessions of a setup.
-use Rattle.std.specs.Prelude.{ℕ, Bool, ◌==◌, ◌||◌, unwrap_or, List, Option, Some}
-use Rattle.std.specs.Option.{option_map}
+use Rattle.std.specs.Prelude.{ℕ, Bool, ◌==◌, ◌||◌, Option}
 use Rattle.media_units.specs.Wallclock.{ntp_nanos}
 use Rattle.rtcp_wire.specs.declared.extended.DlrrItem.{DlrrItem as Delay}
 use Rattle.session_core.specs.Hearing.{trip_of}

@@ -1,6 +1,6 @@
 -- What holds of the entries of a run.
-use Rattle.std.specs.Prelude.{◌≡◌, ◌↔◌, ◌<◌, ◌≤◌, ◌%◌, ◌+◌, ◌⊎◌, ℕ, true, List, [], ◌∷◌, ◌++◌, map, length, drop, Some}
-use Rattle.std.specs.List.{list_any, AllByRecursion}
+use Rattle.std.specs.Prelude.{◌≡◌, ◌↔◌, ◌%◌, ◌+◌, ◌⊎◌, ℕ, true, List, [], ◌∷◌, ◌++◌, map, length, drop, Some}
+use Rattle.std.specs.List.{AllByRecursion}
 use Rattle.std.specs.Int.{w16, to_be_bytes}
 use Rattle.rtp_wire.specs.declared.header.RtpHeader.{RtpHeader}
 use Rattle.rtp_wire.specs.Header.{csrc_of}
@@ -22,16 +22,16 @@ use Rattle.media_model.specs.Genuine.{IsGenuine}
 use Rattle.media_model.specs.Sides.{peer_of}
 use Rattle.media_model.specs.Entries.{writes_by, writes_on, sealed_numbers, nonces, packets}
 use Rattle.repair_core.specs.Fresh.{greatest_of, is_fresh}
-use Rattle.run_model.specs.Asking.{side_of, asked, modulo, owed, RxSide}
+use Rattle.run_model.specs.Asking.{side_of, asked, modulo, owed}
 use Rattle.run_model.specs.Capping.{IsCapped}
-use Rattle.run_model.specs.Events.{Plain, Event, opened, opened_items, yielded, Types, Outgoing, Incoming}
+use Rattle.run_model.specs.Events.{Plain, Event, opened, opened_items, yielded, Outgoing, Incoming}
 use Rattle.run_model.specs.Receiving.{lists, begun_taken, yields, Opens}
 use Rattle.run_model.specs.RxPlay.{RxRecord}
 use Rattle.run_model.specs.Runs.{events_of, on_side, RepairsWiden}
 use Rattle.run_model.specs.Seals.{IsReport}
 use Rattle.run_model.specs.Sending.{sendings, Answers as Answering}
 use Rattle.run_model.specs.Transcripts.{happenings, types_of, outgoing_of}
-use Rattle.run_model.specs.Whole.{Config, setup_of, incoming_of}
+use Rattle.run_model.specs.Whole.{setup_of, incoming_of}
 use Rattle.media_laws.specs.Config.{config_of, rtp_sealing, reporting}
 use Rattle.media_laws.specs.Feedback.{SendsFeedback}
 use Rattle.media_laws.specs.Listing.{IsIn, NoRepeat, Each, EachStep}
@@ -39,7 +39,6 @@ use Rattle.media_laws.specs.Opening.{Sealing}
 use Rattle.media_laws.specs.Plain.{extensions_of, read_header, Carries, as_packet}
 use Rattle.media_laws.specs.Play.{Brings, IsBroughtBy}
 use Rattle.media_laws.specs.Right.{IsRight, IsRightSeal}
-use Rattle.media_laws.specs.Rules.{has}
 
 -- what happened on a side among these entries, as it is read
 abbrev pub past_of : Setup → Side → List Entry → List Event

@@ -1,5 +1,5 @@
 -- How the sides of a setup seal.
-use Rattle.std.specs.Prelude.{ℕ, Bool, true, false, List}
+use Rattle.std.specs.Prelude.{Bool, true, false}
 use Rattle.srtp_core.specs.Cipher.{CipherMeaning}
 use Rattle.srtp_core.specs.Keys.{session_keys}
 use Rattle.srtp_core.specs.Seals.{sealed_rtp}

@@ -1,16 +1,8 @@
 -- What stands in a list, and what holds along it.
-use Rattle.std.specs.Prelude.{◌≡◌, ◌⊎◌, true, if◌then◌else◌, List, [], ◌∷◌, ◌++◌}
+use Rattle.std.specs.Prelude.{◌≡◌, true, if◌then◌else◌, List, [], ◌∷◌, ◌++◌}
 use Rattle.media_model.specs.declared.entry.Entry.{Entry}
 use Rattle.media_model.specs.Entries.{is_step}
-
-abbrev pub IsIn : {X : Type 0} → X → List X → Type 0
-IsIn x [] = ⊥
-IsIn x (y ∷ ys) = (x ≡ y) ⊎ IsIn x ys
-
--- nothing stands twice
-abbrev pub NoRepeat : {X : Type 0} → List X → Type 0
-NoRepeat [] = Unit {0}
-NoRepeat (x ∷ xs) = (IsIn x xs → ⊥) × NoRepeat xs
+pub use Rattle.run_model.specs.Listing.{IsIn, NoRepeat}
 
 -- P holds of each entry, with the entries before it
 abbrev pub EachFrom : (List Entry → Entry → Type 0) → List Entry → List Entry → Type 0

@@ -12,10 +12,6 @@ ghost use Rattle.media_laws.specs.Play.{Played};
 ghost use Rattle.setup_rules.specs.SetupRules.{setup_fault};
 
 use rtp_wire::{header_reads_own_bytes, headers_are_as_long};
-use run_laws::{
-    runs_answer, runs_ask_the_due, runs_repeat_no_index, runs_repeat_no_nonce, runs_yield_exactly,
-    runs_yield_once, runs_yield_writes, records_hold_lists, streams_send_writes,
-};
 use srtp_core::SrtpCipher;
 use srtp_core::laws::{rtp_seal_keeps_header, rtp_seals_apart};
 
@@ -41,15 +37,6 @@ pub fn holds_of_run<C: SrtpCipher>()
     headers_are_as_long();
     rtp_seals_apart::<C>();
     rtp_seal_keeps_header::<C>();
-    runs_answer();
-    runs_ask_the_due();
-    runs_repeat_no_index();
-    runs_repeat_no_nonce();
-    runs_yield_exactly();
-    runs_yield_once();
-    runs_yield_writes();
-    records_hold_lists();
-    streams_send_writes();
 }
 
 /// A run plays each step of its script once, in order, up to the call that finds a key used up.
