@@ -1,5 +1,5 @@
 -- A session before any step, with some of the streams of its setup.
-use Rattle.std.specs.Prelude.{◌≡◌, ◌≤◌, ◌^◌, ℕ, true, false, List, [], map, None, Some}
+use Rattle.std.specs.Prelude.{◌≡◌, ◌≤◌, ◌^◌, ℕ, true, false, List, [], map, is_some, None, Some}
 use Rattle.std.specs.List.{AllZip, flat_map}
 use Rattle.srtp_core.specs.Cipher.{CipherMeaning}
 use Rattle.srtp_core.specs.Contexts.{new_state}
@@ -11,12 +11,18 @@ use Rattle.media_model.specs.declared.entry.Side.{Side}
 use Rattle.media_model.specs.declared.setup.PayloadType.{PayloadType}
 use Rattle.media_model.specs.declared.setup.Setup.{Setup}
 use Rattle.media_model.specs.Sides.{peer_of}
-use Rattle.media_model.specs.Setup.{local_of, material_of}
+use Rattle.media_model.specs.Setup.{local_of, material_of, types_of as type_numbers}
 use Rattle.run_model.specs.Events.{Outgoing}
 use Rattle.run_model.specs.RxPlay.{new_rx}
 use Rattle.run_model.specs.TxPlay.{new_tx}
 use Rattle.run_model.specs.Transcripts.{types_of}
 use Rattle.run_model.specs.Whole.{incoming_of, probes}
+use Rattle.stream_core.specs.Tables.{place_of}
+use Rattle.session_turns.specs.Mirrors.{Mirrors}
+use Rattle.run_model.specs.Whole.{new_session}
+use Rattle.media_laws.specs.Config.{config_of}
+use Rattle.media_laws.specs.Keys.{sealing_of}
+use Rattle.media_laws.specs.Rules.{has}
 use Rattle.media_play.specs.Ends.{EndSession, SessionStands}
 use Rattle.media_laws.specs.Plain.{extensions_of}
 use Rattle.media_laws.specs.Keys.{is_left}
@@ -50,3 +56,12 @@ pub record Starts (cipher : CipherMeaning) (setup : Setup) (side : Side) (sent r
   pub bounded : (local_of side setup).srtcp_index ≤ 2 ^ 31
   pub stands : SessionStands view session
   pub begun : Begun cipher setup side sent received session
+
+-- the session of a side of a setup before any step: it mirrors the plain session of the setup, and runs
+pub record IsStarted (cipher : CipherMeaning) (setup : Setup) (side : Side) (view : EndSession) : Type 0 where
+  pub session : SessionRecord
+  pub stands : SessionStands view session
+  pub mirrors : Mirrors cipher (config_of (sealing_of cipher setup) setup) side session (new_session (config_of (sealing_of cipher setup) setup) side)
+  pub types : (pt : ℕ) → is_some (place_of pt session.state.types) ≡ has (type_numbers setup) pt
+  pub exts : session.state.transport.exts ≡ extensions_of setup
+  pub runs : session.state.stopped ≡ false
