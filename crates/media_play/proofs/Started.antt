@@ -6,7 +6,7 @@ use Rattle.std.specs.Map.{keys_of}
 use Rattle.std.proofs.lemmas.Bool.{eq-eqb, eqb-true}
 use Rattle.rtcp_wire.specs.declared.extended.DlrrItem.{DlrrItem as Delay}
 use Rattle.rtp_wire.specs.declared.extension.ExtensionMap.{ExtensionMap}
-use Rattle.media_base.specs.declared.beginning.Beginning.{Beginning}
+use Rattle.media_base.specs.declared.Beginning.{Beginning}
 use Rattle.media_units.specs.Wallclock.{ntp_nanos}
 use Rattle.rtx_core.specs.Ratio.{CapRecord, uncounted}
 use Rattle.rtx_core.specs.Resends.{created, recached, recapped}
