@@ -26,6 +26,8 @@ pub mod Others
 pub mod Soundness
 pub mod StartingLists
 pub mod StartingSteps
+pub mod StartingSetup
+pub mod Started
 pub mod Exhausting
 pub mod Playing
 pub mod Ticks
