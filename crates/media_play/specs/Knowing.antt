@@ -8,6 +8,9 @@ use Rattle.media_model.specs.Setup.{streams_of}
 use Rattle.media_model.specs.Entries.{writes_on}
 use Rattle.media_play.specs.declared.numbers.Numbers.{Numbers}
 use Rattle.media_laws.specs.Rules.{has}
+use Rattle.run_model.specs.Events.{Outgoing}
+use Rattle.run_model.specs.Listing.{IsIn}
+use Rattle.run_model.specs.TxPlay.{TxRecord}
 
 -- the numbers that were written under an SSRC
 abbrev pub UsedAs : Side → List Entry → ℕ → Numbers → Type 0
@@ -18,6 +21,12 @@ UsedAs side entries ssrc used =
 -- the same for each stream of a side
 abbrev pub AreUsed : Setup → Side → List Entry → List Numbers → Type 0
 AreUsed setup side entries used = AllZip (UsedAs side entries) (streams_of side setup) used
+
+-- each number that was written on a plain stream is that of a write of the entries
+abbrev pub IsWrittenIn : Side → List Entry → Outgoing × TxRecord → Type 0
+IsWrittenIn side entries s =
+    (n : ℕ) → IsIn n s.1.written
+    → list_any (λ w. w.number == n) (writes_on side s.0.ssrc entries) ≡ true
 
 -- a number was written on the stream at a place
 abbrev pub has_number : Option Numbers → ℕ → Bool

@@ -15,11 +15,12 @@ use Rattle.media_play.specs.declared.fault.RunError.{RunError}
 use Rattle.media_play.specs.declared.fault.RunFault.{RunFault}
 use Rattle.media_play.specs.declared.fault.RunError.TheVariants as error
 use Rattle.media_model.specs.Entries.{last_time}
-use Rattle.media_play.specs.Errors.{IsStepCause, call_of}
-use Rattle.media_laws.specs.Exhausting.{Exhausts}
-use Rattle.media_laws.specs.Play.{Outcome, Plays, Played}
+use Rattle.media_play.specs.Errors.{IsStepCause}
+use Rattle.media_laws.specs.Exhausting.{Exhausts, call_of}
+use Rattle.media_laws.specs.Play.{Outcome, Plays as PlaysIn, Played}
 use Rattle.media_laws.specs.Rules.{step_fault}
-use Rattle.media_play.specs.Sessions.{EndState, Ready, sealing_of}
+use Rattle.media_laws.specs.Keys.{sealing_of}
+use Rattle.media_play.specs.Sessions.{EndState, Ready}
 use Rattle.setup_rules.specs.SetupRules.{setup_fault}
 
 -- the two ends, the entries so far and the time of the last step
@@ -36,7 +37,7 @@ pub record IsRunOf (cipher : CipherMeaning) (setup : Setup) (steps : List Step)
   pub valid : setup_fault setup ≡ None
   pub a : Session
   pub b : Session
-  pub plays : Plays (sealing_of cipher setup) setup a b steps run.log
+  pub plays : PlaysIn (sealing_of cipher setup) setup a b steps run.log
   pub a_knows : Ready cipher setup A run.a a run.log
   pub b_knows : Ready cipher setup B run.b b run.log
   pub time : run.latest ≡ last_time run.log

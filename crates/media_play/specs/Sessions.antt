@@ -19,7 +19,7 @@ use Rattle.media_laws.specs.declared.counter.Counter.TheVariants.{Rtcp, Rtx}
 use Rattle.media_laws.specs.Right.{IsRightSeal}
 use Rattle.media_play.specs.declared.fault.StepError.{StepError}
 use Rattle.media_play.specs.declared.fault.StepError.TheVariants.{Memory, Rule, KeyExhausted}
-use Rattle.session_turns.specs.Mirrors.{Mirrors}
+use Rattle.session_turns.specs.Mirrors.{Mirrors, IsFit}
 use Rattle.session_turns.specs.Reading.{len_in}
 use Rattle.media_model.specs.declared.entry.Side.{Side}
 use Rattle.media_model.specs.declared.entry.Side.TheVariants.{A, B}
@@ -38,7 +38,7 @@ use Rattle.media_play.specs.declared.end.Received.{Received}
 use Rattle.media_play.specs.declared.numbers.Numbers.{Numbers}
 use Rattle.media_laws.specs.Config.{config_of}
 use Rattle.media_play.specs.Ends.{EndSession, SessionStands}
-use Rattle.media_play.specs.Knowing.{AreUsed}
+use Rattle.media_play.specs.Knowing.{AreUsed, IsWrittenIn}
 use Rattle.media_laws.specs.Keys.{sealing_of}
 use Rattle.media_laws.specs.Plain.{extensions_of}
 use Rattle.media_laws.specs.Play.{IsBroughtBy}
@@ -50,7 +50,7 @@ pub record EndState : Type 0 where
   pub written : List Numbers
 
 -- the session of a side mirrors a plain session, and runs; its types and header extensions are the setup's; and the numbers that
--- were written on each of its streams are known
+-- were written on each of its streams are known; the plain session has written no others; and the configuration fits its fields
 pub record Ready (cipher : CipherMeaning) (setup : Setup) (side : Side) (end : EndState) (a : Session)
     (entries : List Entry) : Type 0 where
   pub session : SessionRecord
@@ -60,6 +60,8 @@ pub record Ready (cipher : CipherMeaning) (setup : Setup) (side : Side) (end : E
   pub exts : session.state.transport.exts ≡ extensions_of setup
   pub runs : session.state.stopped ≡ false
   pub used : AreUsed setup side entries end.written
+  pub wrote : AllByRecursion (IsWrittenIn side entries) a.tx
+  pub fit : IsFit (config_of (sealing_of cipher setup) setup)
 
 abbrev pub yielded : Side → Option Packet → List Entry
 yielded side None = []

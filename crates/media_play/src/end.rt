@@ -346,7 +346,7 @@ impl<C: SrtpCipher> End<C> {
             → ReadyAt C.meaning setup side self.old a entries time
             → TakesIn C.meaning setup side a self.new entries (got_as side time Rtp bytes.now) received) }
     {
-        opens_turn::<C>();
+        opens_turn();
         openings_are_right();
         are_bytes(bytes);
         let opened = match self.session.handle_rtp_receive(time, bytes) {
@@ -450,9 +450,10 @@ impl<C: SrtpCipher> End<C> {
             Ok(()) => {}
             Err(_) => return Err(StepError::Memory),
         }
-        match self.session.drain(time) {
-            Ok(drained) => Ok(drained.datagrams),
-            Err(fault) => Err(used_up(side, fault.error)),
-        }
+        let drained = match self.session.drain(time) {
+            Ok(drained) => drained,
+            Err(fault) => return Err(used_up(side, fault.error)),
+        };
+        Ok(drained.datagrams)
     }
 }

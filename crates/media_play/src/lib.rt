@@ -1,5 +1,15 @@
 //! Runs of two media sessions over a script.
 #![tactic(auto)]
 
+mod end;
+mod fault;
+mod log;
 mod numbers;
+mod pair;
+mod run;
 mod starting;
+
+pub use fault::{PlayFault, RunError, RunFault, StepError};
+pub use media_laws::{Counter, StepFault, laws};
+pub use run::{Run, media_run};
+pub use setup_rules::SetupFault;
