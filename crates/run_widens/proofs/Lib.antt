@@ -1,3 +1,4 @@
+pub mod LineLaws
 pub mod SentLaws
 pub mod TakenLaws
 pub mod WidensLaws
