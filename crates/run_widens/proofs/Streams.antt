@@ -11,6 +11,9 @@ use Rattle.media_model.specs.declared.entry.Entry.{Entry}
 use Rattle.media_model.specs.declared.setup.Setup.{Setup}
 use Rattle.run_model.specs.Events.{Outgoing}
 use Rattle.run_model.specs.Listing.{IsIn}
+use Rattle.run_model.specs.Runs.{RepairsWiden}
+use Rattle.run_model.specs.Transcripts.{types_of, happening_of}
+use Rattle.run_model.specs.Whole.{incoming_of}
 use Rattle.run_widens.specs.Widens.{AllWiden}
 
 in_left : {X : Type 0} (x : X) (xs ys : List X) → IsIn x xs → IsIn x (xs ++ ys)
@@ -71,3 +74,10 @@ module _ (setup : Setup) (exts : ExtensionMap) (side : Side) (entries : List Ent
         (subst (λ o. Widen (cons_option o (filter_map f (drop (i + 1) xs)))) is_L
         (widen_right (filter_map f (take i xs)) (filter_map f (x ∷ drop (i + 1) xs))
         (subst Widen (ap (filter_map f) whole ∙ filter_map-append f (take i xs) (x ∷ drop (i + 1) xs)) a)))
+
+  pub alone : (L : Outgoing) → RepairsWiden (types_of setup) side (incoming_of L) (map (happening_of exts) entries) → Widen (L ∷ [])
+  alone L h M (inl e) = subst (λ (x : Outgoing). RepairsWiden (types_of setup) side (incoming_of x) (map (happening_of exts) entries)) (sym e) h
+  alone L h M (inr x) = absurd x
+
+  pub none : Widen []
+  none M x = absurd x
