@@ -8,6 +8,12 @@ pub mod Rightly
 pub mod Knowings
 pub mod Putting
 pub mod Cutting
+pub mod Steps
+pub mod Cuts
+pub mod Calls
+pub mod Indices
+pub mod Sends
+pub mod Ending
 pub mod StartingLists
 pub mod StartingSteps
 pub mod StartingSetup

@@ -1,0 +1,76 @@
+use Rattle.std.proofs.Common.{◌≡◌, [], ◌∷◌, None, sym, subst, ◌∙◌, refl}
+use Rattle.media_model.specs.declared.entry.Entry.TheVariants.{Wrote}
+use Rattle.media_model.specs.declared.step.Step.TheVariants.{Write}
+use Rattle.media_laws.specs.Play.{wrote}
+use Rattle.media_laws.specs.Rules.{time_fault, write_fault}
+use Rattle.media_play.specs.Errors.{IsCauseAt}
+use Rattle.media_play.specs.Running.{RunState, IsRunOf, PlaysOn, Refuses}
+use Rattle.media_play.proofs.Steps.{ready_a, ready_b, plays_a, plays_b, no_fault, cause_of_step, refused_after, handed_on}
+use Rattle.media_play.proofs.pair.Pair.write.Goals as goal
+use Rattle.media_play.proofs.pair.Pair.write.Goals.{in-A+in_ok-write_step-in-A, in-B+in_ok-write_step-in-B}
+
+pub returns-in_err-write_step-in-A-clause-refused : goal.returns-in_err-write_step-in-A-clause-refused
+returns-in_err-write_step-in-A-clause-refused g c =
+    let K = g.C.SrtpCipher.meaning in
+    let side = c.args.side in
+    let write = c.args.write.now in
+    let e = c.in_err-write_step-in-A.field-0.0 in
+    handed_on (Refuses K c.args.self.now (Write side c.args.time write)) c.from_residual-in_err-write_step-in-A.result e
+    c.from_residual-in_err-write_step-in-A.ensures.1
+    (λ setup steps is_run.
+    let run : RunState = record { a = c.self.inside.a; b = c.self.inside.b; log = c.self.inside.log; latest = c.self.inside.latest } in
+    let here = subst (λ (r : RunState). IsRunOf K setup steps r) (sym c.self.view_is) is_run in
+    let fine : time_fault c.args.self.now.log c.args.time ≡ None = c.in_ok-check_time.ensures.fault c.args.self.now.log is_run.time in
+    let fine_here : time_fault run.log c.args.time ≡ None = subst (λ (r : RunState). time_fault r.log c.args.time ≡ None) (sym c.self.view_is) fine in
+    cause_of_step K setup c.args.self.now.log (Write side c.args.time write) e
+    (refused_after e (time_fault c.args.self.now.log c.args.time) (write_fault setup c.args.self.now.log side write) fine
+    (subst (λ (r : RunState). IsCauseAt (write_fault setup r.log side write) e) c.self.view_is
+    (c.in_err-write_step-in-A.ensures.refused setup here.a run.log (ready_a here c.in-A.is c.args.time fine_here).ready))))
+
+pub returns-in_err-write_step-in-B-clause-refused : goal.returns-in_err-write_step-in-B-clause-refused
+returns-in_err-write_step-in-B-clause-refused g c =
+    let K = g.C.SrtpCipher.meaning in
+    let side = c.args.side in
+    let write = c.args.write.now in
+    let e = c.in_err-write_step-in-B.field-0.0 in
+    handed_on (Refuses K c.args.self.now (Write side c.args.time write)) c.from_residual-in_err-write_step-in-B.result e
+    c.from_residual-in_err-write_step-in-B.ensures.1
+    (λ setup steps is_run.
+    let run : RunState = record { a = c.self.inside.a; b = c.self.inside.b; log = c.self.inside.log; latest = c.self.inside.latest } in
+    let here = subst (λ (r : RunState). IsRunOf K setup steps r) (sym c.self.view_is) is_run in
+    let fine : time_fault c.args.self.now.log c.args.time ≡ None = c.in_ok-check_time.ensures.fault c.args.self.now.log is_run.time in
+    let fine_here : time_fault run.log c.args.time ≡ None = subst (λ (r : RunState). time_fault r.log c.args.time ≡ None) (sym c.self.view_is) fine in
+    cause_of_step K setup c.args.self.now.log (Write side c.args.time write) e
+    (refused_after e (time_fault c.args.self.now.log c.args.time) (write_fault setup c.args.self.now.log side write) fine
+    (subst (λ (r : RunState). IsCauseAt (write_fault setup r.log side write) e) c.self.view_is
+    (c.in_err-write_step-in-B.ensures.refused setup here.b run.log (ready_b here c.in-B.is c.args.time fine_here).ready))))
+
+pub returns-clause-played : goal.returns-clause-played
+returns-clause-played g c setup steps is_run =
+    let K = g.C.SrtpCipher.meaning in
+    let side = c.args.side in
+    let time = c.args.time in
+    let write = c.args.write.now in
+    let run : RunState = record { a = c.self.inside.a; b = c.self.inside.b; log = c.self.inside.log; latest = c.self.inside.latest } in
+    let here : IsRunOf K setup steps run = subst (λ (r : RunState). IsRunOf K setup steps r) (sym c.self.view_is) is_run in
+    let fine : time_fault run.log time ≡ None = subst (λ (r : RunState). time_fault r.log time ≡ None) (sym c.self.view_is) (c.in_ok-check_time.ensures.fault c.args.self.now.log is_run.time) in
+    elim c.match-side.branch [
+      | in-A+in_ok-write_step-in-A w ↦
+          let at = ready_a here w.in-A.is time fine in
+          let says = w.in_ok-write_step-in-A.ensures in
+          let new : RunState = record { a = w.write_step.new.end; b = run.b; log = w.write_step.new.log; latest = time } in
+          rw w.self-inside-is
+          (subst (λ (r : RunState). PlaysOn K setup steps r (Write side time write) new) c.self.view_is
+          (plays_a here (Write side time write) time w.write_step.new.end w.write_step.new.log (Wrote side time write ∷ [])
+          (no_fault (time_fault run.log time) (write_fault setup run.log side write) fine (says.valid setup here.a run.log at.ready)) fine says.wrote refl w.in-A.is
+          (wrote side time write says.fits.0 says.fits.1 says.fits.2) (says.ready setup here.a at)))
+      | in-B+in_ok-write_step-in-B w ↦
+          let at = ready_b here w.in-B.is time fine in
+          let says = w.in_ok-write_step-in-B.ensures in
+          let new : RunState = record { a = run.a; b = w.write_step-in-B.new.end; log = w.write_step-in-B.new.log; latest = time } in
+          rw w.self-inside-is
+          (subst (λ (r : RunState). PlaysOn K setup steps r (Write side time write) new) c.self.view_is
+          (plays_b here (Write side time write) time w.write_step-in-B.new.end w.write_step-in-B.new.log (Wrote side time write ∷ [])
+          (no_fault (time_fault run.log time) (write_fault setup run.log side write) fine (says.valid setup here.b run.log at.ready)) fine says.wrote refl w.in-B.is
+          (wrote side time write says.fits.0 says.fits.1 says.fits.2) (says.ready setup here.b at)))
+    ]
