@@ -1,5 +1,5 @@
 -- The test of a genuine run tells what genuine means.
-use Rattle.std.proofs.Common.{◌≡◌, ℕ, Bool, true, false, ◌&&◌, ◌||◌, List, [], ◌∷◌, ◌++◌, Option, Some, None, Result, Ok, Err, not, refl, sym, ap, ◌∙◌, subst, append_assoc}
+use Rattle.std.proofs.Common.{◌≡◌, ℕ, Bool, true, false, ◌&&◌, ◌||◌, List, [], ◌∷◌, ◌++◌, Option, Some, None, Result, Ok, Err, refl, sym, ap, ◌∙◌, subst, append_assoc}
 use Rattle.std.specs.Prelude.{IsTrue, IfOk, ◌↔◌}
 use Rattle.std.specs.declared.alloc.AllocError.{AllocError}
 use Rattle.std.specs.List.{list_any}
@@ -15,12 +15,10 @@ use Rattle.media_model.specs.declared.entry.Sealed.{Sealed as SealedEntry}
 use Rattle.media_model.specs.declared.entry.Opened.{Opened as OpenedEntry}
 use Rattle.media_model.specs.declared.entry.Entry.{Entry}
 use Rattle.media_model.specs.declared.entry.Entry.TheVariants.{Wrote, Ticked, Called, Got, Sealed, Opened, Yielded}
-use Rattle.media_model.specs.declared.setup.Setup.{Setup}
-use Rattle.media_model.specs.Setup.{rtx_of}
 use Rattle.rtp_base.specs.Kind.{same_kind}
 use Rattle.media_model.specs.Sides.{peer_of, same_side}
 use Rattle.media_model.specs.Entries.{last_got}
-use Rattle.media_model.specs.Genuine.{IsPeersSeal, IsGenuine, seals, some_seals, is_genuine_after, genuine_from, is_genuine, is_repair, RepairsWiden, repairs_widen}
+use Rattle.media_model.specs.Genuine.{IsPeersSeal, IsGenuine, seals, some_seals, is_genuine_after, genuine_from, is_genuine}
 
 both : (a b : Bool) → (a && b) ≡ true → (a ≡ true) × (b ≡ true)
 both true b e = (refl, e)
@@ -152,23 +150,3 @@ genuine_means entries b is = (
 pub genuine_means_of : (entries : List Entry) (r : Result Bool AllocError) → IfOk r (λ b. b ≡ is_genuine entries) → IfOk r (λ b. IsTrue b ↔ IsGenuine entries)
 genuine_means_of entries (Ok b) is = genuine_means entries b is
 genuine_means_of entries (Err e) is = tt
-
-none_told : {X : Type 0} (test : X → Bool) (xs before after : List X) (x : X) → not (list_any test xs) ≡ true → xs ≡ before ++ x ∷ after → test x ≡ false
-none_told test xs before after x e split = go (test x) refl (list_any test before) refl where
-  go : (b : Bool) → test x ≡ b → (d : Bool) → list_any test before ≡ d → b ≡ false
-  go false p d q = refl
-  go true p d q =
-      let all : list_any test xs ≡ true = ap (list_any test) split ∙ list_any-append test before (x ∷ after) ∙ ap (λ b. list_any test before || (b || list_any test after)) p ∙ or_true (list_any test before) in
-      absurd (cc (ap not all, e))
-
-none_passes : {X : Type 0} (test : X → Bool) (xs : List X) → ((before after : List X) (x : X) → xs ≡ before ++ x ∷ after → test x ≡ false) → list_any test xs ≡ false
-none_passes test [] h = refl
-none_passes test (x ∷ xs) h =
-    ap (λ b. b || list_any test xs) (h [] xs x refl) ∙ none_passes test xs (λ before after y split. h (x ∷ before) after y (ap (λ l. x ∷ l) split))
-
--- that no repair was opened
-pub repairs_mean : (setup : Setup) (entries : List Entry) (b : Bool) → b ≡ repairs_widen setup entries → IsTrue b ↔ RepairsWiden setup entries
-repairs_mean setup entries b is = (
-  λ t before after entry split. none_told (is_repair (rtx_of setup)) entries before after entry (sym is ∙ t) split,
-  λ h. is ∙ ap not (none_passes (is_repair (rtx_of setup)) entries h),
-)

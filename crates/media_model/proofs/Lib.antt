@@ -1,3 +1,2 @@
-pub mod FilterMap
 pub mod GenuineLaws
 pub mod Seals

@@ -1,15 +1,12 @@
 -- Which runs are genuine: what a side opens, its peer sealed.
-use Rattle.std.specs.Prelude.{◌≡◌, ℕ, Bool, true, false, not, ◌&&◌, ◌==◌, List, [], ◌∷◌, ◌++◌, Option, Some, None}
+use Rattle.std.specs.Prelude.{◌≡◌, ℕ, Bool, true, false, ◌&&◌, ◌==◌, List, [], ◌∷◌, ◌++◌, Option, Some, None}
 use Rattle.std.specs.List.{list_any}
 use Rattle.std.specs.Str.{bytes_eq}
-use Rattle.rtp_base.specs.declared.kind.Kind.TheVariants.{Rtp}
 use Rattle.media_model.specs.declared.entry.Sealed.{Sealed as SealedEntry}
 use Rattle.media_model.specs.declared.entry.Opened.{Opened as OpenedEntry}
 use Rattle.media_model.specs.declared.entry.Entry.{Entry}
 use Rattle.media_model.specs.declared.entry.Entry.TheVariants.{Sealed, Opened}
-use Rattle.media_model.specs.declared.setup.Setup.{Setup}
 use Rattle.media_model.specs.Entries.{last_got}
-use Rattle.media_model.specs.Setup.{rtx_of}
 use Rattle.rtp_base.specs.Kind.{same_kind}
 use Rattle.media_model.specs.Sides.{peer_of, same_side}
 
@@ -54,16 +51,3 @@ genuine_from before (entry ∷ entries) = is_genuine_after before entry && genui
 
 abbrev pub is_genuine : List Entry → Bool
 is_genuine entries = genuine_from [] entries
-
--- an RTP datagram that was opened under an SSRC of repairs
-abbrev pub is_repair : List ℕ → Entry → Bool
-is_repair rtx (Opened o) = same_kind Rtp o.kind && list_any (λ r. r == o.ssrc) rtx
-is_repair rtx _ = false
-
--- No repair was opened. (What an opened repair has to restore is to be stated here once repairs are sent.)
-abbrev pub RepairsWiden : Setup → List Entry → Type 0
-RepairsWiden setup entries =
-    (before after : List Entry) (entry : Entry) → entries ≡ before ++ entry ∷ after → is_repair (rtx_of setup) entry ≡ false
-
-abbrev pub repairs_widen : Setup → List Entry → Bool
-repairs_widen setup entries = not (list_any (is_repair (rtx_of setup)) entries)

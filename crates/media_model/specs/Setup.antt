@@ -60,16 +60,6 @@ claimed_in t = t.pt ∷ option_to_list t.rtx
 abbrev pub claimed_of : Setup → List ℕ
 claimed_of setup = flat_map claimed_in setup.types
 
-abbrev pub rtx_in : Stream → Option ℕ
-rtx_in stream = stream.rtx
-
-abbrev pub repairs_in : Media → List ℕ
-repairs_in media = filter_map rtx_in media.streams
-
--- the SSRCs of repairs (RFC 4588 section 4)
-abbrev pub rtx_of : Setup → List ℕ
-rtx_of setup = flat_map repairs_in setup.media
-
 abbrev pub starts_on : ℕ → NamedStart → Bool
 starts_on ssrc start = start.ssrc == ssrc
 

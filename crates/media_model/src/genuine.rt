@@ -1,15 +1,13 @@
 // Whether a run is genuine.
-ghost use Rattle.std.specs.Prelude.{◌≡◌, ◌↔◌, ◌∷◌, ◌++◌, [], List, IfOk, OnOk, IsTrue, not};
-ghost use Rattle.std.specs.List.{list_any};
+ghost use Rattle.std.specs.Prelude.{◌≡◌, ◌↔◌, ◌∷◌, ◌++◌, [], List, IfOk, OnOk, IsTrue};
 ghost use Rattle.std.specs.Option.{option_copied};
 ghost use Rattle.media_model.specs.declared.entry.Entry.{Entry as Happening};
-ghost use Rattle.media_model.specs.Genuine.{is_genuine_after, is_genuine, IsGenuine, is_repair, repairs_widen, RepairsWiden};
+ghost use Rattle.media_model.specs.Genuine.{is_genuine_after, is_genuine, IsGenuine};
 ghost use Rattle.media_model.specs.Seals.{HasSeals, latest_of, HasLatest};
 
 use crate::entry::{Entry, Side};
-use crate::setup::Setup;
 use crate::transcript::Transcript;
-use rtp_wire::{Kind, Ssrc};
+use rtp_wire::Kind;
 use std::alloc::{AllocError, Global};
 use std::collections::HashSet;
 
@@ -31,36 +29,6 @@ impl Transcript {
         ensures meaning { IfOk result (λ b. IsTrue b ↔ IsGenuine self.now) }
     {
         is_genuine(alloc, self.entries())
-    }
-
-    /// Whether no repair was opened under an SSRC of repairs of the setup.
-    pub fn repairs_widen(&self, alloc: Global, setup: &Setup) -> Result<bool, AllocError>
-        ensures value { IfOk result (λ b. b ≡ repairs_widen setup.now self.now) }
-        ensures meaning { IfOk result (λ b. IsTrue b ↔ RepairsWiden setup.now self.now) }
-    {
-        let repairs = setup.repairs(alloc)?;
-        Ok(no_repair(repairs.as_slice(), self.entries()))
-    }
-}
-
-fn no_repair(repairs: &[Ssrc], entries: &[Entry]) -> bool
-    ensures { result ≡ not (list_any (is_repair repairs.now) entries.now) }
-{
-    for entry in entries {
-        if is_repair(repairs, entry) {
-            return false;
-        }
-    }
-    true
-}
-
-// Whether it is an RTP datagram that was opened under an SSRC of repairs.
-fn is_repair(repairs: &[Ssrc], entry: &Entry) -> bool
-    ensures { result ≡ is_repair repairs.now entry.now }
-{
-    match entry {
-        Entry::Opened(opened) => opened.kind == Kind::Rtp && repairs.contains(&opened.ssrc),
-        _ => false,
     }
 }
 

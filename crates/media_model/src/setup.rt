@@ -1,7 +1,7 @@
 ghost use Rattle.std.specs.Prelude.{◌≡◌, ◌++◌, find, IfOk, OnOk};
 ghost use Rattle.std.specs.Option.{option_copied};
 ghost use Rattle.std.specs.List.{filter_map};
-ghost use Rattle.media_model.specs.Setup.{local_of, material_of, streams_of, types_of, claimed_of, main_in, rtx_in, rtx_of, is_extension_id, extensions_of, starts_on, start_of, keeps_on, cache_of};
+ghost use Rattle.media_model.specs.Setup.{local_of, material_of, streams_of, types_of, claimed_of, main_in, is_extension_id, extensions_of, starts_on, start_of, keeps_on, cache_of};
 
 use crate::entry::Side;
 use crate::first_number::FirstNumber;
@@ -219,17 +219,6 @@ impl Setup {
         Ok(ssrcs)
     }
 
-    /// The SSRCs of repairs, in order.
-    pub fn repairs(&self, alloc: Global) -> Result<Vec<Ssrc>, AllocError>
-        ensures { IfOk result (λ v. v.items ≡ rtx_of self.now) }
-    {
-        let mut ssrcs = Vec::new(alloc);
-        for media in self.media.as_slice() {
-            add_repairs(&mut ssrcs, media.streams.as_slice())?;
-        }
-        Ok(ssrcs)
-    }
-
     /// What a side alone brings.
     pub fn local(&self, side: Side) -> Local
         ensures { result ≡ local_of side self.now }
@@ -316,19 +305,6 @@ fn is_extension_id(id: u8) -> bool
     ensures { result ≡ is_extension_id id }
 {
     id >= 1 && id <= 14
-}
-
-// Adds the SSRCs of the streams' repairs.
-fn add_repairs(ssrcs: &mut Vec<Ssrc>, streams: &[Stream]) -> Result<(), AllocError>
-    ensures { OnOk result (ssrcs.new.items ≡ ssrcs.old.items ++ filter_map rtx_in streams.now) }
-{
-    for stream in streams {
-        match stream.rtx {
-            Some(ssrc) => ssrcs.push(ssrc)?,
-            None => {}
-        }
-    }
-    Ok(())
 }
 
 // Adds the main SSRCs of the streams that a side sends.

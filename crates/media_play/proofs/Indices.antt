@@ -1,120 +1,125 @@
--- The indices under which a side sealed RTCP: one more with each datagram.
-use Rattle.std.proofs.Common.{◌≡◌, inl, inr, ℕ, ◌+◌, ◌<◌, Bool, true, false, cond, ◌&&◌, List, [], ◌∷◌, ◌++◌, length, refl, sym, ap, ◌∙◌, subst, arith}
-use Rattle.std.proofs.lemmas.List.{length-append, append-nil}
+-- The index of a side's next RTCP datagram is that of its plain session.
+use Rattle.std.proofs.Common.{◌≡◌, ℕ, ◌+◌, Bool, true, false, cond, ◌&&◌, List, [], ◌∷◌, ◌++◌, length, map, refl, sym, ap, ◌∙◌, length-append, arith}
+use Rattle.std.specs.List.{flat_map}
+use Rattle.std.proofs.lemmas.List.{append-nil}
 use Rattle.std.proofs.lemmas.List.Concat.{flat_map-append}
-use Rattle.std.proofs.lemmas.Bool.{and_from}
+use Rattle.rtp_base.specs.declared.kind.Kind.{Kind}
 use Rattle.rtp_base.specs.declared.kind.Kind.TheVariants.{Rtp, Rtcp}
 use Rattle.rtp_base.specs.Kind.{same_kind}
+use Rattle.rtp_wire.specs.declared.extension.ExtensionMap.{ExtensionMap}
 use Rattle.media_model.specs.declared.entry.Side.{Side}
-use Rattle.media_model.specs.declared.entry.Call.{Call}
-use Rattle.media_model.specs.declared.entry.Call.TheVariants as call
-use Rattle.media_model.specs.declared.entry.Write.{Write as Writing}
-use Rattle.media_model.specs.declared.entry.Got.{Got as GotEntry}
+use Rattle.media_model.specs.declared.entry.Side.TheVariants.{A, B}
 use Rattle.media_model.specs.declared.entry.Sealed.{Sealed as SealedEntry}
+use Rattle.media_model.specs.declared.entry.Opened.{Opened as OpenedEntry}
+use Rattle.media_model.specs.declared.entry.Packet.{Packet}
 use Rattle.media_model.specs.declared.entry.Entry.{Entry}
-use Rattle.media_model.specs.declared.entry.Entry.TheVariants.{Ticked, Called, Got, Sealed}
+use Rattle.media_model.specs.declared.entry.Entry.TheVariants.{Wrote, Ticked, Called, Got, Sealed, Opened, Yielded}
 use Rattle.media_model.specs.declared.step.Step.{Step}
 use Rattle.media_model.specs.declared.setup.Setup.{Setup}
 use Rattle.media_model.specs.Entries.{srtcp_index_by, srtcp_indices}
-use Rattle.media_model.specs.Setup.{local_of}
+use Rattle.media_model.specs.Setup.{extensions_of, local_of}
 use Rattle.media_model.specs.Sides.{same_side}
-use Rattle.media_play.specs.Feedback.{next_index}
-use Rattle.media_play.specs.Listing.{IsIn}
-use Rattle.media_play.specs.Opening.{Sealing, Receives}
-use Rattle.media_play.specs.Play.{AreSealsOf, no_seals, seal_of, Seals, Outcome, wrote, ticked, called, got, Played, start, turn}
-use Rattle.media_play.proofs.Lists.{IsIn-append}
-use Rattle.media_play.proofs.Readings.{same_side-refl, same_reading, received_none, seals_from}
-use Rattle.media_play.proofs.Stands.{no_seal_received}
+use Rattle.run_model.specs.Events.{Event, wrote, ticked, called, got, yielded}
+use Rattle.run_model.specs.Receiving.{yields}
+use Rattle.run_model.specs.RxPlay.{lists_in}
+use Rattle.run_model.specs.Runs.{Happening, event_of, events_of, on_side}
+use Rattle.run_model.specs.Transcripts.{happening_of, happenings, sealed_event, opened_event}
+use Rattle.run_model.specs.Whole.{Config, Session, Counts, index_of, indices, Turns, writes, ticks, calls, opens, hears, stays}
+use Rattle.media_laws.specs.Feedback.{next_index}
+use Rattle.media_laws.specs.Opening.{Sealing}
+use Rattle.media_laws.specs.Play.{Plays, begins, by_a, by_b}
 
-and_false : (b : Bool) → (b && false) ≡ false
-and_false true = refl
-and_false false = refl
+-- how many RTCP datagrams a turn seals
 
--- the seal of RTP has no such index
-no_index : (side : Side) (s : SealedEntry) → s.kind ≡ Rtp → srtcp_index_by side (Sealed s) ≡ []
-no_index side s rtp =
-    ap (λ k. cond (same_side side s.side && same_kind Rtcp k) (s.index ∷ []) []) rtp
-    ∙ ap (λ b. cond b (s.index ∷ []) []) (and_false (same_side side s.side))
+counted : (k : ℕ) (is : List ℕ) (next : ℕ) → Counts k is next → next ≡ k + length is
+counted k [] next h = omega (arith, h)
+counted k (i ∷ is) next h = let rest = counted (k + 1) is next h.1 in omega (arith, rest)
 
-no_indices : {seal : Sealing} {setup : Setup} {by : Side} (side : Side) {ws : List Writing} {es : List Entry} → AreSealsOf seal setup by ws es → srtcp_indices side es ≡ []
-no_indices side no_seals = refl
-no_indices side (seal_of w s is rest) = rw (no_index side s is.kind) (no_indices side rest)
+none_yielded : (ps : List Packet) → indices (map yielded ps) ≡ []
+none_yielded [] = refl
+none_yielded (p ∷ ps) = none_yielded ps
 
--- the next index after one step more, where no RTCP is sealed
+turn_counts : {C : Config} {side : Side} {a c : Session} {events : List Event} → Turns C side a c events → c.rtcp ≡ a.rtcp + length (indices events)
+turn_counts (writes time w late unused) = omega arith
+turn_counts {a = a} (ticks time new next late drains feedback counts) = counted a.rtcp (indices new) next counts
+turn_counts (calls time items late others) = omega arith
+turn_counts {C = C} (opens time bytes ssrc n p s late there o) =
+    let none = ap (λ (is : List ℕ). length is) (none_yielded (yields C.types s.0 (lists_in s.1) ssrc n p)) in omega (arith, none)
+turn_counts (hears time bytes index items late report h) = omega arith
+turn_counts (stays time kind bytes late no_rtp no_rtcp) = omega arith
 
-pub next_index-same : (setup : Setup) (side : Side) (entries more : List Entry) → srtcp_indices side more ≡ [] → next_index setup side (entries ++ more) ≡ next_index setup side entries
-next_index-same setup side entries more none = ap (λ (l : List ℕ). (local_of side setup).srtcp_index + length l) (same_reading (srtcp_index_by side) entries more none)
+-- as they are read off the entries
 
-pub next_index-ticked : {seal : Sealing} (setup : Setup) (side : Side) (entries : List Entry) (by : Side) (time : ℕ) (sealed : List Entry) → Seals seal setup by entries sealed
-    → next_index setup side (entries ++ Ticked by time ∷ sealed) ≡ next_index setup side entries
-next_index-ticked setup side entries by time sealed all = next_index-same setup side entries (Ticked by time ∷ sealed) (no_indices side all)
+quiet : (b : Bool) (e : Event) → index_of e ≡ [] → indices (cond b (e ∷ []) []) ≡ []
+quiet true e h = ap (λ (is : List ℕ). is ++ []) h
+quiet false e h = refl
 
-pub next_index-got : {seal : Sealing} (setup : Setup) (side : Side) (entries : List Entry) (came : GotEntry) (brought : List Entry) → Receives seal setup entries came brought
-    → next_index setup side (entries ++ Got came ∷ brought) ≡ next_index setup side entries
-next_index-got setup side entries came brought h =
-    next_index-same setup side entries (Got came ∷ brought) (received_none (srtcp_index_by side) (λ o. refl) (λ s p. refl) h)
+sealed_index : (b : Bool) (exts : ExtensionMap) (kind : Kind) (s : SealedEntry)
+    → cond (b && same_kind Rtcp kind) (s.index ∷ []) [] ≡ indices (cond b (sealed_event exts kind s ∷ []) [])
+sealed_index true exts Rtp s = refl
+sealed_index true exts Rtcp s = refl
+sealed_index false exts kind s = refl
 
--- and where some is
+opened_quiet : (exts : ExtensionMap) (kind : Kind) (o : OpenedEntry) → index_of (opened_event exts kind o) ≡ []
+opened_quiet exts Rtp o = refl
+opened_quiet exts Rtcp o = refl
 
-call_counts : (setup : Setup) (side : Side) (entries : List Entry) (by : Side) (time : ℕ) (c : Call) (s : SealedEntry)
-    → next_index setup side (entries ++ Called by time c ∷ Sealed s ∷ []) ≡ next_index setup side entries + length (srtcp_index_by side (Sealed s))
-call_counts setup side entries by time c s =
-    let all : srtcp_indices side (entries ++ Called by time c ∷ Sealed s ∷ []) ≡ srtcp_indices side entries ++ srtcp_index_by side (Sealed s) =
-    flat_map-append (srtcp_index_by side) entries (Called by time c ∷ Sealed s ∷ []) ∙ ap (λ (l : List ℕ). srtcp_indices side entries ++ l) (append-nil (srtcp_index_by side (Sealed s))) in
-    let len : length (srtcp_indices side (entries ++ Called by time c ∷ Sealed s ∷ [])) ≡ length (srtcp_indices side entries) + length (srtcp_index_by side (Sealed s)) =
-    ap length all ∙ length-append (srtcp_indices side entries) (srtcp_index_by side (Sealed s)) in
-    omega (arith, len)
+index_read : (exts : ExtensionMap) (side : Side) (e : Entry) → srtcp_index_by side e ≡ indices (event_of side (happening_of exts e))
+index_read exts side (Wrote s time w) = sym (quiet (same_side side s) (wrote time w) refl)
+index_read exts side (Ticked s time) = sym (quiet (same_side side s) (ticked time) refl)
+index_read exts side (Called s time call) = sym (quiet (same_side side s) (called time) refl)
+index_read exts side (Got g) = sym (quiet (same_side side g.side) (got g.time g.kind g.bytes) refl)
+index_read exts side (Sealed s) = sealed_index (same_side side s.side) exts s.kind s
+index_read exts side (Opened o) = sym (quiet (same_side side o.side) (opened_event exts o.kind o) (opened_quiet exts o.kind o))
+index_read exts side (Yielded s packet) = sym (quiet (same_side side s) (yielded packet) refl)
 
-pub next_index-called : (setup : Setup) (side : Side) (entries : List Entry) (time : ℕ) (c : Call) (s : SealedEntry) → s.kind ≡ Rtcp → s.side ≡ side
-    → next_index setup side (entries ++ Called side time c ∷ Sealed s ∷ []) ≡ next_index setup side entries + 1
-next_index-called setup side entries time c s rtcp mine =
-    let one : srtcp_index_by side (Sealed s) ≡ s.index ∷ [] =
-    ap (λ b. cond b (s.index ∷ []) []) (and_from _ _ (ap (same_side side) mine ∙ same_side-refl side) (ap (same_kind Rtcp) rtcp)) in
-    call_counts setup side entries side time c s ∙ ap (λ (l : List ℕ). next_index setup side entries + length l) one
+indices_read : (setup : Setup) (side : Side) (entries : List Entry) → srtcp_indices side entries ≡ indices (events_of side (happenings setup entries))
+indices_read setup side [] = refl
+indices_read setup side (e ∷ es) =
+    (λ i. index_read (extensions_of setup) side e i ++ indices_read setup side es i)
+    ∙ sym (flat_map-append index_of (event_of side (happening_of (extensions_of setup) e)) (events_of side (happenings setup es)))
 
-pub next_index-called_other : (setup : Setup) (side : Side) (entries : List Entry) (by : Side) (time : ℕ) (c : Call) (s : SealedEntry) → same_side side s.side ≡ false
-    → next_index setup side (entries ++ Called by time c ∷ Sealed s ∷ []) ≡ next_index setup side entries
-next_index-called_other setup side entries by time c s other =
-    let none : srtcp_index_by side (Sealed s) ≡ [] = ap (λ b. cond (b && same_kind Rtcp s.kind) (s.index ∷ []) []) other in
-    next_index-same setup side entries (Called by time c ∷ Sealed s ∷ []) (ap (λ (l : List ℕ). l ++ []) none)
+same : (side : Side) → same_side side side ≡ true
+same A = refl
+same B = refl
 
--- no RTCP was sealed under the next index or a later one
+own : (side : Side) (events : List Event) → events_of side (on_side side events) ≡ events
+own side [] = refl
+own side (e ∷ es) = λ i. cond (same side i) (e ∷ []) [] ++ own side es i
 
-more_indices : (setup : Setup) (side : Side) (entries new : List Entry) (n : ℕ) → n < next_index setup side entries → n < next_index setup side (entries ++ new)
-more_indices setup side entries new n h =
-    let len : length (srtcp_indices side (entries ++ new)) ≡ length (srtcp_indices side entries) + length (srtcp_indices side new) =
-    ap length (flat_map-append (srtcp_index_by side) entries new) ∙ length-append (srtcp_indices side entries) (srtcp_indices side new) in
-    omega (arith, len, h)
+others : (other side : Side) (events : List Event) → same_side other side ≡ false → events_of other (on_side side events) ≡ []
+others other side [] apart = refl
+others other side (e ∷ es) apart = λ i. cond (apart i) (e ∷ []) [] ++ others other side es apart i
 
-below_after : {seal : Sealing} {setup : Setup} {entries : List Entry} {step : Step} {new : List Entry} → Outcome seal setup entries step new
-    → (s : SealedEntry) → s.kind ≡ Rtcp → IsIn (Sealed s) new → s.index < next_index setup s.side (entries ++ new)
-below_after (wrote side time w a b c) s rtcp i = elim i [ inl same ↦ absurd (cc same) | inr other ↦ absurd other ]
-below_after (ticked side time sealed all) s rtcp i =
-    elim i [
-      | inl same ↦ absurd (cc same)
-      | inr j ↦ let is = (seals_from all s j).2 in let both : Rtp ≡ Rtcp = sym is.kind ∙ rtcp in absurd cc
-    ]
-below_after {seal} {setup} {entries} (called side time sender media payload x is) s rtcp i =
-    elim i [
-      | inl same ↦ absurd (cc same)
-      | inr j ↦ elim j [
-        | inl same ↦
-            let mine : s ≡ x = cc same in
-            let by : s.side ≡ side = ap (λ (t : SealedEntry). t.side) mine ∙ is.side in
-            let at : s.index ≡ next_index setup side entries = ap (λ (t : SealedEntry). t.index) mine ∙ is.index in
-            let next = next_index-called setup side entries time call.Application x is.kind is.side in
-            subst (λ t. s.index < next_index setup t (entries ++ Called side time call.Application ∷ Sealed x ∷ [])) (sym by) (omega (arith, at, next))
-        | inr other ↦ absurd other
-      ]
-    ]
-below_after (got came brought at received) s rtcp i =
-    elim i [ inl same ↦ absurd (cc same) | inr j ↦ absurd (no_seal_received received s j) ]
+module _ (setup : Setup) (side : Side) (past chunk : List Entry) (events : List Event) (read : happenings setup chunk ≡ on_side side events) where
+  index_after : {C : Config} {a c : Session} → Turns C side a c events → a.rtcp ≡ next_index setup side past → c.rtcp ≡ next_index setup side (past ++ chunk)
+  index_after {a = a} {c = c} turn h =
+      let new : srtcp_indices side chunk ≡ indices events =
+      indices_read setup side chunk ∙ ap (λ (hs : List Happening). indices (events_of side hs)) read ∙ ap (λ (es : List Event). indices es) (own side events) in
+      let all : length (srtcp_indices side (past ++ chunk)) ≡ length (srtcp_indices side past) + length (indices events) =
+      ap (λ (is : List ℕ). length is) (flat_map-append (srtcp_index_by side) past chunk)
+      ∙ length-append (srtcp_indices side past) (srtcp_indices side chunk) ∙ ap (λ (is : List ℕ). length (srtcp_indices side past) + length is) new in
+      let turned : c.rtcp ≡ a.rtcp + length (indices events) = turn_counts turn in
+      omega (arith, all, turned, h)
 
-pub indices_below : {seal : Sealing} {setup : Setup} {steps : List Step} {entries : List Entry} → Played seal setup steps entries
-    → (s : SealedEntry) → s.kind ≡ Rtcp → IsIn (Sealed s) entries → s.index < next_index setup s.side entries
-indices_below start s rtcp i = absurd i
-indices_below {seal} {setup} (turn {steps} {entries} h step new e o) s rtcp i =
-    elim (IsIn-append (Sealed s) entries new i) [
-      | inl j ↦ more_indices setup s.side entries new s.index (indices_below h s rtcp j)
-      | inr j ↦ below_after o s rtcp j
-    ]
+  index_other : (other : Side) → same_side other side ≡ false → next_index setup other (past ++ chunk) ≡ next_index setup other past
+  index_other other apart =
+      let none : srtcp_indices other chunk ≡ [] =
+      indices_read setup other chunk ∙ ap (λ (hs : List Happening). indices (events_of other hs)) read ∙ ap (λ (es : List Event). indices es) (others other side events apart) in
+      ap (λ (is : List ℕ). (local_of other setup).srtcp_index + length is)
+      (flat_map-append (srtcp_index_by other) past chunk ∙ ap (λ (is : List ℕ). srtcp_indices other past ++ is) none ∙ append-nil (srtcp_indices other past))
+
+-- the index under which each side seals its next RTCP datagram
+pub plays_index : {seal : Sealing} {setup : Setup} {a b : Session} {steps : List Step} {entries : List Entry} → Plays seal setup a b steps entries
+    → (a.rtcp ≡ next_index setup A entries) × (b.rtcp ≡ next_index setup B entries)
+plays_index begins = (omega arith, omega arith)
+plays_index {setup = setup} (by_a {entries = past} plays step new o) =
+    let h = plays_index plays in (
+      index_after setup A past new o.events o.read o.turn h.0,
+      h.1 ∙ sym (index_other setup A past new o.events o.read B refl),
+    )
+plays_index {setup = setup} (by_b {entries = past} plays step new o) =
+    let h = plays_index plays in (
+      h.0 ∙ sym (index_other setup B past new o.events o.read A refl),
+      index_after setup B past new o.events o.read o.turn h.1,
+    )

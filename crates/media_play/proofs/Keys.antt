@@ -8,8 +8,8 @@ use Rattle.std.proofs.lemmas.Bool.{eqb-true, eq-eqb, lt-ltb, le-ltb, ltb-true, l
 use Rattle.std.proofs.lemmas.Option.{none-some, same_Some}
 use Rattle.indexmap.specs.IndexMap.{set_value_at}
 use Rattle.stream_core.specs.Tables.{change_place}
-use Rattle.media_play.specs.Listing.{IsIn, NoRepeat}
-use Rattle.media_play.specs.Rules.{has}
+use Rattle.media_laws.specs.Listing.{IsIn, NoRepeat}
+use Rattle.media_laws.specs.Rules.{has}
 use Rattle.media_play.proofs.Lists.{tested, any-from_in}
 
 -- a key has a place exactly where it is there

@@ -1,47 +1,49 @@
--- What an end of a run knows after a write.
-use Rattle.std.proofs.Common.{◌≡◌, inl, inr, ℕ, zero, suc, ◌<◌, ◌≤◌, ◌^◌, Bool, true, false, cond, not, ◌&&◌, ◌||◌, leb, ltb, List, [], ◌∷◌, ◌++◌, length, map, set, get_or, slice_get, Some, None, is_some, refl, sym, ap, ◌∙◌, subst, arith}
-use Rattle.media_play.specs.Ends.{SessionStands}
-use Rattle.media_play.proofs.Indices.{next_index-same}
-use Rattle.srtp_core.specs.Contexts.{new_state}
-use Rattle.std.specs.Prelude.{◌==◌}
-use Rattle.std.specs.List.{list_any, AllZip}
+-- What an end knows of a write, and what it knows after it.
+use Rattle.std.proofs.Common.{◌≡◌, inl, inr, ℕ, zero, suc, ◌<◌, ◌≤◌, ◌^◌, Bool, true, false, cond, not, ◌&&◌, ◌||◌, leb, ltb, List, [], ◌∷◌, ◌++◌, length, map, set, get_or, slice_get, Option, Some, None, is_some, refl, sym, ap, ◌∙◌, subst, arith}
+use Rattle.std.specs.Prelude.{◌==◌, nat_lt}
+use Rattle.std.specs.List.{list_any, flat_map, filter_map, AllByRecursion, AllZip}
 use Rattle.std.specs.Map.{keys_of}
 use Rattle.std.proofs.lemmas.List.{append-nil, map-append}
-use Rattle.std.proofs.lemmas.Bool.{and_parts, eqb-true, false_from_ne_true}
+use Rattle.std.proofs.lemmas.Bool.{and_parts, eqb-true, eq-eqb, false_from_ne_true, false≢true, not-false, leb-false, ltb-false}
 use Rattle.std.proofs.lemmas.Option.{none-some, same_Some}
 use Rattle.srtp_core.specs.Cipher.{CipherMeaning}
-use Rattle.stream_core.specs.declared.packet.RtpPacket.{RtpPacket}
-use Rattle.stream_core.specs.RxRecord.{RxRecord}
-use Rattle.stream_core.specs.Tables.{place_of, change_place}
-use Rattle.stream_core.specs.TxRecord.{TxRecord, written}
-use Rattle.stream_core.specs.Write.{packet_of}
-use Rattle.session_core.specs.SessionRecord.{MediaRecord, SessionState, SessionRecord}
+use Rattle.stream_core.specs.declared.payload_types.TypeRow.{TypeRow}
+use Rattle.stream_core.specs.Repairing.{RepairsRecord}
+use Rattle.stream_core.specs.Tables.{place_of}
+use Rattle.stream_core.specs.TxRecord.{TxRecord as StreamTx}
+use Rattle.session_core.specs.SessionRecord.{MediaRecord, SessionState}
+use Rattle.session_turns.specs.Mirrors.{TxMirrors, IsGiven}
 use Rattle.media_model.specs.declared.entry.Side.{Side}
 use Rattle.media_model.specs.declared.entry.Write.{Write as Writing}
 use Rattle.media_model.specs.declared.entry.Entry.{Entry}
 use Rattle.media_model.specs.declared.entry.Entry.TheVariants.{Wrote}
-use Rattle.media_model.specs.declared.step.Step.{Step}
+use Rattle.media_model.specs.declared.setup.Media.{Media}
+use Rattle.media_model.specs.declared.setup.Stream.{Stream}
 use Rattle.media_model.specs.declared.setup.Setup.{Setup}
-use Rattle.media_model.specs.Entries.{writes_on, queued}
-use Rattle.media_model.specs.Setup.{streams_of, types_of, material_of}
+use Rattle.media_model.specs.Entries.{write_on, writes_on}
+use Rattle.media_model.specs.Setup.{streams_of, types_of, main_in, claimed_of}
 use Rattle.media_model.specs.Sides.{same_side}
-use Rattle.media_play.specs.declared.fault.StepFault.TheVariants.{UnknownStream, UnknownType, NumberTooBig, NumberUsed, PayloadTooLong, TooManySources}
+use Rattle.run_model.specs.Events.{Outgoing}
+use Rattle.run_model.specs.Tables.{AreApart, AllStrange, has as has_ssrc, lines}
+use Rattle.run_model.specs.Transcripts.{outgoing_of, outgoing_in}
+use Rattle.run_model.specs.TxPlay.{TxRecord}
+use Rattle.run_model.specs.Whole.{Session}
+use Rattle.rtp_wire.specs.BytesLaws.{AreWords}
+use Rattle.media_laws.specs.declared.fault.StepFault.{StepFault}
+use Rattle.media_laws.specs.declared.fault.StepFault.TheVariants.{UnknownStream, UnknownType, NumberTooBig, NumberUsed, PayloadTooLong, TooManySources}
+use Rattle.media_laws.specs.Listing.{IsIn, NoRepeat}
+use Rattle.media_laws.specs.Rules.{has, write_fault}
 use Rattle.media_play.specs.declared.numbers.Numbers.{Numbers}
-use Rattle.media_play.specs.Knowing.{SendsAs, TakesAs, Knows, UsedAs, has_number, has_written, IsNoted}
-use Rattle.media_play.specs.Listing.{IsIn, NoRepeat}
-use Rattle.media_play.specs.Opening.{Sealing}
-use Rattle.media_play.specs.Packets.{write_at, waiting_of}
-use Rattle.media_play.specs.Play.{Played}
-use Rattle.media_play.specs.Rules.{has, write_fault}
-use Rattle.media_play.specs.Sessions.{EndState, Ready, is_left}
-use Rattle.media_play.specs.SetupFacts.{IsSound}
-use Rattle.media_play.proofs.Appends.{queued-wrote, queued-wrote_here, taken-wrote}
-use Rattle.media_play.proofs.Keys.{key_at, key_absent, in_from_get, has_from_get, all_weaker, keys_changed, one_changes, zip_at, zip_weaker}
-use Rattle.media_play.proofs.Lists.{tested}
-use Rattle.media_play.proofs.Readings.{same_stream}
-use Rattle.media_play.proofs.Stands.{cond_none, writes_on-wrote}
+use Rattle.media_play.specs.Knowing.{UsedAs, has_number, has_written, IsNoted}
+use Rattle.media_play.specs.Sessions.{EndState, Ready}
+use Rattle.media_play.proofs.Keys.{key_at, key_absent, in_from_get, has_from_get, zip_at, zip_weaker}
+use Rattle.media_play.proofs.Lists.{tested, IsIn-from_map, IsIn-map}
+use Rattle.media_play.proofs.Written.{writes_more, same_self}
 
--- what the rules say of a write
+pub cond_none : (b : Bool) (fault : StepFault) (other : Option StepFault) → cond b (Some fault) other ≡ None → (b ≡ false) × (other ≡ None)
+cond_none true fault other e = absurd cc
+cond_none false fault other e = (refl, e)
+
 
 pub rule_stream : (setup : Setup) (entries : List Entry) (side : Side) (w : Writing) → has (streams_of side setup) w.ssrc ≡ false
     → write_fault setup entries side w ≡ Some UnknownStream
@@ -87,11 +89,57 @@ unused setup entries side w e =
     let e4 = cond_none (list_any (λ u. u.number == w.number) (writes_on side w.ssrc entries)) NumberUsed _ e3.1 in
     e4.0
 
--- what an end that knows the entries tells of a write
+-- the streams of an end
 
-module _ {cipher : CipherMeaning} {setup : Setup} {side : Side} {end : EndState} {entries : List Entry} (ready : Ready cipher setup side end entries) where
+main_lines : (setup : Setup) (side : Side) (ss : List Stream) → map (λ (L : Outgoing). L.ssrc) (filter_map (outgoing_in setup side) ss) ≡ filter_map (main_in side) ss
+main_lines setup side [] = refl
+main_lines setup side (s ∷ ss) =
+    elim (tested (same_side s.side side)) [
+      | inl t ↦ rw t (ap (λ (ns : List ℕ). s.ssrc ∷ ns) (main_lines setup side ss))
+      | inr t ↦ rw t (main_lines setup side ss)
+    ]
+
+media_lines : (setup : Setup) (side : Side) (ms : List Media)
+    → map (λ (L : Outgoing). L.ssrc) (flat_map (λ (m : Media). filter_map (outgoing_in setup side) m.streams) ms) ≡ flat_map (λ (m : Media). filter_map (main_in side) m.streams) ms
+media_lines setup side [] = refl
+media_lines setup side (m ∷ ms) =
+    map-append (λ (L : Outgoing). L.ssrc) (filter_map (outgoing_in setup side) m.streams) (flat_map (λ (n : Media). filter_map (outgoing_in setup side) n.streams) ms)
+    ∙ (λ i. main_lines setup side m.streams i ++ media_lines setup side ms i)
+
+pub line_ssrcs : (setup : Setup) (side : Side) → map (λ (L : Outgoing). L.ssrc) (outgoing_of side setup) ≡ streams_of side setup
+line_ssrcs setup side = media_lines setup side setup.media
+
+keys_zip : (rows : List (ℕ × TypeRow)) (medias : List MediaRecord) (now : ℕ) (stamp : Option ℕ) (repairs : List (ℕ × RepairsRecord)) (es : List (ℕ × StreamTx)) (ss : List (Outgoing × TxRecord))
+    → AllZip (TxMirrors rows medias now stamp repairs) es ss → keys_of es ≡ map (λ (L : Outgoing). L.ssrc) (lines ss)
+keys_zip rows medias now stamp repairs [] [] h = refl
+keys_zip rows medias now stamp repairs [] (s ∷ ss) h = absurd h
+keys_zip rows medias now stamp repairs (e ∷ es) [] h = absurd h
+keys_zip rows medias now stamp repairs (e ∷ es) (s ∷ ss) h = λ i. h.0.key i ∷ keys_zip rows medias now stamp repairs es ss h.1 i
+
+strange_in : (L : Outgoing) (Ms : List Outgoing) → AllStrange L Ms → IsIn L.ssrc (map (λ (M : Outgoing). M.ssrc) Ms) → ⊥
+strange_in L [] h i = i
+strange_in L (M ∷ Ms) h (inl e) =
+    let own : has_ssrc L L.ssrc ≡ true = rw (eq-eqb L.ssrc L.ssrc refl) refl in
+    let there : has_ssrc M L.ssrc ≡ true = rw (eq-eqb L.ssrc M.ssrc e) refl in
+    false≢true (sym (h.0 L.ssrc own) ∙ there)
+strange_in L (M ∷ Ms) h (inr i) = strange_in L Ms h.1 i
+
+apart_distinct : (Ls : List Outgoing) → AreApart Ls → NoRepeat (map (λ (L : Outgoing). L.ssrc) Ls)
+apart_distinct [] h = tt
+apart_distinct (L ∷ Ls) h = (strange_in L Ls h.1.0, apart_distinct Ls h.1.1)
+
+-- what an end that is ready tells of a write
+
+module _ {cipher : CipherMeaning} {setup : Setup} {side : Side} {end : EndState} {a : Session} {entries : List Entry} (ready : Ready cipher setup side end a entries) where
+  pub distinct : NoRepeat (streams_of side setup)
+  distinct = subst (λ (ns : List ℕ). NoRepeat ns) (line_ssrcs setup side) (apart_distinct (outgoing_of side setup) (ready.fit.apart side))
+
   tx_keys : keys_of end.session.state.tx ≡ streams_of side setup
-  tx_keys = ap (λ (s : SessionState). keys_of s.tx) ready.stands.state ∙ ready.knows.outgoing
+  tx_keys =
+      ap (λ (s : SessionState). keys_of s.tx) ready.stands.state
+      ∙ keys_zip ready.session.state.types ready.session.state.medias a.rx.now None ready.session.repairs ready.session.state.tx a.tx ready.mirrors.tx
+      ∙ ap (λ (Ls : List Outgoing). map (λ (L : Outgoing). L.ssrc) Ls) ready.mirrors.outgoing
+      ∙ line_ssrcs setup side
 
   pub unknown_stream : (ssrc : ℕ) → place_of ssrc end.session.state.tx ≡ None → has (streams_of side setup) ssrc ≡ false
   unknown_stream ssrc none = subst (λ ns. has ns ssrc ≡ false) tx_keys (key_absent ssrc (keys_of end.session.state.tx) none)
@@ -103,7 +151,7 @@ module _ {cipher : CipherMeaning} {setup : Setup} {side : Side} {end : EndState}
   known_stream ssrc at place = has_from_get ssrc (streams_of side setup) at (stream_at ssrc at place)
 
   pub known_type : (pt : ℕ) → is_some (place_of pt end.session.state.types) ≡ has (types_of setup) pt
-  known_type pt = ap (λ (s : SessionState). is_some (place_of pt s.types)) ready.stands.state ∙ ready.knows.types pt
+  known_type pt = ap (λ (s : SessionState). is_some (place_of pt s.types)) ready.stands.state ∙ ready.types pt
 
   pub known_used : (ssrc at n : ℕ) → place_of ssrc end.session.state.tx ≡ Some at
       → has_written end.written at n ≡ list_any (λ u. u.number == n) (writes_on side ssrc entries)
@@ -133,61 +181,12 @@ any_push p (y ∷ xs) x = elim (tested (p y)) [ inl t ↦ rw t refl | inr t ↦ 
 pub other_stream : (s : Side) (r q : ℕ) → (r ≡ q → ⊥) → (same_side s s && (q == r)) ≡ false
 other_stream s r q other = false_from_ne_true _ (λ e. other (sym (eqb-true q r (and_parts (same_side s s) (q == r) e).1)))
 
-module _ {seal : Sealing} {setup : Setup} {steps : List Step} {entries : List Entry} (played : Played seal setup steps entries) (side : Side) (time : ℕ) (w : Writing)
-    (fresh : list_any (λ u. u.number == w.number) (writes_on side w.ssrc entries) ≡ false) where
+same_stream : (s : Side) (r : ℕ) → (same_side s s && (r == r)) ≡ true
+same_stream s r = rw (same_self s, eq-eqb r r refl) refl
+
+module _ (side : Side) (entries : List Entry) (time : ℕ) (w : Writing) where
   abbrev after : List Entry
   after = entries ++ Wrote side time w ∷ []
-
-  wrote_here : (medias : List MediaRecord) (e : ℕ × TxRecord) → e.0 ≡ w.ssrc → SendsAs side entries medias e
-      → SendsAs side after medias (e.0, written (write_at time w) e.1)
-  wrote_here medias e is h = record {
-    ssrc = h.ssrc;
-    mid = h.mid;
-    queue = ap (λ r. e.1.queue ++ waiting_in r ∷ []) (h.ssrc ∙ is)
-        ∙ ap (λ q. q ++ waiting_of w ∷ []) (h.queue ∙ ap (λ r. map waiting_of (queued side r entries)) is)
-        ∙ sym (map-append waiting_of (queued side w.ssrc entries) (w ∷ []))
-        ∙ ap (map waiting_of) (sym (queued-wrote_here played side time w fresh))
-        ∙ ap (λ r. map waiting_of (queued side r after)) (sym is);
-  }
-    where
-      waiting_in : ℕ → RtpPacket
-      waiting_in r = packet_of r (write_at time w)
-
-  wrote_elsewhere : (medias : List MediaRecord) (e : ℕ × TxRecord) → (e.0 ≡ w.ssrc → ⊥) → SendsAs side entries medias e → SendsAs side after medias e
-  wrote_elsewhere medias e other h =
-      let none = other_stream side e.0 w.ssrc other in
-      record {
-        ssrc = h.ssrc;
-        mid = h.mid;
-        queue = h.queue
-            ∙ ap (map waiting_of) (sym (queued-wrote played side e.0 side time w fresh ∙ ap (λ b. queued side e.0 entries ++ cond b (w ∷ []) []) none ∙ append-nil (queued side e.0 entries)));
-      }
-
-  takes_wrote : (seen : List (ℕ × List ℕ)) (e : ℕ × RxRecord) → TakesAs side entries seen e → TakesAs side after seen e
-  takes_wrote seen e h = record { roc = h.roc; numbers = h.numbers ∙ sym (taken-wrote side e.0 entries side time w) }
-
-  pub knows_wrote : (s : SessionRecord) (at : ℕ) → NoRepeat (streams_of side setup) → slice_get (streams_of side setup) at ≡ Some w.ssrc → Knows setup side s entries
-      → Knows setup side (record s { state = record s.state { tx = change_place (written (write_at time w)) s.state.tx at } }) after
-  knows_wrote s at distinct there h = record {
-    target = h.target;
-    runs = h.runs;
-    feedback = h.feedback;
-    application = h.application;
-    told = h.told;
-    types = h.types;
-    plain = h.plain;
-    exts = h.exts;
-    outgoing = keys_changed (written (write_at time w)) s.state.tx at ∙ h.outgoing;
-    sends = one_changes (SendsAs side entries s.state.medias) (SendsAs side after s.state.medias) (written (write_at time w)) w.ssrc
-        (wrote_elsewhere s.state.medias) (wrote_here s.state.medias) s.state.tx at
-        (subst NoRepeat (sym h.outgoing) distinct) (subst (λ ns. slice_get ns at ≡ Some w.ssrc) (sym h.outgoing) there) h.sends;
-    incoming = h.incoming;
-    takes = all_weaker (TakesAs side entries s.seen) (TakesAs side after s.seen) s.rx (λ e i k. takes_wrote s.seen e k) h.takes;
-    probes = takes_wrote s.seen (0, s.probes) h.probes;
-    listens = h.listens;
-    originals = h.originals;
-    repairs = h.repairs;
-  }
 
   used_here : (r : ℕ) (old new : Numbers) → r ≡ w.ssrc → ((n : ℕ) → has new n ≡ (has old n || (w.number == n)))
       → UsedAs side entries r old → UsedAs side after r new
@@ -195,15 +194,15 @@ module _ {seal : Sealing} {setup : Setup} {steps : List Step} {entries : List En
       noted n ∙ ap (λ b. b || (w.number == n)) (h n ∙ ap (λ q. list_any (λ (u : Writing). u.number == n) (writes_on side q entries)) is)
       ∙ sym (any_push (λ (u : Writing). u.number == n) (writes_on side w.ssrc entries) w)
       ∙ ap (list_any (λ (u : Writing). u.number == n))
-      (sym (writes_on-wrote side w.ssrc entries side time w ∙ ap (λ b. writes_on side w.ssrc entries ++ cond b (w ∷ []) []) (same_stream side w.ssrc)))
+      (sym (writes_more side w.ssrc entries (Wrote side time w ∷ []) ∙ ap (λ b. writes_on side w.ssrc entries ++ (cond b (w ∷ []) [] ++ [])) (same_stream side w.ssrc)))
       ∙ ap (λ q. list_any (λ (u : Writing). u.number == n) (writes_on side q after)) (sym is)
 
   used_elsewhere : (r : ℕ) (u : Numbers) → (r ≡ w.ssrc → ⊥) → UsedAs side entries r u → UsedAs side after r u
   used_elsewhere r u other h n =
       h n ∙ ap (list_any (λ (v : Writing). v.number == n))
-      (sym (writes_on-wrote side r entries side time w ∙ ap (λ b. writes_on side r entries ++ cond b (w ∷ []) []) (other_stream side r w.ssrc other) ∙ append-nil (writes_on side r entries)))
+      (sym (writes_more side r entries (Wrote side time w ∷ []) ∙ ap (λ b. writes_on side r entries ++ (cond b (w ∷ []) [] ++ [])) (other_stream side r w.ssrc other) ∙ append-nil (writes_on side r entries)))
 
-  used_after : (rs : List ℕ) (at : ℕ) (old new : List Numbers) → NoRepeat rs → slice_get rs at ≡ Some w.ssrc → IsNoted at w.number old new
+  pub used_after : (rs : List ℕ) (at : ℕ) (old new : List Numbers) → NoRepeat rs → slice_get rs at ≡ Some w.ssrc → IsNoted at w.number old new
       → AllZip (UsedAs side entries) rs old → AllZip (UsedAs side after) rs new
   used_after [] at old new distinct there noted h = absurd (none-some w.ssrc there)
   used_after (r ∷ rs) at [] new distinct there noted h = absurd h
@@ -220,27 +219,3 @@ module _ {seal : Sealing} {setup : Setup} {steps : List Step} {entries : List En
     used_after rs at old new distinct.1 there noted.1 h.1,
   )
 
-  pub ready_wrote : (cipher : CipherMeaning) (end new : EndState) (at : ℕ) → IsSound setup → place_of w.ssrc end.session.state.tx ≡ Some at
-      → new.session ≡ record end.session { state = record end.session.state { tx = change_place (written (write_at time w)) end.session.state.tx at } }
-      → IsNoted at w.number end.written new.written
-      → Ready cipher setup side end entries → Ready cipher setup side new after
-  ready_wrote cipher end new at sound place is noted h =
-      let there = stream_at h w.ssrc at place in
-      record {
-        session = record h.session { state = record h.session.state { tx = change_place (written (write_at time w)) h.session.state.tx at } };
-        stands = subst (λ v. SessionStands v (record h.session { state = record h.session.state { tx = change_place (written (write_at time w)) h.session.state.tx at } })) (sym is) (record {
-          state = ap (λ (s : SessionState). record s { tx = change_place (written (write_at time w)) s.tx at }) h.stands.state;
-          rx = h.stands.rx;
-          originals = h.stands.originals;
-          probes = h.stands.probes;
-          seen = h.stands.seen;
-          repairs = h.stands.repairs;
-        });
-        seals = h.seals
-            ∙ ap (λ (i : ℕ). Some (new_state cipher setup.profile (material_of setup) (is_left side) i))
-            (sym (next_index-same setup side entries (Wrote side time w ∷ []) refl));
-        opens = h.opens;
-        bounded = subst (λ (i : ℕ). i ≤ 2 ^ 31) (sym (next_index-same setup side entries (Wrote side time w ∷ []) refl)) h.bounded;
-        knows = knows_wrote h.session at (sound.distinct side) there h.knows;
-        used = used_after (streams_of side setup) at end.written new.written (sound.distinct side) there noted h.used;
-      }

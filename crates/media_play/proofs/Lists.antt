@@ -3,7 +3,7 @@ use Rattle.std.proofs.Common.{◌≡◌, ◌⊎◌, inl, inr, Bool, true, false,
 use Rattle.std.specs.List.{flat_map, list_any, filter}
 use Rattle.std.proofs.lemmas.List.{append-nil}
 use Rattle.media_model.specs.declared.entry.Entry.{Entry}
-use Rattle.media_play.specs.Listing.{IsIn, NoRepeat, EachFrom}
+use Rattle.media_laws.specs.Listing.{IsIn, NoRepeat, EachFrom}
 
 pub IsIn-left : {X : Type 0} (x : X) (xs ys : List X) → IsIn x xs → IsIn x (xs ++ ys)
 IsIn-left x [] ys h = absurd h

@@ -1,50 +1,48 @@
 -- A session that begins: with keys, with media sections, with streams.
-use Rattle.std.proofs.Common.{◌≡◌, ℕ, Bool, true, false, not, List, [], ◌∷◌, ◌++◌, Option, Some, None, is_some, refl, sym, ap, ◌∙◌, subst, ◌≤◌, ◌^◌, add-zero}
-use Rattle.std.specs.Prelude.{option_to_list, if◌then◌else◌, Result, Ok, Err, OnOk}
-use Rattle.std.specs.List.{AllByRecursion}
+use Rattle.std.proofs.Common.{◌≡◌, inl, inr, ℕ, Bool, true, false, not, List, [], ◌∷◌, ◌++◌, map, Option, Some, None, is_some, refl, sym, ap, ◌∙◌, subst, ◌≤◌, ◌^◌}
+use Rattle.std.specs.Prelude.{option_to_list, if◌then◌else◌, is_none}
+use Rattle.std.specs.List.{AllZip, flat_map}
 use Rattle.std.specs.Map.{keys_of}
-use Rattle.std.proofs.lemmas.List.{append-nil}
+use Rattle.std.specs.Option.{option_map}
+use Rattle.std.proofs.lemmas.List.{append-nil, map-append}
+use Rattle.std.proofs.lemmas.List.Concat.{flat_map-append}
 use Rattle.std.specs.Cmp.Lexicographic.{pointwise, bytes_decides}
 use Rattle.std.specs.Prelude.{◌==◌}
 use Rattle.mask_register.specs.MaskRegister.{Remembers}
 use Rattle.queue_store.specs.Queue.{StandsFor as Holds}
-use Rattle.repair_core.specs.Rounds.{taken as taken_in}
+use Rattle.rtx_core.specs.Resends.{created, recached}
 use Rattle.srtp_core.specs.Cipher.{CipherMeaning}
 use Rattle.srtp_core.specs.Contexts.{new_state}
-use Rattle.stream_core.specs.Repairing.{primary_type_of}
-use Rattle.stream_core.specs.RxRecord.{RxRecord, expected, heard, taken_of}
-use Rattle.stream_core.specs.StreamsRecord.{StreamsRecord, StandsFor as StreamsStandFor}
-use Rattle.stream_core.specs.Tables.{place_of, with_new}
+use Rattle.stream_core.specs.Repairing.{RepairsRecord}
+use Rattle.stream_core.specs.RxRecord.{RxRecord, expected}
+use Rattle.stream_core.specs.StreamsRecord.{StreamsRecord, StandsFor as StreamsStandFor, with_first, with_original, with_stream_tx, with_stream_rx}
+use Rattle.stream_core.specs.Tables.{place_of, with_new, change_at}
 use Rattle.stream_core.specs.TxRecord.{TxRecord, declared}
 use Rattle.media_play.specs.Ends.{EndSession, EndStreams, SessionStands}
 use Rattle.session_core.specs.declared.config.SessionConfig.{SessionConfig}
 use Rattle.session_core.specs.Calls.{fresh_session, keyed}
-use Rattle.stream_core.specs.Seen.{seen_of}
 use Rattle.session_core.specs.Sending.{has_mid}
-use Rattle.session_core.specs.SessionRecord.{MediaRecord, SessionState, SessionRecord}
+use Rattle.session_core.specs.SessionRecord.{MediaRecord, SessionState, SessionRecord, streams_in}
+use Rattle.session_turns.specs.Mirrors.{rtx_seen, RxMirrors, original_in, original_with}
 use Rattle.media_model.specs.declared.entry.Side.{Side}
 use Rattle.media_model.specs.declared.entry.Side.TheVariants.{A, B}
 use Rattle.media_model.specs.declared.setup.Stream.{Stream}
 use Rattle.media_model.specs.declared.setup.Setup.{Setup}
-use Rattle.media_model.specs.Setup.{material_of, types_of, streams_of, main_in, local_of}
+use Rattle.media_model.specs.Setup.{material_of, local_of, cache_of}
 use Rattle.media_model.specs.Sides.{same_side, peer_of}
-use Rattle.media_play.specs.declared.numbers.Numbers.{Numbers}
-use Rattle.media_play.specs.Knowing.{SendsAs, TakesAs, ListensAs, AreUsed}
-use Rattle.media_play.specs.Listing.{NoRepeat}
-use Rattle.media_play.specs.Plain.{extensions_of}
-use Rattle.media_play.specs.Rules.{has}
-use Rattle.media_play.specs.Sessions.{is_left, Ready}
-use Rattle.media_play.specs.Starting.{IsIdle, IsUnheard, Begun, Starts}
-use Rattle.media_play.proofs.StartingLists.{all_push, all_weaker, any_left, any_last, new_behind, keys_more}
-
--- what holds on Ok, twice
-pub both_ok : {T E : Type 0} (P Q : Type 0) (r : Result T E) → OnOk r P → OnOk r Q → OnOk r (P × Q)
-both_ok P Q (Ok x) p q = (p, q)
-both_ok P Q (Err e) p q = tt
+use Rattle.run_model.specs.Events.{Outgoing}
+use Rattle.run_model.specs.Listing.{IsIn}
+use Rattle.run_model.specs.RxPlay.{new_rx}
+use Rattle.run_model.specs.Transcripts.{outgoing_as, outgoing_in}
+use Rattle.run_model.specs.Whole.{incoming_of}
+use Rattle.media_laws.specs.Keys.{is_left}
+use Rattle.media_laws.specs.Plain.{extensions_of}
+use Rattle.media_play.specs.Starting.{ssrcs_in, AreOnce, IsRow, IsIdle, IsUnheard, kept_for, kept_in, with_streams, StreamsChange, Begun, Starts}
+use Rattle.media_play.proofs.StartingLists.{zip_push, zip_weaker, zip_keys, any_left, any_last, new_last, place_absent, change_none, change_last, keys_among, mains_among, strange}
 
 -- the sides
 
-pub other_left : (side : Side) → not (is_left side) ≡ is_left (peer_of side)
+other_left : (side : Side) → not (is_left side) ≡ is_left (peer_of side)
 other_left A = refl
 other_left B = refl
 
@@ -54,46 +52,142 @@ other_side A B = refl
 other_side B A = refl
 other_side B B = refl
 
-mains : (side : Side) (s : Stream) (b : Bool) → same_side s.side side ≡ b → option_to_list (main_in side s) ≡ option_to_list (if b then Some s.ssrc else None)
-mains side s b e = ap (λ (t : Bool). option_to_list (if t then Some s.ssrc else None)) e
-
 -- a media section has its own mid
 pub has_last : (medias : List MediaRecord) (m : MediaRecord) (mid : List ℕ) → m.mid ≡ mid → has_mid mid (medias ++ m ∷ []) ≡ true
 has_last medias m mid is = any_last (λ (n : MediaRecord). pointwise ◌==◌ n.mid mid) medias m ((bytes_decides m.mid mid).1 is)
 
+-- the streams of a session change
+pub streams_change : (f : StreamsRecord → StreamsRecord) (v : EndSession) (old new : EndStreams) → old.rx ≡ v.rx → old.tx ≡ v.state.tx → old.threshold ≡ v.state.pause_threshold → old.originals ≡ v.originals → old.repairs ≡ v.repairs
+    → ((r : StreamsRecord) → StreamsStandFor Remembers Holds old r → StreamsStandFor Remembers Holds new (f r))
+    → StreamsChange f v (record v { state = record v.state { tx = new.tx; pause_threshold = new.threshold }; rx = new.rx; originals = new.originals; repairs = new.repairs })
+streams_change f v old new rx tx threshold originals repairs says s h =
+    let after = says (streams_in s) (record {
+      threshold = threshold ∙ ap (λ (t : SessionState). t.pause_threshold) h.state;
+      rx = rw rx h.rx;
+      originals = originals ∙ h.originals;
+      tx = tx ∙ ap (λ (t : SessionState). t.tx) h.state;
+      repairs = rw repairs h.repairs;
+    }) in
+    let made = f (streams_in s) in
+    record {
+      state = ap (λ (l : List (ℕ × TxRecord)). let n : SessionState = record v.state { tx = l; pause_threshold = new.threshold } in n) after.tx
+          ∙ ap (λ (at : ℕ). let n : SessionState = record v.state { tx = made.tx; pause_threshold = at } in n) after.threshold
+          ∙ ap (λ (t : SessionState). let n : SessionState = record t { tx = made.tx; pause_threshold = made.threshold } in n) h.state;
+      rx = after.rx;
+      originals = after.originals;
+      probes = h.probes;
+      seen = h.seen;
+      repairs = after.repairs;
+    }
+
+none_seen : (o : Option ℕ) → rtx_seen [] o []
+none_seen None = refl
+none_seen (Some rtx) = refl
+
+-- a stream that is declared, with its repairs
+
+abbrev first_for : ℕ → ℕ → Option ℕ → List (ℕ × RepairsRecord)
+first_for ssrc first None = []
+first_for ssrc first (Some rtx) = (ssrc, created first) ∷ []
+
+firsts : (first : ℕ) (o : Option ℕ) → option_map (λ (x : ℕ × ℕ). x.0) (option_map (λ ssrc. (ssrc, first)) o) ≡ o
+firsts first None = refl
+firsts first (Some rtx) = refl
+
+first_added : (ssrc first : ℕ) (o : Option ℕ) (qs : List (ℕ × RepairsRecord)) → (IsIn ssrc (keys_of qs) → ⊥)
+    → with_first ssrc (option_map (λ (x : ℕ × ℕ). x.1) (option_map (λ ssrc. (ssrc, first)) o)) qs ≡ qs ++ first_for ssrc first o
+first_added ssrc first None qs none = sym (append-nil qs)
+first_added ssrc first (Some rtx) qs none = new_last ssrc (created first) qs none
+
+kept_added : (L : Outgoing) (o : Option ℕ) (qs : List (ℕ × RepairsRecord)) → (IsIn L.ssrc (keys_of qs) → ⊥)
+    → change_at L.ssrc (recached L.packets L.age L.cap) (qs ++ first_for L.ssrc L.start o) ≡ qs ++ kept_for L o
+kept_added L None qs none = ap (change_at L.ssrc (recached L.packets L.age L.cap)) (append-nil qs) ∙ change_none L.ssrc (recached L.packets L.age L.cap) qs none ∙ sym (append-nil qs)
+kept_added L (Some rtx) qs none = change_last L.ssrc (recached L.packets L.age L.cap) (created L.start) qs none
+
+abbrev declared_in : Outgoing → List ℕ → Option (List ℕ) → List (ℕ × RepairsRecord) → StreamsRecord → StreamsRecord
+declared_in L mid rid qs r = record r { tx = r.tx ++ (L.ssrc, declared L.ssrc L.rtx mid rid) ∷ []; repairs = r.repairs ++ qs }
+
+tx_added : (L : Outgoing) (mid : List ℕ) (rid : Option (List ℕ)) (r : StreamsRecord) → (IsIn L.ssrc (keys_of r.tx) → ⊥) → (IsIn L.ssrc (keys_of r.repairs) → ⊥)
+    → with_stream_tx L.ssrc (option_map (λ ssrc. (ssrc, L.start)) L.rtx) mid rid r ≡ declared_in L mid rid (first_for L.ssrc L.start L.rtx) r
+tx_added L mid rid r none_tx none =
+    let rtx = option_map (λ (ssrc : ℕ). (ssrc, L.start)) L.rtx in
+    let more : StreamsRecord = record r { tx = with_new L.ssrc (declared L.ssrc (option_map (λ x. x.0) rtx) mid rid) r.tx; repairs = with_first L.ssrc (option_map (λ x. x.1) rtx) r.repairs } in
+    let tx : more.tx ≡ r.tx ++ (L.ssrc, declared L.ssrc L.rtx mid rid) ∷ [] =
+    new_last L.ssrc (declared L.ssrc (option_map (λ x. x.0) rtx) mid rid) r.tx none_tx ∙ ap (λ (o : Option ℕ). r.tx ++ (L.ssrc, declared L.ssrc o mid rid) ∷ []) (firsts L.start L.rtx) in
+    let repairs : more.repairs ≡ r.repairs ++ first_for L.ssrc L.start L.rtx = first_added L.ssrc L.start L.rtx r.repairs none in
+    ap (λ (b : Bool). if b then r else more) (place_absent L.ssrc r.tx none_tx)
+    ∙ (λ i. record r { tx = tx i; repairs = repairs i })
+
+-- a stream that is expected
+
+original_added : (ssrc : ℕ) (o : Option ℕ) (rs : List (ℕ × RxRecord)) (os : List (ℕ × ℕ)) → (IsIn ssrc (keys_of rs) → ⊥) → ((rtx : ℕ) → o ≡ Some rtx → IsIn rtx (keys_of os) → ⊥)
+    → with_original ssrc o rs os ≡ os ++ original_with ssrc o
+original_added ssrc None rs os none no_rtx = sym (append-nil os)
+original_added ssrc (Some rtx) rs os none no_rtx = ap (λ (b : Bool). if b then os else with_new rtx ssrc os) (place_absent ssrc rs none) ∙ new_last rtx ssrc os (no_rtx rtx refl)
+
+not_suppressed : (o : Option ℕ) → is_none o ≡ not (is_some o)
+not_suppressed None = refl
+not_suppressed (Some rtx) = refl
+
+rtx_own : (L : Outgoing) (rtx : ℕ) (o : Option ℕ) → o ≡ Some rtx → IsIn rtx (option_to_list o)
+rtx_own L rtx None e = absurd cc
+rtx_own L rtx (Some x) e = inl cc
+
+kept_keys : (L : Outgoing) (k : ℕ) → IsIn k (keys_of (kept_in L)) → IsIn k (ssrcs_in L)
+kept_keys L k i = go L.rtx i
+  where
+    go : (o : Option ℕ) → IsIn k (keys_of (kept_for L o)) → IsIn k (L.ssrc ∷ option_to_list o)
+    go None j = absurd j
+    go (Some rtx) (inl e) = inl e
+    go (Some rtx) (inr j) = absurd j
+
+original_keys : (L : Outgoing) (k : ℕ) → IsIn k (keys_of (original_in (incoming_of L))) → IsIn k (ssrcs_in L)
+original_keys L k i = go L.rtx i
+  where
+    go : (o : Option ℕ) → IsIn k (keys_of (original_with L.ssrc o)) → IsIn k (L.ssrc ∷ option_to_list o)
+    go None j = absurd j
+    go (Some rtx) (inl e) = inr (inl e)
+    go (Some rtx) (inr j) = absurd j
+
+originals_of : (Ls : List Outgoing) → flat_map original_in (map incoming_of Ls) ≡ flat_map (λ L. original_in (incoming_of L)) Ls
+originals_of [] = refl
+originals_of (L ∷ Ls) = ap (λ l. original_in (incoming_of L) ++ l) (originals_of Ls)
+
 module _ (cipher : CipherMeaning) (setup : Setup) (side : Side) where
   -- with keys
 
-  keyed_begins : (config : SessionConfig) → config.mtu.target ≡ setup.mtu.target → config.pause_threshold ≡ setup.pause_threshold → config.srtcp_index ≡ (local_of side setup).srtcp_index → config.exts ≡ extensions_of setup → ((pt : ℕ) → is_some (place_of pt config.types) ≡ has (types_of setup) pt)
-      → ((pt : ℕ) → primary_type_of config.types pt ≡ None) → Begun cipher setup side [] [] (record (fresh_session config) { state = keyed cipher setup.profile (material_of setup) (is_left side) (fresh_session config).state })
-  keyed_begins config target pauses index exts types plain =
+  keyed_begins : (config : SessionConfig) → 900 ≤ config.mtu.target → config.pause_threshold ≡ setup.pause_threshold → config.srtcp_index ≡ (local_of side setup).srtcp_index
+      → config.local_ssrc ≡ (local_of side setup).ssrc → config.beginning ≡ setup.beginning → config.exts ≡ extensions_of setup → AllZip IsRow config.types setup.types
+      → Begun cipher setup side [] [] (record (fresh_session config) { state = keyed cipher setup.profile (material_of setup) (is_left side) (fresh_session config).state })
+  keyed_begins config target pauses index ssrc beginning exts types =
       record {
-        target = target;
         seals = ap (λ (i : ℕ). Some (new_state cipher setup.profile (material_of setup) (is_left side) i)) index;
         opens = ap (λ (l : Bool). Some (new_state cipher setup.profile (material_of setup) l 0)) (other_left side);
+        target = target;
         runs = refl;
         feedback = refl;
+        released = refl;
         application = refl;
-        told = refl;
+        packet = refl;
+        last_round = refl;
+        local_ssrc = ssrc;
+        beginning = beginning;
         seen = refl;
         types = types;
-        plain = plain;
         exts = exts;
-        outgoing = refl;
-        sends = tt;
-        incoming = refl;
-        takes = tt;
-        probes = record { roc = refl; numbers = refl };
         pauses = pauses;
-        listens = tt;
-        originals = refl;
+        sends = tt;
         repairs = refl;
+        takes = tt;
+        probes_stand = record { ssrc = refl; roc = refl; suppressed = refl; threshold_is = pauses; pause = refl; numbers = refl; begun = tt; repairs = refl; seen_main = refl; seen_rtx = refl };
+        originals = refl;
       }
 
-  pub starts_keyed : (config : SessionConfig) (v new : EndSession) (material : List ℕ) (left : Bool) → config.mtu.target ≡ setup.mtu.target → config.pause_threshold ≡ setup.pause_threshold → config.srtcp_index ≡ (local_of side setup).srtcp_index → config.exts ≡ extensions_of setup
-      → ((pt : ℕ) → is_some (place_of pt config.types) ≡ has (types_of setup) pt) → ((pt : ℕ) → primary_type_of config.types pt ≡ None) → material ≡ material_of setup → left ≡ is_left side → (local_of side setup).srtcp_index ≤ 2 ^ 31 → SessionStands v (fresh_session config)
+  pub starts_keyed : (config : SessionConfig) (v new : EndSession) (material : List ℕ) (left : Bool) → 900 ≤ config.mtu.target → config.pause_threshold ≡ setup.pause_threshold → config.srtcp_index ≡ (local_of side setup).srtcp_index
+      → config.local_ssrc ≡ (local_of side setup).ssrc → config.beginning ≡ setup.beginning → config.exts ≡ extensions_of setup → AllZip IsRow config.types setup.types
+      → material ≡ material_of setup → left ≡ is_left side → (local_of side setup).srtcp_index ≤ 2 ^ 31 → SessionStands v (fresh_session config)
       → new ≡ record v { state = keyed cipher setup.profile material left v.state } → Starts cipher setup side [] [] new
-  starts_keyed config v new material left target pauses index exts types plain key l bounded h is =
+  starts_keyed config v new material left target pauses index ssrc beginning exts types key l bounded h is =
       let to = λ (s : SessionState). keyed cipher setup.profile (material_of setup) (is_left side) s in
       let state : new.state ≡ to (fresh_session config).state =
       ap (λ (w : EndSession). w.state) is
@@ -111,38 +205,37 @@ module _ (cipher : CipherMeaning) (setup : Setup) (side : Side) where
           seen = rw is h.seen;
           repairs = rw is h.repairs;
         };
-        begun = keyed_begins config target pauses index exts types plain;
+        begun = keyed_begins config target pauses index ssrc beginning exts types;
       }
 
-  -- one media section more
+  module _ (sent received : List Outgoing) where
+    -- one media section more
 
-  module _ (sent received : List ℕ) where
     begun_media : (s : SessionRecord) (m : MediaRecord) → Begun cipher setup side sent received s
         → Begun cipher setup side sent received (record s { state = record s.state { medias = s.state.medias ++ m ∷ [] } })
-    begun_media s m b =
-        record {
-          seals = b.seals;
-          opens = b.opens;
-          target = b.target;
-          runs = b.runs;
-          feedback = b.feedback;
-          application = b.application;
-          told = b.told;
-          seen = b.seen;
-          types = b.types;
-          plain = b.plain;
-          exts = b.exts;
-          outgoing = b.outgoing;
-          sends = all_weaker (IsIdle s.state.medias) (IsIdle (s.state.medias ++ m ∷ [])) s.state.tx
-              (λ e i. record { ssrc = i.ssrc; mid = any_left (λ (n : MediaRecord). pointwise ◌==◌ n.mid e.1.mid) s.state.medias (m ∷ []) i.mid; queue = i.queue }) b.sends;
-          incoming = b.incoming;
-          takes = b.takes;
-          probes = b.probes;
-          pauses = b.pauses;
-          listens = b.listens;
-          originals = b.originals;
-          repairs = b.repairs;
-        }
+    begun_media s m b = record {
+      seals = b.seals;
+      opens = b.opens;
+      target = b.target;
+      runs = b.runs;
+      feedback = b.feedback;
+      released = b.released;
+      application = b.application;
+      packet = b.packet;
+      last_round = b.last_round;
+      local_ssrc = b.local_ssrc;
+      beginning = b.beginning;
+      seen = b.seen;
+      types = b.types;
+      exts = b.exts;
+      pauses = b.pauses;
+      sends = zip_weaker (IsIdle s.state.medias) (IsIdle (s.state.medias ++ m ∷ [])) s.state.tx sent
+          (λ e L i. record { key = i.key; ssrc = i.ssrc; rtx = i.rtx; mid = any_left (λ (n : MediaRecord). pointwise ◌==◌ n.mid e.1.mid) s.state.medias (m ∷ []) i.mid; queue = i.queue }) b.sends;
+      repairs = b.repairs;
+      takes = b.takes;
+      probes_stand = b.probes_stand;
+      originals = b.originals;
+    }
 
     pub starts_media : (v new : EndSession) (m : MediaRecord) → new ≡ record v { state = record v.state { medias = v.state.medias ++ m ∷ [] } }
         → Starts cipher setup side sent received v → Starts cipher setup side sent received new
@@ -164,206 +257,144 @@ module _ (cipher : CipherMeaning) (setup : Setup) (side : Side) where
 
     -- one stream more
 
-    begun_sends : (s : SessionRecord) (tx : List (ℕ × TxRecord)) (threshold ssrc : ℕ) (mid : List ℕ) (rid : Option (List ℕ)) → has_mid mid s.state.medias ≡ true
-        → tx ≡ s.state.tx ++ (ssrc, declared ssrc None mid rid) ∷ [] → threshold ≡ setup.pause_threshold → Begun cipher setup side sent received s
-        → Begun cipher setup side (sent ++ ssrc ∷ []) received (record s { state = record s.state { tx = tx; pause_threshold = threshold } })
-    begun_sends s tx threshold ssrc mid rid known is pauses b =
-        record {
-          seals = b.seals;
-          opens = b.opens;
-          target = b.target;
-          runs = b.runs;
-          feedback = b.feedback;
-          application = b.application;
-          told = b.told;
-          seen = b.seen;
-          types = b.types;
-          plain = b.plain;
-          exts = b.exts;
-          outgoing = ap keys_of is ∙ keys_more s.state.tx sent ssrc (declared ssrc None mid rid) b.outgoing;
-          sends = subst (AllByRecursion (IsIdle s.state.medias)) (sym is)
-              (all_push (IsIdle s.state.medias) s.state.tx (ssrc, declared ssrc None mid rid) b.sends (record { ssrc = refl; mid = known; queue = refl }));
-          incoming = b.incoming;
-          takes = b.takes;
-          probes = b.probes;
-          pauses = pauses;
-          listens = b.listens;
-          originals = b.originals;
-          repairs = b.repairs;
-        }
+    begun_sends : (s : SessionRecord) (L : Outgoing) (mid : List ℕ) (rid : Option (List ℕ)) → has_mid mid s.state.medias ≡ true → Begun cipher setup side sent received s
+        → Begun cipher setup side (sent ++ L ∷ []) received (with_streams (declared_in L mid rid (kept_in L) (streams_in s)) s)
+    begun_sends s L mid rid known b = record {
+      seals = b.seals;
+      opens = b.opens;
+      target = b.target;
+      runs = b.runs;
+      feedback = b.feedback;
+      released = b.released;
+      application = b.application;
+      packet = b.packet;
+      last_round = b.last_round;
+      local_ssrc = b.local_ssrc;
+      beginning = b.beginning;
+      seen = b.seen;
+      types = b.types;
+      exts = b.exts;
+      pauses = b.pauses;
+      sends = zip_push (IsIdle s.state.medias) s.state.tx sent (L.ssrc, declared L.ssrc L.rtx mid rid) L b.sends (record { key = refl; ssrc = refl; rtx = refl; mid = known; queue = refl });
+      repairs = ap (λ (l : List (ℕ × RepairsRecord)). l ++ kept_in L) b.repairs ∙ ap (λ l. flat_map kept_in sent ++ l) (sym (append-nil (kept_in L))) ∙ sym (flat_map-append kept_in sent (L ∷ []));
+      takes = b.takes;
+      probes_stand = b.probes_stand;
+      originals = b.originals;
+    }
 
-    pub starts_sends : (v : EndSession) (old new : EndStreams) (ssrc : ℕ) (mid : List ℕ) (rid : Option (List ℕ)) → old.rx ≡ v.rx → old.tx ≡ v.state.tx → old.threshold ≡ v.state.pause_threshold → old.originals ≡ v.originals → old.repairs ≡ v.repairs
-        → new ≡ record old { tx = with_new ssrc (declared ssrc None mid rid) old.tx } → has_mid mid v.state.medias ≡ true → NoRepeat (sent ++ ssrc ∷ [])
-        → Starts cipher setup side sent received v
-        → Starts cipher setup side (sent ++ ssrc ∷ []) received (record v { state = record v.state { tx = new.tx; pause_threshold = new.threshold }; rx = new.rx; originals = new.originals; repairs = new.repairs })
-    starts_sends v old new ssrc mid rid rx tx threshold originals repairs is known once h =
+    pub starts_sends : (v w z : EndSession) (L : Outgoing) (mid : List ℕ) (rid : Option (List ℕ)) → has_mid mid v.state.medias ≡ true → AreOnce (sent ++ L ∷ [])
+        → StreamsChange (with_stream_tx L.ssrc (option_map (λ ssrc. (ssrc, L.start)) L.rtx) mid rid) v w
+        → StreamsChange (λ r. record r { repairs = change_at L.ssrc (recached L.packets L.age L.cap) r.repairs }) w z
+        → Starts cipher setup side sent received v → Starts cipher setup side (sent ++ L ∷ []) received z
+    starts_sends v w z L mid rid known once first cached h =
         let s = h.session in
-        let x = declared ssrc None mid rid in
-        let mine : old.tx ≡ s.state.tx = tx ∙ ap (λ (t : SessionState). t.tx) h.stands.state in
-        let behind : new.tx ≡ s.state.tx ++ (ssrc, x) ∷ [] =
-        ap (λ (t : EndStreams). t.tx) is ∙ ap (λ (l : List (ℕ × TxRecord)). with_new ssrc x l) mine ∙ new_behind s.state.tx sent ssrc x h.begun.outgoing once in
-        let pauses = ap (λ (t : EndStreams). t.threshold) is ∙ threshold ∙ ap (λ (t : SessionState). t.pause_threshold) h.stands.state ∙ h.begun.pauses in
+        let none_tx : IsIn L.ssrc (keys_of s.state.tx) → ⊥ =
+        λ i. strange sent L L.ssrc once (inl refl) (mains_among sent L.ssrc (subst (IsIn L.ssrc) (zip_keys (IsIdle s.state.medias) (λ (M : Outgoing). M.ssrc) (λ e M k. k.key) s.state.tx sent h.begun.sends) i)) in
+        let none : IsIn L.ssrc (keys_of s.repairs) → ⊥ =
+        λ i. strange sent L L.ssrc once (inl refl) (keys_among kept_in kept_keys sent L.ssrc (subst (λ (l : List (ℕ × RepairsRecord)). IsIn L.ssrc (keys_of l)) h.begun.repairs i)) in
+        let between : SessionRecord = with_streams (declared_in L mid rid (first_for L.ssrc L.start L.rtx) (streams_in s)) s in
+        let stands : SessionStands w between = subst (λ (r : StreamsRecord). SessionStands w (with_streams r s)) (tx_added L mid rid (streams_in s) none_tx none) (first s h.stands) in
         record {
-          session = record s { state = record s.state { tx = new.tx; pause_threshold = new.threshold } };
+          session = with_streams (declared_in L mid rid (kept_in L) (streams_in s)) s;
           bounded = h.bounded;
-          stands = record {
-            state = ap (λ (t : SessionState). let n : SessionState = record t { tx = new.tx; pause_threshold = new.threshold } in n) h.stands.state;
-            rx = rw (ap (λ (t : EndStreams). t.rx) is ∙ rx) h.stands.rx;
-            originals = rw (ap (λ (t : EndStreams). t.originals) is ∙ originals) h.stands.originals;
-            probes = h.stands.probes;
-            seen = h.stands.seen;
-            repairs = rw (ap (λ (t : EndStreams). t.repairs) is ∙ repairs) h.stands.repairs;
-          };
-          begun = begun_sends s new.tx new.threshold ssrc mid rid (ap (λ (t : SessionState). has_mid mid t.medias) (sym h.stands.state) ∙ known) behind pauses h.begun;
+          stands = subst (λ (qs : List (ℕ × RepairsRecord)). let t : SessionRecord = record between { repairs = qs } in SessionStands z t) (kept_added L L.rtx s.repairs none) (cached between stands);
+          begun = begun_sends s L mid rid (ap (λ (t : SessionState). has_mid mid t.medias) (sym h.stands.state) ∙ known) h.begun;
         }
 
-    begun_hears : (s : SessionRecord) (rs : List (ℕ × RxRecord)) (ssrc : ℕ) (mid : List ℕ) (rid : Option (List ℕ))
-        → rs ≡ s.rx ++ (ssrc, expected ssrc None mid rid true s.state.pause_threshold) ∷ [] → Begun cipher setup side sent received s
-        → Begun cipher setup side sent (received ++ ssrc ∷ []) (record s { rx = rs })
-    begun_hears s rs ssrc mid rid is b =
-        let x = expected ssrc None mid rid true s.state.pause_threshold in
-        record {
-          seals = b.seals;
-          opens = b.opens;
-          target = b.target;
-          runs = b.runs;
-          feedback = b.feedback;
-          application = b.application;
-          told = b.told;
-          seen = b.seen;
-          types = b.types;
-          plain = b.plain;
-          exts = b.exts;
-          outgoing = b.outgoing;
-          sends = b.sends;
-          incoming = ap keys_of is ∙ keys_more s.rx received ssrc x b.incoming;
-          takes = subst (AllByRecursion IsUnheard) (sym is)
-              (all_push IsUnheard s.rx (ssrc, x) b.takes (record { roc = refl; numbers = refl }));
-          probes = b.probes;
-          pauses = b.pauses;
-          listens = subst (AllByRecursion (ListensAs setup)) (sym is)
-              (all_push (ListensAs setup) s.rx (ssrc, x) b.listens (record { suppressed = refl; threshold = b.pauses }));
-          originals = b.originals;
-          repairs = b.repairs;
-        }
+    begun_hears : (s : SessionRecord) (L : Outgoing) (mid : List ℕ) (rid : Option (List ℕ)) → Begun cipher setup side sent received s
+        → Begun cipher setup side sent (received ++ L ∷ []) (record s {
+          rx = s.rx ++ (L.ssrc, expected L.ssrc L.rtx mid rid (is_none L.rtx) s.state.pause_threshold) ∷ [];
+          originals = s.originals ++ original_with L.ssrc L.rtx;
+        })
+    begun_hears s L mid rid b = record {
+      seals = b.seals;
+      opens = b.opens;
+      target = b.target;
+      runs = b.runs;
+      feedback = b.feedback;
+      released = b.released;
+      application = b.application;
+      packet = b.packet;
+      last_round = b.last_round;
+      local_ssrc = b.local_ssrc;
+      beginning = b.beginning;
+      seen = b.seen;
+      types = b.types;
+      exts = b.exts;
+      pauses = b.pauses;
+      sends = b.sends;
+      repairs = b.repairs;
+      takes = zip_push (IsUnheard setup.pause_threshold) s.rx received (L.ssrc, expected L.ssrc L.rtx mid rid (is_none L.rtx) s.state.pause_threshold) L b.takes
+          (record {
+            key = refl;
+            trip_is = refl;
+            mirrors = record { ssrc = refl; roc = refl; suppressed = not_suppressed L.rtx; threshold_is = b.pauses; pause = refl; numbers = refl; begun = tt; repairs = refl; seen_main = refl; seen_rtx = none_seen L.rtx };
+          });
+      probes_stand = b.probes_stand;
+      originals =
+          ap (λ (l : List (ℕ × ℕ)). l ++ original_with L.ssrc L.rtx) (b.originals ∙ originals_of received)
+          ∙ ap (λ l. flat_map (λ M. original_in (incoming_of M)) received ++ l) (sym (append-nil (original_in (incoming_of L))))
+          ∙ sym (flat_map-append (λ M. original_in (incoming_of M)) received (L ∷ []))
+          ∙ sym (originals_of (received ++ L ∷ []));
+    }
 
-    pub starts_hears : (v : EndSession) (old new : EndStreams) (ssrc : ℕ) (mid : List ℕ) (rid : Option (List ℕ)) → old.rx ≡ v.rx → old.tx ≡ v.state.tx → old.threshold ≡ v.state.pause_threshold → old.originals ≡ v.originals → old.repairs ≡ v.repairs
-        → ((r : StreamsRecord) → StreamsStandFor Remembers Holds old r → StreamsStandFor Remembers Holds new (record r { rx = with_new ssrc (expected ssrc None mid rid true r.threshold) r.rx }))
-        → NoRepeat (received ++ ssrc ∷ []) → Starts cipher setup side sent received v
-        → Starts cipher setup side sent (received ++ ssrc ∷ []) (record v { state = record v.state { tx = new.tx; pause_threshold = new.threshold }; rx = new.rx; originals = new.originals; repairs = new.repairs })
-    starts_hears v old new ssrc mid rid rx tx threshold originals repairs says once h =
+    pub starts_hears : (v w : EndSession) (L : Outgoing) (mid : List ℕ) (rid : Option (List ℕ)) → AreOnce (received ++ L ∷ [])
+        → StreamsChange (with_stream_rx L.ssrc L.rtx mid rid (is_none L.rtx)) v w
+        → Starts cipher setup side sent received v → Starts cipher setup side sent (received ++ L ∷ []) w
+    starts_hears v w L mid rid once says h =
         let s = h.session in
-        let before : StreamsRecord = record { threshold = s.state.pause_threshold; rx = s.rx; originals = s.originals; tx = s.state.tx; repairs = s.repairs } in
-        let after = says before (record {
-          threshold = threshold ∙ ap (λ (t : SessionState). t.pause_threshold) h.stands.state;
-          rx = rw rx h.stands.rx;
-          originals = rw originals h.stands.originals;
-          tx = tx ∙ ap (λ (t : SessionState). t.tx) h.stands.state;
-          repairs = rw repairs h.stands.repairs;
-        }) in
-        let x = expected ssrc None mid rid true s.state.pause_threshold in
-        let rs = with_new ssrc x s.rx in
+        let none : IsIn L.ssrc (keys_of s.rx) → ⊥ =
+        λ i. strange received L L.ssrc once (inl refl) (mains_among received L.ssrc (subst (IsIn L.ssrc) (zip_keys (IsUnheard setup.pause_threshold) (λ (M : Outgoing). M.ssrc) (λ e M k. k.key) s.rx received h.begun.takes) i)) in
+        let no_rtx : (rtx : ℕ) → L.rtx ≡ Some rtx → IsIn rtx (keys_of s.originals) → ⊥ =
+        λ rtx is i. strange received L rtx once (inr (rtx_own L rtx L.rtx is))
+        (keys_among (λ M. original_in (incoming_of M)) original_keys received rtx (subst (λ (l : List (ℕ × ℕ)). IsIn rtx (keys_of l)) (h.begun.originals ∙ originals_of received) i)) in
+        let x = expected L.ssrc L.rtx mid rid (is_none L.rtx) s.state.pause_threshold in
+        let rx : with_new L.ssrc x s.rx ≡ s.rx ++ (L.ssrc, x) ∷ [] = new_last L.ssrc x s.rx none in
+        let originals : with_original L.ssrc L.rtx s.rx s.originals ≡ s.originals ++ original_with L.ssrc L.rtx = original_added L.ssrc L.rtx s.rx s.originals none no_rtx in
+        let after : SessionRecord = record s { rx = s.rx ++ (L.ssrc, x) ∷ []; originals = s.originals ++ original_with L.ssrc L.rtx } in
+        let same : with_streams (with_stream_rx L.ssrc L.rtx mid rid (is_none L.rtx) (streams_in s)) s ≡ after = λ i. record s { rx = rx i; originals = originals i } in
         record {
-          session = record s { rx = rs };
+          session = after;
           bounded = h.bounded;
-          stands = record {
-            state = ap (λ (l : List (ℕ × TxRecord)). let n : SessionState = record v.state { tx = l; pause_threshold = new.threshold } in n) after.tx
-                ∙ ap (λ (at : ℕ). let n : SessionState = record v.state { tx = s.state.tx; pause_threshold = at } in n) after.threshold
-                ∙ ap (λ (t : SessionState). let n : SessionState = record t { tx = s.state.tx; pause_threshold = s.state.pause_threshold } in n) h.stands.state;
-            rx = after.rx;
-            originals = after.originals;
-            probes = h.stands.probes;
-            seen = h.stands.seen;
-            repairs = after.repairs;
-          };
-          begun = begun_hears s rs ssrc mid rid (new_behind s.rx received ssrc x h.begun.incoming once) h.begun;
+          stands = subst (SessionStands w) same (says s h.stands);
+          begun = begun_hears s L mid rid h.begun;
         }
 
 -- a stream of a setup is one more that a side sends, or one more that it hears
-module _ (cipher : CipherMeaning) (setup : Setup) (side : Side) (sent received : List ℕ) (s : Stream) where
-  abbrev sent_with : List ℕ
-  sent_with = sent ++ option_to_list (main_in side s)
+module _ (cipher : CipherMeaning) (setup : Setup) (side : Side) (sent received : List Outgoing) (s : Stream) where
+  abbrev line : Outgoing
+  line = outgoing_as setup s (cache_of s.ssrc setup)
 
-  abbrev heard_with : List ℕ
-  heard_with = received ++ option_to_list (main_in (peer_of side) s)
+  abbrev sent_so : Bool → List Outgoing
+  sent_so b = sent ++ option_to_list (if b then Some line else None)
 
-  module _ (b : Bool) (is : same_side s.side side ≡ b) where
-    abbrev sent_so : List ℕ
-    sent_so = sent ++ option_to_list (if b then Some s.ssrc else None)
+  abbrev heard_so : Bool → List Outgoing
+  heard_so b = received ++ option_to_list (if b then Some line else None)
 
-    abbrev heard_so : List ℕ
-    heard_so = received ++ option_to_list (if not b then Some s.ssrc else None)
-
-    pub sent_are : sent_with ≡ sent_so
-    sent_are = ap (λ (l : List ℕ). sent ++ l) (mains side s b is)
-
-    pub heard_are : heard_with ≡ heard_so
-    heard_are = ap (λ (l : List ℕ). received ++ l) (mains (peer_of side) s (not b) (other_side s.side side ∙ ap not is))
-
-  module _ (v : EndSession) (old new : EndStreams) (mid : List ℕ) (rid : Option (List ℕ)) (rx : old.rx ≡ v.rx) (tx : old.tx ≡ v.state.tx) (threshold : old.threshold ≡ v.state.pause_threshold) (originals : old.originals ≡ v.originals) (repairs : old.repairs ≡ v.repairs)
-      (once_sent : NoRepeat sent_with) (once_heard : NoRepeat heard_with) (h : Starts cipher setup side sent received v) where
-    pub stream_sends : same_side s.side side ≡ true → new ≡ record old { tx = with_new s.ssrc (declared s.ssrc None mid rid) old.tx } → has_mid mid v.state.medias ≡ true
-        → Starts cipher setup side sent_with heard_with (record v { state = record v.state { tx = new.tx; pause_threshold = new.threshold }; rx = new.rx; originals = new.originals; repairs = new.repairs })
-    stream_sends own is known =
-        let more = sent_are true own in
-        let same : heard_with ≡ received = heard_are true own ∙ append-nil received in
-        let w : EndSession = record v { state = record v.state { tx = new.tx; pause_threshold = new.threshold }; rx = new.rx; originals = new.originals; repairs = new.repairs } in
-        subst (λ (l : List ℕ). Starts cipher setup side l heard_with w) (sym more)
-        (subst (λ (l : List ℕ). Starts cipher setup side (sent ++ s.ssrc ∷ []) l w) (sym same)
-        (starts_sends cipher setup side sent received v old new s.ssrc mid rid rx tx threshold originals repairs is known (subst (λ (l : List ℕ). NoRepeat l) more once_sent) h))
+  module _ (v w z : EndSession) (mid : List ℕ) (known : has_mid mid v.state.medias ≡ true) (once_sent : AreOnce (sent_so (same_side s.side side))) (once_heard : AreOnce (heard_so (same_side s.side (peer_of side))))
+      (h : Starts cipher setup side sent received v) where
+    pub stream_sends : same_side s.side side ≡ true
+        → StreamsChange (with_stream_tx s.ssrc (option_map (λ ssrc. (ssrc, line.start)) s.rtx) mid s.rid) v w
+        → StreamsChange (λ r. record r { repairs = change_at s.ssrc (recached line.packets line.age line.cap) r.repairs }) w z
+        → Starts cipher setup side (sent_so (same_side s.side side)) (heard_so (same_side s.side (peer_of side))) z
+    stream_sends own first cached =
+        let others : same_side s.side (peer_of side) ≡ false = other_side s.side side ∙ ap not own in
+        let made = starts_sends cipher setup side sent received v w z line mid s.rid known (subst (λ b. AreOnce (sent_so b)) own once_sent) first cached h in
+        subst (λ b. Starts cipher setup side (sent_so b) (heard_so (same_side s.side (peer_of side))) z) (sym own)
+        (subst (λ b. Starts cipher setup side (sent ++ line ∷ []) (heard_so b) z) (sym others)
+        (subst (λ l. Starts cipher setup side (sent ++ line ∷ []) l z) (sym (append-nil received)) made))
 
     pub stream_hears : same_side s.side side ≡ false
-        → ((r : StreamsRecord) → StreamsStandFor Remembers Holds old r → StreamsStandFor Remembers Holds new (record r { rx = with_new s.ssrc (expected s.ssrc None mid rid true r.threshold) r.rx }))
-        → Starts cipher setup side sent_with heard_with (record v { state = record v.state { tx = new.tx; pause_threshold = new.threshold }; rx = new.rx; originals = new.originals; repairs = new.repairs })
-    stream_hears others says =
-        let same : sent_with ≡ sent = sent_are false others ∙ append-nil sent in
-        let more = heard_are false others in
-        let w : EndSession = record v { state = record v.state { tx = new.tx; pause_threshold = new.threshold }; rx = new.rx; originals = new.originals; repairs = new.repairs } in
-        subst (λ (l : List ℕ). Starts cipher setup side l heard_with w) (sym same)
-        (subst (λ (l : List ℕ). Starts cipher setup side sent l w) (sym more)
-        (starts_hears cipher setup side sent received v old new s.ssrc mid rid rx tx threshold originals repairs says (subst (λ (l : List ℕ). NoRepeat l) more once_heard) h))
+        → StreamsChange (with_stream_rx s.ssrc s.rtx mid s.rid (is_none s.rtx)) v w
+        → Starts cipher setup side (sent_so (same_side s.side side)) (heard_so (same_side s.side (peer_of side))) w
+    stream_hears own says =
+        let others : same_side s.side (peer_of side) ≡ true = other_side s.side side ∙ ap not own in
+        let made = starts_hears cipher setup side sent received v w line mid s.rid (subst (λ b. AreOnce (heard_so b)) others once_heard) says h in
+        subst (λ b. Starts cipher setup side (sent_so b) (heard_so (same_side s.side (peer_of side))) w) (sym own)
+        (subst (λ b. Starts cipher setup side (sent_so false) (heard_so b) w) (sym others)
+        (subst (λ l. Starts cipher setup side l (received ++ line ∷ []) w) (sym (append-nil sent)) made))
 
-pub starts_same : (cipher : CipherMeaning) (setup : Setup) (side : Side) (ks bs xs ys : List ℕ) (v : EndSession) → ks ≡ bs → xs ≡ ys
+pub starts_same : (cipher : CipherMeaning) (setup : Setup) (side : Side) (ks bs xs ys : List Outgoing) (v : EndSession) → ks ≡ bs → xs ≡ ys
     → Starts cipher setup side ks xs v → Starts cipher setup side bs ys v
 starts_same cipher setup side ks bs xs ys v sent received h =
-    subst (λ (l : List ℕ). Starts cipher setup side l ys v) sent (subst (λ (l : List ℕ). Starts cipher setup side ks l v) received h)
-
--- before any step
-module _ (cipher : CipherMeaning) (setup : Setup) (side : Side) where
-  unheard_takes : (seen : List (ℕ × List ℕ)) (e : ℕ × RxRecord) → seen ≡ [] → IsUnheard e → TakesAs side [] seen e
-  unheard_takes seen e none u = record {
-    roc = u.roc;
-    numbers = ap (λ (l : List (ℕ × List ℕ)). taken_of (seen_of e.0 l) e.1) none ∙ ap (λ o. taken_in (heard None (record e.1 { numbers = o }))) u.numbers;
-  }
-
-  pub ready_start : (v : EndSession) (used : List Numbers) → Starts cipher setup side (streams_of side setup) (streams_of (peer_of side) setup) v
-      → AreUsed setup side [] used → Ready cipher setup side (record { session = v; written = used }) []
-  ready_start v used h u =
-      let s = h.session in
-      let b = h.begun in
-      record {
-        session = s;
-        stands = h.stands;
-        seals = b.seals ∙ ap (λ (i : ℕ). Some (new_state cipher setup.profile (material_of setup) (is_left side) i)) (sym (add-zero (local_of side setup).srtcp_index));
-        opens = b.opens;
-        bounded = subst (λ (i : ℕ). i ≤ 2 ^ 31) (sym (add-zero (local_of side setup).srtcp_index)) h.bounded;
-        knows = record {
-          target = b.target;
-          runs = b.runs;
-          feedback = b.feedback;
-          application = b.application;
-          told = b.told;
-          types = b.types;
-          plain = b.plain;
-          exts = b.exts;
-          outgoing = b.outgoing;
-          sends = all_weaker (IsIdle s.state.medias) (SendsAs side [] s.state.medias) s.state.tx (λ e i. record { ssrc = i.ssrc; mid = i.mid; queue = i.queue }) b.sends;
-          incoming = b.incoming;
-          takes = all_weaker IsUnheard (TakesAs side [] s.seen) s.rx (λ e i. unheard_takes s.seen e b.seen i) b.takes;
-          probes = unheard_takes s.seen (0, s.probes) b.seen b.probes;
-          listens = b.listens;
-          originals = b.originals;
-          repairs = b.repairs;
-        };
-        used = u;
-      }
+    subst (λ (l : List Outgoing). Starts cipher setup side l ys v) sent (subst (λ (l : List Outgoing). Starts cipher setup side ks l v) received h)

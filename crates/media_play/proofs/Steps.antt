@@ -1,73 +1,244 @@
--- A run plays the steps of its script.
-use Rattle.std.proofs.Common.{◌≡◌, inl, inr, List, [], ◌∷◌, ◌++◌, None, refl, sym, ap, subst, append_assoc}
-use Rattle.std.specs.Prelude.{◌==◌}
+-- What a run knows after one step more.
+use Rattle.std.proofs.Common.{◌≡◌, ◌≢◌, inl, ℕ, ◌<◌, ◌≤◌, ◌^◌, Bool, true, false, List, [], ◌∷◌, ◌++◌, Option, Some, None, Result, Ok, Err, IfErr, refl, sym, ap, ◌∙◌, subst, arith}
+use Rattle.std.specs.Prelude.{◌==◌, nat_lt}
+use Rattle.std.specs.List.{flat_map, AllByRecursion}
+use Rattle.std.specs.Result.{IsErrAnd}
+use Rattle.std.proofs.lemmas.Bool.{ltb-false}
 use Rattle.std.proofs.lemmas.List.{append-nil}
+use Rattle.std.proofs.lemmas.List.Concat.{flat_map-append}
+use Rattle.srtp_core.specs.Cipher.{CipherMeaning}
 use Rattle.media_model.specs.declared.entry.Side.{Side}
-use Rattle.media_model.specs.declared.entry.Write.{Write as Writing}
+use Rattle.media_model.specs.declared.entry.Side.TheVariants.{A, B}
+use Rattle.media_model.specs.declared.entry.Sealed.{Sealed as SealedEntry}
+use Rattle.media_model.specs.declared.entry.Opened.{Opened as OpenedEntry}
+use Rattle.media_model.specs.declared.entry.Packet.{Packet}
 use Rattle.media_model.specs.declared.entry.Got.{Got as GotEntry}
 use Rattle.media_model.specs.declared.entry.Entry.{Entry}
 use Rattle.media_model.specs.declared.entry.Entry.TheVariants.{Wrote, Ticked, Called, Got, Sealed, Opened, Yielded}
 use Rattle.media_model.specs.declared.step.Step.{Step}
-use Rattle.media_model.specs.declared.step.Step.TheVariants.{Application}
 use Rattle.media_model.specs.declared.setup.Setup.{Setup}
-use Rattle.media_play.specs.Opening.{Sealing, Receives, opens, opens_rtcp, stays}
-use Rattle.media_play.specs.Play.{AreSealsOf, no_seals, seal_of, Outcome, wrote, ticked, called, got, Played, start, turn}
-use Rattle.media_play.specs.Rules.{step_fault}
-use Rattle.media_play.specs.Headline.{PlaysFrom, PlaysSteps}
-use Rattle.media_play.proofs.Lists.{tested}
+use Rattle.media_model.specs.Entries.{write_on, writes_on, time_of, latest, last_time}
+use Rattle.media_model.specs.Sides.{same_side}
+use Rattle.run_model.specs.Events.{Event, wrote, ticked, called, got}
+use Rattle.run_model.specs.Runs.{Happening, on_side}
+use Rattle.run_model.specs.Transcripts.{happenings}
+use Rattle.run_model.specs.Whole.{Config, Session, Turns, writes, ticks, calls, opens, hears, stays}
+use Rattle.setup_rules.specs.SetupRules.{first_fault}
+use Rattle.media_laws.specs.declared.fault.StepFault.{StepFault}
+use Rattle.media_laws.specs.declared.fault.StepFault.TheVariants.{TimeZero, TimeBack, TimeBeyond}
+use Rattle.media_laws.specs.Exhausting.{call_of}
+use Rattle.media_laws.specs.Keys.{sealing_of}
+use Rattle.media_laws.specs.Opening.{Sealing}
+use Rattle.media_laws.specs.Play.{AreEntriesOf, IsBroughtBy, Outcome, Plays as PlaysIn, by_a, by_b, wrote as wrote_step, ticked as ticked_step, called as called_step, got as got_step}
 
-pub PlaysFrom-append : (past : List Entry) (steps more : List Step) (entries new : List Entry) → PlaysFrom past steps entries → PlaysFrom (past ++ entries) more new
-    → PlaysFrom past (steps ++ more) (entries ++ new)
-PlaysFrom-append past steps more [] new h k =
-    subst (λ s. PlaysFrom past (s ++ more) new) (sym h) (subst (λ es. PlaysFrom es more new) (append-nil past) k)
-PlaysFrom-append past steps more (Wrote s t w ∷ entries) new h k = (
-  h.0 ++ more,
-  ap (λ ss. ss ++ more) h.1,
-  PlaysFrom-append (past ++ Wrote s t w ∷ []) h.0 more entries new h.2 (subst (λ es. PlaysFrom es more new) (sym (append_assoc past (Wrote s t w ∷ []) entries)) k),
-)
-PlaysFrom-append past steps more (Ticked s t ∷ entries) new h k = (
-  h.0 ++ more,
-  ap (λ ss. ss ++ more) h.1,
-  PlaysFrom-append (past ++ Ticked s t ∷ []) h.0 more entries new h.2 (subst (λ es. PlaysFrom es more new) (sym (append_assoc past (Ticked s t ∷ []) entries)) k),
-)
-PlaysFrom-append past steps more (Called s t c ∷ entries) new h k = (
-  h.0,
-  h.1 ++ more,
-  ap (λ ss. ss ++ more) h.2,
-  h.3,
-  PlaysFrom-append (past ++ Called s t c ∷ []) h.1 more entries new h.4 (subst (λ es. PlaysFrom es more new) (sym (append_assoc past (Called s t c ∷ []) entries)) k),
-)
-PlaysFrom-append past steps more (Got came ∷ entries) new h k = (
-  h.0,
-  h.1 ++ more,
-  ap (λ ss. ss ++ more) h.2,
-  h.3,
-  PlaysFrom-append (past ++ Got came ∷ []) h.1 more entries new h.4 (subst (λ es. PlaysFrom es more new) (sym (append_assoc past (Got came ∷ []) entries)) k),
-)
-PlaysFrom-append past steps more (Sealed s ∷ entries) new h k =
-    PlaysFrom-append (past ++ Sealed s ∷ []) steps more entries new h (subst (λ es. PlaysFrom es more new) (sym (append_assoc past (Sealed s ∷ []) entries)) k)
-PlaysFrom-append past steps more (Opened o ∷ entries) new h k =
-    PlaysFrom-append (past ++ Opened o ∷ []) steps more entries new h (subst (λ es. PlaysFrom es more new) (sym (append_assoc past (Opened o ∷ []) entries)) k)
-PlaysFrom-append past steps more (Yielded s p ∷ entries) new h k =
-    PlaysFrom-append (past ++ Yielded s p ∷ []) steps more entries new h (subst (λ es. PlaysFrom es more new) (sym (append_assoc past (Yielded s p ∷ []) entries)) k)
+use Rattle.media_laws.specs.Right.{IsRightSeal}
+use Rattle.media_laws.specs.Rules.{or_else, time_fault, step_fault}
+use Rattle.media_play.specs.declared.fault.StepError.{StepError}
+use Rattle.media_play.specs.declared.fault.StepError.TheVariants.{Memory, Rule, KeyExhausted}
+use Rattle.media_play.specs.Errors.{IsCauseAt, IsStepCause, left_by}
+use Rattle.media_play.specs.Running.{RunState, IsRunOf, PlaysOn}
+use Rattle.media_play.specs.Sessions.{EndState, Ready, ReadyAt, TurnsOn}
+use Rattle.media_play.proofs.Turned.{ready_still}
 
-seals_play_none : {seal : Sealing} {setup : Setup} {side : Side} (past : List Entry) {ws : List Writing} {es : List Entry} → AreSealsOf seal setup side ws es → PlaysFrom past [] es
-seals_play_none past no_seals = refl
-seals_play_none past (seal_of w s is rest) = seals_play_none (past ++ Sealed s ∷ []) rest
+-- the time of a step is that of its side's plain session after it
 
-received_plays_none : {seal : Sealing} {setup : Setup} {entries : List Entry} {came : GotEntry} {chunk : List Entry} (past : List Entry)
-    → Receives seal setup entries came chunk → PlaysFrom past [] chunk
-received_plays_none past (opens header number plain o) = elim (tested (header.ssrc == 0)) [ inl t ↦ rw t refl | inr t ↦ rw t refl ]
-received_plays_none past (opens_rtcp plain o) = refl
-received_plays_none past (stays none no_packet) = refl
+abbrev pub time_in : Event → ℕ
+time_in (wrote time w) = time
+time_in (ticked time) = time
+time_in (called time) = time
+time_in (got time kind bytes) = time
+time_in _ = 0
 
-one_step : {seal : Sealing} {setup : Setup} {entries : List Entry} {step : Step} {new : List Entry} → Outcome seal setup entries step new → step_fault setup entries step ≡ None
-    → PlaysFrom entries (step ∷ []) new
-one_step (wrote side time w a b c) e = ([], refl, refl)
-one_step {seal} {setup} {entries} (ticked side time sealed all) e = ([], refl, seals_play_none (entries ++ Ticked side time ∷ []) all)
-one_step (called side time sender media payload s is) e = (Application side time sender media payload, [], refl, (refl, refl), refl)
-one_step {seal} {setup} {entries} (got {step} came chunk at received) e = (step, [], refl, at, received_plays_none (entries ++ Got came ∷ []) received)
+abbrev pub head_time : List Happening → ℕ
+head_time [] = 0
+head_time (h ∷ hs) = time_in h.1
 
-pub plays_steps : {seal : Sealing} {setup : Setup} {steps : List Step} {entries : List Entry} → Played seal setup steps entries → PlaysSteps steps entries
-plays_steps start = refl
-plays_steps (turn {steps} {entries} h step new e o) = PlaysFrom-append [] steps (step ∷ []) entries new (plays_steps h) (one_step o e)
+now_is : {C : Config} {side : Side} {a c : Session} {events : List Event} → Turns C side a c events → head_time (on_side side events) ≡ c.rx.now
+now_is (writes time w late unused) = refl
+now_is (ticks time new next late drains feedback counts) = refl
+now_is (calls time items late others) = refl
+now_is (opens time bytes ssrc n p s late there o) = refl
+now_is (hears time bytes index items late report h) = refl
+now_is (stays time kind bytes late no_rtp no_rtcp) = refl
+
+latest-push : (ts : List ℕ) (t : ℕ) → latest (ts ++ t ∷ []) ≡ t
+latest-push [] t = refl
+latest-push (u ∷ []) t = refl
+latest-push (u ∷ v ∷ ts) t = latest-push (v ∷ ts) t
+
+last_chunk : (past chunk : List Entry) (t : ℕ) → flat_map time_of chunk ≡ t ∷ [] → last_time (past ++ chunk) ≡ t
+last_chunk past chunk t e =
+    ap latest (flat_map-append time_of past chunk ∙ ap (λ (ts : List ℕ). flat_map time_of past ++ ts) e) ∙ latest-push (flat_map time_of past) t
+
+-- what a step brings tells no time, and no write of the other side
+
+none_sealed : {X : Type 0} (seal : Sealing) (setup : Setup) (read : Entry → List X) → ((s : SealedEntry) → read (Sealed s) ≡ [])
+    → (sealed : List Entry) → AllByRecursion (IsRightSeal seal setup) sealed → flat_map read sealed ≡ []
+none_sealed seal setup read none [] h = refl
+none_sealed seal setup read none (Sealed s ∷ rest) h = ap (λ xs. xs ++ flat_map read rest) (none s) ∙ none_sealed seal setup read none rest h.1
+none_sealed seal setup read none (_ ∷ rest) h = absurd h.0
+
+none_brought : {X : Type 0} (seal : Sealing) (setup : Setup) (came : GotEntry) (read : Entry → List X) → ((o : OpenedEntry) → read (Opened o) ≡ [])
+    → ((side : Side) (packet : Packet) → read (Yielded side packet) ≡ [])
+    → (brought : List Entry) → AllByRecursion (IsBroughtBy seal setup came) brought → flat_map read brought ≡ []
+none_brought seal setup came read opened yielded [] h = refl
+none_brought seal setup came read opened yielded (Opened o ∷ rest) h = ap (λ xs. xs ++ flat_map read rest) (opened o) ∙ none_brought seal setup came read opened yielded rest h.1
+none_brought seal setup came read opened yielded (Yielded side packet ∷ rest) h =
+    ap (λ xs. xs ++ flat_map read rest) (yielded side packet) ∙ none_brought seal setup came read opened yielded rest h.1
+none_brought seal setup came read opened yielded (_ ∷ rest) h = absurd h.0
+
+record IsChunk (setup : Setup) (side : Side) (chunk : List Entry) : Type 0 where
+  times : flat_map time_of chunk ≡ head_time (happenings setup chunk) ∷ []
+  others : (other : Side) → same_side other side ≡ false → (r : ℕ) → writes_on other r chunk ≡ []
+
+chunk_of : {seal : Sealing} {setup : Setup} {past : List Entry} {side : Side} {step : Step} {new : List Entry} → AreEntriesOf seal setup past side step new → IsChunk setup side new
+chunk_of {seal} {setup} (wrote_step side time w small early words) = record { times = refl; others = λ other apart r. rw apart refl }
+chunk_of {seal} {setup} (ticked_step side time sealed right) = record {
+  times = ap (λ (ts : List ℕ). time ∷ ts) (none_sealed seal setup time_of (λ s. refl) sealed right);
+  others = λ other apart r. none_sealed seal setup (write_on other r) (λ s. refl) sealed right;
+}
+chunk_of {seal} {setup} (called_step side time sender media payload s h) = record { times = refl; others = λ other apart r. refl }
+chunk_of {seal} {setup} (got_step came brought b all) = record {
+  times = ap (λ (ts : List ℕ). came.time ∷ ts) (none_brought seal setup came time_of (λ o. refl) (λ s p. refl) brought all);
+  others = λ other apart r. none_brought seal setup came (write_on other r) (λ o. refl) (λ s p. refl) brought all;
+}
+
+-- the rules of times
+
+three : (a b c : Bool) (f g h : StepFault) → first_fault ((a, f) ∷ (b, g) ∷ (c, h) ∷ []) ≡ None → (a ≡ false) × (b ≡ false) × (c ≡ false)
+three true b c f g h e = absurd cc
+three false true c f g h e = absurd cc
+three false false true f g h e = absurd cc
+three false false false f g h e = (refl, refl, refl)
+
+pub record InTime (past : List Entry) (time : ℕ) : Type 0 where
+  pub some : 0 < time
+  pub late : last_time past ≤ time
+  pub early : time ≤ 10 ^ 16
+
+positive : (time : ℕ) → time == 0 ≡ false → 0 < time
+positive time e = grind (arith, e)
+
+pub in_time : (past : List Entry) (time : ℕ) → time_fault past time ≡ None → InTime past time
+in_time past time e =
+    let h = three (time == 0) (nat_lt time (last_time past)) (nat_lt (10 ^ 16) time) TimeZero TimeBack TimeBeyond e in
+    record { some = positive time h.0; late = ltb-false time (last_time past) h.1; early = ltb-false (10 ^ 16) time h.2 }
+
+module _ {cipher : CipherMeaning} {setup : Setup} {steps : List Step} {run : RunState} (is_run : IsRunOf cipher setup steps run) where
+  -- each end is ready when a step comes in time
+  pub ready_a : {side : Side} → side ≡ A → (time : ℕ) → time_fault run.log time ≡ None → ReadyAt cipher setup side run.a is_run.a run.log time
+  ready_a is time fine =
+      let t = in_time run.log time fine in
+      let late : is_run.a.rx.now ≤ time = omega (arith, is_run.a_time, is_run.time, t.late) in
+      record { valid = is_run.valid; late = late; early = t.early; some = t.some; ready = subst (λ (s : Side). Ready cipher setup s run.a is_run.a run.log) (sym is) is_run.a_knows }
+
+  pub ready_b : {side : Side} → side ≡ B → (time : ℕ) → time_fault run.log time ≡ None → ReadyAt cipher setup side run.b is_run.b run.log time
+  ready_b is time fine =
+      let t = in_time run.log time fine in
+      let late : is_run.b.rx.now ≤ time = omega (arith, is_run.b_time, is_run.time, t.late) in
+      record { valid = is_run.valid; late = late; early = t.early; some = t.some; ready = subst (λ (s : Side). Ready cipher setup s run.b is_run.b run.log) (sym is) is_run.b_knows }
+
+  module _ (step : Step) (time : ℕ) (new : EndState) (log chunk : List Entry) (valid : step_fault setup run.log step ≡ None) (fine : time_fault run.log time ≡ None)
+      (added : log ≡ run.log ++ chunk) (at : head_time (happenings setup chunk) ≡ time) where
+    by_side_a : AreEntriesOf (sealing_of cipher setup) setup run.log A step chunk → TurnsOn cipher setup A is_run.a new run.log chunk
+        → PlaysOn cipher setup steps run step (record { a = new; b = run.b; log = log; latest = time })
+    by_side_a of t =
+        let seal = sealing_of cipher setup in
+        let is = chunk_of of in
+        let late = (in_time run.log time fine).late in
+        let outcome : Outcome seal setup run.log A is_run.a step t.session chunk = record { valid = valid; are_of = of; events = t.events; read = t.read; turn = t.turn } in
+        let now : t.session.rx.now ≡ time = sym (now_is t.turn) ∙ ap head_time (sym t.read) ∙ at in
+        let mine : t.session.rx.now ≤ time = omega (arith, now) in
+        let others : is_run.b.rx.now ≤ time = omega (arith, is_run.b_time, is_run.time, late) in
+        record {
+          valid = valid;
+          is_run = record {
+            valid = is_run.valid;
+            a = t.session;
+            b = is_run.b;
+            plays = subst (PlaysIn seal setup t.session is_run.b (steps ++ step ∷ [])) (sym added) (by_a is_run.plays step chunk outcome);
+            a_knows = subst (Ready cipher setup A new t.session) (sym added) t.ready;
+            b_knows = subst (Ready cipher setup B run.b is_run.b) (sym added) (ready_still is_run.b_knows chunk (is.others B refl));
+            time = sym (ap last_time added ∙ last_chunk run.log chunk _ is.times ∙ at);
+            a_time = mine;
+            b_time = others;
+          };
+          side = A;
+          before = is_run.a;
+          after = t.session;
+          brought = chunk;
+          outcome = outcome;
+          added = added;
+        }
+
+    by_side_b : AreEntriesOf (sealing_of cipher setup) setup run.log B step chunk → TurnsOn cipher setup B is_run.b new run.log chunk
+        → PlaysOn cipher setup steps run step (record { a = run.a; b = new; log = log; latest = time })
+    by_side_b of t =
+        let seal = sealing_of cipher setup in
+        let is = chunk_of of in
+        let late = (in_time run.log time fine).late in
+        let outcome : Outcome seal setup run.log B is_run.b step t.session chunk = record { valid = valid; are_of = of; events = t.events; read = t.read; turn = t.turn } in
+        let now : t.session.rx.now ≡ time = sym (now_is t.turn) ∙ ap head_time (sym t.read) ∙ at in
+        let mine : t.session.rx.now ≤ time = omega (arith, now) in
+        let others : is_run.a.rx.now ≤ time = omega (arith, is_run.a_time, is_run.time, late) in
+        record {
+          valid = valid;
+          is_run = record {
+            valid = is_run.valid;
+            a = is_run.a;
+            b = t.session;
+            plays = subst (PlaysIn seal setup is_run.a t.session (steps ++ step ∷ [])) (sym added) (by_b is_run.plays step chunk outcome);
+            a_knows = subst (Ready cipher setup A run.a is_run.a) (sym added) (ready_still is_run.a_knows chunk (is.others A refl));
+            b_knows = subst (Ready cipher setup B new t.session) (sym added) t.ready;
+            time = sym (ap last_time added ∙ last_chunk run.log chunk _ is.times ∙ at);
+            a_time = others;
+            b_time = mine;
+          };
+          side = B;
+          before = is_run.b;
+          after = t.session;
+          brought = chunk;
+          outcome = outcome;
+          added = added;
+        }
+
+    pub plays_a : {side : Side} → side ≡ A → AreEntriesOf (sealing_of cipher setup) setup run.log side step chunk → TurnsOn cipher setup side is_run.a new run.log chunk
+        → PlaysOn cipher setup steps run step (record { a = new; b = run.b; log = log; latest = time })
+    plays_a is of t = by_side_a (subst (λ (s : Side). AreEntriesOf (sealing_of cipher setup) setup run.log s step chunk) is of)
+        (subst (λ (s : Side). TurnsOn cipher setup s is_run.a new run.log chunk) is t)
+
+    pub plays_b : {side : Side} → side ≡ B → AreEntriesOf (sealing_of cipher setup) setup run.log side step chunk → TurnsOn cipher setup side is_run.b new run.log chunk
+        → PlaysOn cipher setup steps run step (record { a = run.a; b = new; log = log; latest = time })
+    plays_b is of t = by_side_b (subst (λ (s : Side). AreEntriesOf (sealing_of cipher setup) setup run.log s step chunk) is of)
+        (subst (λ (s : Side). TurnsOn cipher setup s is_run.b new run.log chunk) is t)
+
+-- a step that is refused
+
+pub no_fault : (a b : Option StepFault) → a ≡ None → b ≡ None → or_else a b ≡ None
+no_fault a b e f = ap (λ (x : Option StepFault). or_else x b) e ∙ f
+
+pub refused_after : (e : StepError) (a b : Option StepFault) → a ≡ None → IsCauseAt b e → IsCauseAt (or_else a b) e
+refused_after e a b none h = subst (λ (o : Option StepFault). IsCauseAt (or_else o b) e) (sym none) h
+
+-- a step that is refused by a rule or for want of memory
+pub cause_of_step : (cipher : CipherMeaning) (setup : Setup) (past : List Entry) (step : Step) (e : StepError) → IsCauseAt (step_fault setup past step) e
+    → IsStepCause cipher setup past step e
+cause_of_step cipher setup past step Memory h = tt
+cause_of_step cipher setup past step (Rule fault) h = h
+cause_of_step cipher setup past step (KeyExhausted side counter) h = absurd h
+
+-- a step that is no call leaves nothing
+left_none : (step : Step) (e : StepError) → call_of step ≡ [] → left_by step e ≡ []
+left_none step Memory none = refl
+left_none step (Rule fault) none = refl
+left_none step (KeyExhausted side counter) none = none
+
+pub nothing_left : {X : Type 0} (r : Result X StepError) (step : Step) (new old : List Entry) → call_of step ≡ [] → IfErr r (λ e. e ≢ Memory → new ≡ old)
+    → IfErr r (λ e. e ≢ Memory → new ≡ old ++ left_by step e)
+nothing_left (Ok x) step new old none h = tt
+nothing_left (Err e) step new old none h = λ other. h other ∙ sym (ap (λ (l : List Entry). old ++ l) (left_none step e none) ∙ append-nil old)
+
+-- what holds of an error holds of the one that is handed on
+pub handed_on : {X : Type 0} (P : StepError → Type 0) (r : Result X StepError) (e : StepError) → IsErrAnd r (λ d. d ≡ e) → P e → IfErr r P
+handed_on P (Ok x) e is h = tt
+handed_on P (Err d) e is h = subst P (sym is) h

@@ -12,7 +12,7 @@ use Rattle.std.proofs.lemmas.Bool.{ltb-true, ltb-false, lt-ltb, le-ltb, le-leb, 
 use Rattle.std.proofs.lemmas.List.{append-nil}
 use Rattle.std.proofs.lemmas.List.Folds.{list_any-append}
 use Rattle.media_play.specs.declared.numbers.Stretch.{Stretch}
-use Rattle.media_play.specs.Rules.{has}
+use Rattle.media_laws.specs.Rules.{has}
 use Rattle.media_play.specs.UsedNumbers.{numbers_in, Rise, AreInOrder}
 
 abbrev pub among : ℕ → List ℕ → Bool

@@ -1,14 +1,4 @@
-pub mod Listing
 pub mod Log
-pub mod Plain
-pub mod Rules
-pub mod Opening
-pub mod Feedback
-pub mod Play
-pub mod SetupFacts
-pub mod WireLaws
-pub mod Headline
-pub mod Laws
 pub mod Packets
 pub mod UsedNumbers
 pub mod Knowing
@@ -17,4 +7,3 @@ pub mod Starting
 pub mod Running
 pub mod Ends
 pub mod Errors
-pub mod FaultNames

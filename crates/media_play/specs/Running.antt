@@ -1,7 +1,8 @@
 -- What a run knows of the steps that it played.
 use Rattle.std.specs.Prelude.{◌≡◌, ◌+◌, ◌≤◌, ℕ, List, [], ◌∷◌, ◌++◌, length, take, slice_get, Some, None, Result, Ok, Err}
 use Rattle.srtp_core.specs.Cipher.{CipherMeaning}
-use Rattle.srtp_core.specs.declared.counter.Counter.{Counter}
+use Rattle.media_laws.specs.declared.counter.Counter.{Counter}
+use Rattle.run_model.specs.Whole.{Session}
 use Rattle.media_model.specs.declared.entry.Side.{Side}
 use Rattle.media_model.specs.declared.entry.Side.TheVariants.{A, B}
 use Rattle.media_model.specs.declared.entry.Entry.{Entry}
@@ -14,12 +15,12 @@ use Rattle.media_play.specs.declared.fault.RunError.{RunError}
 use Rattle.media_play.specs.declared.fault.RunFault.{RunFault}
 use Rattle.media_play.specs.declared.fault.RunError.TheVariants as error
 use Rattle.media_model.specs.Entries.{last_time}
-use Rattle.media_play.specs.Errors.{IsStepCause, call_of}
-use Rattle.media_play.specs.Feedback.{Exhausts}
-use Rattle.media_play.specs.Opening.{Sealing}
-use Rattle.media_play.specs.Play.{Outcome, Played}
-use Rattle.media_play.specs.Rules.{step_fault}
-use Rattle.media_play.specs.Sessions.{EndState, Ready, sealing_of}
+use Rattle.media_play.specs.Errors.{IsStepCause}
+use Rattle.media_laws.specs.Exhausting.{Exhausts, call_of}
+use Rattle.media_laws.specs.Play.{Outcome, Plays as PlaysIn, Played}
+use Rattle.media_laws.specs.Rules.{step_fault}
+use Rattle.media_laws.specs.Keys.{sealing_of}
+use Rattle.media_play.specs.Sessions.{EndState, Ready}
 use Rattle.setup_rules.specs.SetupRules.{setup_fault}
 
 -- the two ends, the entries so far and the time of the last step
@@ -30,14 +31,18 @@ pub record RunState : Type 0 where
   pub latest : ℕ
 
 -- a run of a setup after these steps: the setup breaks no rule, the entries are those that the
--- steps brought, and each part knows them
+-- steps brought, and the two ends stand for the plain sessions that played them
 pub record IsRunOf (cipher : CipherMeaning) (setup : Setup) (steps : List Step)
     (run : RunState) : Type 0 where
   pub valid : setup_fault setup ≡ None
-  pub played : Played (sealing_of cipher setup) setup steps run.log
-  pub a_knows : Ready cipher setup A run.a run.log
-  pub b_knows : Ready cipher setup B run.b run.log
+  pub a : Session
+  pub b : Session
+  pub plays : PlaysIn (sealing_of cipher setup) setup a b steps run.log
+  pub a_knows : Ready cipher setup A run.a a run.log
+  pub b_knows : Ready cipher setup B run.b b run.log
   pub time : run.latest ≡ last_time run.log
+  pub a_time : a.rx.now ≤ run.latest
+  pub b_time : b.rx.now ≤ run.latest
 
 -- one step more: it breaks no rule, the run has played it too, and its entries are those before and
 -- what the step brings
@@ -45,8 +50,11 @@ pub record PlaysOn (cipher : CipherMeaning) (setup : Setup) (steps : List Step) 
     (step : Step) (new : RunState) : Type 0 where
   pub valid : step_fault setup old.log step ≡ None
   pub is_run : IsRunOf cipher setup (steps ++ step ∷ []) new
+  pub side : Side
+  pub before : Session
+  pub after : Session
   pub brought : List Entry
-  pub outcome : Outcome (sealing_of cipher setup) setup old.log step brought
+  pub outcome : Outcome (sealing_of cipher setup) setup old.log side before step after brought
   pub added : new.log ≡ old.log ++ brought
 
 -- a run of any setup plays a step
@@ -59,7 +67,7 @@ Plays cipher old step new =
 abbrev pub Refuses : CipherMeaning → RunState → Step → StepError → Type 0
 Refuses cipher run step cause =
     (setup : Setup) (steps : List Step) → IsRunOf cipher setup steps run
-    → IsStepCause setup run.log step cause
+    → IsStepCause cipher setup run.log step cause
 
 -- why no run of a setup begins: the first rule that it breaks; memory may run out
 abbrev pub IsSetupCause : Setup → RunError → Type 0
@@ -76,37 +84,37 @@ run_cause number step.Memory = error.Memory
 
 -- a step breaks no rule and has a side seal behind the last number of a key, and the entries are
 -- those of all steps before it and its call
-pub record EndsAtKey (seal : Sealing) (setup : Setup) (steps : List Step) (entries : List Entry) (side : Side)
+pub record EndsAtKey (cipher : CipherMeaning) (setup : Setup) (steps : List Step) (entries : List Entry) (side : Side)
     (counter : Counter) : Type 0 where
   pub before : ℕ
   pub step : Step
   pub stands : slice_get steps before ≡ Some step
   pub past : List Entry
-  pub played : Played seal setup (take before steps) past
+  pub played : Played (sealing_of cipher setup) setup (take before steps) past
   pub valid : step_fault setup past step ≡ None
-  pub exhausts : Exhausts setup past step side counter
+  pub exhausts : Exhausts cipher setup past step side counter
   pub entries_are : entries ≡ past ++ call_of step
 
 -- why a run ended, and what it brought until then: nothing for a setup that breaks a rule; all
 -- steps before the one that breaks a rule, which is the first one, or that finds a key used up;
 -- without memory some steps at the front
-abbrev pub HasCause : Sealing → Setup → List Step → List Entry → RunError → Type 0
-HasCause seal setup steps entries (error.Setup fault) =
+abbrev pub HasCause : CipherMeaning → Setup → List Step → List Entry → RunError → Type 0
+HasCause cipher setup steps entries (error.Setup fault) =
     (setup_fault setup ≡ Some fault) × (entries ≡ [])
-HasCause seal setup steps entries (error.Step number fault) =
+HasCause cipher setup steps entries (error.Step number fault) =
     (setup_fault setup ≡ None) × ((before : ℕ) × (step : Step) × (number ≡ before + 1)
     × (slice_get steps before ≡ Some step)
-    × Played seal setup (take before steps) entries × (step_fault setup entries step ≡ Some fault))
-HasCause seal setup steps entries (error.KeyExhausted side counter) =
-    (setup_fault setup ≡ None) × EndsAtKey seal setup steps entries side counter
-HasCause seal setup steps entries error.Memory =
-    (played : ℕ) × (played ≤ length steps) × Played seal setup (take played steps) entries
+    × Played (sealing_of cipher setup) setup (take before steps) entries × (step_fault setup entries step ≡ Some fault))
+HasCause cipher setup steps entries (error.KeyExhausted side counter) =
+    (setup_fault setup ≡ None) × EndsAtKey cipher setup steps entries side counter
+HasCause cipher setup steps entries error.Memory =
+    (played : ℕ) × (played ≤ length steps) × Played (sealing_of cipher setup) setup (take played steps) entries
 
 -- no step breaks a rule after the entries that the steps before it brought
-abbrev pub AreValidSteps : Sealing → Setup → List Step → Type 0
-AreValidSteps seal setup steps =
+abbrev pub AreValidSteps : CipherMeaning → Setup → List Step → Type 0
+AreValidSteps cipher setup steps =
     (before : ℕ) (step : Step) (entries : List Entry) → slice_get steps before ≡ Some step
-    → Played seal setup (take before steps) entries → step_fault setup entries step ≡ None
+    → Played (sealing_of cipher setup) setup (take before steps) entries → step_fault setup entries step ≡ None
 
 -- what holds of the entries of a run, whether it came to its end or not
 abbrev pub OfRun : Result Transcript RunFault → (List Entry → Type 0) → Type 0

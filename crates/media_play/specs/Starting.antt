@@ -1,66 +1,125 @@
--- A session before any step.
-use Rattle.std.specs.Prelude.{◌≡◌, ◌≤◌, ◌^◌, ℕ, true, false, is_some, List, [], Some, None}
-use Rattle.std.specs.List.{AllByRecursion}
-use Rattle.std.specs.Map.{keys_of}
+-- A session before any step, with some of the streams of its setup.
+use Rattle.std.specs.Prelude.{◌≡◌, ◌≤◌, ◌^◌, ℕ, true, false, List, [], ◌∷◌, map, filter_map, option_to_list, is_some, Option, None, Some}
+use Rattle.std.specs.List.{AllZip, flat_map}
+use Rattle.rtx_core.specs.Resends.{created, recached}
 use Rattle.srtp_core.specs.Cipher.{CipherMeaning}
 use Rattle.srtp_core.specs.Contexts.{new_state}
-use Rattle.stream_core.specs.Repairing.{primary_type_of}
+use Rattle.stream_core.specs.declared.payload_types.TypeRow.{TypeRow}
+use Rattle.stream_core.specs.Repairing.{RepairsRecord}
 use Rattle.stream_core.specs.RxRecord.{RxRecord}
+use Rattle.stream_core.specs.StreamsRecord.{StreamsRecord}
 use Rattle.stream_core.specs.TxRecord.{TxRecord}
-use Rattle.stream_core.specs.Tables.{place_of}
-use Rattle.media_play.specs.Ends.{EndSession, SessionStands}
 use Rattle.session_core.specs.Sending.{has_mid}
-use Rattle.session_core.specs.SessionRecord.{MediaRecord, SessionRecord}
+use Rattle.session_core.specs.SessionRecord.{MediaRecord, SessionRecord, streams_in}
+use Rattle.session_turns.specs.Mirrors.{RxMirrors, RxStands, original_in}
 use Rattle.media_model.specs.declared.entry.Side.{Side}
+use Rattle.media_model.specs.declared.setup.Media.{Media}
+use Rattle.media_model.specs.declared.setup.PayloadType.{PayloadType}
 use Rattle.media_model.specs.declared.setup.Setup.{Setup}
 use Rattle.media_model.specs.Sides.{peer_of}
-use Rattle.media_model.specs.Setup.{local_of, material_of, types_of}
-use Rattle.media_play.specs.Knowing.{ListensAs}
-use Rattle.media_play.specs.Plain.{extensions_of}
-use Rattle.media_play.specs.Rules.{has}
-use Rattle.media_play.specs.Sessions.{is_left}
+use Rattle.media_model.specs.Setup.{local_of, material_of, types_of as type_numbers}
+use Rattle.run_model.specs.Events.{Outgoing}
+use Rattle.run_model.specs.Listing.{NoRepeat}
+use Rattle.run_model.specs.RxPlay.{new_rx}
+use Rattle.run_model.specs.Transcripts.{outgoing_in}
+use Rattle.run_model.specs.Whole.{incoming_of, probes}
+use Rattle.stream_core.specs.Tables.{place_of}
+use Rattle.session_turns.specs.Mirrors.{Mirrors}
+use Rattle.run_model.specs.Whole.{new_session}
+use Rattle.media_laws.specs.Config.{config_of}
+use Rattle.media_laws.specs.Keys.{sealing_of}
+use Rattle.media_laws.specs.Rules.{has}
+use Rattle.media_play.specs.Ends.{EndSession, SessionStands}
+use Rattle.media_laws.specs.Plain.{extensions_of}
+use Rattle.media_laws.specs.Keys.{is_left}
 
--- an outgoing stream of some media section on which nothing waits
-pub record IsIdle (medias : List MediaRecord) (e : ℕ × TxRecord) : Type 0 where
-  pub ssrc : e.1.ssrc ≡ e.0
+-- a payload type of a session is one of a setup: its number, and the type of its repairs
+pub record IsRow (e : ℕ × TypeRow) (t : PayloadType) : Type 0 where
+  pub key : e.0 ≡ t.pt
+  pub pt : e.1.pt ≡ t.pt
+  pub rtx : e.1.rtx ≡ t.rtx
+
+-- both SSRCs of a stream
+abbrev pub ssrcs_in : Outgoing → List ℕ
+ssrcs_in L = L.ssrc ∷ option_to_list L.rtx
+
+-- no SSRC is of two streams, nor twice of one
+abbrev pub AreOnce : List Outgoing → Type 0
+AreOnce Ls = NoRepeat (flat_map ssrcs_in Ls)
+
+-- the streams of a media section that a side sends
+abbrev pub outgoing_at : Setup → Side → Media → List Outgoing
+outgoing_at setup side media = filter_map (outgoing_in setup side) media.streams
+
+-- an outgoing stream of some media section on which nothing was written
+pub record IsIdle (medias : List MediaRecord) (e : ℕ × TxRecord) (L : Outgoing) : Type 0 where
+  pub key : e.0 ≡ L.ssrc
+  pub ssrc : e.1.ssrc ≡ L.ssrc
+  pub rtx : e.1.rtx ≡ L.rtx
   pub mid : has_mid e.1.mid medias ≡ true
   pub queue : e.1.queue ≡ []
 
--- an incoming stream on which nothing opened
-pub record IsUnheard (e : ℕ × RxRecord) : Type 0 where
-  pub roc : e.1.state.roc ≡ None
-  pub numbers : e.1.numbers ≡ None
+-- what it sends again, where it has repairs
+abbrev pub kept_for : Outgoing → Option ℕ → List (ℕ × RepairsRecord)
+kept_for L None = []
+kept_for L (Some rtx) = (L.ssrc, recached L.packets L.age L.cap (created L.start)) ∷ []
 
--- a session of a side with keys that sends and receives on these SSRCs, on which nothing happened
-pub record Begun (cipher : CipherMeaning) (setup : Setup) (side : Side)
-    (sent received : List ℕ) (s : SessionRecord) : Type 0 where
+abbrev pub kept_in : Outgoing → List (ℕ × RepairsRecord)
+kept_in L = kept_for L L.rtx
+
+-- an incoming stream on which nothing opened
+abbrev pub IsUnheard : ℕ → ℕ × RxRecord → Outgoing → Type 0
+IsUnheard threshold e L = RxStands threshold None [] e (incoming_of L, new_rx)
+
+-- a session with these streams
+abbrev pub with_streams : StreamsRecord → SessionRecord → SessionRecord
+with_streams s r = record r {
+  state = record r.state { tx = s.tx; pause_threshold = s.threshold };
+  rx = s.rx;
+  originals = s.originals;
+  repairs = s.repairs;
+}
+
+-- whichever record a session has, it then has the one with its streams changed so
+abbrev pub StreamsChange : (StreamsRecord → StreamsRecord) → EndSession → EndSession → Type 0
+StreamsChange f old new = (r : SessionRecord) → SessionStands old r → SessionStands new (with_streams (f (streams_in r)) r)
+
+-- a session of a side with keys that sends these streams and receives those, on which nothing happened
+pub record Begun (cipher : CipherMeaning) (setup : Setup) (side : Side) (sent received : List Outgoing) (s : SessionRecord) : Type 0 where
   pub seals : s.state.sealing
-      ≡ Some (new_state cipher setup.profile (material_of setup) (is_left side)
-      (local_of side setup).srtcp_index)
+      ≡ Some (new_state cipher setup.profile (material_of setup) (is_left side) (local_of side setup).srtcp_index)
   pub opens : s.state.opening
       ≡ Some (new_state cipher setup.profile (material_of setup) (is_left (peer_of side)) 0)
-  pub target : s.state.target ≡ setup.mtu.target
+  pub target : 900 ≤ s.state.target
   pub runs : s.state.stopped ≡ false
   pub feedback : s.state.feedback ≡ []
+  pub released : s.state.released ≡ false
   pub application : s.state.application ≡ None
-  pub told : s.state.packet ≡ None
+  pub packet : s.state.packet ≡ None
+  pub last_round : s.state.last_round ≡ 0
+  pub local_ssrc : s.state.local_ssrc ≡ (local_of side setup).ssrc
+  pub beginning : s.state.transport.beginning ≡ setup.beginning
   pub seen : s.seen ≡ []
-  pub types : (pt : ℕ) → is_some (place_of pt s.state.types) ≡ has (types_of setup) pt
-  pub plain : (pt : ℕ) → primary_type_of s.state.types pt ≡ None
+  pub types : AllZip IsRow s.state.types setup.types
   pub exts : s.state.transport.exts ≡ extensions_of setup
-  pub outgoing : keys_of s.state.tx ≡ sent
-  pub sends : AllByRecursion (IsIdle s.state.medias) s.state.tx
-  pub incoming : keys_of s.rx ≡ received
-  pub takes : AllByRecursion IsUnheard s.rx
-  pub probes : IsUnheard (0, s.probes)
   pub pauses : s.state.pause_threshold ≡ setup.pause_threshold
-  pub listens : AllByRecursion (ListensAs setup) s.rx
-  pub originals : s.originals ≡ []
-  pub repairs : s.repairs ≡ []
+  pub sends : AllZip (IsIdle s.state.medias) s.state.tx sent
+  pub repairs : s.repairs ≡ flat_map kept_in sent
+  pub takes : AllZip (IsUnheard setup.pause_threshold) s.rx received
+  pub probes_stand : RxMirrors setup.pause_threshold [] s.probes (probes, new_rx)
+  pub originals : s.originals ≡ flat_map original_in (map incoming_of received)
 
-pub record Starts (cipher : CipherMeaning) (setup : Setup) (side : Side)
-    (sent received : List ℕ) (view : EndSession) : Type 0 where
+pub record Starts (cipher : CipherMeaning) (setup : Setup) (side : Side) (sent received : List Outgoing) (view : EndSession) : Type 0 where
   pub session : SessionRecord
   pub bounded : (local_of side setup).srtcp_index ≤ 2 ^ 31
   pub stands : SessionStands view session
   pub begun : Begun cipher setup side sent received session
+
+-- the session of a side of a setup before any step: it mirrors the plain session of the setup, and runs
+pub record IsStarted (cipher : CipherMeaning) (setup : Setup) (side : Side) (view : EndSession) : Type 0 where
+  pub session : SessionRecord
+  pub stands : SessionStands view session
+  pub mirrors : Mirrors cipher (config_of (sealing_of cipher setup) setup) side session (new_session (config_of (sealing_of cipher setup) setup) side)
+  pub types : (pt : ℕ) → is_some (place_of pt session.state.types) ≡ has (type_numbers setup) pt
+  pub exts : session.state.transport.exts ≡ extensions_of setup
+  pub runs : session.state.stopped ≡ false

@@ -1,4 +1,6 @@
-ghost use Rattle.std.specs.Prelude.{◌≡◌, ◌≢◌, ◌∷◌, ◌++◌, ◌<◌, ◌≤◌, ◌%◌, false, List, [], length, Some, None, IfOk, IfErr, OnOk};
+ghost use Rattle.std.specs.Prelude.{◌≡◌, ◌≢◌, ◌∷◌, ◌++◌, ◌<◌, ◌≤◌, ◌%◌, ◌^◌, ℕ, false, List, [], length, slice_index, Some, None, IfOk, IfErr, OnOk};
+ghost use Rattle.rtp_wire.specs.BytesLaws.{AreWords};
+ghost use Rattle.media_laws.specs.Feedback.{next_index};
 ghost use Rattle.std.specs.Result.{result_err};
 ghost use Rattle.rtp_wire.specs.Header.{csrc_of};
 ghost use Rattle.stream_core.specs.Tables.{place_of, change_place};
@@ -6,9 +8,9 @@ ghost use Rattle.stream_core.specs.TxRecord.{written};
 ghost use Rattle.media_model.specs.declared.entry.Side.{Side as Party};
 ghost use Rattle.media_model.specs.declared.entry.Entry.{Entry};
 ghost use Rattle.media_model.specs.declared.setup.Setup.{Setup as Given};
-ghost use Rattle.media_model.specs.declared.step.Step.{Step};
+ghost use Rattle.media_play.specs.Errors.{cut_as};
 ghost use Rattle.media_play.specs.Ends.{SessionStands};
-ghost use Rattle.media_play.specs.Listing.{OnlyAdds};
+ghost use Rattle.media_laws.specs.Listing.{OnlyAdds};
 ghost use Rattle.media_play.specs.Knowing.{has_written, IsNoted};
 ghost use Rattle.std.specs.Option.{option_map};
 ghost use Rattle.mask_register.specs.MaskRegister.{Remembers};
@@ -16,21 +18,28 @@ ghost use Rattle.session_core.specs.Calls.{told, after_events};
 ghost use Rattle.session_core.specs.SessionRecord.{SessionRecord};
 ghost use Rattle.media_play.specs.Packets.{write_at, seals_from, packet_told, packet_after, packet_in};
 
-use crate::fault::{StepError, StepFault};
+use crate::fault::StepError;
 use crate::log::Log;
 use crate::numbers::Numbers;
 use crate::starting::{no_numbers, start};
 use mask_register::MaskRegister;
 use media_base::{Bytes, Instant, Listed};
+use media_laws::{Counter, StepFault};
 use media_model::{Kind, Packet, Sealed, Setup, Side, Write};
 use queue_store::QueueStore;
 use rtcp_wire::{AppSpecificFeedback as Application, items_fit_by_lengths};
-use rtp_wire::{RtpHeader, SeqNo, Ssrc, header_reads_own_bytes, written_header_is_read_again};
+use rtp_wire::{RtpHeader, SeqNo, Ssrc};
 use session_core::{Datagram, Event, RtcError, Session};
 use srtp_core::SrtpCipher;
 use std::alloc::{AllocError, Global};
 use std::marker::Model;
 use stream_core::{Payload, RtpPacket, RtpWrite, Sent};
+use turn_hears::{calls_turn, hears_turn, writes_turn};
+use turn_opens::opens_turn;
+use turn_seals::{
+    calls_are_right, openings_are_right, rtcp_openings_are_right, seals_are_right,
+};
+use turn_ticks::ticks_turn;
 
 /// Numbers of packets are below it.
 const NUMBER_LIMIT: u64 = 1 << 48;
@@ -169,7 +178,7 @@ fn take_packet<C: SrtpCipher>(
 }
 
 /// Adds the datagrams that a side sends to the log, in order.
-fn log_all(side: Side, datagrams: Vec<Datagram>, log: &mut Log) -> Result<(), AllocError>
+pub fn log_all(side: Side, datagrams: Vec<Datagram>, log: &mut Log) -> Result<(), AllocError>
     ensures logged { OnOk result (log.new ≡ log.old ++ seals_from side datagrams.items) }
     ensures longer { OnlyAdds log.old log.new }
 {
@@ -186,28 +195,47 @@ fn log_all(side: Side, datagrams: Vec<Datagram>, log: &mut Log) -> Result<(), Al
     Ok(())
 }
 
+/// Each of these numbers has 8 bits, as its type says.
+fn are_bytes(bytes: &[u8])
+    ensures { (i : ℕ) → slice_index bytes.now i < 256 }
+{
+    let _count = bytes.len();
+}
+
+/// Why a side's session is cut off while it is drained.
+fn used_up(side: Side, error: RtcError) -> StepError
+    ensures { result ≡ cut_as side error }
+{
+    match error {
+        RtcError::KeyExhausted(_) => StepError::KeyExhausted(side, Counter::Rtcp),
+        RtcError::RepairsExhausted(ssrc) => StepError::KeyExhausted(side, Counter::Rtx(ssrc)),
+        _ => StepError::Memory,
+    }
+}
+
 impl<C: SrtpCipher> End<C> {
-    ghost use Rattle.media_model.specs.declared.entry.Entry.TheVariants.{Wrote, Ticked, Called};
-    ghost use Rattle.media_model.specs.Setup.{material_of};
-    ghost use Rattle.media_play.specs.Opening.{Sealing};
-    ghost use Rattle.media_play.specs.Play.{Played, Seals};
-    ghost use Rattle.media_play.specs.Rules.{write_fault};
-    ghost use Rattle.media_play.specs.SetupFacts.{IsSound};
-    ghost use Rattle.setup_rules.specs.SetupRules.{setup_fault};
-    ghost use Rattle.media_play.specs.Sessions.{Ready, TakesIn, sealing_of};
+    ghost use Rattle.media_model.specs.declared.entry.Entry.TheVariants.{Wrote, Called};
+    ghost use Rattle.media_model.specs.declared.entry.Entry.TheVariants as happening;
+    ghost use Rattle.media_model.specs.declared.entry.Call.TheVariants as call;
     ghost use Rattle.rtp_base.specs.declared.kind.Kind.TheVariants.{Rtp, Rtcp};
     ghost use Rattle.rtcp_wire.specs.declared.packet.Rtcp.TheVariants.{AppSpecificFeedback};
     ghost use Rattle.rtcp_wire.specs.Texts.{text_of};
-    ghost use Rattle.media_model.specs.declared.entry.Call.TheVariants as call;
-    ghost use Rattle.media_model.specs.declared.entry.Entry.TheVariants as happening;
+    ghost use Rattle.run_model.specs.Whole.{Session as Plain, new_session};
+    ghost use Rattle.setup_rules.specs.SetupRules.{setup_fault};
+    ghost use Rattle.media_laws.specs.Config.{config_of};
+    ghost use Rattle.media_laws.specs.Feedback.{IsSealOfPacket};
+    ghost use Rattle.media_laws.specs.Keys.{sealing_of};
+    ghost use Rattle.media_laws.specs.Opening.{got_as};
+    ghost use Rattle.media_laws.specs.Rules.{write_fault};
     ghost use Rattle.media_play.specs.Errors.{is_rule, IsSendingCause};
-    ghost use Rattle.media_play.specs.Feedback.{IsSealOfPacket};
     ghost use Rattle.media_play.specs.Packets.{sealed_from};
+    ghost use Rattle.media_play.specs.Sessions.{Ready, ReadyAt, TurnsOn, TakesIn, TicksOn, IsTickCause};
 
     /// The end of a side of a setup that breaks no rule, before any step.
     pub fn new(alloc: Global, cipher: C, setup: &Setup, side: Side) -> Result<Self, AllocError>
         requires { setup_fault setup.now ≡ None }
-        ensures { IfOk result (λ end. Ready C.meaning setup.now side end []) }
+        ensures { IfOk result (λ end. Ready C.meaning setup.now side end
+            (new_session (config_of (sealing_of C.meaning setup.now) setup.now) side) []) }
     {
         Ok(End {
             session: start(alloc, cipher, setup, side)?,
@@ -230,8 +258,8 @@ impl<C: SrtpCipher> End<C> {
         ensures place { IfOk result (λ at. place_of write.now.ssrc self.old.session.state.tx ≡ Some at) }
         ensures within { IfOk result (λ at. at < length self.old.session.state.tx) }
         ensures sources { IfOk result (λ at. length write.now.csrc ≤ 15) }
-        ensures rule { (setup : Given) (side : Party) (entries : List Entry)
-            → Ready C.meaning setup side self.old entries
+        ensures rule { (setup : Given) (side : Party) (a : Plain) (entries : List Entry)
+            → Ready C.meaning setup side self.old a entries
             → write_fault setup entries side write.now ≡ result_err result }
         ensures same { self.new ≡ self.old }
     {
@@ -277,14 +305,14 @@ impl<C: SrtpCipher> End<C> {
     ) -> Result<(), AllocError>
         requires place { place < length self.old.session.state.tx }
         requires sources { length write.now.csrc ≤ 15 }
-        ensures { OnOk result ((seal : Sealing) (setup : Given) (steps : List Step) (side : Party)
-            (entries : List Entry)
-            → Played seal setup steps entries → Ready C.meaning setup side self.old entries
-            → IsSound setup
+        ensures { OnOk result ((setup : Given) (side : Party) (a : Plain) (entries : List Entry)
+            → ReadyAt C.meaning setup side self.old a entries time
             → place_of write.now.ssrc self.old.session.state.tx ≡ Some place
             → write_fault setup entries side write.now ≡ None
-            → Ready C.meaning setup side self.new (entries ++ Wrote side time write.now ∷ [])) }
+            → (write.now.ssrc < 2 ^ 32) × (write.now.rtp_time < 2 ^ 32) × AreWords write.now.csrc
+            → TurnsOn C.meaning setup side a self.new entries (Wrote side time write.now ∷ [])) }
     {
+        writes_turn();
         let packet = rtp_write(alloc, time, write)?;
         self.note(place, write.number)?;
         put(&mut self.session, place, packet)
@@ -298,7 +326,9 @@ impl<C: SrtpCipher> End<C> {
         kind: Kind,
         bytes: &[u8],
     ) -> Result<Option<Received>, AllocError>
-        ensures { IfOk result (TakesIn C.meaning self.old kind bytes.now self.new) }
+        ensures { IfOk result (λ received. (setup : Given) (side : Party) (a : Plain) (entries : List Entry)
+            → ReadyAt C.meaning setup side self.old a entries time
+            → TakesIn C.meaning setup side a self.new entries (got_as side time kind bytes.now) received) }
     {
         match kind {
             Kind::Rtp => self.receive_rtp(alloc, time, bytes),
@@ -312,17 +342,21 @@ impl<C: SrtpCipher> End<C> {
         time: Instant,
         bytes: &[u8],
     ) -> Result<Option<Received>, AllocError>
-        ensures { IfOk result (TakesIn C.meaning self.old Rtp bytes.now self.new) }
+        ensures { IfOk result (λ received. (setup : Given) (side : Party) (a : Plain) (entries : List Entry)
+            → ReadyAt C.meaning setup side self.old a entries time
+            → TakesIn C.meaning setup side a self.new entries (got_as side time Rtp bytes.now) received) }
     {
-        header_reads_own_bytes();
+        opens_turn();
+        openings_are_right();
+        are_bytes(bytes);
         let opened = match self.session.handle_rtp_receive(time, bytes) {
             Ok(opened) => opened,
             Err(_) => return Err(AllocError),
         };
+        let told = take_packet(&mut self.session);
         let Some(opened) = opened else {
             return Ok(None);
         };
-        let told = take_packet(&mut self.session);
         Ok(Some(Received {
             kind: Kind::Rtp,
             ssrc: opened.ssrc,
@@ -333,16 +367,20 @@ impl<C: SrtpCipher> End<C> {
     }
 
     fn receive_rtcp(&mut self, time: Instant, bytes: &[u8]) -> Result<Option<Received>, AllocError>
-        ensures { IfOk result (TakesIn C.meaning self.old Rtcp bytes.now self.new) }
+        ensures { IfOk result (λ received. (setup : Given) (side : Party) (a : Plain) (entries : List Entry)
+            → ReadyAt C.meaning setup side self.old a entries time
+            → TakesIn C.meaning setup side a self.new entries (got_as side time Rtcp bytes.now) received) }
     {
+        hears_turn();
+        rtcp_openings_are_right();
         let opened = match self.session.handle_rtcp_receive(time, bytes) {
             Ok(opened) => opened,
             Err(_) => return Err(AllocError),
         };
+        take_packet(&mut self.session);
         let Some(opened) = opened else {
             return Ok(None);
         };
-        take_packet(&mut self.session);
         Ok(Some(Received {
             kind: Kind::Rtcp,
             ssrc: opened.ssrc,
@@ -363,18 +401,20 @@ impl<C: SrtpCipher> End<C> {
         requires moment { time ≢ 0 }
         requires whole { length feedback.payload % 4 ≡ 0 }
         requires few { length feedback.payload ≤ 800 }
-        ensures sealed { IfOk result (λ datagram. (setup : Given) (entries : List Entry)
-            → IsSound setup → Ready C.meaning setup side self.old entries
+        ensures sealed { IfOk result (λ datagram. (setup : Given) (a : Plain) (entries : List Entry)
+            → ReadyAt C.meaning setup side self.old a entries time → a.rtcp ≡ next_index setup side entries
             → IsSealOfPacket (sealing_of C.meaning setup) setup side entries
             (text_of (AppSpecificFeedback feedback)) (sealed_from side datagram)
-            × Ready C.meaning setup side self.new (entries ++ Called side time call.Application
+            × TurnsOn C.meaning setup side a self.new entries (Called side time call.Application
             ∷ happening.Sealed (sealed_from side datagram) ∷ [])) }
-        ensures refused { IfErr result (λ e. (setup : Given) (entries : List Entry)
-            → IsSound setup → Ready C.meaning setup side self.old entries
+        ensures refused { IfErr result (λ e. (setup : Given) (a : Plain) (entries : List Entry)
+            → ReadyAt C.meaning setup side self.old a entries time → a.rtcp ≡ next_index setup side entries
             → IsSendingCause setup side entries e) }
         ensures no_rule { IfErr result (λ e. is_rule e ≡ false) }
     {
         items_fit_by_lengths();
+        calls_turn();
+        calls_are_right();
         let Application {
             sender_ssrc,
             media_ssrc,
@@ -389,32 +429,31 @@ impl<C: SrtpCipher> End<C> {
         }
         match self.session.poll_datagram(time) {
             Ok(Some(datagram)) => Ok(datagram),
-            Err(RtcError::KeyExhausted(counter)) => Err(StepError::KeyExhausted(side, counter)),
+            Err(RtcError::KeyExhausted(_)) => Err(StepError::KeyExhausted(side, Counter::Rtcp)),
             // None comes only without keys, which an end has.
             Ok(None) | Err(_) => Err(StepError::Memory),
         }
     }
 
-    /// A tick: seals all packets that wait, stream by stream, into the log.
-    pub fn tick(&mut self, side: Side, time: Instant, log: &mut Log) -> Result<(), AllocError>
+    /// A tick: gives all that leaves, in order: what asks for missing numbers, then of each stream what was
+    /// asked for and all packets that wait.
+    pub fn tick(&mut self, side: Side, time: Instant) -> Result<Vec<Datagram>, StepError>
         requires { time ≢ 0 }
-        ensures sealed { OnOk result ((setup : Given) (steps : List Step) (entries : List Entry)
-            → IsSound setup
-            → Played (sealing_of C.meaning setup) setup steps entries
-            → Ready C.meaning setup side self.old entries
-            → (sealed : List Entry) × Seals (sealing_of C.meaning setup) setup side entries sealed
-            × (log.new ≡ log.old ++ sealed)
-            × Ready C.meaning setup side self.new (entries ++ Ticked side time ∷ sealed)) }
-        ensures longer { OnlyAdds log.old log.new }
+        ensures sealed { IfOk result (λ datagrams. (setup : Given) (a : Plain) (entries : List Entry)
+            → ReadyAt C.meaning setup side self.old a entries time
+            → TicksOn C.meaning setup side a self.new entries time (seals_from side datagrams.items)) }
+        ensures refused { IfErr result (IsTickCause C.meaning side self.old time) }
     {
-        written_header_is_read_again();
+        ticks_turn();
+        seals_are_right();
         match self.session.handle_timeout(time) {
             Ok(()) => {}
-            Err(_) => return Err(AllocError),
+            Err(_) => return Err(StepError::Memory),
         }
-        match self.session.drain(time) {
-            Ok(drained) => log_all(side, drained.datagrams, log),
-            Err(_) => Err(AllocError),
-        }
+        let drained = match self.session.drain(time) {
+            Ok(drained) => drained,
+            Err(fault) => return Err(used_up(side, fault.error)),
+        };
+        Ok(drained.datagrams)
     }
 }

@@ -3,14 +3,13 @@
 
 mod end;
 mod fault;
-pub mod laws;
 mod log;
 mod numbers;
 mod pair;
 mod run;
 mod starting;
 
-pub use fault::{PlayFault, RunError, RunFault, StepError, StepFault};
+pub use fault::{PlayFault, RunError, RunFault, StepError};
+pub use media_laws::{Counter, StepFault, laws};
 pub use run::{Run, media_run};
 pub use setup_rules::SetupFault;
-pub use srtp_core::Counter;

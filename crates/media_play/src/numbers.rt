@@ -1,5 +1,5 @@
 ghost use Rattle.std.specs.Prelude.{◌≡◌, ◌==◌, ◌||◌, ℕ, [], OnOk, OnErr};
-ghost use Rattle.media_play.specs.Rules.{has};
+ghost use Rattle.media_laws.specs.Rules.{has};
 ghost use Rattle.media_play.specs.UsedNumbers.{Rise, numbers_in};
 
 use rtp_wire::SeqNo;

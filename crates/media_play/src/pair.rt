@@ -1,7 +1,10 @@
-ghost use Rattle.std.specs.Prelude.{◌≡◌, ◌≢◌, ◌∷◌, ◌++◌, ◌-◌, ◌<◌, ◌≤◌, ◌^◌, ◌%◌, false, List, [], slice_get, length, Some, None, IfOk, IfErr, OnOk, MatchResult};
+ghost use Rattle.std.specs.Prelude.{◌≡◌, ◌≢◌, ◌∷◌, ◌++◌, ◌-◌, ◌<◌, ◌≤◌, ◌^◌, ◌%◌, false, List, [], slice_get, length, Option, Some, None, IfOk, IfErr, OnOk, MatchResult};
 ghost use Rattle.rtp_wire.specs.BytesLaws.{AreWords};
 ghost use Rattle.media_model.specs.declared.entry.Entry.{Entry as Happening};
-ghost use Rattle.media_model.specs.declared.entry.Entry.TheVariants.{Wrote, Called};
+ghost use Rattle.media_model.specs.declared.entry.Entry.TheVariants.{Wrote, Ticked, Called, Got as Came, Sealed as Seal};
+ghost use Rattle.media_play.specs.Packets.{sealed_from};
+ghost use Rattle.media_play.specs.declared.end.Received.{Received as Taken};
+ghost use Rattle.session_core.specs.declared.datagram.Datagram.{Datagram};
 ghost use Rattle.media_model.specs.declared.entry.Call.TheVariants as call;
 ghost use Rattle.media_model.specs.declared.step.Step.{Step as Act};
 ghost use Rattle.media_model.specs.declared.step.Step.TheVariants.{Write as WriteStep, Tick as TickStep, Deliver as DeliverStep, Foreign as ForeignStep, Application as ApplicationStep};
@@ -9,18 +12,22 @@ ghost use Rattle.media_model.specs.declared.setup.Setup.{Setup as Given};
 ghost use Rattle.media_model.specs.Sides.{peer_of};
 ghost use Rattle.media_model.specs.Entries.{datagrams};
 ghost use Rattle.media_play.specs.Errors.{IsCauseAt, is_rule, IsSendingCause, left_by};
-ghost use Rattle.media_play.specs.Listing.{OnlyAdds};
-ghost use Rattle.media_play.specs.Opening.{Sealing, got_as};
-ghost use Rattle.media_play.specs.Play.{Brings, IsTick, IsArrival, IsCall, Played};
-ghost use Rattle.media_play.specs.Rules.{write_fault, deliver_fault};
-ghost use Rattle.media_play.specs.SetupFacts.{IsSound};
+ghost use Rattle.media_laws.specs.Listing.{OnlyAdds};
+ghost use Rattle.media_laws.specs.Opening.{got_as};
+ghost use Rattle.media_laws.specs.Keys.{sealing_of};
+ghost use Rattle.media_laws.specs.Play.{Brings};
+ghost use Rattle.media_laws.specs.Feedback.{application_packet, IsSealOfPacket, next_index};
+ghost use Rattle.media_laws.specs.Rules.{write_fault, deliver_fault};
 ghost use Rattle.setup_rules.specs.SetupRules.{setup_fault};
-ghost use Rattle.media_play.specs.Sessions.{Ready, sealing_of, received_entries};
+ghost use Rattle.media_play.specs.Sessions.{Ready, ReadyAt, TurnsOn, TakesIn, TicksOn, IsTickCause, received_entries};
+ghost use Rattle.run_model.specs.Whole.{Session as Plain};
+ghost use Rattle.media_model.specs.declared.entry.Side.{Side as Party};
 
-use crate::end::{End, Received};
-use crate::fault::{StepError, StepFault};
+use crate::end::{End, Received, log_all};
+use crate::fault::StepError;
 use crate::log::Log;
 use media_base::{Bytes, Instant, Listed};
+use media_laws::StepFault;
 use media_model::{
     ApplicationData, Call, Entry, Got, Kind, Opened, Sealed, Setup, Side, Step, Transcript, Write,
 };
@@ -53,7 +60,7 @@ impl<C: SrtpCipher> Model for Pair<C> {
 impl<C: SrtpCipher> Pair<C> {
     ghost use Rattle.std.specs.Result.{result_err};
     ghost use Rattle.media_model.specs.Entries.{last_time};
-    ghost use Rattle.media_play.specs.Rules.{time_fault, step_fault};
+    ghost use Rattle.media_laws.specs.Rules.{time_fault, step_fault};
     ghost use Rattle.media_play.specs.Running.{IsRunOf, PlaysOn, Plays, Refuses};
 
     /// The two ends of a setup that breaks no rule, before any step.
@@ -186,7 +193,7 @@ impl<C: SrtpCipher> Pair<C> {
     ) -> Result<(), AllocError>
         ensures played { OnOk result ((setup : Given) (steps : List Act) (step : Act)
             → IsRunOf C.meaning setup steps self.old → step_fault setup self.old.log step ≡ None
-            → Brings self.old.log (got_as side time kind bytes) step
+            → time_fault self.old.log time ≡ None → Brings self.old.log (got_as side time kind bytes) step
             → PlaysOn C.meaning setup steps self.old step self.new) }
         ensures longer { OnlyAdds self.old.log self.new.log }
     {
@@ -336,15 +343,13 @@ fn write_step<C: SrtpCipher>(
     time: Instant,
     write: &Write,
 ) -> Result<(), StepError>
-    ensures ready { OnOk result ((seal : Sealing) (setup : Given) (steps : List Act)
-        (entries : List Happening) → Played seal setup steps entries → IsSound setup
-        → Ready C.meaning setup side end.old entries
-        → Ready C.meaning setup side end.new (entries ++ Wrote side time write.now ∷ [])) }
-    ensures valid { OnOk result ((setup : Given) (entries : List Happening)
-        → Ready C.meaning setup side end.old entries
+    ensures ready { OnOk result ((setup : Given) (a : Plain) → ReadyAt C.meaning setup side end.old a log.old time
+        → TurnsOn C.meaning setup side a end.new log.old (Wrote side time write.now ∷ [])) }
+    ensures valid { OnOk result ((setup : Given) (a : Plain) (entries : List Happening)
+        → Ready C.meaning setup side end.old a entries
         → write_fault setup entries side write.now ≡ None) }
-    ensures refused { IfErr result (λ e. (setup : Given) (entries : List Happening)
-        → Ready C.meaning setup side end.old entries
+    ensures refused { IfErr result (λ e. (setup : Given) (a : Plain) (entries : List Happening)
+        → Ready C.meaning setup side end.old a entries
         → IsCauseAt (write_fault setup entries side write.now) e) }
     ensures wrote { OnOk result (log.new ≡ log.old ++ Wrote side time write.now ∷ []) }
     ensures unchanged { IfErr result (λ e. e ≢ StepError.Memory → log.new ≡ log.old) }
@@ -366,17 +371,18 @@ fn tick_step<C: SrtpCipher>(
     log: &mut Log,
     side: Side,
     time: Instant,
-) -> Result<(), AllocError>
+) -> Result<(), StepError>
     requires { time ≢ 0 }
-    ensures ready { OnOk result ((setup : Given) (steps : List Act) → IsSound setup
-        → Played (sealing_of C.meaning setup) setup steps log.old
-        → Ready C.meaning setup side end.old log.old
-        → IsTick (sealing_of C.meaning setup) setup side time log.old log.new
-        × Ready C.meaning setup side end.new log.new) }
+    ensures ready { OnOk result ((setup : Given) (a : Plain) → ReadyAt C.meaning setup side end.old a log.old time
+        → (sealed : List Happening) × (log.new ≡ log.old ++ Ticked side time ∷ sealed)
+        × TicksOn C.meaning setup side a end.new log.old time sealed) }
+    ensures refused { IfErr result (IsTickCause C.meaning side end.old time) }
+    ensures unchanged { IfErr result (λ e. e ≢ StepError.Memory → log.new ≡ log.old) }
     ensures longer { OnlyAdds log.old log.new }
 {
+    let datagrams = end.tick(side, time)?;
     log.push(Entry::Ticked(side, time))?;
-    end.tick(side, time, log)?;
+    log_all(side, datagrams, log)?;
     Ok(())
 }
 
@@ -391,13 +397,14 @@ fn call_step<C: SrtpCipher>(
     requires moment { time ≢ 0 }
     requires whole { length feedback.payload % 4 ≡ 0 }
     requires few { length feedback.payload ≤ 800 }
-    ensures ready { OnOk result ((setup : Given) → IsSound setup
-        → Ready C.meaning setup side end.old log.old
-        → IsCall (sealing_of C.meaning setup) setup side time feedback.sender_ssrc
-        feedback.media_ssrc feedback.payload log.old log.new
-        × Ready C.meaning setup side end.new log.new) }
-    ensures refused { IfErr result (λ e. (setup : Given) (entries : List Happening) → IsSound setup
-        → Ready C.meaning setup side end.old entries → IsSendingCause setup side entries e) }
+    ensures ready { OnOk result ((setup : Given) (a : Plain) → ReadyAt C.meaning setup side end.old a log.old time
+        → a.rtcp ≡ next_index setup side log.old
+        → (datagram : Datagram) × (log.new ≡ log.old ++ Called side time call.Application ∷ Seal (sealed_from side datagram) ∷ [])
+        × IsSealOfPacket (sealing_of C.meaning setup) setup side log.old
+        (application_packet feedback.sender_ssrc feedback.media_ssrc feedback.payload) (sealed_from side datagram)
+        × TurnsOn C.meaning setup side a end.new log.old (Called side time call.Application ∷ Seal (sealed_from side datagram) ∷ [])) }
+    ensures refused { IfErr result (λ e. (setup : Given) (a : Plain) → ReadyAt C.meaning setup side end.old a log.old time
+        → a.rtcp ≡ next_index setup side log.old → IsSendingCause setup side log.old e) }
     ensures called { IfErr result (λ e. e ≢ StepError.Memory
         → log.new ≡ log.old ++ Called side time call.Application ∷ []) }
     ensures no_rule { IfErr result (λ e. is_rule e ≡ false) }
@@ -425,10 +432,9 @@ fn receive_step<C: SrtpCipher>(
     kind: Kind,
     bytes: Bytes,
 ) -> Result<(), AllocError>
-    ensures ready { OnOk result ((setup : Given) → IsSound setup
-        → Ready C.meaning setup side end.old log.old
-        → IsArrival (sealing_of C.meaning setup) setup (got_as side time kind bytes) log.old log.new
-        × Ready C.meaning setup side end.new log.new) }
+    ensures ready { OnOk result ((setup : Given) (a : Plain) → ReadyAt C.meaning setup side end.old a log.old time
+        → (received : Option Taken) × (log.new ≡ log.old ++ Came (got_as side time kind bytes) ∷ received_entries side received)
+        × TakesIn C.meaning setup side a end.new log.old (got_as side time kind bytes) received) }
     ensures longer { OnlyAdds log.old log.new }
 {
     let received = end.receive(alloc, time, kind, bytes.as_slice())?;

@@ -2,15 +2,15 @@ ghost use Rattle.std.specs.Prelude.{◌≡◌, ◌++◌, List, [], None, IfOk, I
 ghost use Rattle.media_model.specs.declared.step.Step.{Step as Act};
 ghost use Rattle.media_model.specs.declared.setup.Setup.{Setup as Given};
 ghost use Rattle.media_play.specs.Errors.{left_by};
-ghost use Rattle.media_play.specs.Headline.{HoldsOfRun, StepsAreAnswered, SealsAreRight, NoNonceTwice, SendsWrites, YieldsWrites, NoPacketTwice, FirstSendingsAreYielded};
-ghost use Rattle.media_play.specs.Play.{Played};
+ghost use Rattle.media_laws.specs.Keys.{sealing_of};
+ghost use Rattle.media_laws.specs.Headline.{HoldsOfRun, StepsAreAnswered, SealsAreRight, NoNonceTwice, SendsWrites, YieldsWrites, NoPacketTwice, FirstSendingsAreYielded};
+ghost use Rattle.media_laws.specs.Play.{Played};
 ghost use Rattle.media_play.specs.Running.{HasCause, OfRun, run_cause};
 ghost use Rattle.setup_rules.specs.SetupRules.{setup_fault};
-ghost use Rattle.media_play.specs.Sessions.{sealing_of};
 
 use crate::fault::{PlayFault, RunError, RunFault, StepError};
-use crate::laws::holds_of_run;
 use crate::pair::Pair;
+use media_laws::laws::holds_of_run;
 use media_model::{Entry, Setup, Step, Transcript};
 use setup_rules::check_setup;
 use srtp_core::SrtpCipher;
@@ -142,7 +142,7 @@ fn play_all<C: SrtpCipher>(
     ensures played { IfOk result (λ t.
         Played (sealing_of C.meaning setup.now) setup.now steps.now t) }
     ensures cause { IfErr result (λ f.
-        HasCause (sealing_of C.meaning setup.now) setup.now steps.now f.sofar f.cause) }
+        HasCause C.meaning setup.now steps.now f.sofar f.cause) }
     ensures holds { OfRun result (HoldsOfRun (sealing_of C.meaning setup.now) setup.now) }
 {
     holds_of_run::<C>();
@@ -182,24 +182,26 @@ pub fn media_run<C: SrtpCipher>(
     ensures played { IfOk result (λ t. (setup_fault setup.now ≡ None)
         × Played (sealing_of C.meaning setup.now) setup.now steps.now t) }
     ensures cause { IfErr result (λ f.
-        HasCause (sealing_of C.meaning setup.now) setup.now steps.now f.sofar f.cause) }
+        HasCause C.meaning setup.now steps.now f.sofar f.cause) }
 
-    // A write brings nothing. A tick seals all queued writes, stream by stream. A call seals its
-    // feedback. What comes is opened exactly where it opens, and its packet yielded.
+    // A write brings nothing. A tick seals of each stream all queued writes, in order, and each kept
+    // write asked for, unless the stream is capped; and it asks for exactly the due numbers. A call seals
+    // its feedback. What comes is opened exactly where it opens, and its packet yielded.
     ensures steps { OfRun result (StepsAreAnswered (sealing_of C.meaning setup.now) setup.now) }
     // Each sealed datagram is a seal under its side's keys.
     ensures seals { OfRun result (SealsAreRight (sealing_of C.meaning setup.now) setup.now) }
     // No two datagrams of a direction share a nonce.
     ensures nonces { OfRun result NoNonceTwice }
-    // Each sealed RTP datagram carries one earlier write of its side, none twice.
+    // Each sealed RTP datagram carries one earlier write of its side, none twice, or is the repair of a
+    // write that was sent.
     ensures sendings { OfRun result (SendsWrites setup.now) }
-    // In a genuine run each packet yielded is a write of the other side; in every run none is
-    // yielded twice.
-    ensures yields { OfRun result YieldsWrites }
+    // In a genuine run whose repairs widen each packet yielded is a write of the other side; in every
+    // run none is yielded twice.
+    ensures yields { OfRun result (YieldsWrites setup.now) }
     ensures once { OfRun result NoPacketTwice }
     // The write of a delivered first sending is yielded exactly where its number widens to itself
     // and is fresh.
-    ensures exactly { OfRun result FirstSendingsAreYielded }
+    ensures exactly { OfRun result (FirstSendingsAreYielded setup.now) }
 {
     play_all(alloc, setup, cipher, steps)
 }

@@ -1,28 +1,32 @@
 // The session of a side before any step.
-ghost use Rattle.std.specs.Prelude.{◌≡◌, ◌++◌, ℕ, List, [], None, true, length, is_some, option_to_list, IfOk, OnOk};
-ghost use Rattle.std.specs.List.{AllZip, filter_map};
+ghost use Rattle.std.specs.Prelude.{◌≡◌, ◌++◌, List, [], ◌∷◌, None, true, is_none, length, filter_map, option_to_list, IfOk, OnOk};
+ghost use Rattle.std.specs.List.{AllZip};
+ghost use Rattle.std.specs.Option.{option_map};
 ghost use Rattle.srtp_core.specs.Cipher.{CipherMeaning};
 ghost use Rattle.srtp_core.specs.Keys.{material_len};
-ghost use Rattle.stream_core.specs.Repairing.{primary_type_of};
-ghost use Rattle.stream_core.specs.Tables.{place_of};
+ghost use Rattle.rtx_core.specs.Resends.{recached};
+ghost use Rattle.stream_core.specs.StreamsRecord.{StreamsRecord, with_stream_rx, with_stream_tx};
+ghost use Rattle.stream_core.specs.Tables.{change_at};
 ghost use Rattle.session_core.specs.Sending.{has_mid};
 ghost use Rattle.media_model.specs.declared.entry.Side.{Side as Party};
+ghost use Rattle.media_model.specs.declared.setup.Cache.{Cache as Kept};
 ghost use Rattle.media_model.specs.declared.setup.Setup.{Setup as Given};
-ghost use Rattle.media_model.specs.Setup.{material_of, types_of, streams_of, streams_in, main_in};
+ghost use Rattle.media_model.specs.Setup.{material_of, streams_of, types_of};
 ghost use Rattle.media_model.specs.Sides.{peer_of};
+ghost use Rattle.run_model.specs.Events.{Outgoing};
+ghost use Rattle.run_model.specs.Listing.{NoRepeat};
+ghost use Rattle.run_model.specs.Transcripts.{outgoing_in};
+ghost use Rattle.media_laws.specs.Keys.{is_left};
 ghost use Rattle.media_play.specs.Knowing.{UsedAs};
-ghost use Rattle.media_play.specs.Listing.{NoRepeat};
-ghost use Rattle.media_play.specs.Rules.{has};
-ghost use Rattle.media_play.specs.Sessions.{is_left};
 ghost use Rattle.setup_rules.specs.SetupRules.{is_mtu, setup_fault};
-ghost use Rattle.media_play.specs.Starting.{Starts};
+ghost use Rattle.media_play.specs.Starting.{IsRow, AreOnce, outgoing_at, StreamsChange, Starts, IsStarted};
 
 use crate::numbers::Numbers;
 use mask_register::MaskRegister;
 use media_base::Bytes;
-use media_model::{Media, MediaKind, Setup, Side, Stream};
+use media_model::{Cache, FirstNumber, Media, MediaKind, Setup, Side, Stream};
 use queue_store::QueueStore;
-use rtp_wire::{Frequency, Mid, MidRid};
+use rtp_wire::{Frequency, Mid, MidRid, SeqNo, Ssrc};
 use session_core::{Media as Section, MediaKind as SectionKind, Mtu, Session, SessionConfig};
 use srtp_core::{KeyingMaterial, SrtpCipher};
 use std::alloc::{AllocError, Global};
@@ -30,9 +34,8 @@ use stream_core::{PayloadTypes, Sent, TypeRow};
 
 /// The payload types of a setup. The clock of one without a rate has ticks of 1 s.
 fn payload_types(alloc: Global, setup: &Setup) -> Result<PayloadTypes, AllocError>
-    ensures types { IfOk result (λ types. (pt : ℕ)
-        → is_some (place_of pt types) ≡ has (types_of setup.now) pt) }
-    ensures plain { IfOk result (λ types. (pt : ℕ) → primary_type_of types pt ≡ None) }
+    requires { NoRepeat (types_of setup.now) }
+    ensures { IfOk result (λ types. AllZip IsRow types setup.now.types) }
 {
     let mut types = PayloadTypes::new(alloc);
     for row in setup.types.as_slice() {
@@ -40,7 +43,7 @@ fn payload_types(alloc: Global, setup: &Setup) -> Result<PayloadTypes, AllocErro
         types.add(TypeRow {
             pt: row.pt,
             clock,
-            rtx: None,
+            rtx: row.rtx,
         })?;
     }
     Ok(types)
@@ -80,6 +83,7 @@ fn with_keys<C: SrtpCipher>(
 ) -> Result<Session<C, MaskRegister, QueueStore<Sent>>, AllocError>
     requires key { length (material_of setup.now) ≡ material_len setup.now.profile }
     requires mtu { is_mtu setup.now.mtu ≡ true }
+    requires types { NoRepeat (types_of setup.now) }
     ensures { IfOk result (Starts C.meaning setup.now side [] []) }
 {
     let material = KeyingMaterial::new(alloc, &setup.material(alloc)?)?;
@@ -105,53 +109,103 @@ fn with_keys<C: SrtpCipher>(
     }
 }
 
-/// Has a session of a side send or receive a stream of a media section.
+/// Has a session send a stream of a media section. Its repairs, if it has them, begin with a number.
+fn declare<C: SrtpCipher>(
+    session: &mut Session<C, MaskRegister, QueueStore<Sent>>,
+    mid: Mid,
+    stream: &Stream,
+    first: FirstNumber,
+) -> Result<(), AllocError>
+    ensures stands { OnOk result (StreamsChange
+        (with_stream_tx stream.now.ssrc (option_map (λ ssrc. (ssrc, first)) stream.now.rtx) mid stream.now.rid)
+        session.old session.new) }
+    ensures medias { session.new.state.medias ≡ session.old.state.medias }
+{
+    let rtx = match stream.rtx {
+        Some(ssrc) => Some((ssrc, SeqNo::from(first.get()))),
+        None => None,
+    };
+    let place = MidRid(mid, stream.rid);
+    session.streams().declare_stream_tx(stream.ssrc, rtx, place)
+}
+
+/// Has a session keep what it sends on a stream, to send it again.
+fn keep<C: SrtpCipher>(
+    session: &mut Session<C, MaskRegister, QueueStore<Sent>>,
+    ssrc: Ssrc,
+    cache: Cache,
+) -> Result<(), AllocError>
+    ensures stands { OnOk result (StreamsChange
+        (λ s. record s { repairs = change_at ssrc (recached cache.packets cache.age cache.cap) s.repairs })
+        session.old session.new) }
+    ensures medias { session.new.state.medias ≡ session.old.state.medias }
+{
+    session
+        .streams()
+        .set_rtx_cache(ssrc, cache.packets as usize, cache.age, cache.cap)
+}
+
+/// Has a session receive a stream of a media section. Without repairs (RFC 4588) it asks for nothing that
+/// is missing.
+fn expect<C: SrtpCipher>(
+    session: &mut Session<C, MaskRegister, QueueStore<Sent>>,
+    mid: Mid,
+    stream: &Stream,
+) -> Result<(), AllocError>
+    ensures stands { OnOk result (StreamsChange
+        (with_stream_rx stream.now.ssrc stream.now.rtx mid stream.now.rid (is_none stream.now.rtx))
+        session.old session.new) }
+    ensures medias { session.new.state.medias ≡ session.old.state.medias }
+{
+    let place = MidRid(mid, stream.rid);
+    session
+        .streams()
+        .expect_stream_rx(stream.ssrc, stream.rtx, place, stream.rtx.is_none())
+}
+
+/// Has a session of a side of a setup send or receive a stream of a media section.
 fn add_stream<C: SrtpCipher>(
     session: &mut Session<C, MaskRegister, QueueStore<Sent>>,
+    setup: &Setup,
     side: Side,
     mid: Mid,
     stream: &Stream,
 ) -> Result<(), AllocError>
-    ensures starts { OnOk result ((cipher : CipherMeaning) (setup : Given)
-        (sent received : List ℕ)
+    ensures starts { OnOk result ((cipher : CipherMeaning) (sent received : List Outgoing)
         → has_mid mid session.old.state.medias ≡ true
-        → NoRepeat (sent ++ option_to_list (main_in side stream.now))
-        → NoRepeat (received ++ option_to_list (main_in (peer_of side) stream.now))
-        → Starts cipher setup side sent received session.old
-        → Starts cipher setup side (sent ++ option_to_list (main_in side stream.now))
-        (received ++ option_to_list (main_in (peer_of side) stream.now)) session.new) }
+        → AreOnce (sent ++ option_to_list (outgoing_in setup.now side stream.now))
+        → AreOnce (received ++ option_to_list (outgoing_in setup.now (peer_of side) stream.now))
+        → Starts cipher setup.now side sent received session.old
+        → Starts cipher setup.now side (sent ++ option_to_list (outgoing_in setup.now side stream.now))
+        (received ++ option_to_list (outgoing_in setup.now (peer_of side) stream.now)) session.new) }
     ensures medias { session.new.state.medias ≡ session.old.state.medias }
 {
-    let place = MidRid(mid, stream.rid);
     if stream.side == side {
-        session
-            .streams()
-            .declare_stream_tx(stream.ssrc, None, place)
+        declare(session, mid, stream, setup.start(stream.ssrc))?;
+        keep(session, stream.ssrc, setup.cache(stream.ssrc))
     } else {
-        // Without repairs (RFC 4588) it asks for nothing that is missing.
-        session
-            .streams()
-            .expect_stream_rx(stream.ssrc, None, place, true)
+        expect(session, mid, stream)
     }
 }
 
 /// The same with all of these, in order.
 fn add_streams<C: SrtpCipher>(
     session: &mut Session<C, MaskRegister, QueueStore<Sent>>,
+    setup: &Setup,
     side: Side,
     mid: Mid,
     streams: &[Stream],
 ) -> Result<(), AllocError>
-    ensures { OnOk result ((cipher : CipherMeaning) (setup : Given) (sent received : List ℕ)
+    ensures { OnOk result ((cipher : CipherMeaning) (sent received : List Outgoing)
         → has_mid mid session.old.state.medias ≡ true
-        → NoRepeat (sent ++ filter_map (main_in side) streams.now)
-        → NoRepeat (received ++ filter_map (main_in (peer_of side)) streams.now)
-        → Starts cipher setup side sent received session.old
-        → Starts cipher setup side (sent ++ filter_map (main_in side) streams.now)
-        (received ++ filter_map (main_in (peer_of side)) streams.now) session.new) }
+        → AreOnce (sent ++ filter_map (outgoing_in setup.now side) streams.now)
+        → AreOnce (received ++ filter_map (outgoing_in setup.now (peer_of side)) streams.now)
+        → Starts cipher setup.now side sent received session.old
+        → Starts cipher setup.now side (sent ++ filter_map (outgoing_in setup.now side) streams.now)
+        (received ++ filter_map (outgoing_in setup.now (peer_of side)) streams.now) session.new) }
 {
     for stream in streams {
-        add_stream(session, side, mid, stream)?;
+        add_stream(session, setup, side, mid, stream)?;
     }
     Ok(())
 }
@@ -160,20 +214,21 @@ fn add_streams<C: SrtpCipher>(
 fn add_media<C: SrtpCipher>(
     alloc: Global,
     session: &mut Session<C, MaskRegister, QueueStore<Sent>>,
+    setup: &Setup,
     side: Side,
     media: &Media,
 ) -> Result<(), AllocError>
-    ensures { OnOk result ((cipher : CipherMeaning) (setup : Given) (sent received : List ℕ)
-        → NoRepeat (sent ++ streams_in side media.now)
-        → NoRepeat (received ++ streams_in (peer_of side) media.now)
-        → Starts cipher setup side sent received session.old
-        → Starts cipher setup side (sent ++ streams_in side media.now)
-        (received ++ streams_in (peer_of side) media.now) session.new) }
+    ensures { OnOk result ((cipher : CipherMeaning) (sent received : List Outgoing)
+        → AreOnce (sent ++ outgoing_at setup.now side media.now)
+        → AreOnce (received ++ outgoing_at setup.now (peer_of side) media.now)
+        → Starts cipher setup.now side sent received session.old
+        → Starts cipher setup.now side (sent ++ outgoing_at setup.now side media.now)
+        (received ++ outgoing_at setup.now (peer_of side) media.now) session.new) }
 {
     let cname = Bytes::from_slice(alloc, media.cname.as_slice())?;
     let section = Section::new(media.mid, section_kind(media.kind), cname);
     match session.add_media(section) {
-        Ok(()) => add_streams(session, side, media.mid, media.streams.as_slice()),
+        Ok(()) => add_streams(session, setup, side, media.mid, media.streams.as_slice()),
         Err(_) => Err(AllocError),
     }
 }
@@ -186,12 +241,11 @@ pub fn start<C: SrtpCipher>(
     side: Side,
 ) -> Result<Session<C, MaskRegister, QueueStore<Sent>>, AllocError>
     requires { setup_fault setup.now ≡ None }
-    ensures { IfOk result (Starts C.meaning setup.now side
-        (streams_of side setup.now) (streams_of (peer_of side) setup.now)) }
+    ensures { IfOk result (IsStarted C.meaning setup.now side) }
 {
     let mut session = with_keys(alloc, cipher, setup, side)?;
     for media in setup.media.as_slice() {
-        add_media(alloc, &mut session, side, media)?;
+        add_media(alloc, &mut session, setup, side, media)?;
     }
     Ok(session)
 }

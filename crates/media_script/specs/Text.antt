@@ -9,8 +9,7 @@ use Rattle.media_model.specs.declared.entry.Sealed.{Sealed as SealedEntry}
 use Rattle.media_model.specs.declared.entry.Opened.{Opened as OpenedEntry}
 use Rattle.media_model.specs.declared.entry.Entry.{Entry}
 use Rattle.media_model.specs.declared.entry.Entry.TheVariants.{Wrote, Ticked, Called, Sealed, Got, Opened, Yielded}
-use Rattle.media_model.specs.declared.setup.Setup.{Setup}
-use Rattle.media_model.specs.Genuine.{is_genuine, repairs_widen}
+use Rattle.media_model.specs.Genuine.{is_genuine}
 use Rattle.media_script.specs.Names.{side_text, kind_text, call_text, flag_text}
 
 -- two digits of a byte
@@ -62,6 +61,6 @@ answer_text true = codes "yes"
 abbrev pub end_text : Bool → Bool → List ℕ
 end_text genuine repairs = codes "end genuine=" ++ (answer_text genuine ++ (codes " repairs=" ++ (answer_text repairs ++ codes "\n")))
 
--- the text of a run that was played to its end
-abbrev pub text_of : Setup → List Entry → List ℕ
-text_of setup entries = entries_text entries ++ end_text (is_genuine entries) (repairs_widen setup entries)
+-- the text of a run that was played to its end, and whether its repairs widen
+abbrev pub text_of : Bool → List Entry → List ℕ
+text_of repairs entries = entries_text entries ++ end_text (is_genuine entries) repairs

@@ -3,7 +3,7 @@ ghost use Rattle.std.specs.Prelude.{◌≡◌, ◌++◌, IfOk, OnOk, string_byte
 ghost use Rattle.media_script.specs.Names.{side_text, kind_text, call_text, flag_text};
 ghost use Rattle.media_script.specs.Text.{hex_text, answer_text, got_text, sealed_text, opened_text, yielded_text, line_text, entries_text, end_text, text_of};
 
-use media_model::{Call, Entry, Got, Kind, Opened, Packet, Sealed, Setup, Side, Transcript};
+use media_model::{Call, Entry, Got, Kind, Opened, Packet, Sealed, Side, Transcript};
 use std::alloc::{AllocError, Global};
 use std::fmt::Write;
 
@@ -156,16 +156,15 @@ pub fn put_end(text: &mut String, genuine: bool, repairs: bool) -> Result<(), Al
     writeln!(text, "end genuine={genuine} repairs={repairs}")
 }
 
-/// The text of a run that was played to its end.
+/// The text of a run that was played to its end, of which the caller says whether its repairs widen.
 pub fn write_transcript(
     alloc: Global,
-    setup: &Setup,
+    repairs: bool,
     transcript: &Transcript,
 ) -> Result<String, AllocError>
-    ensures { IfOk result (λ text. string_bytes text ≡ text_of setup.now transcript.now) }
+    ensures { IfOk result (λ text. string_bytes text ≡ text_of repairs transcript.now) }
 {
     let genuine = transcript.genuine(alloc)?;
-    let repairs = transcript.repairs_widen(alloc, setup)?;
     let mut text = entries_text(alloc, transcript.entries())?;
     put_end(&mut text, genuine, repairs)?;
     Ok(text)

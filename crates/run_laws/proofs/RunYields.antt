@@ -30,7 +30,7 @@ use Rattle.run_laws.proofs.RxTracks.{rx_tracks}
 
 -- sides
 
-same_self : (s : Side) → same_side s s ≡ true
+pub same_self : (s : Side) → same_side s s ≡ true
 same_self A = refl
 same_self B = refl
 
@@ -42,11 +42,11 @@ pub own_other : (s : Side) → same_side s (peer_of s) ≡ false
 own_other A = refl
 own_other B = refl
 
-events_own : (s : Side) (new : List Event) → events_of s (on_side s new) ≡ new
+pub events_own : (s : Side) (new : List Event) → events_of s (on_side s new) ≡ new
 events_own s [] = refl
 events_own s (e ∷ new) = rw (same_self s) (ap (λ es. e ∷ es) (events_own s new))
 
-events_none : (s r : Side) (new : List Event) → same_side s r ≡ false → events_of s (on_side r new) ≡ []
+pub events_none : (s r : Side) (new : List Event) → same_side s r ≡ false → events_of s (on_side r new) ≡ []
 events_none s r [] other = refl
 events_none s r (e ∷ new) other = rw other (events_none s r new other)
 

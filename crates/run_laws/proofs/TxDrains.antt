@@ -18,20 +18,20 @@ use Rattle.run_laws.proofs.TxTracks.{Follows, follows_send, follows_repair, same
 abbrev pub plain_of : Write → ℕ × Plain
 plain_of w = (w.number, sending_of w)
 
-rtx_other : (L : Outgoing) (x : ℕ) → IsApart L → L.rtx ≡ Some x → eqb x L.ssrc ≡ false
+pub rtx_other : (L : Outgoing) (x : ℕ) → IsApart L → L.rtx ≡ Some x → eqb x L.ssrc ≡ false
 rtx_other L x apart is = subst (λ o. is_just L.ssrc o ≡ false) is apart
 
 module _ (L : Outgoing) (bytes : List ℕ) (events : List Event) where
   first-send : (w : Write) → first_sendings L.ssrc (sealed L.ssrc w.number (sending_of w) bytes ∷ events) ≡ plain_of w ∷ first_sendings L.ssrc events
   first-send w = let here : eqb L.ssrc L.ssrc ≡ true = eq-eqb L.ssrc L.ssrc refl in rw here refl
 
-  repair-send : (n : ℕ) (p : Plain) → IsApart L → repairs L (sealed L.ssrc n p bytes ∷ events) ≡ repairs L events
+  pub repair-send : (n : ℕ) (p : Plain) → IsApart L → repairs L (sealed L.ssrc n p bytes ∷ events) ≡ repairs L events
   repair-send n p apart = rw apart refl
 
   first-repair : (x n : ℕ) (p : Plain) → eqb x L.ssrc ≡ false → first_sendings L.ssrc (sealed x n p bytes ∷ events) ≡ first_sendings L.ssrc events
   first-repair x n p is = rw is refl
 
-  repair-repair : (x n pt : ℕ) (w : Write) → L.rtx ≡ Some x → repairs L (sealed x n (repair_of pt w) bytes ∷ events) ≡ (n, repair_of pt w) ∷ repairs L events
+  pub repair-repair : (x n pt : ℕ) (w : Write) → L.rtx ≡ Some x → repairs L (sealed x n (repair_of pt w) bytes ∷ events) ≡ (n, repair_of pt w) ∷ repairs L events
   repair-repair x n pt w is =
       let here : is_just x L.rtx ≡ true = subst (λ o. is_just x o ≡ true) (sym is) (eq-eqb x x refl) in
       rw here refl

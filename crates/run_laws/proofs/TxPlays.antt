@@ -62,7 +62,7 @@ first_other : (L : Outgoing) (e : Event) → is_of L e ≡ false → sending_on 
 first_other L (sealed ssrc n p bytes) other = rw ((not_of (eqb ssrc L.ssrc) (is_just ssrc L.rtx) other).0) refl
 first_other L _ other = refl
 
-repair_other : (L : Outgoing) (e : Event) → is_of L e ≡ false → repair_on L e ≡ []
+pub repair_other : (L : Outgoing) (e : Event) → is_of L e ≡ false → repair_on L e ≡ []
 repair_other L (sealed ssrc n p bytes) other = rw ((not_of (eqb ssrc L.ssrc) (is_just ssrc L.rtx) other).1) refl
 repair_other L _ other = refl
 
@@ -75,7 +75,7 @@ fold_share L (e ∷ new) s all =
       | inr other ↦ rw other (ap (λ z. fold (sending_step L.ssrc) z new) (step_other L s e parts.0 other) ∙ fold_share L new s parts.1)
     ]
 
-reading_share : {X : Type 0} (f : Event → List X) (L : Outgoing) → ((e : Event) → is_of L e ≡ false → f e ≡ []) → (new : List Event) → flat_map f new ≡ flat_map f (filter (is_of L) new)
+pub reading_share : {X : Type 0} (f : Event → List X) (L : Outgoing) → ((e : Event) → is_of L e ≡ false → f e ≡ []) → (new : List Event) → flat_map f new ≡ flat_map f (filter (is_of L) new)
 reading_share f L out [] = refl
 reading_share f L out (e ∷ new) =
     elim (tested (is_of L e)) [

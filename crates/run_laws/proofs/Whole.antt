@@ -132,7 +132,7 @@ away_in L [] M h i = absurd i
 away_in L (N ∷ Ls) M h (inl e) = λ ssrc mine. ap (λ (K : Incoming). concerns K ssrc) e ∙ h.0 ssrc mine
 away_in L (N ∷ Ls) M h (inr i) = away_in L Ls M h.1 i
 
-data RxSteps (S : RxSetup) (peer : Sealing) (new : List Event) : List (Incoming × RxRecord) → List (Incoming × RxRecord) → Type 0 where
+pub data RxSteps (S : RxSetup) (peer : Sealing) (new : List Event) : List (Incoming × RxRecord) → List (Incoming × RxRecord) → Type 0 where
   no_streams : RxSteps S peer new [] []
   and_stream : {xs ys : List (Incoming × RxRecord)} {x y : RxRecord} (L : Incoming) → RxStep S.types L peer S.threshold x y new → RxSteps S peer new xs ys → RxSteps S peer new ((L, x) ∷ xs) ((L, y) ∷ ys)
 
@@ -194,7 +194,7 @@ pass_streams : {S : RxSetup} {peer : Sealing} (new : List Event) → ((L : Incom
 pass_streams new aside [] = no_streams
 pass_streams new aside (t ∷ table) = and_stream t.0 (rx_passes new (aside t.0)) (pass_streams new aside table)
 
-turn_streams : {C : Config} {side : Side} {a b : Session} {new : List Event} → Turns C side a b new → AreAway (mains a.rx.table) → RxSteps (setup_of C side) (C.seals (peer_of side)) new a.rx.table b.rx.table
+pub turn_streams : {C : Config} {side : Side} {a b : Session} {new : List Event} → Turns C side a b new → AreAway (mains a.rx.table) → RxSteps (setup_of C side) (C.seals (peer_of side)) new a.rx.table b.rx.table
 turn_streams {a = a} (writes time w late unused) apart = pass_streams (wrote time w ∷ []) (λ L. (tt, tt)) a.rx.table
 turn_streams {a = a} (ticks time new next late d f count) apart = tick_streams time _ _ new (drain_seals d) a.rx.table
 turn_streams {C} {side} {a} (opens time bytes ssrc n p s late i o) apart = opened_steps (setup_of C side) (C.seals (peer_of side)) time bytes ssrc n p s o a.rx.table i apart
@@ -288,7 +288,7 @@ runs_yield_writes C a b entries sound h genuine widens side M i =
     streams_yield_writes C.types (C.seals (peer_of side)) C.threshold side M (incoming_of M) r.0 r.1 entries (sound.seals (peer_of side)) sound.types refl
     (apart_in (C.outgoing (peer_of side)) M (sound.apart (peer_of side)) i) r.2 genuine (widens side M i)
 
-half_of : {C : Config} {a b : Session} {entries : List Happening} → Played C a b entries → (side : Side) → Half C side (session_of side a b) (events_of side entries)
+pub half_of : {C : Config} {a b : Session} {entries : List Happening} → Played C a b entries → (side : Side) → Half C side (session_of side a b) (events_of side entries)
 half_of h A = half_a h
 half_of h B = half_b h
 

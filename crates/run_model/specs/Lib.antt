@@ -12,5 +12,6 @@ pub mod Tables
 pub mod Asking
 pub mod Whole
 pub mod Transcripts
+pub mod Widening
 pub mod Capping
 pub mod Example

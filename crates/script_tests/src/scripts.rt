@@ -1,6 +1,6 @@
 use media_base::{Bytes, Duration, Instant, Listed};
 use media_model::*;
-use media_script::{ScriptError, entries_text, read_script, write_transcript};
+use media_script::{ScriptError, end_line, entries_text, read_script, write_transcript};
 use rtp_wire::{Extension, Pt, SeqNo, Ssrc};
 use srtp_core::SrtpProfile;
 use std::alloc::Global;
@@ -649,10 +649,6 @@ fn surface_ample(rt: HostRuntime) -> Result<(), Fail> {
         [Ssrc::from(7), Ssrc::from(4_294_967_295)].as_slice()
     );
     assert_eq!(rt;
-        setup.repairs(alloc)?.as_slice(),
-        [Ssrc::from(0)].as_slice()
-    );
-    assert_eq!(rt;
         setup.types(alloc)?.as_slice(),
         [Pt::from(96), Pt::from(255), Pt::from(97)].as_slice()
     );
@@ -662,15 +658,16 @@ fn surface_ample(rt: HostRuntime) -> Result<(), Fail> {
     );
     let transcript = one_opened(alloc)?;
     assert!(rt; transcript.genuine(alloc)?);
-    assert!(rt; transcript.repairs_widen(alloc, &setup)?);
     let lines =
         "called A app\nsealed A rtp 42 1 0102\ngot B rtp 2\nopened B rtp 42 1\nyielded B 42 1 96 0 0 01\n";
     let text = entries_text(alloc, transcript.entries())?;
     assert_eq!(rt; text.as_str(), lines);
-    let whole = write_transcript(alloc, &setup, &transcript)?;
+    let whole = write_transcript(alloc, true, &transcript)?;
     assert_eq!(rt;
         whole.as_str().strip_prefix(lines),
         Some("end genuine=yes repairs=yes\n")
     );
+    let last = end_line(alloc, false, &transcript)?;
+    assert_eq!(rt; last.as_str(), "end genuine=yes repairs=no\n");
     Ok(())
 }

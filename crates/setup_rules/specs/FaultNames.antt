@@ -1,7 +1,7 @@
 -- The names of the rules that setups break.
 use Rattle.std.specs.Prelude.{ℕ, List, codes}
 use Rattle.setup_rules.specs.declared.fault.SetupFault.{SetupFault}
-use Rattle.setup_rules.specs.declared.fault.SetupFault.TheVariants.{KeyLength, Mtu, Times, ExtId, TypeTwice, SsrcZero, SsrcTwice, RidTwice, CacheSize, RtxLater}
+use Rattle.setup_rules.specs.declared.fault.SetupFault.TheVariants.{KeyLength, Mtu, Times, ExtId, TypeTwice, SsrcZero, SsrcTwice, RidTwice, CacheSize}
 
 abbrev pub setup_fault_name : SetupFault → List ℕ
 setup_fault_name KeyLength = codes "KeyLength"
@@ -13,4 +13,3 @@ setup_fault_name SsrcZero = codes "SsrcZero"
 setup_fault_name SsrcTwice = codes "SsrcTwice"
 setup_fault_name RidTwice = codes "RidTwice"
 setup_fault_name CacheSize = codes "CacheSize"
-setup_fault_name RtxLater = codes "RtxLater"

@@ -1,10 +1,9 @@
 -- The rules of a setup, and the first one that it breaks.
-use Rattle.std.specs.Prelude.{ℕ, Bool, true, false, not, ◌||◌, ◌&&◌, ◌==◌, ◌^◌, nat_lt, nat_le, List, [], ◌∷◌, ◌++◌, length, option_to_list, Option, Some, None, is_some, if◌then◌else◌}
+use Rattle.std.specs.Prelude.{ℕ, Bool, true, false, not, ◌||◌, ◌&&◌, ◌==◌, ◌^◌, nat_lt, nat_le, List, [], ◌∷◌, ◌++◌, length, option_to_list, Option, Some, None, if◌then◌else◌}
 use Rattle.std.specs.List.{flat_map, list_any}
 use Rattle.std.specs.Str.{bytes_eq}
 use Rattle.rtp_wire.specs.Extensions.{extension_number}
 use Rattle.media_model.specs.declared.setup.NamedExtension.{NamedExtension}
-use Rattle.media_model.specs.declared.setup.PayloadType.{PayloadType}
 use Rattle.media_model.specs.declared.setup.Stream.{Stream}
 use Rattle.media_model.specs.declared.setup.NamedCache.{NamedCache}
 use Rattle.media_model.specs.declared.setup.Media.{Media}
@@ -14,7 +13,7 @@ use Rattle.srtp_core.specs.Keys.{material_len}
 use Rattle.media_model.specs.Setup.{material_of, claimed_of, is_extension_id}
 use Rattle.media_model.specs.Sides.{same_side}
 use Rattle.setup_rules.specs.declared.fault.SetupFault.{SetupFault}
-use Rattle.setup_rules.specs.declared.fault.SetupFault.TheVariants.{KeyLength, Mtu as MtuRule, Times, ExtId, TypeTwice, SsrcZero, SsrcTwice, RidTwice, CacheSize, RtxLater}
+use Rattle.setup_rules.specs.declared.fault.SetupFault.TheVariants.{KeyLength, Mtu as MtuRule, Times, ExtId, TypeTwice, SsrcZero, SsrcTwice, RidTwice, CacheSize}
 
 -- a number stands in a list
 abbrev pub has : List ℕ → ℕ → Bool
@@ -91,23 +90,11 @@ has_size named = nat_le 1 named.cache.packets && nat_le named.cache.packets 3200
 abbrev pub any_size_wrong : List NamedCache → Bool
 any_size_wrong caches = list_any (λ (n : NamedCache). not (has_size n)) caches
 
-abbrev pub has_rtx : Stream → Bool
-has_rtx stream = is_some stream.rtx
-
-abbrev pub is_repaired : PayloadType → Bool
-is_repaired t = is_some t.rtx
-
--- a stream has an SSRC of repairs, or a payload type one of repairs
-abbrev pub any_repairs : Setup → Bool
-any_repairs setup =
-    list_any (λ (m : Media). list_any has_rtx m.streams) setup.media || list_any is_repaired setup.types
-
--- the rules of media, their streams and repairs
+-- the rules of media, their streams and caches
 abbrev pub media_rules : Setup → List (Bool × SetupFault)
 media_rules setup =
     (any_mid_again setup.media || list_any (λ (m : Media). any_rid_again m.streams) setup.media, RidTwice)
-    ∷ (any_size_wrong setup.caches, CacheSize)
-    ∷ (any_repairs setup, RtxLater) ∷ []
+    ∷ (any_size_wrong setup.caches, CacheSize) ∷ []
 
 -- the rules of a setup, in their order
 abbrev pub setup_rules : Setup → List (Bool × SetupFault)

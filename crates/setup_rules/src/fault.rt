@@ -37,9 +37,6 @@ pub enum SetupFault {
     /// A cache has no packets, or more than 32,000.
     #[error("a cache has no packets or more than 32,000")]
     CacheSize,
-    /// A stream has an RTX SSRC, or a payload type one of repairs, which runs do not support yet.
-    #[error("a stream or a payload type has repairs, which runs do not support yet")]
-    RtxLater,
 }
 
 impl SetupFault {
@@ -57,7 +54,6 @@ impl SetupFault {
             SetupFault::SsrcTwice => "SsrcTwice",
             SetupFault::RidTwice => "RidTwice",
             SetupFault::CacheSize => "CacheSize",
-            SetupFault::RtxLater => "RtxLater",
         }
     }
 }

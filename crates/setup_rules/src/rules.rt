@@ -4,10 +4,10 @@ ghost use Rattle.std.specs.List.{list_any, flat_map};
 ghost use Rattle.srtp_core.specs.Keys.{material_len};
 ghost use Rattle.media_model.specs.Setup.{material_of, claimed_of};
 ghost use Rattle.setup_rules.specs.SetupRules.{has};
-ghost use Rattle.setup_rules.specs.SetupRules.{repeats, clash, any_ext_wrong, both_of, all_ssrcs, is_mtu, is_beyond, any_mid_again, rids_meet, meets, any_rid_again, is_old, any_size_wrong, has_rtx, is_repaired, any_repairs, media_fault, setup_fault};
+ghost use Rattle.setup_rules.specs.SetupRules.{repeats, clash, any_ext_wrong, both_of, all_ssrcs, is_mtu, is_beyond, any_mid_again, rids_meet, meets, any_rid_again, is_old, any_size_wrong, media_fault, setup_fault};
 
 use crate::fault::SetupFault;
-use media_model::{Media, Mtu, NamedCache, NamedExtension, PayloadType, Setup, Stream};
+use media_model::{Media, Mtu, NamedCache, NamedExtension, Setup, Stream};
 use rtp_wire::{Mid, Pt, Rid};
 use std::alloc::{AllocError, Global};
 
@@ -177,22 +177,10 @@ fn any_rid_again(streams: &[Stream]) -> bool
     false
 }
 
-fn any_rtx(streams: &[Stream]) -> bool
-    ensures { result ≡ list_any has_rtx streams.now }
-{
-    streams.iter().any(|stream| stream.rtx.is_some())
-}
-
 fn any_media_rid_again(media: &[Media]) -> bool
     ensures { result ≡ list_any (λ m. any_rid_again m.streams) media.now }
 {
     media.iter().any(|m| any_rid_again(m.streams.as_slice()))
-}
-
-fn any_media_rtx(media: &[Media]) -> bool
-    ensures { result ≡ list_any (λ m. list_any has_rtx m.streams) media.now }
-{
-    media.iter().any(|m| any_rtx(m.streams.as_slice()))
 }
 
 fn any_size_wrong(caches: &[NamedCache]) -> bool
@@ -201,19 +189,7 @@ fn any_size_wrong(caches: &[NamedCache]) -> bool
     caches.iter().any(|named| named.cache.packets < 1 || named.cache.packets > MOST_PACKETS)
 }
 
-fn any_type_repaired(types: &[PayloadType]) -> bool
-    ensures { result ≡ list_any is_repaired types.now }
-{
-    types.iter().any(|payload_type| payload_type.rtx.is_some())
-}
-
-fn any_repairs(setup: &Setup) -> bool
-    ensures { result ≡ any_repairs setup.now }
-{
-    any_media_rtx(setup.media.as_slice()) || any_type_repaired(setup.types.as_slice())
-}
-
-/// The first rule of media, their streams and repairs that a setup breaks.
+/// The first rule of media, their streams and caches that a setup breaks.
 fn check_media(setup: &Setup) -> Option<SetupFault>
     ensures { result ≡ media_fault setup.now }
 {
@@ -223,9 +199,6 @@ fn check_media(setup: &Setup) -> Option<SetupFault>
     }
     if any_size_wrong(setup.caches.as_slice()) {
         return Some(SetupFault::CacheSize);
-    }
-    if any_repairs(setup) {
-        return Some(SetupFault::RtxLater);
     }
     None
 }

@@ -1,54 +1,38 @@
 use Rattle.std.proofs.Common.{◌<◌, List, length, take, arith, sym, ◌∙◌, subst, ◌++◌}
 use Rattle.media_model.specs.declared.entry.Entry.{Entry}
-use Rattle.media_play.specs.Errors.{left_by}
-use Rattle.media_play.specs.Headline.{HoldsOfRun}
 use Rattle.media_model.specs.declared.step.Step.{Step}
 use Rattle.media_play.specs.declared.fault.RunError.{RunError}
+use Rattle.media_play.specs.Errors.{left_by}
 use Rattle.media_play.specs.Running.{HasCause, IsRunOf}
-use Rattle.media_play.specs.Sessions.{sealing_of}
-use Rattle.media_play.proofs.Playing.{holds_left, steps_more, none_begins, ends_at}
+use Rattle.media_play.proofs.Ending.{steps_more, none_begins, ends_at, played_of}
 use Rattle.media_play.proofs.run.play_all.Goals as goal
 
 pub returns-in-Err-clause-cause : goal.returns-in-Err-clause-cause
 returns-in-Err-clause-cause g c =
-    none_begins (sealing_of g.C.SrtpCipher.meaning c.args.setup.now) c.args.setup.now c.args.steps.now c.new-in-Err.result c.in-Err.cause
+    none_begins g.C.SrtpCipher.meaning c.args.setup.now c.args.steps.now c.new-in-Err.result c.in-Err.cause
     c.new-in-Err.ensures c.in-Err.ensures.cause
 
 pub returns-in-Err-play-clause-cause : goal.returns-in-Err-play-clause-cause
 returns-in-Err-play-clause-cause g c =
+    let K = g.C.SrtpCipher.meaning in
     let setup = c.args.setup.now in
     let steps = c.args.steps.now in
-    let seal = sealing_of g.C.SrtpCipher.meaning setup in
     let i = c.loop-i.i in
     let log = c.loop-i.run.log in
     let cause = c.in-Err-play.fault.cause in
     let within : i < length steps = omega arith in
-    let ends = ends_at seal setup steps i c.index-steps-i.result log cause c.loop-i.invariant.valid c.loop-i.invariant.played within
+    let ends = ends_at K setup steps i c.index-steps-i.result log cause c.loop-i.invariant.valid (played_of c.loop-i.invariant) within
     c.index-steps-i.is (c.in-Err-play.ensures.refused setup (take i steps) c.loop-i.invariant) in
-    subst (λ (es : List Entry). HasCause seal setup steps es c.fault_at.result.cause) (sym (c.fault_at.ensures.sofar ∙ c.in-Err-play.ensures.sofar))
-    (subst (λ (x : RunError). HasCause seal setup steps (log ++ left_by c.index-steps-i.result cause) x) (sym c.fault_at.ensures.cause) ends)
-
-pub returns-in-Err-play-clause-holds : goal.returns-in-Err-play-clause-holds
-returns-in-Err-play-clause-holds g c =
-    let setup = c.args.setup.now in
-    let steps = c.args.steps.now in
-    let seal = sealing_of g.C.SrtpCipher.meaning setup in
-    let i = c.loop-i.i in
-    let log = c.loop-i.run.log in
-    let step = c.index-steps-i.result in
-    let run = c.loop-i.invariant in
-    let laws = c.holds_of_run.ensures in
-    subst (λ (es : List Entry). HoldsOfRun seal setup es) (sym (c.fault_at.ensures.sofar ∙ c.in-Err-play.ensures.sofar))
-    (holds_left seal setup log step c.in-Err-play.fault.cause (c.in-Err-play.ensures.refused setup (take i steps) run)
-    (laws.whole setup (take i steps) log run.valid run.played) (λ side counter e. laws.exhausted setup (take i steps) log step side counter run.valid run.played e))
+    subst (λ (es : List Entry). HasCause K setup steps es c.fault_at.result.cause) (sym (c.fault_at.ensures.sofar ∙ c.in-Err-play.ensures.sofar))
+    (subst (λ (x : RunError). HasCause K setup steps (log ++ left_by c.index-steps-i.result cause) x) (sym c.fault_at.ensures.cause) ends)
 
 pub loop-i-preserved : goal.loop-i-preserved
 loop-i-preserved g c =
-    let K = g.C.SrtpCipher in
+    let K = g.C.SrtpCipher.meaning in
     let setup = c.args.setup.now in
     let steps = c.args.steps.now in
     let i = c.loop-i.i in
     let within : i < length steps = omega arith in
-    subst (λ (ss : List Step). IsRunOf K.meaning setup ss c.in-Ok-play.next)
+    subst (λ (ss : List Step). IsRunOf K setup ss c.in-Ok-play.next)
     (steps_more steps i c.index-steps-i.result within c.index-steps-i.is)
     (c.in-Ok-play.ensures.played setup (take i steps) c.loop-i.invariant).is_run

@@ -1,6 +1,6 @@
 use Rattle.std.proofs.Common.{[], ap}
 use Rattle.media_play.specs.Knowing.{UsedAs}
-use Rattle.media_play.specs.Rules.{has}
+use Rattle.media_laws.specs.Rules.{has}
 use Rattle.media_play.proofs.StartingLists.{zip_push}
 use Rattle.media_play.proofs.starting.no_numbers.Goals as goal
 

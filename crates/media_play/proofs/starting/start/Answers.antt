@@ -1,18 +1,18 @@
-use Rattle.std.proofs.Common.{List, sym, ap, subst, ◌∙◌}
+use Rattle.std.proofs.Common.{List, refl, sym, ap, subst, ◌∙◌}
 use Rattle.std.specs.List.{flat_map}
 use Rattle.std.proofs.lemmas.List.{take_all}
 use Rattle.media_model.specs.declared.entry.Side.{Side}
 use Rattle.media_model.specs.declared.setup.Media.{Media}
-use Rattle.media_model.specs.Setup.{streams_in}
 use Rattle.media_model.specs.Sides.{peer_of}
-use Rattle.media_play.specs.Listing.{NoRepeat}
-use Rattle.media_play.proofs.Soundness.{right_mtu, sound_setup, right_material}
+use Rattle.media_play.specs.Starting.{AreOnce, outgoing_at}
+use Rattle.media_play.proofs.Started.{started}
+use Rattle.media_play.proofs.StartingSetup.{facts}
 use Rattle.media_play.proofs.StartingLists.{flat_more, flat_once}
 use Rattle.media_play.proofs.StartingSteps.{starts_same}
 use Rattle.media_play.proofs.starting.start.Goals as goal
 
 pub with_keys-requires : goal.with_keys-requires
-with_keys-requires g c = record { key = right_material c.args.setup.now c.requires; mtu = right_mtu c.args.setup.now c.requires }
+with_keys-requires g c = let f = facts c.args.setup.now c.requires in record { key = f.key; mtu = f.mtu; types = f.types }
 
 pub loop-media-preserved : goal.loop-media-preserved
 loop-media-preserved g c =
@@ -21,15 +21,18 @@ loop-media-preserved g c =
     let x = c.media-item.result in
     let within = c.loop-media-test.true in
     let read = c.media-item.is in
-    let once = λ (side : Side). subst (λ (l : List Media). NoRepeat (flat_map (streams_in side) l)) (sym c.as_slice-media-items.ensures) ((sound_setup c.args.setup.now c.requires).distinct side) in
-    let own = streams_in c.args.side in
-    let others = streams_in (peer_of c.args.side) in
-    starts_same g.C.SrtpCipher.meaning c.args.setup.now c.args.side _ _ _ _ c.add_media.new.session (flat_more own xs i x within read) (flat_more others xs i x within read)
-    (c.in_ok-add_media.ensures g.C.SrtpCipher.meaning c.args.setup.now _ _ (flat_once own xs i x within read (once c.args.side)) (flat_once others xs i x within read (once (peer_of c.args.side)))
+    let setup = c.args.setup.now in
+    let once = λ (side : Side). subst (λ (l : List Media). AreOnce (flat_map (outgoing_at setup side) l)) (sym c.as_slice-media-items.ensures) ((facts setup c.requires).once side) in
+    let own = outgoing_at setup c.args.side in
+    let others = outgoing_at setup (peer_of c.args.side) in
+    starts_same g.C.SrtpCipher.meaning setup c.args.side _ _ _ _ c.add_media.new.session (flat_more own xs i x within read) (flat_more others xs i x within read)
+    (c.in_ok-add_media.ensures g.C.SrtpCipher.meaning _ _ (flat_once own xs i x within read (once c.args.side)) (flat_once others xs i x within read (once (peer_of c.args.side)))
     c.loop-media.invariant)
 
 pub returns : goal.returns
 returns g c =
+    let setup = c.args.setup.now in
     let all = take_all c.loop-media.media-index c.as_slice-media-items.result.now c.loop-media-test.false ∙ c.as_slice-media-items.ensures in
-    starts_same g.C.SrtpCipher.meaning c.args.setup.now c.args.side _ _ _ _ c.loop-media.session (ap (λ (l : List Media). flat_map (streams_in c.args.side) l) all)
-    (ap (λ (l : List Media). flat_map (streams_in (peer_of c.args.side)) l) all) c.loop-media.invariant
+    started g.C.SrtpCipher.meaning setup c.args.side c.loop-media.session ((facts setup c.requires).once c.args.side)
+    (starts_same g.C.SrtpCipher.meaning setup c.args.side _ _ _ _ c.loop-media.session (ap (λ (l : List Media). flat_map (outgoing_at setup c.args.side) l) all)
+    (ap (λ (l : List Media). flat_map (outgoing_at setup (peer_of c.args.side)) l) all) c.loop-media.invariant)

@@ -8,14 +8,14 @@ use Rattle.media_play.proofs.Knowings.{unknown_stream, known_stream, known_type,
 use Rattle.media_play.proofs.end.End.check_write.Goals as goal
 
 pub returns-in_default-clause-rule : goal.returns-in_default-clause-rule
-returns-in_default-clause-rule g c setup side entries h =
+returns-in_default-clause-rule g c setup side a entries h =
     let w = c.args.write.now in
     let place : place_of w.ssrc c.args.self.now.session.state.tx ≡ None =
     ap (λ (e : EndState). place_of w.ssrc e.session.state.tx) (sym c.self.view_is) ∙ sym (ap (place_of w.ssrc) c.streams.ensures.tx) ∙ sym c.tx_place.ensures.place ∙ c.in_default.is in
     rule_stream setup entries side w (unknown_stream h w.ssrc place)
 
 pub returns-then-not-has-clause-rule : goal.returns-then-not-has-clause-rule
-returns-then-not-has-clause-rule g c setup side entries h =
+returns-then-not-has-clause-rule g c setup side a entries h =
     let w = c.args.write.now in
     let place : place_of w.ssrc c.args.self.now.session.state.tx ≡ Some c.in-Some.place =
     ap (λ (e : EndState). place_of w.ssrc e.session.state.tx) (sym c.self.view_is) ∙ sym (ap (place_of w.ssrc) c.streams.ensures.tx) ∙ sym c.tx_place.ensures.place ∙ c.in-Some.is in
@@ -24,7 +24,7 @@ returns-then-not-has-clause-rule g c setup side entries h =
     rule_type setup entries side w (known_stream h w.ssrc c.in-Some.place place) type
 
 pub returns-then-from-ge-NUMBER_LIMIT-clause-rule : goal.returns-then-from-ge-NUMBER_LIMIT-clause-rule
-returns-then-from-ge-NUMBER_LIMIT-clause-rule g c setup side entries h =
+returns-then-from-ge-NUMBER_LIMIT-clause-rule g c setup side a entries h =
     let w = c.args.write.now in
     let place : place_of w.ssrc c.args.self.now.session.state.tx ≡ Some c.in-Some.place =
     ap (λ (e : EndState). place_of w.ssrc e.session.state.tx) (sym c.self.view_is) ∙ sym (ap (place_of w.ssrc) c.streams.ensures.tx) ∙ sym c.tx_place.ensures.place ∙ c.in-Some.is in
@@ -33,7 +33,7 @@ returns-then-from-ge-NUMBER_LIMIT-clause-rule g c setup side entries h =
     rule_number setup entries side w (known_stream h w.ssrc c.in-Some.place place) type (le-leb (2 ^ 48) w.number (omega (arith, c.from.ensures, c.if-from-ge-NUMBER_LIMIT.true)))
 
 pub returns-then-has_written-clause-rule : goal.returns-then-has_written-clause-rule
-returns-then-has_written-clause-rule g c setup side entries h =
+returns-then-has_written-clause-rule g c setup side a entries h =
     let w = c.args.write.now in
     let at = c.in-Some.place in
     let place : place_of w.ssrc c.args.self.now.session.state.tx ≡ Some at =
@@ -44,7 +44,7 @@ returns-then-has_written-clause-rule g c setup side entries h =
     rule_used setup entries side w (known_stream h w.ssrc at place) type (lt-leb (2 ^ 48) w.number (omega (arith, c.from.ensures, c.if-from-ge-NUMBER_LIMIT.false))) used
 
 pub returns-then-len-gt-MAX_PAYLOAD_LEN-clause-rule : goal.returns-then-len-gt-MAX_PAYLOAD_LEN-clause-rule
-returns-then-len-gt-MAX_PAYLOAD_LEN-clause-rule g c setup side entries h =
+returns-then-len-gt-MAX_PAYLOAD_LEN-clause-rule g c setup side a entries h =
     let w = c.args.write.now in
     let at = c.in-Some.place in
     let place : place_of w.ssrc c.args.self.now.session.state.tx ≡ Some at =
@@ -56,7 +56,7 @@ returns-then-len-gt-MAX_PAYLOAD_LEN-clause-rule g c setup side entries h =
     (lt-ltb 1400 (length w.payload) (omega (arith, c.len.ensures, c.if-len-gt-MAX_PAYLOAD_LEN.true)))
 
 pub returns-then-as_slice-gt-MAX_SOURCES-clause-rule : goal.returns-then-as_slice-gt-MAX_SOURCES-clause-rule
-returns-then-as_slice-gt-MAX_SOURCES-clause-rule g c setup side entries h =
+returns-then-as_slice-gt-MAX_SOURCES-clause-rule g c setup side a entries h =
     let w = c.args.write.now in
     let at = c.in-Some.place in
     let place : place_of w.ssrc c.args.self.now.session.state.tx ≡ Some at =
@@ -69,7 +69,7 @@ returns-then-as_slice-gt-MAX_SOURCES-clause-rule g c setup side entries h =
     (lt-ltb 15 (length w.csrc) (omega (arith, ap length c.as_slice.ensures, c.if-as_slice-gt-MAX_SOURCES.true)))
 
 pub returns-clause-rule : goal.returns-clause-rule
-returns-clause-rule g c setup side entries h =
+returns-clause-rule g c setup side a entries h =
     let w = c.args.write.now in
     let at = c.in-Some.place in
     let place : place_of w.ssrc c.args.self.now.session.state.tx ≡ Some at =

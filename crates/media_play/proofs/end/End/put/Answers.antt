@@ -8,7 +8,7 @@ use Rattle.media_play.specs.declared.numbers.Numbers.{Numbers}
 use Rattle.media_play.specs.Knowing.{IsNoted}
 use Rattle.media_play.specs.Packets.{write_at}
 use Rattle.media_play.specs.Sessions.{EndState}
-use Rattle.media_play.proofs.Knowings.{unused, ready_wrote}
+use Rattle.media_play.proofs.Putting.{turned_wrote}
 use Rattle.media_play.proofs.end.End.put.Goals as goal
 
 pub returns : goal.returns
@@ -21,10 +21,9 @@ returns g c =
     let noted : IsNoted place w.number old.written c.self.inside.written.items =
     subst (λ (l : List Numbers). IsNoted place w.number old.written l) (sym numbers) c.in_ok-note.ensures.noted in
     on_ok_weaker c.put.result
-    (λ h seal setup steps side entries played ready sound at fault.
+    (λ h setup side a entries at there fault fits.
     let is = h
     ∙ ap {A = WriteRecord} {B = EndSession} (λ x. record c.self.inside.session { state = record c.self.inside.session.state { tx = change_place (written x) c.self.inside.session.state.tx place } }) c.in_ok-packet.ensures
     ∙ ap {A = EndSession} {B = EndSession} (λ v. record v { state = record v.state { tx = change_place (written (write_at c.args.time w)) v.state.tx place } }) session in
-    ready_wrote played side c.args.time w (unused setup entries side w fault) g.C.SrtpCipher.meaning old (record { session = c.put.new.session; written = c.self.inside.written.items })
-    place sound at is noted ready)
+    turned_wrote c.writes_turn.ensures at w place (record { session = c.put.new.session; written = c.self.inside.written.items }) there fault fits is noted)
     c.put.ensures

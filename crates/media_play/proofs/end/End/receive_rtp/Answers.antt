@@ -1,42 +1,71 @@
-use Rattle.std.proofs.Common.{◌≡◌, ℕ, List, [], ◌∷◌, ◌++◌, ap, sym, subst, ◌∙◌}
-use Rattle.media_play.specs.Ends.{EndSession, SessionStands}
-use Rattle.session_core.specs.Receiving.{Receives as ReceivesHere}
-use Rattle.media_model.specs.declared.entry.Entry.{Entry}
-use Rattle.media_model.specs.declared.entry.Entry.TheVariants.{Got, Opened}
+use Rattle.std.proofs.Common.{◌≡◌, ℕ, [], ◌∷◌, List, Option, Some, None, refl, sym, ap, ◌∙◌, subst}
+use Rattle.std.specs.Option.{option_map}
 use Rattle.rtp_base.specs.declared.kind.Kind.TheVariants.{Rtp}
-use Rattle.media_play.specs.declared.numbers.Numbers.{Numbers}
-use Rattle.media_play.specs.Opening.{Receives}
-use Rattle.media_play.specs.Sessions.{EndState, Ready, sealing_of, yielded}
-use Rattle.media_play.proofs.Arrivals.{arrival_stays, arrival_gives}
+use Rattle.stream_core.specs.declared.packet.RtpPacket.{RtpPacket}
+use Rattle.session_core.specs.declared.datagram.Opened.{Opened as Opening}
+use Rattle.session_core.specs.Calls.{after_events}
+use Rattle.session_core.specs.Receiving.{Receives}
+use Rattle.session_core.specs.SessionRecord.{SessionRecord}
+use Rattle.session_turns.specs.Reading.{events_opened}
+use Rattle.media_model.specs.declared.entry.Packet.{Packet}
+use Rattle.media_model.specs.declared.entry.Entry.TheVariants.{Got}
+use Rattle.run_model.specs.Events.{got}
+use Rattle.media_laws.specs.Config.{config_of}
+use Rattle.media_laws.specs.Keys.{sealing_of}
+use Rattle.media_laws.specs.Opening.{got_as}
+use Rattle.media_play.specs.Ends.{EndSession, SessionStands}
+use Rattle.media_play.specs.Packets.{packet_told}
+use Rattle.media_play.specs.Sessions.{EndState, TakesIn, received_entries}
+use Rattle.media_play.proofs.Cutting.{keeps, told_packet}
+use Rattle.media_play.proofs.Rightly.{received_of, opened_read, no_writes_received, right_opening}
+use Rattle.media_play.proofs.Turned.{turned_quiet}
 use Rattle.media_play.proofs.end.End.receive_rtp.Goals as goal
 
 pub returns-in_default : goal.returns-in_default
-returns-in_default g c setup entries came sound rtp same ready =
-    let cipher = g.C.SrtpCipher.meaning in
+returns-in_default g c = λ setup side a entries at.
+    let K = g.C.SrtpCipher.meaning in
+    let time = c.args.time in
+    let bytes = c.args.bytes.now in
+    let ready = at.ready in
+    let r = ready.session in
+    let C = config_of (sealing_of K setup) setup in
     let view = ap (λ (e : EndState). e.session) c.self.view_is in
-    let stands : SessionStands c.self.inside.session ready.session = subst (λ (v : EndSession). SessionStands v ready.session) (sym view) ready.stands in
-    let h = c.in-Ok.ensures.received ready.session stands in
-    let received = subst (λ (l : List ℕ). ReceivesHere cipher ready.session l c.args.time h.0 c.in-Ok.opened) (sym same) h.1 in
-    let after = arrival_stays cipher setup came c.header_reads_own_bytes.ensures sound c.args.self.now entries ready c.args.time rtp received c.in_default.is in
-    let unopened : c.handle_rtp_receive.new.self ≡ c.self.inside.session = rw c.in_default.is at c.in-Ok.ensures.unopened in
-    let still : ◌≡◌ {A = EndState} (record { session = c.handle_rtp_receive.new.self; written = c.self.inside.written.items }) c.args.self.now =
-    ap {A = EndSession} {B = EndState} (λ v. record { session = v; written = c.self.inside.written.items }) unopened ∙ c.self.view_is in
-    (after.0, subst (λ (e : EndState). Ready cipher setup came.side e (entries ++ Got came ∷ [])) (sym still) after.1)
+    let stands : SessionStands c.self.inside.session r = subst (λ (v : EndSession). SessionStands v r) (sym view) ready.stands in
+    let h = c.in-Ok.ensures.received r stands in
+    let received : Receives K r bytes time h.0 None = subst (λ (o : Option Opening). Receives K r bytes time h.0 o) c.in_default.is h.1 in
+    let turn = c.opens_turn.ensures K C side r h.0 a time bytes None ready.fit ready.mirrors at.late at.early c.are_bytes.ensures received in
+    record {
+      turns = turned_quiet ready _ (after_events h.0) (Got (got_as side time Rtp bytes) ∷ []) (got time Rtp bytes ∷ []) refl (λ q. refl) refl
+          (c.take_packet-told.ensures.after h.0 h.2) (ap (λ (e : EndState). e.written) c.self.view_is) turn;
+      brought = tt;
+    }
 
 pub returns : goal.returns
-returns g c setup entries came sound rtp same ready =
-    let cipher = g.C.SrtpCipher.meaning in
+returns g c = λ setup side a entries at.
+    let K = g.C.SrtpCipher.meaning in
+    let time = c.args.time in
+    let bytes = c.args.bytes.now in
+    let ready = at.ready in
+    let r = ready.session in
+    let C = config_of (sealing_of K setup) setup in
+    let o = c.in-Some.opened in
     let view = ap (λ (e : EndState). e.session) c.self.view_is in
-    let numbers = ap (λ (e : EndState). e.written) c.self.view_is in
-    let end = c.args.self.now in
-    let told = c.in-Some.opened in
-    let packet = c.in_ok-packet_of.field-0 in
-    let final = c.take_packet-told.new.session in
-    let brought : List Entry = Opened (record { side = came.side; kind = Rtp; ssrc = told.ssrc; index = told.index; plain = told.plain }) ∷ yielded came.side packet in
-    let stands : SessionStands c.self.inside.session ready.session = subst (λ (v : EndSession). SessionStands v ready.session) (sym view) ready.stands in
-    let r = c.in-Ok.ensures.received ready.session stands in
-    let received = subst (λ (l : List ℕ). ReceivesHere cipher ready.session l c.args.time r.0 c.in-Ok.opened) (sym same) r.1 in
-    subst (λ (w : List Numbers). Receives (sealing_of cipher setup) setup entries came brought × Ready cipher setup came.side (record { session = final; written = w }) (entries ++ Got came ∷ brought))
-    (sym numbers)
-    (arrival_gives cipher setup came c.header_reads_own_bytes.ensures sound end entries ready c.args.time told final c.take_packet-told.result packet rtp
-    received c.in-Some.is (c.take_packet-told.ensures.packet r.0 r.2) (c.take_packet-told.ensures.after r.0 r.2) c.in_ok-packet_of.ensures)
+    let stands : SessionStands c.self.inside.session r = subst (λ (v : EndSession). SessionStands v r) (sym view) ready.stands in
+    let h = c.in-Ok.ensures.received r stands in
+    let received : Receives K r bytes time h.0 (Some o) = subst (λ (x : Option Opening). Receives K r bytes time h.0 x) c.in-Some.is h.1 in
+    let turn = c.opens_turn.ensures K C side r h.0 a time bytes (Some o) ready.fit ready.mirrors at.late at.early c.are_bytes.ensures received in
+    let right = c.openings_are_right.ensures K C side r h.0 a ready.mirrors.other time bytes o ready.mirrors ready.mirrors.opens c.are_bytes.ensures received in
+    let k = keeps received in
+    let waits = told_packet h.0 (k.sealing ∙ ready.mirrors.seals) (k.opening ∙ ready.mirrors.opens) (k.application ∙ ready.mirrors.application) in
+    let told : c.take_packet-told.result ≡ h.0.state.packet = c.take_packet-told.ensures.packet h.0 h.2 ∙ waits in
+    let packet : c.in_ok-packet_of.field-0 ≡ option_map packet_told h.0.state.packet =
+    c.in_ok-packet_of.ensures ∙ ap {A = Option RtpPacket} {B = Option Packet} (λ p. option_map packet_told p) told in
+    let new : EndState = record { session = c.take_packet-told.new.session; written = c.self.inside.written.items } in
+    let here : TakesIn K setup side a new entries (got_as side time Rtp bytes) (Some (received_of o Rtp h.0.state.packet)) = record {
+      turns = turned_quiet ready new (after_events h.0) (Got (got_as side time Rtp bytes) ∷ received_entries side (Some (received_of o Rtp h.0.state.packet)))
+          (got time Rtp bytes ∷ events_opened r.state.transport.exts (Some o) h.0.state.packet)
+          (opened_read setup r.state.transport.exts side time Rtp bytes o h.0.state.packet ready.exts right.rtp) (λ q. no_writes_received side side q (Some (received_of o Rtp h.0.state.packet))) refl
+          (c.take_packet-told.ensures.after h.0 h.2) (ap (λ (e : EndState). e.written) c.self.view_is) turn;
+      brought = right_opening ready.mirrors ready.exts time bytes o h.0.state.packet right;
+    } in
+    subst (λ (p : Option Packet). TakesIn K setup side a new entries (got_as side time Rtp bytes) (Some (record { kind = Rtp; ssrc = o.ssrc; number = o.index; plain = o.plain; packet = p }))) (sym packet) here

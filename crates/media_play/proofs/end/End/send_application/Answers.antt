@@ -1,12 +1,19 @@
-use Rattle.std.proofs.Common.{◌≡◌, false, [], ◌∷◌, ◌++◌, List, Some, ap, sym, subst, ◌∙◌}
-use Rattle.rtcp_wire.specs.declared.packet.Rtcp.TheVariants.{AppSpecificFeedback}
-use Rattle.media_play.specs.Ends.{SessionStands}
+use Rattle.std.proofs.Common.{◌≡◌, false, [], ◌∷◌, List, Option, Some, ap, sym, subst, refl, ◌∙◌}
+use Rattle.session_core.specs.Sending.{NextDatagram}
+use Rattle.session_core.specs.SessionRecord.{SessionState}
+use Rattle.session_core.specs.declared.datagram.Datagram.{Datagram}
+use Rattle.session_turns.specs.Reading.{event_of}
 use Rattle.media_model.specs.declared.entry.Call.TheVariants as call
 use Rattle.media_model.specs.declared.entry.Entry.TheVariants.{Called, Sealed}
-use Rattle.media_play.specs.declared.numbers.Numbers.{Numbers}
+use Rattle.run_model.specs.Events.{called}
+use Rattle.media_laws.specs.Config.{config_of}
+use Rattle.media_laws.specs.Keys.{sealing_of}
+use Rattle.media_play.specs.Ends.{EndSession, SessionStands}
 use Rattle.media_play.specs.Packets.{sealed_from}
-use Rattle.media_play.specs.Sessions.{EndState, Ready}
-use Rattle.media_play.proofs.Calling.{calling_record, calling_stands, called, sends_packet, ready_called}
+use Rattle.media_play.specs.Sessions.{EndState}
+use Rattle.media_play.proofs.Calls.{application_fits, calling_record, calling_stands, fails_used_up}
+use Rattle.media_play.proofs.Rightly.{call_read, right_call}
+use Rattle.media_play.proofs.Turned.{turned_quiet}
 use Rattle.media_play.proofs.end.End.send_application.Goals.{in-Ok-Some, in-Err-KeyExhausted, in-Ok-None}
 use Rattle.media_play.proofs.end.End.send_application.Goals as goal
 
@@ -15,24 +22,41 @@ returns-clause-sealed g c =
     elim c.match-poll_datagram.branch [
       | in-Err-KeyExhausted w ↦ rw w.result-is tt
       | in-Ok-None w ↦ rw w.result-is tt
-      | in-Ok-Some w ↦ rw (w.result-is, w.in-Ok-Some.field-0-is) (λ setup entries sound ready.
+      | in-Ok-Some w ↦ rw (w.result-is, w.in-Ok-Some.field-0-is) (λ setup a entries at counts.
           let K = g.C.SrtpCipher.meaning in
           let side = c.args.side in
           let time = c.args.time in
           let f = c.args.feedback in
           let d = w.in-Ok-Some.datagram in
-          let inside = c.self.inside.session in
-          let between = c.send_app_specific_feedback.new.self in
-          let final = c.poll_datagram.new.self in
-          let view : inside ≡ c.args.self.now.session = ap (λ (e : EndState). e.session) c.self.view_is in
-          let numbers = ap (λ (e : EndState). e.written) c.self.view_is in
-          let waits : SessionStands between (calling_record sound ready time c.requires.moment f c.requires.few) =
-          calling_stands sound ready time c.requires.moment f c.requires.few between inside c.in-Ok.ensures.ok view in
-          let next = (rw w.in-Ok-Some.is at c.poll_datagram.ensures.polled) (calling_record sound ready time c.requires.moment f c.requires.few) waits in
-          let is = called sound ready time c.requires.moment f c.requires.few next.0 w.in-Ok-Some.field-0 d w.in-Ok-Some.field-0-is next.1 in
-          let sends = sends_packet sound ready time c.requires.moment f c.requires.few next.0 d is in (
-            sends,
-            subst (λ (n : List Numbers). Ready K setup side (record { session = final; written = n }) (entries ++ Called side time call.Application ∷ Sealed (sealed_from side d) ∷ []))
-                (sym numbers) (ready_called sound ready time c.requires.moment f c.requires.few final next.0 d (sealed_from side d) sends.kind sends.side is next.2),
+          let ready = at.ready in
+          let r = ready.session in
+          let C = config_of (sealing_of K setup) setup in
+          let view : c.self.inside.session ≡ c.args.self.now.session = ap (λ (e : EndState). e.session) c.self.view_is in
+          let waits : SessionStands c.send_app_specific_feedback.new.self (calling_record at f) =
+          calling_stands at f c.send_app_specific_feedback.new.self c.self.inside.session c.in-Ok.ensures.ok view in
+          let next = (rw w.in-Ok-Some.is at c.poll_datagram.ensures.polled) (calling_record at f) waits in
+          let leaves : NextDatagram K time (calling_record at f) next.0 (Some d) = subst (λ (o : Option Datagram). NextDatagram K time (calling_record at f) next.0 o) w.in-Ok-Some.field-0-is next.1 in
+          let fits = application_fits f c.items_fit_by_lengths.ensures c.requires.whole c.requires.few in
+          let turn = c.calls_turn.ensures K C side r next.0 a time f d ready.fit ready.mirrors at.late at.some fits leaves in
+          let right = c.calls_are_right.ensures K C side r next.0 a ready.mirrors.own time f d ready.fit ready.mirrors ready.mirrors.seals at.some fits leaves in (
+            right_call ready.mirrors ready.exts f d entries counts right,
+            turned_quiet ready _ next.0 (Called side time call.Application ∷ Sealed (sealed_from side d) ∷ []) (called time ∷ event_of r.state.transport.exts d ∷ [])
+                (call_read setup r.state.transport.exts side time d (Called side time call.Application) ready.exts (λ x. refl)) (λ q. refl) refl next.2
+                (ap (λ (e : EndState). e.written) c.self.view_is) turn,
           ))
+    ]
+
+pub returns-clause-refused : goal.returns-clause-refused
+returns-clause-refused g c =
+    elim c.match-poll_datagram.branch [
+      | in-Ok-Some w ↦ rw w.result-is tt
+      | in-Ok-None w ↦ rw w.result-is (λ setup a entries at counts. tt)
+      | in-Err-KeyExhausted w ↦ rw w.result-is (λ setup a entries at counts.
+          let f = c.args.feedback in
+          let view : c.self.inside.session ≡ c.args.self.now.session = ap (λ (e : EndState). e.session) c.self.view_is in
+          let between = c.send_app_specific_feedback.new.self in
+          let waits : SessionStands between (calling_record at f) = calling_stands at f between c.self.inside.session c.in-Ok.ensures.ok view in
+          let runs : between.state.stopped ≡ false = ap (λ (s : SessionState). s.stopped) waits.state ∙ at.ready.runs in
+          let failed = (rw w.in-Err-KeyExhausted.is at (c.poll_datagram.ensures.failed runs)) (calling_record at f) waits in
+          (refl, refl, fails_used_up at f failed.0 w.in-Err-KeyExhausted.field-0 _ w.in-Err-KeyExhausted.field-0-is failed.1 counts))
     ]

@@ -1,24 +1,49 @@
-use Rattle.std.proofs.Common.{sym, subst}
-use Rattle.std.proofs.lemmas.Result.{on_ok_weaker}
+use Rattle.std.proofs.Common.{◌≡◌, Bool, false, ◌||◌, is_err, [], ◌∷◌, List, Some, refl, sym, ap, ◌∙◌, subst, arith}
 use Rattle.session_core.specs.Rounds.{after_timeout}
+use Rattle.session_core.specs.SessionRecord.{SessionState}
+use Rattle.session_turns.specs.Reading.{events_of}
+use Rattle.media_model.specs.declared.entry.Entry.TheVariants.{Ticked}
+use Rattle.run_model.specs.Events.{ticked}
+use Rattle.media_laws.specs.Config.{config_of}
+use Rattle.media_laws.specs.Keys.{sealing_of}
 use Rattle.media_play.specs.Packets.{seals_from}
+use Rattle.media_play.specs.Ends.{EndSession, SessionStands}
 use Rattle.media_play.specs.Sessions.{EndState, Ready}
-use Rattle.media_play.proofs.Ticks.{ready_ticked}
+use Rattle.media_play.proofs.Cutting.{tick_cause}
+use Rattle.media_play.proofs.Rightly.{tick_read, no_writes_sealed, right_seals}
+use Rattle.media_play.proofs.Turned.{turned_quiet}
 use Rattle.media_play.proofs.end.End.tick.Goals as goal
 
-pub returns-in-Ok-drain-clause-sealed : goal.returns-in-Ok-drain-clause-sealed
-returns-in-Ok-drain-clause-sealed g c =
+pub returns-clause-sealed : goal.returns-clause-sealed
+returns-clause-sealed g c = λ setup a entries at.
     let K = g.C.SrtpCipher.meaning in
     let side = c.args.side in
     let time = c.args.time in
+    let ready = at.ready in
+    let r = ready.session in
+    let C = config_of (sealing_of K setup) setup in
     let datagrams = c.in-Ok-drain.drained.datagrams.items in
-    let before : EndState = record { session = c.self.inside.session; written = c.self.inside.written.items } in
-    on_ok_weaker c.log_all.result
-    (λ logged setup steps entries sound played ready.
-    let is_ready : Ready K setup side before entries = subst (λ (e : EndState). Ready K setup side e entries) (sym c.self.view_is) ready in
-    let after = after_timeout time is_ready.session in
-    let d = c.in-Ok-drain.ensures.drained after (c.in-Ok.ensures.ok is_ready.session is_ready.stands) in
-    let left = d.1 in
-    let ticked = ready_ticked K c.written_header_is_read_again.ensures setup side time c.requires before c.drain.new.self left.0 datagrams sound played is_ready left.1 left.2 in
-    (seals_from side datagrams, ticked.0, logged, ticked.1))
-    c.log_all.ensures.logged
+    let view = ap (λ (e : EndState). e.session) c.self.view_is in
+    let stands : SessionStands c.self.inside.session r = subst (λ (v : EndSession). SessionStands v r) (sym view) ready.stands in
+    let d = (c.in-Ok-drain.ensures.drained (after_timeout time r) (c.in-Ok.ensures.ok r stands)).1 in
+    let turn = c.ticks_turn.ensures K C side r d.0 a time datagrams ready.fit ready.mirrors at.late at.some at.early d.1 in
+    let all = c.seals_are_right.ensures K C side r d.0 a ready.mirrors.own time datagrams ready.fit ready.mirrors ready.mirrors.seals at.some d.1 in
+    record {
+      turns = turned_quiet ready _ d.0 (Ticked side time ∷ seals_from side datagrams) (ticked time ∷ events_of r.state.transport.exts datagrams)
+          (tick_read setup r.state.transport.exts side time datagrams ready.exts) (λ q. no_writes_sealed side side q datagrams) refl d.2
+          (ap (λ (e : EndState). e.written) c.self.view_is) turn;
+      right = right_seals ready.mirrors ready.exts datagrams all;
+    }
+
+pub returns-in-Err-drain-clause-refused : goal.returns-in-Err-drain-clause-refused
+returns-in-Err-drain-clause-refused g c =
+    let K = g.C.SrtpCipher.meaning in
+    let time = c.args.time in
+    let view = ap (λ (e : EndState). e.session) c.self.view_is in
+    tick_cause K c.args.side c.args.self.now time c.in-Err-drain.fault.error c.used_up.result c.used_up.ensures (λ r now_stands runs.
+    let stands : SessionStands c.self.inside.session r = subst (λ (v : EndSession). SessionStands v r) (sym view) now_stands in
+    let before : c.self.inside.session.state.stopped ≡ false = ap (λ (s : SessionState). s.stopped) stands.state ∙ runs in
+    let still : c.handle_timeout.new.self.state.stopped ≡ false =
+    c.handle_timeout.ensures.latch ∙ ap (λ (b : Bool). b || is_err c.handle_timeout.result) before ∙ ap (λ x. is_err x) c.in-Ok.is in
+    let cut = c.in-Err-drain.ensures.sofar still (after_timeout time r) (c.in-Ok.ensures.ok r stands) in
+    record { after = cut.0; told = c.in-Err-drain.fault.sofar.events.items; sent = c.in-Err-drain.fault.sofar.datagrams.items; cut = cut.1 })

@@ -1,6 +1,6 @@
 use Rattle.std.proofs.Common.{◌≡◌, List, Option, None, Some, ◌∷◌, ◌++◌, [], sym, ap, subst, ◌∙◌, ◌||◌, true, false}
 use Rattle.media_play.specs.declared.numbers.Stretch.{Stretch}
-use Rattle.media_play.specs.Rules.{has}
+use Rattle.media_laws.specs.Rules.{has}
 use Rattle.media_play.specs.UsedNumbers.{numbers_in, AreInOrder}
 use Rattle.media_play.proofs.Stretches.{among, kept, kept_with, told, has_none, has_above, has_top, has_lower, rise_lower}
 use Rattle.media_play.proofs.numbers.Numbers.has.Goals as goal

@@ -1,8 +1,8 @@
 use Rattle.std.proofs.Common.{OnOk, sym, subst, ap}
 use Rattle.media_model.specs.declared.step.Step.{Step}
 use Rattle.media_play.specs.Running.{Plays}
-use Rattle.media_play.specs.Errors.{call_of}
-use Rattle.media_play.proofs.Others.{nothing_left}
+use Rattle.media_laws.specs.Exhausting.{call_of}
+use Rattle.media_play.proofs.Steps.{nothing_left}
 use Rattle.media_play.proofs.pair.Pair.play.Goals as goal
 
 pub returns-in-Write-clause-played : goal.returns-in-Write-clause-played

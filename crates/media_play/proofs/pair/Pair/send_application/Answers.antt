@@ -1,36 +1,36 @@
-use Rattle.std.proofs.Common.{◌≡◌, ◌≢◌, ℕ, [], ◌∷◌, ◌++◌, List, None, ap, sym, subst, ◌∙◌}
+use Rattle.std.proofs.Common.{◌≡◌, ◌≢◌, ℕ, [], ◌∷◌, ◌++◌, List, None, ap, sym, subst, refl, ◌∙◌}
 use Rattle.media_model.specs.declared.entry.Call.TheVariants as call
 use Rattle.media_model.specs.declared.entry.Entry.{Entry}
-use Rattle.media_model.specs.declared.entry.Entry.TheVariants.{Called}
-use Rattle.media_model.specs.declared.entry.Side.{Side}
+use Rattle.media_model.specs.declared.entry.Entry.TheVariants.{Called, Sealed}
 use Rattle.media_model.specs.declared.step.Step.TheVariants.{Application}
+use Rattle.media_laws.specs.Play.{called}
+use Rattle.media_laws.specs.Rules.{time_fault}
 use Rattle.media_play.specs.declared.fault.StepError.{StepError}
 use Rattle.media_play.specs.declared.fault.StepError.TheVariants.{Memory}
 use Rattle.media_play.specs.Errors.{IsSendingCause, left_by}
-use Rattle.media_play.specs.Rules.{time_fault}
+use Rattle.media_play.specs.Packets.{sealed_from}
 use Rattle.media_play.specs.Running.{RunState, IsRunOf, PlaysOn, Refuses}
-use Rattle.media_play.specs.Sessions.{Ready}
-use Rattle.media_play.proofs.Others.{cause_of_call, left_is, handed_on}
-use Rattle.media_play.proofs.OthersReceive.{calls_a, calls_b}
-use Rattle.media_play.proofs.Soundness.{sound_setup}
+use Rattle.media_play.proofs.Sends.{index_a, index_b, cause_of_call, left_is}
+use Rattle.media_play.proofs.Steps.{ready_a, ready_b, plays_a, plays_b, handed_on}
 use Rattle.media_play.proofs.pair.Pair.send_application.Goals.{in-A+in_ok-call_step-in-A, in-B+in_ok-call_step-in-B}
 use Rattle.media_play.proofs.pair.Pair.send_application.Goals as goal
 
 pub returns-in_err-call_step-in-A-clause-refused : goal.returns-in_err-call_step-in-A-clause-refused
 returns-in_err-call_step-in-A-clause-refused g c =
-    let K = g.C.SrtpCipher in
+    let K = g.C.SrtpCipher.meaning in
     let side = c.args.side in
-    let step = Application side c.args.time c.args.sender c.args.media c.args.payload.now in
+    let time = c.args.time in
+    let step = Application side time c.args.sender c.args.media c.args.payload.now in
     let e = c.in_err-call_step-in-A.field-0.0 in
-    handed_on (Refuses K.meaning c.args.self.now step) c.from_residual-in_err-call_step-in-A.result e c.from_residual-in_err-call_step-in-A.ensures.1
+    handed_on (Refuses K c.args.self.now step) c.from_residual-in_err-call_step-in-A.result e c.from_residual-in_err-call_step-in-A.ensures.1
     (λ setup steps is_run.
     let run : RunState = record { a = c.self.inside.a; b = c.self.inside.b; log = c.self.inside.log; latest = c.self.inside.latest } in
-    let here = subst (λ (r : RunState). IsRunOf K.meaning setup steps r) (sym c.self.view_is) is_run in
-    let in_time : time_fault c.args.self.now.log c.args.time ≡ None = c.in_ok-check_time.ensures.fault c.args.self.now.log is_run.time in
-    let ready = subst (λ (s : Side). Ready K.meaning setup s c.self.inside.a run.log) (sym c.in-A.is) here.a_knows in
-    cause_of_call setup c.args.self.now.log side c.args.time c.args.sender c.args.media c.args.payload.now e in_time
+    let here : IsRunOf K setup steps run = subst (λ (r : RunState). IsRunOf K setup steps r) (sym c.self.view_is) is_run in
+    let fine : time_fault c.args.self.now.log time ≡ None = c.in_ok-check_time.ensures.fault c.args.self.now.log is_run.time in
+    let fine_here : time_fault run.log time ≡ None = subst (λ (r : RunState). time_fault r.log time ≡ None) (sym c.self.view_is) fine in
+    cause_of_call K setup c.args.self.now.log side time c.args.sender c.args.media c.args.payload.now e fine
     (subst (λ (r : RunState). IsSendingCause setup side r.log e) c.self.view_is
-    (c.in_err-call_step-in-A.ensures.refused setup run.log (sound_setup setup is_run.valid) ready)))
+    (c.in_err-call_step-in-A.ensures.refused setup here.a (ready_a here c.in-A.is time fine_here) (index_a here c.in-A.is))))
 
 pub returns-in_err-call_step-in-A-clause-called : goal.returns-in_err-call_step-in-A-clause-called
 returns-in_err-call_step-in-A-clause-called g c =
@@ -45,19 +45,20 @@ returns-in_err-call_step-in-A-clause-called g c =
 
 pub returns-in_err-call_step-in-B-clause-refused : goal.returns-in_err-call_step-in-B-clause-refused
 returns-in_err-call_step-in-B-clause-refused g c =
-    let K = g.C.SrtpCipher in
+    let K = g.C.SrtpCipher.meaning in
     let side = c.args.side in
-    let step = Application side c.args.time c.args.sender c.args.media c.args.payload.now in
+    let time = c.args.time in
+    let step = Application side time c.args.sender c.args.media c.args.payload.now in
     let e = c.in_err-call_step-in-B.field-0.0 in
-    handed_on (Refuses K.meaning c.args.self.now step) c.from_residual-in_err-call_step-in-B.result e c.from_residual-in_err-call_step-in-B.ensures.1
+    handed_on (Refuses K c.args.self.now step) c.from_residual-in_err-call_step-in-B.result e c.from_residual-in_err-call_step-in-B.ensures.1
     (λ setup steps is_run.
     let run : RunState = record { a = c.self.inside.a; b = c.self.inside.b; log = c.self.inside.log; latest = c.self.inside.latest } in
-    let here = subst (λ (r : RunState). IsRunOf K.meaning setup steps r) (sym c.self.view_is) is_run in
-    let in_time : time_fault c.args.self.now.log c.args.time ≡ None = c.in_ok-check_time.ensures.fault c.args.self.now.log is_run.time in
-    let ready = subst (λ (s : Side). Ready K.meaning setup s c.self.inside.b run.log) (sym c.in-B.is) here.b_knows in
-    cause_of_call setup c.args.self.now.log side c.args.time c.args.sender c.args.media c.args.payload.now e in_time
+    let here : IsRunOf K setup steps run = subst (λ (r : RunState). IsRunOf K setup steps r) (sym c.self.view_is) is_run in
+    let fine : time_fault c.args.self.now.log time ≡ None = c.in_ok-check_time.ensures.fault c.args.self.now.log is_run.time in
+    let fine_here : time_fault run.log time ≡ None = subst (λ (r : RunState). time_fault r.log time ≡ None) (sym c.self.view_is) fine in
+    cause_of_call K setup c.args.self.now.log side time c.args.sender c.args.media c.args.payload.now e fine
     (subst (λ (r : RunState). IsSendingCause setup side r.log e) c.self.view_is
-    (c.in_err-call_step-in-B.ensures.refused setup run.log (sound_setup setup is_run.valid) ready)))
+    (c.in_err-call_step-in-B.ensures.refused setup here.b (ready_b here c.in-B.is time fine_here) (index_b here c.in-B.is))))
 
 pub returns-in_err-call_step-in-B-clause-called : goal.returns-in_err-call_step-in-B-clause-called
 returns-in_err-call_step-in-B-clause-called g c =
@@ -72,7 +73,7 @@ returns-in_err-call_step-in-B-clause-called g c =
 
 pub returns-clause-played : goal.returns-clause-played
 returns-clause-played g c setup steps is_run =
-    let K = g.C.SrtpCipher in
+    let K = g.C.SrtpCipher.meaning in
     let run : RunState = record { a = c.self.inside.a; b = c.self.inside.b; log = c.self.inside.log; latest = c.self.inside.latest } in
     let side = c.args.side in
     let time = c.args.time in
@@ -81,21 +82,26 @@ returns-clause-played g c setup steps is_run =
     let payload = c.args.payload.now in
     let packet = c.in_ok-from_slice.field-0 in
     let same : packet ≡ payload = c.in_ok-from_slice.ensures ∙ c.as_slice.ensures.bytes in
-    let sound = sound_setup setup is_run.valid in
-    let before : IsRunOf K.meaning setup steps run = subst (λ (r : RunState). IsRunOf K.meaning setup steps r) (sym c.self.view_is) is_run in
-    let fault : time_fault run.log time ≡ None =
+    let here : IsRunOf K setup steps run = subst (λ (r : RunState). IsRunOf K setup steps r) (sym c.self.view_is) is_run in
+    let fine : time_fault run.log time ≡ None =
     subst (λ (r : RunState). time_fault r.log time ≡ None) (sym c.self.view_is) (c.in_ok-check_time.ensures.fault c.args.self.now.log is_run.time) in
     elim c.match-side.branch [
       | in-A+in_ok-call_step-in-A w ↦
+          let h = w.in_ok-call_step-in-A.ensures.ready setup here.a (ready_a here w.in-A.is time fine) (index_a here w.in-A.is) in
           let new : RunState = record { a = w.call_step.new.end; b = run.b; log = w.call_step.new.log; latest = time } in
           rw w.self-inside-is
-          (subst (λ (r : RunState). PlaysOn K.meaning setup steps r (Application side time sender media payload) new) c.self.view_is
-          (subst (λ (l : List ℕ). PlaysOn K.meaning setup steps run (Application side time sender media l) new) same
-          (calls_a K.meaning setup run steps before side time sender media packet fault w.call_step.new.log w.in-A.is w.call_step.new.end (w.in_ok-call_step-in-A.ensures.ready setup sound))))
+          (subst (λ (r : RunState). PlaysOn K setup steps r (Application side time sender media payload) new) c.self.view_is
+          (subst (λ (l : List ℕ). PlaysOn K setup steps run (Application side time sender media l) new) same
+          (plays_a here (Application side time sender media packet) time w.call_step.new.end w.call_step.new.log
+          (Called side time call.Application ∷ Sealed (sealed_from side h.0) ∷ []) fine fine h.1 refl w.in-A.is
+          (called side time sender media packet (sealed_from side h.0) h.2) h.3)))
       | in-B+in_ok-call_step-in-B w ↦
+          let h = w.in_ok-call_step-in-B.ensures.ready setup here.b (ready_b here w.in-B.is time fine) (index_b here w.in-B.is) in
           let new : RunState = record { a = run.a; b = w.call_step-in-B.new.end; log = w.call_step-in-B.new.log; latest = time } in
           rw w.self-inside-is
-          (subst (λ (r : RunState). PlaysOn K.meaning setup steps r (Application side time sender media payload) new) c.self.view_is
-          (subst (λ (l : List ℕ). PlaysOn K.meaning setup steps run (Application side time sender media l) new) same
-          (calls_b K.meaning setup run steps before side time sender media packet fault w.call_step-in-B.new.log w.in-B.is w.call_step-in-B.new.end (w.in_ok-call_step-in-B.ensures.ready setup sound))))
+          (subst (λ (r : RunState). PlaysOn K setup steps r (Application side time sender media payload) new) c.self.view_is
+          (subst (λ (l : List ℕ). PlaysOn K setup steps run (Application side time sender media l) new) same
+          (plays_b here (Application side time sender media packet) time w.call_step-in-B.new.end w.call_step-in-B.new.log
+          (Called side time call.Application ∷ Sealed (sealed_from side h.0) ∷ []) fine fine h.1 refl w.in-B.is
+          (called side time sender media packet (sealed_from side h.0) h.2) h.3)))
     ]

@@ -1,31 +1,66 @@
-use Rattle.std.proofs.Common.{◌≡◌, None, sym, subst}
-use Rattle.media_play.specs.Rules.{time_fault}
-use Rattle.media_play.specs.Running.{RunState, IsRunOf, PlaysOn}
+use Rattle.std.proofs.Common.{◌≡◌, ◌∷◌, None, sym, subst, refl}
+use Rattle.media_model.specs.declared.entry.Entry.TheVariants.{Ticked}
 use Rattle.media_model.specs.declared.step.Step.TheVariants.{Tick}
-use Rattle.media_play.proofs.OthersReceive.{ticks_a, ticks_b}
-use Rattle.media_play.proofs.Soundness.{sound_setup}
+use Rattle.media_laws.specs.Play.{ticked}
+use Rattle.media_laws.specs.Rules.{time_fault}
+use Rattle.media_play.specs.Errors.{IsStepCause}
+use Rattle.media_play.specs.Running.{RunState, IsRunOf, PlaysOn, Refuses}
+use Rattle.media_play.proofs.Steps.{ready_a, ready_b, plays_a, plays_b, handed_on}
+use Rattle.media_play.proofs.Cuts.{tick_refused_a, tick_refused_b}
 use Rattle.media_play.proofs.pair.Pair.tick.Goals as goal
 use Rattle.media_play.proofs.pair.Pair.tick.Goals.{in-A+in_ok-tick_step-in-A, in-B+in_ok-tick_step-in-B}
 
-pub returns-clause-played : goal.returns-clause-played
-returns-clause-played g c setup steps is_run =
-    let K = g.C.SrtpCipher in
-    let run : RunState = record { a = c.self.inside.a; b = c.self.inside.b; log = c.self.inside.log; latest = c.self.inside.latest } in
+pub returns-in_err-tick_step-in-A-clause-refused : goal.returns-in_err-tick_step-in-A-clause-refused
+returns-in_err-tick_step-in-A-clause-refused g c =
+    let K = g.C.SrtpCipher.meaning in
     let side = c.args.side in
     let time = c.args.time in
-    let sound = sound_setup setup is_run.valid in
-    let before : IsRunOf K.meaning setup steps run = subst (λ (r : RunState). IsRunOf K.meaning setup steps r) (sym c.self.view_is) is_run in
-    let fault : time_fault run.log time ≡ None =
-    subst (λ (r : RunState). time_fault r.log time ≡ None) (sym c.self.view_is) (c.in_ok-check_time.ensures.fault c.args.self.now.log is_run.time) in
+    let e = c.in_err-tick_step-in-A.field-0.0 in
+    handed_on (Refuses K c.args.self.now (Tick side time)) c.from_residual-in_err-tick_step-in-A.result e
+    c.from_residual-in_err-tick_step-in-A.ensures.1
+    (λ setup steps is_run.
+    let run : RunState = record { a = c.self.inside.a; b = c.self.inside.b; log = c.self.inside.log; latest = c.self.inside.latest } in
+    let here : IsRunOf K setup steps run = subst (λ (r : RunState). IsRunOf K setup steps r) (sym c.self.view_is) is_run in
+    let fine : time_fault run.log time ≡ None = subst (λ (r : RunState). time_fault r.log time ≡ None) (sym c.self.view_is) (c.in_ok-check_time.ensures.fault c.args.self.now.log is_run.time) in
+    subst (λ (r : RunState). IsStepCause K setup r.log (Tick side time) e) c.self.view_is
+    (tick_refused_a here c.in-A.is time e fine c.in_err-tick_step-in-A.ensures.refused))
+
+pub returns-in_err-tick_step-in-B-clause-refused : goal.returns-in_err-tick_step-in-B-clause-refused
+returns-in_err-tick_step-in-B-clause-refused g c =
+    let K = g.C.SrtpCipher.meaning in
+    let side = c.args.side in
+    let time = c.args.time in
+    let e = c.in_err-tick_step-in-B.field-0.0 in
+    handed_on (Refuses K c.args.self.now (Tick side time)) c.from_residual-in_err-tick_step-in-B.result e
+    c.from_residual-in_err-tick_step-in-B.ensures.1
+    (λ setup steps is_run.
+    let run : RunState = record { a = c.self.inside.a; b = c.self.inside.b; log = c.self.inside.log; latest = c.self.inside.latest } in
+    let here : IsRunOf K setup steps run = subst (λ (r : RunState). IsRunOf K setup steps r) (sym c.self.view_is) is_run in
+    let fine : time_fault run.log time ≡ None = subst (λ (r : RunState). time_fault r.log time ≡ None) (sym c.self.view_is) (c.in_ok-check_time.ensures.fault c.args.self.now.log is_run.time) in
+    subst (λ (r : RunState). IsStepCause K setup r.log (Tick side time) e) c.self.view_is
+    (tick_refused_b here c.in-B.is time e fine c.in_err-tick_step-in-B.ensures.refused))
+
+pub returns-clause-played : goal.returns-clause-played
+returns-clause-played g c setup steps is_run =
+    let K = g.C.SrtpCipher.meaning in
+    let side = c.args.side in
+    let time = c.args.time in
+    let run : RunState = record { a = c.self.inside.a; b = c.self.inside.b; log = c.self.inside.log; latest = c.self.inside.latest } in
+    let here : IsRunOf K setup steps run = subst (λ (r : RunState). IsRunOf K setup steps r) (sym c.self.view_is) is_run in
+    let fine : time_fault run.log time ≡ None = subst (λ (r : RunState). time_fault r.log time ≡ None) (sym c.self.view_is) (c.in_ok-check_time.ensures.fault c.args.self.now.log is_run.time) in
     elim c.match-side.branch [
       | in-A+in_ok-tick_step-in-A w ↦
+          let h = w.in_ok-tick_step-in-A.ensures.ready setup here.a (ready_a here w.in-A.is time fine) in
           let new : RunState = record { a = w.tick_step.new.end; b = run.b; log = w.tick_step.new.log; latest = time } in
           rw w.self-inside-is
-          (subst (λ (r : RunState). PlaysOn K.meaning setup steps r (Tick side time) new) c.self.view_is
-          (ticks_a K.meaning setup run steps before side time fault w.tick_step.new.log w.in-A.is w.tick_step.new.end (w.in_ok-tick_step-in-A.ensures.ready setup steps sound before.played)))
+          (subst (λ (r : RunState). PlaysOn K setup steps r (Tick side time) new) c.self.view_is
+          (plays_a here (Tick side time) time w.tick_step.new.end w.tick_step.new.log (Ticked side time ∷ h.0) fine fine h.1 refl w.in-A.is
+          (ticked side time h.0 h.2.right) h.2.turns))
       | in-B+in_ok-tick_step-in-B w ↦
+          let h = w.in_ok-tick_step-in-B.ensures.ready setup here.b (ready_b here w.in-B.is time fine) in
           let new : RunState = record { a = run.a; b = w.tick_step-in-B.new.end; log = w.tick_step-in-B.new.log; latest = time } in
           rw w.self-inside-is
-          (subst (λ (r : RunState). PlaysOn K.meaning setup steps r (Tick side time) new) c.self.view_is
-          (ticks_b K.meaning setup run steps before side time fault w.tick_step-in-B.new.log w.in-B.is w.tick_step-in-B.new.end (w.in_ok-tick_step-in-B.ensures.ready setup steps sound before.played)))
+          (subst (λ (r : RunState). PlaysOn K setup steps r (Tick side time) new) c.self.view_is
+          (plays_b here (Tick side time) time w.tick_step-in-B.new.end w.tick_step-in-B.new.log (Ticked side time ∷ h.0) fine fine h.1 refl w.in-B.is
+          (ticked side time h.0 h.2.right) h.2.turns))
     ]

@@ -1,0 +1,11 @@
+pub mod Wire
+pub mod Soundness
+pub mod Streams
+pub mod Playing
+pub mod Readings
+pub mod Sendings
+pub mod Yields
+pub mod Writes
+pub mod Exactly
+pub mod Fronts
+pub mod Holding

@@ -1,0 +1,14 @@
+pub mod Listing
+pub mod Plain
+pub mod FaultNames
+pub mod Rules
+pub mod Opening
+pub mod Keys
+pub mod Feedback
+pub mod Config
+pub mod Right
+pub mod Play
+pub mod Exhausting
+pub mod Headline
+pub mod WireLaws
+pub mod Laws

@@ -1,0 +1,224 @@
+-- The types and the streams of a setup that breaks no rule, and of a session that begins with them.
+use Rattle.std.proofs.Common.{◌≡◌, inl, inr, Bool, true, false, not, cond, ◌||◌, ℕ, ◌+◌, ◌<◌, ◌≤◌, List, [], ◌∷◌, ◌++◌, length, map, take, drop, get_or, append_assoc, nat_eq, Option, Some, None, is_some, refl, sym, ap, ◌∙◌, subst}
+use Rattle.std.specs.Prelude.{◌==◌, nat_lt, find, option_to_list, unwrap_or, option_and_then, if◌then◌else◌}
+use Rattle.std.specs.List.{flat_map, filter_map, list_any, AllZip}
+use Rattle.std.specs.Map.{keys_of}
+use Rattle.std.specs.Option.{option_map}
+use Rattle.std.proofs.lemmas.Bool.{eqb-true, eq-eqb, false≢true, not-false, leb-true, and_parts}
+use Rattle.std.proofs.lemmas.List.Elements.{filter_map-append}
+use Rattle.std.proofs.lemmas.List.{map-append, take_more, take-append-drop}
+use Rattle.indexmap.specs.IndexMap.{insert_entry}
+use Rattle.media_model.specs.declared.setup.Mtu.{Mtu}
+use Rattle.stream_core.specs.declared.payload_types.TypeRow.{TypeRow}
+use Rattle.stream_core.specs.Repairing.{rtx_type_of, primary_type_of, is_type as is_row_type}
+use Rattle.stream_core.specs.Tables.{place_of, value_under}
+use Rattle.session_core.specs.Repairs.{is_known}
+use Rattle.srtp_core.specs.Keys.{material_len}
+use Rattle.session_turns.specs.Reading.{types_in}
+use Rattle.media_model.specs.declared.entry.Side.{Side}
+use Rattle.media_model.specs.declared.setup.PayloadType.{PayloadType}
+use Rattle.media_model.specs.declared.setup.Stream.{Stream}
+use Rattle.media_model.specs.declared.setup.Media.{Media}
+use Rattle.media_model.specs.declared.setup.Setup.{Setup}
+use Rattle.media_model.specs.Setup.{material_of, claimed_in, claimed_of, cache_of, pt_in, main_in, streams_in, streams_of, types_of as type_numbers}
+use Rattle.media_model.specs.Sides.{same_side}
+use Rattle.setup_rules.specs.declared.fault.SetupFault.{SetupFault}
+use Rattle.setup_rules.specs.declared.fault.SetupFault.TheVariants.{KeyLength, Mtu as MtuRule, Times, ExtId, TypeTwice, SsrcZero, SsrcTwice}
+use Rattle.setup_rules.specs.SetupRules.{has as has_number, setup_fault, repeats, any_ext_wrong, is_mtu, is_beyond, all_ssrcs, all_streams, both_of}
+use Rattle.run_model.specs.Events.{Outgoing}
+use Rattle.run_model.specs.Listing.{IsIn, NoRepeat}
+use Rattle.run_model.specs.Transcripts.{types_of, has_type, is_type, repairs_as, outgoing_in, outgoing_of}
+use Rattle.run_laws.proofs.Lists.{IsIn-left, IsIn-right, IsIn-append, tested, any-from_in}
+use Rattle.media_laws.specs.Rules.{has}
+use Rattle.media_play.specs.Starting.{ssrcs_in, AreOnce, IsRow}
+use Rattle.media_play.proofs.StartingLists.{NoRepeat-right, apart_ends, insert_new, zip_push, zip_keys, place_in, value_first, value_next, flipped}
+
+-- the rules
+
+fault_none : (b : Bool) (fault : SetupFault) (other : Option SetupFault) → cond b (Some fault) other ≡ None → (b ≡ false) × (other ≡ None)
+fault_none true fault other e = absurd cc
+fault_none false fault other e = (refl, e)
+
+neither : (a b : Bool) → (a || b) ≡ false → (a ≡ false) × (b ≡ false)
+neither true b e = absurd cc
+neither false b e = (refl, e)
+
+has_in : (xs : List ℕ) (n : ℕ) → IsIn n xs → has_number xs n ≡ true
+has_in xs n i = any-from_in (λ x. x == n) n xs i (eq-eqb n n refl)
+
+no_repeats : (xs : List ℕ) → repeats xs ≡ false → NoRepeat xs
+no_repeats [] e = tt
+no_repeats (x ∷ xs) e =
+    let both = neither (has_number xs x) (repeats xs) e in
+    (λ i. false≢true (sym both.0 ∙ has_in xs x i), no_repeats xs both.1)
+
+-- some elements of a list, where nothing stands twice
+less_once : {X : Type 0} (xs ys zs : List X) → NoRepeat (xs ++ ys) → NoRepeat zs → ((x : X) → IsIn x zs → IsIn x ys) → NoRepeat (xs ++ zs)
+less_once [] ys zs h g says = g
+less_once (x ∷ xs) ys zs h g says = (
+  λ i. elim (IsIn-append x xs zs i) [ inl j ↦ h.0 (IsIn-left x xs ys j) | inr j ↦ h.0 (IsIn-right x xs ys (says x j)) ],
+  less_once xs ys zs h.1 g says,
+)
+
+types_once : (ts : List PayloadType) → NoRepeat (flat_map claimed_in ts) → NoRepeat (map pt_in ts)
+types_once [] h = tt
+types_once (t ∷ ts) h = (
+  λ i. h.0 (IsIn-right t.pt (option_to_list t.rtx) (flat_map claimed_in ts) (claimed ts t.pt i)),
+  types_once ts (NoRepeat-right (claimed_in t) (flat_map claimed_in ts) h),
+)
+  where
+    claimed : (us : List PayloadType) (n : ℕ) → IsIn n (map pt_in us) → IsIn n (flat_map claimed_in us)
+    claimed [] n i = i
+    claimed (u ∷ us) n (inl e) = inl e
+    claimed (u ∷ us) n (inr i) = IsIn-right n (claimed_in u) (flat_map claimed_in us) (claimed us n i)
+
+module _ (setup : Setup) (side : Side) where
+  lines_in : (ss : List Stream) (n : ℕ) → IsIn n (flat_map ssrcs_in (filter_map (outgoing_in setup side) ss)) → IsIn n (flat_map both_of ss)
+  lines_in [] n i = i
+  lines_in (s ∷ ss) n i = elim (tested (same_side s.side side)) [
+    | inl t ↦ elim (IsIn-append n (both_of s) (flat_map ssrcs_in (filter_map (outgoing_in setup side) ss)) (rw t at i)) [
+      | inl j ↦ IsIn-left n (both_of s) (flat_map both_of ss) j
+      | inr j ↦ IsIn-right n (both_of s) (flat_map both_of ss) (lines_in ss n j)
+    ]
+    | inr t ↦ IsIn-right n (both_of s) (flat_map both_of ss) (lines_in ss n (rw t at i))
+  ]
+
+  lines_once : (ss : List Stream) → NoRepeat (flat_map both_of ss) → AreOnce (filter_map (outgoing_in setup side) ss)
+  lines_once [] h = tt
+  lines_once (s ∷ ss) h =
+      let rest = lines_once ss (NoRepeat-right (both_of s) (flat_map both_of ss) h) in
+      elim (tested (same_side s.side side)) [
+        | inl t ↦ rw t (less_once (both_of s) (flat_map both_of ss) (flat_map ssrcs_in (filter_map (outgoing_in setup side) ss)) h rest (lines_in ss))
+        | inr t ↦ rw t rest
+      ]
+
+  all_lines : (ms : List Media) → flat_map (λ (m : Media). filter_map (outgoing_in setup side) m.streams) ms ≡ filter_map (outgoing_in setup side) (flat_map (λ (m : Media). m.streams) ms)
+  all_lines [] = refl
+  all_lines (m ∷ ms) =
+      ap (λ (ls : List Outgoing). filter_map (outgoing_in setup side) m.streams ++ ls) (all_lines ms)
+      ∙ sym (filter_map-append (outgoing_in setup side) m.streams (flat_map (λ (n : Media). n.streams) ms))
+
+  -- the main SSRCs of the streams that it sends
+  mains_in : (ss : List Stream) → map (λ (L : Outgoing). L.ssrc) (filter_map (outgoing_in setup side) ss) ≡ filter_map (main_in side) ss
+  mains_in [] = refl
+  mains_in (s ∷ ss) = elim (tested (same_side s.side side)) [
+    | inl t ↦ rw t (ap (λ l. s.ssrc ∷ l) (mains_in ss))
+    | inr t ↦ rw t (mains_in ss)
+  ]
+
+  all_mains : (ms : List Media) → flat_map (streams_in side) ms ≡ filter_map (main_in side) (flat_map (λ (m : Media). m.streams) ms)
+  all_mains [] = refl
+  all_mains (m ∷ ms) =
+      ap (λ (ns : List ℕ). streams_in side m ++ ns) (all_mains ms)
+      ∙ sym (filter_map-append (main_in side) m.streams (flat_map (λ (n : Media). n.streams) ms))
+
+  pub mains_of : map (λ (L : Outgoing). L.ssrc) (outgoing_of side setup) ≡ streams_of side setup
+  mains_of = ap (map (λ (L : Outgoing). L.ssrc)) (all_lines setup.media) ∙ mains_in (all_streams setup) ∙ sym (all_mains setup.media)
+
+-- what the rules of a setup say
+pub record Facts (setup : Setup) : Type 0 where
+  pub key : length (material_of setup) ≡ material_len setup.profile
+  pub mtu : is_mtu setup.mtu ≡ true
+  pub types : NoRepeat (type_numbers setup)
+  pub once : (side : Side) → AreOnce (outgoing_of side setup)
+
+pub facts : (setup : Setup) → setup_fault setup ≡ None → Facts setup
+facts setup e =
+    let key = fault_none (not (length (material_of setup) == material_len setup.profile)) KeyLength _ e in
+    let mtu = fault_none (not (is_mtu setup.mtu)) MtuRule _ key.1 in
+    let time = fault_none (is_beyond setup) Times _ mtu.1 in
+    let ids = fault_none (any_ext_wrong setup.exts) ExtId _ time.1 in
+    let type = fault_none (list_any (nat_lt 127) (claimed_of setup) || repeats (claimed_of setup)) TypeTwice _ ids.1 in
+    let zero = fault_none (has_number (all_ssrcs setup) 0) SsrcZero _ type.1 in
+    let twice = fault_none (repeats (all_ssrcs setup)) SsrcTwice _ zero.1 in
+    record {
+      key = elim (tested (length (material_of setup) == material_len setup.profile)) [
+        | inl t ↦ eqb-true _ _ t
+        | inr t ↦ absurd (false≢true (sym key.0 ∙ ap not t))
+      ];
+      mtu = not-false _ mtu.0;
+      types = types_once setup.types (no_repeats (claimed_of setup) (neither _ _ type.0).1);
+      once = λ side. subst AreOnce (sym (all_lines setup side setup.media)) (lines_once setup side (all_streams setup) (no_repeats (all_ssrcs setup) twice.0).1.1);
+    }
+
+-- types
+
+module _ (pt : ℕ) where
+  primaries : (es : List (ℕ × TypeRow)) (ts : List PayloadType) → AllZip IsRow es ts → primary_type_of es pt ≡ option_map (λ (t : PayloadType). t.pt) (find (repairs_as pt) ts)
+  primaries [] [] h = refl
+  primaries [] (t ∷ ts) h = absurd h
+  primaries (e ∷ es) [] h = absurd h
+  primaries (e ∷ es) (t ∷ ts) h =
+      let row = h.0 in
+      let rest = primaries es ts h.1 in
+      ap (λ (o : Option ℕ). if is_row_type pt o then Some e.1.pt else primary_type_of es pt) row.rtx
+      ∙ ap (λ (n : ℕ). if is_row_type pt t.rtx then Some n else primary_type_of es pt) row.pt
+      ∙ elim (tested (is_type pt t.rtx)) [ inl k ↦ rw k refl | inr k ↦ rw k rest ]
+
+  rtx_types : (es : List (ℕ × TypeRow)) (ts : List PayloadType) → AllZip IsRow es ts → rtx_type_of es pt ≡ option_and_then (λ (t : PayloadType). t.rtx) (find (has_type pt) ts)
+  rtx_types [] [] h = refl
+  rtx_types [] (t ∷ ts) h = absurd h
+  rtx_types (e ∷ es) [] h = absurd h
+  rtx_types (e ∷ es) (t ∷ ts) h =
+      let row = h.0 in
+      let rest = rtx_types es ts h.1 in
+      let same : nat_eq pt e.0 ≡ (t.pt == pt) = flipped pt e.0 ∙ ap (λ (n : ℕ). n == pt) row.key in
+      elim (tested (t.pt == pt)) [
+        | inl k ↦ ap (option_and_then (λ (r : TypeRow). r.rtx)) (value_first pt e es (same ∙ k)) ∙ row.rtx ∙ sym (ap (λ (b : Bool). option_and_then (λ (u : PayloadType). u.rtx) (if b then Some t else find (has_type pt) ts)) k)
+        | inr k ↦ ap (option_and_then (λ (r : TypeRow). r.rtx)) (value_next pt e es (same ∙ k)) ∙ rest ∙ sym (ap (λ (b : Bool). option_and_then (λ (u : PayloadType). u.rtx) (if b then Some t else find (has_type pt) ts)) k)
+      ]
+
+  any_given : (o : Option ℕ) (ns : List ℕ) → list_any (λ n. n == pt) (option_to_list o ++ ns) ≡ (is_type pt o || list_any (λ n. n == pt) ns)
+  any_given None ns = refl
+  any_given (Some n) ns = refl
+
+  sorted : (a b c d : Bool) → ((a || c) || (b || d)) ≡ (a || (b || (c || d)))
+  sorted true b c d = refl
+  sorted false true true d = refl
+  sorted false true false d = refl
+  sorted false false c d = refl
+
+  found_next : (t : PayloadType) (ts : List PayloadType) → is_some (option_map (λ (u : PayloadType). u.pt) (find (repairs_as pt) (t ∷ ts))) ≡ (is_type pt t.rtx || is_some (option_map (λ (u : PayloadType). u.pt) (find (repairs_as pt) ts)))
+  found_next t ts = elim (tested (is_type pt t.rtx)) [ inl k ↦ rw k refl | inr k ↦ rw k refl ]
+
+  claims : (ts : List PayloadType) → (has (map pt_in ts) pt || is_some (option_map (λ (t : PayloadType). t.pt) (find (repairs_as pt) ts))) ≡ list_any (λ n. n == pt) (flat_map claimed_in ts)
+  claims [] = refl
+  claims (t ∷ ts) =
+      let a = t.pt == pt in
+      let c = has (map pt_in ts) pt in
+      let d = is_some (option_map (λ (u : PayloadType). u.pt) (find (repairs_as pt) ts)) in
+      ap (λ b. (a || c) || b) (found_next t ts)
+      ∙ sorted a (is_type pt t.rtx) c d
+      ∙ ap (λ b. a || (is_type pt t.rtx || b)) (claims ts)
+      ∙ sym (ap (λ b. a || b) (any_given t.rtx (flat_map claimed_in ts)))
+
+  pub places : (es : List (ℕ × TypeRow)) (ts : List PayloadType) → AllZip IsRow es ts → is_some (place_of pt es) ≡ has (map pt_in ts) pt
+  places es ts h = place_in pt (keys_of es) ∙ ap (λ ns. has ns pt) (zip_keys IsRow pt_in (λ e t r. r.key) es ts h)
+
+  known : (es : List (ℕ × TypeRow)) (ts : List PayloadType) → AllZip IsRow es ts → is_known es pt ≡ list_any (λ n. n == pt) (flat_map claimed_in ts)
+  known es ts h = ap (λ b. b || is_some (primary_type_of es pt)) (places es ts h) ∙ ap (λ o. has (map pt_in ts) pt || is_some o) (primaries es ts h) ∙ claims ts
+
+pub same_types : (es : List (ℕ × TypeRow)) (setup : Setup) → AllZip IsRow es setup.types → types_in es ≡ types_of setup
+same_types es setup h = λ i. record {
+  claims = λ pt. known pt es setup.types h i;
+  primary_of = λ pt. unwrap_or (primaries pt es setup.types h i) pt;
+  is_rtx = λ pt. is_some (primaries pt es setup.types h i);
+  rtx_of = λ pt. rtx_types pt es setup.types h i;
+}
+
+pub wide_mtu : (mtu : Mtu) → is_mtu mtu ≡ true → 900 ≤ mtu.target
+wide_mtu mtu e = leb-true 900 mtu.target (and_parts _ _ (and_parts _ _ e).0).0
+
+-- one more type
+pub row_more : (es : List (ℕ × TypeRow)) (ts xs : List PayloadType) (i : ℕ) (t : PayloadType) (row : TypeRow) (new : List (ℕ × TypeRow)) → xs ≡ ts → NoRepeat (map pt_in ts) → i < length xs → t ≡ get_or xs i t
+    → IsRow (t.pt, row) t → new ≡ insert_entry nat_eq es t.pt row → AllZip IsRow es (take i xs) → AllZip IsRow new (take (i + 1) xs)
+row_more es ts xs i t row new same once within read is made h =
+    let more : take (i + 1) xs ≡ take i xs ++ t ∷ [] = take_more xs i t within ∙ sym (ap (λ (u : PayloadType). take i xs ++ u ∷ []) read) in
+    let whole : map pt_in ts ≡ map pt_in (take i xs) ++ (t.pt ∷ map pt_in (drop (i + 1) xs)) =
+    ap (map pt_in) (sym same ∙ sym (take-append-drop (i + 1) xs) ∙ ap (λ l. l ++ drop (i + 1) xs) more ∙ append_assoc (take i xs) (t ∷ []) (drop (i + 1) xs))
+    ∙ map-append pt_in (take i xs) (t ∷ drop (i + 1) xs) in
+    let none : IsIn t.pt (keys_of es) → ⊥ =
+    λ j. apart_ends (map pt_in (take i xs)) (t.pt ∷ map pt_in (drop (i + 1) xs)) t.pt (subst NoRepeat whole once) (subst (IsIn t.pt) (zip_keys IsRow pt_in (λ e u r. r.key) es (take i xs) h) j) (inl refl) in
+    subst (AllZip IsRow new) (sym more)
+    (subst (λ l. AllZip IsRow l (take i xs ++ t ∷ [])) (sym (made ∙ insert_new t.pt row es none))
+    (zip_push IsRow es (take i xs) (t.pt, row) t h is))

@@ -1,0 +1,11 @@
+//! Whether the repairs of a run widen: each that restores a number carries the write that was sent
+//! under it.
+#![tactic(auto)]
+
+mod line;
+mod packet;
+mod sent;
+mod taken;
+mod widens;
+
+pub use widens::repairs_widen;
