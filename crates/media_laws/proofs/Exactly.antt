@@ -27,8 +27,8 @@ use Rattle.run_model.specs.Seals.{IsSeal}
 use Rattle.run_model.specs.Sending.{numbers, number_of, sendings, sending_of, sending_on, first_sendings}
 use Rattle.run_model.specs.Transcripts.{plain_in, sealed_event, opened_event, happening_of, happenings}
 use Rattle.run_model.specs.Whole.{IsSound, IsPlainWrite, Session, session_of, Turns}
-use Rattle.run_laws.proofs.Exactly.{runs_yield_exactly}
-use Rattle.run_laws.proofs.Lists.{IsIn-map, IsIn-from_map, IsIn-flat_map}
+use Rattle.media_laws.proofs.RunExactly.{runs_yield_exactly}
+use Rattle.media_laws.proofs.Lists.{IsIn-map, IsIn-from_map, IsIn-flat_map}
 use Rattle.media_laws.specs.Config.{config_of, rtp_sealing}
 use Rattle.media_laws.specs.Headline.{past_of, taken, YieldsExactly, FirstSendingsAreYielded}
 use Rattle.media_laws.specs.Opening.{Sealing}

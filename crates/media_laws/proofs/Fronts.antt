@@ -22,9 +22,9 @@ use Rattle.run_model.specs.RxPlay.{lists_in}
 use Rattle.run_model.specs.Transcripts.{happening_of, happenings, types_of}
 use Rattle.run_model.specs.TxPlay.{is_sealing}
 use Rattle.run_model.specs.Whole.{Config, IsSound, incoming_of, Session, Turns, writes, ticks, calls, opens, hears, stays}
-use Rattle.run_laws.proofs.Lists.{IsIn-left, IsIn-map}
-use Rattle.run_laws.proofs.RxYields.{yields_new}
-use Rattle.run_laws.proofs.Tables.{drain_seals}
+use Rattle.media_laws.proofs.Lists.{IsIn-left, IsIn-map}
+use Rattle.media_laws.proofs.RxYields.{yields_new}
+use Rattle.media_laws.proofs.Tables.{drain_seals}
 use Rattle.media_laws.specs.declared.counter.Counter.{Counter}
 use Rattle.media_laws.specs.Config.{config_of}
 use Rattle.media_laws.specs.Exhausting.{Exhausts, call_of}

@@ -23,7 +23,7 @@ use Rattle.run_model.specs.RxPlay.{lists_in}
 use Rattle.run_model.specs.Seals.{IsReport}
 use Rattle.run_model.specs.Transcripts.{happenings, types_of}
 use Rattle.run_model.specs.Whole.{Session, session_of, IsSound, Turns, writes, ticks, calls, opens, hears, stays, Played as RunPlayed, begun, of_a, of_b}
-use Rattle.run_laws.proofs.Whole.{runs_answer, runs_ask_the_due}
+use Rattle.media_laws.proofs.Whole.{runs_answer, runs_ask_the_due}
 use Rattle.media_laws.specs.Config.{config_of, rtp_sealing, reporting}
 use Rattle.media_laws.specs.Exhausting.{call_of, told_of}
 use Rattle.media_laws.specs.Feedback.{IsSealOfPacket, sends}

@@ -26,7 +26,7 @@ use Rattle.run_model.specs.Sending.{write_on as event_write, writes_on as event_
 use Rattle.run_model.specs.Tables.{nonce_of, nonces as event_nonces}
 use Rattle.run_model.specs.Transcripts.{plain_in, sealed_event, opened_event, happening_of, happenings}
 use Rattle.run_model.specs.Whole.{index_of, indices}
-use Rattle.run_laws.proofs.Lists.{IsIn-map, IsIn-from_map, IsIn-flat_map, IsIn-from_flat_map, tested}
+use Rattle.media_laws.proofs.Lists.{IsIn-map, IsIn-from_map, IsIn-flat_map, IsIn-from_flat_map, tested}
 use Rattle.media_laws.specs.Headline.{past_of}
 use Rattle.media_laws.specs.Plain.{extensions_of}
 use Rattle.media_laws.proofs.Playing.{happenings-more}

@@ -32,10 +32,10 @@ use Rattle.run_model.specs.Transcripts.{plain_in, plain_of, no_plain, sealed_eve
 use Rattle.run_model.specs.TxLaws.{SendsWrites as StreamSends}
 use Rattle.run_model.specs.TxPlay.{TxRecord}
 use Rattle.run_model.specs.Whole.{IsSound, Session, Counts}
-use Rattle.run_laws.proofs.Lists.{IsIn-left, IsIn-right, IsIn-append, IsIn-map, IsIn-from_map, IsIn-flat_map, IsIn-from_flat_map, IsIn-from_filter, in-from_any, tested}
-use Rattle.run_laws.proofs.TxPlays.{tracks, writes_are, streams_send_writes}
-use Rattle.run_laws.proofs.Whole.{runs_repeat_no_nonce}
-use Rattle.run_laws.proofs.Indices.{runs_repeat_no_index}
+use Rattle.media_laws.proofs.Lists.{IsIn-left, IsIn-right, IsIn-append, IsIn-map, IsIn-from_map, IsIn-flat_map, IsIn-from_flat_map, IsIn-from_filter, in-from_any, tested}
+use Rattle.media_laws.proofs.TxPlays.{tracks, writes_are, streams_send_writes}
+use Rattle.media_laws.proofs.Whole.{runs_repeat_no_nonce}
+use Rattle.media_laws.proofs.Indices.{runs_repeat_no_index}
 use Rattle.media_laws.specs.Config.{config_of}
 use Rattle.media_laws.specs.Headline.{past_of, NoNonceTwice, IsSending, IsRepair, IsSentWrite, SendsWrites}
 use Rattle.media_laws.specs.Opening.{Sealing}

@@ -28,7 +28,7 @@ use Rattle.run_model.specs.Tables.{has, AllStrange, AreApart}
 use Rattle.run_model.specs.Transcripts.{types_of, has_type, is_type, repairs_as, outgoing_as, outgoing_in}
 use Rattle.run_model.specs.TxPlay.{IsApart}
 use Rattle.run_model.specs.Whole.{IsSound, HeadsApart}
-use Rattle.run_laws.proofs.Lists.{IsIn-left, IsIn-right, tested, any-from_in, in-from_any}
+use Rattle.media_laws.proofs.Lists.{IsIn-left, IsIn-right, tested, any-from_in, in-from_any}
 use Rattle.media_laws.specs.Config.{rtp_sealing, config_of}
 use Rattle.media_laws.specs.Opening.{Sealing}
 use Rattle.media_laws.specs.Plain.{read_header}

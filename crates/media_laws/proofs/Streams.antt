@@ -15,15 +15,15 @@ use Rattle.run_model.specs.Sending.{repairs, repair_on, sending_of}
 use Rattle.run_model.specs.Tables.{Table, lines}
 use Rattle.run_model.specs.TxPlay.{TxRecord, IsApart, IsBeside, AreBeside, clock_step, Polls, drops, misses, resends, sends, Drains, empty, polls, TxStep, writes as tx_writes, ticks as tx_ticks, hears as tx_hears, passes as tx_passes, TxPlays, begun as tx_begun, step as tx_step}
 use Rattle.run_model.specs.Whole.{Config, setup_of, Session, session_of, IsSound, Counts, Played, begun, of_a, of_b}
-use Rattle.run_laws.proofs.Asks.{side_mains, mains}
-use Rattle.run_laws.proofs.Lists.{IsIn-map, IsIn-from_map}
-use Rattle.run_laws.proofs.Nonces.{apart_in}
-use Rattle.run_laws.proofs.RunYields.{events_more, events_same}
-use Rattle.run_laws.proofs.RxTracks.{rx_tracks}
-use Rattle.run_laws.proofs.Tables.{AllPlay, sides}
-use Rattle.run_laws.proofs.TxDrains.{repair-send, repair-repair}
-use Rattle.run_laws.proofs.TxPlays.{reading_share, repair_other}
-use Rattle.run_laws.proofs.Whole.{half_of, apart_a, apart_b, RxSteps, no_streams, and_stream, turn_streams}
+use Rattle.media_laws.proofs.Asks.{side_mains, mains}
+use Rattle.media_laws.proofs.Lists.{IsIn-map, IsIn-from_map}
+use Rattle.media_laws.proofs.Nonces.{apart_in}
+use Rattle.media_laws.proofs.RunYields.{events_more, events_same}
+use Rattle.media_laws.proofs.RxTracks.{rx_tracks}
+use Rattle.media_laws.proofs.Tables.{AllPlay, sides}
+use Rattle.media_laws.proofs.TxDrains.{repair-send, repair-repair}
+use Rattle.media_laws.proofs.TxPlays.{reading_share, repair_other}
+use Rattle.media_laws.proofs.Whole.{half_of, apart_a, apart_b, RxSteps, no_streams, and_stream, turn_streams}
 
 -- each incoming stream of a side plays
 

@@ -18,7 +18,7 @@ use Rattle.media_model.specs.Setup.{pt_in, types_of as main_types, claimed_in, c
 use Rattle.run_model.specs.Listing.{IsIn, NoRepeat}
 use Rattle.run_model.specs.Transcripts.{repairs_as, types_of}
 use Rattle.run_model.specs.Whole.{Session}
-use Rattle.run_laws.proofs.Lists.{IsIn-left, IsIn-right, IsIn-append, any-from_in, in-from_any, tested}
+use Rattle.media_laws.proofs.Lists.{IsIn-left, IsIn-right, IsIn-append, any-from_in, in-from_any, tested}
 use Rattle.media_laws.specs.declared.fault.StepFault.TheVariants.{UnknownStream, UnknownType, NumberTooBig, NumberUsed, PayloadTooLong}
 use Rattle.media_laws.specs.Opening.{Sealing}
 use Rattle.media_laws.specs.Play.{AreEntriesOf, wrote, ticked, called, got, Plays}

@@ -26,10 +26,10 @@ use Rattle.run_model.specs.RxPlay.{lists_in}
 use Rattle.run_model.specs.TxPlay.{is_sealing}
 use Rattle.run_model.specs.Transcripts.{plain_in, sealed_event, opened_event, happening_of, happenings}
 use Rattle.run_model.specs.Whole.{Config, incoming_of, probes, IsSound, Session, Turns, writes, ticks, calls, opens, hears, stays}
-use Rattle.run_laws.proofs.Lists.{IsIn-right, IsIn-append, IsIn-map, IsIn-from_map, IsIn-flat_map, IsIn-from_flat_map, IsIn-filter, tested}
-use Rattle.run_laws.proofs.RxYields.{yields_new}
-use Rattle.run_laws.proofs.Tables.{drain_seals}
-use Rattle.run_laws.proofs.Whole.{runs_yield_once, runs_yield_writes}
+use Rattle.media_laws.proofs.Lists.{IsIn-right, IsIn-append, IsIn-map, IsIn-from_map, IsIn-flat_map, IsIn-from_flat_map, IsIn-filter, tested}
+use Rattle.media_laws.proofs.RxYields.{yields_new}
+use Rattle.media_laws.proofs.Tables.{drain_seals}
+use Rattle.media_laws.proofs.Whole.{runs_yield_once, runs_yield_writes}
 use Rattle.media_laws.specs.Config.{config_of}
 use Rattle.media_laws.specs.Headline.{past_of, NoPacketTwice, IsOwedTo, YieldsWrites}
 use Rattle.media_laws.specs.Opening.{Sealing}

@@ -30,7 +30,7 @@ use Rattle.run_model.specs.RxPlay.{new_rx}
 use Rattle.run_model.specs.TxPlay.{new_tx}
 use Rattle.run_model.specs.Transcripts.{outgoing_of}
 use Rattle.run_model.specs.Whole.{incoming_of, probes, new_session}
-use Rattle.run_laws.proofs.Lists.{IsIn-right, IsIn-flat_map, tested}
+use Rattle.media_play.proofs.Lists.{IsIn-right, IsIn-flat_map, tested}
 use Rattle.media_laws.specs.Config.{config_of, owns}
 use Rattle.media_laws.specs.Keys.{is_left, sealing_of}
 use Rattle.media_laws.specs.Plain.{extensions_of}

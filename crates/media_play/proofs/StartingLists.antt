@@ -13,7 +13,7 @@ use Rattle.stream_core.specs.Tables.{place_of, value_under, with_new, change_pla
 use Rattle.stream_core.proofs.TableSteps.{with_new_absent}
 use Rattle.turn_hears.proofs.Keys.{position_first, position_next}
 use Rattle.run_model.specs.Listing.{IsIn, NoRepeat}
-use Rattle.run_laws.proofs.Lists.{IsIn-left, IsIn-right, IsIn-append, tested}
+use Rattle.media_play.proofs.Lists.{IsIn-left, IsIn-right, IsIn-append, tested}
 use Rattle.run_model.specs.Events.{Outgoing}
 use Rattle.media_laws.specs.Rules.{has}
 use Rattle.media_play.specs.Starting.{ssrcs_in, AreOnce}

@@ -28,7 +28,7 @@ use Rattle.setup_rules.specs.SetupRules.{has as has_number, setup_fault, repeats
 use Rattle.run_model.specs.Events.{Outgoing}
 use Rattle.run_model.specs.Listing.{IsIn, NoRepeat}
 use Rattle.run_model.specs.Transcripts.{types_of, has_type, is_type, repairs_as, outgoing_in, outgoing_of}
-use Rattle.run_laws.proofs.Lists.{IsIn-left, IsIn-right, IsIn-append, tested, any-from_in}
+use Rattle.media_play.proofs.Lists.{IsIn-left, IsIn-right, IsIn-append, tested, any-from_in}
 use Rattle.media_laws.specs.Rules.{has}
 use Rattle.media_play.specs.Starting.{ssrcs_in, AreOnce, IsRow}
 use Rattle.media_play.proofs.StartingLists.{NoRepeat-right, apart_ends, insert_new, zip_push, zip_keys, place_in, value_first, value_next, flipped}

@@ -1,0 +1,5 @@
+use Rattle.media_laws.proofs.Example.{repairs_happen}
+use Rattle.media_laws.proofs.plain_laws.repairs_happen.Goals as goal
+
+pub returns : goal.returns
+returns c = repairs_happen

@@ -1,5 +1,0 @@
-use Rattle.run_laws.proofs.Nonces.{no_nonce_twice}
-use Rattle.run_laws.proofs.laws.no_nonce_twice.Goals as goal
-
-pub returns : goal.returns
-returns c = no_nonce_twice

@@ -1,5 +1,0 @@
-use Rattle.run_laws.proofs.Indices.{runs_repeat_no_index}
-use Rattle.run_laws.proofs.laws.runs_repeat_no_index.Goals as goal
-
-pub returns : goal.returns
-returns c = runs_repeat_no_index

@@ -1,5 +1,0 @@
-use Rattle.run_laws.proofs.Whole.{runs_yield_writes}
-use Rattle.run_laws.proofs.laws.runs_yield_writes.Goals as goal
-
-pub returns : goal.returns
-returns c = runs_yield_writes

@@ -1,5 +1,0 @@
-use Rattle.run_laws.proofs.RunYields.{streams_yield_writes}
-use Rattle.run_laws.proofs.laws.streams_yield_writes.Goals as goal
-
-pub returns : goal.returns
-returns c = streams_yield_writes
