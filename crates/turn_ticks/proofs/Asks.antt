@@ -20,7 +20,7 @@ use Rattle.session_turns.specs.Mirrors.{IsWide, RxStands, RxMirror, rx_mirror}
 use Rattle.turn_ticks.proofs.Lists.{tested, flat_map_append, all_append}
 use Rattle.turn_ticks.proofs.Entries.{AreFew, due_few}
 use Rattle.turn_ticks.proofs.Items.{IsRead, nack_is_read}
-use Rattle.turn_ticks.proofs.Streams.{enabled_same, probes_rest}
+use Rattle.turn_ticks.proofs.IncomingStreams.{enabled_same, probes_rest}
 
 due_same : (now : ℕ) (trip : Option ℕ) (o : Option Heard) → due_in now trip o ≡ plain_due_in o now (wait_of trip)
 due_same now trip None = refl

@@ -1,7 +1,15 @@
 pub mod Lists
+pub mod Asked
+pub mod Held
+pub mod Caps
+pub mod Wires
+pub mod Polls
+pub mod Values
+pub mod Tables
+pub mod Sessions
 pub mod Entries
 pub mod Items
-pub mod Streams
+pub mod IncomingStreams
 pub mod Compounds
 pub mod Asks
 pub mod Outgoing

@@ -39,7 +39,7 @@ use Rattle.session_turns.specs.Packets.{PacketsDrain, DrainsPackets}
 use Rattle.session_turns.specs.Reading.{event_of, events_of, types_in, sealing_of}
 use Rattle.turn_ticks.proofs.Lists.{map_map, flat_map_append, and_turned, far_enough}
 use Rattle.turn_ticks.proofs.Items.{IsRead}
-use Rattle.turn_ticks.proofs.Streams.{ticked_rx, enabled_mirrored, rx_ticked_mirror}
+use Rattle.turn_ticks.proofs.IncomingStreams.{ticked_rx, enabled_mirrored, rx_ticked_mirror}
 use Rattle.turn_ticks.proofs.Compounds.{Splits, splits, no_items, no_indices}
 use Rattle.turn_ticks.proofs.Asks.{nacks_read, feedback_is}
 use Rattle.turn_ticks.proofs.Outgoing.{same_keys, all_stamped}

@@ -1,8 +1,9 @@
 ghost use Rattle.session_turns.specs.Laws.{TicksTurn};
+ghost use Rattle.session_turns.specs.Packets.{PacketsDrain};
 
 use repair_core::rounds_name_the_due;
 use rtcp_wire::{items_fit_by_lengths, items_read_back};
-use turn_drains::packets_drain;
+use rtp_wire::written_header_is_read_again;
 
 /// A tick with all that leaves after it is a turn: a round asks on each stream for what is due, its
 /// NACKs leave first, and then of each stream what was asked for and what waits.
@@ -13,4 +14,13 @@ pub fn ticks_turn()
     rounds_name_the_due();
     items_read_back();
     items_fit_by_lengths();
+}
+
+/// A session on which nothing but packets waits, all of which may leave, is drained as its plain
+/// streams are: each datagram is the first sending or the repair that a poll of the plain stream
+/// gives, and what is left mirrors what is left of these.
+fn packets_drain()
+    ensures { PacketsDrain }
+{
+    written_header_is_read_again();
 }

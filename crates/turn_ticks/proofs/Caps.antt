@@ -10,7 +10,7 @@ use Rattle.run_model.specs.Capping.{Reading, is_met, reading_after}
 use Rattle.run_model.specs.TxPlay.{TxRecord}
 use Rattle.rtx_core.specs.Resends.{is_capped}
 use Rattle.session_turns.specs.Mirrors.{IsRecent, MirrorsCap}
-use Rattle.turn_drains.proofs.Basics.{tested}
+use Rattle.turn_ticks.proofs.Lists.{tested}
 
 -- what counted no more at a moment counts no more at a later one
 still_old : (m now t : ℕ) → m ≤ now → is_old m t ≡ true → is_old now t ≡ true

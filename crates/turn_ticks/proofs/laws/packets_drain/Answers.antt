@@ -1,8 +1,8 @@
 use Rattle.std.proofs.Common.{◌≡◌, ℕ, ◌<◌, false, arith}
 use Rattle.std.specs.Prelude.{◌==◌}
 use Rattle.std.proofs.lemmas.Bool.Decides.{nat_tests}
-use Rattle.turn_drains.proofs.Sessions.{all_drained}
-use Rattle.turn_drains.proofs.laws.packets_drain.Goals as goal
+use Rattle.turn_ticks.proofs.Sessions.{all_drained}
+use Rattle.turn_ticks.proofs.laws.packets_drain.Goals as goal
 
 not_zero : (now : ℕ) → 0 < now → (now == 0) ≡ false
 not_zero now later = grind (arith, nat_tests)

@@ -1,12 +1,8 @@
--- What a test says, and lists of what is asked for.
-use Rattle.std.proofs.Common.{◌≡◌, ◌⊎◌, inl, inr, ℕ, suc, Bool, true, false, List, [], ◌∷◌, map, refl, arith}
+-- Lists of what is asked for.
+use Rattle.std.proofs.Common.{◌≡◌, ℕ, suc, false, List, [], ◌∷◌, map, refl, arith}
 use Rattle.std.specs.Prelude.{◌==◌}
 use Rattle.std.proofs.lemmas.Bool.Decides.{nat_tests}
 use Rattle.rtx_core.specs.declared.resend.Resend.{Resend}
-
-pub tested : (b : Bool) → (b ≡ true) ⊎ (b ≡ false)
-tested true = inl refl
-tested false = inr refl
 
 pub suc_asked : (n : ℕ) → (suc n == 0) ≡ false
 suc_asked n = grind (arith, nat_tests)

@@ -22,8 +22,8 @@ use Rattle.run_model.specs.Sending.{is_just}
 use Rattle.run_model.specs.TxPlay.{TxRecord}
 use Rattle.run_model.specs.Tables.{Table, lines, has, AllStrange, AreApart, PollsOne, here, there, DrainsAll, more}
 use Rattle.session_turns.specs.Mirrors.{IsWide}
-use Rattle.turn_drains.proofs.Streams.{Mid, Chain, ended, polls, types, sealing, events_given, Polled, polls_mirror}
-use Rattle.turn_drains.proofs.Values.{changed_value, other_value}
+use Rattle.turn_ticks.proofs.Polls.{Mid, Chain, ended, polls, types, sealing, events_given, Polled, polls_mirror}
+use Rattle.turn_ticks.proofs.Values.{changed_value, other_value}
 
 -- polls of the streams of a plain table, one after another
 pub data Many (T : Types) (S : Sealing) (now : ℕ) : Table → Table → List Event → Type 0 where

@@ -32,10 +32,10 @@ use Rattle.run_model.specs.Tables.{Table, lines, AreApart, AreIdle, DrainsAll, d
 use Rattle.session_turns.specs.Reading.{types_in, sealing_of, event_of, events_of}
 use Rattle.session_turns.specs.Mirrors.{TxMirrors, MirrorsRepairs, IsWide}
 use Rattle.session_turns.specs.Packets.{DrainsPackets}
-use Rattle.turn_drains.proofs.Basics.{suc_asked, numbers_in, no_numbers}
-use Rattle.turn_drains.proofs.Caps.{MirrorsMid, mid_from, mid_to, begin_mirrors}
-use Rattle.turn_drains.proofs.Streams.{MirrorsAgain, NoFront, Front, front_of}
-use Rattle.turn_drains.proofs.Tables.{Many, none, many_append, many_drains, T, S, given_in, MidAt, table_polls, keys_changed}
+use Rattle.turn_ticks.proofs.Asked.{suc_asked, numbers_in, no_numbers}
+use Rattle.turn_ticks.proofs.Caps.{MirrorsMid, mid_from, mid_to, begin_mirrors}
+use Rattle.turn_ticks.proofs.Polls.{MirrorsAgain, NoFront, Front, front_of}
+use Rattle.turn_ticks.proofs.Tables.{Many, none, many_append, many_drains, T, S, given_in, MidAt, table_polls, keys_changed}
 
 no_resends : (rs : List Resend) → not (length rs == 0) ≡ false → rs ≡ []
 no_resends [] e = refl

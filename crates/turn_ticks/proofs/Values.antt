@@ -6,7 +6,7 @@ use Rattle.std.specs.Map.{keys_of, values_of}
 use Rattle.std.specs.Option.{option_map, option_map_or}
 use Rattle.std.proofs.lemmas.Bool.{eqb-true, lt-ltb, le-ltb, ltb-true, ltb-false}
 use Rattle.stream_core.specs.Tables.{place_of, value_under, change_place, change_at}
-use Rattle.turn_drains.proofs.Basics.{tested}
+use Rattle.turn_ticks.proofs.Lists.{tested}
 
 -- a key has the first place that it has
 module _ (k : ℕ) where

@@ -32,10 +32,11 @@ use Rattle.run_model.specs.Seals.{Sealing}
 use Rattle.run_model.specs.TxPlay.{TxRecord, past_of, Caches, ignored, stored, Polls as PlainPolls, drops, misses, resends, sends}
 use Rattle.session_turns.specs.Reading.{types_in}
 use Rattle.session_turns.specs.Mirrors.{IsGiven, IsKept, packet_at, sent_packet, sent_event, write_in, SendsNothingAgain, IsWide}
-use Rattle.turn_drains.proofs.Held.{Same, gone, holds, must_store, last_in}
-use Rattle.turn_drains.proofs.Caps.{MirrorsMid, sent_mirrors, resent_mirrors, read_once, met_mirrors}
-use Rattle.turn_drains.proofs.Wires.{IsRead, seal, event_given, bytes_given, event_is, seal_is, is_read}
-use Rattle.turn_drains.proofs.Basics.{tested, suc_asked, numbers_in, no_numbers}
+use Rattle.turn_ticks.proofs.Held.{Same, gone, holds, must_store, last_in}
+use Rattle.turn_ticks.proofs.Caps.{MirrorsMid, sent_mirrors, resent_mirrors, read_once, met_mirrors}
+use Rattle.turn_ticks.proofs.Wires.{IsRead, seal, event_given, bytes_given, event_is, seal_is, is_read}
+use Rattle.turn_ticks.proofs.Lists.{tested}
+use Rattle.turn_ticks.proofs.Asked.{suc_asked, numbers_in, no_numbers}
 
 -- what a stream sends again, in the midst of a drain
 pub record MidRepairs (rows : List (ℕ × TypeRow)) (now : ℕ) (L : Outgoing) (t : TxRecord) (q : RepairsRecord) : Type 0 where
