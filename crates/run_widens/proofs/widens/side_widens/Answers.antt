@@ -1,10 +1,9 @@
-use Rattle.std.proofs.Common.{◌≡◌, ◌<◌, ◌≤◌, List, length, get_or, take, refl, sym, subst}
+use Rattle.std.proofs.Common.{◌≡◌, ◌<◌, ◌≤◌, List, length, get_or, refl, sym, subst}
 use Rattle.std.specs.List.{filter_map, flat_map}
 use Rattle.std.proofs.lemmas.List.{take_all}
 use Rattle.media_model.specs.declared.setup.Media.{Media}
 use Rattle.media_model.specs.declared.setup.Stream.{Stream}
 use Rattle.media_model.specs.Sides.{peer_of}
-use Rattle.run_model.specs.Events.{Outgoing}
 use Rattle.run_model.specs.Transcripts.{outgoing_in}
 use Rattle.run_widens.specs.Widens.{AllWiden}
 use Rattle.run_widens.proofs.Streams.{section_more, section_stops}
@@ -23,9 +22,9 @@ returns-then-not-branch c =
     let f = λ (m : Media). filter_map (outgoing_in setup (peer_of side)) m.streams in (
       λ t. absurd cc,
       λ w.
-      let here = section_stops setup a.exts.now side a.entries.now setup.media i lt media is f w in
-      let one = subst (λ (ss : List Stream). AllWiden setup a.exts.now side (filter_map (outgoing_in setup (peer_of side)) ss) a.entries.now) (sym c.as_slice.ensures) here in
-      absurd (cc (c.in_ok-streams_widen.ensures.1 one, c.if-not-branch.true)),
+          let here = section_stops setup a.exts.now side a.entries.now setup.media i lt media is f w in
+          let one = subst (λ (ss : List Stream). AllWiden setup a.exts.now side (filter_map (outgoing_in setup (peer_of side)) ss) a.entries.now) (sym c.as_slice.ensures) here in
+          absurd (cc (c.in_ok-streams_widen.ensures.1 one, c.if-not-branch.true)),
     )
 
 pub loop-media-preserved : goal.loop-media-preserved
