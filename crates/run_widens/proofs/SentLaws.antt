@@ -1,20 +1,20 @@
 -- What was sent on a line, one entry after another.
-use Rattle.std.proofs.Common.{◌≡◌, ◌≤◌, ◌<◌, ◌+◌, ℕ, Bool, true, false, cond, not, ◌&&◌, ◌||◌, map, filter, List, [], ◌∷◌, ◌++◌, Option, Some, None, refl, sym, ap, ◌∙◌, subst, arith, nat_lt, nat_eq}
+use Rattle.std.proofs.Common.{◌≡◌, ◌<◌, ◌+◌, ℕ, Bool, true, false, cond, not, ◌&&◌, ◌||◌, map, filter, List, [], ◌∷◌, ◌++◌, Option, Some, None, refl, sym, ap, ◌∙◌, subst, arith, nat_lt}
 use Rattle.std.specs.Prelude.{◌==◌, if◌then◌else◌}
 use Rattle.std.specs.Str.{bytes_eq}
 use mathlib.Core.Bool.{beq}
-use Rattle.std.specs.List.{list_any, flat_map, fold}
+use Rattle.std.specs.List.{list_any, fold}
 use Rattle.std.proofs.lemmas.List.{append-nil}
 use Rattle.std.proofs.lemmas.List.Sums.{fold-append}
 use Rattle.std.proofs.lemmas.List.Concat.{flat_map-append}
 use Rattle.std.proofs.lemmas.List.Folds.{list_any-append}
-use Rattle.std.proofs.lemmas.Bool.{eqb-true, eq-eqb, lt-ltb}
+use Rattle.std.proofs.lemmas.Bool.{eqb-true, lt-ltb}
 use Rattle.std.proofs.lemmas.Bool.Decides.{nat_tests}
 use Rattle.media_model.specs.declared.entry.Side.{Side}
 use Rattle.media_model.specs.declared.entry.Side.TheVariants.{A, B}
 use Rattle.media_model.specs.declared.entry.Write.{Write}
 use Rattle.media_model.specs.Sides.{peer_of, same_side}
-use Rattle.run_model.specs.Events.{Plain, Event, wrote, sealed, Types}
+use Rattle.run_model.specs.Events.{Event, wrote, Types}
 use Rattle.run_model.specs.Runs.{Happening, event_of, events_of}
 use Rattle.run_model.specs.Sending.{Sendings, sendings, sending_step, nothing_sent, is_sending, is_numbered}
 use Rattle.run_widens.specs.declared.sent.Carried.{Carried}

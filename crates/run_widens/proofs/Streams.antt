@@ -1,18 +1,23 @@
 -- The streams of a setup, one after another.
-use Rattle.std.proofs.Common.{◌≡◌, ◌≤◌, ◌<◌, ◌+◌, ℕ, Bool, true, false, ◌⊎◌, inl, inr, map, List, [], ◌∷◌, ◌++◌, length, take, drop, get_or, Option, Some, None, refl, sym, ap, ◌∙◌, subst, add-one}
+use Rattle.std.proofs.Common.{◌≡◌, ◌<◌, ◌+◌, ℕ, Bool, ◌⊎◌, inl, inr, map, List, [], ◌∷◌, ◌++◌, length, take, drop, get_or, Option, Some, sym, ap, ◌∙◌, subst, add-one}
+use Rattle.std.specs.Prelude.{IsTrue, ◌↔◌}
 use Rattle.std.specs.List.{filter_map, cons_option, flat_map}
 use Rattle.std.proofs.Math.Seq.{drop-cons}
-use Rattle.std.proofs.lemmas.List.{append-nil, take_more, take_all, take-append-drop}
+use Rattle.std.proofs.lemmas.List.{append-nil, take_more, take-append-drop}
 use Rattle.std.proofs.lemmas.List.Elements.{filter_map-append}
 use Rattle.std.proofs.lemmas.List.Concat.{flat_map-append}
 use Rattle.rtp_wire.specs.declared.extension.ExtensionMap.{ExtensionMap}
 use Rattle.media_model.specs.declared.entry.Side.{Side}
+use Rattle.media_model.specs.declared.entry.Side.TheVariants.{A, B}
 use Rattle.media_model.specs.declared.entry.Entry.{Entry}
 use Rattle.media_model.specs.declared.setup.Setup.{Setup}
+use Rattle.media_model.specs.Setup.{extensions_of}
+use Rattle.media_model.specs.Sides.{peer_of}
 use Rattle.run_model.specs.Events.{Outgoing}
 use Rattle.run_model.specs.Listing.{IsIn}
 use Rattle.run_model.specs.Runs.{RepairsWiden}
-use Rattle.run_model.specs.Transcripts.{types_of, happening_of}
+use Rattle.run_model.specs.Transcripts.{types_of, happening_of, outgoing_of}
+use Rattle.run_model.specs.Widening.{RunWidens}
 use Rattle.run_model.specs.Whole.{incoming_of}
 use Rattle.run_widens.specs.Widens.{AllWiden}
 
@@ -81,3 +86,18 @@ module _ (setup : Setup) (exts : ExtensionMap) (side : Side) (entries : List Ent
 
   pub none : Widen []
   none M x = absurd x
+
+-- what both sides received
+pub of_sides : (setup : Setup) (exts : ExtensionMap) (entries : List Entry) → exts ≡ extensions_of setup → AllWiden setup exts A (outgoing_of (peer_of A) setup) entries
+    → AllWiden setup exts B (outgoing_of (peer_of B) setup) entries → RunWidens setup entries
+of_sides setup exts entries is a b A = subst (λ (x : ExtensionMap). AllWiden setup x A (outgoing_of (peer_of A) setup) entries) is a
+of_sides setup exts entries is a b B = subst (λ (x : ExtensionMap). AllWiden setup x B (outgoing_of (peer_of B) setup) entries) is b
+
+pub of_side : (setup : Setup) (exts : ExtensionMap) (entries : List Entry) → exts ≡ extensions_of setup → (side : Side) → RunWidens setup entries
+    → AllWiden setup exts side (outgoing_of (peer_of side) setup) entries
+of_side setup exts entries is side run = subst (λ (x : ExtensionMap). AllWiden setup x side (outgoing_of (peer_of side) setup) entries) (sym is) (run side)
+
+-- the answer of the second side, where what the first one received widens
+pub second_side : (setup : Setup) (exts : ExtensionMap) (entries : List Entry) → exts ≡ extensions_of setup → AllWiden setup exts A (outgoing_of (peer_of A) setup) entries
+    → (b : Bool) → (IsTrue b ↔ AllWiden setup exts B (outgoing_of (peer_of B) setup) entries) → IsTrue b ↔ RunWidens setup entries
+second_side setup exts entries is a b told = (λ t. of_sides setup exts entries is a (told.0 t), λ run. told.1 (of_side setup exts entries is B run))

@@ -1,13 +1,12 @@
 -- What is kept of the numbers of a stream, one datagram after another.
-use Rattle.std.proofs.Common.{◌≡◌, ◌≤◌, ◌<◌, ◌+◌, ℕ, Bool, true, false, cond, max, not, ◌&&◌, ◌||◌, List, [], ◌∷◌, ◌++◌, Option, Some, None, refl, sym, ap, ◌∙◌, arith, nat_lt, nat_le, nat_eq}
+use Rattle.std.proofs.Common.{◌≡◌, ℕ, Bool, true, false, max, ◌||◌, List, [], ◌∷◌, ◌++◌, Option, Some, None, refl, sym, ap, ◌∙◌, arith, nat_lt}
 use Rattle.std.specs.Prelude.{◌==◌, if◌then◌else◌}
-use Rattle.std.specs.List.{list_any}
 use Rattle.std.proofs.lemmas.Bool.Decides.{nat_tests}
 use Rattle.repair_core.specs.Fresh.{greatest, greatest_of, is_fresh, started_from}
 use Rattle.run_model.specs.Events.{Incoming}
 use Rattle.run_model.specs.Receiving.{Lists, begun_taken, begun_with, after_first, with_tried as lists_tried, with_restored as lists_restored}
 use Rattle.run_widens.specs.declared.taken.Taken.{Taken}
-use Rattle.run_widens.specs.Taken.{greater, is_greater, with_first, with_tried, with_restored, is_begun, taken_of}
+use Rattle.run_widens.specs.Taken.{greater, with_first, with_tried, with_restored, is_begun, taken_of}
 
 max_assoc : (a b c : ℕ) → max a (max b c) ≡ max (max a b) c
 max_assoc a b c = omega arith

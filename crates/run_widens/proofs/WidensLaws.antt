@@ -1,6 +1,6 @@
 -- Whether what is opened on a line widens.
-use Rattle.std.proofs.Common.{◌≡◌, ◌+◌, ◌*◌, ◌/◌, ◌%◌, ℕ, Bool, true, false, cond, ◌&&◌, ◌||◌, ◌⊎◌, inl, inr, map, List, [], ◌∷◌, ◌++◌, Option, Some, None, refl, sym, ap, ◌∙◌, subst, arith}
-use Rattle.std.specs.Prelude.{◌==◌, if◌then◌else◌, take}
+use Rattle.std.proofs.Common.{◌≡◌, ◌+◌, ◌*◌, ◌/◌, ◌%◌, ℕ, Bool, true, false, ◌&&◌, ◌||◌, inl, inr, List, [], ◌∷◌, ◌++◌, Option, Some, None, refl, sym, ap, ◌∙◌, subst, arith}
+use Rattle.std.specs.Prelude.{◌==◌, if◌then◌else◌}
 use Rattle.std.specs.List.{list_any, fold}
 use Rattle.std.specs.Str.{bytes_eq}
 use Rattle.std.specs.Cmp.{booleans_Decides}
@@ -10,7 +10,7 @@ use Rattle.std.proofs.lemmas.Bool.{eqb-true, eq-eqb}
 use Rattle.std.proofs.lemmas.Slice.Eq.{bytes_eq-Decides}
 use Rattle.rtp_base.specs.Widen.{widen16, rollover}
 use Rattle.rtp_base.specs.declared.kind.Kind.{Kind}
-use Rattle.rtp_base.specs.declared.kind.Kind.TheVariants.{Rtp, Rtcp}
+use Rattle.rtp_base.specs.declared.kind.Kind.TheVariants.{Rtp}
 use Rattle.repair_core.specs.Fresh.{greatest_of}
 use Rattle.media_model.specs.declared.entry.Side.{Side}
 use Rattle.media_model.specs.declared.entry.Side.TheVariants.{A, B}
@@ -18,11 +18,11 @@ use Rattle.media_model.specs.declared.entry.Write.{Write}
 use Rattle.media_model.specs.declared.entry.Opened.{Opened as OpenedEntry}
 use Rattle.media_model.specs.declared.entry.Entry.{Entry}
 use Rattle.media_model.specs.declared.entry.Entry.TheVariants.{Opened}
-use Rattle.media_model.specs.Sides.{peer_of, same_side}
-use Rattle.run_model.specs.Events.{Plain, Event, opened, Types, Incoming}
+use Rattle.media_model.specs.Sides.{same_side}
+use Rattle.run_model.specs.Events.{Plain, opened, Types}
 use Rattle.run_model.specs.Listing.{IsIn}
 use Rattle.run_model.specs.Runs.{Happening, event_of, events_of, without_padding}
-use Rattle.run_model.specs.Receiving.{Lists, no_lists, lists, list_step, concerns, is_repair, begun_taken, low_of, cut, restored, restored_by, after_first, after_repair, after_opened, with_tried as lists_tried, with_restored as lists_restored}
+use Rattle.run_model.specs.Receiving.{Lists, no_lists, lists, list_step, concerns, is_repair, begun_taken, low_of, cut, restored_by, after_first, after_repair, after_opened, with_tried as lists_tried, with_restored as lists_restored}
 use Rattle.run_model.specs.Sending.{Carries, two_bytes}
 use Rattle.run_model.specs.Transcripts.{is_type, plain_in, opened_event}
 use Rattle.run_widens.specs.declared.line.Line.{Line}
@@ -165,7 +165,7 @@ module _ (line : Line) (past : List Happening) (entry : Entry) (o : OpenedEntry)
 
     no_number : (u : Taken) → u ≡ taken_of l1 → low_of (cut p) ≡ None → Told line past h (Some u)
     no_number u tried none = (
-      λ a b d q e. absurd (cc (ap (restored_by l1) none, e)),
+      λ a b d q e. absurd (cc (ap (restored_by l1) (sym none) ∙ e)),
       tried ∙ ap (λ x. taken_of (lists_restored l1 (restored_by l1 x))) (sym none) ∙ sym after_told,
     )
 

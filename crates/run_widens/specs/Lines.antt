@@ -1,7 +1,7 @@
 -- A stream that a side receives, as it is watched.
-use Rattle.std.specs.Prelude.{ℕ, Bool, ◌&&◌, ◌||◌, ◌==◌, not, take}
+use Rattle.std.specs.Prelude.{ℕ, Bool, ◌&&◌, ◌||◌, ◌==◌, not}
 use Rattle.media_model.specs.declared.entry.Entry.{Entry}
-use Rattle.run_model.specs.Events.{Plain, Types, Incoming}
+use Rattle.run_model.specs.Events.{Types, Incoming}
 use Rattle.run_model.specs.Runs.{Happening}
 use Rattle.run_model.specs.Sending.{is_some, is_just}
 use Rattle.run_model.specs.Transcripts.{types_of, happening_of}

@@ -1,5 +1,5 @@
 -- An RTP datagram as its header reads, with what stands behind the header.
-use Rattle.std.specs.Prelude.{◌≡◌, ℕ, ◌++◌, take, List, Option, Some, None}
+use Rattle.std.specs.Prelude.{◌≡◌, ℕ, ◌++◌, take, List, Some}
 use Rattle.run_model.specs.Events.{Plain}
 use Rattle.run_model.specs.Receiving.{cut, low_of}
 use Rattle.run_model.specs.Sending.{two_bytes}

@@ -1,5 +1,5 @@
 -- Which writes of a stream were sent, and what repairs carry of them.
-use Rattle.std.specs.Prelude.{◌≡◌, ◌<◌, ℕ, Bool, true, false, ◌&&◌, ◌==◌, nat_eq, nat_lt, not, map, if◌then◌else◌, List, Option, Some, None}
+use Rattle.std.specs.Prelude.{◌≡◌, ◌<◌, ℕ, Bool, true, false, ◌&&◌, ◌==◌, nat_eq, nat_lt, if◌then◌else◌, List, Option, Some, None}
 use Rattle.std.specs.List.{list_any}
 use mathlib.Core.Bool.{beq}
 use Rattle.std.specs.Str.{bytes_eq}
@@ -9,7 +9,7 @@ use Rattle.media_model.specs.declared.entry.Sealed.{Sealed}
 use Rattle.rtp_base.specs.Kind.{same_kind}
 use Rattle.rtp_base.specs.declared.kind.Kind.TheVariants.{Rtp}
 use Rattle.media_model.specs.Sides.{peer_of}
-use Rattle.run_model.specs.Events.{Types, Plain}
+use Rattle.run_model.specs.Events.{Types}
 use Rattle.run_model.specs.Runs.{Happening, events_of}
 use Rattle.run_model.specs.Sending.{Sendings, sendings, is_sending}
 use Rattle.run_model.specs.Transcripts.{is_type, plain_in}

@@ -1,6 +1,6 @@
 -- Which numbers a stream took, as far as what its repairs restore depends on it: by what the next restored number is widened,
 -- and whether a number was taken.
-use Rattle.std.specs.Prelude.{ℕ, Bool, true, false, not, ◌&&◌, ◌||◌, max, nat_lt, if◌then◌else◌, List, [], ◌∷◌, Option, Some, None}
+use Rattle.std.specs.Prelude.{ℕ, Bool, true, false, not, ◌||◌, max, nat_lt, if◌then◌else◌, List, [], ◌∷◌, Option, Some, None}
 use Rattle.repair_core.specs.Fresh.{greatest_of}
 use Rattle.run_model.specs.Receiving.{Lists, begun_taken}
 use Rattle.run_widens.specs.declared.taken.Taken.{Taken}

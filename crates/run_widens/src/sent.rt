@@ -3,7 +3,8 @@ ghost use Rattle.std.specs.Prelude.{◌≡◌, ◌+◌, ◌∷◌, ◌++◌, [],
 ghost use Rattle.run_model.specs.Runs.{Happening};
 ghost use Rattle.run_widens.specs.Lines.{types_in, happening_in};
 ghost use Rattle.run_widens.specs.declared.line.Line.{Line as Watched};
-ghost use Rattle.run_widens.specs.Sent.{IsKey, is_first, is_before, first_of, last_of, same_carried, put_at, Holds};
+ghost use Rattle.run_widens.specs.Sent.{IsKey, is_first, is_before, first_of, last_of};
+ghost use Rattle.run_widens.specs.Sent.{same_carried, put_at, Holds};
 ghost use Rattle.run_widens.specs.declared.sent.Carried.{Carried as Key};
 ghost use Rattle.std.specs.HashMap.{get};
 
@@ -25,7 +26,8 @@ pub(crate) struct Carried<'a> {
     pub(crate) payload: &'a [u8],
 }
 
-// The place of the first write of which a repair carries the same, and of the last first sending under a number.
+// The place of the first write of which a repair carries the same, and of the last first sending
+// under a number.
 #[derive(Drop)]
 pub(crate) struct Sent<'a> {
     pub(crate) first: HashMap<Carried<'a>, usize>,
@@ -105,7 +107,8 @@ fn put<'a>(
     key: Carried<'a>,
     at: usize,
 ) -> Result<(), AllocError>
-    ensures { OnOk result ((k : Key) → get same_carried first.new k ≡ put_at at key.entry k (get same_carried first.old k)) }
+    ensures { OnOk result ((k : Key) → get same_carried first.new k
+        ≡ put_at at key.entry k (get same_carried first.old k)) }
 {
     if !first.contains_key(&key) {
         first.insert(key, at)?;

@@ -1,6 +1,7 @@
 // Which numbers a stream took, as far as what its repairs restore depends on it.
 ghost use Rattle.std.specs.Prelude.{◌≡◌, Some};
-ghost use Rattle.run_widens.specs.Taken.{no_numbers, greater, is_greater, with_first, with_tried, with_restored};
+ghost use Rattle.run_widens.specs.Taken.{no_numbers, greater, is_greater};
+ghost use Rattle.run_widens.specs.Taken.{with_first, with_tried, with_restored};
 
 // By what the next restored number is widened, and whether a number was taken.
 #[derive(Clone, Copy)]

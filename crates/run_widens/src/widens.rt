@@ -6,7 +6,8 @@ ghost use Rattle.run_model.specs.Transcripts.{outgoing_in, outgoing_of};
 ghost use Rattle.run_model.specs.Widening.{RunWidens};
 ghost use Rattle.run_widens.specs.Lines.{happening_in};
 ghost use Rattle.run_widens.specs.Sent.{Holds};
-ghost use Rattle.run_widens.specs.Widens.{AfterRepair, IsCarried, Told, taken_on, LineWidens, AllWiden};
+ghost use Rattle.run_widens.specs.Widens.{AfterRepair, IsCarried, Told, taken_on};
+ghost use Rattle.run_widens.specs.Widens.{LineWidens, AllWiden};
 
 use crate::line::Line;
 use crate::packet::{Packet, read};
@@ -16,9 +17,10 @@ use media_model::{Entry, Kind, Setup, Side, Stream};
 use rtp_wire::{ExtensionMap, widen16};
 use std::alloc::{AllocError, Global};
 
-/// Whether the repairs of a run widen: each that was opened on a stream and restores a number carries
-/// the write that the other side had sent under that number. The cost grows with the number of entries
-/// times that of streams, but for looking writes up by hash.
+/// Whether the repairs of a run widen: each that was opened on a stream and restores a number
+/// carries a write of the stream that the other side had sealed before under that number. An `Err`
+/// says that memory ran out. The entries are gone through once for each stream of the setup, and
+/// writes are looked up by hash.
 pub fn repairs_widen(alloc: Global, setup: &Setup, entries: &[Entry]) -> Result<bool, AllocError>
     ensures { IfOk result (λ b. IsTrue b ↔ RunWidens setup.now entries.now) }
 {
@@ -96,7 +98,8 @@ fn line_widens(alloc: Global, line: &Line<'_>, entries: &[Entry]) -> Result<bool
 // What is kept of the numbers taken after an entry. None where it does not widen.
 fn after(line: &Line<'_>, taken: Taken, sent: &Sent<'_>, entry: &Entry) -> Option<Taken>
     ensures { (past : List Happening) (at : ℕ) → taken ≡ taken_on line.now past
-        → Holds line.now sent.now at past → Told line.now past (happening_in line.now entry.now) result }
+        → Holds line.now sent.now at past
+        → Told line.now past (happening_in line.now entry.now) result }
 {
     let Entry::Opened(opened) = entry else {
         return Some(taken);

@@ -1,7 +1,7 @@
-use Rattle.std.proofs.Common.{◌∙◌, sym, [], ap, subst, ◌≡◌, ◌≤◌, ℕ, List, Option, Some, None, arith, cond, Bool, true, false}
+use Rattle.std.proofs.Common.{◌∙◌, sym, [], subst, ◌≡◌, ◌≤◌, ℕ, List, Some, None, arith, cond, Bool, true, false}
 use Rattle.rtp_wire.specs.declared.extension.ExtensionMap.{ExtensionMap}
 use Rattle.rtp_wire.specs.declared.header.RtpHeader.{RtpHeader}
-use Rattle.rtp_wire.specs.Header.{header_of, has_header, fields_of, source_count}
+use Rattle.rtp_wire.specs.Header.{header_of, has_header, fields_of}
 use Rattle.run_widens.proofs.packet.read.Goals as goal
 
 -- a header ends within its packet

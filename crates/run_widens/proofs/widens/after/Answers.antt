@@ -1,4 +1,4 @@
-use Rattle.std.proofs.Common.{◌≡◌, Bool, true, false, not, refl, sym, ◌∙◌, ap}
+use Rattle.std.proofs.Common.{◌≡◌, true, false, not, refl, sym, ◌∙◌, ap}
 use denote.Enum.Bare.{sameb}
 use Rattle.media_model.specs.contracts.entry.Side as side
 use Rattle.rtp_base.specs.contracts.kind.Kind as kind

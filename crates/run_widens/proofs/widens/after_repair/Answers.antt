@@ -1,4 +1,4 @@
-use Rattle.std.proofs.Common.{◌≡◌, Bool, Option, Some, None, sym, ◌∙◌, ap}
+use Rattle.std.proofs.Common.{Option, Some, None, sym, ◌∙◌, ap}
 use Rattle.std.specs.Prelude.{if◌then◌else◌}
 use Rattle.run_widens.specs.declared.taken.Taken.{Taken}
 use Rattle.run_widens.specs.Taken.{with_restored}

@@ -21,8 +21,8 @@ returns-in_default c =
     let i = c.loop-i.i in (
       λ t. absurd cc,
       λ w.
-      absurd (stops line c.args.entries.now i c.loop-i-test.true e c.index-entries-i.is
-      (none_told line (happened line c.args.entries.now i) _ c.after.result c.in_default.not-Some (c.after.ensures (happened line c.args.entries.now i) i k.taken_so_far k.sent_so_far)) w),
+          absurd (stops line c.args.entries.now i c.loop-i-test.true e c.index-entries-i.is
+          (none_told line (happened line c.args.entries.now i) _ c.after.result c.in_default.not-Some (c.after.ensures (happened line c.args.entries.now i) i k.taken_so_far k.sent_so_far)) w),
     )
 
 pub loop-i-preserved : goal.loop-i-preserved

@@ -1,4 +1,4 @@
-use Rattle.std.proofs.Common.{◌≡◌, inl, Bool, true, false, Option, Some, None, List, [], take, refl, sym, ap, ◌∙◌, subst}
+use Rattle.std.proofs.Common.{◌≡◌, inl, Bool, true, false, Option, Some, None, List, [], refl, sym, ap, ◌∙◌, subst}
 use Rattle.std.specs.Prelude.{if◌then◌else◌}
 use Rattle.std.specs.List.{filter_map, cons_option}
 use Rattle.std.proofs.lemmas.List.{take_all}
@@ -38,10 +38,10 @@ returns-then-not-branch c =
     let on = sym (c.eq.ensures ∙ same_test stream.side c.peer.result (peer_of a.side) c.peer.ensures) ∙ c.if-eq.true in (
       λ t. absurd cc,
       λ w.
-      let here =
-      stream_stops a.setup.now a.exts.now a.side a.entries.now a.streams.now c.loop-stream.stream-index c.loop-stream-test.true stream c.stream-item.is (outgoing_in a.setup.now (peer_of a.side)) (sent_as a.setup.now stream)
-      (sends a.setup.now (peer_of a.side) stream true on) w in
-      absurd (cc (c.in_ok-line_widens.ensures.1 (here (sent_as a.setup.now stream) (inl refl)), c.if-not-branch.true)),
+          let here =
+          stream_stops a.setup.now a.exts.now a.side a.entries.now a.streams.now c.loop-stream.stream-index c.loop-stream-test.true stream c.stream-item.is (outgoing_in a.setup.now (peer_of a.side)) (sent_as a.setup.now stream)
+          (sends a.setup.now (peer_of a.side) stream true on) w in
+          absurd (cc (c.in_ok-line_widens.ensures.1 (here (sent_as a.setup.now stream) (inl refl)), c.if-not-branch.true)),
     )
 
 pub loop-stream-preserved : goal.loop-stream-preserved
@@ -52,21 +52,21 @@ loop-stream-preserved c =
     let more = stream_more a.setup.now a.exts.now a.side a.entries.now a.streams.now c.loop-stream.stream-index c.loop-stream-test.true stream c.stream-item.is f c.loop-stream.invariant in
     let told : (b : Bool) → c.eq.result ≡ b → f stream ≡ (if b then Some (sent_as a.setup.now stream) else None) = λ b e. sends a.setup.now (peer_of a.side) stream b (sym (c.eq.ensures ∙ same_test stream.side c.peer.result (peer_of a.side) c.peer.ensures) ∙ e) in
     elim c.if-eq.branch [
-      then-eq+in_ok-line_widens+else-not-branch w ↦
-        more
-        (subst (λ (o : Option Outgoing). AllWiden a.setup.now a.exts.now a.side (cons_option o []) a.entries.now) (sym (told true w.if-eq.true))
-        (alone a.setup.now a.exts.now a.side a.entries.now (sent_as a.setup.now stream) (w.in_ok-line_widens.ensures.0 w.if-not-branch.false)))
-    | else-eq w ↦
-        more
-        (subst (λ (o : Option Outgoing). AllWiden a.setup.now a.exts.now a.side (cons_option o []) a.entries.now) (sym (told false w.if-eq.false))
-        (none a.setup.now a.exts.now a.side a.entries.now))
+      | then-eq+in_ok-line_widens+else-not-branch w ↦
+          more
+          (subst (λ (o : Option Outgoing). AllWiden a.setup.now a.exts.now a.side (cons_option o []) a.entries.now) (sym (told true w.if-eq.true))
+          (alone a.setup.now a.exts.now a.side a.entries.now (sent_as a.setup.now stream) (w.in_ok-line_widens.ensures.0 w.if-not-branch.false)))
+      | else-eq w ↦
+          more
+          (subst (λ (o : Option Outgoing). AllWiden a.setup.now a.exts.now a.side (cons_option o []) a.entries.now) (sym (told false w.if-eq.false))
+          (none a.setup.now a.exts.now a.side a.entries.now))
     ]
 
 pub returns : goal.returns
 returns c =
     let a = c.args in (
       λ t.
-      subst (λ (xs : List Stream). AllWiden a.setup.now a.exts.now a.side (filter_map (outgoing_in a.setup.now (peer_of a.side)) xs) a.entries.now)
-      (take_all c.loop-stream.stream-index a.streams.now c.loop-stream-test.false) c.loop-stream.invariant,
+          subst (λ (xs : List Stream). AllWiden a.setup.now a.exts.now a.side (filter_map (outgoing_in a.setup.now (peer_of a.side)) xs) a.entries.now)
+          (take_all c.loop-stream.stream-index a.streams.now c.loop-stream-test.false) c.loop-stream.invariant,
       λ w. refl,
     )

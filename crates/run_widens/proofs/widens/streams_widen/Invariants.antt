@@ -3,7 +3,6 @@ use Rattle.std.specs.List.{filter_map}
 use Rattle.media_model.specs.Sides.{peer_of}
 use Rattle.run_model.specs.Transcripts.{outgoing_in}
 use Rattle.run_widens.specs.Widens.{AllWiden}
-use Rattle.run_widens.proofs.Streams.{stream_more}
 use Rattle.run_widens.proofs.widens.streams_widen.Given as goal
 
 abbrev pub invariant-loop-stream : goal.invariant-loop-stream

@@ -1,4 +1,4 @@
-use Rattle.std.proofs.Common.{refl, sym, ◌∙◌, ap}
+use Rattle.std.proofs.Common.{sym, ◌∙◌}
 use Rattle.run_widens.proofs.SentLaws.{wrote_told, sealed_told}
 use Rattle.run_widens.proofs.sent.Sent.add.Goals as goal
 
