@@ -10,8 +10,9 @@ use std::alloc::Global;
 use std::test::Fail;
 
 // A stream of which packets are sent again under the SSRC 43 as type 97, from the number 5 on.
-const SETUP: &str =
-    "str0m-media 1\nkey zero\ntype 96 vp8 90000 rtx=97\nmedia v video cam\nstream A v 42 43 -\n";
+const TYPES: &str = "str0m-media 1\nkey zero\ntype 96 vp8 90000 rtx=97\nmedia v video cam\n";
+
+const STREAM: &str = "stream A v 42 43 -\n";
 
 const FROM_5: &str = "start 42 5\ncache 42 2000 3000 none\n";
 
@@ -41,7 +42,8 @@ const REPAIR: &str =
 
 // A run of these setup lines and steps.
 fn ran(alloc: Global, lines: &str, steps: &str) -> Result<(Report, MemSink), Fail> {
-    let mut text = SETUP.to_string(alloc)?;
+    let mut text = TYPES.to_string(alloc)?;
+    text.push_str(STREAM)?;
     text.push_str(lines)?;
     text.push_str("begin\n")?;
     text.push_str(steps)?;
@@ -97,7 +99,11 @@ fn capped_and_uncapped(rt: HostRuntime) -> Result<(), Fail> {
     let alloc = rt.alloc();
     let mut again = REPAIRED.to_string(alloc)?;
     again.push_str("deliver A 100ms 1\ntick A 100ms\n")?;
-    let (report, sink) = ran_after_loss(alloc, "start 42 5\ncache 42 2000 3000 15\n", again.as_str())?;
+    let (report, sink) = ran_after_loss(
+        alloc,
+        "start 42 5\ncache 42 2000 3000 15\n",
+        again.as_str(),
+    )?;
     assert_eq!(rt; report.end, End::Done);
     assert_eq!(rt; lines_with(sink.bytes(), "sealed A rtp 43"), 1);
     assert_eq!(rt; lines_with(sink.bytes(), REPAIR), 1);
@@ -109,40 +115,131 @@ fn capped_and_uncapped(rt: HostRuntime) -> Result<(), Fail> {
     Ok(())
 }
 
-// Repairs of no byte and of one restore nothing; one of two bytes has an empty payload.
+// Repairs of no byte and of one restore nothing; one of two bytes has an empty payload. None opens twice.
 #[test]
 fn short_repairs(rt: HostRuntime) -> Result<(), Fail> {
     let alloc = rt.alloc();
-    for (bytes, opened, text) in SHORT_REPAIRS {
-        let steps = format!(in alloc; "foreign B 1 rtp {bytes}\n")?;
+    for (bytes, opened, yields, end) in SHORT_REPAIRS {
+        let steps = format!(in alloc; "foreign B 1 rtp {bytes}\nforeign B 1 rtp {bytes}\n")?;
         let (report, sink) = ran(alloc, FROM_5, steps.as_str())?;
         assert_eq!(rt; report.end, End::Done, "at {bytes}");
+        assert_eq!(rt; lines_with(sink.bytes(), "got B rtp"), 2, "at {bytes}");
         assert_eq!(rt; lines_with(sink.bytes(), "opened"), 1, "at {bytes}");
         assert_eq!(rt; lines_with(sink.bytes(), opened), 1, "at {bytes}");
-        assert_eq!(rt; lines_with(sink.bytes(), "yielded"), lines_with(text.as_bytes(), "yielded"), "at {bytes}");
-        assert!(rt; sink.bytes().ends_with(text.as_bytes()), "at {bytes}");
+        assert_eq!(rt; lines_with(sink.bytes(), "yielded"), yields, "at {bytes}");
+        assert_eq!(rt;
+            lines_with(sink.bytes(), "yielded B 42 5 96 0 0 -"),
+            yields,
+            "at {bytes}"
+        );
+        assert_eq!(rt; lines_with(sink.bytes(), end), 1, "at {bytes}");
     }
     Ok(())
 }
 
-// Seals of repairs, what opens, and the end of the text.
-const SHORT_REPAIRS: [(&str, &str, &str); 3] = [
+// Seals of repairs, what opens, how many packets are yielded, and the last line.
+const SHORT_REPAIRS: [(&str, &str, usize, &str); 3] = [
     (
-        "80610009000000000000002b80610009002b00020000002200000001",
+        NO_PAYLOAD,
         "opened B rtp 43 9",
-        "opened B rtp 43 9\nend genuine=no repairs=yes\n",
+        0,
+        "end genuine=no repairs=yes",
     ),
     (
         "8061000b000000000000002b078061000b002b00020000002007000001",
         "opened B rtp 43 11",
-        "opened B rtp 43 11\nend genuine=no repairs=yes\n",
+        0,
+        "end genuine=no repairs=yes",
     ),
     (
-        "8061000a000000000000002b00058061000a002b00020000002100050001",
+        OF_NUMBER_5,
         "opened B rtp 43 10",
-        "opened B rtp 43 10\nyielded B 42 5 96 0 0 -\nend genuine=no repairs=no\n",
+        1,
+        "end genuine=no repairs=no",
     ),
 ];
+
+// A repair of number 9 without a payload, and one of number 10 that has the number 5 alone.
+const NO_PAYLOAD: &str = "80610009000000000000002b80610009002b00020000002200000001";
+
+const OF_NUMBER_5: &str = "8061000a000000000000002b00058061000a002b00020000002100050001";
+
+// The first with another tag.
+const FORGED: &str = "80610009000000000000002b80610009002b00020000002200000002";
+
+// What a foreign datagram took is not fresh when the other side's comes; one that is forged takes
+// nothing.
+#[test]
+fn foreign_repairs(rt: HostRuntime) -> Result<(), Fail> {
+    let alloc = rt.alloc();
+    let from_9 = "start 42 9\ncache 42 2000 3000 none\n";
+    for (bytes, yields, end) in [
+        (NO_PAYLOAD, 2, "end genuine=no repairs=yes"),
+        (FORGED, 3, "end genuine=yes repairs=yes"),
+    ] {
+        let rest = format!(in alloc; "foreign B 1 rtp {bytes}\n{REPAIRED}")?;
+        let (report, sink) = ran_after_loss(alloc, from_9, rest.as_str())?;
+        assert_eq!(rt; report.end, End::Done, "at {bytes}");
+        assert_eq!(rt;
+            lines_with(sink.bytes(), "sealed A rtp 43 9 "),
+            1,
+            "at {bytes}"
+        );
+        assert_eq!(rt;
+            lines_with(sink.bytes(), "opened B rtp 43 9"),
+            1,
+            "at {bytes}"
+        );
+        assert_eq!(rt; lines_with(sink.bytes(), "yielded B"), yields, "at {bytes}");
+        assert_eq!(rt; lines_with(sink.bytes(), end), 1, "at {bytes}");
+    }
+    let steps = format!(in alloc;
+        "foreign B 1 rtp {OF_NUMBER_5}\nwrite A 2 42 5 96 0 0 1 01\ntick A 2\ndeliver B 2 1\n"
+    )?;
+    let (report, sink) = ran(alloc, FROM_5, steps.as_str())?;
+    assert_eq!(rt; report.end, End::Done);
+    assert_eq!(rt; lines_with(sink.bytes(), "got B rtp 29"), 1);
+    assert_eq!(rt; lines_with(sink.bytes(), "opened B rtp 42"), 0);
+    assert_eq!(rt; lines_with(sink.bytes(), "yielded B"), 1);
+    Ok(())
+}
+
+// Of a stream without an SSRC of repairs nothing is asked for.
+#[test]
+fn one_stream_of_two(rt: HostRuntime) -> Result<(), Fail> {
+    let steps = "write A 1 50 1 96 0 0 1 11
+write A 1 50 2 96 0 0 1 12
+write A 1 50 3 96 0 0 1 13
+tick A 1
+deliver B 1 4
+deliver B 1 6
+tick B 33ms
+deliver A 33ms 1
+tick A 33ms
+deliver B 33ms 7
+";
+    // Streams of one media that stand apart by their rids, or of two media.
+    for lines in [
+        "stream A v 42 43 lo\nstream A v 50 - hi\n",
+        "stream A v 42 43 -\nmedia w video cam\nstream A w 50 - -\n",
+    ] {
+        let mut text = TYPES.to_string(rt.alloc())?;
+        text.push_str(lines)?;
+        text.push_str(FROM_5)?;
+        text.push_str("begin\n")?;
+        text.push_str(LOST)?;
+        text.push_str(steps)?;
+        text.push_str("end\n")?;
+        let (report, sink) = ran_on(rt.alloc(), text.into_bytes())?;
+        assert_eq!(rt; report.end, End::Done);
+        assert_eq!(rt; lines_with(sink.bytes(), "sealed B"), 1);
+        assert_eq!(rt; lines_with(sink.bytes(), ASKS), 1);
+        assert_eq!(rt; lines_with(sink.bytes(), REPAIR), 1);
+        assert_eq!(rt; lines_with(sink.bytes(), "yielded B 42"), 3);
+        assert_eq!(rt; lines_with(sink.bytes(), "yielded B 50"), 2);
+    }
+    Ok(())
+}
 
 // No number is left for a repair, or only the last.
 #[test]
@@ -165,7 +262,10 @@ fn used_up_numbers(rt: HostRuntime) -> Result<(), Fail> {
     )?;
     assert_eq!(rt; report.end, used_up);
     assert_eq!(rt; lines_with(sink.bytes(), "sealed A rtp 43"), 1);
-    assert_eq!(rt; lines_with(sink.bytes(), "sealed A rtp 43 281474976710655 "), 1);
+    assert_eq!(rt;
+        lines_with(sink.bytes(), "sealed A rtp 43 281474976710655 "),
+        1
+    );
     assert!(rt; sink.bytes().ends_with(b"\nfault key A Rtx 43\n"));
     Ok(())
 }

@@ -15,8 +15,8 @@ ghost use Rattle.mediasim.specs.RunCommand.{script_cipher, script_sealing, synta
 use crate::ends::{End, Report, tell_line};
 use crate::lines::{LastLine, TextError, write_text};
 use media_base::Sink;
-use media_model::{CipherName, Setup, Side, Step, Transcript};
 use media_laws::{Counter, StepFault};
+use media_model::{CipherName, Setup, Side, Step, Transcript};
 use media_play::{RunError, RunFault, media_run};
 use media_script::{ScriptError, end_line, read_script};
 use run_widens::repairs_widen;

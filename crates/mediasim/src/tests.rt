@@ -435,7 +435,11 @@ fn setups_with_repairs(rt: HostRuntime) -> Result<(), Fail> {
     for lines in REPAIR_SETUPS {
         let (report, sink) = ran_on(alloc, setup_script(alloc, lines)?)?;
         assert_eq!(rt; report.status, 0, "at {lines}");
-        assert_eq!(rt; sink.bytes(), b"end genuine=yes repairs=yes\n".as_slice(), "at {lines}");
+        assert_eq!(rt;
+            sink.bytes(),
+            b"end genuine=yes repairs=yes\n".as_slice(),
+            "at {lines}"
+        );
     }
     Ok(())
 }
