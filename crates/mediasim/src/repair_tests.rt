@@ -1,5 +1,4 @@
-// Whole runs in which packets are asked for and sent again (RFC 4588), from the bytes of a script to
-// the bytes of its text.
+// Whole runs in which packets are asked for and sent again (RFC 4588), from a script to its text.
 use crate::ends::{End, Report};
 use crate::tests::{lines_with, ran_on};
 use media_base::MemSink;
