@@ -4,36 +4,35 @@ use Rattle.std.specs.Prelude.{IfOk}
 use Rattle.std.specs.declared.alloc.AllocError.{AllocError}
 use Rattle.std.specs.declared.option.Option.{Option}
 use Rattle.std.proofs.lemmas.List.{take_all}
-use Rattle.srtp_core.specs.declared.counter.Counter.{Counter}
+use Rattle.media_laws.specs.declared.counter.Counter.{Counter}
 use Rattle.media_model.specs.declared.entry.Side.{Side}
 use Rattle.media_model.specs.declared.entry.Entry.{Entry}
 use Rattle.media_model.specs.declared.setup.Setup.{Setup as Given}
 use Rattle.media_model.specs.declared.step.Step.{Step as Act}
 use Rattle.media_model.specs.declared.transcript.Transcript.{Transcript}
-use Rattle.media_model.specs.Genuine.{is_genuine, repairs_widen}
 use Rattle.media_script.specs.declared.error.ScriptError.{ScriptError}
 use Rattle.media_script.specs.declared.error.ScriptError.TheVariants as script
 use Rattle.media_script.specs.FirstWrong.{IsFirstWrong, StopsRightly}
 use Rattle.media_script.specs.Gives.{GivesScript}
 use Rattle.media_script.specs.Spelling.{IsScript}
-use Rattle.media_script.specs.Text.{entries_text, end_text}
-use Rattle.media_play.specs.declared.fault.StepFault.{StepFault}
+use Rattle.media_script.specs.Text.{entries_text}
+use Rattle.media_laws.specs.declared.fault.StepFault.{StepFault}
 use Rattle.media_play.specs.declared.fault.RunError.TheVariants as error
 use Rattle.media_play.specs.declared.fault.RunFault.{RunFault}
-use Rattle.media_play.specs.Headline.{HoldsOfRun, StepsAreAnswered, SealsAreRight, NoNonceTwice, SendsWrites, YieldsWrites, NoPacketTwice, FirstSendingsAreYielded}
-use Rattle.media_play.specs.Opening.{Sealing}
-use Rattle.media_play.specs.Play.{Played}
+use Rattle.media_laws.specs.Headline.{HoldsOfRun, StepsAreAnswered, SealsAreRight, NoNonceTwice, SendsWrites, YieldsWrites, NoPacketTwice, FirstSendingsAreYielded}
+use Rattle.media_laws.specs.Opening.{Sealing}
+use Rattle.media_laws.specs.Play.{Played}
 use Rattle.media_play.specs.Running.{HasCause, OfRun}
 use Rattle.setup_rules.specs.SetupRules.{setup_fault}
 use Rattle.mediasim.specs.declared.ends.End.{End}
 use Rattle.mediasim.specs.declared.ends.End.TheVariants.{Done, Setup, Step, KeyExhausted, Call, ReadFault, WriteFault, Memory, Syntax, TooLong, Usage}
 use Rattle.mediasim.specs.Lines.{memory_line, IsLastLine, reported}
-use Rattle.mediasim.specs.RunCommand.{key_line, script_sealing, syntax_line, step_line, AreOfRun, RunEnds, RunMakes, IsNoScript}
+use Rattle.mediasim.specs.RunCommand.{key_line, script_cipher, script_sealing, syntax_line, step_line, AreOfRun, RunEnds, RunMakes, IsNoScript, TellsWhole}
 
 -- all that holds of a run, whether it came to its end or not
 pub all_holds : (seal : Sealing) (setup : Given) (r : Result Transcript RunFault)
-    → OfRun r (StepsAreAnswered seal setup) → OfRun r (SealsAreRight seal setup) → OfRun r NoNonceTwice → OfRun r (SendsWrites setup) → OfRun r YieldsWrites
-    → OfRun r NoPacketTwice → OfRun r FirstSendingsAreYielded → OfRun r (HoldsOfRun seal setup)
+    → OfRun r (StepsAreAnswered seal setup) → OfRun r (SealsAreRight seal setup) → OfRun r NoNonceTwice → OfRun r (SendsWrites setup) → OfRun r (YieldsWrites setup)
+    → OfRun r NoPacketTwice → OfRun r (FirstSendingsAreYielded setup) → OfRun r (HoldsOfRun seal setup)
 all_holds seal setup (Ok entries) steps seals nonces sendings yields once exactly =
     record { steps = steps; seals = seals; nonces = nonces; sendings = sendings; yields = yields; once = once; exactly = exactly }
 all_holds seal setup (Err fault) steps seals nonces sendings yields once exactly =
@@ -49,7 +48,7 @@ all_told entries last is =
 pub step_ends : {X : Type 0} (view : X → List ℕ) (setup : Given) (steps : List Act) (number : ℕ) (fault : StepFault) (entries told : List Entry)
     (line : Result X AllocError) (ended : End) (last : List ℕ)
     → IsLastLine view (Step number fault) line ended last → IfOk line (λ text. view text ≡ step_line number fault) → told ≡ entries
-    → HasCause (script_sealing setup) setup steps entries (error.Step number fault) → HoldsOfRun (script_sealing setup) setup entries
+    → HasCause (script_cipher setup) setup steps entries (error.Step number fault) → HoldsOfRun (script_sealing setup) setup entries
     → RunEnds setup steps ended (reported ended told) (entries_text told ++ last)
 step_ends view setup steps number fault entries told (Ok text) ended last is said same cause holds =
     subst (λ (es : List Entry). RunEnds setup steps ended (reported ended es) (entries_text es ++ last)) (sym same)
@@ -64,7 +63,7 @@ step_ends view setup steps number fault entries told (Err e) ended last is said 
 pub key_ends : {X : Type 0} (view : X → List ℕ) (setup : Given) (steps : List Act) (side : Side) (counter : Counter) (entries told : List Entry)
     (line : Result X AllocError) (ended : End) (last : List ℕ)
     → IsLastLine view (KeyExhausted side counter) line ended last → IfOk line (λ text. view text ≡ key_line side counter) → told ≡ entries
-    → HasCause (script_sealing setup) setup steps entries (error.KeyExhausted side counter) → HoldsOfRun (script_sealing setup) setup entries
+    → HasCause (script_cipher setup) setup steps entries (error.KeyExhausted side counter) → HoldsOfRun (script_sealing setup) setup entries
     → RunEnds setup steps ended (reported ended told) (entries_text told ++ last)
 key_ends view setup steps side counter entries told (Ok text) ended last is said same cause holds =
     subst (λ (es : List Entry). RunEnds setup steps ended (reported ended es) (entries_text es ++ last)) (sym same)
@@ -78,13 +77,13 @@ key_ends view setup steps side counter entries told (Err e) ended last is said s
 -- a run that was played to its end
 pub done_ends : {X : Type 0} (view : X → List ℕ) (setup : Given) (steps : List Act) (entries told : List Entry)
     (line : Result X AllocError) (ended : End) (last : List ℕ)
-    → IsLastLine view Done line ended last → IfOk line (λ text. view text ≡ end_text (is_genuine entries) (repairs_widen setup entries)) → told ≡ entries
+    → IsLastLine view Done line ended last → IfOk line (λ text. TellsWhole setup entries (entries_text entries ++ view text)) → told ≡ entries
     → setup_fault setup ≡ None → Played (script_sealing setup) setup steps entries → HoldsOfRun (script_sealing setup) setup entries
     → RunEnds setup steps ended (reported ended told) (entries_text told ++ last)
 done_ends view setup steps entries told (Ok text) ended last is said same fine played holds =
     subst (λ (es : List Entry). RunEnds setup steps ended (reported ended es) (entries_text es ++ last)) (sym same)
     (subst (λ (e : End). RunEnds setup steps e (reported e entries) (entries_text entries ++ last)) (sym is.0)
-    (fine, played, holds, ap (λ (xs : List ℕ). entries_text entries ++ xs) (is.1 ∙ said)))
+    (fine, played, holds, subst (λ (xs : List ℕ). TellsWhole setup entries (entries_text entries ++ xs)) (sym is.1) said))
 done_ends view setup steps entries told (Err e) ended last is said same fine played holds =
     subst (λ (es : List Entry). RunEnds setup steps ended (reported ended es) (entries_text es ++ last)) (sym same)
     (subst (λ (e : End). RunEnds setup steps e (reported e entries) (entries_text entries ++ last)) (sym is.0)
@@ -92,7 +91,7 @@ done_ends view setup steps entries told (Err e) ended last is said same fine pla
 
 -- a run that ended for want of memory
 pub memory_ends : (setup : Given) (steps : List Act) (entries told : List Entry) (ended : End) (last : List ℕ)
-    → ended ≡ Memory → last ≡ memory_line → told ≡ entries → HasCause (script_sealing setup) setup steps entries error.Memory
+    → ended ≡ Memory → last ≡ memory_line → told ≡ entries → HasCause (script_cipher setup) setup steps entries error.Memory
     → RunEnds setup steps ended (reported ended told) (entries_text told ++ last)
 memory_ends setup steps entries told ended last is line same cause =
     subst (λ (es : List Entry). RunEnds setup steps ended (reported ended es) (entries_text es ++ last)) (sym same)

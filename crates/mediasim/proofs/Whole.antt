@@ -1,10 +1,13 @@
 -- What the bytes that a source tells come to.
-use Rattle.std.proofs.Common.{◌≡◌, inl, inr, ℕ, ◌<◌, ◌≤◌, List, ◌++◌, length, take, Some, None, refl, sym, ap, ◌∙◌, subst, arith, slice_get, zero, suc, add-one, ◌∷◌, [], ◌+◌}
-use Rattle.media_play.specs.Feedback.{Exhausts}
-use Rattle.media_play.specs.Errors.{call_of}
+use Rattle.std.proofs.Common.{◌≡◌, inl, inr, ℕ, ◌<◌, ◌≤◌, List, ◌++◌, length, take, Some, None, refl, sym, ap, ◌∙◌, subst, arith}
+use Rattle.media_laws.specs.Exhausting.{Exhausts, call_of, told_of}
 use Rattle.media_model.specs.declared.entry.Side.{Side}
-use Rattle.srtp_core.specs.declared.counter.Counter.{Counter}
-use Rattle.std.proofs.lemmas.Option.{same_Some, none-some}
+use Rattle.media_model.specs.declared.setup.CipherName.{CipherName}
+use Rattle.media_model.specs.declared.setup.CipherName.TheVariants.{Toy, Sha}
+use Rattle.srtp_core.specs.Cipher.{CipherMeaning}
+use Rattle.srtp_core.specs.Sha.{sha_meaning}
+use Rattle.srtp_core.specs.Toy.{toy_meaning}
+use Rattle.media_laws.specs.declared.counter.Counter.{Counter}
 use Rattle.std.specs.Prelude.{IfSome}
 use Rattle.std.specs.declared.option.Option.{Option}
 use Rattle.std.specs.Io.KnownBytes.{Consumes, IsAtEnd, Appends}
@@ -15,9 +18,10 @@ use Rattle.media_model.specs.declared.setup.Setup.{Setup as Given}
 use Rattle.media_model.specs.declared.step.Step.{Step as Act}
 use Rattle.media_script.specs.Laws.{SpellsOne}
 use Rattle.media_script.specs.Spelling.{IsScript}
-use Rattle.media_play.specs.Headline.{HoldsOfRun, PlaysSteps}
-use Rattle.media_play.specs.Opening.{Sealing}
-use Rattle.media_play.specs.Play.{Played}
+use Rattle.media_laws.specs.Headline.{HoldsOfRun, PlaysSteps}
+use Rattle.media_laws.specs.Keys.{sealing_of}
+use Rattle.media_laws.specs.Opening.{Sealing}
+use Rattle.media_laws.specs.Play.{Played}
 use Rattle.mediasim.specs.declared.command.Command.{Command}
 use Rattle.mediasim.specs.declared.command.Command.TheVariants.{Run, Pace}
 use Rattle.mediasim.specs.declared.ends.End.{End}
@@ -26,7 +30,7 @@ use Rattle.mediasim.specs.Command.{IsCommand, Makes, Carries}
 use Rattle.mediasim.specs.Ends.{Tells}
 use Rattle.mediasim.specs.Lines.{memory_line}
 use Rattle.mediasim.specs.MediaMain.{Cause, Answers, TellsScript, RunsScript, AnswersScript, IsInOrder}
-use Rattle.mediasim.specs.RunCommand.{script_sealing, RunEnds, RunMakes, EndsInRun, PlaysToEnd, PlaysAll}
+use Rattle.mediasim.specs.RunCommand.{meaning_of, script_cipher, script_sealing, RunEnds, RunMakes, EndsInRun, PlaysToEnd, PlaysAll}
 use Rattle.mediasim.proofs.Texts.{front_of_second}
 
 -- what is read to the end of input is all that the source tells
@@ -253,59 +257,53 @@ script_holds held held' setup steps answer answered Q says a =
       | inr t ↦ none_holds answered Q t.1
     ]
 
--- the steps up to one that stands there
-take_suc : (steps : List Act) (i : ℕ) (step : Act) → slice_get steps i ≡ Some step → (i < length steps) × (take (suc i) steps ≡ take i steps ++ step ∷ [])
-take_suc [] i step h = absurd (none-some step h)
-take_suc (s ∷ steps) zero step h = (omega arith, ap (λ (x : Act). x ∷ []) (same_Some s step h))
-take_suc (s ∷ steps) (suc i) step h =
-    let rest = take_suc steps i step h in
-    let within = rest.0 in
-    (omega (arith, within), ap (λ (l : List Act). s ∷ l) rest.1)
+-- what holds under each cipher holds under the one of a name
+under_named : (P : CipherMeaning → Type 0) → P toy_meaning → P sha_meaning → (name : CipherName) → P (meaning_of name)
+under_named P toy sha Toy = toy
+under_named P toy sha Sha = sha
 
-take_next : (steps : List Act) (i : ℕ) (step : Act) → slice_get steps i ≡ Some step → (i < length steps) × (take (i + 1) steps ≡ take i steps ++ step ∷ [])
-take_next steps i step h = let s = take_suc steps i step h in (s.0, ap (λ (n : ℕ). take n steps) (add-one i) ∙ s.1)
+-- a run plays each step of its script once, in order, and the call that finds a key used up
+pub record Playing (cipher : CipherMeaning) : Type 0 where
+  pub whole : (setup : Given) (steps : List Act) (entries : List Entry) → Played (sealing_of cipher setup) setup steps entries → PlaysSteps steps entries
+  pub exhausted : (setup : Given) (steps : List Act) (entries : List Entry) (step : Act) (side : Side) (counter : Counter)
+      → Played (sealing_of cipher setup) setup steps entries → Exhausts cipher setup entries step side counter
+      → PlaysSteps (steps ++ told_of step) (entries ++ call_of step)
 
 -- the steps that were played are those of the script
-plays_in : ((seal : Sealing) (setup : Given) (steps : List Act) (entries : List Entry) → Played seal setup steps entries → PlaysSteps steps entries)
-    → ((seal : Sealing) (setup : Given) (steps : List Act) (entries : List Entry) (step : Act) (side : Side) (counter : Counter) → Played seal setup steps entries
-    → Exhausts setup entries step side counter → PlaysSteps (steps ++ step ∷ []) (entries ++ call_of step))
-    → (setup : Given) (steps : List Act) (end : End) (transcript : Option (List Entry)) (text : List ℕ) → EndsInRun setup steps end transcript text
-    → PlaysToEnd steps end transcript
-plays_in law to_key setup steps Done None text h = absurd h
-plays_in law to_key setup steps Done (Some entries) text h = law (script_sealing setup) setup steps entries h.1
-plays_in law to_key setup steps (Setup fault) None text h = refl
-plays_in law to_key setup steps (Setup fault) (Some entries) text h = absurd h
-plays_in law to_key setup steps (Step number fault) None text h = absurd h
-plays_in law to_key setup steps (KeyExhausted by counter) None text h = absurd h
-plays_in law to_key setup steps (Step number fault) (Some entries) text h = let r = h.0.1 in (r.0, r.2, law (script_sealing setup) setup (take r.0 steps) entries r.4)
-plays_in law to_key setup steps (KeyExhausted by counter) (Some entries) text h =
-    let r = h.0.1 in
-    let up_to = take_next steps r.before r.step r.stands in (
+plays_in : (setup : Given) (steps : List Act) (end : End) (transcript : Option (List Entry)) (text : List ℕ) → Playing (script_cipher setup)
+    → EndsInRun setup steps end transcript text → PlaysToEnd steps end transcript
+plays_in setup steps Done None text law h = absurd h
+plays_in setup steps Done (Some entries) text law h = law.whole setup steps entries h.1
+plays_in setup steps (Setup fault) None text law h = refl
+plays_in setup steps (Setup fault) (Some entries) text law h = absurd h
+plays_in setup steps (Step number fault) None text law h = absurd h
+plays_in setup steps (KeyExhausted by counter) None text law h = absurd h
+plays_in setup steps (Step number fault) (Some entries) text law h = let r = h.0.1 in (r.0, r.2, law.whole setup (take r.0 steps) entries r.4)
+plays_in setup steps (KeyExhausted by counter) (Some entries) text law h =
+    let r = h.0.1 in (
       r.before,
-      up_to.0,
-      subst (λ (es : List Entry). PlaysSteps (take (r.before + 1) steps) es) (sym r.entries_are)
-          (subst (λ (ss : List Act). PlaysSteps ss (r.past ++ call_of r.step)) (sym up_to.1)
-          (to_key (script_sealing setup) setup (take r.before steps) r.past r.step by counter r.played r.exhausts)),
+      r.step,
+      r.stands,
+      subst (λ (es : List Entry). PlaysSteps (take r.before steps ++ told_of r.step) es) (sym r.entries_are)
+          (law.exhausted setup (take r.before steps) r.past r.step by counter r.played r.exhausts),
     )
-plays_in law to_key setup steps (Syntax line) transcript text h = absurd h
-plays_in law to_key setup steps (Call number) transcript text h = absurd h
-plays_in law to_key setup steps ReadFault transcript text h = h
-plays_in law to_key setup steps WriteFault transcript text h = absurd h
-plays_in law to_key setup steps Memory None text h = refl
-plays_in law to_key setup steps Memory (Some entries) text h = absurd h
-plays_in law to_key setup steps TooLong transcript text h = h
-plays_in law to_key setup steps Usage transcript text h = h
+plays_in setup steps (Syntax line) transcript text law h = absurd h
+plays_in setup steps (Call number) transcript text law h = absurd h
+plays_in setup steps ReadFault transcript text law h = h
+plays_in setup steps WriteFault transcript text law h = absurd h
+plays_in setup steps Memory None text law h = refl
+plays_in setup steps Memory (Some entries) text law h = absurd h
+plays_in setup steps TooLong transcript text law h = h
+plays_in setup steps Usage transcript text law h = h
 
-pub script_plays : ((seal : Sealing) (setup : Given) (steps : List Act) (entries : List Entry) → Played seal setup steps entries → PlaysSteps steps entries)
-    → ((seal : Sealing) (setup : Given) (steps : List Act) (entries : List Entry) (step : Act) (side : Side) (counter : Counter) → Played seal setup steps entries
-    → Exhausts setup entries step side counter → PlaysSteps (steps ++ step ∷ []) (entries ++ call_of step))
-    → (held held' : Option (List ℕ)) (setup : Given) (steps : List Act) (answer : End) (answered : Option (List Entry))
-    → AnswersScript setup steps held held' answer answered → PlaysToEnd steps answer answered
-script_plays law to_key held held' setup steps answer answered a =
+pub script_plays : (held held' : Option (List ℕ)) (setup : Given) (steps : List Act) (answer : End) (answered : Option (List Entry))
+    → Playing toy_meaning → Playing sha_meaning → AnswersScript setup steps held held' answer answered → PlaysToEnd steps answer answered
+script_plays held held' setup steps answer answered toy sha a =
+    let law = under_named Playing toy sha setup.cipher in
     elim a.tells [
       | inl t ↦
           subst (λ (e : End). PlaysToEnd steps e answered) (sym t.0)
-          (subst (λ (o : Option (List Entry)). PlaysToEnd steps a.end o) (sym t.1) (plays_in law to_key setup steps a.end a.transcript a.text a.run))
+          (subst (λ (o : Option (List Entry)). PlaysToEnd steps a.end o) (sym t.1) (plays_in setup steps a.end a.transcript a.text law a.run))
       | inr t ↦ subst (λ (e : End). PlaysToEnd steps e answered) (sym t.0) t.1
     ]
 

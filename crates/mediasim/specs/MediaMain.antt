@@ -20,7 +20,7 @@ use Rattle.mediasim.specs.declared.ends.End.TheVariants.{ReadFault, WriteFault, 
 use Rattle.mediasim.specs.Command.{IsCommand, Makes}
 use Rattle.mediasim.specs.Ends.{Tells}
 use Rattle.mediasim.specs.Lines.{memory_line}
-use Rattle.mediasim.specs.RunCommand.{script_sealing, EndsInRun}
+use Rattle.mediasim.specs.RunCommand.{script_cipher, EndsInRun}
 
 -- all the input was read, which is within the length, and a command that the words name made this end of it
 pub record IsMade (limit : ℕ) (words : List (List ℕ)) (left' : Option (List ℕ)) (read : List ℕ) (end : End) (transcript : Option (List Entry)) (text : List ℕ) : Type 0 where
@@ -90,7 +90,7 @@ pub record IsInOrder (limit : ℕ) (words : List (List ℕ)) (left : Option (Lis
   pub script : IsScript bytes setup steps
   pub short : length bytes ≤ limit
   pub fine : setup_fault setup ≡ None
-  pub valid : AreValidSteps (script_sealing setup) setup steps
+  pub valid : AreValidSteps (script_cipher setup) setup steps
 
 -- the command pace, and a source that tells a pace script within the length, whose calls may all come
 pub record ArePaced (limit : ℕ) (words : List (List ℕ)) (left : Option (List ℕ)) (rate : ℕ) (calls : List PaceCall) : Type 0 where

@@ -1,5 +1,5 @@
 -- What the command run makes of a whole input.
-use Rattle.std.specs.Prelude.{ℕ, ◌≡◌, ◌⊎◌, ◌+◌, ◌<◌, List, ◌++◌, length, take, codes}
+use Rattle.std.specs.Prelude.{ℕ, ◌≡◌, ◌↔◌, ◌⊎◌, ◌+◌, Bool, IsTrue, List, ◌++◌, take, slice_get, codes}
 use Rattle.std.specs.Fmt.{decimal}
 use Rattle.std.specs.declared.option.Option.{Option}
 use Rattle.std.specs.declared.option.Option.TheVariants.{Some, None}
@@ -11,22 +11,23 @@ use Rattle.media_model.specs.declared.setup.CipherName.{CipherName}
 use Rattle.media_model.specs.declared.setup.CipherName.TheVariants.{Toy, Sha}
 use Rattle.media_model.specs.declared.setup.Setup.{Setup as Given}
 use Rattle.media_model.specs.declared.step.Step.{Step as Act}
-use Rattle.srtp_core.specs.declared.counter.Counter.{Counter}
+use Rattle.media_laws.specs.declared.counter.Counter.{Counter}
 use Rattle.media_model.specs.declared.entry.Side.{Side}
 use Rattle.media_script.specs.FirstWrong.{IsFirstWrong}
 use Rattle.media_script.specs.Names.{side_text}
 use Rattle.media_script.specs.Spelling.{IsScript}
 use Rattle.media_script.specs.Text.{entries_text, text_of}
 use Rattle.setup_rules.specs.declared.fault.SetupFault.{SetupFault}
-use Rattle.media_play.specs.declared.fault.StepFault.{StepFault}
+use Rattle.media_laws.specs.declared.fault.StepFault.{StepFault}
 use Rattle.media_play.specs.declared.fault.RunError.{RunError}
 use Rattle.media_play.specs.declared.fault.RunError.TheVariants as error
-use Rattle.media_play.specs.FaultNames.{step_fault_name, counter_name}
-use Rattle.media_play.specs.Headline.{HoldsOfRun, PlaysSteps}
-use Rattle.media_play.specs.Opening.{Sealing}
-use Rattle.media_play.specs.Play.{Played}
+use Rattle.media_laws.specs.Exhausting.{told_of}
+use Rattle.media_laws.specs.FaultNames.{step_fault_name, counter_name}
+use Rattle.media_laws.specs.Headline.{HoldsOfRun, PlaysSteps, RunWidens}
+use Rattle.media_laws.specs.Keys.{sealing_of}
+use Rattle.media_laws.specs.Opening.{Sealing}
+use Rattle.media_laws.specs.Play.{Played}
 use Rattle.media_play.specs.Running.{HasCause}
-use Rattle.media_play.specs.Sessions.{sealing_of}
 use Rattle.setup_rules.specs.FaultNames.{setup_fault_name}
 use Rattle.setup_rules.specs.SetupRules.{setup_fault}
 use Rattle.mediasim.specs.Lines.{memory_line}
@@ -38,9 +39,12 @@ abbrev pub meaning_of : CipherName → CipherMeaning
 meaning_of Toy = toy_meaning
 meaning_of Sha = sha_meaning
 
--- how the sides of a setup seal: with the cipher that it names
+-- what the cipher that a setup names means, and how its sides seal with it
+abbrev pub script_cipher : Given → CipherMeaning
+script_cipher setup = meaning_of setup.cipher
+
 abbrev pub script_sealing : Given → Sealing
-script_sealing setup = sealing_of (meaning_of setup.cipher) setup
+script_sealing setup = sealing_of (script_cipher setup) setup
 
 -- the fault lines that name a line, a rule of setups, a step and a rule of steps, or a side and what numbers its datagrams
 abbrev pub syntax_line : ℕ → List ℕ
@@ -61,7 +65,11 @@ key_line side counter = codes "fault key " ++ key_text side counter ++ codes "\n
 -- the entries of a run of this setup and these steps: of all its steps, or those before it ended
 abbrev pub AreOfRun : Given → List Act → List Entry → Type 0
 AreOfRun setup steps entries =
-    Played (script_sealing setup) setup steps entries ⊎ ((cause : RunError) × HasCause (script_sealing setup) setup steps entries cause)
+    Played (script_sealing setup) setup steps entries ⊎ ((cause : RunError) × HasCause (script_cipher setup) setup steps entries cause)
+
+-- the lines of all entries, and the last line, which says whether the repairs widen
+abbrev pub TellsWhole : Given → List Entry → List ℕ → Type 0
+TellsWhole setup entries text = (widens : Bool) × (IsTrue widens ↔ RunWidens setup entries) × (text ≡ text_of widens entries)
 
 -- the lines of some entries at the front, and the fault line behind them
 abbrev pub StopsAmong : List Entry → List ℕ → Type 0
@@ -69,17 +77,17 @@ StopsAmong entries text = (count : ℕ) × (text ≡ entries_text (take count en
 
 -- what a setup and its steps come to: all steps are played; the setup breaks a rule, and nothing happens; the steps before
 -- the first one that breaks a rule are played; a step finds a key used up, and the steps before it are played and its call
--- made; or memory runs out, and what was told ends with a line
+-- made, if it is one; or memory runs out, and what was told ends with a line
 abbrev pub RunEnds : Given → List Act → End → Option (List Entry) → List ℕ → Type 0
 RunEnds setup steps Done (Some entries) text =
     (setup_fault setup ≡ None) × Played (script_sealing setup) setup steps entries
-    × HoldsOfRun (script_sealing setup) setup entries × (text ≡ text_of setup entries)
+    × HoldsOfRun (script_sealing setup) setup entries × TellsWhole setup entries text
 RunEnds setup steps (Setup fault) None text = (setup_fault setup ≡ Some fault) × (text ≡ setup_line fault)
 RunEnds setup steps (Step number fault) (Some entries) text =
-    HasCause (script_sealing setup) setup steps entries (error.Step number fault)
+    HasCause (script_cipher setup) setup steps entries (error.Step number fault)
     × HoldsOfRun (script_sealing setup) setup entries × (text ≡ entries_text entries ++ step_line number fault)
 RunEnds setup steps (KeyExhausted side counter) (Some entries) text =
-    HasCause (script_sealing setup) setup steps entries (error.KeyExhausted side counter)
+    HasCause (script_cipher setup) setup steps entries (error.KeyExhausted side counter)
     × HoldsOfRun (script_sealing setup) setup entries × (text ≡ entries_text entries ++ key_line side counter)
 RunEnds setup steps Memory None text = (entries : List Entry) × AreOfRun setup steps entries × StopsAmong entries text
 RunEnds setup steps end transcript text = ⊥
@@ -117,19 +125,19 @@ EndsInRun setup steps TooLong transcript text = transcript ≡ None
 EndsInRun setup steps Usage transcript text = transcript ≡ None
 EndsInRun setup steps end transcript text = ⊥
 
--- the steps among the entries are all those of the script, or those before the one that breaks a rule, or those up to the
--- one that finds a key used up
+-- the steps among the entries are all those of the script, or those before the one that breaks a rule, or those before the
+-- one that finds a key used up, and this one where it is a call
 abbrev pub PlaysToEnd : List Act → End → Option (List Entry) → Type 0
 PlaysToEnd steps Done (Some entries) = PlaysSteps steps entries
 PlaysToEnd steps (Step number fault) (Some entries) = (before : ℕ) × (number ≡ before + 1) × PlaysSteps (take before steps) entries
 PlaysToEnd steps (KeyExhausted side counter) (Some entries) =
-    (before : ℕ) × (before < length steps) × PlaysSteps (take (before + 1) steps) entries
+    (before : ℕ) × (step : Act) × (slice_get steps before ≡ Some step) × PlaysSteps (take before steps ++ told_of step) entries
 PlaysToEnd steps end transcript = transcript ≡ None
 
 -- all steps were played, or a step found a key used up, or memory ran out
 abbrev pub PlaysAll : Given → List Act → End → Option (List Entry) → Type 0
 PlaysAll setup steps Done (Some entries) = Played (script_sealing setup) setup steps entries
 PlaysAll setup steps (KeyExhausted side counter) (Some entries) =
-    HasCause (script_sealing setup) setup steps entries (error.KeyExhausted side counter)
+    HasCause (script_cipher setup) setup steps entries (error.KeyExhausted side counter)
 PlaysAll setup steps Memory None = Unit {0}
 PlaysAll setup steps end transcript = ⊥

@@ -4,8 +4,8 @@ ghost use Rattle.media_base.specs.Causes.{Rose};
 ghost use Rattle.mediasim.specs.Ends.{status_of, Tells};
 
 use media_base::{Sink, write_all};
+use media_laws::{Counter, StepFault};
 use media_model::{Side, Transcript};
-use media_play::{Counter, StepFault};
 use setup_rules::SetupFault;
 
 /// How a call ended.

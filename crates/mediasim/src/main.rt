@@ -14,6 +14,8 @@ use std::process::ExitCode;
 use std::{env, io};
 
 #[cfg(test)]
+mod repair_tests;
+#[cfg(test)]
 mod tests;
 
 // The words behind the program's name.

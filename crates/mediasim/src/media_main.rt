@@ -3,7 +3,7 @@ ghost use Rattle.std.specs.Prelude.{◌≡◌, List, ℕ, map, string_bytes, IfS
 ghost use Rattle.media_base.specs.Causes.{Rose};
 ghost use Rattle.media_model.specs.declared.setup.Setup.{Setup as Given};
 ghost use Rattle.media_model.specs.declared.step.Step.{Step as Act};
-ghost use Rattle.media_play.specs.Headline.{StepsAreAnswered, SealsAreRight, NoNonceTwice, SendsWrites, SendsInSome, YieldsWrites, NoPacketTwice, FirstSendingsAreYielded};
+ghost use Rattle.media_laws.specs.Headline.{StepsAreAnswered, SealsAreRight, NoNonceTwice, SendsWrites, SendsInSome, YieldsWrites, YieldsInSome, NoPacketTwice, FirstSendingsAreYielded};
 ghost use Rattle.mediasim.specs.Ends.{status_of};
 ghost use Rattle.mediasim.specs.MediaMain.{Answers, AnswersScript, RunsScript, IsInOrder, RunsCalls, ArePaced};
 ghost use Rattle.mediasim.specs.PaceCommand.{AnswersCalls, PlaysAllCalls};
@@ -15,9 +15,10 @@ use crate::ends::{End, Report, tell_line};
 use crate::pace_command::pace_command;
 use crate::run_command::run_command;
 use media_base::{ReadError, Sink, Source, read_all};
-use media_play::laws::plays_steps;
+use media_laws::laws::plays_steps;
 use media_script::laws::script_spells_one;
 use pace_script::laws::pace_script_spells_one;
+use srtp_core::{ShaCipher, ToyCipher};
 use std::alloc::Global;
 
 /// The most bytes of an input.
@@ -105,9 +106,9 @@ pub fn media_main<S: Source, K: Sink>(
     ensures played { (setup : Given) (acts : List Act)
         → RunsScript (map string_bytes words.now) (S.left source.old) setup acts
         → PlaysToEnd acts result.end result.transcript }
-    // A write brings nothing. A tick seals all queued writes, stream by stream. A call seals its
-    // feedback, unless no index is left. What comes is opened exactly where it opens, and its packet
-    // yielded.
+    // A write brings nothing. A tick seals of each stream all queued writes, in order, and each kept
+    // write asked for, unless the stream is capped; and it asks for exactly the due numbers. A call seals
+    // its feedback. What comes is opened exactly where it opens, and its packet yielded.
     ensures steps { (setup : Given) (acts : List Act)
         → RunsScript (map string_bytes words.now) (S.left source.old) setup acts
         → IfSome result.transcript (StepsAreAnswered (script_sealing setup) setup) }
@@ -119,20 +120,26 @@ pub fn media_main<S: Source, K: Sink>(
     // fresh.
     ensures exactly { (setup : Given) (acts : List Act)
         → RunsScript (map string_bytes words.now) (S.left source.old) setup acts
-        → IfSome result.transcript FirstSendingsAreYielded }
+        → IfSome result.transcript (FirstSendingsAreYielded setup) }
     // No two datagrams of a direction share a nonce.
     ensures nonces { IfSome result.transcript NoNonceTwice }
-    // Each sealed RTP datagram carries one earlier write of its side, none twice: under the setup of the
-    // script, and where the source tells none, under that of the run.
+    // Each sealed RTP datagram carries one earlier write of its side, none twice, or is the repair of a
+    // write that was sent: under the setup of the script, and where the source tells none, under that of
+    // the run.
     ensures sendings { (setup : Given) (acts : List Act)
         → RunsScript (map string_bytes words.now) (S.left source.old) setup acts
         → IfSome result.transcript (SendsWrites setup) }
     ensures sent { IfSome result.transcript SendsInSome }
-    // In a genuine run each packet yielded is a write of the other side; in every run none is yielded twice.
-    ensures yields { IfSome result.transcript YieldsWrites }
+    // In a genuine run whose repairs widen, under these setups, each packet yielded is a write of the
+    // other side; in every run none is yielded twice.
+    ensures yields { (setup : Given) (acts : List Act)
+        → RunsScript (map string_bytes words.now) (S.left source.old) setup acts
+        → IfSome result.transcript (YieldsWrites setup) }
+    ensures yielded { IfSome result.transcript YieldsInSome }
     ensures once { IfSome result.transcript NoPacketTwice }
 {
-    plays_steps();
+    plays_steps::<ToyCipher>();
+    plays_steps::<ShaCipher>();
     script_spells_one();
     pace_script_spells_one();
     answer(alloc, words, source, sink)

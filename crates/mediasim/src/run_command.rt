@@ -1,8 +1,8 @@
 // The command run: what it makes of a whole input.
 ghost use Rattle.std.specs.Prelude.{◌≡◌, ◌++◌, ℕ, Some, None, take, string_bytes, IfOk, IfErr};
 ghost use Rattle.media_base.specs.Causes.{Rose};
-ghost use Rattle.media_play.specs.Headline.{HoldsOfRun};
-ghost use Rattle.media_play.specs.Play.{Played};
+ghost use Rattle.media_laws.specs.Headline.{HoldsOfRun};
+ghost use Rattle.media_laws.specs.Play.{Played};
 ghost use Rattle.media_play.specs.Running.{HasCause, OfRun};
 ghost use Rattle.setup_rules.specs.SetupRules.{setup_fault};
 ghost use Rattle.media_script.specs.Text.{entries_text};
@@ -10,14 +10,16 @@ ghost use Rattle.mediasim.specs.declared.command.Command.TheVariants.{Run};
 ghost use Rattle.mediasim.specs.Command.{Carries};
 ghost use Rattle.mediasim.specs.Ends.{status_of};
 ghost use Rattle.mediasim.specs.Lines.{bytes_of, memory_line, IsLastLine, reported};
-ghost use Rattle.mediasim.specs.RunCommand.{script_sealing, syntax_line, setup_line, step_line, key_text, key_line, AreOfRun, RunEnds, RunMakes};
+ghost use Rattle.mediasim.specs.RunCommand.{script_cipher, script_sealing, syntax_line, setup_line, step_line, key_text, key_line, AreOfRun, RunEnds, RunMakes, TellsWhole};
 
 use crate::ends::{End, Report, tell_line};
 use crate::lines::{LastLine, TextError, write_text};
 use media_base::Sink;
+use media_laws::{Counter, StepFault};
 use media_model::{CipherName, Setup, Side, Step, Transcript};
-use media_play::{Counter, RunError, RunFault, StepFault, media_run};
+use media_play::{RunError, RunFault, media_run};
 use media_script::{ScriptError, end_line, read_script};
+use run_widens::repairs_widen;
 use setup_rules::SetupFault;
 use srtp_core::{ShaCipher, ToyCipher};
 use std::alloc::{AllocError, Global};
@@ -109,6 +111,8 @@ impl fmt::Display for UsedUp {
         match (self.0, self.1) {
             (Side::A, Counter::Rtcp) => write!(f, "A Rtcp"),
             (Side::B, Counter::Rtcp) => write!(f, "B Rtcp"),
+            (Side::A, Counter::Rtx(ssrc)) => write!(f, "A Rtx {ssrc}"),
+            (Side::B, Counter::Rtx(ssrc)) => write!(f, "B Rtx {ssrc}"),
         }
     }
 }
@@ -125,13 +129,22 @@ fn run_steps(alloc: Global, setup: &Setup, steps: &[Step]) -> Result<Transcript,
     ensures played { IfOk result (λ t. (setup_fault setup.now ≡ None)
         × Played (script_sealing setup.now) setup.now steps.now t) }
     ensures cause { IfErr result (λ f.
-        HasCause (script_sealing setup.now) setup.now steps.now f.sofar f.cause) }
+        HasCause (script_cipher setup.now) setup.now steps.now f.sofar f.cause) }
     ensures holds { OfRun result (HoldsOfRun (script_sealing setup.now) setup.now) }
 {
     match setup.cipher {
         CipherName::Toy => media_run(alloc, setup, &ToyCipher, steps),
         CipherName::Sha => media_run(alloc, setup, &ShaCipher, steps),
     }
+}
+
+// The last line of a run that was played to its end.
+fn last_line(alloc: Global, setup: &Setup, transcript: &Transcript) -> Result<String, AllocError>
+    ensures { IfOk result (λ text.
+        TellsWhole setup.now transcript.now (entries_text transcript.now ++ string_bytes text)) }
+{
+    let repairs = repairs_widen(alloc, setup, transcript.entries())?;
+    end_line(alloc, repairs, transcript)
 }
 
 // Plays a setup and its steps.
@@ -142,7 +155,7 @@ fn play_steps(alloc: Global, setup: &Setup, steps: &[Step]) -> Ending
 {
     let fault = match run_steps(alloc, setup, steps) {
         Ok(transcript) => {
-            let line = end_line(alloc, setup, &transcript);
+            let line = last_line(alloc, setup, &transcript);
             return Ending::new(End::Done, transcript, line);
         }
         Err(fault) => fault,

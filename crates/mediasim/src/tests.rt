@@ -2,8 +2,8 @@
 use crate::ends::{End, Report};
 use crate::media_main::media_main;
 use media_base::{MemSink, MemSource};
+use media_laws::{Counter, StepFault};
 use media_model::Side;
-use media_play::{Counter, StepFault};
 use setup_rules::SetupFault;
 use std::alloc::Global;
 use std::fmt::Write;
@@ -53,7 +53,7 @@ fn called_on(alloc: Global, command: &str, bytes: Vec<u8>) -> Result<(Report, Me
     Ok((report, sink))
 }
 
-fn ran_on(alloc: Global, bytes: Vec<u8>) -> Result<(Report, MemSink), Fail> {
+pub fn ran_on(alloc: Global, bytes: Vec<u8>) -> Result<(Report, MemSink), Fail> {
     called_on(alloc, "run", bytes)
 }
 
@@ -63,7 +63,7 @@ fn ran(alloc: Global, steps: &str) -> Result<(Report, MemSink), Fail> {
 }
 
 // How many lines of a text begin so.
-fn lines_with(text: &[u8], start: &str) -> usize {
+pub fn lines_with(text: &[u8], start: &str) -> usize {
     text.split(|b| *b == b'\n')
         .filter(|line| line.starts_with(start.as_bytes()))
         .count()
@@ -336,7 +336,7 @@ fn setup_script(alloc: Global, lines: &str) -> Result<Vec<u8>, Fail> {
 }
 
 // Setup lines, and the first rule that they break: each rule alone.
-const SETUP_FAULTS: [(&str, &str); 37] = [
+const SETUP_FAULTS: [(&str, &str); 34] = [
     (SHORT_KEY, "KeyLength"),
     ("key 00\nmtu 899 1280\n", "KeyLength"),
     ("key zero\nmtu 899 1280\nunix 2075000001\n", "Mtu"),
@@ -390,10 +390,6 @@ const SETUP_FAULTS: [(&str, &str); 37] = [
         "RidTwice",
     ),
     (
-        "key zero\nmedia v video cam\nstream A v 42 43 -\n",
-        "RtxLater",
-    ),
-    (
         "key zero\nmedia v video cam\nstream A v 42 - -\ncache 42 0 10000000001 15\next 0 mid\n",
         "Times",
     ),
@@ -423,12 +419,30 @@ const SETUP_FAULTS: [(&str, &str); 37] = [
         "key zero\nmedia v video cam\nstream A v 42 - -\ncache 42 32001 1 1\n",
         "CacheSize",
     ),
-    (
-        "key zero\nmedia v video cam\nstream A v 42 43 -\nstart 42 281474976710656\ncache 42 32000 1 1\n",
-        "RtxLater",
-    ),
-    ("key zero\ntype 96 vp8 90000 rtx=127\n", "RtxLater"),
 ];
+
+// Setup lines of streams and types with repairs that break no rule.
+const REPAIR_SETUPS: [&str; 4] = [
+    "key zero\nmedia v video cam\nstream A v 42 43 -\n",
+    "key zero\nmedia v video cam\nstream A v 42 43 -\nstart 42 281474976710656\ncache 42 32000 1 1\n",
+    "key zero\ntype 96 vp8 90000 rtx=127\n",
+    "key zero\ntype 96 vp8 90000 rtx=97\nmedia v video cam\nstream A v 42 - -\nstart 42 5\ncache 42 2000 3000 none\n",
+];
+
+#[test]
+fn setups_with_repairs(rt: HostRuntime) -> Result<(), Fail> {
+    let alloc = rt.alloc();
+    for lines in REPAIR_SETUPS {
+        let (report, sink) = ran_on(alloc, setup_script(alloc, lines)?)?;
+        assert_eq!(rt; report.status, 0, "at {lines}");
+        assert_eq!(rt;
+            sink.bytes(),
+            b"end genuine=yes repairs=yes\n".as_slice(),
+            "at {lines}"
+        );
+    }
+    Ok(())
+}
 
 // How many bytes of keying material each profile asks for.
 const MATERIAL: [(&str, u64); 3] = [("cm", 60), ("gcm128", 56), ("gcm256", 88)];

@@ -24,6 +24,7 @@ pub mod report_arrivals;
 pub mod script_parts;
 pub mod seal_and_open;
 pub mod send_again;
+pub mod tell_a_run;
 #[cfg(test)]
 mod tests;
 pub mod time_a_packet;

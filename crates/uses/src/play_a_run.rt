@@ -1,5 +1,5 @@
 //! A run of two sessions, to its last step or to one that is not played.
-ghost use Rattle.media_play.specs.Headline.{NoNonceTwice, NoPacketTwice, YieldsWrites};
+ghost use Rattle.media_laws.specs.Headline.{NoNonceTwice, NoPacketTwice, SendsWrites, YieldsWrites};
 
 use media_model::{Setup, Step, Transcript};
 use media_play::media_run;
@@ -11,7 +11,8 @@ use std::alloc::Global;
 pub fn played(alloc: Global, setup: &Setup, steps: &[Step]) -> Transcript
     ensures nonces { NoNonceTwice result }
     ensures once { NoPacketTwice result }
-    ensures yields { YieldsWrites result }
+    ensures sendings { SendsWrites setup.now result }
+    ensures yields { YieldsWrites setup.now result }
 {
     match media_run(alloc, setup, &ToyCipher, steps) {
         Ok(transcript) => transcript,

@@ -19,10 +19,12 @@ use crate::register_numbers::ask_for_missing;
 use crate::report_arrivals::{report_arrival, round_trip};
 use crate::seal_and_open::seal_and_open;
 use crate::send_again::{declare, send_again};
+use crate::tell_a_run::told;
 use crate::time_a_packet::leaves_at;
 use crate::widen_a_number::take_number;
 use mask_register::MaskRegister;
 use media_base::{Bytes, MemSink, MemSource};
+use media_script::read_script;
 use media_units::{Beginning, Bitrate, DataSize, Duration, Instant};
 use pace_core::{NullPacer, QueuePriority, QueueSnapshot, QueueState};
 use payload_core::{
@@ -300,6 +302,53 @@ fn a_run_is_played(rt: HostRuntime) -> Result<(), Fail> {
     assert!(rt; may_be_played(alloc, &setup)?);
     // Written, ticked, sealed, got, opened, yielded.
     assert_eq!(rt; played(alloc, &setup, &steps).entries().len(), 6);
+    Ok(())
+}
+
+// The packet 2 is lost, asked for and sent again under the SSRC 43 (RFC 4588 section 4); or a repair
+// comes of a packet 5 that the other side never sent.
+const REPAIRED: &str = "str0m-media 1
+key zero
+type 96 vp8 90000 rtx=97
+media v video cam
+stream A v 42 43 -
+begin
+write A 1 42 1 96 0 0 1 01
+write A 1 42 2 96 0 0 1 02
+write A 1 42 3 96 0 0 1 03
+tick A 1
+deliver B 1 1
+deliver B 1 3
+tick B 33ms
+deliver A 33ms 1
+tick A 33ms
+deliver B 33ms 4
+";
+
+const FOREIGN: &str =
+    "foreign B 33ms rtp 8061000a000000000000002b00058061000a002b00020000002100050001\n";
+
+// The last line of a run of a script of so many steps.
+fn last_of(alloc: Global, script: String) -> Result<String, Fail> {
+    let (setup, steps) = match read_script(alloc, script.as_bytes()) {
+        Ok(script) => script,
+        Err(_) => return Err(Fail::from("no script")),
+    };
+    let run = played(alloc, &setup, &steps);
+    let text = told(alloc, &setup, &run)?;
+    match text.as_str().lines().last() {
+        Some(line) => Ok(line.to_string(alloc)?),
+        None => Err(Fail::from("no line")),
+    }
+}
+
+#[test]
+fn a_run_is_told(rt: HostRuntime) -> Result<(), Fail> {
+    let alloc = rt.alloc();
+    let last = last_of(alloc, format!(in alloc; "{REPAIRED}end\n")?)?;
+    assert_eq!(rt; last.as_str(), "end genuine=yes repairs=yes");
+    let last = last_of(alloc, format!(in alloc; "{REPAIRED}{FOREIGN}end\n")?)?;
+    assert_eq!(rt; last.as_str(), "end genuine=no repairs=no");
     Ok(())
 }
 

@@ -1,4 +1,4 @@
-use Rattle.media_play.specs.Headline.{StepsAreAnswered, SealsAreRight, FirstSendingsAreYielded, NoNonceTwice, SendsWrites, SendsInSome, YieldsWrites, NoPacketTwice}
+use Rattle.media_laws.specs.Headline.{StepsAreAnswered, SealsAreRight, FirstSendingsAreYielded, NoNonceTwice, SendsWrites, SendsInSome, YieldsWrites, YieldsInSome, NoPacketTwice}
 use Rattle.mediasim.specs.RunCommand.{script_sealing}
 use Rattle.mediasim.proofs.Whole.{answers_script, plays_all, script_holds, script_plays, always_holds}
 use Rattle.mediasim.proofs.PaceWhole.{answers_calls, plays_all_calls}
@@ -13,7 +13,10 @@ returns-clause-complete g c setup acts order no_read no_write =
 
 pub returns-clause-played : goal.returns-clause-played
 returns-clause-played g c setup acts told =
-    script_plays c.plays_steps.ensures.whole c.plays_steps.ensures.exhausted _ _ setup acts _ _ (answers_script _ _ _ _ _ _ setup acts _ _ c.script_spells_one.ensures c.answer.ensures.answers told)
+    script_plays _ _ setup acts _ _
+    (record { whole = c.plays_steps.ensures.whole; exhausted = c.plays_steps.ensures.exhausted })
+    (record { whole = c.plays_steps-2.ensures.whole; exhausted = c.plays_steps-2.ensures.exhausted })
+    (answers_script _ _ _ _ _ _ setup acts _ _ c.script_spells_one.ensures c.answer.ensures.answers told)
 
 pub returns-clause-steps : goal.returns-clause-steps
 returns-clause-steps g c setup acts told =
@@ -27,7 +30,7 @@ returns-clause-seals g c setup acts told =
 
 pub returns-clause-exactly : goal.returns-clause-exactly
 returns-clause-exactly g c setup acts told =
-    script_holds _ _ setup acts _ _ FirstSendingsAreYielded (λ entries h. h.exactly)
+    script_holds _ _ setup acts _ _ (FirstSendingsAreYielded setup) (λ entries h. h.exactly)
     (answers_script _ _ _ _ _ _ setup acts _ _ c.script_spells_one.ensures c.answer.ensures.answers told)
 
 pub returns-clause-nonces : goal.returns-clause-nonces
@@ -42,7 +45,12 @@ pub returns-clause-sent : goal.returns-clause-sent
 returns-clause-sent g c = always_holds _ _ _ _ _ _ _ _ SendsInSome (λ seal setup entries h. (setup, h.sendings)) c.answer.ensures.answers
 
 pub returns-clause-yields : goal.returns-clause-yields
-returns-clause-yields g c = always_holds _ _ _ _ _ _ _ _ YieldsWrites (λ seal setup entries h. h.yields) c.answer.ensures.answers
+returns-clause-yields g c setup acts told =
+    script_holds _ _ setup acts _ _ (YieldsWrites setup) (λ entries h. h.yields)
+    (answers_script _ _ _ _ _ _ setup acts _ _ c.script_spells_one.ensures c.answer.ensures.answers told)
+
+pub returns-clause-yielded : goal.returns-clause-yielded
+returns-clause-yielded g c = always_holds _ _ _ _ _ _ _ _ YieldsInSome (λ seal setup entries h. (setup, h.yields)) c.answer.ensures.answers
 
 pub returns-clause-once : goal.returns-clause-once
 returns-clause-once g c = always_holds _ _ _ _ _ _ _ _ NoPacketTwice (λ seal setup entries h. h.once) c.answer.ensures.answers

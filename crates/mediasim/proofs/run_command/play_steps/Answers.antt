@@ -2,7 +2,7 @@ use Rattle.std.proofs.Common.{string_bytes, subst}
 use Rattle.media_play.specs.declared.fault.RunError.{RunError}
 use Rattle.media_play.specs.Running.{HasCause}
 use Rattle.mediasim.specs.Lines.{bytes_of}
-use Rattle.mediasim.specs.RunCommand.{script_sealing}
+use Rattle.mediasim.specs.RunCommand.{script_cipher}
 use Rattle.mediasim.proofs.Runs.{key_ends, step_ends, done_ends, memory_ends}
 use Rattle.mediasim.proofs.run_command.play_steps.Goals as goal
 
@@ -14,14 +14,14 @@ returns-in-Step-clause-ended c =
     let e = c.in-Err.ensures in
     step_ends (λ text. string_bytes text) setup steps c.in-Step.number c.in-Step.cause sofar c.new-in-Step.result.entries c.step_line.result c.new-in-Step.result.end (bytes_of c.new-in-Step.result.last)
     c.new-in-Step.ensures.last c.step_line.ensures c.new-in-Step.ensures.entries
-    (subst (λ (x : RunError). HasCause (script_sealing setup) setup steps sofar x) c.in-Step.is e.cause)
+    (subst (λ (x : RunError). HasCause (script_cipher setup) setup steps sofar x) c.in-Step.is e.cause)
     e.holds
 
 pub returns-in-Ok-clause-ended : goal.returns-in-Ok-clause-ended
 returns-in-Ok-clause-ended c =
     let e = c.in-Ok.ensures in
-    done_ends (λ text. string_bytes text) c.args.setup.now c.args.steps.now c.in-Ok.transcript c.new.result.entries c.end_line-line.result c.new.result.end (bytes_of c.new.result.last)
-    c.new.ensures.last c.end_line-line.ensures c.new.ensures.entries e.played.0 e.played.1
+    done_ends (λ text. string_bytes text) c.args.setup.now c.args.steps.now c.in-Ok.transcript c.new.result.entries c.last_line-line.result c.new.result.end (bytes_of c.new.result.last)
+    c.new.ensures.last c.last_line-line.ensures c.new.ensures.entries e.played.0 e.played.1
     e.holds
 
 pub returns-in-Memory-clause-ended : goal.returns-in-Memory-clause-ended
@@ -32,7 +32,7 @@ returns-in-Memory-clause-ended c =
     let e = c.in-Err.ensures in
     memory_ends setup steps sofar c.out_of_memory.result.entries c.out_of_memory.result.end (bytes_of c.out_of_memory.result.last)
     c.out_of_memory.ensures.end c.out_of_memory.ensures.last c.out_of_memory.ensures.entries
-    (subst (λ (x : RunError). HasCause (script_sealing setup) setup steps sofar x) c.in-Memory.is e.cause)
+    (subst (λ (x : RunError). HasCause (script_cipher setup) setup steps sofar x) c.in-Memory.is e.cause)
 
 pub returns-in-KeyExhausted-clause-ended : goal.returns-in-KeyExhausted-clause-ended
 returns-in-KeyExhausted-clause-ended c =
@@ -42,5 +42,5 @@ returns-in-KeyExhausted-clause-ended c =
     let e = c.in-Err.ensures in
     key_ends (λ text. string_bytes text) setup steps c.in-KeyExhausted.side c.in-KeyExhausted.counter sofar c.new-in-KeyExhausted.result.entries c.key_line.result c.new-in-KeyExhausted.result.end (bytes_of c.new-in-KeyExhausted.result.last)
     c.new-in-KeyExhausted.ensures.last c.key_line.ensures c.new-in-KeyExhausted.ensures.entries
-    (subst (λ (x : RunError). HasCause (script_sealing setup) setup steps sofar x) c.in-KeyExhausted.is e.cause)
+    (subst (λ (x : RunError). HasCause (script_cipher setup) setup steps sofar x) c.in-KeyExhausted.is e.cause)
     e.holds

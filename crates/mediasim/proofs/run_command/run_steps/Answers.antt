@@ -1,10 +1,10 @@
 use Rattle.std.proofs.Common.{◌≡◌, None, sym, subst}
 use Rattle.std.specs.Prelude.{IfOk, IfErr}
 use Rattle.media_model.specs.declared.setup.CipherName.{CipherName}
-use Rattle.media_play.specs.Headline.{HoldsOfRun}
-use Rattle.media_play.specs.Play.{Played}
+use Rattle.media_laws.specs.Headline.{HoldsOfRun}
+use Rattle.media_laws.specs.Play.{Played}
 use Rattle.media_play.specs.Running.{HasCause, OfRun}
-use Rattle.media_play.specs.Sessions.{sealing_of}
+use Rattle.media_laws.specs.Keys.{sealing_of}
 use Rattle.setup_rules.specs.SetupRules.{setup_fault}
 use Rattle.mediasim.specs.RunCommand.{meaning_of}
 use Rattle.mediasim.proofs.Runs.{all_holds}
@@ -19,7 +19,7 @@ returns-in-Toy c =
     let is = sym c.in-Toy.is in
     record {
       played = subst (λ (n : CipherName). IfOk r (λ t. (setup_fault setup ≡ None) × Played (sealing_of (meaning_of n) setup) setup steps t)) is e.played;
-      cause = subst (λ (n : CipherName). IfErr r (λ f. HasCause (sealing_of (meaning_of n) setup) setup steps f.sofar f.cause)) is e.cause;
+      cause = subst (λ (n : CipherName). IfErr r (λ f. HasCause (meaning_of n) setup steps f.sofar f.cause)) is e.cause;
       holds = subst (λ (n : CipherName). OfRun r (HoldsOfRun (sealing_of (meaning_of n) setup) setup)) is
           (all_holds _ setup r e.steps e.seals e.nonces e.sendings e.yields e.once e.exactly);
     }
@@ -33,7 +33,7 @@ returns-in-Sha c =
     let is = sym c.in-Sha.is in
     record {
       played = subst (λ (n : CipherName). IfOk r (λ t. (setup_fault setup ≡ None) × Played (sealing_of (meaning_of n) setup) setup steps t)) is e.played;
-      cause = subst (λ (n : CipherName). IfErr r (λ f. HasCause (sealing_of (meaning_of n) setup) setup steps f.sofar f.cause)) is e.cause;
+      cause = subst (λ (n : CipherName). IfErr r (λ f. HasCause (meaning_of n) setup steps f.sofar f.cause)) is e.cause;
       holds = subst (λ (n : CipherName). OfRun r (HoldsOfRun (sealing_of (meaning_of n) setup) setup)) is
           (all_holds _ setup r e.steps e.seals e.nonces e.sendings e.yields e.once e.exactly);
     }
