@@ -27,10 +27,11 @@ use Rattle.run_model.specs.Capping.{IsCapped}
 use Rattle.run_model.specs.Events.{Plain, Event, opened, opened_items, yielded, Outgoing, Incoming}
 use Rattle.run_model.specs.Receiving.{lists, begun_taken, yields, Opens}
 use Rattle.run_model.specs.RxPlay.{RxRecord}
-use Rattle.run_model.specs.Runs.{events_of, on_side, RepairsWiden}
+use Rattle.run_model.specs.Runs.{events_of, on_side}
 use Rattle.run_model.specs.Seals.{IsReport}
 use Rattle.run_model.specs.Sending.{sendings, Answers as Answering}
 use Rattle.run_model.specs.Transcripts.{happenings, types_of, outgoing_of}
+pub use Rattle.run_model.specs.Widening.{RunWidens}
 use Rattle.run_model.specs.Whole.{setup_of, incoming_of}
 use Rattle.media_laws.specs.Config.{config_of, rtp_sealing, reporting}
 use Rattle.media_laws.specs.Feedback.{SendsFeedback}
@@ -140,11 +141,6 @@ StepsAreAnswered seal setup entries = EachStep (Answers seal setup) entries
 -- no side yields a packet twice
 abbrev pub NoPacketTwice : List Entry → Type 0
 NoPacketTwice entries = (side : Side) → NoRepeat (packets side entries)
-
--- each repair that is opened and restores a number carries a write of its stream that the other side sealed before under it
-abbrev pub RunWidens : Setup → List Entry → Type 0
-RunWidens setup entries =
-    (side : Side) (L : Outgoing) → IsIn L (outgoing_of (peer_of side) setup) → RepairsWiden (types_of setup) side (incoming_of L) (happenings setup entries)
 
 -- a packet that is yielded is an earlier write of the other side
 abbrev pub IsOwedTo : List Entry → Entry → Type 0
