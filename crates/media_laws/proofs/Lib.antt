@@ -13,7 +13,7 @@ pub mod Nonces
 pub mod Asks
 pub mod Whole
 pub mod RunExactly
-pub mod Example
+pub mod RepairedRun
 pub mod Indices
 pub mod Wire
 pub mod Soundness

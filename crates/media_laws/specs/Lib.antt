@@ -1,5 +1,6 @@
 pub mod Listing
 pub mod Plain
+pub mod RepairedRun
 pub mod FaultNames
 pub mod Rules
 pub mod Opening

@@ -1,5 +1,5 @@
 // What holds of every run of plain sessions.
-ghost use Rattle.run_model.specs.Example.{RepairsHappen};
+ghost use Rattle.media_laws.specs.RepairedRun.{RepairsMeetThePremises};
 ghost use Rattle.run_model.specs.Whole.{RunsAnswer, RunsAskTheDue, RunsRepeatNoIndex, RunsRepeatNoNonce, RunsYieldExactly, RunsYieldOnce, RunsYieldWrites};
 ghost use Rattle.run_model.specs.Asking.{RoundsAskTheDue};
 ghost use Rattle.run_model.specs.Tables.{NoNonceTwice};
@@ -78,7 +78,7 @@ pub fn runs_yield_exactly()
 
 /// There is a run in which a datagram is lost, asked for, and repaired.
 pub fn repairs_happen()
-    ensures { RepairsHappen }
+    ensures { RepairsMeetThePremises }
 {}
 
 /// No two RTCP datagrams of a direction of a run share an index.

@@ -14,4 +14,3 @@ pub mod Whole
 pub mod Transcripts
 pub mod Widening
 pub mod Capping
-pub mod Example
