@@ -51,6 +51,3 @@ module _ (line : Line) (entries : List Entry) (i : ℕ) (lt : i < length entries
   stops told widens =
       told (each_at (Widens line) [] (happened line entries i) (map (happening_in line) (drop (i + 1) entries)) (happening_in line e)
       (subst (EachFrom (Widens line) []) (ap (map (happening_in line)) whole ∙ map-append (happening_in line) (take i entries) (e ∷ drop (i + 1) entries)) widens))
-
-pub all_widen : (line : Line) (entries : List Entry) (i : ℕ) (taken : Taken) (sent : Sent) → length entries ≤ i → Knows line entries i taken sent → LineWidens line entries
-all_widen line entries i taken sent le knows = subst (LineWidens line) (take_all i entries le) knows.each
