@@ -1,6 +1,6 @@
 -- A run in which a packet is lost, asked for, repaired and yielded, and what it meets.
-use Rattle.std.proofs.Common.{◌≡◌, ◌+◌, ◌%◌, inl, inr, ℕ, Bool, true, false, ◌==◌, ◌&&◌, if◌then◌else◌, zero, suc, List, [], ◌∷◌, ◌++◌, length, ◌≤◌, take, drop, Option, Some, refl, sym, ap, ◌∙◌, subst, arith, None}
-use Rattle.std.specs.List.{flat_map, list_any}
+use Rattle.std.proofs.Common.{◌≡◌, ◌%◌, inl, inr, ℕ, Bool, true, false, ◌==◌, ◌&&◌, if◌then◌else◌, zero, suc, List, [], ◌∷◌, ◌++◌, length, ◌≤◌, take, drop, Option, Some, refl, sym, ap, ◌∙◌, subst, arith, None}
+use Rattle.std.specs.List.{flat_map}
 use Rattle.resend_core.specs.ResendStore.{Past, HeldAs}
 use Rattle.rtp_base.specs.NackEntry.{named_below}
 use Rattle.repair_core.specs.Entries.{names}
