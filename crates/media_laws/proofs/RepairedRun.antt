@@ -66,7 +66,7 @@ then_b g s = record {
   played = of_b g.played s.turns;
 }
 
-bare : {A : Type 0} → false ≡ true → A
+pub bare : {A : Type 0} → false ≡ true → A
 bare e = absurd (false≢true e)
 
 -- a seal here is its plain
@@ -150,7 +150,7 @@ abbrev g6 : Going
 g6 = then_b g5 s6
 
 -- its entry names 2 alone
-names_two : flat_map names (request ∷ []) ≡ 2 ∷ []
+pub names_two : flat_map names (request ∷ []) ≡ 2 ∷ []
 unfolding named_below
 names_two = refl
 
@@ -162,7 +162,7 @@ wants_two : wanted (Some 3) (request ∷ []) ≡ 2 ∷ []
 unfolding named_below
 wants_two = refl
 
-queues_two : (past : Past Write) → HeldAs past 2 (Some (write_numbered 2))
+pub queues_two : (past : Past Write) → HeldAs past 2 (Some (write_numbered 2))
     → Queues past (wanted (Some 3) (request ∷ [])) (2 ∷ [])
 queues_two past h =
     subst (λ ns. Queues past ns (2 ∷ [])) (sym wants_two) (held 2 (write_numbered 2) h none_queued)
@@ -312,7 +312,7 @@ nth zero (x ∷ xs) = Some x
 nth (suc n) (x ∷ xs) = nth n xs
 
 -- what stands at a place is in the list
-stands : {X : Type 0} (n : ℕ) (x : X) (xs : List X) → nth n xs ≡ Some x → IsIn x xs
+pub stands : {X : Type 0} (n : ℕ) (x : X) (xs : List X) → nth n xs ≡ Some x → IsIn x xs
 stands n x [] e = absurd cc
 stands zero x (y ∷ ys) e = inl cc
 stands (suc n) x (y ∷ ys) e = inr (stands n x ys e)
@@ -338,7 +338,7 @@ genuine : IsGenuine run
 genuine = (tt, (tt, (tt, (tt, (tt, (tt, (tt, (tt, genuine_8))))))))
 
 -- a repair is opened once, and it carries the write that it restores
-carries_two : (q : ℕ) → Some 2 ≡ Some q → 2 ≡ q
+pub carries_two : (q : ℕ) → Some 2 ≡ Some q → 2 ≡ q
 carries_two q e = cc
 
 carried : Carries example_types (without_padding (repair_of 97 (write_numbered 2))) (write_numbered 2)
