@@ -14,6 +14,7 @@ pub mod Asks
 pub mod Whole
 pub mod RunExactly
 pub mod RepairedRun
+pub mod RepairedTranscript
 pub mod Indices
 pub mod Wire
 pub mod Soundness

@@ -1,6 +1,6 @@
 -- A run in which a packet is lost, asked for, repaired and yielded, and what it meets.
-use Rattle.std.proofs.Common.{◌≡◌, ◌+◌, ◌%◌, inl, inr, ℕ, Bool, true, false, ◌==◌, ◌&&◌, if◌then◌else◌, zero, suc, List, [], ◌∷◌, ◌++◌, take, drop, Option, Some, refl, sym, ap, ◌∙◌, subst, arith, None}
-use Rattle.std.specs.List.{flat_map, list_any}
+use Rattle.std.proofs.Common.{◌≡◌, ◌%◌, inl, inr, ℕ, Bool, true, false, ◌==◌, ◌&&◌, if◌then◌else◌, zero, suc, List, [], ◌∷◌, ◌++◌, length, ◌≤◌, take, drop, Option, Some, refl, sym, ap, ◌∙◌, subst, arith, None}
+use Rattle.std.specs.List.{flat_map}
 use Rattle.resend_core.specs.ResendStore.{Past, HeldAs}
 use Rattle.rtp_base.specs.NackEntry.{named_below}
 use Rattle.repair_core.specs.Entries.{names}
@@ -11,6 +11,7 @@ use Rattle.media_model.specs.declared.entry.Side.TheVariants.{A, B}
 use Rattle.media_model.specs.declared.entry.Write.{Write}
 use Rattle.media_model.specs.Sides.{peer_of}
 use Rattle.run_model.specs.Events.{as_packet, Plain, Event, wrote, ticked, got, sealed, sealed_items, opened, opened_items, yielded, Outgoing, Incoming}
+use Rattle.run_model.specs.Receiving.{Lists, concerns, widened, is_fresh_number, Opens}
 use Rattle.run_model.specs.RxPlay.{RxRecord, new_rx}
 use Rattle.run_model.specs.Listing.{IsIn}
 use Rattle.run_model.specs.Sending.{Carries, Kept, wanted, sending_of, repair_of}
@@ -18,12 +19,12 @@ use Rattle.run_model.specs.Seals.{IsSeal}
 use Rattle.run_model.specs.TxPlay.{stored, sends, resends, Queues, none as none_queued, held}
 use Rattle.run_model.specs.Asking.{none as nothing_asked, asks, owes_nothing}
 use Rattle.run_model.specs.Tables.{has, AreApart, done, reports, more, here, none as none_heard, one}
-use Rattle.run_model.specs.Runs.{Happening, without_padding, on_side, IsGenuine, RepairsWiden, SealsApart, TypesPair}
+use Rattle.run_model.specs.Runs.{EachFrom, IsGenuineAt, WidensAt, Happening, without_padding, on_side, IsGenuine, RepairsWiden, SealsApart, TypesPair}
 use Rattle.run_model.specs.Whole.{Session, session_of, new_session, incoming_of, probes, Turns, writes, ticks, opens, hears, Played, begun, of_a, of_b, IsSound, HeadsApart}
 use Rattle.std.proofs.lemmas.Bool.{false≢true}
 use Rattle.std.proofs.lemmas.Bool.Decides.{nat_tests}
 use Rattle.media_laws.proofs.Lists.{any-from_in}
-use Rattle.media_laws.specs.RepairedRun.{stream, read_plain, request, example, example_types, write_numbered, datagram, repair, IsStep, receiver, sent_before, AsksForTwo, RepairsTwo, TakesAWrite, RepairsMeetThePremises}
+use Rattle.media_laws.specs.RepairedRun.{stream, read_plain, request, example, example_types, write_numbered, datagram, repair, IsStep, receiver, sender, AsksForTwo, RepairsTwo, TakesAWrite, RepairsMeetThePremises}
 
 record Going : Type 0 where
   pub a : Session
@@ -32,7 +33,12 @@ record Going : Type 0 where
   pub played : Played example a b entries
 
 abbrev begin : Going
-begin = record { a = new_session example A; b = new_session example B; entries = []; played = begun }
+begin = record {
+  a = new_session example A;
+  b = new_session example B;
+  entries = [];
+  played = begun;
+}
 
 -- a step from there
 record Going_on (side : Side) (g : Going) : Type 0 where
@@ -40,14 +46,51 @@ record Going_on (side : Side) (g : Going) : Type 0 where
   pub new : List Event
   pub turns : Turns example side (session_of side g.a g.b) after new
 
-abbrev step : (side : Side) (g : Going) {c : Session} {new : List Event} → Turns example side (session_of side g.a g.b) c new → Going_on side g
+abbrev step : (side : Side) (g : Going) {c : Session} {new : List Event}
+    → Turns example side (session_of side g.a g.b) c new → Going_on side g
 step side g {c} {new} t = record { after = c; new = new; turns = t }
 
 abbrev then_a : (g : Going) → Going_on A g → Going
-then_a g s = record { a = s.after; b = g.b; entries = g.entries ++ on_side A s.new; played = of_a g.played s.turns }
+then_a g s = record {
+  a = s.after;
+  b = g.b;
+  entries = g.entries ++ on_side A s.new;
+  played = of_a g.played s.turns;
+}
 
 abbrev then_b : (g : Going) → Going_on B g → Going
-then_b g s = record { a = g.a; b = s.after; entries = g.entries ++ on_side B s.new; played = of_b g.played s.turns }
+then_b g s = record {
+  a = g.a;
+  b = s.after;
+  entries = g.entries ++ on_side B s.new;
+  played = of_b g.played s.turns;
+}
+
+pub bare : {A : Type 0} → false ≡ true → A
+bare e = absurd (false≢true e)
+
+-- a seal here is its plain
+sealed_as : (ssrc n : ℕ) (p : Plain) (bytes : List ℕ) → read_plain bytes ≡ Some (ssrc, n % 65536, p)
+    → IsSeal (example.seals A) ssrc n p bytes
+sealed_as ssrc n p bytes e = record { plain = bytes; reads = e; sealed = refl }
+
+-- what B opens
+opens_as : (l : Lists) (bytes : List ℕ) (ssrc n : ℕ) (p : Plain) → length bytes ≤ 2000
+    → p.padded ≡ false
+    → concerns (incoming_of stream) ssrc ≡ true
+    → n ≡ widened example_types (incoming_of stream) l ssrc p (n % 65536)
+    → is_fresh_number example_types (incoming_of stream) l ssrc p n ≡ true
+    → read_plain bytes ≡ Some (ssrc, n % 65536, p)
+    → Opens example_types (incoming_of stream) (example.seals A) l bytes ssrc n p
+opens_as l bytes ssrc n p short plain mine number fresh reads = record {
+  short = short;
+  mine = mine;
+  claimed = refl;
+  number = number;
+  fresh = fresh;
+  sealed = sealed_as ssrc n p bytes reads;
+  unpads = λ padded. bare (sym plain ∙ padded);
+}
 
 -- 1 is written
 abbrev s1 : Going_on A begin
@@ -79,23 +122,20 @@ abbrev s4 : Going_on A g3
 s4 =
     step A g3
     (ticks 1 _ _ (omega arith)
-    (more (here stream (sends (write_numbered 1) _ _ (datagram 1) refl refl (stored refl true (λ m. refl)) (record { plain = datagram 1; reads = refl; sealed = refl })))
-    (more (here stream (sends (write_numbered 2) _ _ (datagram 2) refl refl (stored refl true (λ m. refl)) (record { plain = datagram 2; reads = refl; sealed = refl })))
-    (more (here stream (sends (write_numbered 3) _ _ (datagram 3) refl refl (stored refl true (λ m. refl)) (record { plain = datagram 3; reads = refl; sealed = refl }))) (done (refl, (refl, tt))))))
+    (more (here stream (sends (write_numbered 1) _ _ (datagram 1) refl refl (stored refl true (λ m. refl)) (sealed_as 42 _ _ (datagram 1) refl)))
+    (more (here stream (sends (write_numbered 2) _ _ (datagram 2) refl refl (stored refl true (λ m. refl)) (sealed_as 42 _ _ (datagram 2) refl)))
+    (more (here stream (sends (write_numbered 3) _ _ (datagram 3) refl refl (stored refl true (λ m. refl)) (sealed_as 42 _ _ (datagram 3) refl))) (done (refl, (refl, tt))))))
     (owes_nothing _ refl nothing_asked) refl)
 
 abbrev g4 : Going
 g4 = then_a g3 s4
-
-bare : {A : Type 0} → false ≡ true → A
-bare e = absurd (false≢true e)
 
 -- 1 and 3 come
 abbrev s5 : Going_on B g4
 s5 =
     step B g4
     (opens 2 (datagram 1) 42 1 (sending_of (write_numbered 1)) _ (omega arith) (inr (inl refl))
-    (record { short = omega arith; mine = refl; claimed = refl; number = refl; fresh = refl; sealed = record { plain = datagram 1; reads = refl; sealed = refl }; unpads = λ padded. bare padded }))
+    (opens_as _ (datagram 1) 42 1 (sending_of (write_numbered 1)) (omega arith) refl refl refl refl refl))
 
 abbrev g5 : Going
 g5 = then_b g4 s5
@@ -104,13 +144,13 @@ abbrev s6 : Going_on B g5
 s6 =
     step B g5
     (opens 2 (datagram 3) 42 3 (sending_of (write_numbered 3)) _ (omega arith) (inr (inl refl))
-    (record { short = omega arith; mine = refl; claimed = refl; number = refl; fresh = refl; sealed = record { plain = datagram 3; reads = refl; sealed = refl }; unpads = λ padded. bare padded }))
+    (opens_as _ (datagram 3) 42 3 (sending_of (write_numbered 3)) (omega arith) refl refl refl refl refl))
 
 abbrev g6 : Going
 g6 = then_b g5 s6
 
 -- its entry names 2 alone
-names_two : flat_map names (request ∷ []) ≡ 2 ∷ []
+pub names_two : flat_map names (request ∷ []) ≡ 2 ∷ []
 unfolding named_below
 names_two = refl
 
@@ -122,8 +162,10 @@ wants_two : wanted (Some 3) (request ∷ []) ≡ 2 ∷ []
 unfolding named_below
 wants_two = refl
 
-queues_two : (past : Past Write) → HeldAs past 2 (Some (write_numbered 2)) → Queues past (wanted (Some 3) (request ∷ [])) (2 ∷ [])
-queues_two past h = subst (λ ns. Queues past ns (2 ∷ [])) (sym wants_two) (held 2 (write_numbered 2) h none_queued)
+pub queues_two : (past : Past Write) → HeldAs past 2 (Some (write_numbered 2))
+    → Queues past (wanted (Some 3) (request ∷ [])) (2 ∷ [])
+queues_two past h =
+    subst (λ ns. Queues past ns (2 ∷ [])) (sym wants_two) (held 2 (write_numbered 2) h none_queued)
 
 -- 2 is asked for
 abbrev s7 : Going_on B g6
@@ -152,7 +194,7 @@ abbrev s9 : Going_on A g8
 s9 =
     step A g8
     (ticks 33000000 _ _ (omega arith)
-    (more (here stream (resends 2 [] (write_numbered 2) 43 97 repair refl (1, refl, λ r. omega arith) refl refl (record { plain = repair; reads = refl; sealed = refl }))) (done (refl, (refl, tt))))
+    (more (here stream (resends 2 [] (write_numbered 2) 43 97 repair refl (1, refl, λ r. omega arith) refl refl (sealed_as 43 _ _ repair refl))) (done (refl, (refl, tt))))
     (owes_nothing _ refl nothing_asked) refl)
 
 abbrev g9 : Going
@@ -162,7 +204,7 @@ abbrev s10 : Going_on B g9
 s10 =
     step B g9
     (opens 33000000 repair 43 5 (repair_of 97 (write_numbered 2)) _ (omega arith) (inr (inl refl))
-    (record { short = omega arith; mine = refl; claimed = refl; number = refl; fresh = refl; sealed = record { plain = repair; reads = refl; sealed = refl }; unpads = λ padded. bare padded }))
+    (opens_as _ repair 43 5 (repair_of 97 (write_numbered 2)) (omega arith) refl refl refl refl refl))
 
 abbrev g10 : Going
 g10 = then_b g9 s10
@@ -213,7 +255,8 @@ played : Played example g10.a g10.b run
 played = g10.played
 
 -- a datagram is its plain
-read_of : (ssrc n : ℕ) (p : Plain) (side : Side) (bytes : List ℕ) → IsSeal (example.seals side) ssrc n p bytes → read_plain bytes ≡ Some (ssrc, n % 65536, p)
+read_of : (ssrc n : ℕ) (p : Plain) (side : Side) (bytes : List ℕ)
+    → IsSeal (example.seals side) ssrc n p bytes → read_plain bytes ≡ Some (ssrc, n % 65536, p)
 read_of ssrc n p side bytes h = ap read_plain (sym h.sealed) ∙ h.reads
 
 abbrev Reading : Type 0
@@ -226,7 +269,8 @@ one_in : (x y : Reading) → Some x ≡ Some y → x ≡ y
 one_in x y e = cc
 
 -- so two readings of it are one
-one_reading : (r n s m : ℕ) (p q : Plain) (side : Side) (bytes : List ℕ) → IsSeal (example.seals side) r n p bytes
+one_reading : (r n s m : ℕ) (p q : Plain) (side : Side) (bytes : List ℕ)
+    → IsSeal (example.seals side) r n p bytes
     → IsSeal (example.seals side) s m q bytes → reading r n p ≡ reading s m q
 one_reading r n s m p q side bytes h k =
     one_in _ _ (sym (read_of r n p side bytes h) ∙ read_of s m q side bytes k)
@@ -268,145 +312,64 @@ nth zero (x ∷ xs) = Some x
 nth (suc n) (x ∷ xs) = nth n xs
 
 -- what stands at a place is in the list
-stands : {X : Type 0} (n : ℕ) (x : X) (xs : List X) → nth n xs ≡ Some x → IsIn x xs
+pub stands : {X : Type 0} (n : ℕ) (x : X) (xs : List X) → nth n xs ≡ Some x → IsIn x xs
 stands n x [] e = absurd cc
 stands zero x (y ∷ ys) e = inl cc
 stands (suc n) x (y ∷ ys) e = inr (stands n x ys e)
 
 -- what is opened was sealed
+abbrev GenuineFrom : ℕ → Type 0
+GenuineFrom n = EachFrom IsGenuineAt (take n run) (drop n run)
+
+genuine_20 : GenuineFrom 20
+genuine_20 = ((repair_of 97 (write_numbered 2), stands 18 sends_again (take 20 run) refl), (tt, tt))
+
+genuine_11 : GenuineFrom 11
+genuine_11 =
+    let sealed = stands 6 (sends_first 3) (take 11 run) refl in
+    ((sending_of (write_numbered 3), sealed), (tt, (tt, (tt, (tt, (tt, (tt, (tt, (tt, genuine_20)))))))))
+
+genuine_8 : GenuineFrom 8
+genuine_8 =
+    let sealed = stands 4 (sends_first 1) (take 8 run) refl in
+    ((sending_of (write_numbered 1), sealed), (tt, (tt, genuine_11)))
+
 genuine : IsGenuine run
-genuine = (
-  tt,
-  (
-    tt,
-    (
-      tt,
-      (
-        tt,
-        (
-          tt,
-          (
-            tt,
-            (
-              tt,
-              (
-                tt,
-                (
-                  (sending_of (write_numbered 1), stands 4 (sends_first 1) (take 8 run) refl),
-                  (
-                    tt,
-                    (
-                      tt,
-                      (
-                        (sending_of (write_numbered 3), stands 6 (sends_first 3) (take 11 run) refl),
-                        (
-                          tt,
-                          (
-                            tt,
-                            (
-                              tt,
-                              (
-                                tt,
-                                (
-                                  tt,
-                                  (
-                                    tt,
-                                    (
-                                      tt,
-                                      (tt, ((repair_of 97 (write_numbered 2), stands 18 sends_again (take 20 run) refl), (tt, tt))),
-                                    ),
-                                  ),
-                                ),
-                              ),
-                            ),
-                          ),
-                        ),
-                      ),
-                    ),
-                  ),
-                ),
-              ),
-            ),
-          ),
-        ),
-      ),
-    ),
-  ),
-)
+genuine = (tt, (tt, (tt, (tt, (tt, (tt, (tt, (tt, genuine_8))))))))
 
 -- a repair is opened once, and it carries the write that it restores
-carries_two : (q : ℕ) → Some 2 ≡ Some q → 2 ≡ q
+pub carries_two : (q : ℕ) → Some 2 ≡ Some q → 2 ≡ q
 carries_two q e = cc
 
 carried : Carries example_types (without_padding (repair_of 97 (write_numbered 2))) (write_numbered 2)
 carried = record { type = refl; marker = refl; time = refl; csrc = refl; payload = refl }
 
-stream_widens : RepairsWiden example_types B (incoming_of stream) run
-stream_widens = (
-  tt,
-  (
-    tt,
-    (
-      tt,
-      (
-        tt,
-        (
-          tt,
-          (
-            tt,
-            (
-              tt,
-              (
-                tt,
-                (
-                  (λ s c r q e. bare r),
-                  (
-                    tt,
-                    (
-                      tt,
-                      (
-                        (λ s c r q e. bare r),
-                        (
-                          tt,
-                          (
-                            tt,
-                            (
-                              tt,
-                              (
-                                tt,
-                                (
-                                  tt,
-                                  (
-                                    tt,
-                                    (
-                                      tt,
-                                      (
-                                        tt,
-                                        ((λ s c r q e. ((1, write_numbered 2), inr (inl refl), carries_two q e, carried)), (tt, tt)),
-                                      ),
-                                    ),
-                                  ),
-                                ),
-                              ),
-                            ),
-                          ),
-                        ),
-                      ),
-                    ),
-                  ),
-                ),
-              ),
-            ),
-          ),
-        ),
-      ),
-    ),
-  ),
+abbrev WidenFrom : ℕ → Type 0
+WidenFrom n = EachFrom (WidensAt example_types B (incoming_of stream)) (take n run) (drop n run)
+
+widen_20 : WidenFrom 20
+widen_20 = (
+  λ s c r q e. ((1, write_numbered 2), inr (inl refl), carries_two q e, carried),
+  (tt, tt),
 )
 
-widen : (side : Side) (M : Outgoing) → IsIn M (example.outgoing (peer_of side)) → RepairsWiden example.types side (incoming_of M) run
+widen_11 : WidenFrom 11
+widen_11 = (λ s c r q e. bare r, (tt, (tt, (tt, (tt, (tt, (tt, (tt, (tt, widen_20)))))))))
+
+widen_8 : WidenFrom 8
+widen_8 = (λ s c r q e. bare r, (tt, (tt, widen_11)))
+
+stream_widens : RepairsWiden example_types B (incoming_of stream) run
+stream_widens = (tt, (tt, (tt, (tt, (tt, (tt, (tt, (tt, widen_8))))))))
+
+widen : (side : Side) (M : Outgoing) → IsIn M (example.outgoing (peer_of side))
+    → RepairsWiden example.types side (incoming_of M) run
 widen A M i = absurd i
-widen B M i = elim i [ inl e ↦ subst (λ L. RepairsWiden example_types B (incoming_of L) run) (sym e) stream_widens | inr k ↦ absurd k ]
+widen B M i =
+    elim i [
+      | inl e ↦ subst (λ L. RepairsWiden example_types B (incoming_of L) run) (sym e) stream_widens
+      | inr k ↦ absurd k
+    ]
 
 -- number 2 of SSRC 42 is opened
 abbrev is_two : Happening → Bool
@@ -417,8 +380,17 @@ lost : (p : Plain) → IsIn (B, opened 42 2 p) run → ⊥
 lost p i = false≢true (any-from_in is_two (B, opened 42 2 p) run i refl)
 
 -- the run goes on from a step
-goes_on : (side : Side) (g : Going) (s : Going_on side g) (rest : List Happening) → run ≡ g.entries ++ (on_side side s.new ++ rest) → IsStep run side g.entries s.new
-goes_on side g s rest e = record { a = g.a; b = g.b; after = s.after; rest = rest; played = g.played; turns = s.turns; whole = e }
+goes_on : (side : Side) (g : Going) (s : Going_on side g) (rest : List Happening)
+    → run ≡ g.entries ++ (on_side side s.new ++ rest) → IsStep run side g.entries s.new
+goes_on side g s rest e = record {
+  a = g.a;
+  b = g.b;
+  after = s.after;
+  rest = rest;
+  played = g.played;
+  turns = s.turns;
+  whole = e;
+}
 
 -- the second of the incoming streams
 abbrev second : List (Incoming × RxRecord) → Incoming × RxRecord
@@ -439,7 +411,7 @@ asks_two = record {
   asked = names_two;
 }
 
-kept : Kept example_types stream (sent_before g8.entries) 2
+kept : Kept example_types stream (sender g8.entries).sent 2
 kept = record {
   moment = 1;
   write = write_numbered 2;
@@ -473,7 +445,7 @@ takes_three = record {
   write = (1, write_numbered 3);
   sent = inr (inr (inl refl));
   plain = record { claimed = refl; primary = refl; short = omega arith };
-  sealed = record { plain = datagram 3; reads = refl; sealed = refl };
+  sealed = sealed_as _ _ _ (datagram 3) refl;
   widens = refl;
   fresh = refl;
   yielded = inr (inl refl);

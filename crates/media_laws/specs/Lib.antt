@@ -1,6 +1,7 @@
 pub mod Listing
 pub mod Plain
 pub mod RepairedRun
+pub mod RepairedTranscript
 pub mod FaultNames
 pub mod Rules
 pub mod Opening

@@ -1,4 +1,5 @@
--- A run in which a packet is lost, asked for, repaired and yielded, and which meets the premises of the laws of runs.
+-- A run in which a packet is lost, asked for, repaired and yielded, and which meets the premises
+-- of the laws of runs.
 use Rattle.std.specs.Prelude.{◌≡◌, ◌==◌, ◌%◌, ◌++◌, ℕ, true, false, if◌then◌else◌, List, [], ◌∷◌, Option, Some, None}
 use Rattle.rtp_base.specs.Widen.{widen16}
 use Rattle.rtp_base.specs.declared.kind.Kind.TheVariants.{Rtp}
@@ -13,7 +14,7 @@ use Rattle.media_model.specs.Sides.{peer_of}
 use Rattle.run_model.specs.Events.{as_packet, Plain, Event, ticked, got, sealed, opened, opened_items, yielded, Types, Outgoing, Incoming}
 use Rattle.run_model.specs.Listing.{IsIn}
 use Rattle.run_model.specs.Capping.{IsCapped}
-use Rattle.run_model.specs.Sending.{sendings, cached, last_number, wanted, Kept, sending_of, repair_of}
+use Rattle.run_model.specs.Sending.{Sendings, sendings, cached, last_number, wanted, Kept, sending_of, repair_of}
 use Rattle.run_model.specs.Seals.{IsSeal}
 use Rattle.run_model.specs.Receiving.{lists, begun_taken}
 use Rattle.run_model.specs.RxPlay.{RxRecord}
@@ -32,16 +33,33 @@ example_types = record {
 
 -- the one stream: A sends it on SSRC 42, its repairs on SSRC 43 from number 5 on, with no cap
 abbrev pub stream : Outgoing
-stream = record { ssrc = 42; rtx = Some 43; start = 5; packets = 2000; age = 3000000000; cap = None }
+stream = record {
+  ssrc = 42;
+  rtx = Some 43;
+  start = 5;
+  packets = 2000;
+  age = 3000000000;
+  cap = None;
+}
 
 abbrev pub streams_of : Side → List Outgoing
 streams_of A = stream ∷ []
 streams_of B = []
 
+abbrev pub unmarked : ℕ → List ℕ → Plain
+unmarked pt payload = record {
+  pt = pt;
+  padded = false;
+  marker = false;
+  time = 0;
+  csrc = [];
+  payload = payload;
+}
+
 -- a plain datagram here is its SSRC, the low 16 bits of its number, its type, and its payload
 abbrev pub read_plain : List ℕ → Option (ℕ × ℕ × Plain)
 read_plain (ssrc ∷ low ∷ pt ∷ payload) =
-    Some (ssrc, low, record { pt = pt; padded = false; marker = false; time = 0; csrc = []; payload = payload })
+    Some (ssrc, low, unmarked pt payload)
 read_plain _ = None
 
 -- what the NACK has, which asks for number 2 alone
@@ -67,8 +85,16 @@ example = record {
 }
 
 abbrev pub write_numbered : ℕ → Write
-write_numbered n =
-    record { ssrc = 42; number = n; pt = 96; rtp_time = 0; marker = false; nackable = true; csrc = []; payload = n ∷ [] }
+write_numbered n = record {
+  ssrc = 42;
+  number = n;
+  pt = 96;
+  rtp_time = 0;
+  marker = false;
+  nackable = true;
+  csrc = [];
+  payload = n ∷ [];
+}
 
 -- the datagram of a write, and that of the repair of number 2
 abbrev pub datagram : ℕ → List ℕ
@@ -78,7 +104,8 @@ abbrev pub repair : List ℕ
 repair = 43 ∷ 5 ∷ 97 ∷ 0 ∷ 2 ∷ 2 ∷ []
 
 -- a step of a side in a run, with the entries before it and what it brings
-pub record IsStep (run : List Happening) (side : Side) (before : List Happening) (new : List Event) : Type 0 where
+pub record IsStep (run : List Happening) (side : Side) (before : List Happening) (new : List Event)
+    : Type 0 where
   pub a : Session
   pub b : Session
   pub after : Session
@@ -104,9 +131,13 @@ pub record AsksForTwo (run : List Happening) : Type 0 where
   pub due : owed (receiver before) time line ≡ 2 ∷ []
   pub asked : asked 42 new ≡ 2 ∷ []
 
--- the first sendings on the stream before a moment, each with its moment
-abbrev pub sent_before : List Happening → List (ℕ × Write)
-sent_before before = (sendings 42 (events_of A before)).sent
+-- what A sent on the stream before a moment
+abbrev pub sender : List Happening → Sendings
+sender before = sendings 42 (events_of A before)
+
+-- the number that it keeps last
+abbrev pub last_kept : List Happening → Option ℕ
+last_kept before = last_number (cached example.types stream (sender before).sent)
 
 -- at a tick of A number 2 alone is asked for, has to be held, and no cap is met; it is repaired
 pub record RepairsTwo (run : List Happening) : Type 0 where
@@ -114,10 +145,8 @@ pub record RepairsTwo (run : List Happening) : Type 0 where
   pub time : ℕ
   pub new : List Event
   pub step : IsStep run A before (ticked time ∷ new)
-  pub asked :
-      wanted (last_number (cached example.types stream (sent_before before))) (sendings 42 (events_of A before)).named
-      ≡ 2 ∷ []
-  pub kept : Kept example.types stream (sent_before before) 2
+  pub asked : wanted (last_kept before) (sender before).named ≡ 2 ∷ []
+  pub kept : Kept example.types stream (sender before).sent 2
   pub uncapped : IsCapped stream (events_of A before) time → ⊥
   pub repaired : IsIn (sealed 43 5 (repair_of 97 (write_numbered 2)) repair) new
 
@@ -125,7 +154,8 @@ pub record RepairsTwo (run : List Happening) : Type 0 where
 abbrev pub taken_before : List Happening → List ℕ
 taken_before before = begun_taken (lists example.types (incoming_of stream) (events_of B before))
 
--- the datagram of a write that A sent comes to B, its number widens to itself and is fresh, and it is yielded
+-- the datagram of a write that A sent comes to B, its number widens to itself and is fresh, and it
+-- is yielded
 pub record TakesAWrite (run : List Happening) : Type 0 where
   pub before : List Happening
   pub time : ℕ
@@ -133,16 +163,18 @@ pub record TakesAWrite (run : List Happening) : Type 0 where
   pub new : List Event
   pub step : IsStep run B before (got time Rtp bytes ∷ new)
   pub write : ℕ × Write
-  pub sent : IsIn write (sent_before before)
+  pub sent : IsIn write (sender before).sent
   pub plain : IsPlainWrite example write.1 bytes
   pub sealed : IsSeal (example.seals A) 42 write.1.number (sending_of write.1) bytes
-  pub widens : widen16 (greatest_of (taken_before before)) (write.1.number % 65536) ≡ write.1.number
+  pub widens :
+      widen16 (greatest_of (taken_before before)) (write.1.number % 65536) ≡ write.1.number
   pub fresh : is_fresh (taken_before before) write.1.number ≡ true
   pub yielded : IsIn (yielded (as_packet write.1)) new
 
--- There is a run of a sound configuration, genuine, whose repairs widen and whose seals show their heads. In it A sends packet 2,
--- no first sending of it is ever opened by B, A hears a NACK that names it alone and seals a repair, B opens that and yields the
--- packet. In it something is due, something has to be sent again, and a first sending is taken.
+-- There is a run of a sound configuration, genuine, whose repairs widen and whose seals show their
+-- heads. In it A sends packet 2, no first sending of it is ever opened by B, A hears a NACK that
+-- names it alone and seals a repair, B opens that and yields the packet. In it something is due,
+-- something has to be sent again, and a first sending is taken.
 pub record RepairsMeetThePremises : Type 0 where
   pub a : Session
   pub b : Session
@@ -151,7 +183,8 @@ pub record RepairsMeetThePremises : Type 0 where
   pub heads : (side : Side) → HeadsApart (example.seals side)
   pub played : Played example a b entries
   pub genuine : IsGenuine entries
-  pub widen : (side : Side) (M : Outgoing) → IsIn M (example.outgoing (peer_of side)) → RepairsWiden example.types side (incoming_of M) entries
+  pub widen : (side : Side) (M : Outgoing) → IsIn M (example.outgoing (peer_of side))
+      → RepairsWiden example.types side (incoming_of M) entries
   pub sent : IsIn (A, sealed 42 2 (sending_of (write_numbered 2)) (datagram 2)) entries
   pub lost : (p : Plain) → IsIn (B, opened 42 2 p) entries → ⊥
   pub asked : IsIn (A, opened_items 0 (Nack 42 (request ∷ []) ∷ [])) entries

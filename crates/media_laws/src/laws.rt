@@ -9,11 +9,12 @@ ghost use Rattle.media_laws.specs.Exhausting.{Exhausts, call_of, told_of};
 ghost use Rattle.media_laws.specs.Headline.{HoldsOfRun, HoldsOfFront, PlaysSteps};
 ghost use Rattle.media_laws.specs.Keys.{sealing_of};
 ghost use Rattle.media_laws.specs.Play.{Played};
+ghost use Rattle.media_laws.specs.RepairedTranscript.{RepairsHappenIn, setup};
 ghost use Rattle.setup_rules.specs.SetupRules.{setup_fault};
 
 use rtp_wire::{header_reads_own_bytes, headers_are_as_long};
 use srtp_core::SrtpCipher;
-use srtp_core::laws::{rtp_seal_keeps_header, rtp_seals_apart};
+use srtp_core::laws::{rtcp_states, rtp_seal_keeps_header, rtp_seals_apart};
 
 /// All that holds of the entries of a run under a cipher, after any of its steps: whoever has a
 /// `Run` cites it for what `Run::entries` gives. And what holds of each front of these entries, and
@@ -48,3 +49,15 @@ pub fn plays_steps<C: SrtpCipher>()
         → Exhausts C.meaning setup entries step side counter
         → PlaysSteps (steps ++ told_of step) (entries ++ call_of step) }
 {}
+
+/// Under any cipher there is a run in which a packet is lost, asked for, repaired and yielded, and
+/// which meets the premises of the laws of runs.
+pub fn repairs_happen_in_runs<C: SrtpCipher>()
+    ensures { RepairsHappenIn (sealing_of C.meaning setup) }
+{
+    header_reads_own_bytes();
+    headers_are_as_long();
+    rtp_seals_apart::<C>();
+    rtp_seal_keeps_header::<C>();
+    rtcp_states::<C>();
+}

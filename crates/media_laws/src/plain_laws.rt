@@ -76,7 +76,8 @@ pub fn runs_yield_exactly()
     ensures { RunsYieldExactly }
 {}
 
-/// There is a run in which a datagram is lost, asked for, and repaired.
+/// There is a run in which a packet is lost, asked for, repaired and yielded, and which meets the
+/// premises of the laws of runs.
 pub fn repairs_happen()
     ensures { RepairsMeetThePremises }
 {}
