@@ -16,8 +16,8 @@ use srtp_core::SrtpCipher;
 use srtp_core::laws::{rtp_seal_keeps_header, rtp_seals_apart};
 
 /// All that holds of the entries of a run under a cipher, after any of its steps: whoever has a
-/// `Run` cites it for what `Run::entries` gives. And what holds of each front of these entries, and of
-/// them and the call that finds a key used up.
+/// `Run` cites it for what `Run::entries` gives. And what holds of each front of these entries, and
+/// of them and the call that finds a key used up.
 pub fn holds_of_run<C: SrtpCipher>()
     ensures whole { (setup : Setup) (steps : List Step) (entries : List Entry)
         → setup_fault setup ≡ None

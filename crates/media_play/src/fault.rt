@@ -46,8 +46,8 @@ impl From<StepFault> for StepError {
 pub struct PlayFault {
     /// Why it was not played.
     pub cause: StepError,
-    /// What the steps before it brought, and of this one, where it is a call of the application that finds a
-    /// key used up, its call alone; else nothing.
+    /// What the steps before it brought, and of this one, where it is a call of the application
+    /// that finds a key used up, its call alone; else nothing.
     pub sofar: Transcript,
 }
 

@@ -58,13 +58,15 @@ impl<C: SrtpCipher> Run<C> {
     /// Plays one step more, whose entries then stand behind those before it.
     ///
     /// # Errors
-    /// `Rule`, exactly with the first rule that the step breaks; `KeyExhausted`, exactly where it breaks
-    /// none and a side was to seal a datagram behind the last number of a key; `Memory`. The fault has
-    /// the transcript of the steps before, and of this one its call alone where a key was used up.
+    /// `Rule`, exactly with the first rule that the step breaks; `KeyExhausted`, exactly where it
+    /// breaks none and a side was to seal a datagram behind the last number of a key; `Memory`. The
+    /// fault has the transcript of the steps before, and of this one its call alone where a key was
+    /// used up.
     pub fn play(self, alloc: Global, step: &Step) -> Result<Self, PlayFault>
         ensures played { IfOk result (Plays C.meaning self step.now) }
         ensures refused { IfErr result (λ fault. Refuses C.meaning self step.now fault.cause) }
-        ensures sofar { IfErr result (λ fault. fault.sofar ≡ self.log ++ left_by step.now fault.cause) }
+        ensures sofar { IfErr result (λ fault.
+            fault.sofar ≡ self.log ++ left_by step.now fault.cause) }
     {
         let Run { mut pair } = self;
         let len = pair.len();
@@ -169,9 +171,9 @@ fn play_all<C: SrtpCipher>(
 ///
 /// # Errors
 /// `Setup`, exactly with the first rule that the setup breaks; `Step`, exactly at the first step
-/// that breaks a rule, with the first rule that it breaks; `KeyExhausted`, exactly where a step has a
-/// side seal a datagram behind the last number of a key; `Memory`. The fault has the transcript of the
-/// steps that were played, and the call that found a key used up.
+/// that breaks a rule, with the first rule that it breaks; `KeyExhausted`, exactly where a step has
+/// a side seal a datagram behind the last number of a key; `Memory`. The fault has the transcript of
+/// the steps that were played, and the call that found a key used up.
 pub fn media_run<C: SrtpCipher>(
     alloc: Global,
     setup: &Setup,
@@ -184,19 +186,19 @@ pub fn media_run<C: SrtpCipher>(
     ensures cause { IfErr result (λ f.
         HasCause C.meaning setup.now steps.now f.sofar f.cause) }
 
-    // A write brings nothing. A tick seals of each stream all queued writes, in order, and each kept
-    // write asked for, unless the stream is capped; and it asks for exactly the due numbers. A call seals
-    // its feedback. What comes is opened exactly where it opens, and its packet yielded.
+    // A write brings nothing. A tick seals of each stream all queued writes, in order, and each
+    // kept write asked for, unless the stream is capped; and it asks for exactly the due numbers. A
+    // call seals its feedback. What comes is opened exactly where it opens, and its packet yielded.
     ensures steps { OfRun result (StepsAreAnswered (sealing_of C.meaning setup.now) setup.now) }
     // Each sealed datagram is a seal under its side's keys.
     ensures seals { OfRun result (SealsAreRight (sealing_of C.meaning setup.now) setup.now) }
     // No two datagrams of a direction share a nonce.
     ensures nonces { OfRun result NoNonceTwice }
-    // Each sealed RTP datagram carries one earlier write of its side, none twice, or is the repair of a
-    // write that was sent.
+    // Each sealed RTP datagram carries one earlier write of its side, none twice, or is the repair
+    // of a write that was sent.
     ensures sendings { OfRun result (SendsWrites setup.now) }
-    // In a genuine run whose repairs widen each packet yielded is a write of the other side; in every
-    // run none is yielded twice.
+    // In a genuine run whose repairs widen each packet yielded is a write of the other side; in
+    // every run none is yielded twice.
     ensures yields { OfRun result (YieldsWrites setup.now) }
     ensures once { OfRun result NoPacketTwice }
     // The write of a delivered first sending is yielded exactly where its number widens to itself
