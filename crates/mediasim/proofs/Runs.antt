@@ -1,6 +1,6 @@
 -- What a run comes to, with its line and without memory for it.
 use Rattle.std.proofs.Common.{◌≡◌, inl, inr, ℕ, List, [], ◌++◌, length, take, Some, None, Result, Ok, Err, refl, sym, ap, ◌∙◌, subst, arith}
-use Rattle.std.specs.Prelude.{IfOk}
+use Rattle.std.specs.Prelude.{◌↔◌, Bool, IfOk, IsTrue}
 use Rattle.std.specs.declared.alloc.AllocError.{AllocError}
 use Rattle.std.specs.declared.option.Option.{Option}
 use Rattle.std.proofs.lemmas.List.{take_all}
@@ -15,11 +15,12 @@ use Rattle.media_script.specs.declared.error.ScriptError.TheVariants as script
 use Rattle.media_script.specs.FirstWrong.{IsFirstWrong, StopsRightly}
 use Rattle.media_script.specs.Gives.{GivesScript}
 use Rattle.media_script.specs.Spelling.{IsScript}
-use Rattle.media_script.specs.Text.{entries_text}
+use Rattle.media_model.specs.Genuine.{is_genuine}
+use Rattle.media_script.specs.Text.{entries_text, end_text}
 use Rattle.media_laws.specs.declared.fault.StepFault.{StepFault}
 use Rattle.media_play.specs.declared.fault.RunError.TheVariants as error
 use Rattle.media_play.specs.declared.fault.RunFault.{RunFault}
-use Rattle.media_laws.specs.Headline.{HoldsOfRun, StepsAreAnswered, SealsAreRight, NoNonceTwice, SendsWrites, YieldsWrites, NoPacketTwice, FirstSendingsAreYielded}
+use Rattle.media_laws.specs.Headline.{HoldsOfRun, RunWidens, StepsAreAnswered, SealsAreRight, NoNonceTwice, SendsWrites, YieldsWrites, NoPacketTwice, FirstSendingsAreYielded}
 use Rattle.media_laws.specs.Opening.{Sealing}
 use Rattle.media_laws.specs.Play.{Played}
 use Rattle.media_play.specs.Running.{HasCause, OfRun}
@@ -73,6 +74,17 @@ key_ends view setup steps side counter entries told (Err e) ended last is said s
     subst (λ (es : List Entry). RunEnds setup steps ended (reported ended es) (entries_text es ++ last)) (sym same)
     (subst (λ (e : End). RunEnds setup steps e (reported e entries) (entries_text entries ++ last)) (sym is.0)
     (entries, inr (error.KeyExhausted side counter, cause), (length entries, all_told entries last is.1)))
+
+-- the last line of a run of which it is known whether its repairs widen
+pub tells_whole : {X : Type 0} (view : X → List ℕ) (setup : Given) (entries read : List Entry) (widens : Bool) (line : Result X AllocError)
+    → (IsTrue widens ↔ RunWidens setup read) → read ≡ entries → IfOk line (λ text. view text ≡ end_text (is_genuine entries) widens)
+    → IfOk line (λ text. TellsWhole setup entries (entries_text entries ++ view text))
+tells_whole view setup entries read widens (Ok text) decides same is = (
+  widens,
+  subst (λ (es : List Entry). IsTrue widens ↔ RunWidens setup es) same decides,
+  ap (λ (xs : List ℕ). entries_text entries ++ xs) is,
+)
+tells_whole view setup entries read widens (Err e) decides same is = tt
 
 -- a run that was played to its end
 pub done_ends : {X : Type 0} (view : X → List ℕ) (setup : Given) (steps : List Act) (entries told : List Entry)

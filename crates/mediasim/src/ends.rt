@@ -38,8 +38,8 @@ pub enum End {
 
 impl End {
     /// The exit status.
-    pub fn status(self) -> u8
-        ensures { result ≡ status_of self }
+    pub fn status(&self) -> u8
+        ensures { result ≡ status_of self.now }
     {
         match self {
             End::Done => 0,

@@ -117,10 +117,10 @@ impl fmt::Display for UsedUp {
     }
 }
 
-fn key_line(alloc: Global, side: Side, counter: Counter) -> Result<String, AllocError>
-    ensures { IfOk result (λ text. string_bytes text ≡ key_line side counter) }
+fn key_line(alloc: Global, side: Side, counter: &Counter) -> Result<String, AllocError>
+    ensures { IfOk result (λ text. string_bytes text ≡ key_line side counter.now) }
 {
-    let key = UsedUp(side, counter);
+    let key = UsedUp(side, *counter);
     format!(in alloc; "fault key {key}\n")
 }
 
@@ -160,21 +160,19 @@ fn play_steps(alloc: Global, setup: &Setup, steps: &[Step]) -> Ending
         }
         Err(fault) => fault,
     };
-    match fault.cause {
-        RunError::Setup(cause) => {
-            Ending::new(End::Setup(cause), fault.sofar, setup_line(alloc, cause))
+    let RunFault { cause, sofar } = fault;
+    match cause {
+        RunError::Setup(rule) => Ending::new(End::Setup(rule), sofar, setup_line(alloc, rule)),
+        RunError::Step(number, rule) => Ending::new(
+            End::Step(number, rule),
+            sofar,
+            step_line(alloc, number, rule),
+        ),
+        RunError::KeyExhausted(side, counter) => {
+            let line = key_line(alloc, side, &counter);
+            Ending::new(End::KeyExhausted(side, counter), sofar, line)
         }
-        RunError::Step(number, cause) => Ending::new(
-            End::Step(number, cause),
-            fault.sofar,
-            step_line(alloc, number, cause),
-        ),
-        RunError::KeyExhausted(side, counter) => Ending::new(
-            End::KeyExhausted(side, counter),
-            fault.sofar,
-            key_line(alloc, side, counter),
-        ),
-        RunError::Memory => Ending::out_of_memory(fault.sofar),
+        RunError::Memory => Ending::out_of_memory(sofar),
     }
 }
 

@@ -12,7 +12,7 @@ returns-in-Step-clause-ended c =
     let steps = c.args.steps.now in
     let sofar = c.in-Err.fault.sofar in
     let e = c.in-Err.ensures in
-    step_ends (λ text. string_bytes text) setup steps c.in-Step.number c.in-Step.cause sofar c.new-in-Step.result.entries c.step_line.result c.new-in-Step.result.end (bytes_of c.new-in-Step.result.last)
+    step_ends (λ text. string_bytes text) setup steps c.in-Step.number c.in-Step.rule sofar c.new-in-Step.result.entries c.step_line.result c.new-in-Step.result.end (bytes_of c.new-in-Step.result.last)
     c.new-in-Step.ensures.last c.step_line.ensures c.new-in-Step.ensures.entries
     (subst (λ (x : RunError). HasCause (script_cipher setup) setup steps sofar x) c.in-Step.is e.cause)
     e.holds
@@ -40,7 +40,7 @@ returns-in-KeyExhausted-clause-ended c =
     let steps = c.args.steps.now in
     let sofar = c.in-Err.fault.sofar in
     let e = c.in-Err.ensures in
-    key_ends (λ text. string_bytes text) setup steps c.in-KeyExhausted.side c.in-KeyExhausted.counter sofar c.new-in-KeyExhausted.result.entries c.key_line.result c.new-in-KeyExhausted.result.end (bytes_of c.new-in-KeyExhausted.result.last)
-    c.new-in-KeyExhausted.ensures.last c.key_line.ensures c.new-in-KeyExhausted.ensures.entries
+    key_ends (λ text. string_bytes text) setup steps c.in-KeyExhausted.side c.in-KeyExhausted.counter sofar c.new-in-KeyExhausted.result.entries c.key_line-line.result c.new-in-KeyExhausted.result.end (bytes_of c.new-in-KeyExhausted.result.last)
+    c.new-in-KeyExhausted.ensures.last c.key_line-line.ensures c.new-in-KeyExhausted.ensures.entries
     (subst (λ (x : RunError). HasCause (script_cipher setup) setup steps sofar x) c.in-KeyExhausted.is e.cause)
     e.holds
