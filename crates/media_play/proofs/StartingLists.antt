@@ -10,9 +10,8 @@ use Rattle.std.proofs.lemmas.List.Concat.{flat_map-append}
 use Rattle.std.proofs.lemmas.List.Elements.{filter_map-append}
 use Rattle.indexmap.specs.IndexMap.{insert_entry}
 use Rattle.stream_core.specs.Tables.{place_of, value_under, with_new, change_place, change_at}
-use Rattle.stream_core.proofs.TableSteps.{with_new_absent}
-use Rattle.turn_hears.proofs.Keys.{position_first, position_next}
 use Rattle.run_model.specs.Listing.{IsIn, NoRepeat}
+use Rattle.media_play.proofs.Keys.{position_first, position_next}
 use Rattle.media_play.proofs.Lists.{IsIn-left, IsIn-right, IsIn-append, tested}
 use Rattle.run_model.specs.Events.{Outgoing}
 use Rattle.media_laws.specs.Rules.{has}
@@ -141,8 +140,12 @@ absent_has k (n ∷ ns) none = elim (tested (n == k)) [
 pub place_absent : {X : Type 0} (k : ℕ) (es : List (ℕ × X)) → (IsIn k (keys_of es) → ⊥) → is_some (place_of k es) ≡ false
 place_absent k es none = place_in k (keys_of es) ∙ absent_has k (keys_of es) none
 
+absent : {X : Type 0} (o : Option ℕ) (es more : List (ℕ × X)) → is_some o ≡ false → option_map_or (λ (i : ℕ). es) o more ≡ more
+absent None es more h = refl
+absent (Some i) es more h = absurd cc
+
 pub new_last : {X : Type 0} (k : ℕ) (x : X) (es : List (ℕ × X)) → (IsIn k (keys_of es) → ⊥) → with_new k x es ≡ es ++ (k, x) ∷ []
-new_last k x es none = with_new_absent k x es (place_absent k es none)
+new_last k x es none = absent (place_of k es) es (es ++ (k, x) ∷ []) (place_absent k es none)
 
 pub insert_new : {X : Type 0} (k : ℕ) (x : X) (es : List (ℕ × X)) → (IsIn k (keys_of es) → ⊥) → insert_entry nat_eq es k x ≡ es ++ (k, x) ∷ []
 insert_new k x [] none = refl
