@@ -17,4 +17,5 @@ pub mod Ending
 pub mod StartingLists
 pub mod StartingSteps
 pub mod StartingSetup
+pub mod StartingFit
 pub mod Started

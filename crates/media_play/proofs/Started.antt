@@ -38,7 +38,8 @@ use Rattle.media_laws.specs.Rules.{has}
 use Rattle.media_play.specs.Ends.{EndSession}
 use Rattle.media_play.specs.Starting.{AreOnce, ssrcs_in, IsIdle, IsUnheard, kept_for, kept_in, Begun, Starts, IsStarted}
 use Rattle.media_play.proofs.StartingLists.{zip_keys, zip_map, zip_weaker, place_in, value_first, value_next, NoRepeat-right}
-use Rattle.media_play.proofs.StartingSetup.{mains_of, same_types, places}
+use Rattle.media_play.proofs.StartingFit.{fits}
+use Rattle.media_play.proofs.StartingSetup.{Facts, mains_of, same_types, places}
 
 cap_new : (L : Outgoing) (cap : Option ℕ) → L.cap ≡ cap → MirrorsCap 0 L (new_tx L) (recapped cap (Some (uncounted 15)))
 cap_new L None is = is
@@ -151,12 +152,13 @@ module _ (cipher : CipherMeaning) (setup : Setup) (side : Side) where
         packet = b.packet;
       }
 
-  pub started : (v : EndSession) → AreOnce (outgoing_of side setup) → Starts cipher setup side (outgoing_of side setup) (outgoing_of (peer_of side) setup) v → IsStarted cipher setup side v
-  started v once h = record {
+  pub started : (v : EndSession) → Facts setup → Starts cipher setup side (outgoing_of side setup) (outgoing_of (peer_of side) setup) v → IsStarted cipher setup side v
+  started v f h = record {
     session = h.session;
     stands = h.stands;
-    mirrors = begun_mirrors h.session h.bounded once h.begun;
+    mirrors = begun_mirrors h.session h.bounded (f.once side) h.begun;
     types = λ pt. places pt h.session.state.types setup.types h.begun.types;
     exts = h.begun.exts;
     runs = h.begun.runs;
+    fit = fits cipher setup side f h.sent_words h.heard_words;
   }

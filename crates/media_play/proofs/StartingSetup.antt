@@ -1,10 +1,10 @@
 -- The types and the streams of a setup that breaks no rule, and of a session that begins with them.
-use Rattle.std.proofs.Common.{◌≡◌, inl, inr, Bool, true, false, not, cond, ◌||◌, ℕ, ◌+◌, ◌<◌, ◌≤◌, List, [], ◌∷◌, ◌++◌, length, map, take, drop, get_or, append_assoc, nat_eq, Option, Some, None, is_some, refl, sym, ap, ◌∙◌, subst}
+use Rattle.std.proofs.Common.{◌≡◌, inl, inr, Bool, true, false, not, cond, ◌||◌, ℕ, ◌+◌, ◌<◌, ◌≤◌, ◌^◌, List, [], ◌∷◌, ◌++◌, length, map, take, drop, get_or, append_assoc, nat_eq, Option, Some, None, is_some, refl, sym, ap, ◌∙◌, subst}
 use Rattle.std.specs.Prelude.{◌==◌, nat_lt, find, option_to_list, unwrap_or, option_and_then, if◌then◌else◌}
 use Rattle.std.specs.List.{flat_map, filter_map, list_any, AllZip}
 use Rattle.std.specs.Map.{keys_of}
 use Rattle.std.specs.Option.{option_map}
-use Rattle.std.proofs.lemmas.Bool.{eqb-true, eq-eqb, false≢true, not-false, leb-true, and_parts}
+use Rattle.std.proofs.lemmas.Bool.{eqb-true, eq-eqb, false≢true, not-false, leb-true, ltb-false, and_parts}
 use Rattle.std.proofs.lemmas.List.Elements.{filter_map-append}
 use Rattle.std.proofs.lemmas.List.{map-append, take_more, take-append-drop}
 use Rattle.indexmap.specs.IndexMap.{insert_entry}
@@ -121,6 +121,9 @@ pub record Facts (setup : Setup) : Type 0 where
   pub mtu : is_mtu setup.mtu ≡ true
   pub types : NoRepeat (type_numbers setup)
   pub once : (side : Side) → AreOnce (outgoing_of side setup)
+  pub nonzero : (side : Side) → IsIn 0 (flat_map ssrcs_in (outgoing_of side setup)) → ⊥
+  pub small : list_any (nat_lt 127) (claimed_of setup) ≡ false
+  pub pauses : setup.pause_threshold ≤ 10 ^ 16
 
 pub facts : (setup : Setup) → setup_fault setup ≡ None → Facts setup
 facts setup e =
@@ -139,6 +142,11 @@ facts setup e =
       mtu = not-false _ mtu.0;
       types = types_once setup.types (no_repeats (claimed_of setup) (neither _ _ type.0).1);
       once = λ side. subst AreOnce (sym (all_lines setup side setup.media)) (lines_once setup side (all_streams setup) (no_repeats (all_ssrcs setup) twice.0).1.1);
+      nonzero = λ side i.
+          let there = lines_in setup side (all_streams setup) 0 (subst (λ (Ls : List Outgoing). IsIn 0 (flat_map ssrcs_in Ls)) (all_lines setup side setup.media) i) in
+          false≢true (sym zero.0 ∙ has_in (all_ssrcs setup) 0 (inr (inr there)));
+      small = (neither _ _ type.0).0;
+      pauses = ltb-false (10 ^ 16) setup.pause_threshold (neither _ _ (neither _ _ time.0).0).1;
     }
 
 -- types

@@ -1,5 +1,5 @@
 -- A session that begins: with keys, with media sections, with streams.
-use Rattle.std.proofs.Common.{◌≡◌, inl, inr, ℕ, Bool, true, false, not, List, [], ◌∷◌, ◌++◌, map, Option, Some, None, is_some, refl, sym, ap, ◌∙◌, subst, ◌≤◌, ◌^◌}
+use Rattle.std.proofs.Common.{◌≡◌, inl, inr, ℕ, Bool, true, false, not, List, [], ◌∷◌, ◌++◌, map, Option, Some, None, is_some, refl, sym, ap, ◌∙◌, subst, ◌<◌, ◌≤◌, ◌^◌}
 use Rattle.std.specs.Prelude.{option_to_list, if◌then◌else◌, is_none}
 use Rattle.std.specs.List.{AllZip, flat_map}
 use Rattle.std.specs.Map.{keys_of}
@@ -23,6 +23,7 @@ use Rattle.session_core.specs.declared.config.SessionConfig.{SessionConfig}
 use Rattle.session_core.specs.Calls.{fresh_session, keyed}
 use Rattle.session_core.specs.Sending.{has_mid}
 use Rattle.session_core.specs.SessionRecord.{MediaRecord, SessionState, SessionRecord, streams_in}
+use Rattle.turn_hears.proofs.Keys.{all_push}
 use Rattle.session_turns.specs.Mirrors.{rtx_seen, RxMirrors, original_in, original_with}
 use Rattle.media_model.specs.declared.entry.Side.{Side}
 use Rattle.media_model.specs.declared.entry.Side.TheVariants.{A, B}
@@ -37,7 +38,7 @@ use Rattle.run_model.specs.Transcripts.{outgoing_as, outgoing_in}
 use Rattle.run_model.specs.Whole.{incoming_of}
 use Rattle.media_laws.specs.Keys.{is_left}
 use Rattle.media_laws.specs.Plain.{extensions_of}
-use Rattle.media_play.specs.Starting.{ssrcs_in, AreOnce, IsRow, IsIdle, IsUnheard, kept_for, kept_in, with_streams, StreamsChange, Begun, Starts}
+use Rattle.media_play.specs.Starting.{ssrcs_in, AreOnce, HasWords, IsRow, IsIdle, IsUnheard, kept_for, kept_in, with_streams, StreamsChange, Begun, Starts}
 use Rattle.media_play.proofs.StartingLists.{zip_push, zip_weaker, zip_keys, any_left, any_last, new_last, place_absent, change_none, change_last, keys_among, mains_among, strange}
 
 -- the sides
@@ -55,6 +56,10 @@ other_side B B = refl
 -- a media section has its own mid
 pub has_last : (medias : List MediaRecord) (m : MediaRecord) (mid : List ℕ) → m.mid ≡ mid → has_mid mid (medias ++ m ∷ []) ≡ true
 has_last medias m mid is = any_last (λ (n : MediaRecord). pointwise ◌==◌ n.mid mid) medias m ((bytes_decides m.mid mid).1 is)
+
+-- the SSRCs of a stream of a setup have 32 bits
+pub has_words : (setup : Setup) (s : Stream) → s.ssrc < 2 ^ 32 → ((x : ℕ) → s.rtx ≡ Some x → x < 2 ^ 32) → HasWords (outgoing_as setup s (cache_of s.ssrc setup))
+has_words setup s ssrc rtx = record { ssrc = ssrc; rtx = rtx }
 
 -- the streams of a session change
 pub streams_change : (f : StreamsRecord → StreamsRecord) (v : EndSession) (old new : EndStreams) → old.rx ≡ v.rx → old.tx ≡ v.state.tx → old.threshold ≡ v.state.pause_threshold → old.originals ≡ v.originals → old.repairs ≡ v.repairs
@@ -197,6 +202,8 @@ module _ (cipher : CipherMeaning) (setup : Setup) (side : Side) where
       record {
         session = record (fresh_session config) { state = to (fresh_session config).state };
         bounded = bounded;
+        sent_words = tt;
+        heard_words = tt;
         stands = record {
           state = state;
           rx = rw is h.rx;
@@ -244,6 +251,8 @@ module _ (cipher : CipherMeaning) (setup : Setup) (side : Side) where
         record {
           session = record h.session { state = to h.session.state };
           bounded = h.bounded;
+          sent_words = h.sent_words;
+          heard_words = h.heard_words;
           stands = record {
             state = ap (λ (w : EndSession). w.state) is ∙ ap to h.stands.state;
             rx = rw is h.stands.rx;
@@ -282,11 +291,11 @@ module _ (cipher : CipherMeaning) (setup : Setup) (side : Side) where
       originals = b.originals;
     }
 
-    pub starts_sends : (v w z : EndSession) (L : Outgoing) (mid : List ℕ) (rid : Option (List ℕ)) → has_mid mid v.state.medias ≡ true → AreOnce (sent ++ L ∷ [])
+    pub starts_sends : (v w z : EndSession) (L : Outgoing) (mid : List ℕ) (rid : Option (List ℕ)) → HasWords L → has_mid mid v.state.medias ≡ true → AreOnce (sent ++ L ∷ [])
         → StreamsChange (with_stream_tx L.ssrc (option_map (λ ssrc. (ssrc, L.start)) L.rtx) mid rid) v w
         → StreamsChange (λ r. record r { repairs = change_at L.ssrc (recached L.packets L.age L.cap) r.repairs }) w z
         → Starts cipher setup side sent received v → Starts cipher setup side (sent ++ L ∷ []) received z
-    starts_sends v w z L mid rid known once first cached h =
+    starts_sends v w z L mid rid words known once first cached h =
         let s = h.session in
         let none_tx : IsIn L.ssrc (keys_of s.state.tx) → ⊥ =
         λ i. strange sent L L.ssrc once (inl refl) (mains_among sent L.ssrc (subst (IsIn L.ssrc) (zip_keys (IsIdle s.state.medias) (λ (M : Outgoing). M.ssrc) (λ e M k. k.key) s.state.tx sent h.begun.sends) i)) in
@@ -297,6 +306,8 @@ module _ (cipher : CipherMeaning) (setup : Setup) (side : Side) where
         record {
           session = with_streams (declared_in L mid rid (kept_in L) (streams_in s)) s;
           bounded = h.bounded;
+          sent_words = all_push HasWords sent L h.sent_words words;
+          heard_words = h.heard_words;
           stands = subst (λ (qs : List (ℕ × RepairsRecord)). let t : SessionRecord = record between { repairs = qs } in SessionStands z t) (kept_added L L.rtx s.repairs none) (cached between stands);
           begun = begun_sends s L mid rid (ap (λ (t : SessionState). has_mid mid t.medias) (sym h.stands.state) ∙ known) h.begun;
         }
@@ -338,10 +349,10 @@ module _ (cipher : CipherMeaning) (setup : Setup) (side : Side) where
           ∙ sym (originals_of (received ++ L ∷ []));
     }
 
-    pub starts_hears : (v w : EndSession) (L : Outgoing) (mid : List ℕ) (rid : Option (List ℕ)) → AreOnce (received ++ L ∷ [])
+    pub starts_hears : (v w : EndSession) (L : Outgoing) (mid : List ℕ) (rid : Option (List ℕ)) → HasWords L → AreOnce (received ++ L ∷ [])
         → StreamsChange (with_stream_rx L.ssrc L.rtx mid rid (is_none L.rtx)) v w
         → Starts cipher setup side sent received v → Starts cipher setup side sent (received ++ L ∷ []) w
-    starts_hears v w L mid rid once says h =
+    starts_hears v w L mid rid words once says h =
         let s = h.session in
         let none : IsIn L.ssrc (keys_of s.rx) → ⊥ =
         λ i. strange received L L.ssrc once (inl refl) (mains_among received L.ssrc (subst (IsIn L.ssrc) (zip_keys (IsUnheard setup.pause_threshold) (λ (M : Outgoing). M.ssrc) (λ e M k. k.key) s.rx received h.begun.takes) i)) in
@@ -356,6 +367,8 @@ module _ (cipher : CipherMeaning) (setup : Setup) (side : Side) where
         record {
           session = after;
           bounded = h.bounded;
+          sent_words = h.sent_words;
+          heard_words = all_push HasWords received L h.heard_words words;
           stands = subst (SessionStands w) same (says s h.stands);
           begun = begun_hears s L mid rid h.begun;
         }
@@ -371,7 +384,7 @@ module _ (cipher : CipherMeaning) (setup : Setup) (side : Side) (sent received :
   abbrev heard_so : Bool → List Outgoing
   heard_so b = received ++ option_to_list (if b then Some line else None)
 
-  module _ (v w z : EndSession) (mid : List ℕ) (known : has_mid mid v.state.medias ≡ true) (once_sent : AreOnce (sent_so (same_side s.side side))) (once_heard : AreOnce (heard_so (same_side s.side (peer_of side))))
+  module _ (v w z : EndSession) (mid : List ℕ) (words : HasWords line) (known : has_mid mid v.state.medias ≡ true) (once_sent : AreOnce (sent_so (same_side s.side side))) (once_heard : AreOnce (heard_so (same_side s.side (peer_of side))))
       (h : Starts cipher setup side sent received v) where
     pub stream_sends : same_side s.side side ≡ true
         → StreamsChange (with_stream_tx s.ssrc (option_map (λ ssrc. (ssrc, line.start)) s.rtx) mid s.rid) v w
@@ -379,7 +392,7 @@ module _ (cipher : CipherMeaning) (setup : Setup) (side : Side) (sent received :
         → Starts cipher setup side (sent_so (same_side s.side side)) (heard_so (same_side s.side (peer_of side))) z
     stream_sends own first cached =
         let others : same_side s.side (peer_of side) ≡ false = other_side s.side side ∙ ap not own in
-        let made = starts_sends cipher setup side sent received v w z line mid s.rid known (subst (λ b. AreOnce (sent_so b)) own once_sent) first cached h in
+        let made = starts_sends cipher setup side sent received v w z line mid s.rid words known (subst (λ b. AreOnce (sent_so b)) own once_sent) first cached h in
         subst (λ b. Starts cipher setup side (sent_so b) (heard_so (same_side s.side (peer_of side))) z) (sym own)
         (subst (λ b. Starts cipher setup side (sent ++ line ∷ []) (heard_so b) z) (sym others)
         (subst (λ l. Starts cipher setup side (sent ++ line ∷ []) l z) (sym (append-nil received)) made))
@@ -389,7 +402,7 @@ module _ (cipher : CipherMeaning) (setup : Setup) (side : Side) (sent received :
         → Starts cipher setup side (sent_so (same_side s.side side)) (heard_so (same_side s.side (peer_of side))) w
     stream_hears own says =
         let others : same_side s.side (peer_of side) ≡ true = other_side s.side side ∙ ap not own in
-        let made = starts_hears cipher setup side sent received v w line mid s.rid (subst (λ b. AreOnce (heard_so b)) others once_heard) says h in
+        let made = starts_hears cipher setup side sent received v w line mid s.rid words (subst (λ b. AreOnce (heard_so b)) others once_heard) says h in
         subst (λ b. Starts cipher setup side (sent_so b) (heard_so (same_side s.side (peer_of side))) w) (sym own)
         (subst (λ b. Starts cipher setup side (sent_so false) (heard_so b) w) (sym others)
         (subst (λ l. Starts cipher setup side l (received ++ line ∷ []) w) (sym (append-nil sent)) made))

@@ -1,6 +1,6 @@
 -- A session before any step, with some of the streams of its setup.
-use Rattle.std.specs.Prelude.{◌≡◌, ◌≤◌, ◌^◌, ℕ, true, false, List, [], ◌∷◌, map, filter_map, option_to_list, is_some, Option, None, Some}
-use Rattle.std.specs.List.{AllZip, flat_map}
+use Rattle.std.specs.Prelude.{◌≡◌, ◌<◌, ◌≤◌, ◌^◌, ℕ, true, false, List, [], ◌∷◌, map, filter_map, option_to_list, is_some, Option, None, Some}
+use Rattle.std.specs.List.{AllByRecursion, AllZip, flat_map}
 use Rattle.rtx_core.specs.Resends.{created, recached}
 use Rattle.srtp_core.specs.Cipher.{CipherMeaning}
 use Rattle.srtp_core.specs.Contexts.{new_state}
@@ -24,7 +24,7 @@ use Rattle.run_model.specs.RxPlay.{new_rx}
 use Rattle.run_model.specs.Transcripts.{outgoing_in}
 use Rattle.run_model.specs.Whole.{incoming_of, probes}
 use Rattle.stream_core.specs.Tables.{place_of}
-use Rattle.session_turns.specs.Mirrors.{Mirrors}
+use Rattle.session_turns.specs.Mirrors.{Mirrors, IsFit}
 use Rattle.run_model.specs.Whole.{new_session}
 use Rattle.media_laws.specs.Config.{config_of}
 use Rattle.media_laws.specs.Keys.{sealing_of}
@@ -46,6 +46,11 @@ ssrcs_in L = L.ssrc ∷ option_to_list L.rtx
 -- no SSRC is of two streams, nor twice of one
 abbrev pub AreOnce : List Outgoing → Type 0
 AreOnce Ls = NoRepeat (flat_map ssrcs_in Ls)
+
+-- SSRCs of a stream that have 32 bits
+pub record HasWords (L : Outgoing) : Type 0 where
+  pub ssrc : L.ssrc < 2 ^ 32
+  pub rtx : (x : ℕ) → L.rtx ≡ Some x → x < 2 ^ 32
 
 -- the streams of a media section that a side sends
 abbrev pub outgoing_at : Setup → Side → Media → List Outgoing
@@ -112,10 +117,13 @@ pub record Begun (cipher : CipherMeaning) (setup : Setup) (side : Side) (sent re
 pub record Starts (cipher : CipherMeaning) (setup : Setup) (side : Side) (sent received : List Outgoing) (view : EndSession) : Type 0 where
   pub session : SessionRecord
   pub bounded : (local_of side setup).srtcp_index ≤ 2 ^ 31
+  pub sent_words : AllByRecursion HasWords sent
+  pub heard_words : AllByRecursion HasWords received
   pub stands : SessionStands view session
   pub begun : Begun cipher setup side sent received session
 
--- the session of a side of a setup before any step: it mirrors the plain session of the setup, and runs
+-- the session of a side of a setup before any step: it mirrors the plain session of the setup, and runs; and the configuration
+-- of the setup fits its fields
 pub record IsStarted (cipher : CipherMeaning) (setup : Setup) (side : Side) (view : EndSession) : Type 0 where
   pub session : SessionRecord
   pub stands : SessionStands view session
@@ -123,3 +131,4 @@ pub record IsStarted (cipher : CipherMeaning) (setup : Setup) (side : Side) (vie
   pub types : (pt : ℕ) → is_some (place_of pt session.state.types) ≡ has (type_numbers setup) pt
   pub exts : session.state.transport.exts ≡ extensions_of setup
   pub runs : session.state.stopped ≡ false
+  pub fit : IsFit (config_of (sealing_of cipher setup) setup)

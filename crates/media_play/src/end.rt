@@ -36,9 +36,7 @@ use std::marker::Model;
 use stream_core::{Payload, RtpPacket, RtpWrite, Sent};
 use turn_hears::{calls_turn, hears_turn, writes_turn};
 use turn_opens::opens_turn;
-use turn_seals::{
-    calls_are_right, openings_are_right, rtcp_openings_are_right, seals_are_right,
-};
+use turn_seals::{calls_are_right, openings_are_right, rtcp_openings_are_right, seals_are_right};
 use turn_ticks::ticks_turn;
 
 /// Numbers of packets are below it.

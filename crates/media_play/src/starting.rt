@@ -1,5 +1,5 @@
 // The session of a side before any step.
-ghost use Rattle.std.specs.Prelude.{◌≡◌, ◌++◌, List, [], ◌∷◌, None, true, is_none, length, filter_map, option_to_list, IfOk, OnOk};
+ghost use Rattle.std.specs.Prelude.{◌≡◌, ◌<◌, ◌^◌, ℕ, ◌++◌, List, [], ◌∷◌, Some, None, true, is_none, length, filter_map, option_to_list, IfOk, OnOk};
 ghost use Rattle.std.specs.List.{AllZip};
 ghost use Rattle.std.specs.Option.{option_map};
 ghost use Rattle.srtp_core.specs.Cipher.{CipherMeaning};
@@ -163,6 +163,24 @@ fn expect<C: SrtpCipher>(
         .expect_stream_rx(stream.ssrc, stream.rtx, place, stream.rtx.is_none())
 }
 
+/// An SSRC has 32 bits, as its type says.
+fn is_word(ssrc: Ssrc)
+    ensures { ssrc < 2 ^ 32 }
+{
+    let _number = u32::from(ssrc);
+}
+
+/// The same of both SSRCs of a stream.
+fn has_words(stream: &Stream)
+    ensures ssrc { stream.now.ssrc < 2 ^ 32 }
+    ensures rtx { (x : ℕ) → stream.now.rtx ≡ Some x → x < 2 ^ 32 }
+{
+    is_word(stream.ssrc);
+    if let Some(rtx) = stream.rtx {
+        is_word(rtx);
+    }
+}
+
 /// Has a session of a side of a setup send or receive a stream of a media section.
 fn add_stream<C: SrtpCipher>(
     session: &mut Session<C, MaskRegister, QueueStore<Sent>>,
@@ -180,6 +198,7 @@ fn add_stream<C: SrtpCipher>(
         (received ++ option_to_list (outgoing_in setup.now (peer_of side) stream.now)) session.new) }
     ensures medias { session.new.state.medias ≡ session.old.state.medias }
 {
+    has_words(stream);
     if stream.side == side {
         declare(session, mid, stream, setup.start(stream.ssrc))?;
         keep(session, stream.ssrc, setup.cache(stream.ssrc))

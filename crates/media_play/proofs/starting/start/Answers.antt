@@ -33,6 +33,6 @@ pub returns : goal.returns
 returns g c =
     let setup = c.args.setup.now in
     let all = take_all c.loop-media.media-index c.as_slice-media-items.result.now c.loop-media-test.false ∙ c.as_slice-media-items.ensures in
-    started g.C.SrtpCipher.meaning setup c.args.side c.loop-media.session ((facts setup c.requires).once c.args.side)
+    started g.C.SrtpCipher.meaning setup c.args.side c.loop-media.session (facts setup c.requires)
     (starts_same g.C.SrtpCipher.meaning setup c.args.side _ _ _ _ c.loop-media.session (ap (λ (l : List Media). flat_map (outgoing_at setup c.args.side) l) all)
     (ap (λ (l : List Media). flat_map (outgoing_at setup (peer_of c.args.side)) l) all) c.loop-media.invariant)

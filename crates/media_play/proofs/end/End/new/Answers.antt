@@ -10,7 +10,6 @@ wrote_none : (side : Side) (Ls : List Outgoing) → AllByRecursion (IsWrittenIn 
 wrote_none side [] = tt
 wrote_none side (L ∷ Ls) = (λ n h. absurd h, wrote_none side Ls)
 
--- TODO: that the configuration of a setup fits its fields
 pub returns : goal.returns
 returns g c =
     let s = c.in_ok-start.ensures in
@@ -23,5 +22,5 @@ returns g c =
       runs = s.runs;
       used = c.in_ok-no_numbers.ensures c.args.side;
       wrote = wrote_none c.args.side _;
-      fit = ?;
+      fit = s.fit;
     }

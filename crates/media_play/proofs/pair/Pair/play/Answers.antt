@@ -9,6 +9,22 @@ pub returns-in-Write-clause-played : goal.returns-in-Write-clause-played
 returns-in-Write-clause-played g c =
     subst (λ (s : Step). OnOk c.write.result (Plays g.C.SrtpCipher.meaning c.args.self.now s c.write.new.self)) (sym c.in-Write.is) c.write.ensures.played
 
+pub returns-in-Tick-clause-played : goal.returns-in-Tick-clause-played
+returns-in-Tick-clause-played g c =
+    subst (λ (s : Step). OnOk c.tick.result (Plays g.C.SrtpCipher.meaning c.args.self.now s c.tick.new.self)) (sym c.in-Tick.is) c.tick.ensures.played
+
+pub returns-in-Deliver-clause-played : goal.returns-in-Deliver-clause-played
+returns-in-Deliver-clause-played g c =
+    subst (λ (s : Step). OnOk c.deliver.result (Plays g.C.SrtpCipher.meaning c.args.self.now s c.deliver.new.self)) (sym c.in-Deliver.is) c.deliver.ensures.played
+
+pub returns-in-Foreign-clause-played : goal.returns-in-Foreign-clause-played
+returns-in-Foreign-clause-played g c =
+    subst (λ (s : Step). OnOk c.foreign.result (Plays g.C.SrtpCipher.meaning c.args.self.now s c.foreign.new.self)) (sym c.in-Foreign.is) c.foreign.ensures.played
+
+pub returns-in-Application-clause-played : goal.returns-in-Application-clause-played
+returns-in-Application-clause-played g c =
+    subst (λ (s : Step). OnOk c.send_application.result (Plays g.C.SrtpCipher.meaning c.args.self.now s c.send_application.new.self)) (sym c.in-Application.is) c.send_application.ensures.played
+
 pub returns-in-Write-clause-called : goal.returns-in-Write-clause-called
 returns-in-Write-clause-called g c =
     nothing_left c.write.result c.args.step.now c.write.new.self.log c.args.self.now.log (ap call_of c.in-Write.is) c.write.ensures.unchanged
