@@ -1,7 +1,7 @@
 -- Lists that a loop goes over, and tables to which a value is added.
 use Rattle.std.proofs.Common.{◌≡◌, inl, inr, ℕ, suc, ◌+◌, ◌<◌, Bool, true, false, ◌||◌, List, [], ◌∷◌, ◌++◌, length, map, get_or, take, drop, slice_get, Option, Some, None, is_some, nat_eq, refl, sym, ap, ◌∙◌, subst, append_assoc}
 use Rattle.std.specs.Prelude.{◌==◌, option_to_list, option_and_then, position}
-use Rattle.std.specs.List.{flat_map, filter_map, cons_option, list_any, AllZip}
+use Rattle.std.specs.List.{flat_map, filter_map, cons_option, list_any, AllByRecursion, AllZip}
 use Rattle.std.specs.Map.{keys_of, values_of}
 use Rattle.std.specs.Option.{option_map, option_map_or}
 use Rattle.std.proofs.lemmas.Bool.{eqb-true, eqb-false, eq-eqb, ne_eqb, false≢true}
@@ -24,6 +24,10 @@ NoRepeat-left (x ∷ xs) ys h = (λ i. h.0 (IsIn-left x xs ys i), NoRepeat-left 
 pub NoRepeat-right : {X : Type 0} (xs ys : List X) → NoRepeat (xs ++ ys) → NoRepeat ys
 NoRepeat-right [] ys h = h
 NoRepeat-right (x ∷ xs) ys h = NoRepeat-right xs ys h.1
+
+pub all_push : {X : Type 0} (P : X → Type 0) (xs : List X) (x : X) → AllByRecursion P xs → P x → AllByRecursion P (xs ++ x ∷ [])
+all_push P [] x h p = (p, tt)
+all_push P (y ∷ xs) x h p = (h.0, all_push P xs x h.1 p)
 
 pub apart_ends : {X : Type 0} (xs ys : List X) (x : X) → NoRepeat (xs ++ ys) → IsIn x xs → IsIn x ys → ⊥
 apart_ends [] ys x h i j = i
