@@ -17,7 +17,7 @@ use Rattle.run_model.specs.Sending.{is_just}
 use Rattle.run_model.specs.Tables.{has, AllStrange, AreApart}
 use Rattle.run_model.specs.TxPlay.{IsApart}
 use Rattle.run_model.specs.Transcripts.{has_type, outgoing_of}
-use Rattle.run_laws.proofs.Lists.{IsIn-left, IsIn-right, tested, any-from_in}
+use Rattle.media_play.proofs.Lists.{IsIn-left, IsIn-right, tested, any-from_in}
 use Rattle.media_laws.specs.Config.{config_of}
 use Rattle.media_laws.specs.Keys.{sealing_of}
 use Rattle.media_play.specs.Starting.{ssrcs_in, AreOnce, HasWords}

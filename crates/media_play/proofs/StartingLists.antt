@@ -1,7 +1,7 @@
 -- Lists that a loop goes over, and tables to which a value is added.
 use Rattle.std.proofs.Common.{◌≡◌, inl, inr, ℕ, suc, ◌+◌, ◌<◌, Bool, true, false, ◌||◌, List, [], ◌∷◌, ◌++◌, length, map, get_or, take, drop, slice_get, Option, Some, None, is_some, nat_eq, refl, sym, ap, ◌∙◌, subst, append_assoc}
 use Rattle.std.specs.Prelude.{◌==◌, option_to_list, option_and_then, position}
-use Rattle.std.specs.List.{flat_map, filter_map, cons_option, list_any, AllZip}
+use Rattle.std.specs.List.{flat_map, filter_map, cons_option, list_any, AllByRecursion, AllZip}
 use Rattle.std.specs.Map.{keys_of, values_of}
 use Rattle.std.specs.Option.{option_map, option_map_or}
 use Rattle.std.proofs.lemmas.Bool.{eqb-true, eqb-false, eq-eqb, ne_eqb, false≢true}
@@ -10,9 +10,8 @@ use Rattle.std.proofs.lemmas.List.Concat.{flat_map-append}
 use Rattle.std.proofs.lemmas.List.Elements.{filter_map-append}
 use Rattle.indexmap.specs.IndexMap.{insert_entry}
 use Rattle.stream_core.specs.Tables.{place_of, value_under, with_new, change_place, change_at}
-use Rattle.stream_core.proofs.TableSteps.{with_new_absent}
-use Rattle.turn_hears.proofs.Keys.{position_first, position_next}
 use Rattle.run_model.specs.Listing.{IsIn, NoRepeat}
+use Rattle.media_play.proofs.Keys.{position_first, position_next}
 use Rattle.media_play.proofs.Lists.{IsIn-left, IsIn-right, IsIn-append, tested}
 use Rattle.run_model.specs.Events.{Outgoing}
 use Rattle.media_laws.specs.Rules.{has}
@@ -25,6 +24,10 @@ NoRepeat-left (x ∷ xs) ys h = (λ i. h.0 (IsIn-left x xs ys i), NoRepeat-left 
 pub NoRepeat-right : {X : Type 0} (xs ys : List X) → NoRepeat (xs ++ ys) → NoRepeat ys
 NoRepeat-right [] ys h = h
 NoRepeat-right (x ∷ xs) ys h = NoRepeat-right xs ys h.1
+
+pub all_push : {X : Type 0} (P : X → Type 0) (xs : List X) (x : X) → AllByRecursion P xs → P x → AllByRecursion P (xs ++ x ∷ [])
+all_push P [] x h p = (p, tt)
+all_push P (y ∷ xs) x h p = (h.0, all_push P xs x h.1 p)
 
 pub apart_ends : {X : Type 0} (xs ys : List X) (x : X) → NoRepeat (xs ++ ys) → IsIn x xs → IsIn x ys → ⊥
 apart_ends [] ys x h i j = i
@@ -141,8 +144,12 @@ absent_has k (n ∷ ns) none = elim (tested (n == k)) [
 pub place_absent : {X : Type 0} (k : ℕ) (es : List (ℕ × X)) → (IsIn k (keys_of es) → ⊥) → is_some (place_of k es) ≡ false
 place_absent k es none = place_in k (keys_of es) ∙ absent_has k (keys_of es) none
 
+absent : {X : Type 0} (o : Option ℕ) (es more : List (ℕ × X)) → is_some o ≡ false → option_map_or (λ (i : ℕ). es) o more ≡ more
+absent None es more h = refl
+absent (Some i) es more h = absurd cc
+
 pub new_last : {X : Type 0} (k : ℕ) (x : X) (es : List (ℕ × X)) → (IsIn k (keys_of es) → ⊥) → with_new k x es ≡ es ++ (k, x) ∷ []
-new_last k x es none = with_new_absent k x es (place_absent k es none)
+new_last k x es none = absent (place_of k es) es (es ++ (k, x) ∷ []) (place_absent k es none)
 
 pub insert_new : {X : Type 0} (k : ℕ) (x : X) (es : List (ℕ × X)) → (IsIn k (keys_of es) → ⊥) → insert_entry nat_eq es k x ≡ es ++ (k, x) ∷ []
 insert_new k x [] none = refl

@@ -23,7 +23,6 @@ use Rattle.session_core.specs.declared.config.SessionConfig.{SessionConfig}
 use Rattle.session_core.specs.Calls.{fresh_session, keyed}
 use Rattle.session_core.specs.Sending.{has_mid}
 use Rattle.session_core.specs.SessionRecord.{MediaRecord, SessionState, SessionRecord, streams_in}
-use Rattle.turn_hears.proofs.Keys.{all_push}
 use Rattle.session_turns.specs.Mirrors.{rtx_seen, RxMirrors, original_in, original_with}
 use Rattle.media_model.specs.declared.entry.Side.{Side}
 use Rattle.media_model.specs.declared.entry.Side.TheVariants.{A, B}
@@ -39,7 +38,7 @@ use Rattle.run_model.specs.Whole.{incoming_of}
 use Rattle.media_laws.specs.Keys.{is_left}
 use Rattle.media_laws.specs.Plain.{extensions_of}
 use Rattle.media_play.specs.Starting.{ssrcs_in, AreOnce, HasWords, IsRow, IsIdle, IsUnheard, kept_for, kept_in, with_streams, StreamsChange, Begun, Starts}
-use Rattle.media_play.proofs.StartingLists.{zip_push, zip_weaker, zip_keys, any_left, any_last, new_last, place_absent, change_none, change_last, keys_among, mains_among, strange}
+use Rattle.media_play.proofs.StartingLists.{all_push, zip_push, zip_weaker, zip_keys, any_left, any_last, new_last, place_absent, change_none, change_last, keys_among, mains_among, strange}
 
 -- the sides
 

@@ -1,5 +1,5 @@
 -- How the datagrams of a session are read as events of a side.
-use Rattle.std.specs.Prelude.{ℕ, Bool, false, is_some, unwrap_or, List, [], ◌∷◌, map, drop, Option, Some, None}
+use Rattle.std.specs.Prelude.{ℕ, is_some, unwrap_or, List, [], ◌∷◌, map, Option, Some, None}
 use Rattle.std.specs.Option.{option_map}
 use Rattle.rtp_base.specs.declared.kind.Kind.{Kind}
 use Rattle.rtp_base.specs.declared.kind.Kind.TheVariants.{Rtp, Rtcp}
@@ -20,17 +20,7 @@ use Rattle.session_core.specs.Repairs.{is_known}
 use Rattle.media_model.specs.declared.entry.Packet.{Packet}
 use Rattle.run_model.specs.Events.{Plain, Event, sealed, sealed_items, opened, opened_items, yielded, Types}
 use Rattle.run_model.specs.Seals.{Sealing, Reporting}
-
--- a plain RTP datagram as its header reads, with what stands behind the header
-abbrev pub plain_of : RtpHeader → List ℕ → Plain
-plain_of h bytes = record {
-  pt = h.payload_type;
-  padded = h.has_padding;
-  marker = h.marker;
-  time = h.timestamp;
-  csrc = csrc_of h;
-  payload = drop h.header_len bytes;
-}
+pub use Rattle.run_model.specs.Transcripts.{plain_of, no_plain, plain_in}
 
 abbrev pub read_of : RtpHeader → List ℕ → ℕ × ℕ × Plain
 read_of h bytes = (h.ssrc, h.sequence_number, plain_of h bytes)
@@ -41,12 +31,6 @@ reading exts bytes = option_map (λ h. read_of h bytes) (header_of exts bytes)
 
 abbrev pub len_in : ExtensionMap → List ℕ → ℕ
 len_in exts bytes = unwrap_or (option_map (λ (h : RtpHeader). h.header_len) (header_of exts bytes)) 0
-
-abbrev pub no_plain : Plain
-no_plain = record { pt = 0; padded = false; marker = false; time = 0; csrc = []; payload = [] }
-
-abbrev pub plain_in : ExtensionMap → List ℕ → Plain
-plain_in exts bytes = unwrap_or (option_map (λ h. plain_of h bytes) (header_of exts bytes)) no_plain
 
 -- how a context seals
 abbrev pub sealing_of : CipherMeaning → ExtensionMap → SrtpState → Sealing
