@@ -1,7 +1,7 @@
 -- The entries of a run, one after another.
-use Rattle.std.proofs.Common.{◌≡◌, ◌≤◌, ◌<◌, ◌+◌, ℕ, map, List, [], ◌∷◌, ◌++◌, length, take, drop, get_or, Some, None, sym, ap, ◌∙◌, subst, append_assoc, add-one}
+use Rattle.std.proofs.Common.{◌≡◌, ◌<◌, ◌+◌, ℕ, map, List, [], ◌∷◌, ◌++◌, length, take, drop, get_or, Some, None, sym, ap, ◌∙◌, subst, append_assoc, add-one}
 use Rattle.std.proofs.Math.Seq.{drop-cons}
-use Rattle.std.proofs.lemmas.List.{append-nil, take_more, take_all, take-append-drop, map-append}
+use Rattle.std.proofs.lemmas.List.{append-nil, take_more, take-append-drop, map-append}
 use Rattle.media_model.specs.declared.entry.Entry.{Entry}
 use Rattle.run_model.specs.Runs.{Happening, EachFrom}
 use Rattle.run_widens.specs.declared.line.Line.{Line}

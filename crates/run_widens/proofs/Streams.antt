@@ -1,6 +1,7 @@
 -- The streams of a setup, one after another.
 use Rattle.std.proofs.Common.{◌≡◌, ◌<◌, ◌+◌, ℕ, Bool, ◌⊎◌, inl, inr, map, List, [], ◌∷◌, ◌++◌, length, take, drop, get_or, Option, Some, sym, ap, ◌∙◌, subst, add-one}
-use Rattle.std.specs.Prelude.{IsTrue, ◌↔◌}
+use Rattle.std.specs.Prelude.{IsTrue, ◌↔◌, IfOk, Result, Ok, Err}
+use Rattle.std.specs.declared.alloc.AllocError.{AllocError}
 use Rattle.std.specs.List.{filter_map, cons_option, flat_map}
 use Rattle.std.proofs.Math.Seq.{drop-cons}
 use Rattle.std.proofs.lemmas.List.{append-nil, take_more, take-append-drop}
@@ -87,17 +88,20 @@ module _ (setup : Setup) (exts : ExtensionMap) (side : Side) (entries : List Ent
   pub none : Widen []
   none M x = absurd x
 
--- what both sides received
-pub of_sides : (setup : Setup) (exts : ExtensionMap) (entries : List Entry) → exts ≡ extensions_of setup → AllWiden setup exts A (outgoing_of (peer_of A) setup) entries
-    → AllWiden setup exts B (outgoing_of (peer_of B) setup) entries → RunWidens setup entries
-of_sides setup exts entries is a b A = subst (λ (x : ExtensionMap). AllWiden setup x A (outgoing_of (peer_of A) setup) entries) is a
-of_sides setup exts entries is a b B = subst (λ (x : ExtensionMap). AllWiden setup x B (outgoing_of (peer_of B) setup) entries) is b
+module _ (setup : Setup) (exts : ExtensionMap) (entries : List Entry) (is : exts ≡ extensions_of setup) where
+  -- all that a side receives widens, as these extensions read it
+  abbrev pub WidensOn : ExtensionMap → Side → Type 0
+  WidensOn x side = AllWiden setup x side (outgoing_of (peer_of side) setup) entries
 
-pub of_side : (setup : Setup) (exts : ExtensionMap) (entries : List Entry) → exts ≡ extensions_of setup → (side : Side) → RunWidens setup entries
-    → AllWiden setup exts side (outgoing_of (peer_of side) setup) entries
-of_side setup exts entries is side run = subst (λ (x : ExtensionMap). AllWiden setup x side (outgoing_of (peer_of side) setup) entries) (sym is) (run side)
+  both_sides : WidensOn exts A → WidensOn exts B → RunWidens setup entries
+  both_sides a b A = subst (λ (x : ExtensionMap). WidensOn x A) is a
+  both_sides a b B = subst (λ (x : ExtensionMap). WidensOn x B) is b
 
--- the answer of the second side, where what the first one received widens
-pub second_side : (setup : Setup) (exts : ExtensionMap) (entries : List Entry) → exts ≡ extensions_of setup → AllWiden setup exts A (outgoing_of (peer_of A) setup) entries
-    → (b : Bool) → (IsTrue b ↔ AllWiden setup exts B (outgoing_of (peer_of B) setup) entries) → IsTrue b ↔ RunWidens setup entries
-second_side setup exts entries is a b told = (λ t. of_sides setup exts entries is a (told.0 t), λ run. told.1 (of_side setup exts entries is B run))
+  pub of_side : (side : Side) → RunWidens setup entries → WidensOn exts side
+  of_side side run = subst (λ (x : ExtensionMap). WidensOn x side) (sym is) (run side)
+
+  -- the answer of the second side, where all that the first one receives widens
+  pub second_side : WidensOn exts A → (r : Result Bool AllocError)
+      → IfOk r (λ b. IsTrue b ↔ WidensOn exts B) → IfOk r (λ b. IsTrue b ↔ RunWidens setup entries)
+  second_side a (Ok b) told = (λ t. both_sides a (told.0 t), λ run. told.1 (of_side B run))
+  second_side a (Err e) told = tt

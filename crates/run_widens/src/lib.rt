@@ -1,5 +1,5 @@
-//! Whether the repairs of a run widen: each that restores a number carries the write that was sent
-//! under it.
+//! Whether the repairs of a run widen: each that restores a number carries a write that was sealed
+//! before under it.
 #![tactic(auto)]
 
 mod line;
