@@ -57,7 +57,8 @@ abbrev types : Types
 types = types_of setup
 
 -- what B opens
-pub opens_as : (w : Wiring) (l : Lists) (bytes : List ℕ) (ssrc n : ℕ) (p : Plain) → length bytes ≤ 2000
+pub opens_as : (w : Wiring) (l : Lists) (bytes : List ℕ) (ssrc n : ℕ) (p : Plain)
+    → length bytes ≤ 2000
     → p.padded ≡ false
     → concerns (incoming_of stream) ssrc ≡ true
     → types.claims p.pt ≡ true
@@ -179,7 +180,15 @@ module _ (w : Wiring) where
   abbrev pub s3 : Going_on A g2
   s3 =
       step A g2
-      (writes 1 (write_numbered 3) (omega arith) ((λ is i. elim i [ inl e ↦ absurd (omega (arith, e)) | inr (inl e) ↦ absurd (omega (arith, e)) | inr (inr k) ↦ k ]), tt))
+      (writes 1 (write_numbered 3) (omega arith) (
+        (λ is i.
+            elim i [
+              | inl e ↦ absurd (omega (arith, e))
+              | inr (inl e) ↦ absurd (omega (arith, e))
+              | inr (inr k) ↦ k
+            ]),
+        tt,
+      ))
 
   abbrev pub g3 : Going
   g3 = then_a g2 s3
@@ -191,7 +200,8 @@ module _ (w : Wiring) where
       (ticks 1 _ _ (omega arith)
       (more (here stream (sends (write_numbered 1) _ _ (w.first 1) refl refl (stored refl true (λ m. refl)) w.seal_1))
       (more (here stream (sends (write_numbered 2) _ _ (w.first 2) refl refl (stored refl true (λ m. refl)) w.seal_2))
-      (more (here stream (sends (write_numbered 3) _ _ (w.first 3) refl refl (stored refl true (λ m. refl)) w.seal_3)) (done (refl, (refl, tt))))))
+      (more (here stream (sends (write_numbered 3) _ _ (w.first 3) refl refl (stored refl true (λ m. refl)) w.seal_3))
+      (done (refl, (refl, tt))))))
       (owes_nothing _ refl nothing_asked) refl)
 
   abbrev pub g4 : Going
@@ -220,7 +230,8 @@ module _ (w : Wiring) where
   abbrev pub s7 : Going_on B g6
   s7 =
       step B g6
-      (ticks 33000000 _ _ (omega arith) (reports 0 (Nack 42 (request ∷ []) ∷ []) (done tt)) (owes_nothing _ refl (asks _ (request ∷ []) names_two nothing_asked)) (refl, refl))
+      (ticks 33000000 _ _ (omega arith) (reports 0 (Nack 42 (request ∷ []) ∷ []) (done tt))
+      (owes_nothing _ refl (asks _ (request ∷ []) names_two nothing_asked)) (refl, refl))
 
   abbrev pub g7 : Going
   g7 = then_b g6 s7
@@ -239,7 +250,8 @@ module _ (w : Wiring) where
   s9 =
       step A g8
       (ticks 33000000 _ _ (omega arith)
-      (more (here stream (resends 2 [] (write_numbered 2) 43 97 w.repair refl (1, refl, λ r. omega arith) refl refl w.seal_repair)) (done (refl, (refl, tt))))
+      (more (here stream (resends 2 [] (write_numbered 2) 43 97 w.repair refl (1, refl, λ r. omega arith) refl refl w.seal_repair))
+      (done (refl, (refl, tt))))
       (owes_nothing _ refl nothing_asked) refl)
 
   abbrev pub g9 : Going
@@ -249,7 +261,8 @@ module _ (w : Wiring) where
   s10 =
       step B g9
       (opens 33000000 w.repair 43 5 (repair_of 97 (write_numbered 2)) _ (omega arith) (inr (inl refl))
-      (opens_as w _ _ 43 5 (repair_of 97 (write_numbered 2)) w.short_repair refl refl refl refl refl w.seal_repair))
+      (opens_as w _ _ 43 5 (repair_of 97 (write_numbered 2)) w.short_repair refl refl refl refl refl
+      w.seal_repair))
 
   abbrev pub g10 : Going
   g10 = then_b g9 s10
@@ -476,7 +489,13 @@ bare_wiring = record {
   short_1 = omega arith;
   short_3 = omega arith;
   short_repair = omega arith;
-  is_report = record { packet = report; long = omega arith; stated = refl; held = refl; sealed = refl };
+  is_report = record {
+    packet = report;
+    long = omega arith;
+    stated = refl;
+    held = refl;
+    sealed = refl;
+  };
 }
 
 -- a datagram is its plain
@@ -508,7 +527,8 @@ heads_apart side = record {
 }
 
 seals_apart : (side : Side) → SealsApart bare_sealing
-seals_apart side ssrc n p q bytes h k = ap (λ (x : Reading). x.2) (one_reading ssrc n ssrc n p q bytes h k)
+seals_apart side ssrc n p q bytes h k =
+    ap (λ (x : Reading). x.2) (one_reading ssrc n ssrc n p q bytes h k)
 
 apart : (side : Side) → AreApart (example.outgoing side)
 apart A = (refl, (tt, tt))

@@ -50,6 +50,8 @@ use Rattle.srtp_core.specs.Keys.{session_keys}
 use Rattle.srtp_core.specs.Laws.{RtcpStates}
 use Rattle.media_model.specs.Setup.{material_of}
 use Rattle.media_model.specs.Sides.{peer_of}
+use Rattle.media_model.specs.Entries.{last_got}
+use Rattle.media_model.specs.declared.entry.Got.{Got as GotEntry}
 use Rattle.media_laws.specs.Keys.{is_left, sealing_of}
 use Rattle.media_laws.specs.WireLaws.{WireLaws}
 
@@ -81,20 +83,23 @@ record IsPlain (plain : List ℕ) (h : RtpHeader) : Type 0 where
   pub wire : h ≡ wire_form (extensions_of setup) h
   pub written : plain ≡ header_bytes (extensions_of setup) h ++ drop 12 plain
 
-plain_1 : IsPlain (plain_as 96 1 42 (1 ∷ [])) (header_as 96 1 42)
+abbrev PlainAs : (pt n ssrc : ℕ) → List ℕ → Type 0
+PlainAs pt n ssrc payload = IsPlain (plain_as pt n ssrc payload) (header_as pt n ssrc)
+
+plain_1 : PlainAs 96 1 42 (1 ∷ [])
 unfolding header_of header_bytes wire_form extension_bytes written_data written_elements written_values
 plain_1 = record { reads = refl; wire = refl; written = refl }
 
-plain_2 : IsPlain (plain_as 96 2 42 (2 ∷ [])) (header_as 96 2 42)
+plain_2 : PlainAs 96 2 42 (2 ∷ [])
 unfolding header_of header_bytes wire_form extension_bytes written_data written_elements written_values
 plain_2 = record { reads = refl; wire = refl; written = refl }
 
-plain_3 : IsPlain (plain_as 96 3 42 (3 ∷ [])) (header_as 96 3 42)
+plain_3 : PlainAs 96 3 42 (3 ∷ [])
 unfolding header_of header_bytes wire_form extension_bytes written_data written_elements written_values
 plain_3 = record { reads = refl; wire = refl; written = refl }
 
 -- the repair of 2
-plain_repair : IsPlain (plain_as 97 5 43 (0 ∷ 2 ∷ 2 ∷ [])) (header_as 97 5 43)
+plain_repair : PlainAs 97 5 43 (0 ∷ 2 ∷ 2 ∷ [])
 unfolding header_of header_bytes wire_form extension_bytes written_data written_elements written_values
 plain_repair = record { reads = refl; wire = refl; written = refl }
 
@@ -106,7 +111,8 @@ packet_asks : feedback_in packet ≡ Nack 42 (request ∷ []) ∷ []
 unfolding items_of item_at reading_of transport_feedback_of nack_of nack_entry_at
 packet_asks = refl
 
--- a seal of RTP is at most 16 bytes longer, and one of the NACK states that it is encrypted, and its index
+-- a seal of RTP is at most 16 bytes longer, and one of the NACK states that it is encrypted, and
+-- its index
 pub record SealsFit (seal : Sealing) : Type 0 where
   pub short : (ssrc index : ℕ) (plain : List ℕ) (h : RtpHeader) → read_header setup plain ≡ Some h
       → length (seal.rtp A ssrc index plain) ≤ length plain + 16
@@ -126,18 +132,24 @@ module _ (seal : Sealing) (fit : SealsFit seal) where
 
   -- what the other side opens of it
   abbrev opened_of : SealedEntry → Side → OpenedEntry
-  opened_of s side = record { side = side; kind = s.kind; ssrc = s.ssrc; index = s.index; plain = s.plain }
+  opened_of s side = record {
+    side = side;
+    kind = s.kind;
+    ssrc = s.ssrc;
+    index = s.index;
+    plain = s.plain;
+  }
 
-  seal_as : (pt n ssrc : ℕ) (payload : List ℕ) → IsPlain (plain_as pt n ssrc payload) (header_as pt n ssrc)
-      → n ≡ n % 65536
-      → IsSeal (rtp_sealing seal setup A) ssrc n (unmarked pt payload) (sealed_as pt n ssrc payload).bytes
+  seal_as : (pt n ssrc : ℕ) (payload : List ℕ) → PlainAs pt n ssrc payload → n ≡ n % 65536
+      → IsSeal (rtp_sealing seal setup A) ssrc n (unmarked pt payload)
+      (sealed_as pt n ssrc payload).bytes
   seal_as pt n ssrc payload p low = record {
     plain = plain_as pt n ssrc payload;
     reads = rw p.reads (ap (λ (m : ℕ). Some (ssrc, m, unmarked pt payload)) low);
     sealed = refl;
   }
 
-  right_as : (pt n ssrc : ℕ) (payload : List ℕ) → IsPlain (plain_as pt n ssrc payload) (header_as pt n ssrc)
+  right_as : (pt n ssrc : ℕ) (payload : List ℕ) → PlainAs pt n ssrc payload
       → n ≡ n % 65536 → n < 2 ^ 48 → list_any (λ L. has L ssrc) (outgoing_of A setup) ≡ true
       → IsRight seal setup (sealed_as pt n ssrc payload)
   right_as pt n ssrc payload p low small there = right_rtp (record {
@@ -156,11 +168,19 @@ module _ (seal : Sealing) (fit : SealsFit seal) where
     sealed = refl;
   })
 
-  opening_as : (time pt n ssrc : ℕ) (payload : List ℕ) → IsPlain (plain_as pt n ssrc payload) (header_as pt n ssrc)
+  opening_as : (time pt n ssrc : ℕ) (payload : List ℕ) → PlainAs pt n ssrc payload
       → n ≡ n % 65536
-      → IsOpening seal setup (got_as B time Rtp (sealed_as pt n ssrc payload).bytes) (opened_of (sealed_as pt n ssrc payload) B)
+      → IsOpening seal setup (got_as B time Rtp (sealed_as pt n ssrc payload).bytes)
+      (opened_of (sealed_as pt n ssrc payload) B)
   opening_as time pt n ssrc payload p low =
-      rtp_opening (record { rtp = refl; header = header_as pt n ssrc; reads = p.reads; source = refl; low = low; sealed = refl })
+      rtp_opening (record {
+        rtp = refl;
+        header = header_as pt n ssrc;
+        reads = p.reads;
+        source = refl;
+        low = low;
+        sealed = refl;
+      })
 
   abbrev first_sealed : ℕ → SealedEntry
   first_sealed n = sealed_as 96 n 42 (n ∷ [])
@@ -178,10 +198,12 @@ module _ (seal : Sealing) (fit : SealsFit seal) where
     bytes = seal.rtcp B true 0 packet;
   }
 
-  is_short : (pt n ssrc : ℕ) (payload : List ℕ) → IsPlain (plain_as pt n ssrc payload) (header_as pt n ssrc)
-      → length (plain_as pt n ssrc payload) ≤ 1000 → length (sealed_as pt n ssrc payload).bytes ≤ 2000
+  is_short : (pt n ssrc : ℕ) (payload : List ℕ) → PlainAs pt n ssrc payload
+      → length (plain_as pt n ssrc payload) ≤ 1000
+      → length (sealed_as pt n ssrc payload).bytes ≤ 2000
   is_short pt n ssrc payload p few =
-      omega (arith, few, fit.short ssrc n (plain_as pt n ssrc payload) (header_as pt n ssrc) p.reads)
+      let plain = plain_as pt n ssrc payload in
+      omega (arith, few, fit.short ssrc n plain (header_as pt n ssrc) p.reads)
 
   unsealed : seal.rtcp B (seal.encrypts nack_sealed.bytes) 0 packet ≡ nack_sealed.bytes
   unsealed = ap (λ b. seal.rtcp B b 0 packet) fit.encrypts
@@ -225,13 +247,15 @@ module _ (seal : Sealing) (fit : SealsFit seal) where
   start = record { steps = []; entries = []; plays = begins }
 
   -- a step that a step of the plain run reads
-  record IsStep (side : Side) (past : List Entry) (events : List Event) (step : Step) (new : List Entry)
+  record IsStep (side : Side) (past : List Entry) (events : List Event) (step : Step)
+      (new : List Entry)
       : Type 0 where
     pub valid : step_fault setup past step ≡ None
     pub are_of : AreEntriesOf seal setup past side step new
     pub read : happenings setup new ≡ on_side side events
 
-  abbrev play_a : (g : Going wiring) (s : Going_on wiring A g) (p : Playing g) (step : Step) (new : List Entry)
+  abbrev play_a : (g : Going wiring) (s : Going_on wiring A g) (p : Playing g) (step : Step)
+      (new : List Entry)
       → IsStep A p.entries s.new step new → Playing (then_a wiring g s)
   play_a g s p step new h = record {
     steps = p.steps ++ step ∷ [];
@@ -245,7 +269,8 @@ module _ (seal : Sealing) (fit : SealsFit seal) where
     });
   }
 
-  abbrev play_b : (g : Going wiring) (s : Going_on wiring B g) (p : Playing g) (step : Step) (new : List Entry)
+  abbrev play_b : (g : Going wiring) (s : Going_on wiring B g) (p : Playing g) (step : Step)
+      (new : List Entry)
       → IsStep B p.entries s.new step new → Playing (then_b wiring g s)
   play_b g s p step new h = record {
     steps = p.steps ++ step ∷ [];
@@ -265,18 +290,25 @@ module _ (seal : Sealing) (fit : SealsFit seal) where
   abbrev write_entries : ℕ → List Entry
   write_entries n = Wrote A 1 (write_numbered n) ∷ []
 
-  writes_as : (past : List Entry) (n : ℕ) → AreEntriesOf seal setup past A (write_step n) (write_entries n)
+  writes_as : (past : List Entry) (n : ℕ)
+      → AreEntriesOf seal setup past A (write_step n) (write_entries n)
   writes_as past n = are_wrote A 1 (write_numbered n) (omega arith) (omega arith) tt
 
   -- 1, 2 and 3 are written
   abbrev p1 : Playing (g1 wiring)
-  p1 = play_a (begin wiring) (s1 wiring) start (write_step 1) (write_entries 1) (record { valid = refl; are_of = writes_as _ 1; read = refl })
+  p1 =
+      play_a (begin wiring) (s1 wiring) start (write_step 1) (write_entries 1)
+      (record { valid = refl; are_of = writes_as _ 1; read = refl })
 
   abbrev p2 : Playing (g2 wiring)
-  p2 = play_a (g1 wiring) (s2 wiring) p1 (write_step 2) (write_entries 2) (record { valid = refl; are_of = writes_as _ 2; read = refl })
+  p2 =
+      play_a (g1 wiring) (s2 wiring) p1 (write_step 2) (write_entries 2)
+      (record { valid = refl; are_of = writes_as _ 2; read = refl })
 
   abbrev p3 : Playing (g3 wiring)
-  p3 = play_a (g2 wiring) (s3 wiring) p2 (write_step 3) (write_entries 3) (record { valid = refl; are_of = writes_as _ 3; read = refl })
+  p3 =
+      play_a (g2 wiring) (s3 wiring) p2 (write_step 3) (write_entries 3)
+      (record { valid = refl; are_of = writes_as _ 3; read = refl })
 
   -- a tick sends them
   abbrev sent_entries : List Entry
@@ -292,80 +324,124 @@ module _ (seal : Sealing) (fit : SealsFit seal) where
   right_3 = right_as 96 3 42 (3 ∷ []) plain_3 refl (omega arith) refl
 
   abbrev p4 : Playing (g4 wiring)
-  p4 = play_a (g3 wiring) (s4 wiring) p3 (Tick A 1) (Ticked A 1 ∷ sent_entries) (record {
-    valid = refl;
-    are_of = are_ticked A 1 sent_entries (right_1, (right_2, (right_3, tt)));
-    read = rw (plain_1.reads, plain_2.reads, plain_3.reads) refl;
-  })
+  p4 =
+      play_a (g3 wiring) (s4 wiring) p3 (Tick A 1)
+      (Ticked A 1 ∷ sent_entries)
+      (record {
+        valid = refl;
+        are_of = are_ticked A 1 sent_entries (right_1, (right_2, (right_3, tt)));
+        read = rw (plain_1.reads, plain_2.reads, plain_3.reads) refl;
+      })
 
   -- 1 and 3 come
+  abbrev first_got : ℕ → GotEntry
+  first_got n = got_as B 2 Rtp (first_sealed n).bytes
+
   abbrev first_came : ℕ → List Entry
-  first_came n = Opened (opened_of (first_sealed n) B) ∷ Yielded B (as_packet (write_numbered n)) ∷ []
+  first_came n =
+      Opened (opened_of (first_sealed n) B) ∷ Yielded B (as_packet (write_numbered n)) ∷ []
 
   abbrev p5 : Playing (g5 wiring)
-  p5 = play_b (g4 wiring) (s5 wiring) p4 (Deliver B 2 1) (Got (got_as B 2 Rtp (first_sealed 1).bytes) ∷ first_came 1) (record {
-    valid = refl;
-    are_of = are_got (got_as B 2 Rtp (first_sealed 1).bytes) (first_came 1)
-        (delivered B 2 1 (first_sealed 1) (omega arith) refl) (opening_as 2 96 1 42 (1 ∷ []) plain_1 refl, (tt, tt));
-    read = rw plain_1.reads refl;
-  })
+  p5 =
+      play_b (g4 wiring) (s5 wiring) p4 (Deliver B 2 1)
+      (Got (first_got 1) ∷ first_came 1)
+      (record {
+        valid = refl;
+        are_of = are_got (first_got 1) (first_came 1)
+            (delivered B 2 1 (first_sealed 1) (omega arith) refl)
+            (opening_as 2 96 1 42 (1 ∷ []) plain_1 refl, (tt, tt));
+        read = rw plain_1.reads refl;
+      })
 
   abbrev p6 : Playing (g6 wiring)
-  p6 = play_b (g5 wiring) (s6 wiring) p5 (Deliver B 2 3) (Got (got_as B 2 Rtp (first_sealed 3).bytes) ∷ first_came 3) (record {
-    valid = refl;
-    are_of = are_got (got_as B 2 Rtp (first_sealed 3).bytes) (first_came 3)
-        (delivered B 2 3 (first_sealed 3) (omega arith) refl) (opening_as 2 96 3 42 (3 ∷ []) plain_3 refl, (tt, tt));
-    read = rw plain_3.reads refl;
-  })
+  p6 =
+      play_b (g5 wiring) (s6 wiring) p5 (Deliver B 2 3)
+      (Got (first_got 3) ∷ first_came 3)
+      (record {
+        valid = refl;
+        are_of = are_got (first_got 3) (first_came 3)
+            (delivered B 2 3 (first_sealed 3) (omega arith) refl)
+            (opening_as 2 96 3 42 (3 ∷ []) plain_3 refl, (tt, tt));
+        read = rw plain_3.reads refl;
+      })
 
   -- 2 is asked for
   right_nack : IsRight seal setup nack_sealed
-  right_nack = right_rtcp (record { rtcp = refl; header = omega arith; source = refl; small = omega arith; sealed = refl })
-
-  abbrev p7 : Playing (g7 wiring)
-  p7 = play_b (g6 wiring) (s7 wiring) p6 (Tick B 33000000) (Ticked B 33000000 ∷ Sealed nack_sealed ∷ []) (record {
-    valid = refl;
-    are_of = are_ticked B 33000000 (Sealed nack_sealed ∷ []) (right_nack, tt);
-    read = rw packet_asks refl;
+  right_nack = right_rtcp (record {
+    rtcp = refl;
+    header = omega arith;
+    source = refl;
+    small = omega arith;
+    sealed = refl;
   })
 
+  abbrev p7 : Playing (g7 wiring)
+  p7 =
+      play_b (g6 wiring) (s7 wiring) p6 (Tick B 33000000)
+      (Ticked B 33000000 ∷ Sealed nack_sealed ∷ [])
+      (record {
+        valid = refl;
+        are_of = are_ticked B 33000000 (Sealed nack_sealed ∷ []) (right_nack, tt);
+        read = rw packet_asks refl;
+      })
+
   -- that comes
+  abbrev nack_got : GotEntry
+  nack_got = got_as A 33000000 Rtcp nack_sealed.bytes
+
   abbrev nack_came : List Entry
   nack_came = Opened (opened_of nack_sealed A) ∷ []
 
-  nack_opening : IsOpening seal setup (got_as A 33000000 Rtcp nack_sealed.bytes) (opened_of nack_sealed A)
-  nack_opening = rtcp_opening (record { rtcp = refl; header = omega arith; stated = sym fit.states; sealed = unsealed })
+  nack_opening : IsOpening seal setup nack_got (opened_of nack_sealed A)
+  nack_opening = rtcp_opening (record {
+    rtcp = refl;
+    header = omega arith;
+    stated = sym fit.states;
+    sealed = unsealed;
+  })
 
   abbrev p8 : Playing (g8 wiring)
-  p8 = play_a (g7 wiring) (s8 wiring) p7 (Deliver A 33000000 1) (Got (got_as A 33000000 Rtcp nack_sealed.bytes) ∷ nack_came) (record {
-    valid = refl;
-    are_of = are_got (got_as A 33000000 Rtcp nack_sealed.bytes) nack_came
-        (delivered A 33000000 1 nack_sealed (omega arith) refl) (nack_opening, tt);
-    read = rw packet_asks refl;
-  })
+  p8 =
+      play_a (g7 wiring) (s8 wiring) p7 (Deliver A 33000000 1)
+      (Got nack_got ∷ nack_came)
+      (record {
+        valid = refl;
+        are_of = are_got nack_got nack_came
+            (delivered A 33000000 1 nack_sealed (omega arith) refl) (nack_opening, tt);
+        read = rw packet_asks refl;
+      })
 
   -- and it is repaired
   right_repair : IsRight seal setup repair_sealed
   right_repair = right_as 97 5 43 (0 ∷ 2 ∷ 2 ∷ []) plain_repair refl (omega arith) refl
 
   abbrev p9 : Playing (g9 wiring)
-  p9 = play_a (g8 wiring) (s9 wiring) p8 (Tick A 33000000) (Ticked A 33000000 ∷ Sealed repair_sealed ∷ []) (record {
-    valid = refl;
-    are_of = are_ticked A 33000000 (Sealed repair_sealed ∷ []) (right_repair, tt);
-    read = rw plain_repair.reads refl;
-  })
+  p9 =
+      play_a (g8 wiring) (s9 wiring) p8 (Tick A 33000000)
+      (Ticked A 33000000 ∷ Sealed repair_sealed ∷ [])
+      (record {
+        valid = refl;
+        are_of = are_ticked A 33000000 (Sealed repair_sealed ∷ []) (right_repair, tt);
+        read = rw plain_repair.reads refl;
+      })
+
+  abbrev repair_got : GotEntry
+  repair_got = got_as B 33000000 Rtp repair_sealed.bytes
 
   abbrev repair_came : List Entry
   repair_came = Opened (opened_of repair_sealed B) ∷ Yielded B (as_packet (write_numbered 2)) ∷ []
 
   abbrev p10 : Playing (g10 wiring)
-  p10 = play_b (g9 wiring) (s10 wiring) p9 (Deliver B 33000000 4) (Got (got_as B 33000000 Rtp repair_sealed.bytes) ∷ repair_came) (record {
-    valid = refl;
-    are_of = are_got (got_as B 33000000 Rtp repair_sealed.bytes) repair_came
-        (delivered B 33000000 4 repair_sealed (omega arith) refl)
-        (opening_as 33000000 97 5 43 (0 ∷ 2 ∷ 2 ∷ []) plain_repair refl, (tt, tt));
-    read = rw plain_repair.reads refl;
-  })
+  p10 =
+      play_b (g9 wiring) (s10 wiring) p9 (Deliver B 33000000 4)
+      (Got repair_got ∷ repair_came)
+      (record {
+        valid = refl;
+        are_of = are_got repair_got repair_came
+            (delivered B 33000000 4 repair_sealed (omega arith) refl)
+            (opening_as 33000000 97 5 43 (0 ∷ 2 ∷ 2 ∷ []) plain_repair refl, (tt, tt));
+        read = rw plain_repair.reads refl;
+      })
 
   -- the entries of it all
   abbrev all : List Entry
@@ -377,19 +453,19 @@ module _ (seal : Sealing) (fit : SealsFit seal) where
       ∷ Sealed (first_sealed 1)
       ∷ Sealed (first_sealed 2)
       ∷ Sealed (first_sealed 3)
-      ∷ Got (got_as B 2 Rtp (first_sealed 1).bytes)
+      ∷ Got (first_got 1)
       ∷ Opened (opened_of (first_sealed 1) B)
       ∷ Yielded B (as_packet (write_numbered 1))
-      ∷ Got (got_as B 2 Rtp (first_sealed 3).bytes)
+      ∷ Got (first_got 3)
       ∷ Opened (opened_of (first_sealed 3) B)
       ∷ Yielded B (as_packet (write_numbered 3))
       ∷ Ticked B 33000000
       ∷ Sealed nack_sealed
-      ∷ Got (got_as A 33000000 Rtcp nack_sealed.bytes)
+      ∷ Got nack_got
       ∷ Opened (opened_of nack_sealed A)
       ∷ Ticked A 33000000
       ∷ Sealed repair_sealed
-      ∷ Got (got_as B 33000000 Rtp repair_sealed.bytes)
+      ∷ Got repair_got
       ∷ Opened (opened_of repair_sealed B)
       ∷ Yielded B (as_packet (write_numbered 2))
       ∷ []
@@ -402,8 +478,9 @@ module _ (seal : Sealing) (fit : SealsFit seal) where
   GenuineAt past (Opened o) = IsPeersSeal past o
   GenuineAt past e = Unit {0}
 
-  each_genuine : (past entries : List Entry) → EachFrom GenuineAt past entries → (before after : List Entry) (o : OpenedEntry)
-      → entries ≡ before ++ Opened o ∷ after → IsPeersSeal (past ++ before) o
+  each_genuine : (past entries : List Entry) → EachFrom GenuineAt past entries
+      → (before after : List Entry) (o : OpenedEntry) → entries ≡ before ++ Opened o ∷ after
+      → IsPeersSeal (past ++ before) o
   each_genuine past [] h [] after o e = absurd cc
   each_genuine past [] h (b ∷ before) after o e = absurd cc
   each_genuine past (x ∷ entries) h [] after o e =
@@ -412,38 +489,40 @@ module _ (seal : Sealing) (fit : SealsFit seal) where
   each_genuine past (x ∷ entries) h (b ∷ before) after o e =
       let is : x ≡ b = cc in let rest : entries ≡ before ++ Opened o ∷ after = cc in
       let r = each_genuine (past ++ x ∷ []) entries h.1 before after o rest in
-      subst (λ es. IsPeersSeal es o) (append_assoc past (x ∷ []) before ∙ ap (λ y. past ++ y ∷ before) is) r
+      let same = append_assoc past (x ∷ []) before ∙ ap (λ y. past ++ y ∷ before) is in
+      subst (λ es. IsPeersSeal es o) same r
 
   abbrev GenuineFrom : ℕ → Type 0
   GenuineFrom n = EachFrom GenuineAt (take n all) (drop n all)
 
-  abbrev FrontOf : (n k : ℕ) → List Entry
-  FrontOf n k = take k (take n all)
+  peers : (s : SealedEntry) (n k : ℕ) (side : Side)
+      → take n all ≡ take k (take n all) ++ Sealed s ∷ drop (k + 1) (take n all)
+      → s.side ≡ peer_of side → last_got side (take n all) ≡ Some s.bytes
+      → IsPeersSeal (take n all) (opened_of s side)
+  peers s n k side there by came = record {
+    seal = s;
+    front = take k (take n all);
+    rest = drop (k + 1) (take n all);
+    sealed = there;
+    side = by;
+    kind = refl;
+    ssrc = refl;
+    index = refl;
+    came = came;
+  }
 
-  abbrev RestOf : (n k : ℕ) → List Entry
-  RestOf n k = drop k (take n all)
-
+  -- the seal of what is opened behind n entries stands behind k of them
   genuine_20 : GenuineFrom 20
-  genuine_20 =
-      (record { seal = repair_sealed; front = FrontOf 20 18; rest = RestOf 20 19; sealed = refl; side = refl; kind = refl; ssrc = refl; index = refl; came = refl }, (tt, tt))
+  genuine_20 = (peers repair_sealed 20 18 B refl refl refl, (tt, tt))
 
   genuine_16 : GenuineFrom 16
-  genuine_16 = (
-    record { seal = nack_sealed; front = FrontOf 16 14; rest = RestOf 16 15; sealed = refl; side = refl; kind = refl; ssrc = refl; index = refl; came = refl },
-    (tt, (tt, (tt, genuine_20))),
-  )
+  genuine_16 = (peers nack_sealed 16 14 A refl refl refl, (tt, (tt, (tt, genuine_20))))
 
   genuine_11 : GenuineFrom 11
-  genuine_11 = (
-    record { seal = first_sealed 3; front = FrontOf 11 6; rest = RestOf 11 7; sealed = refl; side = refl; kind = refl; ssrc = refl; index = refl; came = refl },
-    (tt, (tt, (tt, (tt, genuine_16)))),
-  )
+  genuine_11 = (peers (first_sealed 3) 11 6 B refl refl refl, (tt, (tt, (tt, (tt, genuine_16)))))
 
   genuine_8 : GenuineFrom 8
-  genuine_8 = (
-    record { seal = first_sealed 1; front = FrontOf 8 4; rest = RestOf 8 5; sealed = refl; side = refl; kind = refl; ssrc = refl; index = refl; came = refl },
-    (tt, (tt, genuine_11)),
-  )
+  genuine_8 = (peers (first_sealed 1) 8 4 B refl refl refl, (tt, (tt, genuine_11)))
 
   all_genuine : EachFrom GenuineAt [] all
   all_genuine = (tt, (tt, (tt, (tt, (tt, (tt, (tt, (tt, genuine_8))))))))
@@ -467,7 +546,8 @@ module _ (seal : Sealing) (fit : SealsFit seal) where
   lost : (o : OpenedEntry) → IsIn (Opened o) all → IsOpened 42 2 o → ⊥
   lost o i h = false≢true (any-from_in is_two (Opened o) all i (rw (h.ssrc, h.index) refl))
 
-  pub happens : IsSound (config_of seal setup) → ((side : Side) → HeadsApart (rtp_sealing seal setup side)) → RepairsHappenIn seal
+  pub happens : IsSound (config_of seal setup)
+      → ((side : Side) → HeadsApart (rtp_sealing seal setup side)) → RepairsHappenIn seal
   happens sound heads = record {
     steps = p10.steps;
     entries = all;
@@ -507,12 +587,15 @@ module _ (seal : Sealing) (fit : SealsFit seal) where
   }
 
 -- the seals of a cipher fit
-seals_fit : (cipher : CipherMeaning) → WireLaws (sealing_of cipher setup) setup → RtcpStates cipher → SealsFit (sealing_of cipher setup)
+seals_fit : (cipher : CipherMeaning) → WireLaws (sealing_of cipher setup) setup → RtcpStates cipher
+    → SealsFit (sealing_of cipher setup)
 seals_fit cipher wire told =
-    let both = told setup.profile (session_keys cipher setup.profile (material_of setup) (is_left B)) true 0 packet (omega arith) in
+    let keys = session_keys cipher setup.profile (material_of setup) (is_left B) in
+    let both = told setup.profile keys true 0 packet (omega arith) in
     record { short = wire.tag A; encrypts = both.0; states = both.1 }
 
-pub repairs_happen : (cipher : CipherMeaning) → WireLaws (sealing_of cipher setup) setup → RtcpStates cipher
-    → RepairsHappenIn (sealing_of cipher setup)
+pub repairs_happen : (cipher : CipherMeaning) → WireLaws (sealing_of cipher setup) setup
+    → RtcpStates cipher → RepairsHappenIn (sealing_of cipher setup)
 repairs_happen cipher wire told =
-    happens (sealing_of cipher setup) (seals_fit cipher wire told) (sound_config wire fine) (sound_heads wire)
+    happens (sealing_of cipher setup) (seals_fit cipher wire told) (sound_config wire fine)
+    (sound_heads wire)

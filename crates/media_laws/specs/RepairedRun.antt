@@ -91,8 +91,8 @@ request = record { pid = 2; blp = 0 }
 
 -- the plain sessions of the setup, with what seals, what an item tells of the round trip, and whose
 -- SSRCs are whose
-abbrev pub with_seals : (Side → Sealing) → (Side → Reporting) → (ℕ → Delay → Option ℕ) → (Side → ℕ → Bool)
-    → Config
+abbrev pub with_seals : (Side → Sealing) → (Side → Reporting) → (ℕ → Delay → Option ℕ)
+    → (Side → ℕ → Bool) → Config
 with_seals seals reports trip owns = record {
   types = types_of setup;
   threshold = setup.pause_threshold;
@@ -134,8 +134,8 @@ write_numbered n = record {
 }
 
 -- a step of a side in a run, with the entries before it and what it brings
-pub record IsStep (C : Config) (run : List Happening) (side : Side) (before : List Happening) (new : List Event)
-    : Type 0 where
+pub record IsStep (C : Config) (run : List Happening) (side : Side) (before : List Happening)
+    (new : List Event) : Type 0 where
   pub a : Session
   pub b : Session
   pub after : Session
@@ -203,9 +203,9 @@ pub record TakesAWrite (C : Config) (run : List Happening) : Type 0 where
   pub yielded : IsIn (yielded (as_packet write.1)) new
 
 -- A run of a sound configuration, genuine, whose repairs widen and whose seals show their heads. In
--- it A sends packet 2, no first sending of it is ever opened by B, A hears a NACK that names it alone
--- and seals a repair, B opens that and yields the packet. In it something is due, something has to be
--- sent again, and a first sending is taken.
+-- it A sends packet 2, B opens no first sending of it, A hears a NACK that names it alone and seals
+-- a repair, B opens that and yields the packet. In it something is due, something has to be sent
+-- again, and a first sending is taken.
 pub record IsRepairedRun (C : Config) (entries : List Happening) : Type 0 where
   pub a : Session
   pub b : Session
