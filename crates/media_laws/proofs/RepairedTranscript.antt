@@ -27,10 +27,10 @@ use Rattle.run_model.specs.Asking.{none as nothing_asked, asks, owes_nothing}
 use Rattle.run_model.specs.Tables.{has, done, reports, more, here, none as none_heard, one}
 use Rattle.run_model.specs.Runs.{Happening, on_side, without_padding, WidensAt, RepairsWiden}
 use Rattle.run_model.specs.Runs as each
-use Rattle.run_model.specs.Transcripts.{feedback_in, outgoing_of, happenings}
-use Rattle.run_model.specs.Whole.{Config, Session, new_session, incoming_of, Turns, writes, ticks, opens, hears}
+use Rattle.run_model.specs.Transcripts.{feedback_in, outgoing_of, happenings, types_of}
+use Rattle.run_model.specs.Whole.{incoming_of, IsSound, HeadsApart}
 use Rattle.setup_rules.specs.SetupRules.{setup_fault}
-use Rattle.media_laws.specs.Config.{config_of, rtp_sealing, reporting}
+use Rattle.media_laws.specs.Config.{config_of, rtp_sealing, reporting, owns, trip_at}
 use Rattle.media_laws.specs.Opening.{Sealing, got_as, IsOpening, rtp_opening, rtcp_opening}
 use Rattle.media_laws.specs.Plain.{extensions_of, read_header, as_packet}
 use Rattle.media_model.specs.Genuine.{IsPeersSeal, IsGenuine}
@@ -38,9 +38,11 @@ use Rattle.media_laws.specs.Listing.{EachFrom}
 use Rattle.media_laws.specs.Play.{AreEntriesOf, Played, Plays, begins, by_a, by_b, delivered, wrote as are_wrote, ticked as are_ticked, got as are_got}
 use Rattle.media_laws.specs.Right.{IsRight, right_rtp, right_rtcp}
 use Rattle.media_laws.specs.Rules.{step_fault}
-use Rattle.media_laws.specs.RepairedRun.{stream, request, unmarked, write_numbered}
-use Rattle.media_laws.specs.RepairedTranscript.{setup, IsOpened, RepairsHappenIn}
-use Rattle.media_laws.proofs.RepairedRun.{bare, names_two, queues_two, carries_two, stands}
+use Rattle.media_laws.specs.RepairedRun.{setup, request, unmarked, write_numbered, IsRepairedRun}
+use Rattle.media_laws.specs.RepairedTranscript.{IsOpened, RepairsHappenIn}
+use Rattle.media_laws.proofs.RepairedRun.{Wiring, Going, Going_on, begin, then_a, then_b, s1, s2, s3, s4, s5, s6, s7, s8, s9, s10, g1, g2, g3, g4, g5, g6, g7, g8, g9, g10, run, widen, meets, stands}
+use Rattle.media_laws.proofs.Soundness.{sound_config, sound_heads}
+use Rattle.run_model.specs.Widening.{RunWidens}
 use Rattle.media_laws.proofs.Lists.{any-from_in}
 use Rattle.std.proofs.lemmas.Bool.{false≢true}
 use Rattle.srtp_core.specs.Cipher.{CipherMeaning}
@@ -48,6 +50,8 @@ use Rattle.srtp_core.specs.Keys.{session_keys}
 use Rattle.srtp_core.specs.Laws.{RtcpStates}
 use Rattle.media_model.specs.Setup.{material_of}
 use Rattle.media_model.specs.Sides.{peer_of}
+use Rattle.media_model.specs.Entries.{last_got}
+use Rattle.media_model.specs.declared.entry.Got.{Got as GotEntry}
 use Rattle.media_laws.specs.Keys.{is_left, sealing_of}
 use Rattle.media_laws.specs.WireLaws.{WireLaws}
 
@@ -79,20 +83,23 @@ record IsPlain (plain : List ℕ) (h : RtpHeader) : Type 0 where
   pub wire : h ≡ wire_form (extensions_of setup) h
   pub written : plain ≡ header_bytes (extensions_of setup) h ++ drop 12 plain
 
-plain_1 : IsPlain (plain_as 96 1 42 (1 ∷ [])) (header_as 96 1 42)
+abbrev PlainAs : (pt n ssrc : ℕ) → List ℕ → Type 0
+PlainAs pt n ssrc payload = IsPlain (plain_as pt n ssrc payload) (header_as pt n ssrc)
+
+plain_1 : PlainAs 96 1 42 (1 ∷ [])
 unfolding header_of header_bytes wire_form extension_bytes written_data written_elements written_values
 plain_1 = record { reads = refl; wire = refl; written = refl }
 
-plain_2 : IsPlain (plain_as 96 2 42 (2 ∷ [])) (header_as 96 2 42)
+plain_2 : PlainAs 96 2 42 (2 ∷ [])
 unfolding header_of header_bytes wire_form extension_bytes written_data written_elements written_values
 plain_2 = record { reads = refl; wire = refl; written = refl }
 
-plain_3 : IsPlain (plain_as 96 3 42 (3 ∷ [])) (header_as 96 3 42)
+plain_3 : PlainAs 96 3 42 (3 ∷ [])
 unfolding header_of header_bytes wire_form extension_bytes written_data written_elements written_values
 plain_3 = record { reads = refl; wire = refl; written = refl }
 
 -- the repair of 2
-plain_repair : IsPlain (plain_as 97 5 43 (0 ∷ 2 ∷ 2 ∷ [])) (header_as 97 5 43)
+plain_repair : PlainAs 97 5 43 (0 ∷ 2 ∷ 2 ∷ [])
 unfolding header_of header_bytes wire_form extension_bytes written_data written_elements written_values
 plain_repair = record { reads = refl; wire = refl; written = refl }
 
@@ -104,7 +111,8 @@ packet_asks : feedback_in packet ≡ Nack 42 (request ∷ []) ∷ []
 unfolding items_of item_at reading_of transport_feedback_of nack_of nack_entry_at
 packet_asks = refl
 
--- a seal of RTP is at most 16 bytes longer, and one of the NACK states that it is encrypted, and its index
+-- a seal of RTP is at most 16 bytes longer, and one of the NACK states that it is encrypted, and
+-- its index
 pub record SealsFit (seal : Sealing) : Type 0 where
   pub short : (ssrc index : ℕ) (plain : List ℕ) (h : RtpHeader) → read_header setup plain ≡ Some h
       → length (seal.rtp A ssrc index plain) ≤ length plain + 16
@@ -112,9 +120,6 @@ pub record SealsFit (seal : Sealing) : Type 0 where
   pub states : seal.states (seal.rtcp B true 0 packet) ≡ 0
 
 module _ (seal : Sealing) (fit : SealsFit seal) where
-  abbrev sessions : Config
-  sessions = config_of seal setup
-
   abbrev sealed_as : (pt n ssrc : ℕ) → List ℕ → SealedEntry
   sealed_as pt n ssrc payload = record {
     side = A;
@@ -127,18 +132,24 @@ module _ (seal : Sealing) (fit : SealsFit seal) where
 
   -- what the other side opens of it
   abbrev opened_of : SealedEntry → Side → OpenedEntry
-  opened_of s side = record { side = side; kind = s.kind; ssrc = s.ssrc; index = s.index; plain = s.plain }
+  opened_of s side = record {
+    side = side;
+    kind = s.kind;
+    ssrc = s.ssrc;
+    index = s.index;
+    plain = s.plain;
+  }
 
-  seal_as : (pt n ssrc : ℕ) (payload : List ℕ) → IsPlain (plain_as pt n ssrc payload) (header_as pt n ssrc)
-      → n ≡ n % 65536
-      → IsSeal (rtp_sealing seal setup A) ssrc n (unmarked pt payload) (sealed_as pt n ssrc payload).bytes
+  seal_as : (pt n ssrc : ℕ) (payload : List ℕ) → PlainAs pt n ssrc payload → n ≡ n % 65536
+      → IsSeal (rtp_sealing seal setup A) ssrc n (unmarked pt payload)
+      (sealed_as pt n ssrc payload).bytes
   seal_as pt n ssrc payload p low = record {
     plain = plain_as pt n ssrc payload;
     reads = rw p.reads (ap (λ (m : ℕ). Some (ssrc, m, unmarked pt payload)) low);
     sealed = refl;
   }
 
-  right_as : (pt n ssrc : ℕ) (payload : List ℕ) → IsPlain (plain_as pt n ssrc payload) (header_as pt n ssrc)
+  right_as : (pt n ssrc : ℕ) (payload : List ℕ) → PlainAs pt n ssrc payload
       → n ≡ n % 65536 → n < 2 ^ 48 → list_any (λ L. has L ssrc) (outgoing_of A setup) ≡ true
       → IsRight seal setup (sealed_as pt n ssrc payload)
   right_as pt n ssrc payload p low small there = right_rtp (record {
@@ -157,77 +168,120 @@ module _ (seal : Sealing) (fit : SealsFit seal) where
     sealed = refl;
   })
 
-  opening_as : (time pt n ssrc : ℕ) (payload : List ℕ) → IsPlain (plain_as pt n ssrc payload) (header_as pt n ssrc)
+  opening_as : (time pt n ssrc : ℕ) (payload : List ℕ) → PlainAs pt n ssrc payload
       → n ≡ n % 65536
-      → IsOpening seal setup (got_as B time Rtp (sealed_as pt n ssrc payload).bytes) (opened_of (sealed_as pt n ssrc payload) B)
+      → IsOpening seal setup (got_as B time Rtp (sealed_as pt n ssrc payload).bytes)
+      (opened_of (sealed_as pt n ssrc payload) B)
   opening_as time pt n ssrc payload p low =
-      rtp_opening (record { rtp = refl; header = header_as pt n ssrc; reads = p.reads; source = refl; low = low; sealed = refl })
+      rtp_opening (record {
+        rtp = refl;
+        header = header_as pt n ssrc;
+        reads = p.reads;
+        source = refl;
+        low = low;
+        sealed = refl;
+      })
 
-  opens_as : (l : Lists) (pt n ssrc : ℕ) (payload : List ℕ) → IsPlain (plain_as pt n ssrc payload) (header_as pt n ssrc)
-      → n ≡ n % 65536 → length (plain_as pt n ssrc payload) ≤ 1000
-      → concerns (incoming_of stream) ssrc ≡ true
-      → sessions.types.claims pt ≡ true
-      → n ≡ widened sessions.types (incoming_of stream) l ssrc (unmarked pt payload) (n % 65536)
-      → is_fresh_number sessions.types (incoming_of stream) l ssrc (unmarked pt payload) n ≡ true
-      → Opens sessions.types (incoming_of stream) (sessions.seals A) l (sealed_as pt n ssrc payload).bytes ssrc n (unmarked pt payload)
-  opens_as l pt n ssrc payload p low few mine claimed number fresh = record {
-    short = omega (arith, few, fit.short ssrc n (plain_as pt n ssrc payload) (header_as pt n ssrc) p.reads);
-    mine = mine;
-    claimed = claimed;
-    number = number;
-    fresh = fresh;
-    sealed = seal_as pt n ssrc payload p low;
-    unpads = λ padded. bare padded;
+  abbrev first_sealed : ℕ → SealedEntry
+  first_sealed n = sealed_as 96 n 42 (n ∷ [])
+
+  abbrev repair_sealed : SealedEntry
+  repair_sealed = sealed_as 97 5 43 (0 ∷ 2 ∷ 2 ∷ [])
+
+  abbrev nack_sealed : SealedEntry
+  nack_sealed = record {
+    side = B;
+    kind = Rtcp;
+    ssrc = 2;
+    index = 0;
+    plain = packet;
+    bytes = seal.rtcp B true 0 packet;
   }
 
-  -- the sessions after some steps, and the entries that these brought
-  record Going : Type 0 where
-    pub a : Session
-    pub b : Session
+  is_short : (pt n ssrc : ℕ) (payload : List ℕ) → PlainAs pt n ssrc payload
+      → length (plain_as pt n ssrc payload) ≤ 1000
+      → length (sealed_as pt n ssrc payload).bytes ≤ 2000
+  is_short pt n ssrc payload p few =
+      let plain = plain_as pt n ssrc payload in
+      omega (arith, few, fit.short ssrc n plain (header_as pt n ssrc) p.reads)
+
+  unsealed : seal.rtcp B (seal.encrypts nack_sealed.bytes) 0 packet ≡ nack_sealed.bytes
+  unsealed = ap (λ b. seal.rtcp B b 0 packet) fit.encrypts
+
+  is_report : IsReport (reporting seal B) nack_sealed.bytes 0 (Nack 42 (request ∷ []) ∷ [])
+  is_report = record {
+    packet = packet;
+    long = omega arith;
+    stated = sym fit.states;
+    held = sym packet_asks;
+    sealed = unsealed;
+  }
+
+  -- the plain run of these datagrams
+  abbrev wiring : Wiring
+  wiring = record {
+    seals = rtp_sealing seal setup;
+    reports = reporting seal;
+    trip = trip_at setup;
+    owns = owns setup;
+    first = λ n. (first_sealed n).bytes;
+    repair = repair_sealed.bytes;
+    report = nack_sealed.bytes;
+    seal_1 = seal_as 96 1 42 (1 ∷ []) plain_1 refl;
+    seal_2 = seal_as 96 2 42 (2 ∷ []) plain_2 refl;
+    seal_3 = seal_as 96 3 42 (3 ∷ []) plain_3 refl;
+    seal_repair = seal_as 97 5 43 (0 ∷ 2 ∷ 2 ∷ []) plain_repair refl;
+    short_1 = is_short 96 1 42 (1 ∷ []) plain_1 (omega arith);
+    short_3 = is_short 96 3 42 (3 ∷ []) plain_3 (omega arith);
+    short_repair = is_short 97 5 43 (0 ∷ 2 ∷ 2 ∷ []) plain_repair (omega arith);
+    is_report = is_report;
+  }
+
+  -- steps, and the entries that they brought, where the plain run stands
+  record Playing (g : Going wiring) : Type 0 where
     pub steps : List Step
     pub entries : List Entry
-    pub plays : Plays seal setup a b steps entries
+    pub plays : Plays seal setup g.a g.b steps entries
 
-  abbrev begin : Going
-  begin = record {
-    a = new_session sessions A;
-    b = new_session sessions B;
-    steps = [];
-    entries = [];
-    plays = begins;
-  }
+  abbrev start : Playing (begin wiring)
+  start = record { steps = []; entries = []; plays = begins }
 
-  -- a turn of a side's session
-  record Turned (side : Side) (a : Session) : Type 0 where
-    pub after : Session
-    pub events : List Event
-    pub turns : Turns sessions side a after events
-
-  abbrev turn : (side : Side) (a : Session) {c : Session} {events : List Event} → Turns sessions side a c events → Turned side a
-  turn side a {c} {events} t = record { after = c; events = events; turns = t }
-
-  -- a step whose turn this is
-  record IsStep (side : Side) (a : Session) (past : List Entry) (t : Turned side a) (step : Step) (new : List Entry) : Type 0 where
+  -- a step that a step of the plain run reads
+  record IsStep (side : Side) (past : List Entry) (events : List Event) (step : Step)
+      (new : List Entry)
+      : Type 0 where
     pub valid : step_fault setup past step ≡ None
     pub are_of : AreEntriesOf seal setup past side step new
-    pub read : happenings setup new ≡ on_side side t.events
+    pub read : happenings setup new ≡ on_side side events
 
-  abbrev then_a : (g : Going) (t : Turned A g.a) (step : Step) (new : List Entry) → IsStep A g.a g.entries t step new → Going
-  then_a g t step new h = record {
-    a = t.after;
-    b = g.b;
-    steps = g.steps ++ step ∷ [];
-    entries = g.entries ++ new;
-    plays = by_a g.plays step new (record { valid = h.valid; are_of = h.are_of; events = t.events; read = h.read; turn = t.turns });
+  abbrev play_a : (g : Going wiring) (s : Going_on wiring A g) (p : Playing g) (step : Step)
+      (new : List Entry)
+      → IsStep A p.entries s.new step new → Playing (then_a wiring g s)
+  play_a g s p step new h = record {
+    steps = p.steps ++ step ∷ [];
+    entries = p.entries ++ new;
+    plays = by_a p.plays step new (record {
+      valid = h.valid;
+      are_of = h.are_of;
+      events = s.new;
+      read = h.read;
+      turn = s.turns;
+    });
   }
 
-  abbrev then_b : (g : Going) (t : Turned B g.b) (step : Step) (new : List Entry) → IsStep B g.b g.entries t step new → Going
-  then_b g t step new h = record {
-    a = g.a;
-    b = t.after;
-    steps = g.steps ++ step ∷ [];
-    entries = g.entries ++ new;
-    plays = by_b g.plays step new (record { valid = h.valid; are_of = h.are_of; events = t.events; read = h.read; turn = t.turns });
+  abbrev play_b : (g : Going wiring) (s : Going_on wiring B g) (p : Playing g) (step : Step)
+      (new : List Entry)
+      → IsStep B p.entries s.new step new → Playing (then_b wiring g s)
+  play_b g s p step new h = record {
+    steps = p.steps ++ step ∷ [];
+    entries = p.entries ++ new;
+    plays = by_b p.plays step new (record {
+      valid = h.valid;
+      are_of = h.are_of;
+      events = s.new;
+      read = h.read;
+      turn = s.turns;
+    });
   }
 
   abbrev write_step : ℕ → Step
@@ -236,62 +290,27 @@ module _ (seal : Sealing) (fit : SealsFit seal) where
   abbrev write_entries : ℕ → List Entry
   write_entries n = Wrote A 1 (write_numbered n) ∷ []
 
-  writes_as : (past : List Entry) (n : ℕ) → AreEntriesOf seal setup past A (write_step n) (write_entries n)
+  writes_as : (past : List Entry) (n : ℕ)
+      → AreEntriesOf seal setup past A (write_step n) (write_entries n)
   writes_as past n = are_wrote A 1 (write_numbered n) (omega arith) (omega arith) tt
 
   -- 1, 2 and 3 are written
-  abbrev t1 : Turned A begin.a
-  t1 = turn A begin.a (writes 1 (write_numbered 1) (omega arith) ((λ is i. i), tt))
+  abbrev p1 : Playing (g1 wiring)
+  p1 =
+      play_a (begin wiring) (s1 wiring) start (write_step 1) (write_entries 1)
+      (record { valid = refl; are_of = writes_as _ 1; read = refl })
 
-  abbrev g1 : Going
-  g1 = then_a begin t1 (write_step 1) (write_entries 1) (record { valid = refl; are_of = writes_as _ 1; read = refl })
+  abbrev p2 : Playing (g2 wiring)
+  p2 =
+      play_a (g1 wiring) (s2 wiring) p1 (write_step 2) (write_entries 2)
+      (record { valid = refl; are_of = writes_as _ 2; read = refl })
 
-  abbrev t2 : Turned A g1.a
-  t2 = turn A g1.a
-      (writes 1 (write_numbered 2) (omega arith) ((λ is i. elim i [ inl e ↦ absurd (omega (arith, e)) | inr k ↦ k ]), tt))
-
-  abbrev g2 : Going
-  g2 = then_a g1 t2 (write_step 2) (write_entries 2) (record { valid = refl; are_of = writes_as _ 2; read = refl })
-
-  abbrev t3 : Turned A g2.a
-  t3 = turn A g2.a
-      (writes 1 (write_numbered 3) (omega arith)
-      ((λ is i. elim i [ inl e ↦ absurd (omega (arith, e)) | inr (inl e) ↦ absurd (omega (arith, e)) | inr (inr k) ↦ k ]), tt))
-
-  abbrev g3 : Going
-  g3 = then_a g2 t3 (write_step 3) (write_entries 3) (record { valid = refl; are_of = writes_as _ 3; read = refl })
+  abbrev p3 : Playing (g3 wiring)
+  p3 =
+      play_a (g2 wiring) (s3 wiring) p2 (write_step 3) (write_entries 3)
+      (record { valid = refl; are_of = writes_as _ 3; read = refl })
 
   -- a tick sends them
-  abbrev first_sealed : ℕ → SealedEntry
-  first_sealed n = sealed_as 96 n 42 (n ∷ [])
-
-  abbrev repair_sealed : SealedEntry
-  repair_sealed = sealed_as 97 5 43 (0 ∷ 2 ∷ 2 ∷ [])
-
-  abbrev nack_sealed : SealedEntry
-  nack_sealed = record { side = B; kind = Rtcp; ssrc = 2; index = 0; plain = packet; bytes = seal.rtcp B true 0 packet }
-
-  seal_1 : IsSeal (rtp_sealing seal setup A) 42 1 (sending_of (write_numbered 1)) (first_sealed 1).bytes
-  seal_1 = seal_as 96 1 42 (1 ∷ []) plain_1 refl
-
-  seal_2 : IsSeal (rtp_sealing seal setup A) 42 2 (sending_of (write_numbered 2)) (first_sealed 2).bytes
-  seal_2 = seal_as 96 2 42 (2 ∷ []) plain_2 refl
-
-  seal_3 : IsSeal (rtp_sealing seal setup A) 42 3 (sending_of (write_numbered 3)) (first_sealed 3).bytes
-  seal_3 = seal_as 96 3 42 (3 ∷ []) plain_3 refl
-
-  seal_repair : IsSeal (rtp_sealing seal setup A) 43 5 (repair_of 97 (write_numbered 2)) repair_sealed.bytes
-  seal_repair = seal_as 97 5 43 (0 ∷ 2 ∷ 2 ∷ []) plain_repair refl
-
-  abbrev t4 : Turned A g3.a
-  t4 = turn A g3.a
-      (ticks 1 _ _ (omega arith)
-      (more (here stream (sends (write_numbered 1) _ _ (first_sealed 1).bytes refl refl (stored refl true (λ m. refl)) seal_1))
-      (more (here stream (sends (write_numbered 2) _ _ (first_sealed 2).bytes refl refl (stored refl true (λ m. refl)) seal_2))
-      (more (here stream (sends (write_numbered 3) _ _ (first_sealed 3).bytes refl refl (stored refl true (λ m. refl)) seal_3))
-      (done (refl, (refl, tt))))))
-      (owes_nothing _ refl nothing_asked) refl)
-
   abbrev sent_entries : List Entry
   sent_entries = Sealed (first_sealed 1) ∷ Sealed (first_sealed 2) ∷ Sealed (first_sealed 3) ∷ []
 
@@ -304,119 +323,125 @@ module _ (seal : Sealing) (fit : SealsFit seal) where
   right_3 : IsRight seal setup (first_sealed 3)
   right_3 = right_as 96 3 42 (3 ∷ []) plain_3 refl (omega arith) refl
 
-  abbrev g4 : Going
-  g4 = then_a g3 t4 (Tick A 1) (Ticked A 1 ∷ sent_entries) (record {
-    valid = refl;
-    are_of = are_ticked A 1 sent_entries (right_1, (right_2, (right_3, tt)));
-    read = rw (plain_1.reads, plain_2.reads, plain_3.reads) refl;
-  })
+  abbrev p4 : Playing (g4 wiring)
+  p4 =
+      play_a (g3 wiring) (s4 wiring) p3 (Tick A 1)
+      (Ticked A 1 ∷ sent_entries)
+      (record {
+        valid = refl;
+        are_of = are_ticked A 1 sent_entries (right_1, (right_2, (right_3, tt)));
+        read = rw (plain_1.reads, plain_2.reads, plain_3.reads) refl;
+      })
 
   -- 1 and 3 come
-  abbrev t5 : Turned B g4.b
-  t5 = turn B g4.b
-      (opens 2 (first_sealed 1).bytes 42 1 (sending_of (write_numbered 1)) _ (omega arith) (inr (inl refl))
-      (opens_as _ 96 1 42 (1 ∷ []) plain_1 refl (omega arith) refl refl refl refl))
+  abbrev first_got : ℕ → GotEntry
+  first_got n = got_as B 2 Rtp (first_sealed n).bytes
 
   abbrev first_came : ℕ → List Entry
-  first_came n = Opened (opened_of (first_sealed n) B) ∷ Yielded B (as_packet (write_numbered n)) ∷ []
+  first_came n =
+      Opened (opened_of (first_sealed n) B) ∷ Yielded B (as_packet (write_numbered n)) ∷ []
 
-  abbrev g5 : Going
-  g5 = then_b g4 t5 (Deliver B 2 1) (Got (got_as B 2 Rtp (first_sealed 1).bytes) ∷ first_came 1) (record {
-    valid = refl;
-    are_of = are_got (got_as B 2 Rtp (first_sealed 1).bytes) (first_came 1)
-        (delivered B 2 1 (first_sealed 1) (omega arith) refl) (opening_as 2 96 1 42 (1 ∷ []) plain_1 refl, (tt, tt));
-    read = rw plain_1.reads refl;
-  })
+  abbrev p5 : Playing (g5 wiring)
+  p5 =
+      play_b (g4 wiring) (s5 wiring) p4 (Deliver B 2 1)
+      (Got (first_got 1) ∷ first_came 1)
+      (record {
+        valid = refl;
+        are_of = are_got (first_got 1) (first_came 1)
+            (delivered B 2 1 (first_sealed 1) (omega arith) refl)
+            (opening_as 2 96 1 42 (1 ∷ []) plain_1 refl, (tt, tt));
+        read = rw plain_1.reads refl;
+      })
 
-  abbrev t6 : Turned B g5.b
-  t6 = turn B g5.b
-      (opens 2 (first_sealed 3).bytes 42 3 (sending_of (write_numbered 3)) _ (omega arith) (inr (inl refl))
-      (opens_as _ 96 3 42 (3 ∷ []) plain_3 refl (omega arith) refl refl refl refl))
-
-  abbrev g6 : Going
-  g6 = then_b g5 t6 (Deliver B 2 3) (Got (got_as B 2 Rtp (first_sealed 3).bytes) ∷ first_came 3) (record {
-    valid = refl;
-    are_of = are_got (got_as B 2 Rtp (first_sealed 3).bytes) (first_came 3)
-        (delivered B 2 3 (first_sealed 3) (omega arith) refl) (opening_as 2 96 3 42 (3 ∷ []) plain_3 refl, (tt, tt));
-    read = rw plain_3.reads refl;
-  })
+  abbrev p6 : Playing (g6 wiring)
+  p6 =
+      play_b (g5 wiring) (s6 wiring) p5 (Deliver B 2 3)
+      (Got (first_got 3) ∷ first_came 3)
+      (record {
+        valid = refl;
+        are_of = are_got (first_got 3) (first_came 3)
+            (delivered B 2 3 (first_sealed 3) (omega arith) refl)
+            (opening_as 2 96 3 42 (3 ∷ []) plain_3 refl, (tt, tt));
+        read = rw plain_3.reads refl;
+      })
 
   -- 2 is asked for
-  abbrev t7 : Turned B g6.b
-  t7 = turn B g6.b
-      (ticks 33000000 _ _ (omega arith) (reports 0 (Nack 42 (request ∷ []) ∷ []) (done tt))
-      (owes_nothing _ refl (asks _ (request ∷ []) names_two nothing_asked)) (refl, refl))
-
   right_nack : IsRight seal setup nack_sealed
-  right_nack = right_rtcp (record { rtcp = refl; header = omega arith; source = refl; small = omega arith; sealed = refl })
-
-  abbrev g7 : Going
-  g7 = then_b g6 t7 (Tick B 33000000) (Ticked B 33000000 ∷ Sealed nack_sealed ∷ []) (record {
-    valid = refl;
-    are_of = are_ticked B 33000000 (Sealed nack_sealed ∷ []) (right_nack, tt);
-    read = rw packet_asks refl;
+  right_nack = right_rtcp (record {
+    rtcp = refl;
+    header = omega arith;
+    source = refl;
+    small = omega arith;
+    sealed = refl;
   })
 
+  abbrev p7 : Playing (g7 wiring)
+  p7 =
+      play_b (g6 wiring) (s7 wiring) p6 (Tick B 33000000)
+      (Ticked B 33000000 ∷ Sealed nack_sealed ∷ [])
+      (record {
+        valid = refl;
+        are_of = are_ticked B 33000000 (Sealed nack_sealed ∷ []) (right_nack, tt);
+        read = rw packet_asks refl;
+      })
+
   -- that comes
-  unsealed : seal.rtcp B (seal.encrypts nack_sealed.bytes) 0 packet ≡ nack_sealed.bytes
-  unsealed = ap (λ b. seal.rtcp B b 0 packet) fit.encrypts
-
-  is_report : IsReport (reporting seal B) nack_sealed.bytes 0 (Nack 42 (request ∷ []) ∷ [])
-  is_report = record { packet = packet; long = omega arith; stated = sym fit.states; held = sym packet_asks; sealed = unsealed }
-
-  abbrev t8 : Turned A g7.a
-  t8 = turn A g7.a
-      (hears 33000000 nack_sealed.bytes 0 (Nack 42 (request ∷ []) ∷ []) (omega arith) is_report
-      (one stream _ (2 ∷ []) (queues_two _ (1, refl, λ r. omega arith)) none_heard))
+  abbrev nack_got : GotEntry
+  nack_got = got_as A 33000000 Rtcp nack_sealed.bytes
 
   abbrev nack_came : List Entry
   nack_came = Opened (opened_of nack_sealed A) ∷ []
 
-  nack_opening : IsOpening seal setup (got_as A 33000000 Rtcp nack_sealed.bytes) (opened_of nack_sealed A)
-  nack_opening = rtcp_opening (record { rtcp = refl; header = omega arith; stated = sym fit.states; sealed = unsealed })
-
-  abbrev g8 : Going
-  g8 = then_a g7 t8 (Deliver A 33000000 1) (Got (got_as A 33000000 Rtcp nack_sealed.bytes) ∷ nack_came) (record {
-    valid = refl;
-    are_of = are_got (got_as A 33000000 Rtcp nack_sealed.bytes) nack_came
-        (delivered A 33000000 1 nack_sealed (omega arith) refl) (nack_opening, tt);
-    read = rw packet_asks refl;
+  nack_opening : IsOpening seal setup nack_got (opened_of nack_sealed A)
+  nack_opening = rtcp_opening (record {
+    rtcp = refl;
+    header = omega arith;
+    stated = sym fit.states;
+    sealed = unsealed;
   })
 
-  -- and it is repaired
-  abbrev t9 : Turned A g8.a
-  t9 = turn A g8.a
-      (ticks 33000000 _ _ (omega arith)
-      (more (here stream (resends 2 [] (write_numbered 2) 43 97 repair_sealed.bytes refl (1, refl, λ r. omega arith) refl refl seal_repair))
-      (done (refl, (refl, tt))))
-      (owes_nothing _ refl nothing_asked) refl)
+  abbrev p8 : Playing (g8 wiring)
+  p8 =
+      play_a (g7 wiring) (s8 wiring) p7 (Deliver A 33000000 1)
+      (Got nack_got ∷ nack_came)
+      (record {
+        valid = refl;
+        are_of = are_got nack_got nack_came
+            (delivered A 33000000 1 nack_sealed (omega arith) refl) (nack_opening, tt);
+        read = rw packet_asks refl;
+      })
 
+  -- and it is repaired
   right_repair : IsRight seal setup repair_sealed
   right_repair = right_as 97 5 43 (0 ∷ 2 ∷ 2 ∷ []) plain_repair refl (omega arith) refl
 
-  abbrev g9 : Going
-  g9 = then_a g8 t9 (Tick A 33000000) (Ticked A 33000000 ∷ Sealed repair_sealed ∷ []) (record {
-    valid = refl;
-    are_of = are_ticked A 33000000 (Sealed repair_sealed ∷ []) (right_repair, tt);
-    read = rw plain_repair.reads refl;
-  })
+  abbrev p9 : Playing (g9 wiring)
+  p9 =
+      play_a (g8 wiring) (s9 wiring) p8 (Tick A 33000000)
+      (Ticked A 33000000 ∷ Sealed repair_sealed ∷ [])
+      (record {
+        valid = refl;
+        are_of = are_ticked A 33000000 (Sealed repair_sealed ∷ []) (right_repair, tt);
+        read = rw plain_repair.reads refl;
+      })
 
-  abbrev t10 : Turned B g9.b
-  t10 = turn B g9.b
-      (opens 33000000 repair_sealed.bytes 43 5 (repair_of 97 (write_numbered 2)) _ (omega arith) (inr (inl refl))
-      (opens_as _ 97 5 43 (0 ∷ 2 ∷ 2 ∷ []) plain_repair refl (omega arith) refl refl refl refl))
+  abbrev repair_got : GotEntry
+  repair_got = got_as B 33000000 Rtp repair_sealed.bytes
 
   abbrev repair_came : List Entry
   repair_came = Opened (opened_of repair_sealed B) ∷ Yielded B (as_packet (write_numbered 2)) ∷ []
 
-  abbrev g10 : Going
-  g10 = then_b g9 t10 (Deliver B 33000000 4) (Got (got_as B 33000000 Rtp repair_sealed.bytes) ∷ repair_came) (record {
-    valid = refl;
-    are_of = are_got (got_as B 33000000 Rtp repair_sealed.bytes) repair_came
-        (delivered B 33000000 4 repair_sealed (omega arith) refl)
-        (opening_as 33000000 97 5 43 (0 ∷ 2 ∷ 2 ∷ []) plain_repair refl, (tt, tt));
-    read = rw plain_repair.reads refl;
-  })
+  abbrev p10 : Playing (g10 wiring)
+  p10 =
+      play_b (g9 wiring) (s10 wiring) p9 (Deliver B 33000000 4)
+      (Got repair_got ∷ repair_came)
+      (record {
+        valid = refl;
+        are_of = are_got repair_got repair_came
+            (delivered B 33000000 4 repair_sealed (omega arith) refl)
+            (opening_as 33000000 97 5 43 (0 ∷ 2 ∷ 2 ∷ []) plain_repair refl, (tt, tt));
+        read = rw plain_repair.reads refl;
+      })
 
   -- the entries of it all
   abbrev all : List Entry
@@ -428,33 +453,34 @@ module _ (seal : Sealing) (fit : SealsFit seal) where
       ∷ Sealed (first_sealed 1)
       ∷ Sealed (first_sealed 2)
       ∷ Sealed (first_sealed 3)
-      ∷ Got (got_as B 2 Rtp (first_sealed 1).bytes)
+      ∷ Got (first_got 1)
       ∷ Opened (opened_of (first_sealed 1) B)
       ∷ Yielded B (as_packet (write_numbered 1))
-      ∷ Got (got_as B 2 Rtp (first_sealed 3).bytes)
+      ∷ Got (first_got 3)
       ∷ Opened (opened_of (first_sealed 3) B)
       ∷ Yielded B (as_packet (write_numbered 3))
       ∷ Ticked B 33000000
       ∷ Sealed nack_sealed
-      ∷ Got (got_as A 33000000 Rtcp nack_sealed.bytes)
+      ∷ Got nack_got
       ∷ Opened (opened_of nack_sealed A)
       ∷ Ticked A 33000000
       ∷ Sealed repair_sealed
-      ∷ Got (got_as B 33000000 Rtp repair_sealed.bytes)
+      ∷ Got repair_got
       ∷ Opened (opened_of repair_sealed B)
       ∷ Yielded B (as_packet (write_numbered 2))
       ∷ []
 
-  played : Played seal setup g10.steps all
-  played = record { a = g10.a; b = g10.b; plays = g10.plays }
+  played : Played seal setup p10.steps all
+  played = record { a = (g10 wiring).a; b = (g10 wiring).b; plays = p10.plays }
 
   -- what is opened was sealed
   abbrev GenuineAt : List Entry → Entry → Type 0
   GenuineAt past (Opened o) = IsPeersSeal past o
   GenuineAt past e = Unit {0}
 
-  each_genuine : (past entries : List Entry) → EachFrom GenuineAt past entries → (before after : List Entry) (o : OpenedEntry)
-      → entries ≡ before ++ Opened o ∷ after → IsPeersSeal (past ++ before) o
+  each_genuine : (past entries : List Entry) → EachFrom GenuineAt past entries
+      → (before after : List Entry) (o : OpenedEntry) → entries ≡ before ++ Opened o ∷ after
+      → IsPeersSeal (past ++ before) o
   each_genuine past [] h [] after o e = absurd cc
   each_genuine past [] h (b ∷ before) after o e = absurd cc
   each_genuine past (x ∷ entries) h [] after o e =
@@ -463,38 +489,40 @@ module _ (seal : Sealing) (fit : SealsFit seal) where
   each_genuine past (x ∷ entries) h (b ∷ before) after o e =
       let is : x ≡ b = cc in let rest : entries ≡ before ++ Opened o ∷ after = cc in
       let r = each_genuine (past ++ x ∷ []) entries h.1 before after o rest in
-      subst (λ es. IsPeersSeal es o) (append_assoc past (x ∷ []) before ∙ ap (λ y. past ++ y ∷ before) is) r
+      let same = append_assoc past (x ∷ []) before ∙ ap (λ y. past ++ y ∷ before) is in
+      subst (λ es. IsPeersSeal es o) same r
 
   abbrev GenuineFrom : ℕ → Type 0
   GenuineFrom n = EachFrom GenuineAt (take n all) (drop n all)
 
-  abbrev FrontOf : (n k : ℕ) → List Entry
-  FrontOf n k = take k (take n all)
+  peers : (s : SealedEntry) (n k : ℕ) (side : Side)
+      → take n all ≡ take k (take n all) ++ Sealed s ∷ drop (k + 1) (take n all)
+      → s.side ≡ peer_of side → last_got side (take n all) ≡ Some s.bytes
+      → IsPeersSeal (take n all) (opened_of s side)
+  peers s n k side there by came = record {
+    seal = s;
+    front = take k (take n all);
+    rest = drop (k + 1) (take n all);
+    sealed = there;
+    side = by;
+    kind = refl;
+    ssrc = refl;
+    index = refl;
+    came = came;
+  }
 
-  abbrev RestOf : (n k : ℕ) → List Entry
-  RestOf n k = drop k (take n all)
-
+  -- the seal of what is opened behind n entries stands behind k of them
   genuine_20 : GenuineFrom 20
-  genuine_20 =
-      (record { seal = repair_sealed; front = FrontOf 20 18; rest = RestOf 20 19; sealed = refl; side = refl; kind = refl; ssrc = refl; index = refl; came = refl }, (tt, tt))
+  genuine_20 = (peers repair_sealed 20 18 B refl refl refl, (tt, tt))
 
   genuine_16 : GenuineFrom 16
-  genuine_16 = (
-    record { seal = nack_sealed; front = FrontOf 16 14; rest = RestOf 16 15; sealed = refl; side = refl; kind = refl; ssrc = refl; index = refl; came = refl },
-    (tt, (tt, (tt, genuine_20))),
-  )
+  genuine_16 = (peers nack_sealed 16 14 A refl refl refl, (tt, (tt, (tt, genuine_20))))
 
   genuine_11 : GenuineFrom 11
-  genuine_11 = (
-    record { seal = first_sealed 3; front = FrontOf 11 6; rest = RestOf 11 7; sealed = refl; side = refl; kind = refl; ssrc = refl; index = refl; came = refl },
-    (tt, (tt, (tt, (tt, genuine_16)))),
-  )
+  genuine_11 = (peers (first_sealed 3) 11 6 B refl refl refl, (tt, (tt, (tt, (tt, genuine_16)))))
 
   genuine_8 : GenuineFrom 8
-  genuine_8 = (
-    record { seal = first_sealed 1; front = FrontOf 8 4; rest = RestOf 8 5; sealed = refl; side = refl; kind = refl; ssrc = refl; index = refl; came = refl },
-    (tt, (tt, genuine_11)),
-  )
+  genuine_8 = (peers (first_sealed 1) 8 4 B refl refl refl, (tt, (tt, genuine_11)))
 
   all_genuine : EachFrom GenuineAt [] all
   all_genuine = (tt, (tt, (tt, (tt, (tt, (tt, (tt, (tt, genuine_8))))))))
@@ -502,72 +530,13 @@ module _ (seal : Sealing) (fit : SealsFit seal) where
   genuine : IsGenuine all
   genuine before after o e = each_genuine [] all all_genuine before after o e
 
-  -- what happened, as it is read
-  abbrev first_event : ℕ → Happening
-  first_event n = (A, sealed 42 n (sending_of (write_numbered n)) (first_sealed n).bytes)
-
-  abbrev run : List Happening
-  run =
-      (A, wrote 1 (write_numbered 1))
-      ∷ (A, wrote 1 (write_numbered 2))
-      ∷ (A, wrote 1 (write_numbered 3))
-      ∷ (A, ticked 1)
-      ∷ first_event 1
-      ∷ first_event 2
-      ∷ first_event 3
-      ∷ (B, got 2 Rtp (first_sealed 1).bytes)
-      ∷ (B, opened 42 1 (sending_of (write_numbered 1)))
-      ∷ (B, yielded (as_packet (write_numbered 1)))
-      ∷ (B, got 2 Rtp (first_sealed 3).bytes)
-      ∷ (B, opened 42 3 (sending_of (write_numbered 3)))
-      ∷ (B, yielded (as_packet (write_numbered 3)))
-      ∷ (B, ticked 33000000)
-      ∷ (B, sealed_items 0 (Nack 42 (request ∷ []) ∷ []))
-      ∷ (A, got 33000000 Rtcp nack_sealed.bytes)
-      ∷ (A, opened_items 0 (Nack 42 (request ∷ []) ∷ []))
-      ∷ (A, ticked 33000000)
-      ∷ (A, sealed 43 5 (repair_of 97 (write_numbered 2)) repair_sealed.bytes)
-      ∷ (B, got 33000000 Rtp repair_sealed.bytes)
-      ∷ (B, opened 43 5 (repair_of 97 (write_numbered 2)))
-      ∷ (B, yielded (as_packet (write_numbered 2)))
-      ∷ []
-
-  happened : happenings setup all ≡ run
+  -- as it is read it is the plain run
+  happened : happenings setup all ≡ run wiring
   happened = rw (plain_1.reads, plain_2.reads, plain_3.reads, plain_repair.reads, packet_asks) refl
 
-  -- the one repair that is opened carries the write that it restores
-  carried : Carries sessions.types (without_padding (repair_of 97 (write_numbered 2))) (write_numbered 2)
-  carried = record { type = refl; marker = refl; time = refl; csrc = refl; payload = refl }
-
-  abbrev WidenFrom : ℕ → Type 0
-  WidenFrom n = each.EachFrom (WidensAt sessions.types B (incoming_of stream)) (take n run) (drop n run)
-
-  widen_20 : WidenFrom 20
-  widen_20 = (
-    λ s c r q e. ((1, write_numbered 2), inr (inl refl), carries_two q e, carried),
-    (tt, tt),
-  )
-
-  widen_11 : WidenFrom 11
-  widen_11 = (λ s c r q e. bare r, (tt, (tt, (tt, (tt, (tt, (tt, (tt, (tt, widen_20)))))))))
-
-  widen_8 : WidenFrom 8
-  widen_8 = (λ s c r q e. bare r, (tt, (tt, widen_11)))
-
-  run_widens : RepairsWiden sessions.types B (incoming_of stream) run
-  run_widens = (tt, (tt, (tt, (tt, (tt, (tt, (tt, (tt, widen_8))))))))
-
-  stream_widens : RepairsWiden sessions.types B (incoming_of stream) (happenings setup all)
-  stream_widens = subst (RepairsWiden sessions.types B (incoming_of stream)) (sym happened) run_widens
-
-  widens : (side : Side) (L : Outgoing) → IsIn L (outgoing_of (peer_of side) setup)
-      → RepairsWiden sessions.types side (incoming_of L) (happenings setup all)
-  widens A L i = absurd i
-  widens B L i =
-      elim i [
-        | inl e ↦ subst (λ M. RepairsWiden sessions.types B (incoming_of M) (happenings setup all)) (sym e) stream_widens
-        | inr k ↦ absurd k
-      ]
+  widens : RunWidens setup all
+  widens side L i =
+      subst (RepairsWiden (types_of setup) side (incoming_of L)) (sym happened) (widen wiring side L i)
 
   -- what is opened under SSRC 42 and number 2
   abbrev is_two : Entry → Bool
@@ -577,9 +546,10 @@ module _ (seal : Sealing) (fit : SealsFit seal) where
   lost : (o : OpenedEntry) → IsIn (Opened o) all → IsOpened 42 2 o → ⊥
   lost o i h = false≢true (any-from_in is_two (Opened o) all i (rw (h.ssrc, h.index) refl))
 
-  pub happens : RepairsHappenIn seal
-  happens = record {
-    steps = g10.steps;
+  pub happens : IsSound (config_of seal setup)
+      → ((side : Side) → HeadsApart (rtp_sealing seal setup side)) → RepairsHappenIn seal
+  happens sound heads = record {
+    steps = p10.steps;
     entries = all;
     fine = fine;
     played = played;
@@ -613,14 +583,19 @@ module _ (seal : Sealing) (fit : SealsFit seal) where
     opened = stands 20 (Opened (opened_of repair_sealed B)) all refl;
     is_repair = record { side = refl; kind = refl; ssrc = refl; index = refl };
     yielded = stands 21 (Yielded B (as_packet (write_numbered 2))) all refl;
+    plain = subst (IsRepairedRun (config_of seal setup)) (sym happened) (meets wiring sound heads);
   }
 
 -- the seals of a cipher fit
-seals_fit : (cipher : CipherMeaning) → WireLaws (sealing_of cipher setup) setup → RtcpStates cipher → SealsFit (sealing_of cipher setup)
+seals_fit : (cipher : CipherMeaning) → WireLaws (sealing_of cipher setup) setup → RtcpStates cipher
+    → SealsFit (sealing_of cipher setup)
 seals_fit cipher wire told =
-    let both = told setup.profile (session_keys cipher setup.profile (material_of setup) (is_left B)) true 0 packet (omega arith) in
+    let keys = session_keys cipher setup.profile (material_of setup) (is_left B) in
+    let both = told setup.profile keys true 0 packet (omega arith) in
     record { short = wire.tag A; encrypts = both.0; states = both.1 }
 
-pub repairs_happen : (cipher : CipherMeaning) → WireLaws (sealing_of cipher setup) setup → RtcpStates cipher
-    → RepairsHappenIn (sealing_of cipher setup)
-repairs_happen cipher wire told = happens (sealing_of cipher setup) (seals_fit cipher wire told)
+pub repairs_happen : (cipher : CipherMeaning) → WireLaws (sealing_of cipher setup) setup
+    → RtcpStates cipher → RepairsHappenIn (sealing_of cipher setup)
+repairs_happen cipher wire told =
+    happens (sealing_of cipher setup) (seals_fit cipher wire told) (sound_config wire fine)
+    (sound_heads wire)

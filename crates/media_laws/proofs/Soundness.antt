@@ -176,7 +176,7 @@ module _ (pt rtx : ℕ) where
             )
       ]
 
-types_pair : (setup : Setup) → NoRepeat (claimed_of setup) → TypesPair (types_of setup)
+pub types_pair : (setup : Setup) → NoRepeat (claimed_of setup) → TypesPair (types_of setup)
 types_pair setup h pt rtx e = ap (λ o. unwrap_or o rtx) (found_type pt rtx setup.types e h).1
 
 -- seals

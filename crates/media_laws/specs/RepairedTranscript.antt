@@ -2,18 +2,12 @@
 use Rattle.std.specs.Prelude.{◌≡◌, ℕ, List, [], ◌∷◌, Some, None}
 use Rattle.rtp_base.specs.declared.kind.Kind.TheVariants.{Rtp, Rtcp}
 use Rattle.rtcp_wire.specs.declared.rtcp_fb.RtcpFb.TheVariants.{Nack}
-use Rattle.srtp_core.specs.declared.profile.SrtpProfile.TheVariants.{AeadAes128Gcm}
 use Rattle.media_model.specs.declared.entry.Side.TheVariants.{A, B}
 use Rattle.media_model.specs.declared.entry.Opened.{Opened as OpenedEntry}
 use Rattle.media_model.specs.declared.entry.Sealed.{Sealed as SealedEntry}
 use Rattle.media_model.specs.declared.entry.Entry.{Entry}
 use Rattle.media_model.specs.declared.entry.Entry.TheVariants.{Sealed, Opened, Yielded}
 use Rattle.media_model.specs.declared.step.Step.{Step}
-use Rattle.media_model.specs.declared.setup.CipherName.TheVariants.{Toy}
-use Rattle.media_model.specs.declared.setup.Key.TheVariants.{Zero}
-use Rattle.media_model.specs.declared.setup.Codec.TheVariants.{Vp8}
-use Rattle.media_model.specs.declared.setup.MediaKind.TheVariants.{Video}
-use Rattle.media_model.specs.declared.setup.Setup.{Setup}
 use Rattle.media_model.specs.Genuine.{IsGenuine}
 use Rattle.run_model.specs.Listing.{IsIn}
 use Rattle.run_model.specs.Transcripts.{feedback_in}
@@ -22,31 +16,9 @@ use Rattle.setup_rules.specs.SetupRules.{setup_fault}
 use Rattle.media_laws.specs.Opening.{Sealing}
 use Rattle.media_laws.specs.Plain.{as_packet}
 use Rattle.media_laws.specs.Play.{Played}
-use Rattle.media_laws.specs.RepairedRun.{request, write_numbered}
-
--- type 96, whose RTX type is 97, and one stream: A sends it on SSRC 42, its repairs on SSRC 43 from
--- number 5 on, with no cap
-abbrev pub setup : Setup
-setup = record {
-  cipher = Toy;
-  profile = AeadAes128Gcm;
-  key = Zero;
-  beginning = record { unix_secs = 1700000000 };
-  mtu = record { target = 1150; warn = 1280 };
-  pause_threshold = 1500000000;
-  a = record { ssrc = 1; srtcp_index = 0 };
-  b = record { ssrc = 2; srtcp_index = 0 };
-  exts = [];
-  types = record { pt = 96; codec = Vp8; rate = 90000; rtx = Some 97 } ∷ [];
-  media = record {
-    mid = 48 ∷ [];
-    kind = Video;
-    cname = 48 ∷ [];
-    streams = record { side = A; ssrc = 42; rtx = Some 43; rid = None } ∷ [];
-  } ∷ [];
-  starts = record { ssrc = 42; number = 5 } ∷ [];
-  caches = record { ssrc = 42; cache = record { packets = 2000; age = 3000000000; cap = None } } ∷ [];
-}
+use Rattle.run_model.specs.Transcripts.{happenings}
+use Rattle.media_laws.specs.Config.{config_of}
+use Rattle.media_laws.specs.RepairedRun.{setup, request, write_numbered, IsRepairedRun}
 
 -- A sealed an RTP datagram under an SSRC and an index
 pub record Seals (entries : List Entry) (r n : ℕ) : Type 0 where
@@ -72,9 +44,9 @@ pub record IsOpened (r n : ℕ) (entry : OpenedEntry) : Type 0 where
   pub ssrc : entry.ssrc ≡ r
   pub index : entry.index ≡ n
 
--- There is a genuine run of the setup, which breaks no rule, whose repairs widen. In it A seals packet
--- 2, B never opens that, A hears a NACK that names it alone and seals a repair, B opens that and
--- yields the packet.
+-- There is a genuine run of the setup, which breaks no rule, whose repairs widen. In it A seals
+-- packet 2, B never opens that, A hears a NACK that names it alone and seals a repair, B opens that
+-- and yields the packet. As it is read it meets the premises of the laws of plain sessions.
 pub record RepairsHappenIn (seal : Sealing) : Type 0 where
   pub steps : List Step
   pub entries : List Entry
@@ -90,3 +62,4 @@ pub record RepairsHappenIn (seal : Sealing) : Type 0 where
   pub opened : IsIn (Opened repair) entries
   pub is_repair : IsOpened 43 5 repair
   pub yielded : IsIn (Yielded B (as_packet (write_numbered 2))) entries
+  pub plain : IsRepairedRun (config_of seal setup) (happenings setup entries)

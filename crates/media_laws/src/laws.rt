@@ -9,7 +9,8 @@ ghost use Rattle.media_laws.specs.Exhausting.{Exhausts, call_of, told_of};
 ghost use Rattle.media_laws.specs.Headline.{HoldsOfRun, HoldsOfFront, PlaysSteps};
 ghost use Rattle.media_laws.specs.Keys.{sealing_of};
 ghost use Rattle.media_laws.specs.Play.{Played};
-ghost use Rattle.media_laws.specs.RepairedTranscript.{RepairsHappenIn, setup};
+ghost use Rattle.media_laws.specs.RepairedRun.{setup};
+ghost use Rattle.media_laws.specs.RepairedTranscript.{RepairsHappenIn};
 ghost use Rattle.setup_rules.specs.SetupRules.{setup_fault};
 
 use rtp_wire::{header_reads_own_bytes, headers_are_as_long};
