@@ -1,5 +1,5 @@
 -- A run in which a packet is lost, asked for, repaired and yielded, and what it meets.
-use Rattle.std.proofs.Common.{◌≡◌, ◌%◌, inl, inr, ℕ, Bool, true, false, ◌==◌, ◌&&◌, if◌then◌else◌, zero, suc, List, [], ◌∷◌, ◌++◌, length, ◌≤◌, take, drop, Option, Some, refl, sym, ap, ◌∙◌, subst, arith, None}
+use Rattle.std.proofs.Common.{◌≡◌, ◌%◌, inl, inr, ℕ, Bool, true, false, ◌==◌, ◌&&◌, zero, suc, List, [], ◌∷◌, ◌++◌, length, ◌≤◌, take, drop, Option, Some, refl, sym, ap, ◌∙◌, subst, arith, None}
 use Rattle.std.specs.List.{flat_map}
 use Rattle.resend_core.specs.ResendStore.{Past, HeldAs}
 use Rattle.rtp_base.specs.NackEntry.{named_below}
@@ -16,12 +16,12 @@ use Rattle.run_model.specs.RxPlay.{RxRecord, new_rx}
 use Rattle.run_model.specs.Listing.{IsIn}
 use Rattle.run_model.specs.Sending.{Carries, Kept, wanted, sending_of, repair_of}
 use Rattle.run_model.specs.Seals.{Sealing, Reporting, IsSeal, IsReport}
-use Rattle.run_model.specs.Transcripts.{types_of, outgoing_of}
+use Rattle.run_model.specs.Transcripts.{types_of}
 use Rattle.rtcp_wire.specs.declared.extended.DlrrItem.{DlrrItem as Delay}
 use Rattle.run_model.specs.TxPlay.{stored, sends, resends, Queues, none as none_queued, held}
 use Rattle.run_model.specs.Asking.{none as nothing_asked, asks, owes_nothing}
 use Rattle.run_model.specs.Tables.{has, AreApart, done, reports, more, here, none as none_heard, one}
-use Rattle.run_model.specs.Runs.{EachFrom, IsGenuineAt, WidensAt, Happening, without_padding, on_side, IsGenuine, RepairsWiden, SealsApart, TypesPair}
+use Rattle.run_model.specs.Runs.{EachFrom, IsGenuineAt, WidensAt, Happening, without_padding, on_side, IsGenuine, RepairsWiden, SealsApart}
 use Rattle.run_model.specs.Whole.{Config, Session, session_of, new_session, incoming_of, probes, Turns, writes, ticks, opens, hears, Played, begun, of_a, of_b, IsSound, HeadsApart}
 use Rattle.std.proofs.lemmas.Bool.{false≢true}
 use Rattle.media_laws.proofs.Lists.{any-from_in}

@@ -1,5 +1,5 @@
 -- A run of two sessions in which a packet is lost, asked for, repaired and yielded.
-use Rattle.std.proofs.Common.{◌≡◌, ◌+◌, ◌≤◌, ◌<◌, ◌^◌, ◌%◌, ◌==◌, ◌&&◌, ◌∙◌, inl, inr, ℕ, Bool, false, true, List, [], ◌∷◌, ◌++◌, length, take, drop, replicate, Option, Some, None, refl, sym, ap, subst, arith, append_assoc, append-nil}
+use Rattle.std.proofs.Common.{◌≡◌, ◌+◌, ◌≤◌, ◌<◌, ◌^◌, ◌%◌, ◌==◌, ◌&&◌, ◌∙◌, ℕ, Bool, false, true, List, [], ◌∷◌, ◌++◌, length, take, drop, replicate, Some, None, refl, sym, ap, subst, arith, append_assoc, append-nil}
 use Rattle.std.specs.List.{list_any}
 use Rattle.rtp_base.specs.declared.kind.Kind.TheVariants.{Rtp, Rtcp}
 use Rattle.rtp_wire.specs.declared.header.RtpHeader.{RtpHeader}
@@ -17,16 +17,11 @@ use Rattle.media_model.specs.declared.entry.Entry.{Entry}
 use Rattle.media_model.specs.declared.entry.Entry.TheVariants.{Wrote, Ticked, Got, Sealed, Opened, Yielded}
 use Rattle.media_model.specs.declared.step.Step.{Step}
 use Rattle.media_model.specs.declared.step.Step.TheVariants.{Write, Tick, Deliver}
-use Rattle.run_model.specs.Events.{Event, wrote, ticked, got, sealed, sealed_items, opened, opened_items, yielded, Outgoing}
+use Rattle.run_model.specs.Events.{Event}
 use Rattle.run_model.specs.Listing.{IsIn}
-use Rattle.run_model.specs.Sending.{sending_of, repair_of, Carries}
 use Rattle.run_model.specs.Seals.{IsSeal, IsReport}
-use Rattle.run_model.specs.TxPlay.{stored, sends, resends, none as none_queued}
-use Rattle.run_model.specs.Receiving.{Lists, concerns, widened, is_fresh_number, Opens}
-use Rattle.run_model.specs.Asking.{none as nothing_asked, asks, owes_nothing}
-use Rattle.run_model.specs.Tables.{has, done, reports, more, here, none as none_heard, one}
-use Rattle.run_model.specs.Runs.{Happening, on_side, without_padding, WidensAt, RepairsWiden}
-use Rattle.run_model.specs.Runs as each
+use Rattle.run_model.specs.Tables.{has}
+use Rattle.run_model.specs.Runs.{on_side, RepairsWiden}
 use Rattle.run_model.specs.Transcripts.{feedback_in, outgoing_of, happenings, types_of}
 use Rattle.run_model.specs.Whole.{incoming_of, IsSound, HeadsApart}
 use Rattle.setup_rules.specs.SetupRules.{setup_fault}

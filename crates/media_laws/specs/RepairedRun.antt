@@ -1,6 +1,6 @@
 -- A run in which a packet is lost, asked for, repaired and yielded, and which meets the premises
 -- of the laws of runs.
-use Rattle.std.specs.Prelude.{◌≡◌, ◌==◌, ◌%◌, ◌++◌, ℕ, Bool, true, false, List, [], ◌∷◌, Option, Some, None}
+use Rattle.std.specs.Prelude.{◌≡◌, ◌%◌, ◌++◌, ℕ, Bool, true, false, List, [], ◌∷◌, Option, Some, None}
 use Rattle.rtp_base.specs.Widen.{widen16}
 use Rattle.rtp_base.specs.declared.kind.Kind.TheVariants.{Rtp}
 use Rattle.rtp_base.specs.declared.nack_entry.NackEntry.{NackEntry}
@@ -19,7 +19,7 @@ use Rattle.media_model.specs.Setup.{local_of}
 use Rattle.media_model.specs.Sides.{peer_of}
 use Rattle.srtp_core.specs.declared.profile.SrtpProfile.TheVariants.{AeadAes128Gcm}
 use Rattle.rtcp_wire.specs.declared.extended.DlrrItem.{DlrrItem as Delay}
-use Rattle.run_model.specs.Events.{as_packet, Plain, Event, ticked, got, sealed, opened, opened_items, yielded, Types, Outgoing, Incoming}
+use Rattle.run_model.specs.Events.{as_packet, Plain, Event, ticked, got, sealed, opened, opened_items, yielded, Outgoing, Incoming}
 use Rattle.run_model.specs.Listing.{IsIn}
 use Rattle.run_model.specs.Capping.{IsCapped}
 use Rattle.run_model.specs.Sending.{Sendings, sendings, cached, last_number, wanted, Kept, sending_of, repair_of}

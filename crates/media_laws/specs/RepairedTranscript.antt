@@ -1,5 +1,5 @@
 -- A run of two sessions in which a packet is lost, asked for, repaired and yielded.
-use Rattle.std.specs.Prelude.{◌≡◌, ℕ, List, [], ◌∷◌, Some, None}
+use Rattle.std.specs.Prelude.{◌≡◌, ℕ, List, [], ◌∷◌, None}
 use Rattle.rtp_base.specs.declared.kind.Kind.TheVariants.{Rtp, Rtcp}
 use Rattle.rtcp_wire.specs.declared.rtcp_fb.RtcpFb.TheVariants.{Nack}
 use Rattle.media_model.specs.declared.entry.Side.TheVariants.{A, B}
