@@ -1,5 +1,5 @@
 -- What a run knows after one step more.
-use Rattle.std.proofs.Common.{◌≡◌, ◌≢◌, inl, ℕ, ◌<◌, ◌≤◌, ◌^◌, Bool, true, false, List, [], ◌∷◌, ◌++◌, Option, Some, None, Result, Ok, Err, IfErr, refl, sym, ap, ◌∙◌, subst, arith}
+use Rattle.std.proofs.Common.{◌≡◌, ◌≢◌, ℕ, ◌<◌, ◌≤◌, ◌^◌, Bool, true, false, List, [], ◌∷◌, ◌++◌, Option, None, Result, Ok, Err, IfErr, refl, sym, ap, ◌∙◌, subst, arith}
 use Rattle.std.specs.Prelude.{◌==◌, nat_lt}
 use Rattle.std.specs.List.{flat_map, AllByRecursion}
 use Rattle.std.specs.Result.{IsErrAnd}
@@ -14,7 +14,7 @@ use Rattle.media_model.specs.declared.entry.Opened.{Opened as OpenedEntry}
 use Rattle.media_model.specs.declared.entry.Packet.{Packet}
 use Rattle.media_model.specs.declared.entry.Got.{Got as GotEntry}
 use Rattle.media_model.specs.declared.entry.Entry.{Entry}
-use Rattle.media_model.specs.declared.entry.Entry.TheVariants.{Wrote, Ticked, Called, Got, Sealed, Opened, Yielded}
+use Rattle.media_model.specs.declared.entry.Entry.TheVariants.{Sealed, Opened, Yielded}
 use Rattle.media_model.specs.declared.step.Step.{Step}
 use Rattle.media_model.specs.declared.setup.Setup.{Setup}
 use Rattle.media_model.specs.Entries.{write_on, writes_on, time_of, latest, last_time}
@@ -30,7 +30,6 @@ use Rattle.media_laws.specs.Exhausting.{call_of}
 use Rattle.media_laws.specs.Keys.{sealing_of}
 use Rattle.media_laws.specs.Opening.{Sealing}
 use Rattle.media_laws.specs.Play.{AreEntriesOf, IsBroughtBy, Outcome, Plays as PlaysIn, by_a, by_b, wrote as wrote_step, ticked as ticked_step, called as called_step, got as got_step}
-
 use Rattle.media_laws.specs.Right.{IsRightSeal}
 use Rattle.media_laws.specs.Rules.{or_else, time_fault, step_fault}
 use Rattle.media_play.specs.declared.fault.StepError.{StepError}
@@ -41,7 +40,6 @@ use Rattle.media_play.specs.Sessions.{EndState, Ready, ReadyAt, TurnsOn}
 use Rattle.media_play.proofs.Turned.{ready_still}
 
 -- the time of a step is that of its side's plain session after it
-
 abbrev pub time_in : Event → ℕ
 time_in (wrote time w) = time
 time_in (ticked time) = time

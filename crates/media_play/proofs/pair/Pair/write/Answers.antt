@@ -1,4 +1,4 @@
-use Rattle.std.proofs.Common.{◌≡◌, [], ◌∷◌, None, sym, subst, ◌∙◌, refl}
+use Rattle.std.proofs.Common.{◌≡◌, [], ◌∷◌, None, sym, subst, refl}
 use Rattle.media_model.specs.declared.entry.Entry.TheVariants.{Wrote}
 use Rattle.media_model.specs.declared.step.Step.TheVariants.{Write}
 use Rattle.media_laws.specs.Play.{wrote}
