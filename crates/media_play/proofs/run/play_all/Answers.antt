@@ -45,6 +45,14 @@ returns-in-Err-play-clause-holds g c =
     (holds_left K setup log step c.in-Err-play.fault.cause (c.in-Err-play.ensures.refused setup before run)
     (laws.whole setup before log run.valid (played_of run)) (λ side counter e. laws.exhausted setup before log step side counter run.valid (played_of run) e))
 
+pub returns-clause-holds : goal.returns-clause-holds
+returns-clause-holds g c =
+    let K = g.C.SrtpCipher.meaning in
+    let setup = c.args.setup.now in
+    let run = c.loop-i.invariant in
+    subst (λ (es : List Entry). HoldsOfRun (sealing_of K setup) setup es) (sym c.into_transcript.ensures)
+    (c.holds_of_run.ensures.whole setup (take c.loop-i.i c.args.steps.now) c.loop-i.run.log run.valid (played_of run))
+
 pub loop-i-preserved : goal.loop-i-preserved
 loop-i-preserved g c =
     let K = g.C.SrtpCipher.meaning in
