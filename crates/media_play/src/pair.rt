@@ -26,7 +26,7 @@ ghost use Rattle.media_model.specs.declared.entry.Side.{Side as Party};
 use crate::end::{End, Received, log_all};
 use crate::fault::StepError;
 use crate::log::Log;
-use media_base::{Bytes, Instant, Listed};
+use media_base::{Bytes, Instant};
 use media_laws::StepFault;
 use media_model::{
     ApplicationData, Call, Entry, Got, Kind, Opened, Sealed, Setup, Side, Step, Transcript, Write,
@@ -313,21 +313,6 @@ impl<C: SrtpCipher> Pair<C> {
     }
 }
 
-fn copied(alloc: Global, write: &Write) -> Result<Write, AllocError>
-    ensures { IfOk result (λ w. w ≡ write.now) }
-{
-    Ok(Write {
-        ssrc: write.ssrc,
-        number: write.number,
-        pt: write.pt,
-        rtp_time: write.rtp_time,
-        marker: write.marker,
-        nackable: write.nackable,
-        csrc: Listed::from_vec(write.csrc.as_slice().to_vec(alloc)?),
-        payload: Bytes::from_slice(alloc, write.payload.as_slice())?,
-    })
-}
-
 /// Each of these numbers has 32 bits, as its type says.
 fn are_words(words: &[u32])
     ensures { AreWords words.now }
@@ -362,7 +347,7 @@ fn write_step<C: SrtpCipher>(
     are_words(write.csrc.as_slice());
     let place = end.check_write(write)?;
     end.put(alloc, place, time, write)?;
-    log.push(Entry::Wrote(side, time, copied(alloc, write)?))?;
+    log.push(Entry::Wrote(side, time, write.copied(alloc)?))?;
     Ok(())
 }
 
