@@ -1,8 +1,9 @@
-ghost use Rattle.std.specs.Prelude.{◌≡◌, Some};
+ghost use Rattle.std.specs.Prelude.{◌≡◌, Some, IfOk};
 ghost use Rattle.media_model.specs.Sides.{peer_of};
 
 use media_base::{Bytes, Instant, Listed};
 use rtp_wire::{Kind, Pt, SeqNo, Ssrc};
+use std::alloc::{AllocError, Global};
 
 /// One of the two sessions of a run.
 #[derive(Clone, Copy, Debug, PartialEq, Eq, PartialOrd, Ord, Hash)]
@@ -42,6 +43,24 @@ pub struct Write {
     pub csrc: Listed<u32>,
     /// At most 1,400 bytes in a run.
     pub payload: Bytes,
+}
+
+impl Write {
+    /// The same write, with a copy of its contributing sources and of its payload.
+    pub fn copied(&self, alloc: Global) -> Result<Write, AllocError>
+        ensures { IfOk result (λ write. write ≡ self.now) }
+    {
+        Ok(Write {
+            ssrc: self.ssrc,
+            number: self.number,
+            pt: self.pt,
+            rtp_time: self.rtp_time,
+            marker: self.marker,
+            nackable: self.nackable,
+            csrc: Listed::from_vec(self.csrc.as_slice().to_vec(alloc)?),
+            payload: Bytes::from_slice(alloc, self.payload.as_slice())?,
+        })
+    }
 }
 
 /// A packet that a session gives to its application.

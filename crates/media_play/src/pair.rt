@@ -26,7 +26,7 @@ ghost use Rattle.media_model.specs.declared.entry.Side.{Side as Party};
 use crate::end::{End, Received, log_all};
 use crate::fault::StepError;
 use crate::log::Log;
-use media_base::{Bytes, Instant, Listed};
+use media_base::{Bytes, Instant};
 use media_laws::StepFault;
 use media_model::{
     ApplicationData, Call, Entry, Got, Kind, Opened, Sealed, Setup, Side, Step, Transcript, Write,
@@ -193,7 +193,8 @@ impl<C: SrtpCipher> Pair<C> {
     ) -> Result<(), AllocError>
         ensures played { OnOk result ((setup : Given) (steps : List Act) (step : Act)
             → IsRunOf C.meaning setup steps self.old → step_fault setup self.old.log step ≡ None
-            → time_fault self.old.log time ≡ None → Brings self.old.log (got_as side time kind bytes) step
+            → time_fault self.old.log time ≡ None
+            → Brings self.old.log (got_as side time kind bytes) step
             → PlaysOn C.meaning setup steps self.old step self.new) }
         ensures longer { OnlyAdds self.old.log self.new.log }
     {
@@ -257,8 +258,8 @@ impl<C: SrtpCipher> Pair<C> {
         media: Ssrc,
         payload: &ApplicationData,
     ) -> Result<(), StepError>
-        ensures played { OnOk result
-            (Plays C.meaning self.old (ApplicationStep side time sender media payload.now) self.new) }
+        ensures played { OnOk result (Plays C.meaning self.old
+            (ApplicationStep side time sender media payload.now) self.new) }
         ensures refused { IfErr result
             (Refuses C.meaning self.old (ApplicationStep side time sender media payload.now)) }
         ensures called { IfErr result (λ e. e ≢ StepError.Memory → self.new.log ≡ self.old.log
@@ -313,21 +314,6 @@ impl<C: SrtpCipher> Pair<C> {
     }
 }
 
-fn copied(alloc: Global, write: &Write) -> Result<Write, AllocError>
-    ensures { IfOk result (λ w. w ≡ write.now) }
-{
-    Ok(Write {
-        ssrc: write.ssrc,
-        number: write.number,
-        pt: write.pt,
-        rtp_time: write.rtp_time,
-        marker: write.marker,
-        nackable: write.nackable,
-        csrc: Listed::from_vec(write.csrc.as_slice().to_vec(alloc)?),
-        payload: Bytes::from_slice(alloc, write.payload.as_slice())?,
-    })
-}
-
 /// Each of these numbers has 32 bits, as its type says.
 fn are_words(words: &[u32])
     ensures { AreWords words.now }
@@ -343,7 +329,8 @@ fn write_step<C: SrtpCipher>(
     time: Instant,
     write: &Write,
 ) -> Result<(), StepError>
-    ensures ready { OnOk result ((setup : Given) (a : Plain) → ReadyAt C.meaning setup side end.old a log.old time
+    ensures ready { OnOk result ((setup : Given) (a : Plain)
+        → ReadyAt C.meaning setup side end.old a log.old time
         → TurnsOn C.meaning setup side a end.new log.old (Wrote side time write.now ∷ [])) }
     ensures valid { OnOk result ((setup : Given) (a : Plain) (entries : List Happening)
         → Ready C.meaning setup side end.old a entries
@@ -362,7 +349,7 @@ fn write_step<C: SrtpCipher>(
     are_words(write.csrc.as_slice());
     let place = end.check_write(write)?;
     end.put(alloc, place, time, write)?;
-    log.push(Entry::Wrote(side, time, copied(alloc, write)?))?;
+    log.push(Entry::Wrote(side, time, write.copied(alloc)?))?;
     Ok(())
 }
 
@@ -373,7 +360,8 @@ fn tick_step<C: SrtpCipher>(
     time: Instant,
 ) -> Result<(), StepError>
     requires { time ≢ 0 }
-    ensures ready { OnOk result ((setup : Given) (a : Plain) → ReadyAt C.meaning setup side end.old a log.old time
+    ensures ready { OnOk result ((setup : Given) (a : Plain)
+        → ReadyAt C.meaning setup side end.old a log.old time
         → (sealed : List Happening) × (log.new ≡ log.old ++ Ticked side time ∷ sealed)
         × TicksOn C.meaning setup side a end.new log.old time sealed) }
     ensures refused { IfErr result (IsTickCause C.meaning side end.old time) }
@@ -397,13 +385,18 @@ fn call_step<C: SrtpCipher>(
     requires moment { time ≢ 0 }
     requires whole { length feedback.payload % 4 ≡ 0 }
     requires few { length feedback.payload ≤ 800 }
-    ensures ready { OnOk result ((setup : Given) (a : Plain) → ReadyAt C.meaning setup side end.old a log.old time
+    ensures ready { OnOk result ((setup : Given) (a : Plain)
+        → ReadyAt C.meaning setup side end.old a log.old time
         → a.rtcp ≡ next_index setup side log.old
-        → (datagram : Datagram) × (log.new ≡ log.old ++ Called side time call.Application ∷ Seal (sealed_from side datagram) ∷ [])
+        → (datagram : Datagram) × (log.new ≡ log.old ++ Called side time call.Application
+        ∷ Seal (sealed_from side datagram) ∷ [])
         × IsSealOfPacket (sealing_of C.meaning setup) setup side log.old
-        (application_packet feedback.sender_ssrc feedback.media_ssrc feedback.payload) (sealed_from side datagram)
-        × TurnsOn C.meaning setup side a end.new log.old (Called side time call.Application ∷ Seal (sealed_from side datagram) ∷ [])) }
-    ensures refused { IfErr result (λ e. (setup : Given) (a : Plain) → ReadyAt C.meaning setup side end.old a log.old time
+        (application_packet feedback.sender_ssrc feedback.media_ssrc feedback.payload)
+        (sealed_from side datagram)
+        × TurnsOn C.meaning setup side a end.new log.old (Called side time call.Application
+        ∷ Seal (sealed_from side datagram) ∷ [])) }
+    ensures refused { IfErr result (λ e. (setup : Given) (a : Plain)
+        → ReadyAt C.meaning setup side end.old a log.old time
         → a.rtcp ≡ next_index setup side log.old → IsSendingCause setup side log.old e) }
     ensures called { IfErr result (λ e. e ≢ StepError.Memory
         → log.new ≡ log.old ++ Called side time call.Application ∷ []) }
@@ -432,8 +425,10 @@ fn receive_step<C: SrtpCipher>(
     kind: Kind,
     bytes: Bytes,
 ) -> Result<(), AllocError>
-    ensures ready { OnOk result ((setup : Given) (a : Plain) → ReadyAt C.meaning setup side end.old a log.old time
-        → (received : Option Taken) × (log.new ≡ log.old ++ Came (got_as side time kind bytes) ∷ received_entries side received)
+    ensures ready { OnOk result ((setup : Given) (a : Plain)
+        → ReadyAt C.meaning setup side end.old a log.old time
+        → (received : Option Taken) × (log.new ≡ log.old ++ Came (got_as side time kind bytes)
+        ∷ received_entries side received)
         × TakesIn C.meaning setup side a end.new log.old (got_as side time kind bytes) received) }
     ensures longer { OnlyAdds log.old log.new }
 {

@@ -30,7 +30,7 @@ returns-clause-ready g c setup a at index =
     let h = c.in_ok-datagram.ensures.sealed setup a log at index in (
       d,
       c.in_ok-push_sealed.ensures.ok ∙ ap (λ (l : List Entry). l ++ Sealed s ∷ []) c.in_ok-push.ensures.ok
-      ∙ append_assoc log (Called side c.args.time call.Application ∷ []) (Sealed s ∷ []),
+          ∙ append_assoc log (Called side c.args.time call.Application ∷ []) (Sealed s ∷ []),
       h.0,
       h.1,
     )

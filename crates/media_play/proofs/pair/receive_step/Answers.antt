@@ -16,7 +16,7 @@ returns-clause-ready g c setup a at =
     let brought = received_entries side received in (
       received,
       c.in_ok-push_received.ensures.done ∙ ap (λ (l : List Entry). l ++ brought) c.in_ok-push.ensures.ok
-      ∙ append_assoc log (Got (got_as side time kind c.args.bytes) ∷ []) brought,
+          ∙ append_assoc log (Got (got_as side time kind c.args.bytes) ∷ []) brought,
       subst (λ (l : List ℕ). TakesIn K setup side a c.receive.new.self log (got_as side time kind l) received) c.as_slice.ensures
-      (c.in_ok-received.ensures setup side a log at),
+          (c.in_ok-received.ensures setup side a log at),
     )
