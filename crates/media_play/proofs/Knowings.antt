@@ -44,7 +44,6 @@ pub cond_none : (b : Bool) (fault : StepFault) (other : Option StepFault) → co
 cond_none true fault other e = absurd cc
 cond_none false fault other e = (refl, e)
 
-
 pub rule_stream : (setup : Setup) (entries : List Entry) (side : Side) (w : Writing) → has (streams_of side setup) w.ssrc ≡ false
     → write_fault setup entries side w ≡ Some UnknownStream
 rule_stream setup entries side w stream = rw stream refl
@@ -218,4 +217,3 @@ module _ (side : Side) (entries : List Entry) (time : ℕ) (w : Writing) where
     subst (UsedAs side after r) (sym noted.0) (used_elsewhere r u (λ same. distinct.0 (subst (λ n. IsIn n rs) (sym same) (in_from_get w.ssrc rs at there))) h.0),
     used_after rs at old new distinct.1 there noted.1 h.1,
   )
-
