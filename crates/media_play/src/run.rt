@@ -58,10 +58,10 @@ impl<C: SrtpCipher> Run<C> {
     /// Plays one step more, whose entries then stand behind those before it.
     ///
     /// # Errors
-    /// `Rule`, exactly with the first rule that the step breaks; `KeyExhausted`, exactly where it
-    /// breaks none and a side was to seal a datagram behind the last number of a key; `Memory`. The
-    /// fault has the transcript of the steps before, and of this one its call alone where a key was
-    /// used up.
+    /// `Rule`, exactly with the first rule that the step breaks; `KeyExhausted`, only where it breaks
+    /// none and its side was to seal a datagram behind the last number of a key, and exactly there
+    /// where it is the call of an application; `Memory`. The fault has the transcript of the steps
+    /// before, and of this one the call alone that found a key used up.
     pub fn play(self, alloc: Global, step: &Step) -> Result<Self, PlayFault>
         ensures played { IfOk result (Plays C.meaning self step.now) }
         ensures refused { IfErr result (λ fault. Refuses C.meaning self step.now fault.cause) }
@@ -171,9 +171,9 @@ fn play_all<C: SrtpCipher>(
 ///
 /// # Errors
 /// `Setup`, exactly with the first rule that the setup breaks; `Step`, exactly at the first step
-/// that breaks a rule, with the first rule that it breaks; `KeyExhausted`, exactly where a step has
-/// a side seal a datagram behind the last number of a key; `Memory`. The fault has the transcript of
-/// the steps that were played, and the call that found a key used up.
+/// that breaks a rule, with the first rule that it breaks; `KeyExhausted`, only where a step has a
+/// side seal a datagram behind the last number of a key; `Memory`. The fault has the transcript of
+/// the steps that were played, and the call of an application that found a key used up.
 pub fn media_run<C: SrtpCipher>(
     alloc: Global,
     setup: &Setup,
