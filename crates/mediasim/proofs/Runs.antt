@@ -24,11 +24,12 @@ use Rattle.media_laws.specs.Headline.{HoldsOfRun, RunWidens, StepsAreAnswered, S
 use Rattle.media_laws.specs.Opening.{Sealing}
 use Rattle.media_laws.specs.Play.{Played}
 use Rattle.media_play.specs.Running.{HasCause, OfRun}
+use Rattle.setup_rules.specs.declared.fault.SetupFault.{SetupFault}
 use Rattle.setup_rules.specs.SetupRules.{setup_fault}
 use Rattle.mediasim.specs.declared.ends.End.{End}
 use Rattle.mediasim.specs.declared.ends.End.TheVariants.{Done, Setup, Step, KeyExhausted, Call, ReadFault, WriteFault, Memory, Syntax, TooLong, Usage}
 use Rattle.mediasim.specs.Lines.{memory_line, IsLastLine, reported}
-use Rattle.mediasim.specs.RunCommand.{key_line, script_cipher, script_sealing, syntax_line, step_line, AreOfRun, RunEnds, RunMakes, IsNoScript, TellsWhole}
+use Rattle.mediasim.specs.RunCommand.{key_line, script_cipher, script_sealing, syntax_line, setup_line, step_line, AreOfRun, RunEnds, RunMakes, IsNoScript, TellsWhole}
 
 -- all that holds of a run, whether it came to its end or not
 pub all_holds : (seal : Sealing) (setup : Given) (r : Result Transcript RunFault)
@@ -59,6 +60,20 @@ step_ends view setup steps number fault entries told (Err e) ended last is said 
     subst (λ (es : List Entry). RunEnds setup steps ended (reported ended es) (entries_text es ++ last)) (sym same)
     (subst (λ (e : End). RunEnds setup steps e (reported e entries) (entries_text entries ++ last)) (sym is.0)
     (entries, inr (error.Step number fault, cause), (length entries, all_told entries last is.1)))
+
+-- a run that did not begin, as its setup breaks a rule
+pub setup_ends : {X : Type 0} (view : X → List ℕ) (setup : Given) (steps : List Act) (fault : SetupFault) (entries told : List Entry)
+    (line : Result X AllocError) (ended : End) (last : List ℕ)
+    → IsLastLine view (Setup fault) line ended last → IfOk line (λ text. view text ≡ setup_line fault) → told ≡ entries
+    → HasCause (script_cipher setup) setup steps entries (error.Setup fault)
+    → RunEnds setup steps ended (reported ended told) (entries_text told ++ last)
+setup_ends view setup steps fault entries told (Ok text) ended last is said same cause =
+    subst (λ (es : List Entry). RunEnds setup steps ended (reported ended es) (entries_text es ++ last)) (sym (same ∙ cause.1))
+    (subst (λ (e : End). RunEnds setup steps e (reported e []) last) (sym is.0) (cause.0, is.1 ∙ said))
+setup_ends view setup steps fault entries told (Err e) ended last is said same cause =
+    subst (λ (es : List Entry). RunEnds setup steps ended (reported ended es) (entries_text es ++ last)) (sym same)
+    (subst (λ (e : End). RunEnds setup steps e (reported e entries) (entries_text entries ++ last)) (sym is.0)
+    (entries, inr (error.Setup fault, cause), (length entries, all_told entries last is.1)))
 
 -- a run that ended where a key was used up
 pub key_ends : {X : Type 0} (view : X → List ℕ) (setup : Given) (steps : List Act) (side : Side) (counter : Counter) (entries told : List Entry)

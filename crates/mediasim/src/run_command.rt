@@ -138,6 +138,17 @@ fn run_steps(alloc: Global, setup: &Setup, steps: &[Step]) -> Result<Transcript,
     }
 }
 
+// The same of steps that are let go then.
+fn run_all(alloc: Global, setup: &Setup, steps: Vec<Step>) -> Result<Transcript, RunFault>
+    ensures played { IfOk result (λ t. (setup_fault setup.now ≡ None)
+        × Played (script_sealing setup.now) setup.now steps.items t) }
+    ensures cause { IfErr result (λ f.
+        HasCause (script_cipher setup.now) setup.now steps.items f.sofar f.cause) }
+    ensures holds { OfRun result (HoldsOfRun (script_sealing setup.now) setup.now) }
+{
+    run_steps(alloc, setup, steps.as_slice())
+}
+
 // The last line of a run that was played to its end.
 fn last_line(alloc: Global, setup: &Setup, transcript: &Transcript) -> Result<String, AllocError>
     ensures { IfOk result (λ text.
@@ -148,12 +159,12 @@ fn last_line(alloc: Global, setup: &Setup, transcript: &Transcript) -> Result<St
 }
 
 // Plays a setup and its steps.
-fn play_steps(alloc: Global, setup: &Setup, steps: &[Step]) -> Ending
-    ensures ended { RunEnds setup.now steps.now result.end (reported result.end result.entries)
+fn play_steps(alloc: Global, setup: &Setup, steps: Vec<Step>) -> Ending
+    ensures ended { RunEnds setup.now steps.items result.end (reported result.end result.entries)
         (entries_text result.entries ++ bytes_of result.last) }
-    ensures entries { AreOfRun setup.now steps.now result.entries }
+    ensures entries { AreOfRun setup.now steps.items result.entries }
 {
-    let fault = match run_steps(alloc, setup, steps) {
+    let fault = match run_all(alloc, setup, steps) {
         Ok(transcript) => {
             let line = last_line(alloc, setup, &transcript);
             return Ending::new(End::Done, transcript, line);
@@ -184,7 +195,7 @@ fn play_script(alloc: Global, bytes: &[u8]) -> Ending
     ensures fronts { (count : ℕ) → RunMakes bytes.now End.Memory None (entries_text (take count result.entries) ++ memory_line) }
 {
     match read_script(alloc, bytes) {
-        Ok((setup, steps)) => play_steps(alloc, &setup, &steps),
+        Ok((setup, steps)) => play_steps(alloc, &setup, steps),
         Err(ScriptError::Syntax(line)) => Ending::new(
             End::Syntax(line),
             Transcript::new(alloc),

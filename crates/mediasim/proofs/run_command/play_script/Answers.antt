@@ -1,8 +1,6 @@
-use Rattle.std.proofs.Common.{List, ◌++◌, ◌∙◌, subst, string_bytes}
-use Rattle.media_model.specs.declared.step.Step.{Step as Act}
+use Rattle.std.proofs.Common.{◌++◌, ◌∙◌, string_bytes}
 use Rattle.media_script.specs.Text.{entries_text}
 use Rattle.mediasim.specs.Lines.{bytes_of, reported}
-use Rattle.mediasim.specs.RunCommand.{AreOfRun, RunEnds}
 use Rattle.mediasim.proofs.Runs.{run_makes, run_fronts, syntax_makes, first_told, none_told}
 use Rattle.mediasim.proofs.run_command.play_script.Goals as goal
 
@@ -11,13 +9,13 @@ returns-in-Ok-clause-makes c =
     let p = c.play_steps.result in
     let text = entries_text p.entries ++ bytes_of p.last in
     run_makes c.args.bytes.now c.in-Ok.setup c.in-Ok.steps.items p.end (reported p.end p.entries) text c.in-Ok.ensures.found
-    (subst (λ (steps : List Act). RunEnds c.in-Ok.setup steps p.end (reported p.end p.entries) text) c.deref.ensures.value c.play_steps.ensures.ended)
+    c.play_steps.ensures.ended
 
 pub returns-in-Ok-clause-fronts : goal.returns-in-Ok-clause-fronts
 returns-in-Ok-clause-fronts c count =
     let entries = c.play_steps.result.entries in
     run_fronts c.args.bytes.now c.in-Ok.setup c.in-Ok.steps.items entries count c.in-Ok.ensures.found
-    (subst (λ (steps : List Act). AreOfRun c.in-Ok.setup steps entries) c.deref.ensures.value c.play_steps.ensures.entries)
+    c.play_steps.ensures.entries
 
 pub returns-in-Err-Syntax-clause-makes : goal.returns-in-Err-Syntax-clause-makes
 returns-in-Err-Syntax-clause-makes c =
