@@ -1,20 +1,13 @@
-use media_base::{Bytes, Duration, Instant, Listed};
+//! What scripts say.
+use crate::reading::{EVERY_LINE, read, setup_of, setup_with, steps_of, syntax};
+use media_base::{Bytes, Duration, Instant};
 use media_model::*;
-use media_script::{ScriptError, end_line, entries_text, read_script, write_transcript};
-use rtp_wire::{Extension, Pt, SeqNo, Ssrc};
+use media_script::ScriptError;
+use rtp_wire::{Extension, Pt, Ssrc};
 use srtp_core::SrtpProfile;
-use std::alloc::Global;
+use std::alloc::{AllocError, Global};
+use std::process::Abort;
 use std::test::Fail;
-
-// Each kind of line once, and a stream of each form.
-const EVERY_LINE: &[u8] = b"# all of it\n\nstr0m-media 1\ntype 96 vp8 90000\nmedia v video cam\n\
-media a audio mic2\nstream A v 42 - -\next 14 delay\ncipher toy\nunix 5\next 0 mid\ntype 255 telephone 4294967295\n\
-stream B a 4294967295 0 hi\nkey 00Ff\nprofile gcm128\nstream B v 7 - lo\nrtcp B 2147483648\nmtu 900 1500\n\
-type 97 vp9 90000 rtx=255\nstart 4294967295 281474976710656\ncache 7 0 18446744073709 4294967295\n\
-cache 42 18446744073709551615 0 none\n\
-pause 250\nlocal A 4294967295\nbegin\n\
-write A 5ms 42 18446744073709551615 96 4294967295 1 0 8060Ff c=0000002AffFFffff\ntick B 1000\ndeliver A 0 3\n\
-foreign A 1 rtcp -\napp B 2ms 4294967295 0 0102fFfF\nforeign B 1 rtp 80\n#\nend\n\n# end\n";
 
 // Setup lines, the cipher and the profile that they say, and the length of the material of `key zero`.
 const CIPHERS: [(&str, CipherName, SrtpProfile, usize); 6] = [
@@ -64,106 +57,133 @@ const EXTENSIONS: [(&str, Extension); 9] = [
     ("delay", Extension::PlayoutDelay),
 ];
 
-fn syntax(alloc: Global, text: &[u8]) -> Option<ScriptError> {
-    read_script(alloc, text).err()
-}
-
-#[test]
-fn each_line_is_read(rt: HostRuntime) -> Result<(), Fail> {
-    let alloc = rt.alloc();
-    let (setup, steps) = read_script(alloc, EVERY_LINE).ok().ok_or("a script")?;
+fn says_cipher(rt: &impl Abort, alloc: Global, setup: &Setup) -> Result<(), AllocError> {
+    let key = Key::Given(Bytes::from_slice(alloc, &[0, 255])?);
     assert_eq!(rt; setup.cipher, CipherName::Toy);
     assert_eq!(rt; setup.profile, SrtpProfile::AeadAes128Gcm);
-    assert_eq!(rt; setup.key, Key::Given(Bytes::from_slice(alloc, &[0, 255])?));
-    assert_eq!(rt; setup.types.as_slice().len(), 3);
-    assert_eq!(rt;
-        setup.types.as_slice().get(1..),
-        Some([
-            PayloadType {
-                pt: Pt::from(255),
-                codec: Codec::Telephone,
-                rate: 4_294_967_295,
-                rtx: None,
-            },
-            PayloadType {
-                pt: Pt::from(97),
-                codec: Codec::Vp9,
-                rate: 90_000,
-                rtx: Some(Pt::from(255)),
-            },
-        ]
-        .as_slice())
-    );
-    assert_eq!(rt; setup.media.as_slice().len(), 2);
-    let video = setup.media.as_slice().first().ok_or("a media")?;
+    assert_eq!(rt; setup.key, key);
+    Ok(())
+}
+
+fn says_types(rt: &impl Abort, types: &[PayloadType]) {
+    let last = [
+        PayloadType {
+            pt: Pt::from(255),
+            codec: Codec::Telephone,
+            rate: 4_294_967_295,
+            rtx: None,
+        },
+        PayloadType {
+            pt: Pt::from(97),
+            codec: Codec::Vp9,
+            rate: 90_000,
+            rtx: Some(Pt::from(255)),
+        },
+    ];
+    assert_eq!(rt; types.len(), 3);
+    assert_eq!(rt; types.get(1..), Some(last.as_slice()));
+}
+
+fn says_media(rt: &impl Abort, media: &[Media]) -> Result<(), Fail> {
+    assert_eq!(rt; media.len(), 2);
+    let video = media.first().ok_or("a media")?;
     assert_eq!(rt; video.mid.as_slice(), b"v".as_slice());
     assert_eq!(rt; video.kind, MediaKind::Video);
     assert_eq!(rt; video.cname.as_slice(), b"cam".as_slice());
     assert_eq!(rt; video.streams.as_slice().len(), 2);
-    let audio = setup.media.as_slice().last().ok_or("a media")?;
+    Ok(())
+}
+
+fn says_stream(rt: &impl Abort, media: &[Media]) -> Result<(), Fail> {
+    let audio = media.last().ok_or("a media")?;
     let stream = audio.streams.as_slice().first().ok_or("a stream")?;
     assert_eq!(rt; stream.side, Side::B);
     assert_eq!(rt; stream.ssrc, Ssrc::from(4_294_967_295));
     assert_eq!(rt; stream.rtx, Some(Ssrc::from(0)));
     let layer = stream.rid.ok_or("a layer")?;
     assert_eq!(rt; layer.as_slice(), b"hi".as_slice());
-    assert_eq!(rt;
-        setup.mtu,
-        Mtu {
-            target: 900,
-            warn: 1500
-        }
-    );
+    Ok(())
+}
+
+fn says_numbers(rt: &impl Abort, setup: &Setup) -> Result<(), Fail> {
+    let mtu = Mtu {
+        target: 900,
+        warn: 1500,
+    };
+    let last = SrtcpIndex::new(2_147_483_648).ok_or("an index")?;
+    assert_eq!(rt; setup.mtu, mtu);
     assert_eq!(rt; setup.pause_threshold, Duration::from_nanos(250_000_000));
     assert_eq!(rt; setup.a, local(u32::MAX, SrtcpIndex::FIRST));
-    let last = SrtcpIndex::new(2_147_483_648).ok_or("an index")?;
     assert_eq!(rt; setup.b, local(2, last));
+    Ok(())
+}
+
+fn ends_in_foreign(rt: &impl Abort, alloc: Global, steps: &[Step]) -> Result<(), AllocError> {
+    let last = Step::Foreign {
+        side: Side::B,
+        time: Instant::from_nanos(1),
+        kind: Kind::Rtp,
+        bytes: Bytes::from_slice(alloc, &[0x80])?,
+    };
     assert_eq!(rt; steps.len(), 6);
-    assert_eq!(rt;
-        steps.last(),
-        Some(&Step::Foreign {
-            side: Side::B,
-            time: Instant::from_nanos(1),
-            kind: Kind::Rtp,
-            bytes: Bytes::from_slice(alloc, &[0x80])?,
-        })
-    );
+    assert_eq!(rt; steps.last(), Some(&last));
     Ok(())
 }
 
 #[test]
-fn what_streams_keep_is_read(rt: HostRuntime) -> Result<(), Fail> {
+fn each_line_is_read(rt: HostRuntime) -> Result<(), Fail> {
     let alloc = rt.alloc();
-    let (setup, _) = read_script(alloc, EVERY_LINE).ok().ok_or("a script")?;
+    let setup = setup_of(alloc, EVERY_LINE)?;
+    says_cipher(&rt, alloc, &setup)?;
+    says_types(&rt, setup.types.as_slice());
+    says_media(&rt, setup.media.as_slice())?;
+    says_stream(&rt, setup.media.as_slice())?;
+    says_numbers(&rt, &setup)?;
+    let steps = steps_of(alloc, EVERY_LINE)?;
+    ends_in_foreign(&rt, alloc, steps.as_slice())?;
+    Ok(())
+}
+
+fn says_starts(rt: &impl Abort, setup: &Setup) -> Result<(), Fail> {
     let last = FirstNumber::new(281_474_976_710_656).ok_or("a number")?;
     assert_eq!(rt; setup.starts.len(), 1);
     assert_eq!(rt; setup.start(Ssrc::from(u32::MAX)), last);
     assert_eq!(rt; setup.start(Ssrc::from(7)), FirstNumber::ZERO);
     assert_eq!(rt; setup.caches.len(), 2);
-    assert_eq!(rt;
-        setup.cache(Ssrc::from(7)),
-        Cache {
-            packets: 0,
-            age: Duration::from_nanos(18_446_744_073_709_000_000),
-            cap: Some(u32::MAX),
-        }
-    );
-    assert_eq!(rt;
-        setup.cache(Ssrc::from(42)),
-        Cache {
-            packets: u64::MAX,
-            age: Duration::from_nanos(0),
-            cap: None,
-        }
-    );
-    assert_eq!(rt;
-        setup.cache(Ssrc::from(u32::MAX)),
-        Cache {
-            packets: 2_000,
-            age: Duration::from_nanos(3_000_000_000),
-            cap: Some(15),
-        }
-    );
+    Ok(())
+}
+
+fn says_cache(rt: &impl Abort, setup: &Setup, ssrc: u32, cache: Cache) {
+    assert_eq!(rt; setup.cache(Ssrc::from(ssrc)), cache);
+}
+
+// What streams keep of their packets, by their SSRCs.
+fn caches() -> [(u32, Cache); 3] {
+    let none = Cache {
+        packets: 0,
+        age: Duration::from_nanos(18_446_744_073_709_000_000),
+        cap: Some(u32::MAX),
+    };
+    let all = Cache {
+        packets: u64::MAX,
+        age: Duration::from_nanos(0),
+        cap: None,
+    };
+    let by_default = Cache {
+        packets: 2_000,
+        age: Duration::from_nanos(3_000_000_000),
+        cap: Some(15),
+    };
+    [(7, none), (42, all), (u32::MAX, by_default)]
+}
+
+#[test]
+fn what_streams_keep_is_read(rt: HostRuntime) -> Result<(), Fail> {
+    let setup = setup_of(rt.alloc(), EVERY_LINE)?;
+    says_starts(&rt, &setup)?;
+    for (ssrc, cache) in caches() {
+        says_cache(&rt, &setup, ssrc, cache);
+    }
     Ok(())
 }
 
@@ -175,33 +195,52 @@ fn local(ssrc: u32, srtcp_index: SrtcpIndex) -> Local {
     }
 }
 
+fn is_delivery(rt: &impl Abort, step: &Step) {
+    let wanted = Step::Deliver {
+        side: Side::A,
+        time: Instant::from_nanos(0),
+        datagram: 3,
+    };
+    assert_eq!(rt; *step, wanted);
+}
+
+fn is_foreign(rt: &impl Abort, alloc: Global, step: &Step) -> Result<(), AllocError> {
+    let wanted = Step::Foreign {
+        side: Side::A,
+        time: Instant::from_nanos(1),
+        kind: Kind::Rtcp,
+        bytes: Bytes::from_slice(alloc, &[])?,
+    };
+    assert_eq!(rt; *step, wanted);
+    Ok(())
+}
+
+fn is_application(rt: &impl Abort, alloc: Global, step: &Step) -> Result<(), Fail> {
+    let payload = Bytes::from_slice(alloc, &[1, 2, 255, 255])?;
+    let wanted = Step::Application {
+        side: Side::B,
+        time: Instant::from_nanos(2_000_000),
+        sender: Ssrc::from(u32::MAX),
+        media: Ssrc::from(0),
+        payload: ApplicationData::new(payload).ok_or("a payload")?,
+    };
+    assert_eq!(rt; *step, wanted);
+    Ok(())
+}
+
+fn are_handed(rt: &impl Abort, alloc: Global, steps: &[Step]) -> Result<(), Fail> {
+    let [_, _, delivery, foreign, application, _] = steps else {
+        return Err(Fail::from("six steps"));
+    };
+    is_delivery(rt, delivery);
+    is_foreign(rt, alloc, foreign)?;
+    is_application(rt, alloc, application)
+}
+
 #[test]
 fn each_step_is_read(rt: HostRuntime) -> Result<(), Fail> {
-    let alloc = rt.alloc();
-    let (_, steps) = read_script(alloc, EVERY_LINE).ok().ok_or("a script")?;
-    let payload = Bytes::from_slice(alloc, &[1, 2, 255, 255])?;
-    let handed = [
-        Step::Deliver {
-            side: Side::A,
-            time: Instant::from_nanos(0),
-            datagram: 3,
-        },
-        Step::Foreign {
-            side: Side::A,
-            time: Instant::from_nanos(1),
-            kind: Kind::Rtcp,
-            bytes: Bytes::from_slice(alloc, &[])?,
-        },
-        Step::Application {
-            side: Side::B,
-            time: Instant::from_nanos(2_000_000),
-            sender: Ssrc::from(u32::MAX),
-            media: Ssrc::from(0),
-            payload: ApplicationData::new(payload).ok_or("a payload")?,
-        },
-    ];
-    assert_eq!(rt; steps.get(2..5), Some(handed.as_slice()));
-    Ok(())
+    let steps = steps_of(rt.alloc(), EVERY_LINE)?;
+    are_handed(&rt, rt.alloc(), steps.as_slice())
 }
 
 // Setup lines, the two lengths of the MTU, and the index of the first SRTCP datagram of A and of B.
@@ -213,28 +252,35 @@ const LOCALS: [(&str, u64, u64, u64, u64); 5] = [
     ("mtu 0 18446744073709551615\n", 0, u64::MAX, 0, 0),
 ];
 
-#[test]
-fn what_each_side_brings_is_read(rt: HostRuntime) -> Result<(), Fail> {
-    let alloc = rt.alloc();
-    for (lines, target, warn, a, b) in LOCALS {
-        let a = SrtcpIndex::new(a).ok_or("an index")?;
-        let b = SrtcpIndex::new(b).ok_or("an index")?;
-        let text = format!(in alloc; "str0m-media 1\n{lines}key zero\nbegin\nend\n")?;
-        let (setup, _) = read_script(alloc, text.as_bytes()).ok().ok_or("a script")?;
-        assert_eq!(rt; setup.mtu, Mtu { target, warn }, "at {lines}");
-        assert_eq!(rt; setup.a, local(1, a), "at {lines}");
-        assert_eq!(rt; setup.b, local(2, b), "at {lines}");
-    }
+fn brings(rt: &impl Abort, setup: &Setup, row: &(&str, u64, u64, u64, u64)) -> Result<(), Fail> {
+    let (lines, target, warn, a, b) = *row;
+    let a = SrtcpIndex::new(a).ok_or("an index")?;
+    let b = SrtcpIndex::new(b).ok_or("an index")?;
+    assert_eq!(rt; setup.mtu, Mtu { target, warn }, "at {lines}");
+    assert_eq!(rt; setup.a, local(1, a), "at {lines}");
+    assert_eq!(rt; setup.b, local(2, b), "at {lines}");
     Ok(())
 }
 
 #[test]
-fn own_ssrcs_are_read(rt: HostRuntime) -> Result<(), Fail> {
-    let alloc = rt.alloc();
-    let text = b"str0m-media 1\nlocal B 0\nkey zero\nlocal A 4294967295\nbegin\nend\n";
-    let (setup, _) = read_script(alloc, text.as_slice()).ok().ok_or("a script")?;
+fn what_each_side_brings_is_read(rt: HostRuntime) -> Result<(), Fail> {
+    for row in &LOCALS {
+        let setup = setup_with(rt.alloc(), row.0)?;
+        brings(&rt, &setup, row)?;
+    }
+    Ok(())
+}
+
+fn have_ssrcs(rt: &impl Abort, setup: &Setup) {
     assert_eq!(rt; setup.local(Side::A), local(u32::MAX, SrtcpIndex::FIRST));
     assert_eq!(rt; setup.local(Side::B), local(0, SrtcpIndex::FIRST));
+}
+
+#[test]
+fn own_ssrcs_are_read(rt: HostRuntime) -> Result<(), Fail> {
+    let text = b"str0m-media 1\nlocal B 0\nkey zero\nlocal A 4294967295\nbegin\nend\n";
+    let setup = setup_of(rt.alloc(), text.as_slice())?;
+    have_ssrcs(&rt, &setup);
     Ok(())
 }
 
@@ -252,75 +298,102 @@ fn one_app(alloc: Global, bytes: usize) -> Result<String, Fail> {
     Ok(text)
 }
 
+// The length of the feedback of a script's first step; 1 if it is none.
+fn len_of_feedback(steps: &[Step]) -> usize {
+    match steps.first() {
+        Some(Step::Application { payload, .. }) => payload.as_slice().len(),
+        _ => 1,
+    }
+}
+
+fn reads_feedback(alloc: Global, len: usize) -> Result<usize, Fail> {
+    let text = one_app(alloc, len)?;
+    let steps = steps_of(alloc, text.as_bytes())?;
+    Ok(len_of_feedback(steps.as_slice()))
+}
+
+fn refuses_feedback(alloc: Global, len: usize) -> Result<Option<ScriptError>, Fail> {
+    let text = one_app(alloc, len)?;
+    Ok(syntax(alloc, text.as_bytes()))
+}
+
 #[test]
 fn feedback_of_few_whole_words_is_read(rt: HostRuntime) -> Result<(), Fail> {
-    let alloc = rt.alloc();
     for len in [0, 4, 800] {
-        let text = one_app(alloc, len)?;
-        let (_, steps) = read_script(alloc, text.as_bytes()).ok().ok_or("a script")?;
-        let found = match steps.first() {
-            Some(Step::Application { payload, .. }) => payload.as_slice().len(),
-            _ => 1,
-        };
+        let found = reads_feedback(rt.alloc(), len)?;
         assert_eq!(rt; found, len);
     }
     for len in [1, 3, 5, 804] {
-        let text = one_app(alloc, len)?;
-        assert_eq!(rt;
-            syntax(alloc, text.as_bytes()),
-            Some(ScriptError::Syntax(4)),
-            "at {len}"
-        );
+        let found = refuses_feedback(rt.alloc(), len)?;
+        assert_eq!(rt; found, Some(ScriptError::Syntax(4)), "at {len}");
     }
+    Ok(())
+}
+
+fn has_cipher(
+    rt: &impl Abort,
+    alloc: Global,
+    setup: &Setup,
+    row: &(&str, CipherName, SrtpProfile, usize),
+) -> Result<(), AllocError> {
+    let (lines, cipher, profile, len) = *row;
+    let material = setup.material(alloc)?;
+    assert_eq!(rt; setup.cipher, cipher, "at {lines}");
+    assert_eq!(rt; setup.profile, profile, "at {lines}");
+    assert_eq!(rt; material.len(), len, "at {lines}");
     Ok(())
 }
 
 #[test]
 fn each_cipher_and_profile_is_read(rt: HostRuntime) -> Result<(), Fail> {
-    let alloc = rt.alloc();
-    for (lines, cipher, profile, material) in CIPHERS {
-        let text = format!(in alloc; "str0m-media 1\n{lines}key zero\nbegin\nend\n")?;
-        let (setup, _) = read_script(alloc, text.as_bytes()).ok().ok_or("a script")?;
-        assert_eq!(rt; setup.cipher, cipher, "at {lines}");
-        assert_eq!(rt; setup.profile, profile, "at {lines}");
-        assert_eq!(rt; setup.material(alloc)?.len(), material, "at {lines}");
+    for row in &CIPHERS {
+        let setup = setup_with(rt.alloc(), row.0)?;
+        has_cipher(&rt, rt.alloc(), &setup, row)?;
     }
     Ok(())
 }
 
+fn has_extension(rt: &impl Abort, setup: &Setup, extension: Extension) {
+    let named = [NamedExtension { id: 14, extension }];
+    assert_eq!(rt; setup.exts.as_slice(), named.as_slice());
+    assert_eq!(rt; setup.extension_map().id_of(extension), Some(14));
+}
+
+fn setup_with_extension(alloc: Global, name: &str) -> Result<Setup, Fail> {
+    let text = format!(in alloc; "str0m-media 1\nkey zero\next 14 {name}\nbegin\nend\n")?;
+    setup_of(alloc, text.as_bytes())
+}
+
 #[test]
 fn each_extension_is_read(rt: HostRuntime) -> Result<(), Fail> {
-    let alloc = rt.alloc();
     for (name, extension) in EXTENSIONS {
-        let text = format!(in alloc; "str0m-media 1\nkey zero\next 14 {name}\nbegin\nend\n")?;
-        let (setup, _) = read_script(alloc, text.as_bytes()).ok().ok_or("a script")?;
-        assert_eq!(rt;
-            setup.exts.as_slice(),
-            [NamedExtension { id: 14, extension }].as_slice()
-        );
-        assert_eq!(rt; setup.extension_map().id_of(extension), Some(14));
+        let setup = setup_with_extension(rt.alloc(), name)?;
+        has_extension(&rt, &setup, extension);
     }
     Ok(())
 }
 
 #[test]
 fn beginning_is_read(rt: HostRuntime) -> Result<(), Fail> {
-    let alloc = rt.alloc();
     for (line, unix_secs) in [
         ("", 1_700_000_000),
         ("unix 0\n", 0),
         ("unix 18446744073709551615\n", u64::MAX),
     ] {
-        let text = format!(in alloc; "str0m-media 1\n{line}key zero\nbegin\nend\n")?;
-        let (setup, _) = read_script(alloc, text.as_bytes()).ok().ok_or("a script")?;
+        let setup = setup_with(rt.alloc(), line)?;
         assert_eq!(rt; setup.beginning.unix_secs, unix_secs, "at {line}");
     }
     Ok(())
 }
 
+fn pause_of(alloc: Global, before: &str, after: &str) -> Result<Duration, Fail> {
+    let text = format!(in alloc; "str0m-media 1\n{before}key zero\n{after}begin\nend\n")?;
+    let setup = setup_of(alloc, text.as_bytes())?;
+    Ok(setup.pause_threshold)
+}
+
 #[test]
 fn pause_threshold_is_read(rt: HostRuntime) -> Result<(), Fail> {
-    let alloc = rt.alloc();
     for (before, after, nanos) in [
         ("", "", 1_500_000_000),
         ("pause 1500\n", "", 1_500_000_000),
@@ -329,30 +402,32 @@ fn pause_threshold_is_read(rt: HostRuntime) -> Result<(), Fail> {
         ("pause 10000000001\n", "", 10_000_000_001_000_000),
         ("pause 18446744073709\n", "", 18_446_744_073_709_000_000),
     ] {
-        let text = format!(in alloc; "str0m-media 1\n{before}key zero\n{after}begin\nend\n")?;
-        let (setup, _) = read_script(alloc, text.as_bytes()).ok().ok_or("a script")?;
-        assert_eq!(rt;
-            setup.pause_threshold,
-            Duration::from_nanos(nanos),
-            "at {before}{after}"
-        );
+        let found = pause_of(rt.alloc(), before, after)?;
+        assert_eq!(rt; found, Duration::from_nanos(nanos), "at {before}{after}");
     }
     Ok(())
 }
 
-#[test]
-fn ids_of_extensions(rt: HostRuntime) -> Result<(), Fail> {
-    let alloc = rt.alloc();
-    let text = b"str0m-media 1\nkey zero\next 0 mid\next 1 twcc\next 15 rid\next 3 abs\n\
-ext 3 level\next 2 twcc\nbegin\nend\n";
-    let (setup, _) = read_script(alloc, text.as_slice()).ok().ok_or("a script")?;
+fn has_ids(rt: &impl Abort, setup: &Setup) {
     assert_eq!(rt; setup.exts.as_slice().len(), 6);
     let exts = setup.extension_map();
-    assert_eq!(rt; exts.id_of(Extension::RtpMid), None);
-    assert_eq!(rt; exts.id_of(Extension::RtpStreamId), None);
-    assert_eq!(rt; exts.id_of(Extension::AbsoluteSendTime), None);
-    assert_eq!(rt; exts.id_of(Extension::AudioLevel), Some(3));
-    assert_eq!(rt; exts.id_of(Extension::TransportSequenceNumber), Some(2));
+    for (extension, id) in [
+        (Extension::RtpMid, None),
+        (Extension::RtpStreamId, None),
+        (Extension::AbsoluteSendTime, None),
+        (Extension::AudioLevel, Some(3)),
+        (Extension::TransportSequenceNumber, Some(2)),
+    ] {
+        assert_eq!(rt; exts.id_of(extension), id);
+    }
+}
+
+#[test]
+fn ids_of_extensions(rt: HostRuntime) -> Result<(), Fail> {
+    let text = b"str0m-media 1\nkey zero\next 0 mid\next 1 twcc\next 15 rid\next 3 abs\n\
+ext 3 level\next 2 twcc\nbegin\nend\n";
+    let setup = setup_of(rt.alloc(), text.as_slice())?;
+    has_ids(&rt, &setup);
     Ok(())
 }
 
@@ -361,14 +436,18 @@ fn one_write(alloc: Global, words: &str) -> Result<String, Fail> {
     Ok(format!(in alloc; "str0m-media 1\nkey zero\nbegin\nwrite A 1 42 1 96 0 0 0 {words}\nend\n")?)
 }
 
+fn are_sources(steps: &[Step], csrc: &[u32]) -> bool {
+    match steps.first() {
+        Some(Step::Write { write, .. }) => write.csrc.as_slice() == csrc,
+        _ => false,
+    }
+}
+
 // Whether a write with these last words has these sources.
 fn has_sources(alloc: Global, words: &str, csrc: &[u32]) -> Result<bool, Fail> {
     let text = one_write(alloc, words)?;
-    let (_, steps) = read_script(alloc, text.as_bytes()).ok().ok_or("a script")?;
-    match steps.first() {
-        Some(Step::Write { write, .. }) => Ok(write.csrc.as_slice() == csrc),
-        _ => Ok(false),
-    }
+    let steps = steps_of(alloc, text.as_bytes())?;
+    Ok(are_sources(steps.as_slice(), csrc))
 }
 
 // A payload, and so many sources 7.
@@ -383,19 +462,28 @@ fn many_sources(alloc: Global, count: u32) -> Result<String, Fail> {
 
 #[test]
 fn sources_are_read(rt: HostRuntime) -> Result<(), Fail> {
-    let alloc = rt.alloc();
-    let fifteen = many_sources(alloc, 15)?;
-    assert!(rt; has_sources(alloc, "01", &[])?);
-    assert!(rt; has_sources(alloc, "- c=-", &[])?);
-    assert!(rt; has_sources(alloc, "01 c=0000002AffFFffff", &[42, u32::MAX])?);
-    assert!(rt; has_sources(alloc, fifteen.as_str(), &[7; 15])?);
+    let fifteen = many_sources(rt.alloc(), 15)?;
+    for (words, csrc) in [
+        ("01", [].as_slice()),
+        ("- c=-", [].as_slice()),
+        ("01 c=0000002AffFFffff", [42, u32::MAX].as_slice()),
+        (fifteen.as_str(), [7; 15].as_slice()),
+    ] {
+        let held = has_sources(rt.alloc(), words, csrc)?;
+        assert!(rt; held, "at {words}");
+    }
     Ok(())
+}
+
+// What is told of a write with these last words.
+fn told_of_write(alloc: Global, words: &str) -> Result<Option<ScriptError>, Fail> {
+    let text = one_write(alloc, words)?;
+    Ok(syntax(alloc, text.as_bytes()))
 }
 
 #[test]
 fn sources_outside_are_told(rt: HostRuntime) -> Result<(), Fail> {
-    let alloc = rt.alloc();
-    let sixteen = many_sources(alloc, 16)?;
+    let sixteen = many_sources(rt.alloc(), 16)?;
     for words in [
         sixteen.as_str(),
         "01 c=",
@@ -403,162 +491,8 @@ fn sources_outside_are_told(rt: HostRuntime) -> Result<(), Fail> {
         "01 00000007",
         "c=00000007",
     ] {
-        let text = one_write(alloc, words)?;
-        assert_eq!(rt;
-            syntax(alloc, text.as_bytes()),
-            Some(ScriptError::Syntax(4)),
-            "at {words}"
-        );
-    }
-    Ok(())
-}
-
-#[test]
-fn first_line_outside_is_told(rt: HostRuntime) {
-    let alloc = rt.alloc();
-    for (text, line) in [
-        ("", 1),
-        ("key zero\n", 1),
-        ("str0m-media 1", 1),
-        ("str0m-media 1\n", 2),
-        ("str0m-media 1\r\n", 1),
-        ("\n# \u{ff}\nstr0m-media 2\n", 3),
-        ("str0m-media 1\nkey zero\nkey zero\n", 3),
-        ("str0m-media 1\nkey -\nbegin\nend\nend\n", 5),
-        ("str0m-media 1\nbegin\nend\n", 4),
-        ("str0m-media 1\nbegin\ntick A 1\ntick A\nend\n", 4),
-        ("str0m-media 1\nkey zero\nbegin\nend", 4),
-        ("str0m-media 1\nkey zero\nbegin\ntick A 1\n", 5),
-        ("str0m-media 1\nkey zero\ntick A 1\nbegin\nend\n", 3),
-        (
-            "str0m-media 1\nkey zero\nbegin\ntype 96 vp8 90000\nend\n",
-            4,
-        ),
-        ("str0m-media 1\ncipher aes\n", 2),
-        ("str0m-media 1\nprofile gcm192\n", 2),
-        ("str0m-media 1\nprofile gcm128\nprofile gcm128\n", 3),
-        ("str0m-media 1\nunix 1\nunix 1\n", 3),
-        ("str0m-media 1\nunix 1ms\n", 2),
-        ("str0m-media 1\nunix 18446744073709551616\n", 2),
-        ("str0m-media 1\next 256 mid\n", 2),
-        ("str0m-media 1\next 1 csrc\n", 2),
-        ("str0m-media 1\next 1\n", 2),
-        ("str0m-media 1\next mid 1\n", 2),
-        ("str0m-media 1\ntype 256 vp8 90000\n", 2),
-        ("str0m-media 1\ntype 96 vp8 0\n", 2),
-        ("str0m-media 1\ntype 96 vp8 4294967296\n", 2),
-        ("str0m-media 1\ntype 96 vp10 90000\n", 2),
-        ("str0m-media 1\ntype 96 vp8 90000 pli\n", 2),
-        ("str0m-media 1\ntype 96 vp8 90000 rtx=\n", 2),
-        ("str0m-media 1\ntype 96 vp8 90000 rtx=256\n", 2),
-        ("str0m-media 1\ntype 96 vp8 90000 rtx=-\n", 2),
-        ("str0m-media 1\ntype 96 vp8 90000 red=97\n", 2),
-        ("str0m-media 1\ntype 96 vp8 90000 rtx=97 rtx=98\n", 2),
-        ("str0m-media 1\ntype 96 vp8 rtx=97\n", 2),
-        ("str0m-media 1\nmedia 12345678901234567 video cam\n", 2),
-        ("str0m-media 1\nmedia v-1 video cam\n", 2),
-        ("str0m-media 1\nstream A v 42 - -\nmedia v video cam\n", 2),
-        ("str0m-media 1\nmedia v video cam\nstream A w 42 - -\n", 3),
-        ("str0m-media 1\nmedia v video cam\nstream A v 42  -\n", 3),
-        (
-            "str0m-media 1\nkey zero\nbegin\nforeign A 1 srtcp 80\nend\n",
-            4,
-        ),
-        ("str0m-media 1\nkey zero\nbegin\napp A 1 1 42\nend\n", 4),
-        ("str0m-media 1\nkey zero\nbegin\napp A 1 1 42 - -\nend\n", 4),
-        (
-            "str0m-media 1\nkey zero\nbegin\napp A 1 4294967296 42 -\nend\n",
-            4,
-        ),
-        (
-            "str0m-media 1\nkey zero\nbegin\napp A 1 1 4294967296 -\nend\n",
-            4,
-        ),
-        ("str0m-media 1\nmtu 1200\n", 2),
-        ("str0m-media 1\nmtu 1150 18446744073709551616\n", 2),
-        ("str0m-media 1\nmtu 1150 1280\nmtu 1150 1280\n", 3),
-        ("str0m-media 1\npause\n", 2),
-        ("str0m-media 1\npause 5ms\n", 2),
-        ("str0m-media 1\npause -\n", 2),
-        ("str0m-media 1\npause 1 2\n", 2),
-        ("str0m-media 1\npause 18446744073710\n", 2),
-        ("str0m-media 1\npause 18446744073709551616\n", 2),
-        ("str0m-media 1\npause 1500\npause 1500\n", 3),
-        ("str0m-media 1\nkey zero\nbegin\npause 1500\nend\n", 4),
-        ("str0m-media 1\nrtcp A 2147483649\n", 2),
-        ("str0m-media 1\nrtcp 5\n", 2),
-        ("str0m-media 1\nrtcp A 1\nrtcp B 1\nrtcp A 1\n", 4),
-        ("str0m-media 1\nlocal A 4294967296\n", 2),
-        ("str0m-media 1\nlocal B 1\nlocal A 2\nlocal B 3\n", 4),
-        (
-            "str0m-media 1\nkey zero\nbegin\nwrite A 1 42 1 96 0 0 0 01 c=- c=-\nend\n",
-            4,
-        ),
-        ("str0m-media 1\nkey zero\nbegin\ndeliver A 1ms\nend\n", 4),
-        (
-            "str0m-media 1\nkey zero\nbegin\ntick A 18446744073710ms\nend\n",
-            4,
-        ),
-    ] {
-        assert_eq!(rt;
-            syntax(alloc, text.as_bytes()),
-            Some(ScriptError::Syntax(line)),
-            "at {text:?}"
-        );
-    }
-}
-
-// Lines behind a stream of SSRC 42 with repairs on 43, the last of which is outside the grammar.
-const OUTSIDE_OF_A_STREAM: [&str; 17] = [
-    "start 42 281474976710657\n",
-    "start 42 -\n",
-    "start 42\n",
-    "start 42 0 0\n",
-    "start 43 0\n",
-    "start 7 0\n",
-    "start 4294967338 0\n",
-    "cache 42 18446744073709551616 0 none\n",
-    "cache 42 2000 18446744073710 none\n",
-    "cache 42 2000 3000ms none\n",
-    "cache 42 2000 3000 4294967296\n",
-    "cache 42 2000 3000 -\n",
-    "cache 42 2000 3000\n",
-    "cache 42 2000 3000 15 none\n",
-    "cache 43 2000 3000 15\n",
-    "cache 7 2000 3000 15\n",
-    "cache - 2000 3000 15\n",
-];
-
-#[test]
-fn lines_of_streams_outside_are_told(rt: HostRuntime) -> Result<(), Fail> {
-    let alloc = rt.alloc();
-    for line in OUTSIDE_OF_A_STREAM {
-        let text = format!(in alloc;
-            "str0m-media 1\nmedia v video cam\nstream A v 42 43 -\n{line}"
-        )?;
-        assert_eq!(rt;
-            syntax(alloc, text.as_bytes()),
-            Some(ScriptError::Syntax(4)),
-            "at {line}"
-        );
-    }
-    for (lines, line) in [
-        ("start 42 1\nstart 42 1\n", 5),
-        ("cache 42 1 1 1\nstart 42 1\ncache 42 1 1 1\n", 6),
-        ("start 42 1\nstart 50 1\nstream B v 50 - -\n", 5),
-        (
-            "cache 42 1 1 1\nstream B v 50 - -\ncache 50 1 1 1\nbegin\nstart 50 1\n",
-            8,
-        ),
-    ] {
-        let text = format!(in alloc;
-            "str0m-media 1\nmedia v video cam\nstream A v 42 43 -\n{lines}"
-        )?;
-        assert_eq!(rt;
-            syntax(alloc, text.as_bytes()),
-            Some(ScriptError::Syntax(line)),
-            "at {lines}"
-        );
+        let told = told_of_write(rt.alloc(), words)?;
+        assert_eq!(rt; told, Some(ScriptError::Syntax(4)), "at {words}");
     }
     Ok(())
 }
@@ -577,97 +511,32 @@ fn many(alloc: Global, media: u32, streams: u32) -> Result<Vec<u8>, Fail> {
     Ok(text)
 }
 
-#[test]
-fn limits_of_media_and_streams(rt: HostRuntime) -> Result<(), Fail> {
-    let alloc = rt.alloc();
-    let full = many(alloc, 64, 256)?;
-    let (setup, steps) = read_script(alloc, full.as_slice()).ok().ok_or("a script")?;
-    assert_eq!(rt; setup.media.as_slice().len(), 64);
-    let first = setup.media.as_slice().first().ok_or("a media")?;
+fn is_full(rt: &impl Abort, media: &[Media]) -> Result<(), Fail> {
+    assert_eq!(rt; media.len(), 64);
+    let first = media.first().ok_or("a media")?;
     assert_eq!(rt; first.streams.as_slice().len(), 256);
-    assert!(rt; steps.is_empty());
-    let media = many(alloc, 65, 0)?;
-    assert_eq!(rt;
-        syntax(alloc, media.as_slice()),
-        Some(ScriptError::Syntax(67))
-    );
-    let streams = many(alloc, 1, 257)?;
-    assert_eq!(rt;
-        syntax(alloc, streams.as_slice()),
-        Some(ScriptError::Syntax(260))
-    );
     Ok(())
 }
 
-// One packet sealed by A, opened and yielded by B.
-fn one_opened(alloc: Global) -> Result<Transcript, Fail> {
-    let mut transcript = Transcript::new(alloc);
-    transcript.push(Entry::Called(Side::A, Instant::from_nanos(1), Call::Application))?;
-    transcript.push(Entry::Sealed(Sealed {
-        side: Side::A,
-        kind: Kind::Rtp,
-        ssrc: Ssrc::from(42),
-        index: SeqNo::from(1),
-        plain: Bytes::from_slice(alloc, &[1])?,
-        bytes: Bytes::from_slice(alloc, &[1, 2])?,
-    }))?;
-    transcript.push(Entry::Got(Got {
-        side: Side::B,
-        time: Instant::from_nanos(1),
-        kind: Kind::Rtp,
-        bytes: Bytes::from_slice(alloc, &[1, 2])?,
-    }))?;
-    transcript.push(Entry::Opened(Opened {
-        side: Side::B,
-        kind: Kind::Rtp,
-        ssrc: Ssrc::from(42),
-        index: SeqNo::from(1),
-        plain: Bytes::from_slice(alloc, &[1])?,
-    }))?;
-    transcript.push(Entry::Yielded(
-        Side::B,
-        Packet {
-            ssrc: Ssrc::from(42),
-            number: SeqNo::from(1),
-            pt: Pt::from(96),
-            rtp_time: 0,
-            marker: false,
-            csrc: Listed::new(alloc),
-            payload: Bytes::from_slice(alloc, &[1])?,
-        },
-    ))?;
-    Ok(transcript)
+fn reads_full(rt: &impl Abort, alloc: Global) -> Result<(), Fail> {
+    let text = many(alloc, 64, 256)?;
+    let (setup, steps) = read(alloc, text.as_slice())?;
+    assert!(rt; steps.is_empty());
+    is_full(rt, setup.media.as_slice())
+}
+
+// What is told of so many media, and so many streams of the first.
+fn told_of_many(alloc: Global, media: u32, streams: u32) -> Result<Option<ScriptError>, Fail> {
+    let text = many(alloc, media, streams)?;
+    Ok(syntax(alloc, text.as_slice()))
 }
 
 #[test]
-fn surface_ample(rt: HostRuntime) -> Result<(), Fail> {
-    let alloc = rt.alloc();
-    let (setup, _) = read_script(alloc, EVERY_LINE).ok().ok_or("a script")?;
-    assert_eq!(rt; setup.material(alloc)?.as_slice(), [0, 255].as_slice());
-    assert_eq!(rt;
-        setup.streams(alloc, Side::B)?.as_slice(),
-        [Ssrc::from(7), Ssrc::from(4_294_967_295)].as_slice()
-    );
-    assert_eq!(rt;
-        setup.types(alloc)?.as_slice(),
-        [Pt::from(96), Pt::from(255), Pt::from(97)].as_slice()
-    );
-    assert_eq!(rt;
-        setup.claimed_types(alloc)?.as_slice(),
-        [Pt::from(96), Pt::from(255), Pt::from(97), Pt::from(255)].as_slice()
-    );
-    let transcript = one_opened(alloc)?;
-    assert!(rt; transcript.genuine(alloc)?);
-    let lines =
-        "called A app\nsealed A rtp 42 1 0102\ngot B rtp 2\nopened B rtp 42 1\nyielded B 42 1 96 0 0 01\n";
-    let text = entries_text(alloc, transcript.entries())?;
-    assert_eq!(rt; text.as_str(), lines);
-    let whole = write_transcript(alloc, true, &transcript)?;
-    assert_eq!(rt;
-        whole.as_str().strip_prefix(lines),
-        Some("end genuine=yes repairs=yes\n")
-    );
-    let last = end_line(alloc, false, &transcript)?;
-    assert_eq!(rt; last.as_str(), "end genuine=yes repairs=no\n");
+fn limits_of_media_and_streams(rt: HostRuntime) -> Result<(), Fail> {
+    reads_full(&rt, rt.alloc())?;
+    let media = told_of_many(rt.alloc(), 65, 0)?;
+    assert_eq!(rt; media, Some(ScriptError::Syntax(67)));
+    let streams = told_of_many(rt.alloc(), 1, 257)?;
+    assert_eq!(rt; streams, Some(ScriptError::Syntax(260)));
     Ok(())
 }

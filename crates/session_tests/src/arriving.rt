@@ -1,3 +1,4 @@
+use crate::calls::{next_event, receive_rtp};
 use crate::ends::{End, mid, moment, rid};
 use rtp_base::{Kind, SeqNo, Ssrc};
 use rtp_wire::ExtensionValues;
@@ -68,20 +69,20 @@ fn unpaused() -> Event {
 /// Whether bytes that come open, and nothing but this packet is told, once, behind the stream that it
 /// unpauses.
 pub fn tells(end: &mut End, bytes: &[u8], wanted: &Wanted<'_>) -> Result<bool, Fail> {
-    let opened = end.handle_rtp_receive(moment(), bytes)?;
+    let opened = receive_rtp(end, moment(), bytes)?;
     let before = if wanted.unpauses {
-        end.poll_event() == Some(unpaused())
+        next_event(end) == Some(unpaused())
     } else {
         true
     };
-    let told = end.poll_event();
-    let more = end.poll_event();
+    let told = next_event(end);
+    let more = next_event(end);
     Ok(before && wanted.is_opened(&opened) && wanted.is_told(&told) && more.is_none())
 }
 
 /// Whether bytes that come open nothing, and nothing is told.
 pub fn refuses(end: &mut End, bytes: &[u8]) -> Result<bool, Fail> {
-    let opened = end.handle_rtp_receive(moment(), bytes)?;
-    let told = end.poll_event();
+    let opened = receive_rtp(end, moment(), bytes)?;
+    let told = next_event(end);
     Ok(opened.is_none() && told.is_none())
 }

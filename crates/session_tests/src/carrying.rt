@@ -1,4 +1,5 @@
 use crate::arriving::{Wanted, tells};
+use crate::calls::next_datagram;
 use crate::ends::{End, mid, moment, rid};
 use crate::leaving::write;
 use rtp_base::{Frequency, MediaTime, ReceptionReport, Rid, Ssrc};
@@ -151,7 +152,7 @@ fn carries_one(
     values: ExtensionValues,
 ) -> Result<bool, Fail> {
     write(alloc, a, number, written())?;
-    let Some(sent) = a.poll_datagram(moment())? else {
+    let Some(sent) = next_datagram(a, moment())? else {
         return Ok(false);
     };
     let payload = &[1, 2];

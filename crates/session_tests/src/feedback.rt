@@ -1,3 +1,4 @@
+use crate::calls::{next_datagram, next_event, receive_rtcp};
 use crate::ends::{End, ended_with, give_keys, moment};
 use crate::leaving::{drains, sends, write};
 use crate::packets::{SEALED, seal_feedback};
@@ -84,9 +85,9 @@ fn is_told(told: &Option<Event>) -> bool {
 
 // Whether `FEEDBACK` opens, and its words are told once.
 fn tells_words(end: &mut End) -> Result<bool, Fail> {
-    let opened = end.handle_rtcp_receive(moment(), &FEEDBACK)?;
-    let told = end.poll_event();
-    let more = end.poll_event();
+    let opened = receive_rtcp(end, moment(), &FEEDBACK)?;
+    let told = next_event(end);
+    let more = next_event(end);
     Ok(is_opened(&opened, 1) && is_told(&told) && more.is_none())
 }
 
@@ -99,7 +100,7 @@ fn is_exchanged(alloc: Global, a: &mut End, b: &mut End) -> Result<bool, Fail> {
 }
 
 fn opens(end: &mut End, bytes: &[u8]) -> Result<bool, Fail> {
-    let opened = end.handle_rtcp_receive(moment(), bytes)?;
+    let opened = receive_rtcp(end, moment(), bytes)?;
     Ok(is_opened(&opened, 1))
 }
 
@@ -118,8 +119,8 @@ fn opens_clear(b: &mut End) -> Result<bool, Fail> {
 // The sender hears the report, and its next packet has no mid.
 fn is_acknowledged(alloc: Global, a: &mut End) -> Result<bool, Fail> {
     let report = seal_feedback(alloc, &REPORT)?;
-    let opened = a.handle_rtcp_receive(moment(), report.as_slice())?;
-    let event = a.poll_event();
+    let opened = receive_rtcp(a, moment(), report.as_slice())?;
+    let event = next_event(a);
     write(alloc, a, 1, ExtensionValues::none())?;
     let plain = sends(a, &SEALED)?;
     Ok(is_opened(&opened, 7) && event.is_none() && plain)
@@ -128,7 +129,7 @@ fn is_acknowledged(alloc: Global, a: &mut End) -> Result<bool, Fail> {
 fn is_cleared(alloc: Global, a: &mut End) -> Result<bool, Fail> {
     queue_one(alloc, a)?;
     a.clear_feedback();
-    let silent = a.poll_datagram(moment())?.is_none();
+    let silent = next_datagram(a, moment())?.is_none();
     queue_one(alloc, a)?;
     let then = drains(a, &FEEDBACK)?;
     Ok(silent && then)
@@ -136,9 +137,9 @@ fn is_cleared(alloc: Global, a: &mut End) -> Result<bool, Fail> {
 
 fn is_lost(alloc: Global, a: &mut End) -> Result<bool, Fail> {
     queue_one(alloc, a)?;
-    let without_keys = a.poll_datagram(moment())?.is_none();
+    let without_keys = next_datagram(a, moment())?.is_none();
     give_keys(alloc, a, true)?;
-    let then = a.poll_datagram(moment())?.is_none();
+    let then = next_datagram(a, moment())?.is_none();
     Ok(without_keys && then)
 }
 
@@ -150,7 +151,7 @@ fn is_cut(alloc: Global, a: &mut End, target: usize) -> Result<bool, Fail> {
     let fit = target.saturating_sub(20) / 32;
     let mut left = 0;
     for _ in 0..40 {
-        let Some(sent) = a.poll_datagram(moment())? else {
+        let Some(sent) = next_datagram(a, moment())? else {
             return Ok(left == 40);
         };
         let plain = sent.plain.as_slice();
@@ -166,16 +167,16 @@ fn is_cut(alloc: Global, a: &mut End, target: usize) -> Result<bool, Fail> {
 
 fn ends_at_last_index(alloc: Global, a: &mut End) -> Result<bool, Fail> {
     queue_one(alloc, a)?;
-    let sealed = match a.poll_datagram(moment())? {
+    let sealed = match next_datagram(a, moment())? {
         Some(sent) => sent.index == SeqNo::from(2_147_483_647),
         None => false,
     };
     queue_one(alloc, a)?;
     let ended = ended_with(
-        &a.poll_datagram(moment()),
+        &next_datagram(a, moment()),
         &RtcError::KeyExhausted(Counter::Rtcp),
     );
-    let stopped = ended_with(&a.poll_datagram(moment()), &RtcError::Stopped);
+    let stopped = ended_with(&next_datagram(a, moment()), &RtcError::Stopped);
     Ok(sealed && ended && stopped)
 }
 

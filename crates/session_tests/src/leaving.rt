@@ -1,3 +1,4 @@
+use crate::calls::{drain_at, next_datagram, tick_at, write_first};
 use crate::ends::{End, moment};
 use media_base::Instant;
 use rtp_base::{Pt, SeqNo};
@@ -16,11 +17,8 @@ pub fn write(
 ) -> Result<(), Fail> {
     let payload = Payload::from_slice(alloc, &[1, 2])?;
     let write = RtpWrite::new(Pt::from(96), SeqNo::from(number), 0, moment(), payload);
-    if end.streams().tx_len() > 0 {
-        let write = write.ext_vals(values);
-        end.streams().tx_at(0).write_rtp(write)?;
-    }
-    end.handle_timeout(moment())?;
+    write_first(end, write.ext_vals(values))?;
+    tick_at(end, moment())?;
     Ok(())
 }
 
@@ -34,20 +32,20 @@ fn has_bytes(datagram: &Option<Datagram>, bytes: &[u8]) -> bool {
 
 /// Whether the next datagram that leaves has these bytes, and no other leaves.
 pub fn sends(end: &mut End, bytes: &[u8]) -> Result<bool, Fail> {
-    let sent = end.poll_datagram(moment())?;
-    let more = end.poll_datagram(moment())?;
+    let sent = next_datagram(end, moment())?;
+    let more = next_datagram(end, moment())?;
     Ok(has_bytes(&sent, bytes) && more.is_none())
 }
 
 /// Whether nothing leaves at this moment.
 pub fn is_silent(end: &mut End, now: Instant) -> Result<bool, Fail> {
-    let sent = end.poll_datagram(now)?;
+    let sent = next_datagram(end, now)?;
     Ok(sent.is_none())
 }
 
 /// Whether a drain gives the datagram with these bytes alone, and no wake.
 pub fn drains(end: &mut End, bytes: &[u8]) -> Result<bool, Fail> {
-    let drained = end.drain(moment())?;
+    let drained = drain_at(end, moment())?;
     let [sent] = drained.datagrams.as_slice() else {
         return Ok(false);
     };

@@ -5,15 +5,25 @@
 #[cfg(test)]
 mod arriving;
 #[cfg(test)]
+mod asked_repairs;
+#[cfg(test)]
+mod calls;
+#[cfg(test)]
+mod carried_repairs;
+#[cfg(test)]
 mod carrying;
 #[cfg(test)]
 mod ends;
 #[cfg(test)]
 mod feedback;
 #[cfg(test)]
+mod kept_repairs;
+#[cfg(test)]
 mod leaving;
 #[cfg(test)]
 mod packets;
+#[cfg(test)]
+mod repair_steps;
 #[cfg(test)]
 mod repairs;
 #[cfg(test)]

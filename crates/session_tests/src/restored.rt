@@ -1,4 +1,5 @@
 //! Repairs that come (RFC 4588): what opens, and which packets are restored.
+use crate::calls::{next_event, receive_rtp};
 use crate::carrying::{Ids, map_of};
 use crate::ends::{End, config, give_keys, mid, moment, rid};
 use crate::packets::seal_numbered;
@@ -224,8 +225,8 @@ fn is_opened(came: Came, opened: &Option<Opened>) -> bool {
 
 // The packet that is told next, behind what is told of pauses.
 fn next_packet(end: &mut End) -> Option<Event> {
-    match end.poll_event() {
-        Some(Event::StreamPaused(_)) => end.poll_event(),
+    match next_event(end) {
+        Some(Event::StreamPaused(_)) => next_event(end),
         told => told,
     }
 }
@@ -245,33 +246,35 @@ fn is_told(told: &Option<Event>, number: u64, payload: &[u8]) -> bool {
 
 fn is_brought(alloc: Global, end: &mut End, came: Came, wanted: Brings) -> Result<bool, Fail> {
     let bytes = bytes_of(alloc, came)?;
-    let opened = end.handle_rtp_receive(moment(), bytes.as_slice())?;
+    let opened = receive_rtp(end, moment(), bytes.as_slice())?;
     let told = next_packet(end);
     let right = match wanted {
         Nothing => opened.is_none() && told.is_none(),
         Opens => is_opened(came, &opened) && told.is_none(),
         Tells(number, payload) => is_opened(came, &opened) && is_told(&told, number, payload),
     };
-    Ok(right && end.poll_event().is_none())
+    Ok(right && next_event(end).is_none())
 }
 
-fn receiver(alloc: Global) -> Result<End, Fail> {
-    let mut end = End::new(alloc, config(alloc, map_of(Ids::Nothing), 1150, 0)?);
-    give_keys(alloc, &mut end, false)?;
+// Whether an end that receives SSRC 42 with repairs on SSRC 43 goes through all steps.
+fn goes_through(alloc: Global, end: &mut End, steps: &[(Came, Brings)]) -> Result<bool, Fail> {
+    give_keys(alloc, end, false)?;
     let mid_rid = MidRid(mid(), Some(rid()));
     end.streams()
         .expect_stream_rx(Ssrc::from(42), Some(Ssrc::from(43)), mid_rid, false)?;
-    Ok(end)
-}
-
-fn holds(alloc: Global, steps: &[(Came, Brings)]) -> Result<bool, Fail> {
-    let mut end = receiver(alloc)?;
     for step in steps {
-        if !is_brought(alloc, &mut end, step.0, step.1)? {
+        if !is_brought(alloc, end, step.0, step.1)? {
             return Ok(false);
         }
     }
     Ok(true)
+}
+
+// The one function that owns a session, with one exit.
+fn holds(alloc: Global, steps: &[(Came, Brings)]) -> Result<bool, Fail> {
+    let config = config(alloc, map_of(Ids::Nothing), 1150, 0)?;
+    let mut end = End::new(alloc, config);
+    goes_through(alloc, &mut end, steps)
 }
 
 #[test]

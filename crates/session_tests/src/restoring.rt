@@ -7,6 +7,7 @@ use media_base::{Duration, Instant};
 use queue_store::QueueStore;
 use rtp_base::{Frequency, MidRid, Pt, SeqNo, Ssrc};
 use std::alloc::{AllocError, Global};
+use std::process::Abort;
 use std::test::Fail;
 use stream_core::{PayloadTypes, Sent, StreamRx, Streams, TypeRow};
 
@@ -279,32 +280,52 @@ fn repairs_that_come_hold(rt: HostRuntime) -> Result<(), Fail> {
 
 type Receiving = Streams<MaskRegister, QueueStore<Sent>>;
 
-// Has SSRC 44, 42 and 45 be those of streams, the last two with repairs on SSRC 43.
-fn expect_three(alloc: Global) -> Result<Receiving, AllocError> {
-    let mut streams = Receiving::new(alloc, Duration::from_nanos(1_500_000_000));
-    let repairs = Ssrc::from(43);
-    streams.expect_stream_rx(Ssrc::from(44), None, MidRid(mid(), None), false)?;
-    streams.expect_stream_rx(Ssrc::from(42), Some(repairs), MidRid(mid(), None), false)?;
-    streams.expect_stream_rx(Ssrc::from(45), Some(repairs), MidRid(mid(), None), false)?;
-    Ok(streams)
+fn receiving(alloc: Global) -> Receiving {
+    Receiving::new(alloc, Duration::from_nanos(1_500_000_000))
 }
 
-#[test]
-fn repairs_come_to_their_stream(rt: HostRuntime) -> Result<(), Fail> {
-    let mut streams = expect_three(rt.alloc())?;
-    assert!(rt; streams.repair_place(Ssrc::from(43)) == Some(1));
-    assert!(rt; streams.repair_place(Ssrc::from(42)).is_none());
+// Has SSRC 44, 42 and 45 be those of streams, the last two with repairs on SSRC 43.
+fn expect_three(streams: &mut Receiving) -> Result<(), AllocError> {
+    let repairs = Ssrc::from(43);
+    expect(streams, 44, None)?;
+    expect(streams, 42, Some(repairs))?;
+    expect(streams, 45, Some(repairs))
+}
+
+fn expect(streams: &mut Receiving, ssrc: u32, repairs: Option<Ssrc>) -> Result<(), AllocError> {
+    streams.expect_stream_rx(Ssrc::from(ssrc), repairs, MidRid(mid(), None), false)
+}
+
+// The place of the stream that is repaired under an SSRC.
+fn place_of(streams: &Receiving, ssrc: u32) -> Option<usize> {
+    streams.repair_place(Ssrc::from(ssrc))
+}
+
+fn remove(streams: &mut Receiving, ssrc: u32) {
+    streams.remove_stream_rx(Ssrc::from(ssrc));
+}
+
+fn come_to_their_stream(rt: &impl Abort, streams: &mut Receiving) -> Result<(), AllocError> {
+    expect_three(streams)?;
+    assert!(rt; place_of(streams, 43) == Some(1));
+    assert!(rt; place_of(streams, 42).is_none());
     assert!(rt; streams.original(Ssrc::from(43)) == Some(Ssrc::from(42)));
-    streams.remove_stream_rx(Ssrc::from(44));
-    assert!(rt; streams.repair_place(Ssrc::from(43)) == Some(0));
-    streams.remove_stream_rx(Ssrc::from(42));
-    assert!(rt; streams.repair_place(Ssrc::from(43)).is_none());
+    remove(streams, 44);
+    assert!(rt; place_of(streams, 43) == Some(0));
+    remove(streams, 42);
+    assert!(rt; place_of(streams, 43).is_none());
     Ok(())
 }
 
 #[test]
-fn repairs_are_taken_at_a_place(rt: HostRuntime) -> Result<(), Fail> {
-    let mut streams = expect_three(rt.alloc())?;
+fn repairs_come_to_their_stream(rt: HostRuntime) -> Result<(), Fail> {
+    let mut streams = receiving(rt.alloc());
+    come_to_their_stream(&rt, &mut streams)?;
+    Ok(())
+}
+
+// A repair under SSRC 43 with the number 5 is taken once.
+fn takes_once(rt: &impl Abort, streams: &mut Receiving) -> Result<(), Fail> {
     let Some(place) = streams.repair_place(Ssrc::from(43)) else {
         return Err(Fail::from("no place"));
     };
@@ -313,15 +334,33 @@ fn repairs_are_taken_at_a_place(rt: HostRuntime) -> Result<(), Fail> {
     };
     streams.take_repair_at(place, Instant::from_nanos(1), number, None);
     assert!(rt; streams.accepts_repair(place, 5, None).is_none());
-    let restored = streams.restore_at(place, 7, None)?;
-    assert!(rt; number_of(restored) == Some(7));
-    let Some(same) = streams.repair_place(Ssrc::from(43)) else {
+    Ok(())
+}
+
+// What a repair under SSRC 43 with the number 7 for its packet's restores, and at which place.
+fn restored(streams: &mut Receiving) -> Result<(usize, Option<SeqNo>), Fail> {
+    let Some(place) = streams.repair_place(Ssrc::from(43)) else {
         return Err(Fail::from("no place"));
     };
-    assert!(rt; same == place);
-    let again = streams.restore_at(same, 7, None)?;
-    assert!(rt; again.is_none());
+    let restored = streams.restore_at(place, 7, None)?;
+    Ok((place, restored))
+}
+
+fn are_taken(rt: &impl Abort, streams: &mut Receiving) -> Result<(), Fail> {
+    expect_three(streams)?;
+    takes_once(rt, streams)?;
+    let first = restored(streams)?;
+    assert!(rt; number_of(first.1) == Some(7));
+    let again = restored(streams)?;
+    assert!(rt; again.0 == first.0);
+    assert!(rt; again.1.is_none());
     Ok(())
+}
+
+#[test]
+fn repairs_are_taken_at_a_place(rt: HostRuntime) -> Result<(), Fail> {
+    let mut streams = receiving(rt.alloc());
+    are_taken(&rt, &mut streams)
 }
 
 fn row(pt: u8, rtx: Option<u8>) -> TypeRow {
@@ -336,9 +375,7 @@ fn row(pt: u8, rtx: Option<u8>) -> TypeRow {
     }
 }
 
-#[test]
-fn types_of_repairs_have_primaries(rt: HostRuntime) -> Result<(), Fail> {
-    let mut types = PayloadTypes::new(rt.alloc());
+fn have_primaries(rt: &impl Abort, types: &mut PayloadTypes) -> Result<(), AllocError> {
     types.add(row(96, Some(97)))?;
     types.add(row(98, Some(97)))?;
     types.add(row(100, None))?;
@@ -346,5 +383,12 @@ fn types_of_repairs_have_primaries(rt: HostRuntime) -> Result<(), Fail> {
     assert!(rt; types.primary(Pt::from(96)).is_none());
     types.add(row(96, None))?;
     assert!(rt; types.primary(Pt::from(97)) == Some(Pt::from(98)));
+    Ok(())
+}
+
+#[test]
+fn types_of_repairs_have_primaries(rt: HostRuntime) -> Result<(), Fail> {
+    let mut types = PayloadTypes::new(rt.alloc());
+    have_primaries(&rt, &mut types)?;
     Ok(())
 }

@@ -1,3 +1,6 @@
+use crate::calls::{
+    drain_at, next_datagram, next_event, next_wake, receive_rtcp, receive_rtp, tick_at, write_first,
+};
 use crate::ends::{End, ended_with, mid, rid};
 use crate::feedback::{FEEDBACK, queue_one};
 use crate::packets::{packet_of, seal_report};
@@ -110,7 +113,7 @@ fn is_event(wanted: Told, event: &Event) -> bool {
 }
 
 fn tells_next(end: &mut End, wanted: Told) -> bool {
-    match end.poll_event() {
+    match next_event(end) {
         Some(event) => is_event(wanted, &event),
         None => false,
     }
@@ -122,7 +125,7 @@ fn tells(end: &mut End, all: &[Told]) -> bool {
             return false;
         }
     }
-    end.poll_event().is_none()
+    next_event(end).is_none()
 }
 
 fn are_events(all: &[Told], events: &[Event]) -> bool {
@@ -134,8 +137,8 @@ fn are_events(all: &[Told], events: &[Event]) -> bool {
 }
 
 fn drains(end: &mut End, now: Instant, all: &[Told]) -> Result<bool, Fail> {
-    let first = end.drain(now)?;
-    let next = end.drain(now)?;
+    let first = drain_at(end, now)?;
+    let next = drain_at(end, now)?;
     Ok(are_events(all, first.events.as_slice()) && next.events.is_empty())
 }
 
@@ -155,15 +158,13 @@ fn declare(end: &mut End, low: u8) -> Result<(), Fail> {
 fn write(alloc: Global, end: &mut End) -> Result<(), Fail> {
     let payload = Payload::from_slice(alloc, &[1, 2])?;
     let write = RtpWrite::new(Pt::from(96), SeqNo::from(1), 0, at(1), payload);
-    if end.streams().tx_len() > 0 {
-        end.streams().tx_at(0).write_rtp(write)?;
-    }
+    write_first(end, write)?;
     Ok(())
 }
 
 fn opens(alloc: Global, end: &mut End, now: Instant, packet: (u8, u8)) -> Result<bool, Fail> {
     let bytes = packet_of(alloc, packet.0, packet.1)?;
-    let opened = end.handle_rtp_receive(now, bytes.as_slice())?;
+    let opened = receive_rtp(end, now, bytes.as_slice())?;
     Ok(opened.is_some())
 }
 
@@ -182,20 +183,20 @@ fn report(alloc: Global, delays: &[Delay]) -> Result<Vec<u8>, Fail> {
 fn hears(alloc: Global, end: &mut End, now: Instant, delays: &[Delay]) -> Result<bool, Fail> {
     let plain = report(alloc, delays)?;
     let sealed = seal_report(alloc, plain.as_slice())?;
-    let opened = end.handle_rtcp_receive(now, sealed.as_slice())?;
+    let opened = receive_rtcp(end, now, sealed.as_slice())?;
     Ok(opened.is_some())
 }
 
 fn hears_words(end: &mut End, now: Instant) -> Result<bool, Fail> {
-    let opened = end.handle_rtcp_receive(now, &FEEDBACK)?;
+    let opened = receive_rtcp(end, now, &FEEDBACK)?;
     Ok(opened.is_some())
 }
 
 // A tick; whether these plain bytes leave then as feedback, and nothing else.
 fn ticks(end: &mut End, now: Instant, plain: &[u8]) -> Result<bool, Fail> {
-    end.handle_timeout(now)?;
-    let sent = end.poll_datagram(now)?;
-    let more = end.poll_datagram(now)?;
+    tick_at(end, now)?;
+    let sent = next_datagram(end, now)?;
+    let more = next_datagram(end, now)?;
     let right = match &sent {
         Some(sent) => sent.kind == Kind::Rtcp && sent.plain.as_slice() == plain,
         None => plain.is_empty(),
@@ -238,12 +239,12 @@ fn first_answers(end: &mut End, first: First) -> bool {
 }
 
 fn ends(end: &mut End, now: Instant) -> Result<bool, Fail> {
-    end.handle_timeout(now)?;
+    tick_at(end, now)?;
     let ended = ended_with(
-        &end.poll_datagram(now),
+        &next_datagram(end, now),
         &RtcError::KeyExhausted(Counter::Rtcp),
     );
-    let stopped = ended_with(&end.handle_timeout(now), &RtcError::Stopped);
+    let stopped = ended_with(&tick_at(end, now), &RtcError::Stopped);
     Ok(ended && stopped)
 }
 
@@ -262,7 +263,7 @@ pub fn goes(alloc: Global, end: &mut End, step: Step) -> Result<bool, Fail> {
         Step::Words(now) => return hears_words(end, at(now)),
         Step::Hears(now, delays) => return hears(alloc, end, at(now), delays),
         Step::Tick(now, plain) => return ticks(end, at(now), plain),
-        Step::Wakes(moment) => return Ok(end.poll_timeout() == moment_of(moment)),
+        Step::Wakes(moment) => return Ok(next_wake(end) == moment_of(moment)),
         Step::Tells(all) => return Ok(tells(end, all)),
         Step::Drains(now, all) => return drains(end, at(now), all),
         Step::Stream(first) => return Ok(first_answers(end, first)),
