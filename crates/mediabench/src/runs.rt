@@ -144,11 +144,7 @@ fn pass_all(
 }
 
 // What is missing of the last of so many datagrams is asked for and sent again.
-fn repair(
-    alloc: Global,
-    run: Run<ToyCipher>,
-    count: u64,
-) -> Result<Run<ToyCipher>, AllocError> {
+fn repair(alloc: Global, run: Run<ToyCipher>, count: u64) -> Result<Run<ToyCipher>, AllocError> {
     let time = moment(count.wrapping_add(33_000));
     let run = tick(alloc, run, time, Side::B)?;
     let run = deliver(alloc, run, time, Side::A, 1)?;
