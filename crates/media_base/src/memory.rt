@@ -67,6 +67,7 @@ impl Source for MemSource {
         ensures bound { ReadsAtMost result buf.new }
         ensures bytes { ReadConsumes (Some self.old.left) (Some self.new.left) result buf.new }
         ensures cause { HasCause self.old.faults self.new.faults result }
+        ensures same { OnOk result (self.new.faults ≡ self.old.faults) }
         ensures fails { IsErr result ↔ Contains self.old.failing self.old.calls }
         ensures count { IfOk result (λ n. n ≡ given_count self.old (length buf.old)) }
         ensures after { IfOk result (λ n. self.new ≡ after_read self.old n) }
@@ -165,6 +166,7 @@ impl Sink for MemSink {
         ensures some { 0 < length buf.now → IfOk result (λ count. 0 < count) }
         ensures bytes { WriteAppends (Some self.old.written) (Some self.new.written) result buf.now }
         ensures cause { HasCause self.old.faults self.new.faults result }
+        ensures same { OnOk result (self.new.faults ≡ self.old.faults) }
         ensures fails { IsErr result ↔ (Contains self.old.failing self.old.calls
             ⊎ (self.old.room < length self.old.written + taken_count self.old (length buf.now))) }
         ensures count { IfOk result (λ n. n ≡ taken_count self.old (length buf.now)) }

@@ -19,7 +19,8 @@ pub trait Sink {
         ensures bound { WritesAtMost result buf.now }
         ensures some { 0 < length buf.now → IfOk result (λ count. 0 < count) }
         ensures bytes { WriteAppends (written self.old) (written self.new) result buf.now }
-        ensures cause { HasCause (fault_count self.old) (fault_count self.new) result };
+        ensures cause { HasCause (fault_count self.old) (fault_count self.new) result }
+        ensures same { OnOk result (fault_count self.new ≡ fault_count self.old) };
 
     /// How often a write has failed, at most 2^64 - 1.
     fn faults(&self) -> u64
@@ -29,11 +30,12 @@ pub trait Sink {
 /// Writes all the bytes, or some at the front of them.
 ///
 /// # Errors
-/// `Failed` only where the sink failed.
+/// `Failed` exactly where the sink failed.
 pub fn write_all<K: Sink>(sink: &mut K, bytes: &[u8]) -> Result<(), Failed>
     ensures all { OnOk result (Appends (K.written sink.old) (K.written sink.new) bytes.now) }
     ensures front { WritesFront (K.written sink.old) (K.written sink.new) bytes.now }
     ensures cause { HasCause (K.fault_count sink.old) (K.fault_count sink.new) result }
+    ensures told { OnOk result (K.fault_count sink.new ≡ K.fault_count sink.old) }
 {
     let mut at = 0;
     while at < bytes.len() {

@@ -1,4 +1,4 @@
-ghost use Rattle.std.specs.Prelude.{◌≡◌, ◌+◌, ◌<◌, ◌≤◌, ◌^◌, ◌++◌, List, ℕ, length, IfOk, IsErrOf};
+ghost use Rattle.std.specs.Prelude.{◌≡◌, ◌+◌, ◌<◌, ◌≤◌, ◌^◌, ◌++◌, List, ℕ, ◌⊎◌, length, IfOk, OnOk, IsErrOf};
 ghost use Rattle.std.specs.declared.option.Option.{Option};
 ghost use Rattle.std.specs.Io.{ReadsAtMost};
 ghost use Rattle.std.specs.Io.KnownBytes.{ReadConsumes, Consumes, IsAtEnd};
@@ -55,7 +55,8 @@ pub trait Source {
     fn read(&mut self, buf: &mut [u8]) -> Result<usize, Failed>
         ensures bound { ReadsAtMost result buf.new }
         ensures bytes { ReadConsumes (left self.old) (left self.new) result buf.new }
-        ensures cause { HasCause (fault_count self.old) (fault_count self.new) result };
+        ensures cause { HasCause (fault_count self.old) (fault_count self.new) result }
+        ensures same { OnOk result (fault_count self.new ≡ fault_count self.old) };
 
     /// How often a read has failed, at most 2^64 - 1.
     fn faults(&self) -> u64
@@ -65,7 +66,7 @@ pub trait Source {
 /// Reads to the end of input, at most `limit` bytes.
 ///
 /// # Errors
-/// `TooLong` where there are more than `limit` bytes; `Failed` only where the source failed; `Memory`.
+/// `TooLong` where there are more than `limit` bytes; `Failed` exactly where the source failed; `Memory`.
 pub fn read_all<S: Source>(
     alloc: Global,
     source: &mut S,
@@ -79,6 +80,7 @@ pub fn read_all<S: Source>(
     ensures some { (bytes : List ℕ) × Consumes (S.left source.old) (S.left source.new) bytes }
     ensures failed { IsErrOf result ReadError.Failed → Rose (S.fault_count source.old) (S.fault_count source.new) }
     ensures later { S.fault_count source.old ≤ S.fault_count source.new }
+    ensures told { IsErrOf result ReadError.Failed ⊎ (S.fault_count source.new ≡ S.fault_count source.old) }
 {
     let mut bytes = Vec::new(alloc);
     for _turn in 0..limit + 1 {
@@ -103,6 +105,7 @@ fn read_piece<S: Source>(source: &mut S, bytes: &mut Vec<u8>) -> Result<usize, R
     ensures not_long { IsErrOf result ReadError.TooLong → ⊥ }
     ensures failed { IsErrOf result ReadError.Failed → Rose (S.fault_count source.old) (S.fault_count source.new) }
     ensures later { S.fault_count source.old ≤ S.fault_count source.new }
+    ensures told { IsErrOf result ReadError.Failed ⊎ (S.fault_count source.new ≡ S.fault_count source.old) }
 {
     let mut buf = [0u8; 4096];
     let count = source.read(&mut buf)?;

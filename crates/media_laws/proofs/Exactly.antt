@@ -38,7 +38,7 @@ use Rattle.media_laws.specs.Right.{IsSealOf}
 use Rattle.media_laws.specs.WireLaws.{WireLaws}
 use Rattle.media_laws.proofs.Playing.{as_run, Taken, each_step, heads}
 use Rattle.media_laws.proofs.Readings.{event_in, sealed_happens}
-use Rattle.media_laws.proofs.Sendings.{right_kind, plain_is, unpadded_plain, carries_write, all_right, Sent, sent_at, sent_written, sending_there, write_ssrc}
+use Rattle.media_laws.proofs.Sendings.{as_ended, right_kind, plain_is, unpadded_plain, carries_write, all_right, Sent, sent_at, sent_written, sending_there, write_ssrc}
 use Rattle.media_laws.proofs.Soundness.{sound_heads, sound_types}
 use Rattle.media_laws.proofs.Writes.{writes_fit, type_claimed, type_primary}
 use Rattle.media_laws.proofs.Yields.{read_yield}
@@ -130,7 +130,7 @@ module _ {seal : Sealing} {setup : Setup} (wire : WireLaws seal setup) (fine : s
       h.is ∙ ap (λ (z : Happening). z.1 ∷ h.new) (sym h.head) ∙ (λ k. event_got came.time (rtp k) (sym bytes k) ∷ h.new) in
       let turn : Turns (config_of seal setup) came.side (session_of came.side t.a t.b) t.c (event_got came.time Rtp s.bytes ∷ h.new) =
       subst (Turns (config_of seal setup) came.side (session_of came.side t.a t.b) t.c) is o.turn in
-      let sent = sent_at sound t.plays peer L i in
+      let sent = sent_at sound (as_ended t.plays) peer L i in
       let r : IsSealOf seal setup s = right_kind kind (all_right t.plays s there) in
       let wrote_it : IsIn w (writes_on peer L.ssrc past) = subst (λ q. IsIn w (writes_on peer q past)) ssrc written in
       let f = first_of s w sent r there at kind ssrc wrote_it number in

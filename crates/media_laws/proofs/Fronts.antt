@@ -1,17 +1,15 @@
--- What holds of each front of a run, and of a run up to the call that finds a key used up.
-use Rattle.std.proofs.Common.{◌≡◌, ◌⊎◌, inl, inr, ℕ, ◌^◌, List, [], ◌∷◌, ◌++◌, map, refl, sym, ap, ◌∙◌, subst, append_assoc}
+-- What holds of each front of a run.
+use Rattle.std.proofs.Common.{◌≡◌, ◌⊎◌, inl, inr, List, [], ◌∷◌, ◌++◌, map, refl, sym, ap, ◌∙◌, subst, append_assoc}
 use Rattle.std.proofs.lemmas.List.{append-nil, map-append}
 use Rattle.std.proofs.lemmas.List.Concat.{flat_map-append}
 use Rattle.rtp_base.specs.declared.kind.Kind.TheVariants.{Rtp}
 use Rattle.media_model.specs.declared.entry.Packet.{Packet}
 use Rattle.media_model.specs.declared.entry.Side.{Side}
 use Rattle.media_model.specs.declared.entry.Side.TheVariants.{A, B}
-use Rattle.media_model.specs.declared.entry.Call.TheVariants as call
 use Rattle.media_model.specs.declared.entry.Entry.{Entry}
 use Rattle.media_model.specs.declared.entry.Entry.TheVariants.{Wrote, Ticked, Called, Got, Sealed, Opened, Yielded}
 use Rattle.media_model.specs.declared.setup.Setup.{Setup}
 use Rattle.media_model.specs.declared.step.Step.{Step}
-use Rattle.media_model.specs.declared.step.Step.TheVariants.{Write, Tick, Deliver, Foreign, Application}
 use Rattle.media_model.specs.Entries.{nonce_by, nonces, packet_by, packets}
 use Rattle.media_model.specs.Genuine.{IsGenuine}
 use Rattle.run_model.specs.Events.{Event, got, opened, yielded}
@@ -24,20 +22,15 @@ use Rattle.run_model.specs.TxPlay.{is_sealing}
 use Rattle.run_model.specs.Whole.{Config, IsSound, incoming_of, Session, Turns, writes, ticks, calls, opens, hears, stays}
 use Rattle.media_laws.proofs.Lists.{IsIn-left, IsIn-map}
 use Rattle.media_laws.proofs.RxYields.{yields_new}
-use Rattle.media_laws.proofs.Tables.{drain_seals}
-use Rattle.media_laws.specs.declared.counter.Counter.{Counter}
+use Rattle.media_laws.proofs.Tables.{serve_seals}
 use Rattle.media_laws.specs.Config.{config_of}
-use Rattle.media_laws.specs.Exhausting.{Exhausts, call_of}
-use Rattle.media_laws.specs.Feedback.{next_index, sends_none}
-use Rattle.media_laws.specs.Headline.{Answers, IsRightIfSealed, IsSentWrite, IsOwedTo, YieldsExactly, YieldsWrites, RunWidens, HoldsOfRun, HoldsOfFront}
-use Rattle.media_laws.specs.Keys.{sealing_of}
+use Rattle.media_laws.specs.Headline.{IsRightIfSealed, IsSentWrite, IsOwedTo, YieldsWrites, RunWidens, HoldsOfRun, HoldsOfFront}
 use Rattle.media_laws.specs.Listing.{EachFrom}
 use Rattle.media_laws.specs.Opening.{Sealing}
 use Rattle.media_laws.specs.Plain.{extensions_of}
 use Rattle.media_laws.specs.Play.{Plays, begins, by_a, by_b}
-use Rattle.media_laws.proofs.Playing.{EachFrom-append, EachFrom-left, EachStep-more, happenings-more, Taken, plays_more}
+use Rattle.media_laws.proofs.Playing.{EachFrom-append, EachFrom-left, happenings-more, Taken, plays_more}
 use Rattle.media_laws.proofs.Yields.{all_in, yields_writes}
-use Rattle.srtp_core.specs.Cipher.{CipherMeaning}
 
 -- of two ways to cut a list, one cuts before the other
 cut : (xs ys zs ws : List Entry) → xs ++ ys ≡ zs ++ ws → ((m : List Entry) × (xs ++ m ≡ zs)) ⊎ ((m : List Entry) × (xs ≡ zs ++ m) × (m ++ ys ≡ ws))
@@ -74,7 +67,7 @@ quiet_two a b zs (x ∷ w ∷ v ∷ xs) ys e y na nb few is (inr (inr i)) =
 only_last : {C : Config} {side : Side} {a c : Session} {new : List Event} (xs : List Event) (e : Event) (ys : List Event) (packet : Packet) → Turns C side a c new → new ≡ xs ++ e ∷ ys → IsIn (yielded packet) xs → ⊥
 only_last xs e ys packet (writes time w late unused) is i = elim (subst (IsIn (yielded packet)) (sym is) (IsIn-left (yielded packet) xs (e ∷ ys) i)) [ inl j ↦ cc j | inr j ↦ j ]
 only_last xs e ys packet (ticks time new next late d f count) is i =
-    elim (subst (IsIn (yielded packet)) (sym is) (IsIn-left (yielded packet) xs (e ∷ ys) i)) [ inl j ↦ cc j | inr j ↦ (let k = all_in is_sealing new (yielded packet) (drain_seals d) j in cc k) ]
+    elim (subst (IsIn (yielded packet)) (sym is) (IsIn-left (yielded packet) xs (e ∷ ys) i)) [ inl j ↦ cc j | inr j ↦ (let k = all_in is_sealing new (yielded packet) (serve_seals d.serves) j in cc k) ]
 only_last xs e ys packet (calls time items late others) is i =
     elim (subst (IsIn (yielded packet)) (sym is) (IsIn-left (yielded packet) xs (e ∷ ys) i)) [ inl j ↦ cc j | inr j ↦ elim j [ inl k ↦ cc k | inr k ↦ k ] ]
 only_last xs e ys packet (hears time bytes index items late report h) is i =
@@ -110,7 +103,7 @@ proper_quiet {setup = setup} {side = side} {new = new} t m x rest e s p i =
     only_last (events_in setup m) (happening_of (extensions_of setup) x).1 (events_in setup rest) p t.outcome.turn is
     (IsIn-map first (s, yielded p) (happenings setup m) (IsIn-map (happening_of (extensions_of setup)) (Yielded s p) m i))
 
-record Front (seal : Sealing) (setup : Setup) (front : List Entry) : Type 0 where
+pub record Front (seal : Sealing) (setup : Setup) (front : List Entry) : Type 0 where
   pub a : Session
   pub b : Session
   pub steps : List Step
@@ -172,7 +165,7 @@ widens_front setup entries more h side L i =
     let P = WidensAt (types_of setup) side (incoming_of L) in
     each_left P [] (happenings setup entries) (happenings setup more) (subst (EachHappening P []) (happenings-more setup entries more) (h side L i))
 
-yields_front : {seal : Sealing} {setup : Setup} → IsSound (config_of seal setup) → (front : List Entry) → Front seal setup front → YieldsWrites setup front
+pub yields_front : {seal : Sealing} {setup : Setup} → IsSound (config_of seal setup) → (front : List Entry) → Front seal setup front → YieldsWrites setup front
 yields_front {seal} {setup} sound front f genuine widens =
     let g : IsGenuine f.whole = genuine_front f.whole f.more (subst IsGenuine f.is genuine) in
     let w : RunWidens setup f.whole = widens_front setup f.whole f.more (subst (RunWidens setup) f.is widens) in
@@ -191,26 +184,3 @@ holds_of_front {seal} {setup} front rest sound h holds = record {
   yields = yields_front sound front (front_of h front rest refl);
   once = λ s. NoRepeat-left (packets s front) (packets s rest) (subst NoRepeat (flat_map-append (packet_by s) front rest) (holds.once s));
 }
-
--- a call that brings nothing, since no index is left
-holds_at_call : (seal : Sealing) (setup : Setup) (entries : List Entry) (side : Side) (time : ℕ) → next_index setup side entries ≡ 2 ^ 31 → HoldsOfRun seal setup entries
-    → HoldsOfRun seal setup (entries ++ Called side time call.Application ∷ [])
-holds_at_call seal setup entries side time used h =
-    let more = Called side time call.Application ∷ [] in
-    record {
-      steps = EachStep-more (Answers seal setup) entries (Called side time call.Application) [] h.steps refl tt (sends_none used);
-      seals = EachFrom-append (λ past entry. IsRightIfSealed seal setup entry) [] entries more h.seals (tt, tt);
-      nonces = λ s. subst NoRepeat (sym (flat_map-append (nonce_by s) entries more ∙ append-nil (nonces s entries))) (h.nonces s);
-      sendings = EachFrom-append (IsSentWrite setup) [] entries more h.sendings (tt, tt);
-      yields = λ genuine widens. EachFrom-append IsOwedTo [] entries more (h.yields (genuine_front entries more genuine) (widens_front setup entries more widens)) (tt, tt);
-      once = λ s. subst NoRepeat (sym (flat_map-append (packet_by s) entries more ∙ append-nil (packets s entries))) (h.once s);
-      exactly = EachStep-more (YieldsExactly setup) entries (Called side time call.Application) [] h.exactly refl tt tt;
-    }
-
-pub holds_at_key : (cipher : CipherMeaning) (setup : Setup) (entries : List Entry) (step : Step) (side : Side) (counter : Counter) → Exhausts cipher setup entries step side counter
-    → HoldsOfRun (sealing_of cipher setup) setup entries → HoldsOfRun (sealing_of cipher setup) setup (entries ++ call_of step)
-holds_at_key cipher setup entries (Application by time sender media payload) side counter e h = holds_at_call (sealing_of cipher setup) setup entries by time e.2 h
-holds_at_key cipher setup entries (Tick by time) side counter e h = subst (HoldsOfRun (sealing_of cipher setup) setup) (sym (append-nil entries)) h
-holds_at_key cipher setup entries (Write by time write) side counter e h = absurd e
-holds_at_key cipher setup entries (Deliver by time k) side counter e h = absurd e
-holds_at_key cipher setup entries (Foreign by time kind bytes) side counter e h = absurd e

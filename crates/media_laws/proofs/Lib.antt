@@ -26,4 +26,5 @@ pub mod Yields
 pub mod Writes
 pub mod Exactly
 pub mod Fronts
+pub mod Cuts
 pub mod Holding

@@ -112,3 +112,25 @@ pub leaves_where : {X : Type 0} {P Q : X → Type 0} {xs ys : List X} → ((x : 
 leaves_where f ended = ended
 leaves_where f (takes x h) = takes x (leaves_where f h)
 leaves_where f (skips x gone h) = skips x (λ q. gone (f x q)) (leaves_where f h)
+
+pub leaves_same : {X : Type 0} {Stays : X → Type 0} (xs : List X) → Leaves Stays xs xs
+leaves_same [] = ended
+leaves_same (x ∷ xs) = takes x (leaves_same xs)
+
+pub front_nothing : {X : Type 0} (xs ys : List X) → xs ++ ys ≡ [] → xs ≡ []
+front_nothing [] ys is = refl
+front_nothing (x ∷ xs) ys is = absurd cc
+
+pub back_nothing : {X : Type 0} (xs ys : List X) → xs ++ ys ≡ [] → ys ≡ []
+back_nothing [] ys is = is
+back_nothing (x ∷ xs) ys is = absurd cc
+
+-- of what is left the first part is left
+pub leaves_front : {X : Type 0} {Stays : X → Type 0} {us zs : List X} (xs ys : List X) → us ≡ xs ++ ys → Leaves Stays us zs → Leaves (λ x. ⊥) xs zs
+leaves_front xs ys is ended = subst (λ ws. Leaves (λ x. ⊥) ws []) (sym (front_nothing xs ys (sym is))) ended
+leaves_front xs ys is (skips x gone h) = skips x (λ none. none) (leaves_front xs ys is h)
+leaves_front [] ys is (takes {xs = us} x h) = skips x (λ none. none) (leaves_front [] us refl h)
+leaves_front (y ∷ xs) ys is (takes {xs = us} {ys = vs} x h) =
+    let head : x ≡ y = cc is in
+    let tail : us ≡ xs ++ ys = cc is in
+    subst (λ z. Leaves (λ x. ⊥) (z ∷ xs) (x ∷ vs)) head (takes x (leaves_front xs ys tail h))

@@ -9,15 +9,15 @@ use Rattle.run_model.specs.Events.{Plain, Event, wrote, ticked, called, got, sea
 use Rattle.run_model.specs.Listing.{IsIn, NoRepeat}
 use Rattle.run_model.specs.Sending.{is_just, number_of, sending_on, first_sendings, repair_on, repairs, sendings}
 use Rattle.run_model.specs.Seals.{Sealing}
-use Rattle.run_model.specs.TxPlay.{TxRecord, IsApart, TxPlays}
+use Rattle.run_model.specs.TxPlay.{TxRecord, IsApart, TxEnds}
 use Rattle.std.proofs.lemmas.List.Concat.{flat_map-append}
 use Rattle.run_model.specs.TxLaws.{SendsWrites}
 use Rattle.run_model.specs.Tables.{Table, lines, has, AreApart, nonce_of, nonces, NoNonceTwice}
 use Rattle.media_laws.proofs.Lists.{tested}
 use Rattle.media_laws.proofs.TxTracks.{first, numbered}
 use Rattle.media_laws.proofs.TxPlays.{streams_send_writes}
-use Rattle.media_laws.proofs.TxSeals.{plays_seal}
-use Rattle.media_laws.proofs.Tables.{AllPlay, Sides, sides, plays_known}
+use Rattle.media_laws.proofs.TxSeals.{ends_seal}
+use Rattle.media_laws.proofs.Tables.{AllEnd, Ended, ended, ends_known}
 
 -- the numbers under one SSRC
 
@@ -142,12 +142,12 @@ apart_in [] L h i = absurd i
 apart_in (M ∷ Ms) L h (inl e) = subst IsApart (sym e) h.0
 apart_in (M ∷ Ms) L h (inr i) = apart_in Ms L h.1.1 i
 
-play_of : {T : Types} {seal : Sealing} {events : List Event} (xs : Table) (L : Outgoing) → AllPlay T seal events xs → IsIn L (lines xs) → (t : TxRecord) × TxPlays T L seal t events
-play_of [] L all i = absurd i
-play_of {T} {seal} {events} (s ∷ xs) L all (inl e) = (s.1, subst (λ M. TxPlays T M seal s.1 events) (sym e) all.0)
-play_of (s ∷ xs) L all (inr i) = play_of xs L all.1 i
+pub end_of : {T : Types} {seal : Sealing} {events : List Event} (xs : Table) (L : Outgoing) → AllEnd T seal events xs → IsIn L (lines xs) → (t : TxRecord) × TxEnds T L seal t events
+end_of [] L all i = absurd i
+end_of {T} {seal} {events} (s ∷ xs) L all (inl e) = (s.1, subst (λ M. TxEnds T M seal s.1 events) (sym e) all.0)
+end_of (s ∷ xs) L all (inr i) = end_of xs L all.1 i
 
-stream_group : {T : Types} {seal : Sealing} {L : Outgoing} {t : TxRecord} {events : List Event} → IsApart L → TxPlays T L seal t events → (r : ℕ) → has L r ≡ true → NoRepeat (group r (nonces events))
+stream_group : {T : Types} {seal : Sealing} {L : Outgoing} {t : TxRecord} {events : List Event} → IsApart L → TxEnds T L seal t events → (r : ℕ) → has L r ≡ true → NoRepeat (group r (nonces events))
 stream_group {T} {seal} {L} {t} {events} apart h r own =
     elim (or_cases (eqb r L.ssrc) (is_just r L.rtx) own) [
       | inl is ↦ subst (λ m. NoRepeat (group m (nonces events))) (sym (eqb-true r L.ssrc is)) (subst NoRepeat (sym (main_group L events bare ∙ ap (map first) laws.sent ∙ same (sendings L.ssrc events).sent)) laws.once)
@@ -158,7 +158,7 @@ stream_group {T} {seal} {L} {t} {events} apart h r own =
     laws = streams_send_writes T L seal t events apart h
 
     bare : IsBare L events
-    bare ssrc n p b i mine = (plays_seal h (sealed ssrc n p b) i mine).1
+    bare ssrc n p b i mine = (ends_seal h (sealed ssrc n p b) i mine).1
 
     just : (o : Option ℕ) → is_just r o ≡ true → o ≡ Some r
     just None is = absurd (false≢true is)
@@ -171,20 +171,20 @@ stream_group {T} {seal} {L} {t} {events} apart h r own =
 pub no_nonce_twice : NoNonceTwice
 no_nonce_twice T seal Ls xs events apart h = grouped (nonces events) each
   where
-    s : Sides T seal Ls xs events
-    s = sides apart h
+    s : Ended T seal Ls xs events
+    s = ended apart h
 
     each : (r : ℕ) → NoRepeat (group r (nonces events))
     each r = elim (stream_of r Ls) [
       | inl found ↦
-          let play = play_of xs found.0 s.all (subst (IsIn found.0) (sym s.same) found.1) in
-          stream_group (apart_in Ls found.0 apart found.1) play.1 r found.2
+          let end = end_of xs found.0 s.all (subst (IsIn found.0) (sym s.same) found.1) in
+          stream_group (apart_in Ls found.0 apart found.1) end.1 r found.2
       | inr none ↦ subst NoRepeat (sym (no_group r events (unknown none))) tt
     ]
       where
         unknown : ((L : Outgoing) → IsIn L Ls → has L r ≡ false) → (ssrc n : ℕ) (p : Plain) (b : List ℕ) → IsIn (sealed ssrc n p b) events → eqb ssrc r ≡ false
         unknown none ssrc n p b i =
-            let known = plays_known apart h (sealed ssrc n p b) i in
+            let known = ends_known apart h (sealed ssrc n p b) i in
             elim (tested (eqb ssrc r)) [
               | inl t ↦ absurd (false≢true (sym (none known.0 known.1) ∙ subst (λ q. has known.0 q ≡ true) (eqb-true ssrc r t) known.2))
               | inr t ↦ t

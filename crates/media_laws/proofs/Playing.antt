@@ -11,8 +11,7 @@ use Rattle.media_model.specs.declared.entry.Sealed.{Sealed as SealedEntry}
 use Rattle.media_model.specs.declared.entry.Entry.{Entry}
 use Rattle.media_model.specs.declared.entry.Entry.TheVariants.{Wrote, Ticked, Called, Got, Sealed, Opened, Yielded}
 use Rattle.media_model.specs.declared.step.Step.{Step}
-use Rattle.media_model.specs.declared.entry.Call.TheVariants as call
-use Rattle.media_model.specs.declared.step.Step.TheVariants.{Write, Tick, Deliver, Foreign, Application}
+use Rattle.media_model.specs.declared.step.Step.TheVariants.{Application}
 use Rattle.media_model.specs.declared.setup.Setup.{Setup}
 use Rattle.media_model.specs.Entries.{is_step}
 use Rattle.media_model.specs.Sides.{peer_of}
@@ -25,7 +24,6 @@ use Rattle.run_model.specs.Transcripts.{happenings, types_of}
 use Rattle.run_model.specs.Whole.{Session, session_of, IsSound, Turns, writes, ticks, calls, opens, hears, stays, Played as RunPlayed, begun, of_a, of_b}
 use Rattle.media_laws.proofs.Whole.{runs_answer, runs_ask_the_due}
 use Rattle.media_laws.specs.Config.{config_of, rtp_sealing, reporting}
-use Rattle.media_laws.specs.Exhausting.{call_of, told_of}
 use Rattle.media_laws.specs.Feedback.{IsSealOfPacket, sends}
 use Rattle.media_laws.specs.Headline.{past_of, IsRightIfSealed, SealsAreRight, TickAnswers, Receives, opens as opens_rtp, opens_rtcp, stays as stays_shut, Answers, StepsAreAnswered, PlaysFrom, PlaysSteps}
 use Rattle.media_laws.specs.Listing.{EachFrom, brought, StepsFrom, EachStep}
@@ -270,7 +268,7 @@ module _ {seal : Sealing} {setup : Setup} (sound : IsSound (config_of seal setup
 
 -- what is sealed
 
-right_seals : (seal : Sealing) (setup : Setup) (past es : List Entry) → AllByRecursion (IsRightSeal seal setup) es → EachFrom (λ past entry. IsRightIfSealed seal setup entry) past es
+pub right_seals : (seal : Sealing) (setup : Setup) (past es : List Entry) → AllByRecursion (IsRightSeal seal setup) es → EachFrom (λ past entry. IsRightIfSealed seal setup entry) past es
 right_seals seal setup past [] h = tt
 right_seals seal setup past (Sealed s ∷ es) h = (h.0, right_seals seal setup (past ++ Sealed s ∷ []) es h.1)
 right_seals seal setup past (Wrote s t w ∷ es) h = absurd h.0
@@ -349,7 +347,7 @@ PlaysFrom-append past steps more (Yielded s p ∷ entries) new h k =
     PlaysFrom-append (past ++ Yielded s p ∷ []) steps more entries new h (subst (λ es. PlaysFrom es more new) (sym (append_assoc past (Yielded s p ∷ []) entries)) k)
 
 -- what is no step plays none
-plays_none : (past es : List Entry) → NoSteps es → PlaysFrom past [] es
+pub plays_none : (past es : List Entry) → NoSteps es → PlaysFrom past [] es
 plays_none past [] h = refl
 plays_none past (Sealed s ∷ es) h = plays_none (past ++ Sealed s ∷ []) es h.1
 plays_none past (Opened o ∷ es) h = plays_none (past ++ Opened o ∷ []) es h.1
@@ -369,16 +367,3 @@ pub plays_steps : {seal : Sealing} {setup : Setup} {a b : Session} {steps : List
 plays_steps begins = refl
 plays_steps (by_a {steps = steps} {entries = entries} h step new o) = PlaysFrom-append [] steps (step ∷ []) entries new (plays_steps h) (one_step o.are_of)
 plays_steps (by_b {steps = steps} {entries = entries} h step new o) = PlaysFrom-append [] steps (step ∷ []) entries new (plays_steps h) (one_step o.are_of)
-
-nothing_told : (steps : List Step) (entries : List Entry) → PlaysSteps steps entries → PlaysSteps (steps ++ []) (entries ++ [])
-nothing_told steps entries h = subst (λ ss. PlaysSteps ss (entries ++ [])) (sym (append-nil steps)) (subst (PlaysSteps steps) (sym (append-nil entries)) h)
-
--- a call is a step of the script, also where it finds a key used up; of a tick that does nothing is told
-pub plays_to_key : (steps : List Step) (entries : List Entry) (step : Step) → PlaysSteps steps entries → PlaysSteps (steps ++ told_of step) (entries ++ call_of step)
-plays_to_key steps entries (Application by time sender media payload) h =
-    PlaysFrom-append [] steps (Application by time sender media payload ∷ []) entries (Called by time call.Application ∷ []) h
-    (Application by time sender media payload, [], refl, (refl, refl), refl)
-plays_to_key steps entries (Write by time write) h = nothing_told steps entries h
-plays_to_key steps entries (Tick by time) h = nothing_told steps entries h
-plays_to_key steps entries (Deliver by time k) h = nothing_told steps entries h
-plays_to_key steps entries (Foreign by time kind bytes) h = nothing_told steps entries h

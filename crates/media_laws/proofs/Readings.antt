@@ -16,7 +16,7 @@ use Rattle.media_model.specs.declared.entry.Opened.{Opened as OpenedEntry}
 use Rattle.media_model.specs.declared.entry.Entry.{Entry}
 use Rattle.media_model.specs.declared.entry.Entry.TheVariants.{Wrote, Ticked, Called, Got, Sealed, Opened, Yielded}
 use Rattle.media_model.specs.declared.setup.Setup.{Setup}
-use Rattle.media_model.specs.Entries.{writes_on, sealed_number_on, sealed_numbers, nonce_by, nonces, packets}
+use Rattle.media_model.specs.Entries.{writes_on, sealed_number_on, sealed_numbers, srtcp_index_by, srtcp_indices, nonce_by, nonces, packets}
 use Rattle.media_model.specs.Sides.{same_side}
 use Rattle.run_model.specs.Events.{Plain, Event, wrote, ticked, called, got, sealed, opened, opened_items, yielded, Incoming}
 use Rattle.run_model.specs.Listing.{IsIn, NoRepeat}
@@ -255,3 +255,30 @@ nonces_once setup side (Opened o ∷ entries) h g =
     (subst NoRepeat (skip index_of (same_side side o.side) (opened_event (extensions_of setup) o.kind o) (past_of setup side entries) (opened_none index_of (λ a b c. refl) (λ a b. refl) (extensions_of setup) o.kind o)) g)
 nonces_once setup side (Yielded s p ∷ entries) h g =
     nonces_once setup side entries (subst NoRepeat (skip nonce_of (same_side side s) (yielded p) (past_of setup side entries) refl) h) (subst NoRepeat (skip index_of (same_side side s) (yielded p) (past_of setup side entries) refl) g)
+
+-- indices of RTCP
+
+quiet : (b : Bool) (e : Event) → index_of e ≡ [] → indices (cond b (e ∷ []) []) ≡ []
+quiet true e none = ap (λ (is : List ℕ). is ++ []) none
+quiet false e none = refl
+
+sealed_index : (b : Bool) (exts : ExtensionMap) (kind : Kind) (s : SealedEntry) → cond (b && same_kind Rtcp kind) (s.index ∷ []) [] ≡ indices (cond b (sealed_event exts kind s ∷ []) [])
+sealed_index true exts Rtp s = refl
+sealed_index true exts Rtcp s = refl
+sealed_index false exts kind s = refl
+
+pub indices_read : (setup : Setup) (side : Side) (entries : List Entry) → srtcp_indices side entries ≡ indices (past_of setup side entries)
+indices_read setup side [] = refl
+indices_read setup side (e ∷ es) =
+    (λ k. one e k ++ indices_read setup side es k)
+    ∙ sym (flat_map-append index_of (event_of side (happening_of (extensions_of setup) e)) (past_of setup side es))
+  where
+    one : (e : Entry) → srtcp_index_by side e ≡ indices (event_of side (happening_of (extensions_of setup) e))
+    one (Sealed s) = sealed_index (same_side side s.side) (extensions_of setup) s.kind s
+    one (Wrote s t w) = sym (quiet (same_side side s) (wrote t w) refl)
+    one (Ticked s t) = sym (quiet (same_side side s) (ticked t) refl)
+    one (Called s t c) = sym (quiet (same_side side s) (called t) refl)
+    one (Got g) = sym (quiet (same_side side g.side) (got g.time g.kind g.bytes) refl)
+    one (Opened o) =
+        sym (quiet (same_side side o.side) (opened_event (extensions_of setup) o.kind o) (opened_none index_of (λ a b c. refl) (λ a b. refl) (extensions_of setup) o.kind o))
+    one (Yielded s p) = sym (quiet (same_side side s) (yielded p) refl)

@@ -20,7 +20,7 @@ use Rattle.run_model.specs.Transcripts.{types_of}
 use Rattle.rtcp_wire.specs.declared.extended.DlrrItem.{DlrrItem as Delay}
 use Rattle.run_model.specs.TxPlay.{stored, sends, resends, Queues, none as none_queued, held}
 use Rattle.run_model.specs.Asking.{none as nothing_asked, asks, owes_nothing}
-use Rattle.run_model.specs.Tables.{has, AreApart, done, reports, more, here, none as none_heard, one}
+use Rattle.run_model.specs.Tables.{has, AreApart, rests, reports, more, here, none as none_heard, one}
 use Rattle.run_model.specs.Runs.{EachFrom, IsGenuineAt, WidensAt, Happening, without_padding, on_side, IsGenuine, RepairsWiden, SealsApart}
 use Rattle.run_model.specs.Whole.{Config, Session, session_of, new_session, incoming_of, probes, Turns, writes, ticks, opens, hears, Played, begun, of_a, of_b, IsSound, HeadsApart}
 use Rattle.std.proofs.lemmas.Bool.{false≢true}
@@ -198,10 +198,12 @@ module _ (w : Wiring) where
   s4 =
       step A g3
       (ticks 1 _ _ (omega arith)
-      (more (here stream (sends (write_numbered 1) _ _ (w.first 1) refl refl (stored refl true (λ m. refl)) w.seal_1))
-      (more (here stream (sends (write_numbered 2) _ _ (w.first 2) refl refl (stored refl true (λ m. refl)) w.seal_2))
-      (more (here stream (sends (write_numbered 3) _ _ (w.first 3) refl refl (stored refl true (λ m. refl)) w.seal_3))
-      (done (refl, (refl, tt))))))
+      (record {
+        serves = more (here stream (sends (write_numbered 1) _ _ (w.first 1) refl refl (stored refl true (λ m. refl)) w.seal_1))
+            (more (here stream (sends (write_numbered 2) _ _ (w.first 2) refl refl (stored refl true (λ m. refl)) w.seal_2))
+            (more (here stream (sends (write_numbered 3) _ _ (w.first 3) refl refl (stored refl true (λ m. refl)) w.seal_3)) rests));
+        idle = (refl, (refl, tt));
+      })
       (owes_nothing _ refl nothing_asked) refl)
 
   abbrev pub g4 : Going
@@ -230,7 +232,7 @@ module _ (w : Wiring) where
   abbrev pub s7 : Going_on B g6
   s7 =
       step B g6
-      (ticks 33000000 _ _ (omega arith) (reports 0 (Nack 42 (request ∷ []) ∷ []) (done tt))
+      (ticks 33000000 _ _ (omega arith) (record { serves = reports 0 (Nack 42 (request ∷ []) ∷ []) rests; idle = tt })
       (owes_nothing _ refl (asks _ (request ∷ []) names_two nothing_asked)) (refl, refl))
 
   abbrev pub g7 : Going
@@ -250,8 +252,10 @@ module _ (w : Wiring) where
   s9 =
       step A g8
       (ticks 33000000 _ _ (omega arith)
-      (more (here stream (resends 2 [] (write_numbered 2) 43 97 w.repair refl (1, refl, λ r. omega arith) refl refl w.seal_repair))
-      (done (refl, (refl, tt))))
+      (record {
+        serves = more (here stream (resends 2 [] (write_numbered 2) 43 97 w.repair refl (1, refl, λ r. omega arith) refl refl w.seal_repair)) rests;
+        idle = (refl, (refl, tt));
+      })
       (owes_nothing _ refl nothing_asked) refl)
 
   abbrev pub g9 : Going

@@ -5,6 +5,7 @@ use Rattle.std.specs.List.{AllByRecursion}
 use Rattle.std.specs.Option.{option_map}
 use Rattle.std.specs.Int.{w16, to_be_bytes}
 use Rattle.std.proofs.lemmas.Bool.{and_parts, or_cases, eqb-true, eq-eqb, false≢true}
+use Rattle.std.proofs.lemmas.List.{append-nil}
 use Rattle.std.proofs.lemmas.List.Concat.{flat_map-append}
 use Rattle.std.proofs.lemmas.Nat.{be_bytes_2}
 use Rattle.rtp_base.specs.declared.kind.Kind.{Kind}
@@ -22,22 +23,21 @@ use Rattle.media_model.specs.declared.setup.Setup.{Setup}
 use Rattle.media_model.specs.Entries.{writes_on, write_on, sealed_number_on, sealed_numbers, nonce_by, nonces}
 use Rattle.media_model.specs.Sides.{same_side}
 use Rattle.rtp_base.specs.Kind.{same_kind}
-use Rattle.run_model.specs.Capping.{IsCapped}
 use Rattle.run_model.specs.Events.{Plain, Event, sealed, Types, Outgoing}
 use Rattle.run_model.specs.Listing.{IsIn, NoRepeat}
 use Rattle.run_model.specs.Runs.{Happening, event_of, on_side}
-use Rattle.run_model.specs.Sending.{is_just, numbers, nothing_sent, sendings, sending_of, sending_on, repair_on, repairs, first_sendings, is_cached, two_bytes, Carries as Repairs, Carry, nothing, one as and_one, Answers as Answering}
+use Rattle.run_model.specs.Sending.{is_just, numbers, nothing_sent, Sendings, sendings, sending_of, sending_on, repair_on, repairs, first_sendings, is_cached, two_bytes, Carries as Repairs, Carry, nothing, one as and_one, Answers as Answering, AnswersPartly as AnsweringPartly}
 use Rattle.run_model.specs.Tables.{has as has_ssrc}
 use Rattle.run_model.specs.Transcripts.{plain_in, plain_of, no_plain, sealed_event, opened_event, happening_of, happenings, types_of, outgoing_of}
 use Rattle.run_model.specs.TxLaws.{SendsWrites as StreamSends}
 use Rattle.run_model.specs.TxPlay.{TxRecord}
-use Rattle.run_model.specs.Whole.{IsSound, Session, Counts}
-use Rattle.media_laws.proofs.Lists.{IsIn-left, IsIn-right, IsIn-append, IsIn-map, IsIn-from_map, IsIn-flat_map, IsIn-from_flat_map, IsIn-from_filter, in-from_any, tested}
-use Rattle.media_laws.proofs.TxPlays.{tracks, writes_are, streams_send_writes}
+use Rattle.run_model.specs.Whole.{IsSound, Session, Counts, Ends, at_step}
+use Rattle.media_laws.proofs.Lists.{leaves_where, IsIn-left, IsIn-right, IsIn-append, IsIn-map, IsIn-from_map, IsIn-flat_map, IsIn-from_flat_map, IsIn-from_filter, in-from_any, tested}
+use Rattle.media_laws.proofs.TxPlays.{ends_follow, writes_are, streams_send_writes}
 use Rattle.media_laws.proofs.Whole.{runs_repeat_no_nonce}
 use Rattle.media_laws.proofs.Indices.{runs_repeat_no_index}
 use Rattle.media_laws.specs.Config.{config_of}
-use Rattle.media_laws.specs.Headline.{past_of, NoNonceTwice, IsSending, IsRepair, IsSentWrite, SendsWrites}
+use Rattle.media_laws.specs.Headline.{past_of, NoNonceTwice, IsSending, IsRepair, IsSentWrite, SendsWrites, TickAnswers, TickAnswersPartly}
 use Rattle.media_laws.specs.Opening.{Sealing}
 use Rattle.media_laws.specs.Plain.{extensions_of, Carries}
 use Rattle.media_laws.specs.Play.{IsBroughtBy, AreEntriesOf, wrote, ticked, called, got, Plays}
@@ -45,12 +45,19 @@ use Rattle.media_laws.specs.Right.{IsSealOf, IsRight, right_rtp, right_rtcp, IsR
 use Rattle.media_laws.proofs.Playing.{packet_right, EachFrom-append, EachFrom-places, as_run, Taken, plays_more, each_taken, tick_answers}
 use Rattle.media_laws.proofs.Readings.{is_same, sealed_from, sealed_happens, writes_read, number_in, number_nonce, nonces_once}
 use Rattle.media_laws.proofs.Soundness.{apart_ends}
-use Rattle.media_laws.proofs.Streams.{plays_at, apart_at, repair_numbers, numbers_more, repairs_count, counts_at}
+use Rattle.media_laws.proofs.Streams.{ends_at, apart_at, repair_numbers, numbers_more, repairs_count, counts_at}
 
-pub no_nonce_twice : {seal : Sealing} {setup : Setup} {a b : Session} {steps : List Step} {entries : List Entry} → IsSound (config_of seal setup) → Plays seal setup a b steps entries → NoNonceTwice entries
-no_nonce_twice {seal} {setup} {a} {b} {entries = entries} sound h side =
+-- a run, as it is read, that ended after a step or within a tick
+abbrev pub AsEnded : Sealing → Setup → List Entry → Type 0
+AsEnded seal setup entries = Ends (config_of seal setup) (happenings setup entries)
+
+pub as_ended : {seal : Sealing} {setup : Setup} {a b : Session} {steps : List Step} {entries : List Entry} → Plays seal setup a b steps entries → AsEnded seal setup entries
+as_ended h = at_step (as_run h)
+
+pub no_nonce_twice : {seal : Sealing} {setup : Setup} → IsSound (config_of seal setup) → (entries : List Entry) → AsEnded seal setup entries → NoNonceTwice entries
+no_nonce_twice {seal} {setup} sound entries h side =
     nonces_once setup side entries
-    (runs_repeat_no_nonce (config_of seal setup) a b (happenings setup entries) sound (as_run h) side) (runs_repeat_no_index (config_of seal setup) a b (happenings setup entries) (as_run h) side)
+    (runs_repeat_no_nonce (config_of seal setup) (happenings setup entries) sound h side) (runs_repeat_no_index (config_of seal setup) (happenings setup entries) h side)
 
 not_both : Rtp ≡ Rtcp → ⊥
 not_both e = cc
@@ -101,7 +108,7 @@ low_bytes n = be_bytes_2 (two_bytes n) (n % 65536) refl (bytes_below (n / 256 % 
 
 -- which of them are sealed
 
-in_all : (seal : Sealing) (setup : Setup) (es : List Entry) (s : SealedEntry) → AllByRecursion (IsRightSeal seal setup) es → IsIn (Sealed s) es → IsRight seal setup s
+pub in_all : (seal : Sealing) (setup : Setup) (es : List Entry) (s : SealedEntry) → AllByRecursion (IsRightSeal seal setup) es → IsIn (Sealed s) es → IsRight seal setup s
 in_all seal setup [] s h i = absurd i
 in_all seal setup (e ∷ es) s h (inl is) = subst (IsRightSeal seal setup) (sym is) h.0
 in_all seal setup (e ∷ es) s h (inr i) = in_all seal setup es s h.1 i
@@ -179,17 +186,17 @@ pub record Sent (setup : Setup) (side : Side) (L : Outgoing) (entries : List Ent
   pub counts : Counts L.start (repair_numbers L (past_of setup side entries)) t.next_rtx
   pub distinct : NoRepeat (numbers (writes_on side L.ssrc entries))
 
-pub sent_at : {seal : Sealing} {setup : Setup} {a b : Session} {steps : List Step} {entries : List Entry} → IsSound (config_of seal setup) → Plays seal setup a b steps entries
+pub sent_at : {seal : Sealing} {setup : Setup} {entries : List Entry} → IsSound (config_of seal setup) → AsEnded seal setup entries
     → (side : Side) (L : Outgoing) → IsIn L (outgoing_of side setup) → Sent setup side L entries
-sent_at {seal} {setup} {entries = entries} sound h side L i =
-    let p = plays_at sound (as_run h) side L i in
+sent_at {seal} {setup} {entries} sound h side L i =
+    let p = ends_at sound h side L i in
     let apart = apart_at sound side L i in
     record {
       t = p.0;
       law = streams_send_writes (types_of setup) L ((config_of seal setup).seals side) p.0 (past_of setup side entries) apart p.1;
       counts = repairs_count apart p.1;
       distinct =
-          let f = (tracks apart p.1).follows in
+          let f = ends_follow apart p.1 in
           subst NoRepeat (f.written ∙ ap numbers (writes_are L.ssrc (past_of setup side entries) nothing_sent ∙ writes_read setup side L.ssrc entries)) f.once;
     }
 
@@ -281,7 +288,7 @@ just_is n (Some x) e = ap (λ m. Some m) (eqb-true x n e)
 
 -- a datagram of a tick
 module _ {seal : Sealing} {setup : Setup} {side : Side} (past front : List Entry) (s : SealedEntry) (rtp : s.kind ≡ Rtp) (r : IsSealOf seal setup s) (own : s.side ≡ side)
-    (L : Outgoing) (sent : Sent setup side L past) (new : List Event) (C : Type 0) (a : Answering (types_of setup) L C (sendings L.ssrc (past_of setup side past)) new)
+    (L : Outgoing) (sent : Sent setup side L past) (new : List Event) (a : AnsweringPartly (types_of setup) L (sendings L.ssrc (past_of setup side past)) new)
     (there : IsIn (sealed s.ssrc s.index (plain_in (extensions_of setup) s.plain) s.bytes) new) where
   abbrev p : Plain
   p = plain_in (extensions_of setup) s.plain
@@ -290,10 +297,10 @@ module _ {seal : Sealing} {setup : Setup} {side : Side} (past front : List Entry
   of_first main again =
       let among : IsIn {X = ℕ × Plain} (s.index, p) (first_sendings L.ssrc new) =
       IsIn-flat_map (sending_on L.ssrc) (sealed s.ssrc s.index p s.bytes) (s.index, p) new there (sending_there L.ssrc s.ssrc s.index p s.bytes main (unpadded_plain s r)) in
-      let f = IsIn-from_map (λ (w : Writing). (w.number, sending_of w)) (s.index, p) (sendings L.ssrc (past_of setup side past)).waiting (subst (IsIn {X = ℕ × Plain} (s.index, p)) a.sendings among) in
+      let f = IsIn-from_map (λ (w : Writing). (w.number, sending_of w)) (s.index, p) a.gone (subst (IsIn {X = ℕ × Plain} (s.index, p)) a.sendings among) in
       let w = f.0 in
       let ssrc : s.ssrc ≡ L.ssrc = eqb-true s.ssrc L.ssrc main in
-      let written : IsIn w (writes_on side L.ssrc past) = waits_written sent w f.1 in
+      let written : IsIn w (writes_on side L.ssrc past) = waits_written sent w (subst (IsIn w) (sym a.waiting) (IsIn-left w a.gone a.left f.1)) in
       let number : s.index ≡ w.number = ap (λ (z : ℕ × Plain). z.0) f.2 in
       record {
         write = w;
@@ -342,32 +349,50 @@ index_is seal setup side L front rest s rtp own rtx sent right =
     flat_map-append (sealed_number_on side s.ssrc) front (Sealed s ∷ rest) ∙ ap (λ b. sealed_numbers side s.ssrc front ++ (cond b (s.index ∷ []) [] ++ sealed_numbers side s.ssrc rest)) test in
     counts_at L.start (sealed_numbers side s.ssrc front) s.index (sealed_numbers side s.ssrc rest) sent.t.next_rtx (subst (λ ns. Counts L.start ns sent.t.next_rtx) (sym all ∙ cut) sent.counts)
 
+-- a tick that is not cut off answers in part, too
+partly : {T : Types} {L : Outgoing} {C : Type 0} {s : Sendings} {new : List Event} → Answering T L C s new → AnsweringPartly T L s new
+partly {s = s} a = record {
+  gone = s.waiting;
+  left = [];
+  waiting = sym (append-nil s.waiting);
+  sendings = a.sendings;
+  last = a.last;
+  is_last = a.is_last;
+  answered = a.answered;
+  carry = a.carry;
+  among = leaves_where (λ n none. absurd none) a.keeps;
+}
+
+partly_of : {seal : Sealing} {setup : Setup} {side : Side} {past : List Entry} {time : ℕ} {chunk : List Entry} → TickAnswers seal setup side past time chunk → TickAnswersPartly seal setup side past chunk
+partly_of a = record { only = a.only; new = a.new; read = a.read; answers = λ L i. partly (a.answers L i) }
+
 module _ {seal : Sealing} {setup : Setup} (sound : IsSound (config_of seal setup)) (past front : List Entry) (s : SealedEntry) (rest : List Entry) (rtp : s.kind ≡ Rtp) where
-  of_tick : {side : Side} {step : Step} (time : ℕ) (all : List Entry) → Ticked side time ∷ all ≡ front ++ Sealed s ∷ rest → AllByRecursion (IsRightSeal seal setup) all
-      → Taken seal setup past side step (Ticked side time ∷ all) → IsIn (Sealed s) all → IsSending setup (past ++ front) s ⊎ IsRepair setup (past ++ front) s
-  of_tick {side} time all is right t i =
-      let a = tick_answers sound right t in
+  -- also of one that is cut off
+  pub of_tick : {side : Side} (time : ℕ) (all : List Entry) → Ticked side time ∷ all ≡ front ++ Sealed s ∷ rest → TickAnswersPartly seal setup side past all
+      → AsEnded seal setup past → AsEnded seal setup (past ++ Ticked side time ∷ all) → AllRight seal setup (past ++ Ticked side time ∷ all)
+      → IsIn (Sealed s) all → IsSending setup (past ++ front) s ⊎ IsRepair setup (past ++ front) s
+  of_tick {side} time all is a before later right i =
       let read = read_side setup side a.new all s rtp a.read i in
-      let r : IsSealOf seal setup s = right_kind rtp (in_all seal setup all s right i) in
+      let r : IsSealOf seal setup s = right_kind rtp (in_all seal setup all s a.only i) in
       let L = in-from_any (λ K. has_ssrc K s.ssrc) (outgoing_of s.side setup) r.stream in
       let at : IsIn L.0 (outgoing_of side setup) = subst (λ z. IsIn L.0 (outgoing_of z setup)) read.0 L.1 in
       let whole : past ++ (Ticked side time ∷ all) ≡ (past ++ front) ++ Sealed s ∷ rest = ap (λ es. past ++ es) is ∙ sym (append_assoc past front (Sealed s ∷ rest)) in
-      let later = plays_more side t in
-      let C = IsCapped L.0 (past_of setup side past) time in
       elim (or_cases (s.ssrc == L.0.ssrc) (is_just s.ssrc L.0.rtx) L.2) [
-        | inl main ↦ inl (of_first past front s rtp r read.0 L.0 (sent_at sound t.plays side L.0 at) a.new C (a.answers L.0 at) read.1 main
-            (not_again s (past ++ front) rest rtp (subst (λ es. NoRepeat (nonces s.side es)) whole (no_nonce_twice sound later.3 s.side))))
-        | inr rtx ↦ inr (of_repair past front s rtp r read.0 L.0 (sent_at sound t.plays side L.0 at) a.new C (a.answers L.0 at) read.1 at rtx
-            (index_is seal setup side L.0 (past ++ front) rest s rtp read.0 rtx (subst (Sent setup side L.0) whole (sent_at sound later.3 side L.0 at)) (subst (AllRight seal setup) whole (all_right later.3))))
+        | inl main ↦ inl (of_first past front s rtp r read.0 L.0 (sent_at sound before side L.0 at) a.new (a.answers L.0 at) read.1 main
+            (not_again s (past ++ front) rest rtp (subst (λ es. NoRepeat (nonces s.side es)) whole (no_nonce_twice sound (past ++ Ticked side time ∷ all) later s.side))))
+        | inr rtx ↦ inr (of_repair past front s rtp r read.0 L.0 (sent_at sound before side L.0 at) a.new (a.answers L.0 at) read.1 at rtx
+            (index_is seal setup side L.0 (past ++ front) rest s rtp read.0 rtx (subst (Sent setup side L.0) whole (sent_at sound later side L.0 at)) (subst (AllRight seal setup) whole right)))
       ]
 
-  there_in : (new : List Entry) → new ≡ front ++ Sealed s ∷ rest → IsIn (Sealed s) new
+  pub there_in : (new : List Entry) → new ≡ front ++ Sealed s ∷ rest → IsIn (Sealed s) new
   there_in new is = subst (IsIn (Sealed s)) (sym is) (IsIn-right (Sealed s) front (Sealed s ∷ rest) (inl refl))
 
   of_step : {side : Side} {step : Step} {new : List Entry} → AreEntriesOf seal setup past side step new → Taken seal setup past side step new → new ≡ front ++ Sealed s ∷ rest
       → IsSending setup (past ++ front) s ⊎ IsRepair setup (past ++ front) s
   of_step (wrote side time w a b c) t is = absurd (elim (there_in _ is) [ inl e ↦ cc e | inr j ↦ j ])
-  of_step (ticked side time all right) t is = elim (there_in _ is) [ inl e ↦ absurd (cc e) | inr j ↦ of_tick time all is right t j ]
+  of_step (ticked side time all right) t is =
+      let later = (plays_more side t).3 in
+      elim (there_in _ is) [ inl e ↦ absurd (cc e) | inr j ↦ of_tick time all is (partly_of (tick_answers sound right t)) (as_ended t.plays) (as_ended later) (all_right later) j ]
   of_step (called side time sender media payload x seals) t is = absurd (elim (there_in _ is) [
     | inl e ↦ cc e
     | inr j ↦ elim j [ inl e ↦ let same : s ≡ x = cc e in not_both (sym rtp ∙ ap (λ (y : SealedEntry). y.kind) same ∙ seals.kind) | inr k ↦ k ]

@@ -1,29 +1,30 @@
 -- The streams of a run, in a run of plain sessions.
 use Rattle.std.proofs.Common.{◌≡◌, inl, inr, ℕ, ◌+◌, List, [], ◌∷◌, ◌++◌, length, map, refl, sym, ap, ◌∙◌, subst, arith}
+use Rattle.std.specs.Prelude.{filter}
 use Rattle.std.proofs.lemmas.List.{map-append}
 use Rattle.std.proofs.lemmas.List.Concat.{flat_map-append}
 use Rattle.media_model.specs.declared.entry.Side.{Side}
 use Rattle.media_model.specs.declared.entry.Side.TheVariants.{A, B}
 use Rattle.media_model.specs.Sides.{peer_of}
-use Rattle.run_model.specs.Events.{Plain, Event, sealed, Types, Outgoing, Incoming}
+use Rattle.run_model.specs.Events.{Plain, Event, ticked, sealed, Types, Outgoing, Incoming}
 use Rattle.run_model.specs.Listing.{IsIn}
 use Rattle.run_model.specs.Receiving.{lists}
 use Rattle.run_model.specs.Runs.{Happening, events_of}
 use Rattle.run_model.specs.RxPlay.{RxRecord, new_rx, lists_in, RxPlays, begun as rx_begun, step as rx_step}
 use Rattle.run_model.specs.Seals.{Sealing}
 use Rattle.run_model.specs.Sending.{repairs, repair_on, sending_of}
-use Rattle.run_model.specs.Tables.{Table, lines}
-use Rattle.run_model.specs.TxPlay.{TxRecord, IsApart, IsBeside, AreBeside, clock_step, Polls, drops, misses, resends, sends, Drains, empty, polls, TxStep, writes as tx_writes, ticks as tx_ticks, hears as tx_hears, passes as tx_passes, TxPlays, begun as tx_begun, step as tx_step}
-use Rattle.run_model.specs.Whole.{Config, setup_of, Session, session_of, IsSound, Counts, Played, begun, of_a, of_b}
+use Rattle.run_model.specs.TxPlay.{TxRecord, IsApart, IsBeside, AreBeside, clock_step, begun_tick, is_of, Polls, drops, misses, resends, sends, Serves, rests, polls, TxStep, writes as tx_writes, ticks as tx_ticks, hears as tx_hears, passes as tx_passes, TxPlays, begun as tx_begun, step as tx_step, TxEnds, at_step, in_tick}
+use Rattle.run_model.specs.Whole.{Config, setup_of, Session, session_of, IsSound, Counts, Played, begun, of_a, of_b, Ends}
 use Rattle.media_laws.proofs.Asks.{side_mains, mains}
 use Rattle.media_laws.proofs.Lists.{IsIn-map, IsIn-from_map}
-use Rattle.media_laws.proofs.Nonces.{apart_in}
+use Rattle.media_laws.proofs.Indices.{counts_more}
+use Rattle.media_laws.proofs.Nonces.{apart_in, end_of}
 use Rattle.media_laws.proofs.RunYields.{events_more, events_same}
 use Rattle.media_laws.proofs.RxTracks.{rx_tracks}
-use Rattle.media_laws.proofs.Tables.{AllPlay, sides}
+use Rattle.media_laws.proofs.Tables.{ended}
 use Rattle.media_laws.proofs.TxDrains.{repair-send, repair-repair}
 use Rattle.media_laws.proofs.TxPlays.{reading_share, repair_other}
-use Rattle.media_laws.proofs.Whole.{half_of, apart_a, apart_b, RxSteps, no_streams, and_stream, turn_streams}
+use Rattle.media_laws.proofs.Whole.{half_of, side_ends, apart_a, apart_b, RxSteps, no_streams, and_stream, turn_streams}
 
 -- each incoming stream of a side plays
 
@@ -81,25 +82,16 @@ hold_lists {C} {a} {b} sound h side =
       found = λ L i. IsIn-from_map (λ (t : Incoming × RxRecord). t.0) L table (subst (IsIn L) (sym all) i);
     }
 
--- each outgoing stream of a side plays
+-- each outgoing stream of a side plays, maybe up to a tick that is cut off
 
-plays_in : (T : Types) (seal : Sealing) (events : List Event) (xs : Table) → AllPlay T seal events xs → (M : Outgoing) → IsIn M (lines xs) → (t : TxRecord) × TxPlays T M seal t events
-plays_in T seal events [] h M i = absurd i
-plays_in T seal events (s ∷ xs) h M (inl e) = (s.1, subst (λ (K : Outgoing). TxPlays T K seal s.1 events) (sym e) h.0)
-plays_in T seal events (s ∷ xs) h M (inr i) = plays_in T seal events xs h.1 M i
-
-pub plays_at : {C : Config} {a b : Session} {entries : List Happening} → IsSound C → Played C a b entries → (side : Side) (M : Outgoing) → IsIn M (C.outgoing side)
-    → (t : TxRecord) × TxPlays C.types M (C.seals side) t (events_of side entries)
-plays_at {C} {a} {b} {entries} sound h side M i = let s = sides (sound.apart side) (half_of h side).tx in plays_in C.types (C.seals side) (events_of side entries) (session_of side a b).tx s.all M (subst (IsIn M) (sym s.same) i)
+pub ends_at : {C : Config} {entries : List Happening} → IsSound C → Ends C entries → (side : Side) (M : Outgoing) → IsIn M (C.outgoing side)
+    → (t : TxRecord) × TxEnds C.types M (C.seals side) t (events_of side entries)
+ends_at {C} sound h side M i = let e = side_ends h side in let s = ended (sound.apart side) e.1 in end_of e.0 M s.all (subst (IsIn M) (sym s.same) i)
 
 pub apart_at : {C : Config} → IsSound C → (side : Side) (M : Outgoing) → IsIn M (C.outgoing side) → IsApart M
 apart_at {C} sound side M i = apart_in (C.outgoing side) M (sound.apart side) i
 
 -- the numbers of repairs count up
-
-pub counts_more : (k : ℕ) (xs ys : List ℕ) (m n : ℕ) → Counts k xs m → Counts m ys n → Counts k (xs ++ ys) n
-counts_more k [] ys m n h g = subst (λ j. Counts j ys n) (sym h) g
-counts_more k (x ∷ xs) ys m n h g = (h.0, counts_more (k + 1) xs ys m n h.1 g)
 
 pub counts_at : (k : ℕ) (xs : List ℕ) (i : ℕ) (ys : List ℕ) (n : ℕ) → Counts k (xs ++ i ∷ ys) n → i ≡ k + length xs
 counts_at k [] i ys n h = omega (arith, h.0)
@@ -119,10 +111,10 @@ poll_counts {L = L} {t = t} apart (resends n rest w x pt bytes is held own type 
 poll_counts {L = L} {t = t} apart (sends w rest store bytes idle is caches made) =
     subst (λ (ps : List (ℕ × Plain)). Counts t.next_rtx (map (λ x. x.0) ps) t.next_rtx) (sym (repair-send L bytes [] w.number (sending_of w) apart)) refl
 
-drain_counts : {T : Types} {L : Outgoing} {seal : Sealing} {now : ℕ} {t u : TxRecord} {events : List Event} → IsApart L → Drains T L seal now t u events → Counts t.next_rtx (repair_numbers L events) u.next_rtx
-drain_counts apart (empty a b) = refl
-drain_counts {L = L} {t = t} {u = w} apart (polls {u = u} {events = events} {more = more} p d) =
-    subst (λ is. Counts t.next_rtx is w.next_rtx) (sym (numbers_more L events more)) (counts_more t.next_rtx (repair_numbers L events) (repair_numbers L more) u.next_rtx w.next_rtx (poll_counts apart p) (drain_counts apart d))
+serve_counts : {T : Types} {L : Outgoing} {seal : Sealing} {now : ℕ} {t u : TxRecord} {events : List Event} → IsApart L → Serves T L seal now t u events → Counts t.next_rtx (repair_numbers L events) u.next_rtx
+serve_counts apart rests = refl
+serve_counts {L = L} {t = t} {u = w} apart (polls {u = u} {events = events} {more = more} p d) =
+    subst (λ is. Counts t.next_rtx is w.next_rtx) (sym (numbers_more L events more)) (counts_more t.next_rtx (repair_numbers L events) (repair_numbers L more) u.next_rtx w.next_rtx (poll_counts apart p) (serve_counts apart d))
 
 beside_none : (L : Outgoing) (now : ℕ) (new : List Event) → AreBeside L now new → repairs L new ≡ []
 beside_none L now [] h = refl
@@ -132,15 +124,25 @@ beside_none L now (e ∷ new) h = ap (λ ps. ps ++ repairs L new) (one e h.0) �
     one (sealed ssrc n p bytes) b = absurd b
     one _ b = refl
 
+tick_counts : {T : Types} {L : Outgoing} {seal : Sealing} {u : TxRecord} {share : List Event} (t : TxRecord) (time : ℕ) (new : List Event) → IsApart L → Serves T L seal time (begun_tick L time t) u share
+    → filter (is_of L) new ≡ share → Counts t.next_rtx (repair_numbers L (ticked time ∷ new)) u.next_rtx
+tick_counts {L = L} {u = u} t time new apart serves is =
+    subst (λ (ps : List (ℕ × Plain)). Counts t.next_rtx (map (λ x. x.0) ps) u.next_rtx) (sym (reading_share (repair_on L) L (repair_other L) new ∙ ap (repairs L) is)) (serve_counts apart serves)
+
 step_counts : {T : Types} {L : Outgoing} {seal : Sealing} {now : ℕ} {t u : TxRecord} {new : List Event} → IsApart L → TxStep T L seal now t u new → Counts t.next_rtx (repair_numbers L new) u.next_rtx
 step_counts apart (tx_writes time w is unused late) = refl
-step_counts {L = L} {t = t} {u = u} apart (tx_ticks time new late tick) =
-    subst (λ (ps : List (ℕ × Plain)). Counts t.next_rtx (map (λ x. x.0) ps) u.next_rtx) (sym (reading_share (repair_on L) L (repair_other L) new ∙ ap (repairs L) tick.own)) (drain_counts apart tick.drain)
+step_counts {t = t} apart (tx_ticks time new late tick) = tick_counts t time new apart tick.drain.serves tick.own
 step_counts apart (tx_hears time bytes index items queued late q) = refl
 step_counts {L = L} {now = now} {t = t} apart (tx_passes new beside) =
     subst (λ (ps : List (ℕ × Plain)). Counts t.next_rtx (map (λ x. x.0) ps) t.next_rtx) (sym (beside_none L now new beside)) refl
 
-pub repairs_count : {T : Types} {L : Outgoing} {seal : Sealing} {t : TxRecord} {events : List Event} → IsApart L → TxPlays T L seal t events → Counts L.start (repair_numbers L events) t.next_rtx
-repairs_count apart tx_begun = refl
-repairs_count {L = L} apart (tx_step {t = t} {u = u} {events = events} {new = new} h s) =
-    subst (λ is. Counts L.start is u.next_rtx) (sym (numbers_more L events new)) (counts_more L.start (repair_numbers L events) (repair_numbers L new) t.next_rtx u.next_rtx (repairs_count apart h) (step_counts apart s))
+plays_count : {T : Types} {L : Outgoing} {seal : Sealing} {t : TxRecord} {events : List Event} → IsApart L → TxPlays T L seal t events → Counts L.start (repair_numbers L events) t.next_rtx
+plays_count apart tx_begun = refl
+plays_count {L = L} apart (tx_step {t = t} {u = u} {events = events} {new = new} h s) =
+    subst (λ is. Counts L.start is u.next_rtx) (sym (numbers_more L events new)) (counts_more L.start (repair_numbers L events) (repair_numbers L new) t.next_rtx u.next_rtx (plays_count apart h) (step_counts apart s))
+
+pub repairs_count : {T : Types} {L : Outgoing} {seal : Sealing} {t : TxRecord} {events : List Event} → IsApart L → TxEnds T L seal t events → Counts L.start (repair_numbers L events) t.next_rtx
+repairs_count apart (at_step h) = plays_count apart h
+repairs_count {L = L} apart (in_tick {t = t} {u = u} {events = events} h time new at tick) =
+    subst (λ is. Counts L.start is u.next_rtx) (sym (numbers_more L events (ticked time ∷ new)))
+    (counts_more L.start (repair_numbers L events) (repair_numbers L (ticked time ∷ new)) t.next_rtx u.next_rtx (plays_count apart h) (tick_counts t time new apart tick.serves tick.own))

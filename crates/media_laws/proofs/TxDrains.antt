@@ -1,4 +1,4 @@
--- What a tick takes out of a stream: the repairs that are owed, then all that waits.
+-- What a tick takes out of a stream: the repairs that are owed, then what waits, all of it unless the tick is cut off.
 use Rattle.std.proofs.Common.{length, ◌≡◌, inl, inr, ℕ, ◌+◌, ◌≤◌, Bool, true, false, eqb, List, [], ◌∷◌, ◌++◌, map, Some, None, refl, sym, ap, ◌∙◌, subst, append_assoc, arith}
 use Rattle.std.specs.Prelude.{filter}
 use Rattle.std.specs.List.{fold}
@@ -10,8 +10,8 @@ use Rattle.run_model.specs.Events.{Plain, Event, sealed, Types, Outgoing}
 use Rattle.run_model.specs.Listing.{IsIn, Leaves, ended, takes, skips}
 use Rattle.run_model.specs.Sending.{is_cached, is_just, Sendings, sending_step, cached, Kept, Carries, Carry, nothing, one, sending_of, repair_of, first_sendings, repairs}
 use Rattle.run_model.specs.Seals.{Sealing}
-use Rattle.run_model.specs.TxPlay.{IsApart, TxRecord, past_of, Caches, drops, misses, resends, sends, Drains, empty, polls}
-use Rattle.media_laws.proofs.Lists.{tested, leaves_again}
+use Rattle.run_model.specs.TxPlay.{IsApart, TxRecord, past_of, Caches, drops, misses, resends, sends, Serves, rests, polls}
+use Rattle.media_laws.proofs.Lists.{tested, leaves_again, leaves_same, leaves_front, front_nothing, back_nothing}
 use Rattle.media_laws.proofs.Stores.{LateFrom, held_was_sent, kept_is_held}
 use Rattle.media_laws.proofs.TxTracks.{Follows, follows_send, follows_repair, same_but_resends}
 
@@ -39,15 +39,16 @@ module _ (L : Outgoing) (bytes : List ℕ) (events : List Event) where
 step-repair : (L : Outgoing) (s : Sendings) (x n : ℕ) (p : Plain) (bytes : List ℕ) → eqb x L.ssrc ≡ false → sending_step L.ssrc s (sealed x n p bytes) ≡ s
 step-repair L s x n p bytes is = rw is refl
 
--- the drain, from a moment within a tick on
+-- the polls of a stream, from a moment within a tick on: of what waits the first ones are gone, and of the numbers to resend those
+-- are neither answered nor left that need not be held
 pub record Drained (T : Types) (L : Outgoing) (s : Sendings) (mains reps : List (ℕ × Plain)) (t u : TxRecord) (share : List Event) : Type 0 where
   pub follows : Follows T L (fold (sending_step L.ssrc) s share) (mains ++ first_sendings L.ssrc share) (reps ++ repairs L share) u
-  pub no_resends : u.resends ≡ []
-  pub no_queue : u.queue ≡ []
-  pub sendings : first_sendings L.ssrc share ≡ map plain_of s.waiting
+  pub gone : List Write
+  pub waiting : s.waiting ≡ gone ++ u.queue
+  pub sendings : first_sendings L.ssrc share ≡ map plain_of gone
   pub answered : List ℕ
   pub carry : Carry T (cached T L s.sent) (repairs L share) answered
-  pub keeps : Leaves (λ n. (t.reading.met ≡ false) × Kept T L s.sent n) answered t.resends
+  pub keeps : Leaves (λ n. (t.reading.met ≡ false) × Kept T L s.sent n) (answered ++ u.resends) t.resends
 
 all_go : {X : Type 0} (Stays : X → Type 0) (xs : List X) → ((x : X) → Stays x → ⊥) → Leaves Stays [] xs
 all_go Stays [] gone = ended
@@ -78,23 +79,23 @@ module _ {T : Types} {L : Outgoing} where
   pub not_missed : {s : Sendings} {mains reps : List (ℕ × Plain)} {t : TxRecord} (n : ℕ) → Follows T L s mains reps t → HeldAs (past_of L t.store) n None → Kept T L s.sent n → ⊥
   not_missed {s = s} n h out kept = kept_is_held h.told (late_filter (λ x. is_cached T L x.1) 0 0 s.sent (omega arith) h.late) n kept out
 
-  drained_empty : {s : Sendings} {mains reps : List (ℕ × Plain)} {t : TxRecord} → t.resends ≡ [] → t.queue ≡ [] → Follows T L s mains reps t → Drained T L s mains reps t t []
-  drained_empty {s} {mains} {reps} {t} none idle h = record {
+  drained_rests : {s : Sendings} {mains reps : List (ℕ × Plain)} {t : TxRecord} → Follows T L s mains reps t → Drained T L s mains reps t t []
+  drained_rests {s} {mains} {reps} {t} h = record {
     follows = subst (λ ms. Follows T L s ms (reps ++ []) t) (sym (append-nil mains)) (subst (λ rs. Follows T L s mains rs t) (sym (append-nil reps)) h);
-    no_resends = none;
-    no_queue = idle;
-    sendings = ap (map plain_of) (sym (sym h.queue ∙ idle));
+    gone = [];
+    waiting = sym h.queue;
+    sendings = refl;
     answered = [];
     carry = nothing;
-    keeps = subst (Leaves (λ n. (t.reading.met ≡ false) × Kept T L s.sent n) []) (sym none) ended;
+    keeps = leaves_same t.resends;
   }
 
   drained_drops : {s : Sendings} {mains reps : List (ℕ × Plain)} {t u : TxRecord} {share : List Event} → t.reading.met ≡ true
       → Drained T L s mains reps (record t { resends = [] }) u share → Drained T L s mains reps t u share
   drained_drops {s} {t = t} is d = record {
     follows = d.follows;
-    no_resends = d.no_resends;
-    no_queue = d.no_queue;
+    gone = d.gone;
+    waiting = d.waiting;
     sendings = d.sendings;
     answered = d.answered;
     carry = d.carry;
@@ -103,14 +104,14 @@ module _ {T : Types} {L : Outgoing} where
 
   drained_misses : {s : Sendings} {mains reps : List (ℕ × Plain)} {t u : TxRecord} {share : List Event} (n : ℕ) (rest : List ℕ) → t.resends ≡ n ∷ rest
       → (Kept T L s.sent n → ⊥) → Drained T L s mains reps (record t { resends = rest }) u share → Drained T L s mains reps t u share
-  drained_misses {s} {t = t} n rest is gone d = record {
+  drained_misses {s} {t = t} {u = u} n rest is gone d = record {
     follows = d.follows;
-    no_resends = d.no_resends;
-    no_queue = d.no_queue;
+    gone = d.gone;
+    waiting = d.waiting;
     sendings = d.sendings;
     answered = d.answered;
     carry = d.carry;
-    keeps = subst (Leaves (λ n. (t.reading.met ≡ false) × Kept T L s.sent n) d.answered) (sym is) (skips n (λ k. gone k.1) d.keeps);
+    keeps = subst (Leaves (λ n. (t.reading.met ≡ false) × Kept T L s.sent n) (d.answered ++ u.resends)) (sym is) (skips n (λ k. gone k.1) d.keeps);
   }
 
   drained_resends : (bytes : List ℕ) (log : List (ℕ × ℕ)) {s : Sendings} {mains reps : List (ℕ × Plain)} {t u : TxRecord} {share : List Event} (n : ℕ) (rest : List ℕ) (y : ℕ × Write) (x pt : ℕ) → t.resends ≡ n ∷ rest
@@ -121,12 +122,12 @@ module _ {T : Types} {L : Outgoing} where
     follows = subst (λ z. Follows T L (fold (sending_step L.ssrc) z share) (mains ++ first_sendings L.ssrc (e ∷ share)) (reps ++ repairs L (e ∷ share)) u) (sym (step-repair L s x t.next_rtx (repair_of pt y.1) bytes other))
         (subst (λ ms. Follows T L (fold (sending_step L.ssrc) s share) (mains ++ ms) (reps ++ repairs L (e ∷ share)) u) (sym no_first)
         (subst (λ rs. Follows T L (fold (sending_step L.ssrc) s share) (mains ++ first_sendings L.ssrc share) rs u) (append_assoc reps (r ∷ []) (repairs L share) ∙ ap (λ rs. reps ++ rs) (sym one_repair)) d.follows));
-    no_resends = d.no_resends;
-    no_queue = d.no_queue;
+    gone = d.gone;
+    waiting = d.waiting;
     sendings = no_first ∙ d.sendings;
     answered = n ∷ d.answered;
     carry = subst (λ ps. Carry T (cached T L s.sent) ps (n ∷ d.answered)) (sym one_repair) (one t.next_rtx n (repair_of pt y.1) y there number (carries_held y.1 pt type) d.carry);
-    keeps = subst (Leaves (λ n. (t.reading.met ≡ false) × Kept T L s.sent n) (n ∷ d.answered)) (sym is) (takes n d.keeps);
+    keeps = subst (Leaves (λ n. (t.reading.met ≡ false) × Kept T L s.sent n) (n ∷ (d.answered ++ u.resends))) (sym is) (takes n d.keeps);
   }
     where
       e : Event
@@ -149,12 +150,13 @@ module _ {T : Types} {L : Outgoing} where
     follows = subst (λ z. Follows T L (fold (sending_step L.ssrc) z share) (mains ++ first_sendings L.ssrc (e ∷ share)) (reps ++ repairs L (e ∷ share)) u) (sym stepped)
         (subst (λ rs. Follows T L (fold (sending_step L.ssrc) after share) (mains ++ first_sendings L.ssrc (e ∷ share)) (reps ++ rs) u) (sym no_repair)
         (subst (λ ms. Follows T L (fold (sending_step L.ssrc) after share) ms (reps ++ repairs L share) u) (append_assoc mains (plain_of w ∷ []) (first_sendings L.ssrc share) ∙ ap (λ ms. mains ++ ms) (sym one_first)) d.follows));
-    no_resends = d.no_resends;
-    no_queue = d.no_queue;
-    sendings = one_first ∙ ap (λ ps. plain_of w ∷ ps) d.sendings ∙ ap (map plain_of) (sym waits);
+    gone = w ∷ d.gone;
+    waiting = waits ∙ ap (λ ws. w ∷ ws) d.waiting;
+    sendings = one_first ∙ ap (λ ps. plain_of w ∷ ps) d.sendings;
     answered = [];
-    carry = subst (λ ps. Carry T (cached T L s.sent) ps []) (sym (no_repair ∙ carry_nothing d.carry (leaves_nothing d.keeps none))) nothing;
-    keeps = subst (Leaves (λ n. (t.reading.met ≡ false) × Kept T L s.sent n) []) (sym none) ended;
+    carry = subst (λ ps. Carry T (cached T L s.sent) ps []) (sym (no_repair ∙ carry_nothing d.carry (front_nothing d.answered u.resends nothing_left))) nothing;
+    keeps = subst (λ rs. Leaves (λ n. (t.reading.met ≡ false) × Kept T L s.sent n) rs t.resends) (sym (back_nothing d.answered u.resends nothing_left))
+        (subst (Leaves (λ n. (t.reading.met ≡ false) × Kept T L s.sent n) []) (sym none) ended);
   }
     where
       e : Event
@@ -166,12 +168,15 @@ module _ {T : Types} {L : Outgoing} where
       one_first : first_sendings L.ssrc (e ∷ share) ≡ plain_of w ∷ first_sendings L.ssrc share
       one_first = first-send L bytes share w
 
+      nothing_left : d.answered ++ u.resends ≡ []
+      nothing_left = leaves_nothing d.keeps none
+
       no_repair : repairs L (e ∷ share) ≡ repairs L share
       no_repair = repair-send L bytes share w.number (sending_of w) apart
 
 pub drained : {T : Types} {L : Outgoing} {seal : Sealing} {now : ℕ} {t u : TxRecord} {share : List Event}
-    → Drains T L seal now t u share → IsApart L → (s : Sendings) (mains reps : List (ℕ × Plain)) → s.now ≡ now → Follows T L s mains reps t → Drained T L s mains reps t u share
-drained (empty none idle) apart s mains reps at h = drained_empty none idle h
+    → Serves T L seal now t u share → IsApart L → (s : Sendings) (mains reps : List (ℕ × Plain)) → s.now ≡ now → Follows T L s mains reps t → Drained T L s mains reps t u share
+drained rests apart s mains reps at h = drained_rests h
 drained (polls (drops is) more) apart s mains reps at h = drained_drops is (drained more apart s mains reps at (same_but_resends [] h))
 drained (polls (misses n rest is out) more) apart s mains reps at h = drained_misses n rest is (not_missed n h out) (drained more apart s mains reps at (same_but_resends rest h))
 drained {T} {L} {seal} {now} (polls {t} (resends n rest w x pt bytes is held own type made) more) apart s mains reps at h =
@@ -182,3 +187,15 @@ drained {T} {L} {seal} {now} (polls {t} (resends n rest w x pt bytes is held own
 drained {T} {L} {seal} {now} (polls {t} (sends w rest store bytes none is caches made) more) apart s mains reps at h =
     let r = follows_send w rest store (t.sent ++ (now, length w.payload) ∷ []) bytes h is (subst (λ (m : ℕ). Caches T L m w t.store store) (sym at) caches) in
     drained_sends bytes (t.sent ++ (now, length w.payload) ∷ []) w rest store none (sym h.queue ∙ is) apart r.1 (drained more apart (record s { waiting = rest; sent = s.sent ++ (s.now, w) ∷ [] }) (mains ++ plain_of w ∷ []) reps at r.0)
+
+-- where nothing is left, all that waited is gone, and each number that has to be held is answered
+module _ {T : Types} {L : Outgoing} {s : Sendings} {mains reps : List (ℕ × Plain)} {t u : TxRecord} {share : List Event} (d : Drained T L s mains reps t u share) where
+  pub all_gone : u.queue ≡ [] → d.gone ≡ s.waiting
+  all_gone none = sym (d.waiting ∙ ap (λ ws. d.gone ++ ws) none ∙ append-nil d.gone)
+
+  pub all_answered : u.resends ≡ [] → Leaves (λ n. (t.reading.met ≡ false) × Kept T L s.sent n) d.answered t.resends
+  all_answered none = subst (λ ns. Leaves (λ n. (t.reading.met ≡ false) × Kept T L s.sent n) ns t.resends) (ap (λ rs. d.answered ++ rs) none ∙ append-nil d.answered) d.keeps
+
+  -- and else some are
+  pub some_answered : Leaves (λ n. ⊥) d.answered t.resends
+  some_answered = leaves_front d.answered u.resends refl d.keeps

@@ -11,7 +11,7 @@ use Rattle.run_model.specs.Listing.{IsIn}
 use Rattle.run_model.specs.Capping.{Logs, log_step, no_logs, logs, is_met, IsCapped, reading_after, reading_for}
 use Rattle.run_model.specs.Sending.{is_just, sending_of, repair_of, two_bytes}
 use Rattle.run_model.specs.Seals.{Sealing}
-use Rattle.run_model.specs.TxPlay.{TxRecord, begun_tick, drops, misses, resends, sends, Drains, empty, polls, is_of, is_sealing, IsApart, IsBeside, AreBeside, clock_step, TxStep, writes, ticks, hears, passes, TxPlays, begun, step}
+use Rattle.run_model.specs.TxPlay.{TxRecord, begun_tick, drops, misses, resends, sends, Serves, rests, polls, is_of, is_sealing, IsApart, IsBeside, AreBeside, clock_step, TxStep, writes, ticks, hears, passes, TxPlays, begun, step}
 use Rattle.media_laws.proofs.Lists.{IsIn-left, IsIn-right, tested}
 
 pub record Logged (L : Outgoing) (l : Logs) (t : TxRecord) : Type 0 where
@@ -19,7 +19,7 @@ pub record Logged (L : Outgoing) (l : Logs) (t : TxRecord) : Type 0 where
   pub resent : t.resent ≡ l.resent
   pub met : t.reading.met ≡ true → IsIn t.reading.moment l.met
 
--- a drain
+-- the polls of a tick
 
 sending_log : (L : Outgoing) (l : Logs) (w : Write) (bytes : List ℕ) → IsApart L
     → log_step L l (sealed L.ssrc w.number (sending_of w) bytes) ≡ record l { sent = l.sent ++ (l.now, length w.payload) ∷ [] }
@@ -35,18 +35,18 @@ repair_log L l x n pt w bytes apart is =
     let other : eqb x L.ssrc ≡ false = subst (λ o. is_just L.ssrc o ≡ false) is apart in
     rw (here, other) (ap (λ (k : ℕ). let z : Logs = record l { resent = l.resent ++ (l.now, k) ∷ [] } in z) (without_number w.number w.payload))
 
-drain_logged : {T : Types} {L : Outgoing} {seal : Sealing} {now : ℕ} {t u : TxRecord} {events : List Event} → Drains T L seal now t u events → IsApart L → (l : Logs) → l.now ≡ now → Logged L l t
+serves_logged : {T : Types} {L : Outgoing} {seal : Sealing} {now : ℕ} {t u : TxRecord} {events : List Event} → Serves T L seal now t u events → IsApart L → (l : Logs) → l.now ≡ now → Logged L l t
     → Logged L (fold (log_step L) l events) u
-drain_logged (empty none idle) apart l at h = h
-drain_logged (polls (drops is) more) apart l at h = drain_logged more apart l at (record { sent = h.sent; resent = h.resent; met = h.met })
-drain_logged (polls (misses n rest is out) more) apart l at h = drain_logged more apart l at (record { sent = h.sent; resent = h.resent; met = h.met })
-drain_logged {L = L} {seal} {now} {u = u} (polls {t} {more = events} (resends n rest w x pt bytes is held own type made) more) apart l at h =
+serves_logged rests apart l at h = h
+serves_logged (polls (drops is) more) apart l at h = serves_logged more apart l at (record { sent = h.sent; resent = h.resent; met = h.met })
+serves_logged (polls (misses n rest is out) more) apart l at h = serves_logged more apart l at (record { sent = h.sent; resent = h.resent; met = h.met })
+serves_logged {L = L} {seal} {now} {u = u} (polls {t} {more = events} (resends n rest w x pt bytes is held own type made) more) apart l at h =
     subst (λ z. Logged L (fold (log_step L) z events) u) (sym (repair_log L l x t.next_rtx pt w bytes apart own))
-    (drain_logged more apart (record l { resent = l.resent ++ (l.now, length w.payload) ∷ [] }) at
+    (serves_logged more apart (record l { resent = l.resent ++ (l.now, length w.payload) ∷ [] }) at
     (record { sent = h.sent; resent = ap (λ zs. zs ++ (now, length w.payload) ∷ []) h.resent ∙ ap (λ m. l.resent ++ (m, length w.payload) ∷ []) (sym at); met = h.met }))
-drain_logged {L = L} {seal} {now} {u = u} (polls {t} {more = events} (sends w rest store bytes none is caches made) more) apart l at h =
+serves_logged {L = L} {seal} {now} {u = u} (polls {t} {more = events} (sends w rest store bytes none is caches made) more) apart l at h =
     subst (λ z. Logged L (fold (log_step L) z events) u) (sym (sending_log L l w bytes apart))
-    (drain_logged more apart (record l { sent = l.sent ++ (l.now, length w.payload) ∷ [] }) at
+    (serves_logged more apart (record l { sent = l.sent ++ (l.now, length w.payload) ∷ [] }) at
     (record { sent = ap (λ zs. zs ++ (now, length w.payload) ∷ []) h.sent ∙ ap (λ m. l.sent ++ (m, length w.payload) ∷ []) (sym at); resent = h.resent; met = h.met }))
 
 -- the start of a tick
@@ -140,7 +140,7 @@ step_logged {L = L} {u = u} events apart (writes time w is new late) h =
     subst (λ l. Logged L l u) (sym (logs_after L events (wrote time w ∷ []))) (record { sent = h.sent; resent = h.resent; met = h.met })
 step_logged {L = L} {t = t} {u = u} events apart (ticks time new late tick) h =
     subst (λ l. Logged L l u) (sym (logs_after L events (ticked time ∷ new) ∙ log_share L new (log_step L (logs L events) (ticked time)) tick.sealings ∙ ap (fold (log_step L) (log_step L (logs L events) (ticked time))) tick.own))
-    (drain_logged tick.drain apart (log_step L (logs L events) (ticked time)) refl (begin_logged (logs L events) time h))
+    (serves_logged tick.drain.serves apart (log_step L (logs L events) (ticked time)) refl (begin_logged (logs L events) time h))
 step_logged {L = L} {u = u} events apart (hears time bytes index items queued late q) h =
     subst (λ l. Logged L l u) (sym (logs_after L events (got time Rtcp bytes ∷ opened_items index items ∷ []))) (record { sent = h.sent; resent = h.resent; met = h.met })
 step_logged {L = L} {now = now} {t = t} events apart (passes new beside) h = subst (λ l. Logged L l t) (sym (logs_after L events new)) (beside_logged now (logs L events) new beside h)

@@ -17,13 +17,13 @@ use Rattle.run_model.specs.Listing.{IsIn, NoRepeat, Leaves, ended, takes, skips}
 use Rattle.run_model.specs.Capping.{logs, IsCapped}
 use Rattle.run_model.specs.Sending.{is_just, number_of, numbers, Sendings, sending_step, sendings, nothing_sent, named_on, wanted, cached, is_cached, Carry, latest_from, is_sending, Kept, sending_on, first_sendings, repair_on, repairs, write_on, writes_on}
 use Rattle.run_model.specs.Seals.{Sealing}
-use Rattle.run_model.specs.TxPlay.{begun_tick, IsApart, TxRecord, new_tx, after_write, past_of, Drains, Queues, none, held, missing, is_of, is_sealing, IsBeside, clock_step, AreBeside, TxStep, writes, ticks, hears, passes, TxPlays, begun, step}
-use Rattle.run_model.specs.TxLaws.{TicksAnswer, StreamsSendWrites}
+use Rattle.run_model.specs.TxPlay.{begun_tick, IsApart, TxRecord, new_tx, after_write, past_of, Serves, Drains, Queues, none, held, missing, is_of, is_sealing, IsBeside, clock_step, AreBeside, TxStep, writes, ticks, hears, passes, TxPlays, begun, step, TxEnds, at_step, in_tick}
+use Rattle.run_model.specs.TxLaws.{TicksAnswer, CutTicksAnswer, StreamsSendWrites}
 use Rattle.media_laws.proofs.Lists.{IsIn-left, tested, NoRepeat-push, leaves-append, leaves_again, leaves_where}
 use Rattle.media_laws.proofs.Stores.{Tells, nothing, LateFrom, is_last}
 use Rattle.media_laws.proofs.TxLogs.{Logged, capped_at, plays_logged}
 use Rattle.media_laws.proofs.TxTracks.{same_but_reading, Follows, numbered, same_but_resends}
-use Rattle.media_laws.proofs.TxDrains.{leaves_nothing, Drained, drained, late_filter, not_missed}
+use Rattle.media_laws.proofs.TxDrains.{plain_of, leaves_nothing, Drained, drained, all_gone, all_answered, some_answered, late_filter, not_missed}
 
 pub record Tracks (T : Types) (L : Outgoing) (events : List Event) (t : TxRecord) : Type 0 where
   pub follows : Follows T L (sendings L.ssrc events) (first_sendings L.ssrc events) (repairs L events) t
@@ -129,11 +129,16 @@ queues_leave h none = ended
 queues_leave h (held n w is q) = takes n (queues_leave h q)
 queues_leave h (missing n out q) = skips n (not_missed n h out) (queues_leave h q)
 
+follows_at : {T : Types} {L : Outgoing} {s : Sendings} {mains reps : List (ℕ × Plain)} {t : TxRecord} (events : List Event) → sendings L.ssrc events ≡ s → first_sendings L.ssrc events ≡ mains → repairs L events ≡ reps
+    → Follows T L s mains reps t → Follows T L (sendings L.ssrc events) (first_sendings L.ssrc events) (repairs L events) t
+follows_at {T} {L} {s} {mains} {t = t} events e f g h =
+    subst (λ z. Follows T L z (first_sendings L.ssrc events) (repairs L events) t) (sym e)
+    (subst (λ ms. Follows T L s ms (repairs L events) t) (sym f) (subst (λ rs. Follows T L s mains rs t) (sym g) h))
+
 tracks_at : {T : Types} {L : Outgoing} {s : Sendings} {mains reps : List (ℕ × Plain)} {t : TxRecord} (events : List Event) → sendings L.ssrc events ≡ s → first_sendings L.ssrc events ≡ mains → repairs L events ≡ reps
     → Follows T L s mains reps t → Leaves (Kept T L s.sent) t.resends (wanted (last_position t.store) s.named) → Tracks T L events t
-tracks_at {T} {L} {s} {mains} {reps} {t} events e f g h a = record {
-  follows = subst (λ z. Follows T L z (first_sendings L.ssrc events) (repairs L events) t) (sym e)
-      (subst (λ ms. Follows T L s ms (repairs L events) t) (sym f) (subst (λ rs. Follows T L s mains rs t) (sym g) h));
+tracks_at {T} {L} {t = t} events e f g h a = record {
+  follows = follows_at events e f g h;
   asked = subst (λ (z : Sendings). Leaves (Kept T L z.sent) t.resends (wanted (last_position t.store) z.named)) (sym e) a;
 }
 
@@ -208,15 +213,15 @@ hears_tracks {T} {L} {t} {queued} events index items q h =
     (subst (Leaves (Kept T L (sendings L.ssrc events).sent) (t.resends ++ queued)) (sym (wanted-append (last_position t.store) (sendings L.ssrc events).named (flat_map (named_on L.ssrc) items)))
     (leaves-append h.asked (queues_leave h.follows q)))
 
--- what a drain says of the whole of what the side sealed then
+-- what the polls of a tick say of the whole of what the side sealed then
 abbrev pub at_tick : ℕ → Sendings → Sendings
 at_tick time s = record s { now = time; named = [] }
 
 pub drained_at : {T : Types} {L : Outgoing} {seal : Sealing} {t u : TxRecord} {share : List Event} (events : List Event) (time : ℕ) → IsApart L → Tracks T L events t
-    → (sendings L.ssrc events).now ≤ time → Drains T L seal time (begun_tick L time t) u share
+    → (sendings L.ssrc events).now ≤ time → Serves T L seal time (begun_tick L time t) u share
     → Drained T L (at_tick time (sendings L.ssrc events)) (first_sendings L.ssrc events) (repairs L events) (begun_tick L time t) u share
-drained_at {L = L} {t = t} events time apart h at drain =
-    drained drain apart (at_tick time (sendings L.ssrc events)) (first_sendings L.ssrc events) (repairs L events) refl
+drained_at {L = L} {t = t} events time apart h at serves =
+    drained serves apart (at_tick time (sendings L.ssrc events)) (first_sendings L.ssrc events) (repairs L events) refl
     (same_but_reading (begun_tick L time t).reading (same_follows (at_tick time (sendings L.ssrc events)) refl refl refl at h.follows))
 
 named_stays : (m : ℕ) (new : List Event) (s : Sendings) → list_all is_sealing new ≡ true → (fold (sending_step m) s new).named ≡ s.named
@@ -234,31 +239,37 @@ named_stays m (e ∷ new) s all = let parts = sealing_parts e new all in named_s
     same (opened_items index items) is = absurd (false≢true is)
     same (yielded packet) is = absurd (false≢true is)
 
-tick_tracks : {T : Types} {L : Outgoing} {seal : Sealing} {t u : TxRecord} {share : List Event} (events : List Event) (time : ℕ) (new : List Event) → IsApart L
-    → (sendings L.ssrc events).now ≤ time → Drains T L seal time (begun_tick L time t) u share → filter (is_of L) new ≡ share → list_all is_sealing new ≡ true
-    → Tracks T L events t → Tracks T L (events ++ ticked time ∷ new) u
-tick_tracks {T} {L} {t = t} {u = u} {share = share} events time new apart at drain is all h =
-    tracks_at (events ++ ticked time ∷ new) state (reading (sending_on L.ssrc) refl (first_other L)) (reading (repair_on L) refl (repair_other L)) d.follows
-    (subst (λ qs. Leaves (Kept T L after.sent) qs (wanted (last_position u.store) after.named)) (sym d.no_resends)
-    (subst (Leaves (Kept T L after.sent) []) (sym (ap (wanted (last_position u.store)) nothing_named ∙ wanted_none (last_position u.store))) ended))
+-- a tick, also one that is cut off
+tick_follows : {T : Types} {L : Outgoing} {seal : Sealing} {t u : TxRecord} {share : List Event} (events : List Event) (time : ℕ) (new : List Event) → IsApart L
+    → (sendings L.ssrc events).now ≤ time → Serves T L seal time (begun_tick L time t) u share → filter (is_of L) new ≡ share → list_all is_sealing new ≡ true
+    → Tracks T L events t → Follows T L (sendings L.ssrc (events ++ ticked time ∷ new)) (first_sendings L.ssrc (events ++ ticked time ∷ new)) (repairs L (events ++ ticked time ∷ new)) u
+tick_follows {T} {L} {share = share} events time new apart at serves is all h =
+    follows_at (events ++ ticked time ∷ new) state (reading (sending_on L.ssrc) refl (first_other L)) (reading (repair_on L) refl (repair_other L)) (drained_at events time apart h at serves).follows
   where
-    d : Drained T L (at_tick time (sendings L.ssrc events)) (first_sendings L.ssrc events) (repairs L events) (begun_tick L time t) u share
-    d = drained_at events time apart h at drain
-
-    after : Sendings
-    after = fold (sending_step L.ssrc) (at_tick time (sendings L.ssrc events)) share
-
-    whole : fold (sending_step L.ssrc) (at_tick time (sendings L.ssrc events)) new ≡ after
-    whole = fold_share L new (at_tick time (sendings L.ssrc events)) all ∙ ap (fold (sending_step L.ssrc) (at_tick time (sendings L.ssrc events))) is
-
-    state : sendings L.ssrc (events ++ ticked time ∷ new) ≡ after
-    state = fold-append (sending_step L.ssrc) nothing_sent events (ticked time ∷ new) ∙ whole
-
-    nothing_named : after.named ≡ []
-    nothing_named = ap (λ (z : Sendings). z.named) (sym whole) ∙ named_stays L.ssrc new (at_tick time (sendings L.ssrc events)) all
+    state : sendings L.ssrc (events ++ ticked time ∷ new) ≡ fold (sending_step L.ssrc) (at_tick time (sendings L.ssrc events)) share
+    state =
+        fold-append (sending_step L.ssrc) nothing_sent events (ticked time ∷ new) ∙ fold_share L new (at_tick time (sendings L.ssrc events)) all
+        ∙ ap (fold (sending_step L.ssrc) (at_tick time (sendings L.ssrc events))) is
 
     reading : {X : Type 0} (f : Event → List X) → f (ticked time) ≡ [] → ((e : Event) → is_of L e ≡ false → f e ≡ []) → flat_map f (events ++ ticked time ∷ new) ≡ flat_map f events ++ flat_map f share
     reading f out beside = flat_map-append f events (ticked time ∷ new) ∙ ap (λ zs. flat_map f events ++ zs) (ap (λ zs. zs ++ flat_map f new) out ∙ reading_share f L beside new ∙ ap (flat_map f) is)
+
+tick_tracks : {T : Types} {L : Outgoing} {seal : Sealing} {t u : TxRecord} {share : List Event} (events : List Event) (time : ℕ) (new : List Event) → IsApart L
+    → (sendings L.ssrc events).now ≤ time → Drains T L seal time (begun_tick L time t) u share → filter (is_of L) new ≡ share → list_all is_sealing new ≡ true
+    → Tracks T L events t → Tracks T L (events ++ ticked time ∷ new) u
+tick_tracks {T} {L} {u = u} events time new apart at drain is all h = record {
+  follows = tick_follows events time new apart at drain.serves is all h;
+  asked = subst (λ qs. Leaves (Kept T L after.sent) qs (wanted (last_position u.store) after.named)) (sym drain.no_resends)
+      (subst (Leaves (Kept T L after.sent) []) (sym (ap (wanted (last_position u.store)) nothing_named ∙ wanted_none (last_position u.store))) ended);
+}
+  where
+    after : Sendings
+    after = sendings L.ssrc (events ++ ticked time ∷ new)
+
+    nothing_named : after.named ≡ []
+    nothing_named =
+        ap (λ (z : Sendings). z.named) (fold-append (sending_step L.ssrc) nothing_sent events (ticked time ∷ new))
+        ∙ named_stays L.ssrc new (at_tick time (sendings L.ssrc events)) all
 
 -- the moment of the last step is the same for all streams
 pub step_clock : (m : ℕ) (s : Sendings) (e : Event) → (sending_step m s e).now ≡ clock_step s.now e
@@ -298,6 +309,12 @@ pub tracks : {T : Types} {L : Outgoing} {seal : Sealing} {t : TxRecord} {events 
 tracks apart begun = begun_tracks
 tracks apart (step {events = events} h s) = step_tracks events apart refl s (tracks apart h)
 
+-- also where the last tick was cut off
+pub ends_follow : {T : Types} {L : Outgoing} {seal : Sealing} {t : TxRecord} {events : List Event} → IsApart L → TxEnds T L seal t events
+    → Follows T L (sendings L.ssrc events) (first_sendings L.ssrc events) (repairs L events) t
+ends_follow apart (at_step h) = (tracks apart h).follows
+ends_follow apart (in_tick {events = events} h time new at tick) = tick_follows events time new apart at tick.serves tick.own tick.sealings (tracks apart h)
+
 -- laws
 
 -- of the resends those that have to be held are answered, where the stream is not capped
@@ -311,14 +328,30 @@ answered_unless {L = L} s events time t answered (n ∷ ns) logged is h =
 pub ticks_answer : TicksAnswer
 ticks_answer T L seal t u events time new apart h at tick =
     let k = tracks apart h in
-    let d = drained_at events time apart k at tick.drain in
+    let d = drained_at events time apart k at tick.drain.serves in
     record {
+      sendings = reading_share (sending_on L.ssrc) L (first_other L) new ∙ ap (first_sendings L.ssrc) tick.own ∙ d.sendings ∙ ap (map plain_of) (all_gone d tick.drain.no_queue);
+      last = last_position t.store;
+      is_last = is_last k.follows.told (late_filter (λ x. is_cached T L x.1) 0 0 (sendings L.ssrc events).sent (omega arith) k.follows.late);
+      answered = d.answered;
+      carry = subst (λ ps. Carry T (cached T L (sendings L.ssrc events).sent) ps d.answered) (sym (reading_share (repair_on L) L (repair_other L) new ∙ ap (repairs L) tick.own)) d.carry;
+      keeps = leaves_again (answered_unless (sendings L.ssrc events) events time t d.answered t.resends (plays_logged apart h) refl (all_answered d tick.drain.no_resends)) (leaves_where (λ n k. k.1) k.asked);
+    }
+
+pub cut_ticks_answer : CutTicksAnswer
+cut_ticks_answer T L seal t u events time new apart h at tick =
+    let k = tracks apart h in
+    let d = drained_at events time apart k at tick.serves in
+    record {
+      gone = d.gone;
+      left = u.queue;
+      waiting = d.waiting;
       sendings = reading_share (sending_on L.ssrc) L (first_other L) new ∙ ap (first_sendings L.ssrc) tick.own ∙ d.sendings;
       last = last_position t.store;
       is_last = is_last k.follows.told (late_filter (λ x. is_cached T L x.1) 0 0 (sendings L.ssrc events).sent (omega arith) k.follows.late);
       answered = d.answered;
       carry = subst (λ ps. Carry T (cached T L (sendings L.ssrc events).sent) ps d.answered) (sym (reading_share (repair_on L) L (repair_other L) new ∙ ap (repairs L) tick.own)) d.carry;
-      keeps = leaves_again (answered_unless (sendings L.ssrc events) events time t d.answered t.resends (plays_logged apart h) refl d.keeps) (leaves_where (λ n k. k.1) k.asked);
+      among = leaves_again (some_answered d) (leaves_where (λ n none. absurd none) k.asked);
     }
 
 no_repeat_left : {X : Type 0} (xs ys : List X) → NoRepeat (xs ++ ys) → NoRepeat xs
@@ -347,7 +380,7 @@ writes_are m (e ∷ events) s = writes_are m events (sending_step m s e) ∙ ap 
 
 pub streams_send_writes : StreamsSendWrites
 streams_send_writes T L seal t events apart h =
-    let f = (tracks apart h).follows in
+    let f = ends_follow apart h in
     let all : writes_on L.ssrc events ≡ map (λ (x : ℕ × Write). x.1) (sendings L.ssrc events).sent ++ (sendings L.ssrc events).waiting = sym (writes_are L.ssrc events nothing_sent) ∙ f.whole in
     record {
       in_order = all;

@@ -8,25 +8,25 @@ use Rattle.media_model.specs.declared.entry.Packet.{Packet}
 use Rattle.run_model.specs.Events.{Plain, Event, wrote, ticked, called, got, sealed, sealed_items, opened, opened_items, yielded, Types, Outgoing, Incoming}
 use Rattle.run_model.specs.Listing.{IsIn}
 use Rattle.run_model.specs.Capping.{IsCapped}
-use Rattle.run_model.specs.Sending.{is_just, sendings, nothing_sent, Answers}
+use Rattle.run_model.specs.Sending.{is_just, sendings, nothing_sent, Answers, AnswersPartly}
 use Rattle.run_model.specs.Seals.{Sealing}
 use Rattle.run_model.specs.TxPlay.{TxRecord, new_tx, is_of, is_sealing, clock_step, TxStep}
 use Rattle.run_model.specs.Receiving.{concerns, yields, Opens}
 use Rattle.run_model.specs.RxPlay.{RxRecord, new_rx, lists_in, rx_opened, AreAside, RxStep, opens as rx_opens, ticks as rx_ticks, passes as rx_passes}
 use Rattle.run_model.specs.Asking.{NoneHas, MainsApart, RxSide, RxSetup, new_side, opened_in, ticked_in, side_step, asks_of, RxSideStep, opens as side_opens, ticks as side_ticks, hears as side_hears, calls as side_calls, passes as side_passes, RxSidePlays, begun as rx_begun, step as rx_step}
-use Rattle.run_model.specs.Tables.{begun_at, Table, lines, clock, has, AllStrange, AreApart, AreElsewhere, SideStep, writes as table_writes, ticks as table_ticks, hears as table_hears, passes as table_passes, SidePlays, begun as tx_begun, step as tx_step}
+use Rattle.run_model.specs.Tables.{begun_at, Table, lines, clock, has, AllStrange, AreApart, AreIdle, ServesAll, AreElsewhere, SideStep, writes as table_writes, ticks as table_ticks, hears as table_hears, passes as table_passes, SidePlays, begun as tx_begun, step as tx_step, SideEnds, at_step as side_at_step, in_tick as side_in_tick}
 use Rattle.media_model.specs.declared.entry.Side.{Side}
 use Rattle.media_model.specs.declared.entry.Side.TheVariants.{A, B}
-use Rattle.media_model.specs.Sides.{peer_of}
+use Rattle.media_model.specs.Sides.{peer_of, same_side}
 use Rattle.run_model.specs.Runs.{Happening, events_of, on_side, Runs, begun as pair_begun, sends, receives}
-use Rattle.run_model.specs.Whole.{Config, incoming_of, probes, setup_of, Session, Turns, writes, ticks, calls, opens, hears, stays, Played, begun, of_a, of_b, session_of, IsSound, RunsRepeatNoNonce, RunsYieldOnce, RunsYieldWrites, RunsAskTheDue, RunsAnswer}
+use Rattle.run_model.specs.Whole.{Config, incoming_of, probes, setup_of, Session, Turns, writes, ticks, calls, opens, hears, stays, Played, begun, of_a, of_b, session_of, CutsOff, Ends, at_step, in_tick, IsSound, RunsRepeatNoNonce, RunsYieldOnce, RunsYieldWrites, RunsAskTheDue, RunsAnswer, RunsAnswerPartly}
 use Rattle.media_laws.proofs.Lists.{IsIn-map, tested}
-use Rattle.media_laws.proofs.Tables.{begun_lines, AllPlay, Shares, and_one, drain_shares, Steps, no_steps, and_step, side_steps, clock_is, own_main, Sides, sides, drain_seals}
+use Rattle.media_laws.proofs.Tables.{begun_lines, AllPlay, Shares, and_one, serve_shares, Steps, no_steps, and_step, side_steps, clock_is, own_main, Sides, sides, serve_seals}
 use Rattle.media_laws.proofs.Nonces.{apart_in, no_nonce_twice}
 use Rattle.media_laws.proofs.RxYields.{YieldsNew, yields_new, none_twice}
 use Rattle.media_laws.proofs.RunYields.{events_more, events_same, rx_plays, streams_yield_writes}
 use Rattle.media_laws.proofs.Asks.{side_tracks, side_mains, mains, rounds_ask_the_due}
-use Rattle.media_laws.proofs.TxPlays.{ticks_answer}
+use Rattle.media_laws.proofs.TxPlays.{ticks_answer, cut_ticks_answer}
 
 -- what a turn is to the outgoing half, and to the incoming half
 
@@ -45,7 +45,7 @@ turn_tx (stays time kind bytes late out unread) = table_passes (got time kind by
 
 turn_rx : {C : Config} {side : Side} {a b : Session} {new : List Event} → Turns C side a b new → RxSideStep (setup_of C side) (C.seals (peer_of side)) a.rx b.rx new
 turn_rx (writes time w late unused) = side_passes (wrote time w) tt
-turn_rx (ticks time new next late d f count) = side_ticks time new (drain_seals d) f
+turn_rx (ticks time new next late d f count) = side_ticks time new (serve_seals d.serves) f
 turn_rx (opens time bytes ssrc n p s late i o) = side_opens time bytes ssrc n p s i o
 turn_rx (calls time items late others) = side_calls time _ items
 turn_rx (hears time bytes index items late report h) = side_hears time bytes index items
@@ -94,9 +94,33 @@ half_b begun = record { tx = tx_begun; rx = rx_begun }
 half_b (of_a {entries = entries} {new = new} h t) = half_same _ _ (events_same B A entries new refl) (half_b h)
 half_b (of_b {entries = entries} {new = new} h t) = half_same _ _ (events_more B entries new) (half_turn (half_b h) t)
 
+pub half_of : {C : Config} {a b : Session} {entries : List Happening} → Played C a b entries → (side : Side) → Half C side (session_of side a b) (events_of side entries)
+half_of h A = half_a h
+half_of h B = half_b h
+
+-- a side whose tick is cut off, and the other side
+pub cut_side : {C : Config} {a b : Session} {entries : List Happening} → Played C a b entries → (side : Side) (time : ℕ) (streams : Table) (next : ℕ) (new : List Event)
+    → CutsOff C side (session_of side a b) time streams next new
+    → SideEnds C.types (C.seals side) (C.outgoing side) streams (events_of side (entries ++ on_side side (ticked time ∷ new)))
+cut_side {C} {a} {b} {entries} h side time streams next new cut =
+    let half = half_of h side in
+    subst (SideEnds C.types (C.seals side) (C.outgoing side) streams) (sym (events_more side entries (ticked time ∷ new)))
+    (side_in_tick half.tx time (subst (λ n. n ≤ time) (half_clock half) cut.late) cut.serves)
+
+beside_cut : {C : Config} {a b : Session} {entries : List Happening} → Played C a b entries → (side by : Side) (new : List Event) → same_side side by ≡ false
+    → SideEnds C.types (C.seals side) (C.outgoing side) (session_of side a b).tx (events_of side (entries ++ on_side by new))
+beside_cut {C} {a} {b} {entries} h side by new other =
+    subst (SideEnds C.types (C.seals side) (C.outgoing side) (session_of side a b).tx) (sym (events_same side by entries new other)) (side_at_step (half_of h side).tx)
+
+pub side_ends : {C : Config} {entries : List Happening} → Ends C entries → (side : Side) → (xs : Table) × SideEnds C.types (C.seals side) (C.outgoing side) xs (events_of side entries)
+side_ends (at_step {a = a} {b = b} h) side = ((session_of side a b).tx, side_at_step (half_of h side).tx)
+side_ends (in_tick h A time streams next new cut) A = (streams, cut_side h A time streams next new cut)
+side_ends (in_tick {b = b} h A time streams next new cut) B = (b.tx, beside_cut h B A (ticked time ∷ new) refl)
+side_ends (in_tick {a = a} h B time streams next new cut) A = (a.tx, beside_cut h A B (ticked time ∷ new) refl)
+side_ends (in_tick h B time streams next new cut) B = (streams, cut_side h B time streams next new cut)
+
 pub runs_repeat_no_nonce : RunsRepeatNoNonce
-runs_repeat_no_nonce C a b entries sound h A = no_nonce_twice C.types (C.seals A) (C.outgoing A) a.tx (events_of A entries) (sound.apart A) (half_a h).tx
-runs_repeat_no_nonce C a b entries sound h B = no_nonce_twice C.types (C.seals B) (C.outgoing B) b.tx (events_of B entries) (sound.apart B) (half_b h).tx
+runs_repeat_no_nonce C entries sound h side = let e = side_ends h side in no_nonce_twice C.types (C.seals side) (C.outgoing side) e.0 (events_of side entries) (sound.apart side) e.1
 
 -- what a turn is to each incoming stream
 
@@ -196,7 +220,7 @@ pass_streams new aside (t ∷ table) = and_stream t.0 (rx_passes new (aside t.0)
 
 pub turn_streams : {C : Config} {side : Side} {a b : Session} {new : List Event} → Turns C side a b new → AreAway (mains a.rx.table) → RxSteps (setup_of C side) (C.seals (peer_of side)) new a.rx.table b.rx.table
 turn_streams {a = a} (writes time w late unused) apart = pass_streams (wrote time w ∷ []) (λ L. (tt, tt)) a.rx.table
-turn_streams {a = a} (ticks time new next late d f count) apart = tick_streams time _ _ new (drain_seals d) a.rx.table
+turn_streams {a = a} (ticks time new next late d f count) apart = tick_streams time _ _ new (serve_seals d.serves) a.rx.table
 turn_streams {C} {side} {a} (opens time bytes ssrc n p s late i o) apart = opened_steps (setup_of C side) (C.seals (peer_of side)) time bytes ssrc n p s o a.rx.table i apart
 turn_streams {a = a} (calls time items late others) apart = pass_streams (called time ∷ sealed_items _ items ∷ []) (λ L. (tt, (tt, tt))) a.rx.table
 turn_streams {a = a} (hears time bytes index items late report h) apart = pass_streams (got time Rtcp bytes ∷ opened_items index items ∷ []) (λ L. (tt, (tt, tt))) a.rx.table
@@ -288,10 +312,6 @@ runs_yield_writes C a b entries sound h genuine widens side M i =
     streams_yield_writes C.types (C.seals (peer_of side)) C.threshold side M (incoming_of M) r.0 r.1 entries (sound.seals (peer_of side)) sound.types refl
     (apart_in (C.outgoing (peer_of side)) M (sound.apart (peer_of side)) i) r.2 genuine (widens side M i)
 
-pub half_of : {C : Config} {a b : Session} {entries : List Happening} → Played C a b entries → (side : Side) → Half C side (session_of side a b) (events_of side entries)
-half_of h A = half_a h
-half_of h B = half_b h
-
 none_has : (M : Outgoing) (Ms : List Outgoing) → AllStrange M Ms → NoneHas M.ssrc (map incoming_of Ms)
 none_has M [] h = tt
 none_has M (N ∷ Ms) h = (turned (eqb M.ssrc N.ssrc) (eqb N.ssrc M.ssrc) refl refl, none_has M Ms h.1)
@@ -322,31 +342,50 @@ runs_ask_the_due C a b c entries side time new sound h turn s i =
 
 -- a tick, for one of the streams
 stream_answers : {T : Types} {seal : Sealing} {now : ℕ} (events : List Event) (time : ℕ) (new : List Event) → now ≡ clock events → now ≤ time → list_all is_sealing new ≡ true → (xs : Table) {ys : Table}
-    → Shares T seal time new (map (begun_at time) xs) ys → AllPlay T seal events xs → AreApart (lines xs) → (M : Outgoing) → IsIn M (lines xs) → Answers T M (IsCapped M events time) (sendings M.ssrc events) new
-stream_answers events time new at late all [] shares plays apart M i = absurd i
-stream_answers {T} {seal} events time new at late all ((L, t) ∷ xs) (and_one {u = u} K d rest) plays apart M (inl e) =
+    → Shares T seal time new (map (begun_at time) xs) ys → AreIdle ys → AllPlay T seal events xs → AreApart (lines xs) → (M : Outgoing) → IsIn M (lines xs)
+    → Answers T M (IsCapped M events time) (sendings M.ssrc events) new
+stream_answers events time new at late all [] shares idle plays apart M i = absurd i
+stream_answers {T} {seal} events time new at late all ((L, t) ∷ xs) (and_one {u = u} K d rest) idle plays apart M (inl e) =
     subst (λ (N : Outgoing). Answers T N (IsCapped N events time) (sendings N.ssrc events) new) (sym e)
-    (ticks_answer T L seal t u events time new apart.0 plays.0 (subst (λ n. n ≤ time) (at ∙ sym (clock_is L.ssrc events nothing_sent)) late) (record { share = filter (is_of L) new; drain = d; own = refl; sealings = all }))
-stream_answers events time new at late all ((L, t) ∷ xs) (and_one K d rest) plays apart M (inr i) = stream_answers events time new at late all xs rest plays.1 apart.1.1 M i
+    (ticks_answer T L seal t u events time new apart.0 plays.0 (subst (λ n. n ≤ time) (at ∙ sym (clock_is L.ssrc events nothing_sent)) late)
+    (record { share = filter (is_of L) new; drain = record { serves = d; no_resends = idle.0; no_queue = idle.1.0 }; own = refl; sealings = all }))
+stream_answers events time new at late all ((L, t) ∷ xs) (and_one K d rest) idle plays apart M (inr i) = stream_answers events time new at late all xs rest idle.1.1 plays.1 apart.1.1 M i
+
+stream_answers_partly : {T : Types} {seal : Sealing} {now : ℕ} (events : List Event) (time : ℕ) (new : List Event) → now ≡ clock events → now ≤ time → list_all is_sealing new ≡ true → (xs : Table) {ys : Table}
+    → Shares T seal time new (map (begun_at time) xs) ys → AllPlay T seal events xs → AreApart (lines xs) → (M : Outgoing) → IsIn M (lines xs) → AnswersPartly T M (sendings M.ssrc events) new
+stream_answers_partly events time new at late all [] shares plays apart M i = absurd i
+stream_answers_partly {T} {seal} events time new at late all ((L, t) ∷ xs) (and_one {u = u} K d rest) plays apart M (inl e) =
+    subst (λ (N : Outgoing). AnswersPartly T N (sendings N.ssrc events) new) (sym e)
+    (cut_ticks_answer T L seal t u events time new apart.0 plays.0 (subst (λ n. n ≤ time) (at ∙ sym (clock_is L.ssrc events nothing_sent)) late)
+    (record { share = filter (is_of L) new; serves = d; own = refl; sealings = all }))
+stream_answers_partly events time new at late all ((L, t) ∷ xs) (and_one K d rest) plays apart M (inr i) = stream_answers_partly events time new at late all xs rest plays.1 apart.1.1 M i
+
+-- the streams of a side, each with its share of what leaves in a tick
+module _ {C : Config} {side : Side} {a : Session} {events : List Event} (apart : AreApart (C.outgoing side)) (h : Half C side a events) where
+  both : Sides C.types (C.seals side) (C.outgoing side) a.tx events
+  both = sides apart h.tx
+
+  streams_apart : AreApart (lines a.tx)
+  streams_apart = subst AreApart (sym both.same) apart
+
+  in_lines : (M : Outgoing) → IsIn M (C.outgoing side) → IsIn M (lines a.tx)
+  in_lines M i = subst (IsIn M) (sym both.same) i
+
+  tick_shares : {ys : Table} {new : List Event} (time : ℕ) → ServesAll C.types (C.seals side) time (map (begun_at time) a.tx) ys new → Shares C.types (C.seals side) time new (map (begun_at time) a.tx) ys
+  tick_shares time serves = (serve_shares serves (subst AreApart (sym (begun_lines time a.tx)) streams_apart)).0
 
 turn_answers : {C : Config} {side : Side} {a b : Session} (events : List Event) (time : ℕ) (new all : List Event) → all ≡ ticked time ∷ new → AreApart (C.outgoing side) → Half C side a events → Turns C side a b all
     → (M : Outgoing) → IsIn M (C.outgoing side) → Answers C.types M (IsCapped M events time) (sendings M.ssrc events) new
 turn_answers {C} {side} {a} events time new all e apart h (ticks t more next late d f count) M i =
     subst (λ es. Answers C.types M (IsCapped M events time) (sendings M.ssrc events) es) rest
     (subst (λ m. Answers C.types M (IsCapped M events m) (sendings M.ssrc events) more) same
-    (stream_answers events t more (half_clock h) late (drain_seals d) a.tx (drain_shares d (subst AreApart (sym (begun_lines t a.tx)) streams)).0 both.all streams M (subst (IsIn M) (sym both.same) i)))
+    (stream_answers events t more (half_clock h) late (serve_seals d.serves) a.tx (tick_shares apart h t d.serves) d.idle (both apart h).all (streams_apart apart h) M (in_lines apart h M i)))
   where
     rest : more ≡ new
     rest = cc
 
     same : t ≡ time
     same = cc
-
-    both : Sides C.types (C.seals side) (C.outgoing side) a.tx events
-    both = sides apart h.tx
-
-    streams : AreApart (lines a.tx)
-    streams = subst AreApart (sym both.same) apart
 turn_answers events time new all e apart h (writes t w late unused) M i = absurd cc
 turn_answers events time new all e apart h (opens t bytes ssrc n p s late k o) M i = absurd cc
 turn_answers events time new all e apart h (calls t items late others) M i = absurd cc
@@ -355,3 +394,10 @@ turn_answers events time new all e apart h (stays t kind bytes late out unread) 
 
 pub runs_answer : RunsAnswer
 runs_answer C a b c entries side time new sound h turn = turn_answers (events_of side entries) time new (ticked time ∷ new) refl (sound.apart side) (half_of h side) turn
+
+pub runs_answer_partly : RunsAnswerPartly
+runs_answer_partly C a b entries side time streams next new sound h cut M i =
+    let apart : AreApart (C.outgoing side) = sound.apart side in
+    let half = half_of h side in
+    stream_answers_partly (events_of side entries) time new (half_clock half) cut.late (serve_seals cut.serves) (session_of side a b).tx (tick_shares apart half time cut.serves) (both apart half).all
+    (streams_apart apart half) M (in_lines apart half M i)

@@ -28,7 +28,7 @@ use Rattle.run_model.specs.Transcripts.{plain_in, sealed_event, opened_event, ha
 use Rattle.run_model.specs.Whole.{Config, incoming_of, probes, IsSound, Session, Turns, writes, ticks, calls, opens, hears, stays}
 use Rattle.media_laws.proofs.Lists.{IsIn-right, IsIn-append, IsIn-map, IsIn-from_map, IsIn-flat_map, IsIn-from_flat_map, IsIn-filter, tested}
 use Rattle.media_laws.proofs.RxYields.{yields_new}
-use Rattle.media_laws.proofs.Tables.{drain_seals}
+use Rattle.media_laws.proofs.Tables.{serve_seals}
 use Rattle.media_laws.proofs.Whole.{runs_yield_once, runs_yield_writes}
 use Rattle.media_laws.specs.Config.{config_of}
 use Rattle.media_laws.specs.Headline.{past_of, NoPacketTwice, IsOwedTo, YieldsWrites}
@@ -59,7 +59,7 @@ IsOf C side packet = (M : Outgoing) × IsIn M (C.outgoing (peer_of side)) × (pa
 
 turn_yields : {C : Config} {side : Side} {a c : Session} {new : List Event} (past : List Event) (packet : Packet) → HoldsLists C side a.rx.table past → Turns C side a c new → IsIn (yielded packet) new → IsOf C side packet
 turn_yields past packet l (writes time w late unused) i = absurd (elim i [ inl e ↦ cc e | inr j ↦ j ])
-turn_yields past packet l (ticks time new next late d f count) i = absurd (elim i [ inl e ↦ cc e | inr j ↦ false≢true (all_in is_sealing new (yielded packet) (drain_seals d) j) ])
+turn_yields past packet l (ticks time new next late d f count) i = absurd (elim i [ inl e ↦ cc e | inr j ↦ false≢true (all_in is_sealing new (yielded packet) (serve_seals d.serves) j) ])
 turn_yields past packet l (calls time items late others) i = absurd (elim i [ inl e ↦ cc e | inr j ↦ elim j [ inl e ↦ cc e | inr k ↦ k ] ])
 turn_yields past packet l (hears time bytes index items late report h) i = absurd (elim i [ inl e ↦ cc e | inr j ↦ elim j [ inl e ↦ cc e | inr k ↦ k ] ])
 turn_yields past packet l (stays time kind bytes late out unread) i = absurd (elim i [ inl e ↦ cc e | inr j ↦ j ])

@@ -34,10 +34,8 @@ pub record IsSealOfPacket (seal : Sealing) (setup : Setup) (by : Side) (past : L
   pub header : 8 ≤ length packet
   pub bytes : s.bytes ≡ seal.rtcp by true s.index packet
 
--- what a call of a side's application brings: the seal of its feedback, which is all that waits; or nothing, exactly where
--- no index is left
+-- what a call of a side's application brings: the seal of its feedback, which is all that waits
 pub data SendsFeedback (seal : Sealing) (setup : Setup) (side : Side) (past : List Entry) : List Entry → Type 0 where
   sends : (sender media : ℕ) (payload : List ℕ) (s : SealedEntry)
       → IsSealOfPacket seal setup side past (application_packet sender media payload) s
       → SendsFeedback seal setup side past (Sealed s ∷ [])
-  sends_none : next_index setup side past ≡ 2 ^ 31 → SendsFeedback seal setup side past []

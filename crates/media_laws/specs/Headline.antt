@@ -29,11 +29,13 @@ use Rattle.run_model.specs.Receiving.{lists, begun_taken, yields, Opens}
 use Rattle.run_model.specs.RxPlay.{RxRecord}
 use Rattle.run_model.specs.Runs.{events_of, on_side}
 use Rattle.run_model.specs.Seals.{IsReport}
-use Rattle.run_model.specs.Sending.{sendings, Answers as Answering}
+use Rattle.run_model.specs.Sending.{sendings, Answers as Answering, AnswersPartly as AnsweringPartly}
 use Rattle.run_model.specs.Transcripts.{happenings, types_of, outgoing_of}
 pub use Rattle.run_model.specs.Widening.{RunWidens}
 use Rattle.run_model.specs.Whole.{setup_of, incoming_of}
+use Rattle.media_laws.specs.declared.counter.Counter.{Counter}
 use Rattle.media_laws.specs.Config.{config_of, rtp_sealing, reporting}
+use Rattle.media_laws.specs.Exhausting.{IsUsedUp}
 use Rattle.media_laws.specs.Feedback.{SendsFeedback}
 use Rattle.media_laws.specs.Listing.{IsIn, NoRepeat, Each, EachStep}
 use Rattle.media_laws.specs.Opening.{Sealing}
@@ -106,6 +108,15 @@ pub record TickAnswers (seal : Sealing) (setup : Setup) (side : Side) (past : Li
   pub asks : (s : Incoming × RxRecord) → IsIn s (side_of (setup_of (config_of seal setup) side) (past_of setup side past)).table
       → asked s.0.ssrc new ≡ map modulo (owed (side_of (setup_of (config_of seal setup) side) (past_of setup side past)) time s)
 
+-- what a tick seals until it is cut off: nothing else; of each stream that its side sends first sendings of the first writes that
+-- wait, in order, and repairs that carry, in order, some of the numbers that NACKs named since its last tick
+pub record TickAnswersPartly (seal : Sealing) (setup : Setup) (side : Side) (past chunk : List Entry) : Type 0 where
+  pub only : AllByRecursion (IsRightSeal seal setup) chunk
+  pub new : List Event
+  pub read : happenings setup chunk ≡ on_side side new
+  pub answers : (L : Outgoing) → IsIn L (outgoing_of side setup)
+      → AnsweringPartly (types_of setup) L (sendings L.ssrc (past_of setup side past)) new
+
 -- what a datagram brings that comes to a side: on a stream that it receives, by the numbers that this took before, it opens, and
 -- then the packet is yielded that it gives; as RTCP it opens; or it does not open, and brings nothing
 pub data Receives (seal : Sealing) (setup : Setup) (past : List Entry) (came : GotEntry) : List Event → Type 0 where
@@ -126,8 +137,8 @@ pub record Arrives (seal : Sealing) (setup : Setup) (past : List Entry) (came : 
   pub read : happenings setup chunk ≡ on_side came.side new
   pub receives : Receives seal setup past came new
 
--- a write brings nothing; a tick seals what it has to, and nothing else; a call seals its feedback, and nothing else, unless no
--- index is left; a datagram that comes is opened, and its packet yielded, exactly where it opens
+-- a write brings nothing; a tick seals what it has to, and nothing else; a call seals its feedback, and nothing else; a datagram
+-- that comes is opened, and its packet yielded, exactly where it opens
 abbrev pub Answers : Sealing → Setup → List Entry → Entry → List Entry → Type 0
 Answers seal setup past (Wrote side time write) chunk = chunk ≡ []
 Answers seal setup past (Ticked side time) chunk = TickAnswers seal setup side past time chunk
@@ -137,6 +148,20 @@ Answers seal setup past _ chunk = Unit {0}
 
 abbrev pub StepsAreAnswered : Sealing → Setup → List Entry → Type 0
 StepsAreAnswered seal setup entries = EachStep (Answers seal setup) entries
+
+-- the last step, which finds a key used up: a call brings nothing, a tick what it seals until then
+abbrev pub AnswersAtKey : Sealing → Setup → List Entry → List Entry → Type 0
+AnswersAtKey seal setup past (Called side time call ∷ chunk) = chunk ≡ []
+AnswersAtKey seal setup past (Ticked side time ∷ chunk) = TickAnswersPartly seal setup side past chunk
+AnswersAtKey seal setup past told = ⊥
+
+-- each step is answered but the last, which finds a key used up
+pub record StepsAreAnsweredToKey (seal : Sealing) (setup : Setup) (entries : List Entry) : Type 0 where
+  pub past : List Entry
+  pub told : List Entry
+  pub all : entries ≡ past ++ told
+  pub steps : StepsAreAnswered seal setup past
+  pub last : AnswersAtKey seal setup past told
 
 -- no side yields a packet twice
 abbrev pub NoPacketTwice : List Entry → Type 0
@@ -215,6 +240,13 @@ pub record HoldsOfFront (seal : Sealing) (setup : Setup) (entries : List Entry) 
   pub sendings : SendsWrites setup entries
   pub yields : YieldsWrites setup entries
   pub once : NoPacketTwice entries
+
+-- and of them where the run ended at a step that found a key used up
+pub record HoldsToKey (seal : Sealing) (setup : Setup) (side : Side) (counter : Counter) (entries : List Entry) : Type 0 where
+  pub steps : StepsAreAnsweredToKey seal setup entries
+  pub front : HoldsOfFront seal setup entries
+  pub exactly : FirstSendingsAreYielded setup entries
+  pub used_up : IsUsedUp setup side counter entries
 
 -- *sendings* and *yields* under the setup of the run, whichever it is
 abbrev pub SendsInSome : List Entry → Type 0

@@ -1,12 +1,12 @@
 // What holds of every run.
-ghost use Rattle.std.specs.Prelude.{◌≡◌, ◌++◌, List, None};
+ghost use Rattle.std.specs.Prelude.{◌≡◌, ◌∷◌, ◌++◌, List, [], None};
 ghost use Rattle.media_model.specs.declared.setup.Setup.{Setup};
 ghost use Rattle.media_model.specs.declared.step.Step.{Step};
 ghost use Rattle.media_model.specs.declared.entry.Entry.{Entry};
 ghost use Rattle.media_model.specs.declared.entry.Side.{Side};
 ghost use Rattle.media_laws.specs.declared.counter.Counter.{Counter};
-ghost use Rattle.media_laws.specs.Exhausting.{Exhausts, call_of, told_of};
-ghost use Rattle.media_laws.specs.Headline.{HoldsOfRun, HoldsOfFront, PlaysSteps};
+ghost use Rattle.media_laws.specs.Exhausting.{Exhausts};
+ghost use Rattle.media_laws.specs.Headline.{HoldsOfRun, HoldsOfFront, HoldsToKey, PlaysSteps};
 ghost use Rattle.media_laws.specs.Keys.{sealing_of};
 ghost use Rattle.media_laws.specs.Play.{Played};
 ghost use Rattle.media_laws.specs.RepairedRun.{setup};
@@ -19,7 +19,7 @@ use srtp_core::laws::{rtcp_states, rtp_seal_keeps_header, rtp_seals_apart};
 
 /// All that holds of the entries of a run under a cipher, after any of its steps: whoever has a
 /// `Run` cites it for what `Run::entries` gives. And what holds of each front of these entries, and
-/// of them and the call that finds a key used up.
+/// of them and what is told of a step that finds a key used up.
 pub fn holds_of_run<C: SrtpCipher>()
     ensures whole { (setup : Setup) (steps : List Step) (entries : List Entry)
         → setup_fault setup ≡ None
@@ -29,11 +29,11 @@ pub fn holds_of_run<C: SrtpCipher>()
         → setup_fault setup ≡ None
         → Played (sealing_of C.meaning setup) setup steps (front ++ rest)
         → HoldsOfFront (sealing_of C.meaning setup) setup front }
-    ensures exhausted { (setup : Setup) (steps : List Step) (entries : List Entry) (step : Step)
-        (side : Side) (counter : Counter) → setup_fault setup ≡ None
-        → Played (sealing_of C.meaning setup) setup steps entries
-        → Exhausts C.meaning setup entries step side counter
-        → HoldsOfRun (sealing_of C.meaning setup) setup (entries ++ call_of step) }
+    ensures exhausted { (setup : Setup) (steps : List Step) (past : List Entry) (step : Step)
+        (side : Side) (counter : Counter) (told : List Entry) → setup_fault setup ≡ None
+        → Played (sealing_of C.meaning setup) setup steps past
+        → Exhausts (sealing_of C.meaning setup) setup past step side counter told
+        → HoldsToKey (sealing_of C.meaning setup) setup side counter (past ++ told) }
 {
     header_reads_own_bytes();
     headers_are_as_long();
@@ -41,14 +41,15 @@ pub fn holds_of_run<C: SrtpCipher>()
     rtp_seal_keeps_header::<C>();
 }
 
-/// A run plays each step of its script once, in order, up to the call that finds a key used up.
+/// A run plays each step of its script once, in order, up to the one that finds a key used up.
 pub fn plays_steps<C: SrtpCipher>()
     ensures whole { (setup : Setup) (steps : List Step) (entries : List Entry)
         → Played (sealing_of C.meaning setup) setup steps entries → PlaysSteps steps entries }
-    ensures exhausted { (setup : Setup) (steps : List Step) (entries : List Entry) (step : Step)
-        (side : Side) (counter : Counter) → Played (sealing_of C.meaning setup) setup steps entries
-        → Exhausts C.meaning setup entries step side counter
-        → PlaysSteps (steps ++ told_of step) (entries ++ call_of step) }
+    ensures exhausted { (setup : Setup) (steps : List Step) (past : List Entry) (step : Step)
+        (side : Side) (counter : Counter) (told : List Entry)
+        → Played (sealing_of C.meaning setup) setup steps past
+        → Exhausts (sealing_of C.meaning setup) setup past step side counter told
+        → PlaysSteps (steps ++ step ∷ []) (past ++ told) }
 {}
 
 /// Under any cipher there is a run in which a packet is lost, asked for, repaired and yielded, and

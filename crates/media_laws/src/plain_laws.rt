@@ -1,11 +1,11 @@
 // What holds of every run of plain sessions.
 ghost use Rattle.media_laws.specs.RepairedRun.{RepairsMeetThePremises};
-ghost use Rattle.run_model.specs.Whole.{RunsAnswer, RunsAskTheDue, RunsRepeatNoIndex, RunsRepeatNoNonce, RunsYieldExactly, RunsYieldOnce, RunsYieldWrites};
+ghost use Rattle.run_model.specs.Whole.{RunsAnswer, RunsAnswerPartly, RunsAskTheDue, RunsRepeatNoIndex, RunsRepeatNoNonce, RunsYieldExactly, RunsYieldOnce, RunsYieldWrites};
 ghost use Rattle.run_model.specs.Asking.{RoundsAskTheDue};
 ghost use Rattle.run_model.specs.Tables.{NoNonceTwice};
 ghost use Rattle.run_model.specs.Runs.{StreamsYieldWrites};
 ghost use Rattle.run_model.specs.RxLaws.{NoneTwice, RecordsHoldLists};
-ghost use Rattle.run_model.specs.TxLaws.{StreamsSendWrites, TicksAnswer};
+ghost use Rattle.run_model.specs.TxLaws.{CutTicksAnswer, StreamsSendWrites, TicksAnswer};
 
 /// Each tick of a stream seals all that waits and, where the stream is not capped, a repair for
 /// each number asked for that has to be held.
@@ -13,7 +13,14 @@ pub fn ticks_answer()
     ensures { TicksAnswer }
 {}
 
-/// First sendings are the writes in order, none twice; repairs carry writes that were sent.
+/// Each tick of a stream that is cut off seals the first of what waits and, in order, repairs for
+/// some of the numbers asked for.
+pub fn cut_ticks_answer()
+    ensures { CutTicksAnswer }
+{}
+
+/// First sendings are the writes in order, none twice; repairs carry writes that were sent; also
+/// where the last tick was cut off.
 pub fn streams_send_writes()
     ensures { StreamsSendWrites }
 {}
@@ -45,7 +52,7 @@ pub fn rounds_ask_the_due()
     ensures { RoundsAskTheDue }
 {}
 
-/// No two RTP datagrams of a direction of a run share a nonce.
+/// No two RTP datagrams of a direction of a run share a nonce, also where its last tick was cut off.
 pub fn runs_repeat_no_nonce()
     ensures { RunsRepeatNoNonce }
 {}
@@ -71,6 +78,11 @@ pub fn runs_answer()
     ensures { RunsAnswer }
 {}
 
+/// Each tick of a run that is cut off answers in part on each outgoing stream.
+pub fn runs_answer_partly()
+    ensures { RunsAnswerPartly }
+{}
+
 /// The datagram of a write is yielded exactly where its number widens to itself and is fresh.
 pub fn runs_yield_exactly()
     ensures { RunsYieldExactly }
@@ -82,7 +94,8 @@ pub fn repairs_happen()
     ensures { RepairsMeetThePremises }
 {}
 
-/// No two RTCP datagrams of a direction of a run share an index.
+/// No two RTCP datagrams of a direction of a run share an index, also where its last tick was cut
+/// off.
 pub fn runs_repeat_no_index()
     ensures { RunsRepeatNoIndex }
 {}

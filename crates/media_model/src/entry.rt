@@ -1,7 +1,8 @@
 ghost use Rattle.std.specs.Prelude.{◌≡◌, Some, IfOk};
 ghost use Rattle.media_model.specs.Sides.{peer_of};
 
-use media_base::{Bytes, Instant, Listed};
+use crate::sources::Sources;
+use media_base::{Bytes, Instant};
 use rtp_wire::{Kind, Pt, SeqNo, Ssrc};
 use std::alloc::{AllocError, Global};
 
@@ -24,23 +25,24 @@ impl Side {
     }
 }
 
-/// A packet that an application gives to its session to be sent.
+/// A packet that an application gives to its session to be sent. Its fields stand in the order that
+/// takes the fewest bytes.
 #[derive(Debug, PartialEq, Eq, Drop)]
 pub struct Write {
-    /// The stream's main SSRC.
-    pub ssrc: Ssrc,
     /// The extended sequence number.
     pub number: SeqNo,
-    /// What the payload carries.
-    pub pt: Pt,
+    /// The stream's main SSRC.
+    pub ssrc: Ssrc,
     /// In units of the stream's clock rate.
     pub rtp_time: u32,
+    /// What the payload carries.
+    pub pt: Pt,
     /// The marker bit of the header.
     pub marker: bool,
     /// Whether it may be sent again when it is asked for.
     pub nackable: bool,
     /// The contributing sources, at most 15 in a run.
-    pub csrc: Listed<u32>,
+    pub csrc: Sources,
     /// At most 1,400 bytes in a run.
     pub payload: Bytes,
 }
@@ -57,27 +59,28 @@ impl Write {
             rtp_time: self.rtp_time,
             marker: self.marker,
             nackable: self.nackable,
-            csrc: Listed::from_vec(self.csrc.as_slice().to_vec(alloc)?),
+            csrc: self.csrc.copied(alloc)?,
             payload: Bytes::from_slice(alloc, self.payload.as_slice())?,
         })
     }
 }
 
-/// A packet that a session gives to its application.
+/// A packet that a session gives to its application. Its fields stand in the order that takes the
+/// fewest bytes.
 #[derive(Debug, PartialEq, Eq, Drop)]
 pub struct Packet {
-    /// The stream's main SSRC.
-    pub ssrc: Ssrc,
     /// The extended sequence number.
     pub number: SeqNo,
-    /// What the payload carries.
-    pub pt: Pt,
+    /// The stream's main SSRC.
+    pub ssrc: Ssrc,
     /// In units of the stream's clock rate.
     pub rtp_time: u32,
+    /// What the payload carries.
+    pub pt: Pt,
     /// The marker bit of the header.
     pub marker: bool,
     /// The contributing sources.
-    pub csrc: Listed<u32>,
+    pub csrc: Sources,
     /// Without padding.
     pub payload: Bytes,
 }

@@ -6,6 +6,7 @@ mod entry;
 mod first_number;
 mod genuine;
 mod setup;
+mod sources;
 mod srtcp_index;
 mod step;
 mod transcript;
@@ -18,6 +19,7 @@ pub use setup::{
     Cache, CipherName, Codec, Key, Local, Media, MediaKind, Mtu, NamedCache, NamedExtension,
     NamedStart, PayloadType, Setup, Stream,
 };
+pub use sources::Sources;
 pub use srtcp_index::SrtcpIndex;
 pub use step::Step;
 pub use transcript::Transcript;

@@ -1,5 +1,5 @@
 -- Why a tick is not played, and what a session tells of bytes that came.
-use Rattle.std.proofs.Common.{◌≡◌, ℕ, Bool, false, cond, ◌||◌, List, [], ◌∷◌, ◌++◌, map, drop, Option, Some, None, is_none, refl, sym, ap, ◌∙◌, subst}
+use Rattle.std.proofs.Common.{◌≡◌, ℕ, Bool, cond, ◌||◌, List, [], ◌∷◌, ◌++◌, map, drop, Option, Some, None, is_none, refl, sym, ap, ◌∙◌, subst}
 use Rattle.std.specs.Option.{option_map, option_to_list}
 use Rattle.srtp_core.specs.Cipher.{CipherMeaning}
 use Rattle.srtp_core.specs.Contexts.{SrtpState}
@@ -8,33 +8,77 @@ use Rattle.rtcp_wire.specs.declared.feedback.AppSpecificFeedback.{AppSpecificFee
 use Rattle.stream_core.specs.declared.packet.RtpPacket.{RtpPacket as Packet}
 use Rattle.stream_core.specs.declared.stream_paused.StreamPaused.{StreamPaused}
 use Rattle.stream_core.specs.Pauses.{pauses}
+use Rattle.session_core.specs.declared.datagram.Datagram.{Datagram}
+use Rattle.session_core.specs.declared.datagram.Event.{Event}
 use Rattle.session_core.specs.declared.datagram.Event.TheVariants.{RtpPacket, StreamPaused as Paused, AppSpecificFeedback as Application}
 use Rattle.session_core.specs.declared.datagram.Opened.{Opened as Opening}
 use Rattle.session_core.specs.declared.error.RtcError.{RtcError}
 use Rattle.session_core.specs.declared.error.RtcError.TheVariants.{Memory, Stopped, KeyExhausted, RepairsExhausted, KeyLength}
 use Rattle.session_core.specs.Calls.{told}
+use Rattle.session_core.specs.Draining.{IsDrainCut, at_poll, between_polls, IsCutOff, at_event, later}
 use Rattle.rtp_wire.specs.declared.header.RtpHeader.{RtpHeader}
 use Rattle.session_core.specs.Receiving.{Receives, opened, repaired, stays, cut, after_repair, after_restoring}
 use Rattle.session_core.specs.Repairs.{original_number}
-use Rattle.session_core.specs.SessionRecord.{SessionState, SessionRecord}
+use Rattle.session_core.specs.Rounds.{after_timeout}
+use Rattle.session_core.specs.Sending.{DrainsTo}
+use Rattle.session_core.specs.SessionRecord.{SessionRecord}
+use Rattle.session_turns.specs.Laws.{IsCutFor, TicksCut}
+use Rattle.session_turns.specs.Reading.{events_of}
+use Rattle.session_turns.specs.Rights.{SealsAreRight}
 use Rattle.media_model.specs.declared.entry.Side.{Side}
+use Rattle.media_model.specs.declared.entry.Entry.{Entry}
+use Rattle.media_model.specs.declared.entry.Entry.TheVariants.{Ticked}
+use Rattle.media_model.specs.declared.setup.Setup.{Setup}
+use Rattle.run_model.specs.Whole.{Session}
+use Rattle.media_laws.specs.Config.{config_of}
+use Rattle.media_laws.specs.Exhausting.{IsCutTick}
+use Rattle.media_laws.specs.Keys.{sealing_of}
 use Rattle.media_play.specs.declared.fault.StepError.{StepError}
-use Rattle.media_play.specs.Ends.{SessionStands}
 use Rattle.media_play.specs.Errors.{cut_as}
-use Rattle.media_play.specs.Packets.{packet_in}
-use Rattle.media_play.specs.Sessions.{EndState, IsTickCause, IsCutBy}
+use Rattle.media_play.specs.Packets.{seals_from, packet_in}
+use Rattle.media_play.specs.Sessions.{EndState, ReadyAt, IsTickCause}
+use Rattle.media_play.proofs.Rightly.{sent_read, right_seals}
 
-cause_of : (cipher : CipherMeaning) (side : Side) (old : EndState) (time : ℕ) (error : RtcError)
-    → ((r : SessionRecord) → SessionStands old.session r → r.state.stopped ≡ false → IsCutBy cipher time r error) → IsTickCause cipher side old time (cut_as side error)
-cause_of cipher side old time Memory h = tt
-cause_of cipher side old time Stopped h = tt
-cause_of cipher side old time (KeyExhausted srtcp.Rtcp) h = (refl, h)
-cause_of cipher side old time (RepairsExhausted ssrc) h = (refl, h)
-cause_of cipher side old time KeyLength h = tt
+cause_of : (cipher : CipherMeaning) (setup : Setup) (side : Side) (a : Session) (time : ℕ) (error : RtcError) (sealed : List Entry)
+    (tick : IsCutTick (sealing_of cipher setup) setup side a time sealed) → IsCutFor error tick.streams tick.next
+    → IsTickCause cipher setup side a time (cut_as side error) (Ticked side time ∷ sealed)
+cause_of cipher setup side a time Memory sealed tick due = tt
+cause_of cipher setup side a time Stopped sealed tick due = tt
+cause_of cipher setup side a time (KeyExhausted srtcp.Rtcp) sealed tick due = (refl, (sealed, refl, tick, due))
+cause_of cipher setup side a time (RepairsExhausted ssrc) sealed tick due = (refl, (sealed, refl, tick, due))
+cause_of cipher setup side a time KeyLength sealed tick due = tt
 
-pub tick_cause : (cipher : CipherMeaning) (side : Side) (old : EndState) (time : ℕ) (error : RtcError) (e : StepError) → e ≡ cut_as side error
-    → ((r : SessionRecord) → SessionStands old.session r → r.state.stopped ≡ false → IsCutBy cipher time r error) → IsTickCause cipher side old time e
-tick_cause cipher side old time error e is h = subst (IsTickCause cipher side old time) (sym is) (cause_of cipher side old time error h)
+-- an error ends polls after some that gave all that was sent
+drained_before : {cipher : CipherMeaning} {now : ℕ} {r : SessionRecord} {error : RtcError} {after : SessionRecord} {sent : List Datagram}
+    → IsDrainCut cipher now r error after sent → (between : SessionRecord) × DrainsTo cipher now r between sent
+drained_before (at_poll between after e sent drained fails) = (between, drained)
+drained_before (between_polls between sent drained) = (between, drained)
+
+-- a tick whose drain is cut off tells what was sealed before
+pub tick_cause : TicksCut → SealsAreRight → {cipher : CipherMeaning} {setup : Setup} {side : Side} {end : EndState} {a : Session} {entries : List Entry} {time : ℕ}
+    (at : ReadyAt cipher setup side end a entries time) (error : RtcError) (after : SessionRecord) (events : List Event) (sent : List Datagram) (e : StepError) → e ≡ cut_as side error
+    → IsCutOff cipher time (after_timeout time at.ready.session) error after events sent
+    → IsTickCause cipher setup side a time e (Ticked side time ∷ seals_from side sent)
+tick_cause cuts rights {cipher} {setup} {side} {end} {a} {entries} {time} at _ _ _ _ e is (at_event between taken told after) =
+    subst (λ (x : StepError). IsTickCause cipher setup side a time x (Ticked side time ∷ [])) (sym is) tt
+tick_cause cuts rights {cipher} {setup} {side} {end} {a} {entries} {time} at _ _ _ _ e is (later error after sent drained) =
+    let ready = at.ready in
+    let m = ready.mirrors in
+    let r = ready.session in
+    let C = config_of (sealing_of cipher setup) setup in
+    let before = drained_before drained in
+    let to = cuts cipher C side r after a time error sent ready.fit m at.late at.some at.early drained in
+    let right = rights cipher C side r before.0 a m.own time sent ready.fit m m.seals at.some before.1 in
+    let tick : IsCutTick (sealing_of cipher setup) setup side a time (seals_from side sent) = record {
+      right = right_seals m ready.exts sent right;
+      new = events_of r.state.transport.exts sent;
+      read = sent_read setup r.state.transport.exts side sent ready.exts;
+      streams = to.streams;
+      next = to.next;
+      cut = to.cut;
+    } in
+    subst (λ (x : StepError). IsTickCause cipher setup side a time x (Ticked side time ∷ seals_from side sent)) (sym is)
+    (cause_of cipher setup side a time error (seals_from side sent) tick to.cause)
 
 -- bytes that come leave keys and feedback as they were
 pub record Keeps (r after : SessionRecord) : Type 0 where

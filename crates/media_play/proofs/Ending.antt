@@ -1,5 +1,5 @@
 -- What a run of steps is wherever it ends.
-use Rattle.std.proofs.Common.{◌≡◌, ◌<◌, ◌+◌, ℕ, List, [], ◌∷◌, ◌++◌, length, take, get_or, Some, None, Result, Ok, Err, refl, sym, ap, ◌∙◌, subst, arith}
+use Rattle.std.proofs.Common.{◌≡◌, ◌<◌, ◌+◌, ℕ, List, [], ◌∷◌, ◌++◌, length, take, get_or, Some, None, Result, Ok, Err, IfErr, refl, sym, ap, ◌∙◌, subst, arith}
 use Rattle.std.proofs.lemmas.List.{take_more, append-nil}
 use Rattle.std.proofs.lemmas.Option.{slice_get-get_or}
 use Rattle.srtp_core.specs.Cipher.{CipherMeaning}
@@ -12,9 +12,11 @@ use Rattle.media_model.specs.declared.transcript.Transcript.{Transcript}
 use Rattle.run_model.specs.Whole.{new_session}
 use Rattle.media_laws.specs.declared.counter.Counter.{Counter}
 use Rattle.media_laws.specs.Config.{config_of}
-use Rattle.media_laws.specs.Exhausting.{Exhausts, call_of}
-use Rattle.media_laws.specs.Headline.{HoldsOfRun}
+use Rattle.media_laws.specs.declared.fault.StepFault.{StepFault}
+use Rattle.media_laws.specs.Exhausting.{Exhausts}
+use Rattle.media_laws.specs.Headline.{HoldsOfRun, HoldsToKey}
 use Rattle.media_laws.specs.Keys.{sealing_of}
+use Rattle.media_laws.specs.Opening.{Sealing}
 use Rattle.media_laws.specs.Play.{Played, Plays, begins}
 use Rattle.media_laws.specs.Rules.{step_fault}
 use Rattle.setup_rules.specs.SetupRules.{setup_fault}
@@ -23,8 +25,8 @@ use Rattle.media_play.specs.declared.fault.RunError.TheVariants as error
 use Rattle.media_play.specs.declared.fault.RunFault.{RunFault}
 use Rattle.media_play.specs.declared.fault.StepError.{StepError}
 use Rattle.media_play.specs.declared.fault.StepError.TheVariants.{Memory, Rule, KeyExhausted}
-use Rattle.media_play.specs.Errors.{IsStepCause, left_by}
-use Rattle.media_play.specs.Running.{RunState, IsRunOf, HasCause, OfRun, IsSetupCause, run_cause}
+use Rattle.media_play.specs.Running.{RunState, IsRunOf, HasCause, AnsweredUntil, Answered, HoldsUntil, Holds, UsedUp, OfRun, IsSetupCause, run_cause}
+use Rattle.media_play.proofs.Steps.{Tells}
 
 -- the steps up to the next one
 pub steps_more : (steps : List Step) (i : ℕ) (step : Step) → i < length steps → step ≡ get_or steps i step
@@ -35,70 +37,116 @@ pub played_of : {cipher : CipherMeaning} {setup : Setup} {steps : List Step} {ru
     → Played (sealing_of cipher setup) setup steps run.log
 played_of r = record { a = r.a; b = r.b; plays = r.plays }
 
-module _ (cipher : CipherMeaning) (setup : Setup) (steps : List Step) where
-  -- no run begins
-  pub none_begins : (entries : List Entry) (cause : RunError) → entries ≡ [] → IsSetupCause setup cause → HasCause cipher setup steps entries cause
-  none_begins entries (error.Setup fault) none h = (h, none)
-  none_begins entries (error.Step number fault) none h = absurd h
-  none_begins entries (error.KeyExhausted side counter) none h = absurd h
-  none_begins entries error.Memory none h =
-      let seal = sealing_of cipher setup in
-      let C = config_of seal setup in
-      (0, omega arith, record { a = new_session C A; b = new_session C B; plays = subst (Plays seal setup (new_session C A) (new_session C B) []) (sym none) begins })
+module _ (cipher : CipherMeaning) (setup : Setup) where
+  -- of a step that breaks a rule nothing is told
+  rule_same : (past entries : List Entry) (step : Step) (fault : StepFault) → Tells cipher setup past step (Rule fault) entries → entries ≡ past
+  rule_same past entries step fault tells = tells.1 ∙ ap (λ (told : List Entry). past ++ told) tells.2.1 ∙ append-nil past
 
-  -- a step that is not played ends the run
-  pub ends_at : (i : ℕ) (step : Step) (entries : List Entry) (cause : StepError) → setup_fault setup ≡ None
-      → Played (sealing_of cipher setup) setup (take i steps) entries → i < length steps → step ≡ get_or steps i step
-      → IsStepCause cipher setup entries step cause → HasCause cipher setup steps (entries ++ left_by step cause) (run_cause (i + 1) cause)
-  ends_at i step entries (Rule fault) fine played h e broken = (
-    fine,
-    (
-      i,
-      step,
-      refl,
-      slice_get-get_or steps i step h ∙ ap Some (sym e),
-      subst (Played (sealing_of cipher setup) setup (take i steps)) (sym (append-nil entries)) played,
-      subst (λ (es : List Entry). step_fault setup es step ≡ Some fault) (sym (append-nil entries)) broken,
-    ),
-  )
-  ends_at i step entries (KeyExhausted side counter) fine played h e broken = (
-    fine,
-    record {
-      before = i;
-      step = step;
-      stands = slice_get-get_or steps i step h ∙ ap Some (sym e);
-      past = entries;
-      played = played;
-      valid = broken.0;
-      exhausts = broken.1;
-      entries_are = refl;
-    },
-  )
-  ends_at i step entries Memory fine played h e broken =
-      (i, omega (arith, h), subst (Played (sealing_of cipher setup) setup (take i steps)) (sym (append-nil entries)) played)
+  -- what holds of the entries before a step that is not played holds of those then; or what holds to a key's end
+  pub holds_at : (number : ℕ) (step : Step) (past entries : List Entry) (cause : StepError) → Tells cipher setup past step cause entries → (cause ≡ Memory → entries ≡ past)
+      → HoldsOfRun (sealing_of cipher setup) setup past
+      → ((side : Side) (counter : Counter) (told : List Entry) → Exhausts (sealing_of cipher setup) setup past step side counter told
+      → HoldsToKey (sealing_of cipher setup) setup side counter (past ++ told))
+      → HoldsUntil (sealing_of cipher setup) setup (run_cause number cause) entries
+  holds_at number step past entries (Rule fault) tells cut h at_key =
+      subst (HoldsOfRun (sealing_of cipher setup) setup) (sym (rule_same past entries step fault tells)) h
+  holds_at number step past entries (KeyExhausted side counter) tells cut h at_key =
+      subst (HoldsToKey (sealing_of cipher setup) setup side counter) (sym tells.1) (at_key side counter tells.0 tells.2.1)
+  holds_at number step past entries Memory tells cut h at_key = subst (HoldsOfRun (sealing_of cipher setup) setup) (sym (cut refl)) h
 
--- what holds of the entries so far holds of those that a step left that was not played
-pub holds_left : (cipher : CipherMeaning) (setup : Setup) (entries : List Entry) (step : Step) (cause : StepError) → IsStepCause cipher setup entries step cause
-    → HoldsOfRun (sealing_of cipher setup) setup entries
-    → ((side : Side) (counter : Counter) → Exhausts cipher setup entries step side counter → HoldsOfRun (sealing_of cipher setup) setup (entries ++ call_of step))
-    → HoldsOfRun (sealing_of cipher setup) setup (entries ++ left_by step cause)
-holds_left cipher setup entries step (Rule fault) broken h at_key = subst (HoldsOfRun (sealing_of cipher setup) setup) (sym (append-nil entries)) h
-holds_left cipher setup entries step (KeyExhausted side counter) broken h at_key = at_key side counter broken.1
-holds_left cipher setup entries step Memory broken h at_key = subst (HoldsOfRun (sealing_of cipher setup) setup) (sym (append-nil entries)) h
+  module _ (steps : List Step) where
+    -- no run begins
+    pub none_begins : (entries : List Entry) (cause : RunError) → entries ≡ [] → IsSetupCause setup cause → HasCause cipher setup steps entries cause
+    none_begins entries (error.Setup fault) none h = (h, none)
+    none_begins entries (error.Step number fault) none h = absurd h
+    none_begins entries (error.KeyExhausted side counter) none h = absurd h
+    none_begins entries error.Memory none h =
+        let seal = sealing_of cipher setup in
+        let C = config_of seal setup in
+        (0, omega arith, record { a = new_session C A; b = new_session C B; plays = subst (Plays seal setup (new_session C A) (new_session C B) []) (sym none) begins })
 
--- all of it holds of nothing
-pub holds_of_nothing : (cipher : CipherMeaning) (setup : Setup) (entries : List Entry) → entries ≡ [] → HoldsOfRun (sealing_of cipher setup) setup entries
-holds_of_nothing cipher setup entries none = subst (HoldsOfRun (sealing_of cipher setup) setup) (sym none) (record {
-  steps = tt;
-  seals = tt;
-  nonces = λ side. tt;
-  sendings = tt;
-  yields = λ genuine widens. tt;
-  once = λ side. tt;
-  exactly = tt;
-})
+    -- a step that is not played ends the run
+    pub ends_at : (i : ℕ) (step : Step) (past entries : List Entry) (cause : StepError) → setup_fault setup ≡ None
+        → Played (sealing_of cipher setup) setup (take i steps) past → i < length steps → step ≡ get_or steps i step
+        → Tells cipher setup past step cause entries → (cause ≡ Memory → entries ≡ past) → HasCause cipher setup steps entries (run_cause (i + 1) cause)
+    ends_at i step past entries (Rule fault) fine played h e tells cut =
+        let same = rule_same past entries step fault tells in (
+          fine,
+          (
+            i,
+            step,
+            refl,
+            slice_get-get_or steps i step h ∙ ap Some (sym e),
+            subst (Played (sealing_of cipher setup) setup (take i steps)) (sym same) played,
+            subst (λ (es : List Entry). step_fault setup es step ≡ Some fault) (sym same) tells.2.0,
+          ),
+        )
+    ends_at i step past entries (KeyExhausted side counter) fine played h e tells cut = (
+      fine,
+      record {
+        before = i;
+        step = step;
+        stands = slice_get-get_or steps i step h ∙ ap Some (sym e);
+        past = past;
+        played = played;
+        valid = tells.2.0;
+        told = tells.0;
+        exhausts = tells.2.1;
+        entries_are = tells.1;
+      },
+    )
+    ends_at i step past entries Memory fine played h e tells cut =
+        (i, omega (arith, h), subst (Played (sealing_of cipher setup) setup (take i steps)) (sym (cut refl)) played)
 
--- what follows from what holds of a run holds of it
-pub each_of : {P Q : List Entry → Type 0} (result : Result Transcript RunFault) → ((entries : List Entry) → P entries → Q entries) → OfRun result P → OfRun result Q
-each_of (Ok entries) says h = says entries h
-each_of (Err fault) says h = says fault.sofar h
+module _ (seal : Sealing) (setup : Setup) where
+  -- all of it holds of nothing
+  holds_of_nothing : (entries : List Entry) → entries ≡ [] → HoldsOfRun seal setup entries
+  holds_of_nothing entries none = subst (HoldsOfRun seal setup) (sym none) (record {
+    steps = tt;
+    seals = tt;
+    nonces = λ side. tt;
+    sendings = tt;
+    yields = λ genuine widens. tt;
+    once = λ side. tt;
+    exactly = tt;
+  })
+
+  -- where no run begins
+  pub none_holds : (entries : List Entry) (cause : RunError) → entries ≡ [] → IsSetupCause setup cause → HoldsUntil seal setup cause entries
+  none_holds entries (error.Setup fault) none h = holds_of_nothing entries none
+  none_holds entries (error.Step number fault) none h = absurd h
+  none_holds entries (error.KeyExhausted side counter) none h = absurd h
+  none_holds entries error.Memory none h = holds_of_nothing entries none
+
+  answered_until : (cause : RunError) (entries : List Entry) → HoldsUntil seal setup cause entries → AnsweredUntil seal setup cause entries
+  answered_until (error.Setup fault) entries h = h.steps
+  answered_until (error.Step number fault) entries h = h.steps
+  answered_until (error.KeyExhausted side counter) entries h = h.steps
+  answered_until error.Memory entries h = h.steps
+
+  pub answered : (result : Result Transcript RunFault) → Holds seal setup result → Answered seal setup result
+  answered (Ok entries) h = h.steps
+  answered (Err fault) h = answered_until fault.cause fault.sofar h
+
+  used_up_until : (cause : RunError) (entries : List Entry) → HoldsUntil seal setup cause entries → UsedUp setup entries cause
+  used_up_until (error.Setup fault) entries h = tt
+  used_up_until (error.Step number fault) entries h = tt
+  used_up_until (error.KeyExhausted side counter) entries h = h.used_up
+  used_up_until error.Memory entries h = tt
+
+  pub used_up : (result : Result Transcript RunFault) → Holds seal setup result → IfErr result (λ (f : RunFault). UsedUp setup f.sofar f.cause)
+  used_up (Ok entries) h = tt
+  used_up (Err fault) h = used_up_until fault.cause fault.sofar h
+
+  -- what follows both from what holds of a run and from what holds to a key's end holds of it
+  module _ {P : List Entry → Type 0} (of_run : (entries : List Entry) → HoldsOfRun seal setup entries → P entries)
+      (to_key : (side : Side) (counter : Counter) (entries : List Entry) → HoldsToKey seal setup side counter entries → P entries) where
+    each_until : (cause : RunError) (entries : List Entry) → HoldsUntil seal setup cause entries → P entries
+    each_until (error.Setup fault) entries h = of_run entries h
+    each_until (error.Step number fault) entries h = of_run entries h
+    each_until (error.KeyExhausted side counter) entries h = to_key side counter entries h
+    each_until error.Memory entries h = of_run entries h
+
+    pub each_of : (result : Result Transcript RunFault) → Holds seal setup result → OfRun result P
+    each_of (Ok entries) h = of_run entries h
+    each_of (Err fault) h = each_until fault.cause fault.sofar h

@@ -1,10 +1,10 @@
 -- What an end knows of a write, and what it knows after it.
 use Rattle.std.proofs.Common.{◌≡◌, inl, inr, ℕ, zero, suc, ◌<◌, ◌≤◌, ◌^◌, Bool, true, false, cond, not, ◌&&◌, ◌||◌, leb, ltb, List, [], ◌∷◌, ◌++◌, length, map, set, get_or, slice_get, Option, Some, None, is_some, refl, sym, ap, ◌∙◌, subst, arith}
-use Rattle.std.specs.Prelude.{◌==◌, nat_lt}
-use Rattle.std.specs.List.{list_any, flat_map, filter_map, AllByRecursion, AllZip}
+use Rattle.std.specs.Prelude.{◌==◌}
+use Rattle.std.specs.List.{list_any, flat_map, filter_map, AllZip}
 use Rattle.std.specs.Map.{keys_of}
 use Rattle.std.proofs.lemmas.List.{append-nil, map-append}
-use Rattle.std.proofs.lemmas.Bool.{and_parts, eqb-true, eq-eqb, false_from_ne_true, false≢true, not-false, leb-false, ltb-false}
+use Rattle.std.proofs.lemmas.Bool.{and_parts, eqb-true, eq-eqb, false_from_ne_true, false≢true}
 use Rattle.std.proofs.lemmas.Option.{none-some, same_Some}
 use Rattle.srtp_core.specs.Cipher.{CipherMeaning}
 use Rattle.stream_core.specs.declared.payload_types.TypeRow.{TypeRow}
@@ -12,7 +12,7 @@ use Rattle.stream_core.specs.Repairing.{RepairsRecord}
 use Rattle.stream_core.specs.Tables.{place_of}
 use Rattle.stream_core.specs.TxRecord.{TxRecord as StreamTx}
 use Rattle.session_core.specs.SessionRecord.{MediaRecord, SessionState}
-use Rattle.session_turns.specs.Mirrors.{TxMirrors, IsGiven}
+use Rattle.session_turns.specs.Mirrors.{TxMirrors}
 use Rattle.media_model.specs.declared.entry.Side.{Side}
 use Rattle.media_model.specs.declared.entry.Write.{Write as Writing}
 use Rattle.media_model.specs.declared.entry.Entry.{Entry}
@@ -20,15 +20,14 @@ use Rattle.media_model.specs.declared.entry.Entry.TheVariants.{Wrote}
 use Rattle.media_model.specs.declared.setup.Media.{Media}
 use Rattle.media_model.specs.declared.setup.Stream.{Stream}
 use Rattle.media_model.specs.declared.setup.Setup.{Setup}
-use Rattle.media_model.specs.Entries.{write_on, writes_on}
-use Rattle.media_model.specs.Setup.{streams_of, types_of, main_in, claimed_of}
+use Rattle.media_model.specs.Entries.{writes_on}
+use Rattle.media_model.specs.Setup.{streams_of, types_of, main_in}
 use Rattle.media_model.specs.Sides.{same_side}
 use Rattle.run_model.specs.Events.{Outgoing}
 use Rattle.run_model.specs.Tables.{AreApart, AllStrange, has as has_ssrc, lines}
 use Rattle.run_model.specs.Transcripts.{outgoing_of, outgoing_in}
 use Rattle.run_model.specs.TxPlay.{TxRecord}
 use Rattle.run_model.specs.Whole.{Session}
-use Rattle.rtp_wire.specs.BytesLaws.{AreWords}
 use Rattle.media_laws.specs.declared.fault.StepFault.{StepFault}
 use Rattle.media_laws.specs.declared.fault.StepFault.TheVariants.{UnknownStream, UnknownType, NumberTooBig, NumberUsed, PayloadTooLong, TooManySources}
 use Rattle.media_laws.specs.Listing.{IsIn, NoRepeat}
@@ -37,7 +36,7 @@ use Rattle.media_play.specs.declared.numbers.Numbers.{Numbers}
 use Rattle.media_play.specs.Knowing.{UsedAs, has_number, has_written, IsNoted}
 use Rattle.media_play.specs.Sessions.{EndState, Ready}
 use Rattle.media_play.proofs.Keys.{key_at, key_absent, in_from_get, has_from_get, zip_at, zip_weaker}
-use Rattle.media_play.proofs.Lists.{tested, IsIn-from_map, IsIn-map}
+use Rattle.media_play.proofs.Lists.{tested}
 use Rattle.media_play.proofs.Written.{writes_more, same_self}
 
 pub cond_none : (b : Bool) (fault : StepFault) (other : Option StepFault) → cond b (Some fault) other ≡ None → (b ≡ false) × (other ≡ None)

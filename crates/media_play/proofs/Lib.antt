@@ -19,3 +19,4 @@ pub mod StartingSteps
 pub mod StartingSetup
 pub mod StartingFit
 pub mod Started
+pub mod Words

@@ -1,5 +1,5 @@
 -- A write whose number is not used is a turn of an end.
-use Rattle.std.proofs.Common.{◌≡◌, ◌⊎◌, inl, inr, ℕ, ◌<◌, ◌≤◌, ◌^◌, Bool, true, false, not, cond, ◌||◌, leb, ltb, List, [], ◌∷◌, ◌++◌, length, map, Some, None, Option, refl, sym, ap, ◌∙◌, subst, arith}
+use Rattle.std.proofs.Common.{◌≡◌, inl, inr, ℕ, ◌<◌, ◌^◌, Bool, true, false, not, cond, ◌||◌, leb, ltb, List, [], ◌∷◌, ◌++◌, length, map, Some, None, Option, refl, sym, ap, ◌∙◌, subst, arith}
 use Rattle.std.specs.Prelude.{◌==◌, nat_lt, option_to_list}
 use Rattle.std.specs.List.{list_any, flat_map, AllByRecursion}
 use Rattle.std.proofs.lemmas.Bool.{eqb-true, not-false, leb-false, ltb-false, false≢true}
@@ -8,7 +8,7 @@ use Rattle.srtp_core.specs.Keys.{material_len}
 use Rattle.stream_core.specs.Tables.{place_of, change_place}
 use Rattle.stream_core.specs.TxRecord.{written}
 use Rattle.session_core.specs.SessionRecord.{SessionState, SessionRecord}
-use Rattle.session_turns.specs.Laws.{WritesTurn, TurnsTo}
+use Rattle.session_turns.specs.Laws.{WritesTurn}
 use Rattle.session_turns.specs.Mirrors.{IsGiven, write_at}
 use Rattle.media_model.specs.declared.entry.Side.{Side}
 use Rattle.media_model.specs.declared.entry.Write.{Write as Writing}
@@ -19,7 +19,7 @@ use Rattle.media_model.specs.declared.setup.Setup.{Setup}
 use Rattle.media_model.specs.Entries.{writes_on}
 use Rattle.media_model.specs.Setup.{streams_of, types_of, claimed_in, claimed_of, material_of, pt_in}
 use Rattle.run_model.specs.Events.{wrote}
-use Rattle.run_model.specs.Tables.{Table, written_to}
+use Rattle.run_model.specs.Tables.{Table}
 use Rattle.run_model.specs.Whole.{Session}
 use Rattle.rtp_wire.specs.BytesLaws.{AreWords}
 use Rattle.setup_rules.specs.declared.fault.SetupFault.{SetupFault}
@@ -31,7 +31,7 @@ use Rattle.media_laws.specs.Keys.{sealing_of}
 use Rattle.media_laws.specs.Rules.{has, write_fault}
 use Rattle.media_play.specs.Ends.{EndSession, SessionStands}
 use Rattle.media_play.specs.Knowing.{IsNoted, IsWrittenIn}
-use Rattle.media_play.specs.Sessions.{EndState, Ready, ReadyAt, TurnsOn}
+use Rattle.media_play.specs.Sessions.{EndState, ReadyAt, TurnsOn}
 use Rattle.media_play.proofs.Knowings.{cond_none, distinct, stream_at, used_after}
 use Rattle.media_play.proofs.Lists.{tested}
 use Rattle.media_play.proofs.Turned.{turned}

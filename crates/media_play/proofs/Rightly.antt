@@ -1,33 +1,30 @@
 -- What a session sends and opens, as entries: how they are read, and that they are right.
-use Rattle.std.proofs.Common.{◌≡◌, ℕ, ◌<◌, ◌≤◌, ◌^◌, true, List, [], ◌∷◌, ◌++◌, map, take, drop, length, Option, Some, None, refl, sym, ap, ◌∙◌, subst}
-use Rattle.std.specs.List.{AllByRecursion, list_any}
+use Rattle.std.proofs.Common.{◌≡◌, ℕ, ◌≤◌, true, List, [], ◌∷◌, ◌++◌, map, take, drop, length, Option, Some, None, refl, sym, ap, ◌∙◌, subst}
+use Rattle.std.specs.List.{AllByRecursion}
 use Rattle.std.specs.Option.{option_map}
 use Rattle.rtp_base.specs.declared.kind.Kind.{Kind}
 use Rattle.rtp_base.specs.declared.kind.Kind.TheVariants.{Rtp, Rtcp}
 use Rattle.rtp_wire.specs.declared.extension.ExtensionMap.{ExtensionMap}
-use Rattle.rtp_wire.specs.declared.header.RtpHeader.{RtpHeader}
 use Rattle.rtp_wire.specs.Header.{header_of, header_bytes, wire_form}
 use Rattle.srtp_core.specs.Cipher.{CipherMeaning}
-use Rattle.srtp_core.specs.Contexts.{SrtpState}
 use Rattle.srtp_core.specs.Seals.{sealed_rtp}
-use Rattle.srtp_core.specs.RtcpSeals.{sealed_rtcp, sender_of}
+use Rattle.srtp_core.specs.RtcpSeals.{sender_of}
 use Rattle.stream_core.specs.declared.packet.RtpPacket.{RtpPacket}
 use Rattle.session_core.specs.declared.datagram.Datagram.{Datagram}
 use Rattle.session_core.specs.declared.datagram.Opened.{Opened as Opening}
 use Rattle.session_core.specs.SessionRecord.{SessionRecord}
 use Rattle.session_turns.specs.Mirrors.{Mirrors}
-use Rattle.session_turns.specs.Reading.{event_as, event_of, events_of, opening_as, opening_event, yields_of, events_opened, len_in}
-use Rattle.session_turns.specs.Rights.{IsRightRtp, IsRightRtcp, IsRight as IsRightHere, right_rtp as rtp_here, right_rtcp as rtcp_here, IsCallRight, IsRightOpening, IsRightRtcpOpening}
+use Rattle.session_turns.specs.Reading.{event_as, event_of, events_of, opening_as, yields_of, events_opened, len_in}
+use Rattle.session_turns.specs.Rights.{IsRight as IsRightHere, right_rtp as rtp_here, right_rtcp as rtcp_here, IsCallRight, IsRightOpening, IsRightRtcpOpening}
 use Rattle.rtcp_wire.specs.declared.feedback.AppSpecificFeedback.{AppSpecificFeedback as Application}
 use Rattle.rtcp_wire.specs.declared.packet.Rtcp.TheVariants.{AppSpecificFeedback}
 use Rattle.rtcp_wire.specs.Texts.{text_of}
 use Rattle.media_model.specs.declared.entry.Side.{Side}
 use Rattle.media_model.specs.declared.entry.Packet.{Packet}
-use Rattle.media_model.specs.declared.entry.Write.{Write}
 use Rattle.media_model.specs.declared.entry.Got.{Got as GotEntry}
 use Rattle.media_model.specs.declared.entry.Opened.{Opened as OpenedEntry}
 use Rattle.media_model.specs.declared.entry.Entry.{Entry}
-use Rattle.media_model.specs.declared.entry.Entry.TheVariants.{Wrote, Ticked, Called, Got, Sealed, Opened, Yielded}
+use Rattle.media_model.specs.declared.entry.Entry.TheVariants.{Ticked, Got, Sealed}
 use Rattle.media_model.specs.declared.setup.Setup.{Setup}
 use Rattle.media_model.specs.Entries.{writes_on}
 use Rattle.media_model.specs.Sides.{peer_of}
@@ -35,15 +32,14 @@ use Rattle.run_model.specs.Events.{Event, ticked, got, called}
 use Rattle.run_model.specs.Runs.{Happening, on_side}
 use Rattle.run_model.specs.Seals.{Sealing as SideSealing, Reporting}
 use Rattle.run_model.specs.Transcripts.{sealed_event, opened_event, happening_of, happenings, outgoing_of}
-use Rattle.run_model.specs.Tables.{has}
-use Rattle.run_model.specs.Whole.{Session, Config}
+use Rattle.run_model.specs.Whole.{Session}
 use Rattle.media_laws.specs.Config.{config_of}
 use Rattle.media_laws.specs.Feedback.{next_index, IsSealOfPacket}
 use Rattle.media_laws.specs.Keys.{sealing_of}
-use Rattle.media_laws.specs.Opening.{Sealing, got_as, IsRtpOpening, IsRtcpOpening, rtp_opening, rtcp_opening}
+use Rattle.media_laws.specs.Opening.{Sealing, got_as, rtp_opening, rtcp_opening}
 use Rattle.media_laws.specs.Plain.{extensions_of}
 use Rattle.media_laws.specs.Play.{IsBroughtBy}
-use Rattle.media_laws.specs.Right.{IsSealOf, IsRtcpSealOf, IsRight, right_rtp, right_rtcp, IsRightSeal}
+use Rattle.media_laws.specs.Right.{IsRight, right_rtp, right_rtcp, IsRightSeal}
 use Rattle.media_play.specs.declared.end.Received.{Received}
 use Rattle.media_play.specs.Packets.{sealed_from, seals_from, packet_told}
 use Rattle.media_play.specs.Sessions.{yielded, received_entries}
@@ -61,11 +57,15 @@ pub seals_read : (exts : ExtensionMap) (side : Side) (ds : List Datagram) → ma
 seals_read exts side [] = refl
 seals_read exts side (d ∷ ds) = λ i. seal_read exts side d i ∷ seals_read exts side ds i
 
+pub sent_read : (setup : Setup) (exts : ExtensionMap) (side : Side) (ds : List Datagram) → exts ≡ extensions_of setup
+    → happenings setup (seals_from side ds) ≡ on_side side (events_of exts ds)
+sent_read setup exts side ds e =
+    subst (λ (x : ExtensionMap). ◌≡◌ {A = List Happening} (map (happening_of x) (seals_from side ds)) (on_side side (events_of exts ds))) e (seals_read exts side ds)
+
 pub tick_read : (setup : Setup) (exts : ExtensionMap) (side : Side) (time : ℕ) (ds : List Datagram) → exts ≡ extensions_of setup
     → happenings setup (Ticked side time ∷ seals_from side ds) ≡ on_side side (ticked time ∷ events_of exts ds)
 tick_read setup exts side time ds e =
-    subst (λ (x : ExtensionMap). ◌≡◌ {A = List Happening} (map (happening_of x) (Ticked side time ∷ seals_from side ds)) (on_side side (ticked time ∷ events_of exts ds))) e
-    (ap {A = List Happening} {B = List Happening} (λ (hs : List Happening). (side, ticked time) ∷ hs) (seals_read exts side ds))
+    ap {A = List Happening} {B = List Happening} (λ (hs : List Happening). (side, ticked time) ∷ hs) (sent_read setup exts side ds e)
 
 pub call_read : (setup : Setup) (exts : ExtensionMap) (side : Side) (time : ℕ) (d : Datagram) (c : Entry) → exts ≡ extensions_of setup
     → ((x : ExtensionMap) → ◌≡◌ {A = Happening} (happening_of x c) (side, called time))

@@ -1,25 +1,25 @@
 -- A session with all the streams of its setup mirrors the plain session of it.
-use Rattle.std.proofs.Common.{◌≡◌, inl, inr, ℕ, Bool, true, false, ◌||◌, List, [], ◌∷◌, ◌++◌, map, nat_eq, Option, Some, None, is_some, refl, sym, ap, ◌∙◌, subst, ◌≤◌, ◌^◌, arith}
+use Rattle.std.proofs.Common.{◌≡◌, inl, inr, ℕ, Bool, false, ◌||◌, List, [], ◌∷◌, ◌++◌, map, nat_eq, Option, Some, None, is_some, refl, sym, ap, ◌∙◌, subst, ◌≤◌, ◌^◌, arith}
 use Rattle.std.specs.Prelude.{◌==◌, option_and_then, option_to_list}
-use Rattle.std.specs.List.{AllZip, AllByRecursion, flat_map}
+use Rattle.std.specs.List.{AllZip, flat_map}
 use Rattle.std.specs.Map.{keys_of}
 use Rattle.std.proofs.lemmas.Bool.{eq-eqb, eqb-true}
 use Rattle.rtcp_wire.specs.declared.extended.DlrrItem.{DlrrItem as Delay}
 use Rattle.rtp_wire.specs.declared.extension.ExtensionMap.{ExtensionMap}
 use Rattle.media_base.specs.declared.Beginning.{Beginning}
 use Rattle.media_units.specs.Wallclock.{ntp_nanos}
-use Rattle.rtx_core.specs.Ratio.{CapRecord, uncounted}
+use Rattle.rtx_core.specs.Ratio.{uncounted}
 use Rattle.rtx_core.specs.Resends.{created, recached, recapped}
 use Rattle.srtp_core.specs.Cipher.{CipherMeaning}
 use Rattle.srtp_core.specs.Contexts.{new_state}
 use Rattle.stream_core.specs.declared.payload_types.TypeRow.{TypeRow}
 use Rattle.stream_core.specs.Repairing.{RepairsRecord, repairs_of}
-use Rattle.stream_core.specs.Tables.{place_of, value_under}
+use Rattle.stream_core.specs.Tables.{value_under}
 use Rattle.stream_core.specs.TxRecord.{TxRecord as StreamTx}
-use Rattle.session_core.specs.Hearing.{is_own, trip_of, ntp_of}
+use Rattle.session_core.specs.Hearing.{is_own, trip_of}
 use Rattle.session_core.specs.SessionRecord.{MediaRecord, SessionRecord}
-use Rattle.session_turns.specs.Reading.{types_in, sealing_of as seals_of, reporting_of}
-use Rattle.session_turns.specs.Mirrors.{TxMirrors, MirrorsRepairs, MirrorsCap, RxMirrors, RxStands, RxMirror, rx_mirror, Mirrors}
+use Rattle.session_turns.specs.Reading.{sealing_of as seals_of}
+use Rattle.session_turns.specs.Mirrors.{TxMirrors, MirrorsRepairs, MirrorsCap, RxMirrors, RxStands, rx_mirror, Mirrors}
 use Rattle.media_model.specs.declared.entry.Side.{Side}
 use Rattle.media_model.specs.declared.setup.Setup.{Setup}
 use Rattle.media_model.specs.Setup.{material_of, local_of, streams_of}
@@ -33,11 +33,10 @@ use Rattle.run_model.specs.Whole.{incoming_of, probes, new_session}
 use Rattle.media_play.proofs.Lists.{IsIn-right, IsIn-flat_map, tested}
 use Rattle.media_laws.specs.Config.{config_of, owns}
 use Rattle.media_laws.specs.Keys.{is_left, sealing_of}
-use Rattle.media_laws.specs.Plain.{extensions_of}
 use Rattle.media_laws.specs.Rules.{has}
 use Rattle.media_play.specs.Ends.{EndSession}
-use Rattle.media_play.specs.Starting.{AreOnce, ssrcs_in, IsIdle, IsUnheard, kept_for, kept_in, Begun, Starts, IsStarted}
-use Rattle.media_play.proofs.StartingLists.{zip_keys, zip_map, zip_weaker, place_in, value_first, value_next, NoRepeat-right}
+use Rattle.media_play.specs.Starting.{AreOnce, ssrcs_in, IsIdle, kept_for, kept_in, Begun, Starts, IsStarted}
+use Rattle.media_play.proofs.StartingLists.{zip_keys, zip_map, place_in, value_first, value_next, NoRepeat-right}
 use Rattle.media_play.proofs.StartingFit.{fits}
 use Rattle.media_play.proofs.StartingSetup.{Facts, mains_of, same_types, places}
 

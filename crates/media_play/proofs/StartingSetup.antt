@@ -11,7 +11,7 @@ use Rattle.indexmap.specs.IndexMap.{insert_entry}
 use Rattle.media_model.specs.declared.setup.Mtu.{Mtu}
 use Rattle.stream_core.specs.declared.payload_types.TypeRow.{TypeRow}
 use Rattle.stream_core.specs.Repairing.{rtx_type_of, primary_type_of, is_type as is_row_type}
-use Rattle.stream_core.specs.Tables.{place_of, value_under}
+use Rattle.stream_core.specs.Tables.{place_of}
 use Rattle.session_core.specs.Repairs.{is_known}
 use Rattle.srtp_core.specs.Keys.{material_len}
 use Rattle.session_turns.specs.Reading.{types_in}
@@ -20,7 +20,7 @@ use Rattle.media_model.specs.declared.setup.PayloadType.{PayloadType}
 use Rattle.media_model.specs.declared.setup.Stream.{Stream}
 use Rattle.media_model.specs.declared.setup.Media.{Media}
 use Rattle.media_model.specs.declared.setup.Setup.{Setup}
-use Rattle.media_model.specs.Setup.{material_of, claimed_in, claimed_of, cache_of, pt_in, main_in, streams_in, streams_of, types_of as type_numbers}
+use Rattle.media_model.specs.Setup.{material_of, claimed_in, claimed_of, pt_in, main_in, streams_in, streams_of, types_of as type_numbers}
 use Rattle.media_model.specs.Sides.{same_side}
 use Rattle.setup_rules.specs.declared.fault.SetupFault.{SetupFault}
 use Rattle.setup_rules.specs.declared.fault.SetupFault.TheVariants.{KeyLength, Mtu as MtuRule, Times, ExtId, TypeTwice, SsrcZero, SsrcTwice}

@@ -4,7 +4,7 @@ use Rattle.std.specs.Prelude.{option_to_list, if◌then◌else◌, is_none}
 use Rattle.std.specs.List.{AllZip, flat_map}
 use Rattle.std.specs.Map.{keys_of}
 use Rattle.std.specs.Option.{option_map}
-use Rattle.std.proofs.lemmas.List.{append-nil, map-append}
+use Rattle.std.proofs.lemmas.List.{append-nil}
 use Rattle.std.proofs.lemmas.List.Concat.{flat_map-append}
 use Rattle.std.specs.Cmp.Lexicographic.{pointwise, bytes_decides}
 use Rattle.std.specs.Prelude.{◌==◌}
@@ -16,14 +16,14 @@ use Rattle.srtp_core.specs.Contexts.{new_state}
 use Rattle.stream_core.specs.Repairing.{RepairsRecord}
 use Rattle.stream_core.specs.RxRecord.{RxRecord, expected}
 use Rattle.stream_core.specs.StreamsRecord.{StreamsRecord, StandsFor as StreamsStandFor, with_first, with_original, with_stream_tx, with_stream_rx}
-use Rattle.stream_core.specs.Tables.{place_of, with_new, change_at}
+use Rattle.stream_core.specs.Tables.{with_new, change_at}
 use Rattle.stream_core.specs.TxRecord.{TxRecord, declared}
 use Rattle.media_play.specs.Ends.{EndSession, EndStreams, SessionStands}
 use Rattle.session_core.specs.declared.config.SessionConfig.{SessionConfig}
 use Rattle.session_core.specs.Calls.{fresh_session, keyed}
 use Rattle.session_core.specs.Sending.{has_mid}
 use Rattle.session_core.specs.SessionRecord.{MediaRecord, SessionState, SessionRecord, streams_in}
-use Rattle.session_turns.specs.Mirrors.{rtx_seen, RxMirrors, original_in, original_with}
+use Rattle.session_turns.specs.Mirrors.{rtx_seen, original_in, original_with}
 use Rattle.media_model.specs.declared.entry.Side.{Side}
 use Rattle.media_model.specs.declared.entry.Side.TheVariants.{A, B}
 use Rattle.media_model.specs.declared.setup.Stream.{Stream}
@@ -32,8 +32,7 @@ use Rattle.media_model.specs.Setup.{material_of, local_of, cache_of}
 use Rattle.media_model.specs.Sides.{same_side, peer_of}
 use Rattle.run_model.specs.Events.{Outgoing}
 use Rattle.run_model.specs.Listing.{IsIn}
-use Rattle.run_model.specs.RxPlay.{new_rx}
-use Rattle.run_model.specs.Transcripts.{outgoing_as, outgoing_in}
+use Rattle.run_model.specs.Transcripts.{outgoing_as}
 use Rattle.run_model.specs.Whole.{incoming_of}
 use Rattle.media_laws.specs.Keys.{is_left}
 use Rattle.media_laws.specs.Plain.{extensions_of}

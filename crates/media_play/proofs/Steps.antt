@@ -1,5 +1,5 @@
 -- What a run knows after one step more.
-use Rattle.std.proofs.Common.{◌≡◌, ◌≢◌, ℕ, ◌<◌, ◌≤◌, ◌^◌, Bool, true, false, List, [], ◌∷◌, ◌++◌, Option, None, Result, Ok, Err, IfErr, refl, sym, ap, ◌∙◌, subst, arith}
+use Rattle.std.proofs.Common.{◌≡◌, ◌≢◌, ℕ, ◌<◌, ◌≤◌, ◌^◌, Bool, true, false, List, [], ◌∷◌, ◌++◌, Option, Some, None, Result, Ok, Err, IfErr, refl, sym, ap, ◌∙◌, subst, arith}
 use Rattle.std.specs.Prelude.{◌==◌, nat_lt}
 use Rattle.std.specs.List.{flat_map, AllByRecursion}
 use Rattle.std.specs.Result.{IsErrAnd}
@@ -26,16 +26,16 @@ use Rattle.run_model.specs.Whole.{Config, Session, Turns, writes, ticks, calls, 
 use Rattle.setup_rules.specs.SetupRules.{first_fault}
 use Rattle.media_laws.specs.declared.fault.StepFault.{StepFault}
 use Rattle.media_laws.specs.declared.fault.StepFault.TheVariants.{TimeZero, TimeBack, TimeBeyond}
-use Rattle.media_laws.specs.Exhausting.{call_of}
 use Rattle.media_laws.specs.Keys.{sealing_of}
+use Rattle.media_laws.specs.Listing.{OnlyAdds}
 use Rattle.media_laws.specs.Opening.{Sealing}
 use Rattle.media_laws.specs.Play.{AreEntriesOf, IsBroughtBy, Outcome, Plays as PlaysIn, by_a, by_b, wrote as wrote_step, ticked as ticked_step, called as called_step, got as got_step}
 use Rattle.media_laws.specs.Right.{IsRightSeal}
 use Rattle.media_laws.specs.Rules.{or_else, time_fault, step_fault}
 use Rattle.media_play.specs.declared.fault.StepError.{StepError}
 use Rattle.media_play.specs.declared.fault.StepError.TheVariants.{Memory, Rule, KeyExhausted}
-use Rattle.media_play.specs.Errors.{IsCauseAt, IsStepCause, left_by}
-use Rattle.media_play.specs.Running.{RunState, IsRunOf, PlaysOn}
+use Rattle.media_play.specs.Errors.{IsCauseAt, IsStepCause}
+use Rattle.media_play.specs.Running.{RunState, IsRunOf, PlaysOn, Refuses}
 use Rattle.media_play.specs.Sessions.{EndState, Ready, ReadyAt, TurnsOn}
 use Rattle.media_play.proofs.Turned.{ready_still}
 
@@ -121,6 +121,11 @@ pub in_time : (past : List Entry) (time : ℕ) → time_fault past time ≡ None
 in_time past time e =
     let h = three (time == 0) (nat_lt time (last_time past)) (nat_lt (10 ^ 16) time) TimeZero TimeBack TimeBeyond e in
     record { some = positive time h.0; late = ltb-false time (last_time past) h.1; early = ltb-false (10 ^ 16) time h.2 }
+
+-- a run that is another is in time where that is
+pub in_time_inside : (run now : RunState) → run ≡ now → (time : ℕ) → (now.latest ≡ last_time now.log → time_fault now.log time ≡ None)
+    → run.latest ≡ last_time run.log → time_fault run.log time ≡ None
+in_time_inside run now same time h = subst (λ (r : RunState). r.latest ≡ last_time r.log → time_fault r.log time ≡ None) (sym same) h
 
 module _ {cipher : CipherMeaning} {setup : Setup} {steps : List Step} {run : RunState} (is_run : IsRunOf cipher setup steps run) where
   -- each end is ready when a step comes in time
@@ -215,26 +220,34 @@ module _ {cipher : CipherMeaning} {setup : Setup} {steps : List Step} {run : Run
 pub no_fault : (a b : Option StepFault) → a ≡ None → b ≡ None → or_else a b ≡ None
 no_fault a b e f = ap (λ (x : Option StepFault). or_else x b) e ∙ f
 
+pub first_broken : (a b : Option StepFault) (fault : StepFault) → a ≡ Some fault → or_else a b ≡ Some fault
+first_broken a b fault e = ap (λ (x : Option StepFault). or_else x b) e
+
 pub refused_after : (e : StepError) (a b : Option StepFault) → a ≡ None → IsCauseAt b e → IsCauseAt (or_else a b) e
 refused_after e a b none h = subst (λ (o : Option StepFault). IsCauseAt (or_else o b) e) (sym none) h
 
+-- of a step that is refused after these entries something is told, and these are the entries then
+abbrev pub Tells : CipherMeaning → Setup → List Entry → Step → StepError → List Entry → Type 0
+Tells cipher setup past step e new = (told : List Entry) × (new ≡ past ++ told) × IsStepCause cipher setup past step e told
+
+-- of one that a rule refuses, nothing
+pub refused_by_rule : (cipher : CipherMeaning) (setup : Setup) (past : List Entry) (step : Step) (fault : StepFault) → step_fault setup past step ≡ Some fault
+    → Tells cipher setup past step (Rule fault) past
+refused_by_rule cipher setup past step fault h = ([], sym (append-nil past), (h, refl))
+
+pub only_none : (entries : List Entry) → OnlyAdds entries entries
+only_none entries = ([], sym (append-nil entries))
+
+-- without memory some of what a step brings may be told
+pub refuses_memory : (cipher : CipherMeaning) (run : RunState) (step : Step) (new : List Entry) → OnlyAdds run.log new → Refuses cipher run step Memory new
+refuses_memory cipher run step new adds setup steps is_run = (adds.0, adds.1, tt)
+
 -- a step that is refused by a rule or for want of memory
-pub cause_of_step : (cipher : CipherMeaning) (setup : Setup) (past : List Entry) (step : Step) (e : StepError) → IsCauseAt (step_fault setup past step) e
-    → IsStepCause cipher setup past step e
-cause_of_step cipher setup past step Memory h = tt
-cause_of_step cipher setup past step (Rule fault) h = h
-cause_of_step cipher setup past step (KeyExhausted side counter) h = absurd h
-
--- a step that is no call leaves nothing
-left_none : (step : Step) (e : StepError) → call_of step ≡ [] → left_by step e ≡ []
-left_none step Memory none = refl
-left_none step (Rule fault) none = refl
-left_none step (KeyExhausted side counter) none = none
-
-pub nothing_left : {X : Type 0} (r : Result X StepError) (step : Step) (new old : List Entry) → call_of step ≡ [] → IfErr r (λ e. e ≢ Memory → new ≡ old)
-    → IfErr r (λ e. e ≢ Memory → new ≡ old ++ left_by step e)
-nothing_left (Ok x) step new old none h = tt
-nothing_left (Err e) step new old none h = λ other. h other ∙ sym (ap (λ (l : List Entry). old ++ l) (left_none step e none) ∙ append-nil old)
+pub cause_of_step : (cipher : CipherMeaning) (setup : Setup) (past new : List Entry) (step : Step) (e : StepError) → IsCauseAt (step_fault setup past step) e
+    → (e ≢ Memory → new ≡ past) → OnlyAdds past new → Tells cipher setup past step e new
+cause_of_step cipher setup past new step Memory h same adds = (adds.0, adds.1, tt)
+cause_of_step cipher setup past new step (Rule fault) h same adds = ([], same (λ e. absurd cc) ∙ sym (append-nil past), (h, refl))
+cause_of_step cipher setup past new step (KeyExhausted side counter) h same adds = absurd h
 
 -- what holds of an error holds of the one that is handed on
 pub handed_on : {X : Type 0} (P : StepError → Type 0) (r : Result X StepError) (e : StepError) → IsErrAnd r (λ d. d ≡ e) → P e → IfErr r P

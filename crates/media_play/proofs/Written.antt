@@ -1,11 +1,10 @@
 -- The numbers that were written on plain streams, as the session turns.
-use Rattle.std.proofs.Common.{◌≡◌, ◌⊎◌, inl, inr, ℕ, Bool, true, false, cond, ◌&&◌, ◌||◌, List, [], ◌∷◌, ◌++◌, map, refl, sym, ap, ◌∙◌, subst}
+use Rattle.std.proofs.Common.{◌≡◌, ◌⊎◌, inl, inr, ℕ, Bool, true, false, List, [], ◌∷◌, ◌++◌, map, refl, sym, ap, ◌∙◌, subst}
 use Rattle.std.specs.Prelude.{◌==◌}
-use Rattle.std.specs.List.{list_any, flat_map, AllByRecursion, AllZip}
+use Rattle.std.specs.List.{list_any, AllByRecursion, AllZip}
 use Rattle.std.proofs.lemmas.List.{append-nil}
 use Rattle.std.proofs.lemmas.List.Concat.{flat_map-append}
-use Rattle.std.proofs.lemmas.List.Folds.{list_any-append}
-use Rattle.std.proofs.lemmas.Bool.{eqb-true, eq-eqb, false≢true}
+use Rattle.std.proofs.lemmas.Bool.{eq-eqb, false≢true}
 use Rattle.media_model.specs.declared.entry.Side.{Side}
 use Rattle.media_model.specs.declared.entry.Side.TheVariants.{A, B}
 use Rattle.media_model.specs.declared.entry.Write.{Write}
@@ -17,13 +16,13 @@ use Rattle.run_model.specs.Events.{Event, wrote, Types, Outgoing}
 use Rattle.run_model.specs.Listing.{IsIn}
 use Rattle.run_model.specs.Seals.{Sealing}
 use Rattle.run_model.specs.TxPlay.{TxRecord, Polls, drops, misses, resends, sends}
-use Rattle.run_model.specs.Tables.{Table, PollsOne, here, there, DrainsAll, done, reports, more, begun_at, written_to, IsUnused, Hears, none, one}
+use Rattle.run_model.specs.Tables.{Table, PollsOne, here, there, ServesAll, rests, reports, more, begun_at, written_to, IsUnused, Hears, none, one}
 use Rattle.run_model.specs.Whole.{Config, Session, Turns, writes, ticks, calls, opens, hears, stays}
 use Rattle.rtcp_wire.specs.declared.rtcp_fb.RtcpFb.{RtcpFb}
 use Rattle.media_play.specs.declared.numbers.Numbers.{Numbers}
 use Rattle.media_play.specs.Knowing.{UsedAs, IsWrittenIn}
 use Rattle.media_play.proofs.Keys.{zip_weaker}
-use Rattle.media_play.proofs.Lists.{tested, any-from_in}
+use Rattle.media_play.proofs.Lists.{tested}
 
 abbrev pub writes_first : List Event → Bool
 writes_first (wrote time w ∷ events) = true
@@ -57,10 +56,10 @@ one_same : {T : Types} {seal : Sealing} {now : ℕ} {xs ys : Table} {events : Li
 one_same (here {rest = rest} L p) = ((refl, polls_same p), same_refl rest)
 one_same (there s p) = ((refl, refl), one_same p)
 
-drains_same : {T : Types} {seal : Sealing} {now : ℕ} {xs ys : Table} {events : List Event} → DrainsAll T seal now xs ys events → SameWritten xs ys
-drains_same (done {xs = xs} idle) = same_refl xs
-drains_same (reports index items d) = drains_same d
-drains_same (more {xs = xs} {ys = ys} {zs = zs} p d) = same_trans xs ys zs (one_same p) (drains_same d)
+serves_same : {T : Types} {seal : Sealing} {now : ℕ} {xs ys : Table} {events : List Event} → ServesAll T seal now xs ys events → SameWritten xs ys
+serves_same (rests {xs = xs}) = same_refl xs
+serves_same (reports index items d) = serves_same d
+serves_same (more {xs = xs} {ys = ys} {zs = zs} p d) = same_trans xs ys zs (one_same p) (serves_same d)
 
 begun_same : (time : ℕ) (xs : Table) → SameWritten xs (map (begun_at time) xs)
 begun_same time [] = tt
@@ -72,7 +71,7 @@ hears_same (one L t queued q h) = ((refl, refl), hears_same h)
 
 pub turn_same : {C : Config} {side : Side} {a c : Session} {events : List Event} → Turns C side a c events → writes_first events ≡ false → SameWritten a.tx c.tx
 turn_same (writes time w l u) e = absurd cc
-turn_same {a = a} (ticks {ys = ys} time new next l d f k) e = same_trans a.tx (map (begun_at time) a.tx) ys (begun_same time a.tx) (drains_same d)
+turn_same {a = a} (ticks {ys = ys} time new next l d f k) e = same_trans a.tx (map (begun_at time) a.tx) ys (begun_same time a.tx) (serves_same d.serves)
 turn_same {a = a} (calls time items l o) e = same_refl a.tx
 turn_same {a = a} (opens time bytes ssrc n p s l i o) e = same_refl a.tx
 turn_same (hears time bytes index items l r h) e = hears_same h

@@ -16,7 +16,9 @@ use Rattle.media_play.specs.declared.fault.RunFault.{RunFault}
 use Rattle.media_play.specs.declared.fault.RunError.TheVariants as error
 use Rattle.media_model.specs.Entries.{last_time}
 use Rattle.media_play.specs.Errors.{IsStepCause}
-use Rattle.media_laws.specs.Exhausting.{Exhausts, call_of}
+use Rattle.media_laws.specs.Exhausting.{Exhausts, IsUsedUp}
+use Rattle.media_laws.specs.Headline.{StepsAreAnswered, StepsAreAnsweredToKey, HoldsOfRun, HoldsToKey}
+use Rattle.media_laws.specs.Opening.{Sealing}
 use Rattle.media_laws.specs.Play.{Outcome, Plays as PlaysIn, Played}
 use Rattle.media_laws.specs.Rules.{step_fault}
 use Rattle.media_laws.specs.Keys.{sealing_of}
@@ -63,11 +65,11 @@ Plays cipher old step new =
     (setup : Setup) (steps : List Step) → IsRunOf cipher setup steps old
     → PlaysOn cipher setup steps old step new
 
--- a run of any setup refuses a step for this cause
-abbrev pub Refuses : CipherMeaning → RunState → Step → StepError → Type 0
-Refuses cipher run step cause =
+-- a run of any setup refuses a step for this cause, and these are the entries then: those before it, and what is told of it
+abbrev pub Refuses : CipherMeaning → RunState → Step → StepError → List Entry → Type 0
+Refuses cipher run step cause entries =
     (setup : Setup) (steps : List Step) → IsRunOf cipher setup steps run
-    → IsStepCause cipher setup run.log step cause
+    → (told : List Entry) × (entries ≡ run.log ++ told) × IsStepCause cipher setup run.log step cause told
 
 -- why no run of a setup begins: the first rule that it breaks; memory may run out
 abbrev pub IsSetupCause : Setup → RunError → Type 0
@@ -83,7 +85,7 @@ run_cause number (step.KeyExhausted side counter) = error.KeyExhausted side coun
 run_cause number step.Memory = error.Memory
 
 -- a step breaks no rule and has a side seal behind the last number of a key, and the entries are
--- those of all steps before it and its call
+-- those of all steps before it and what is told of it
 pub record EndsAtKey (cipher : CipherMeaning) (setup : Setup) (steps : List Step) (entries : List Entry) (side : Side)
     (counter : Counter) : Type 0 where
   pub before : ℕ
@@ -92,8 +94,9 @@ pub record EndsAtKey (cipher : CipherMeaning) (setup : Setup) (steps : List Step
   pub past : List Entry
   pub played : Played (sealing_of cipher setup) setup (take before steps) past
   pub valid : step_fault setup past step ≡ None
-  pub exhausts : Exhausts cipher setup past step side counter
-  pub entries_are : entries ≡ past ++ call_of step
+  pub told : List Entry
+  pub exhausts : Exhausts (sealing_of cipher setup) setup past step side counter told
+  pub entries_are : entries ≡ past ++ told
 
 -- why a run ended, and what it brought until then: nothing for a setup that breaks a rule; all
 -- steps before the one that breaks a rule, which is the first one, or that finds a key used up;
@@ -120,3 +123,26 @@ AreValidSteps cipher setup steps =
 abbrev pub OfRun : Result Transcript RunFault → (List Entry → Type 0) → Type 0
 OfRun (Ok entries) P = P entries
 OfRun (Err fault) P = P fault.sofar
+
+-- each step is answered; of a run that found a key used up each but the last, and that one in part
+abbrev pub AnsweredUntil : Sealing → Setup → RunError → List Entry → Type 0
+AnsweredUntil seal setup (error.KeyExhausted side counter) entries = StepsAreAnsweredToKey seal setup entries
+AnsweredUntil seal setup cause entries = StepsAreAnswered seal setup entries
+
+abbrev pub Answered : Sealing → Setup → Result Transcript RunFault → Type 0
+Answered seal setup (Ok entries) = StepsAreAnswered seal setup entries
+Answered seal setup (Err fault) = AnsweredUntil seal setup fault.cause fault.sofar
+
+-- all that holds of the entries of a run that ended so
+abbrev pub HoldsUntil : Sealing → Setup → RunError → List Entry → Type 0
+HoldsUntil seal setup (error.KeyExhausted side counter) entries = HoldsToKey seal setup side counter entries
+HoldsUntil seal setup cause entries = HoldsOfRun seal setup entries
+
+abbrev pub Holds : Sealing → Setup → Result Transcript RunFault → Type 0
+Holds seal setup (Ok entries) = HoldsOfRun seal setup entries
+Holds seal setup (Err fault) = HoldsUntil seal setup fault.cause fault.sofar
+
+-- after the entries of a run that found a key used up its side has no number of the counter left
+abbrev pub UsedUp : Setup → List Entry → RunError → Type 0
+UsedUp setup entries (error.KeyExhausted side counter) = IsUsedUp setup side counter entries
+UsedUp setup entries cause = Unit {0}

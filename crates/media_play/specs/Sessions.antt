@@ -1,34 +1,20 @@
 -- What a session knows of the entries so far.
-use Rattle.std.specs.Prelude.{◌≡◌, ◌<◌, ◌≤◌, ◌^◌, ℕ, Bool, true, false, is_some, List, [], ◌∷◌, ◌++◌, Option, Some, None}
+use Rattle.std.specs.Prelude.{◌≡◌, ◌<◌, ◌≤◌, ◌^◌, ℕ, false, is_some, List, [], ◌∷◌, ◌++◌, Option, Some, None}
 use Rattle.std.specs.List.{AllByRecursion}
 use Rattle.srtp_core.specs.Cipher.{CipherMeaning}
-use Rattle.srtp_core.specs.Contexts.{SrtpState, new_state}
-use Rattle.srtp_core.specs.Keys.{session_keys}
-use Rattle.srtp_core.specs.Seals.{sealed_rtp}
-use Rattle.srtp_core.specs.RtcpSeals.{sealed_rtcp, stated_bit, stated_index}
 use Rattle.stream_core.specs.Tables.{place_of}
 use Rattle.session_core.specs.SessionRecord.{SessionRecord}
-use Rattle.session_core.specs.declared.datagram.Datagram.{Datagram}
-use Rattle.session_core.specs.declared.datagram.Event.{Event as Told}
-use Rattle.session_core.specs.declared.error.RtcError.{RtcError}
-use Rattle.session_core.specs.declared.error.RtcError.TheVariants as rtc
-use Rattle.session_core.specs.Draining.{IsCutOff}
-use Rattle.session_core.specs.Rounds.{after_timeout}
-use Rattle.srtp_core.specs.declared.counter.Counter.TheVariants as srtcp
-use Rattle.media_laws.specs.declared.counter.Counter.TheVariants.{Rtcp, Rtx}
 use Rattle.media_laws.specs.Right.{IsRightSeal}
 use Rattle.media_play.specs.declared.fault.StepError.{StepError}
 use Rattle.media_play.specs.declared.fault.StepError.TheVariants.{Memory, Rule, KeyExhausted}
 use Rattle.session_turns.specs.Mirrors.{Mirrors, IsFit}
-use Rattle.session_turns.specs.Reading.{len_in}
 use Rattle.media_model.specs.declared.entry.Side.{Side}
-use Rattle.media_model.specs.declared.entry.Side.TheVariants.{A, B}
 use Rattle.media_model.specs.declared.entry.Packet.{Packet}
 use Rattle.media_model.specs.declared.entry.Got.{Got as GotEntry}
 use Rattle.media_model.specs.declared.entry.Entry.{Entry}
 use Rattle.media_model.specs.declared.entry.Entry.TheVariants.{Ticked, Got, Opened, Yielded}
 use Rattle.media_model.specs.declared.setup.Setup.{Setup}
-use Rattle.media_model.specs.Setup.{material_of, types_of}
+use Rattle.media_model.specs.Setup.{types_of}
 use Rattle.run_model.specs.Events.{Event}
 use Rattle.run_model.specs.Runs.{on_side}
 use Rattle.run_model.specs.Transcripts.{happenings}
@@ -37,6 +23,7 @@ use Rattle.setup_rules.specs.SetupRules.{setup_fault}
 use Rattle.media_play.specs.declared.end.Received.{Received}
 use Rattle.media_play.specs.declared.numbers.Numbers.{Numbers}
 use Rattle.media_laws.specs.Config.{config_of}
+use Rattle.media_laws.specs.Exhausting.{IsCutTick, LacksNumber}
 use Rattle.media_play.specs.Ends.{EndSession, SessionStands}
 use Rattle.media_play.specs.Knowing.{AreUsed, IsWrittenIn}
 use Rattle.media_laws.specs.Keys.{sealing_of}
@@ -102,18 +89,11 @@ pub record TicksOn (cipher : CipherMeaning) (setup : Setup) (side : Side) (a : S
   pub turns : TurnsOn cipher setup side a new entries (Ticked side time ∷ sealed)
   pub right : AllByRecursion (IsRightSeal (sealing_of cipher setup) setup) sealed
 
--- why a tick of an end at a moment is not played: its session is cut off as it finds no index or no number of repairs left;
--- memory may run out
-pub record IsCutBy (cipher : CipherMeaning) (time : ℕ) (session : SessionRecord) (error : RtcError) : Type 0 where
-  pub after : SessionRecord
-  pub told : List Told
-  pub sent : List Datagram
-  pub cut : IsCutOff cipher time (after_timeout time session) error after told sent
-
-abbrev pub IsTickCause : CipherMeaning → Side → EndState → ℕ → StepError → Type 0
-IsTickCause cipher side old time Memory = Unit {0}
-IsTickCause cipher side old time (Rule fault) = ⊥
-IsTickCause cipher side old time (KeyExhausted by Rtcp) =
-    (by ≡ side) × ((r : SessionRecord) → SessionStands old.session r → r.state.stopped ≡ false → IsCutBy cipher time r (rtc.KeyExhausted srtcp.Rtcp))
-IsTickCause cipher side old time (KeyExhausted by (Rtx ssrc)) =
-    (by ≡ side) × ((r : SessionRecord) → SessionStands old.session r → r.state.stopped ≡ false → IsCutBy cipher time r (rtc.RepairsExhausted ssrc))
+-- why a tick of an end at a moment is not played, and what is told of it: the tick, and what it seals until it finds no index or
+-- no number of repairs left; memory may run out
+abbrev pub IsTickCause : CipherMeaning → Setup → Side → Session → ℕ → StepError → List Entry → Type 0
+IsTickCause cipher setup side a time Memory told = Unit {0}
+IsTickCause cipher setup side a time (Rule fault) told = ⊥
+IsTickCause cipher setup side a time (KeyExhausted by counter) told =
+    (by ≡ side) × ((sealed : List Entry) × (told ≡ Ticked side time ∷ sealed)
+    × (cut : IsCutTick (sealing_of cipher setup) setup side a time sealed) × LacksNumber counter cut.streams cut.next)

@@ -23,9 +23,9 @@ use crate::log::Log;
 use crate::numbers::Numbers;
 use crate::starting::{no_numbers, start};
 use mask_register::MaskRegister;
-use media_base::{Bytes, Instant, Listed};
+use media_base::{Bytes, Instant};
 use media_laws::{Counter, StepFault};
-use media_model::{Kind, Packet, Sealed, Setup, Side, Write};
+use media_model::{Kind, Packet, Sealed, Setup, Side, Sources, Write};
 use queue_store::QueueStore;
 use rtcp_wire::{AppSpecificFeedback as Application, items_fit_by_lengths};
 use rtp_wire::{RtpHeader, SeqNo, Ssrc};
@@ -37,7 +37,7 @@ use stream_core::{Payload, RtpPacket, RtpWrite, Sent};
 use turn_hears::{calls_turn, hears_turn, writes_turn};
 use turn_opens::opens_turn;
 use turn_seals::{calls_are_right, openings_are_right, rtcp_openings_are_right, seals_are_right};
-use turn_ticks::ticks_turn;
+use turn_ticks::{ticks_cut, ticks_turn};
 
 /// Numbers of packets are below it.
 const NUMBER_LIMIT: u64 = 1 << 48;
@@ -47,6 +47,15 @@ const MAX_PAYLOAD_LEN: usize = 1400;
 
 /// The most contributing sources of a packet (RFC 3550 section 5.1).
 const MAX_SOURCES: usize = 15;
+
+/// Why a tick is not played, and what left of it before.
+#[derive(Drop)]
+pub struct TickFault {
+    /// Why it is not played.
+    pub cause: StepError,
+    /// What was sealed until then.
+    pub sealed: Vec<Datagram>,
+}
 
 /// What a datagram opened to, and the packet that it gives the application.
 #[derive(Drop)]
@@ -135,7 +144,7 @@ fn packet(alloc: Global, packet: &RtpPacket) -> Result<Packet, AllocError>
         pt: header.payload_type,
         rtp_time: header.timestamp,
         marker: header.marker,
-        csrc: Listed::from_vec(sources(alloc, header)?),
+        csrc: Sources::from_vec(alloc, sources(alloc, header)?)?,
         payload: Bytes::from_slice(alloc, packet.payload.as_slice())?,
     })
 }
@@ -212,7 +221,7 @@ fn used_up(side: Side, error: RtcError) -> StepError
 }
 
 impl<C: SrtpCipher> End<C> {
-    ghost use Rattle.media_model.specs.declared.entry.Entry.TheVariants.{Wrote, Called};
+    ghost use Rattle.media_model.specs.declared.entry.Entry.TheVariants.{Wrote, Ticked, Called};
     ghost use Rattle.media_model.specs.declared.entry.Entry.TheVariants as happening;
     ghost use Rattle.media_model.specs.declared.entry.Call.TheVariants as call;
     ghost use Rattle.rtp_base.specs.declared.kind.Kind.TheVariants.{Rtp, Rtcp};
@@ -435,22 +444,44 @@ impl<C: SrtpCipher> End<C> {
 
     /// A tick: gives all that leaves, in order: what asks for missing numbers, then of each stream what was
     /// asked for and all packets that wait.
-    pub fn tick(&mut self, side: Side, time: Instant) -> Result<Vec<Datagram>, StepError>
+    ///
+    /// # Errors
+    /// `KeyExhausted`, with all that leaves until then; `Memory`.
+    pub fn tick(
+        &mut self,
+        alloc: Global,
+        side: Side,
+        time: Instant,
+    ) -> Result<Vec<Datagram>, TickFault>
         requires { time ≢ 0 }
         ensures sealed { IfOk result (λ datagrams. (setup : Given) (a : Plain) (entries : List Entry)
             → ReadyAt C.meaning setup side self.old a entries time
             → TicksOn C.meaning setup side a self.new entries time (seals_from side datagrams.items)) }
-        ensures refused { IfErr result (IsTickCause C.meaning side self.old time) }
+        ensures refused { IfErr result (λ fault. (setup : Given) (a : Plain) (entries : List Entry)
+            → ReadyAt C.meaning setup side self.old a entries time
+            → IsTickCause C.meaning setup side a time fault.cause
+            (Ticked side time ∷ seals_from side fault.sealed.items)) }
     {
         ticks_turn();
+        ticks_cut();
         seals_are_right();
         match self.session.handle_timeout(time) {
             Ok(()) => {}
-            Err(_) => return Err(StepError::Memory),
+            Err(_) => {
+                return Err(TickFault {
+                    cause: StepError::Memory,
+                    sealed: Vec::new(alloc),
+                });
+            }
         }
         let drained = match self.session.drain(time) {
             Ok(drained) => drained,
-            Err(fault) => return Err(used_up(side, fault.error)),
+            Err(fault) => {
+                return Err(TickFault {
+                    cause: used_up(side, fault.error),
+                    sealed: fault.sofar.datagrams,
+                });
+            }
         };
         Ok(drained.datagrams)
     }

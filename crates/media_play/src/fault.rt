@@ -46,8 +46,8 @@ impl From<StepFault> for StepError {
 pub struct PlayFault {
     /// Why it was not played.
     pub cause: StepError,
-    /// What the steps before it brought, and of this one, where it is a call of the application
-    /// that finds a key used up, its call alone; else nothing.
+    /// What the steps before it brought; and of this one, where it finds a key used up, the call of
+    /// the application, or the tick and all that it sealed until then.
     pub sofar: Transcript,
 }
 
@@ -78,12 +78,13 @@ impl From<AllocError> for RunError {
     }
 }
 
-/// Why a run ended before its last step, and the transcript of the steps that were played.
+/// Why a run ended before its last step, and what happened until then.
 #[derive(Debug, Drop, Error)]
 #[error("{cause}")]
 pub struct RunFault {
     /// Why it ended.
     pub cause: RunError,
-    /// What the steps that were played brought, and the call that found a key used up.
+    /// What the steps that were played brought; and of one that found a key used up the call of the
+    /// application, or the tick and all that it sealed until then.
     pub sofar: Transcript,
 }

@@ -2,7 +2,7 @@ ghost use Rattle.std.specs.Prelude.{◌≡◌, ◌≢◌, ◌∷◌, ◌++◌, �
 ghost use Rattle.rtp_wire.specs.BytesLaws.{AreWords};
 ghost use Rattle.media_model.specs.declared.entry.Entry.{Entry as Happening};
 ghost use Rattle.media_model.specs.declared.entry.Entry.TheVariants.{Wrote, Ticked, Called, Got as Came, Sealed as Seal};
-ghost use Rattle.media_play.specs.Packets.{sealed_from};
+ghost use Rattle.media_play.specs.Packets.{sealed_from, seals_from};
 ghost use Rattle.media_play.specs.declared.end.Received.{Received as Taken};
 ghost use Rattle.session_core.specs.declared.datagram.Datagram.{Datagram};
 ghost use Rattle.media_model.specs.declared.entry.Call.TheVariants as call;
@@ -11,7 +11,7 @@ ghost use Rattle.media_model.specs.declared.step.Step.TheVariants.{Write as Writ
 ghost use Rattle.media_model.specs.declared.setup.Setup.{Setup as Given};
 ghost use Rattle.media_model.specs.Sides.{peer_of};
 ghost use Rattle.media_model.specs.Entries.{datagrams};
-ghost use Rattle.media_play.specs.Errors.{IsCauseAt, is_rule, IsSendingCause, left_by};
+ghost use Rattle.media_play.specs.Errors.{IsCauseAt, is_rule, IsSendingCause};
 ghost use Rattle.media_laws.specs.Listing.{OnlyAdds};
 ghost use Rattle.media_laws.specs.Opening.{got_as};
 ghost use Rattle.media_laws.specs.Keys.{sealing_of};
@@ -33,6 +33,7 @@ use media_model::{
 };
 use rtcp_wire::AppSpecificFeedback as Application;
 use rtp_wire::Ssrc;
+use session_core::Datagram;
 use srtp_core::SrtpCipher;
 use std::alloc::{AllocError, Global};
 use std::marker::Model;
@@ -153,9 +154,8 @@ impl<C: SrtpCipher> Pair<C> {
     ) -> Result<(), StepError>
         ensures played { OnOk result
             (Plays C.meaning self.old (WriteStep side time write.now) self.new) }
-        ensures refused { IfErr result
-            (Refuses C.meaning self.old (WriteStep side time write.now)) }
-        ensures unchanged { IfErr result (λ e. e ≢ StepError.Memory → self.new.log ≡ self.old.log) }
+        ensures refused { IfErr result (λ e.
+            Refuses C.meaning self.old (WriteStep side time write.now) e self.new.log) }
         ensures longer { OnlyAdds self.old.log self.new.log }
     {
         self.check_time(time)?;
@@ -167,16 +167,16 @@ impl<C: SrtpCipher> Pair<C> {
         Ok(())
     }
 
-    fn tick(&mut self, side: Side, time: Instant) -> Result<(), StepError>
+    fn tick(&mut self, alloc: Global, side: Side, time: Instant) -> Result<(), StepError>
         ensures played { OnOk result (Plays C.meaning self.old (TickStep side time) self.new) }
-        ensures refused { IfErr result (Refuses C.meaning self.old (TickStep side time)) }
-        ensures unchanged { IfErr result (λ e. e ≢ StepError.Memory → self.new.log ≡ self.old.log) }
+        ensures refused { IfErr result (λ e.
+            Refuses C.meaning self.old (TickStep side time) e self.new.log) }
         ensures longer { OnlyAdds self.old.log self.new.log }
     {
         self.check_time(time)?;
         match side {
-            Side::A => tick_step(&mut self.a, &mut self.log, side, time)?,
-            Side::B => tick_step(&mut self.b, &mut self.log, side, time)?,
+            Side::A => tick_step(alloc, &mut self.a, &mut self.log, side, time)?,
+            Side::B => tick_step(alloc, &mut self.b, &mut self.log, side, time)?,
         }
         self.latest = time;
         Ok(())
@@ -215,9 +215,8 @@ impl<C: SrtpCipher> Pair<C> {
     ) -> Result<(), StepError>
         ensures played { OnOk result
             (Plays C.meaning self.old (DeliverStep side time datagram) self.new) }
-        ensures refused { IfErr result
-            (Refuses C.meaning self.old (DeliverStep side time datagram)) }
-        ensures unchanged { IfErr result (λ e. e ≢ StepError.Memory → self.new.log ≡ self.old.log) }
+        ensures refused { IfErr result (λ e.
+            Refuses C.meaning self.old (DeliverStep side time datagram) e self.new.log) }
         ensures longer { OnlyAdds self.old.log self.new.log }
     {
         self.check_time(time)?;
@@ -238,9 +237,8 @@ impl<C: SrtpCipher> Pair<C> {
     ) -> Result<(), StepError>
         ensures played { OnOk result
             (Plays C.meaning self.old (ForeignStep side time kind bytes.now) self.new) }
-        ensures refused { IfErr result
-            (Refuses C.meaning self.old (ForeignStep side time kind bytes.now)) }
-        ensures unchanged { IfErr result (λ e. e ≢ StepError.Memory → self.new.log ≡ self.old.log) }
+        ensures refused { IfErr result (λ e.
+            Refuses C.meaning self.old (ForeignStep side time kind bytes.now) e self.new.log) }
         ensures longer { OnlyAdds self.old.log self.new.log }
     {
         self.check_time(time)?;
@@ -260,10 +258,8 @@ impl<C: SrtpCipher> Pair<C> {
     ) -> Result<(), StepError>
         ensures played { OnOk result (Plays C.meaning self.old
             (ApplicationStep side time sender media payload.now) self.new) }
-        ensures refused { IfErr result
-            (Refuses C.meaning self.old (ApplicationStep side time sender media payload.now)) }
-        ensures called { IfErr result (λ e. e ≢ StepError.Memory → self.new.log ≡ self.old.log
-            ++ left_by (ApplicationStep side time sender media payload.now) e) }
+        ensures refused { IfErr result (λ e. Refuses C.meaning self.old
+            (ApplicationStep side time sender media payload.now) e self.new.log) }
         ensures longer { OnlyAdds self.old.log self.new.log }
     {
         self.check_time(time)?;
@@ -284,14 +280,12 @@ impl<C: SrtpCipher> Pair<C> {
     /// behind the entries.
     pub fn play(&mut self, alloc: Global, step: &Step) -> Result<(), StepError>
         ensures played { OnOk result (Plays C.meaning self.old step.now self.new) }
-        ensures refused { IfErr result (Refuses C.meaning self.old step.now) }
-        ensures called { IfErr result (λ e. e ≢ StepError.Memory → self.new.log ≡ self.old.log
-            ++ left_by step.now e) }
+        ensures refused { IfErr result (λ e. Refuses C.meaning self.old step.now e self.new.log) }
         ensures longer { OnlyAdds self.old.log self.new.log }
     {
         match step {
             Step::Write { side, time, write } => self.write(alloc, *side, *time, write),
-            Step::Tick { side, time } => self.tick(*side, *time),
+            Step::Tick { side, time } => self.tick(alloc, *side, *time),
             Step::Deliver {
                 side,
                 time,
@@ -354,6 +348,7 @@ fn write_step<C: SrtpCipher>(
 }
 
 fn tick_step<C: SrtpCipher>(
+    alloc: Global,
     end: &mut End<C>,
     log: &mut Log,
     side: Side,
@@ -364,14 +359,37 @@ fn tick_step<C: SrtpCipher>(
         → ReadyAt C.meaning setup side end.old a log.old time
         → (sealed : List Happening) × (log.new ≡ log.old ++ Ticked side time ∷ sealed)
         × TicksOn C.meaning setup side a end.new log.old time sealed) }
-    ensures refused { IfErr result (IsTickCause C.meaning side end.old time) }
-    ensures unchanged { IfErr result (λ e. e ≢ StepError.Memory → log.new ≡ log.old) }
+    ensures refused { IfErr result (λ e. (setup : Given) (a : Plain)
+        → ReadyAt C.meaning setup side end.old a log.old time
+        → (told : List Happening) × (log.new ≡ log.old ++ told)
+        × IsTickCause C.meaning setup side a time e told) }
     ensures longer { OnlyAdds log.old log.new }
 {
-    let datagrams = end.tick(side, time)?;
+    match end.tick(alloc, side, time) {
+        Ok(datagrams) => {
+            log_tick(log, side, time, datagrams)?;
+            Ok(())
+        }
+        Err(fault) => {
+            log_tick(log, side, time, fault.sealed)?;
+            Err(fault.cause)
+        }
+    }
+}
+
+/// A tick, and what it sealed.
+fn log_tick(
+    log: &mut Log,
+    side: Side,
+    time: Instant,
+    datagrams: Vec<Datagram>,
+) -> Result<(), AllocError>
+    ensures done { OnOk result (log.new ≡ log.old ++ Ticked side time
+        ∷ seals_from side datagrams.items) }
+    ensures longer { OnlyAdds log.old log.new }
+{
     log.push(Entry::Ticked(side, time))?;
-    log_all(side, datagrams, log)?;
-    Ok(())
+    log_all(side, datagrams, log)
 }
 
 // The call of an application, and the datagram that seals its feedback.

@@ -1,11 +1,11 @@
 ghost use Rattle.std.specs.Prelude.{◌≡◌, ◌++◌, List, [], None, IfOk, IfErr};
 ghost use Rattle.media_model.specs.declared.step.Step.{Step as Act};
 ghost use Rattle.media_model.specs.declared.setup.Setup.{Setup as Given};
-ghost use Rattle.media_play.specs.Errors.{left_by};
+ghost use Rattle.media_play.specs.declared.fault.StepError.TheVariants as step_error;
 ghost use Rattle.media_laws.specs.Keys.{sealing_of};
-ghost use Rattle.media_laws.specs.Headline.{HoldsOfRun, StepsAreAnswered, SealsAreRight, NoNonceTwice, SendsWrites, YieldsWrites, NoPacketTwice, FirstSendingsAreYielded};
+ghost use Rattle.media_laws.specs.Headline.{SealsAreRight, NoNonceTwice, SendsWrites, YieldsWrites, NoPacketTwice, FirstSendingsAreYielded};
 ghost use Rattle.media_laws.specs.Play.{Played};
-ghost use Rattle.media_play.specs.Running.{HasCause, OfRun, run_cause};
+ghost use Rattle.media_play.specs.Running.{HasCause, Holds, Answered, UsedUp, OfRun, run_cause};
 ghost use Rattle.setup_rules.specs.SetupRules.{setup_fault};
 
 use crate::fault::{PlayFault, RunError, RunFault, StepError};
@@ -58,15 +58,16 @@ impl<C: SrtpCipher> Run<C> {
     /// Plays one step more, whose entries then stand behind those before it.
     ///
     /// # Errors
-    /// `Rule`, exactly with the first rule that the step breaks; `KeyExhausted`, only where it breaks
-    /// none and its side was to seal a datagram behind the last number of a key, and exactly there
-    /// where it is the call of an application; `Memory`. The fault has the transcript of the steps
-    /// before, and of this one the call alone that found a key used up.
+    /// `Rule`, exactly with the first rule that the step breaks; `KeyExhausted`, where it breaks
+    /// none and its side was to seal a datagram behind the last number of a key; `Memory`. The fault
+    /// has the transcript of the steps before, and of one that found a key used up the call, or the
+    /// tick and all that it sealed until then.
     pub fn play(self, alloc: Global, step: &Step) -> Result<Self, PlayFault>
         ensures played { IfOk result (Plays C.meaning self step.now) }
-        ensures refused { IfErr result (λ fault. Refuses C.meaning self step.now fault.cause) }
-        ensures sofar { IfErr result (λ fault.
-            fault.sofar ≡ self.log ++ left_by step.now fault.cause) }
+        ensures refused { IfErr result (λ fault.
+            Refuses C.meaning self step.now fault.cause fault.sofar) }
+        ensures memory { IfErr result (λ fault.
+            fault.cause ≡ step_error.Memory → fault.sofar ≡ self.log) }
     {
         let Run { mut pair } = self;
         let len = pair.len();
@@ -145,7 +146,7 @@ fn play_all<C: SrtpCipher>(
         Played (sealing_of C.meaning setup.now) setup.now steps.now t) }
     ensures cause { IfErr result (λ f.
         HasCause C.meaning setup.now steps.now f.sofar f.cause) }
-    ensures holds { OfRun result (HoldsOfRun (sealing_of C.meaning setup.now) setup.now) }
+    ensures holds { Holds (sealing_of C.meaning setup.now) setup.now result }
 {
     holds_of_run::<C>();
     let mut run = match Run::new(alloc, setup, cipher) {
@@ -171,9 +172,11 @@ fn play_all<C: SrtpCipher>(
 ///
 /// # Errors
 /// `Setup`, exactly with the first rule that the setup breaks; `Step`, exactly at the first step
-/// that breaks a rule, with the first rule that it breaks; `KeyExhausted`, only where a step has a
-/// side seal a datagram behind the last number of a key; `Memory`. The fault has the transcript of
-/// the steps that were played, and the call of an application that found a key used up.
+/// that breaks a rule, with the first rule that it breaks; `KeyExhausted`, where a step has a side
+/// seal a datagram behind the last number of a key (RFC 3711 section 3.3.1: 2^48 numbers of RTP
+/// under an SSRC, 2^31 indices of RTCP); `Memory`. The fault has the transcript of the steps that
+/// were played, and of one that found a key used up the call, or the tick and all that it sealed
+/// until then.
 pub fn media_run<C: SrtpCipher>(
     alloc: Global,
     setup: &Setup,
@@ -189,7 +192,10 @@ pub fn media_run<C: SrtpCipher>(
     // A write brings nothing. A tick seals of each stream all queued writes, in order, and each
     // kept write asked for, unless the stream is capped; and it asks for exactly the due numbers. A
     // call seals its feedback. What comes is opened exactly where it opens, and its packet yielded.
-    ensures steps { OfRun result (StepsAreAnswered (sealing_of C.meaning setup.now) setup.now) }
+    // A tick that finds a key used up seals, until then, the first of these.
+    ensures steps { Answered (sealing_of C.meaning setup.now) setup.now result }
+    // A key is used up where all its numbers were sealed, and one more is due.
+    ensures used_up { IfErr result (λ f. UsedUp setup.now f.sofar f.cause) }
     // Each sealed datagram is a seal under its side's keys.
     ensures seals { OfRun result (SealsAreRight (sealing_of C.meaning setup.now) setup.now) }
     // No two datagrams of a direction share a nonce.

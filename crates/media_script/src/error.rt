@@ -14,9 +14,13 @@ pub enum ScriptError {
 }
 
 /// Why a line or a word was not read.
-#[derive(Clone, Copy, Debug, PartialEq, Eq)]
+#[derive(Clone, Copy, Debug, PartialEq, Eq, Error)]
 pub enum LineError {
+    /// Memory ran out.
+    #[error("out of memory")]
     Memory,
+    /// It is outside the grammar.
+    #[error("the line or the word is outside the grammar")]
     Outside,
 }
 

@@ -10,18 +10,18 @@ use crate::words::{
     application_data, flag, hex, kind as kind_word, number, number_8, number_32, side,
     sources as sources_word, time,
 };
-use media_base::{Bytes, Instant, Listed};
-use media_model::{Side, Step, Write};
+use media_base::{Bytes, Instant};
+use media_model::{Side, Sources, Step, Write};
 use rtp_wire::{Pt, SeqNo, Ssrc};
 use std::alloc::Global;
 
 // The contributing sources of a packet, which the words behind its payload say.
-fn sources(alloc: Global, words: &[&[u8]]) -> Result<Listed<u32>, LineError>
+fn sources(alloc: Global, words: &[&[u8]]) -> Result<Sources, LineError>
     ensures { Gives (λ l. l) result (sources_in (texts words.now)) }
 {
     match words {
-        [] => Ok(Listed::new(alloc)),
-        [word] => Ok(Listed::from_vec(sources_word(alloc, word)?)),
+        [] => Ok(Sources::none()),
+        [word] => Ok(Sources::from_vec(alloc, sources_word(alloc, word)?)?),
         _ => Err(LineError::Outside),
     }
 }

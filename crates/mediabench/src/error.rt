@@ -5,15 +5,19 @@ ghost use Rattle.mediabench.specs.Ends.{status_of};
 use media_base::Failed;
 use std::alloc::AllocError;
 use std::io;
+use thiserror::Error;
 
 /// Why a command was not done.
-#[derive(Clone, Copy)]
+#[derive(Clone, Copy, Debug, PartialEq, Eq, Error)]
 pub enum BenchError {
     /// Memory ran out.
+    #[error("out of memory")]
     Memory,
     /// The clock could not be read.
+    #[error("the clock could not be read")]
     Clock,
     /// The sink failed.
+    #[error("the sink failed")]
     Sink,
 }
 

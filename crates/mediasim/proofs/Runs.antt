@@ -1,6 +1,6 @@
 -- What a run comes to, with its line and without memory for it.
 use Rattle.std.proofs.Common.{◌≡◌, inl, inr, ℕ, List, [], ◌++◌, length, take, Some, None, Result, Ok, Err, refl, sym, ap, ◌∙◌, subst, arith}
-use Rattle.std.specs.Prelude.{◌↔◌, Bool, IfOk, IsTrue}
+use Rattle.std.specs.Prelude.{◌↔◌, Bool, IfOk, IfErr, IsTrue}
 use Rattle.std.specs.declared.alloc.AllocError.{AllocError}
 use Rattle.std.specs.declared.option.Option.{Option}
 use Rattle.std.proofs.lemmas.List.{take_all}
@@ -18,12 +18,13 @@ use Rattle.media_script.specs.Spelling.{IsScript}
 use Rattle.media_model.specs.Genuine.{is_genuine}
 use Rattle.media_script.specs.Text.{entries_text, end_text}
 use Rattle.media_laws.specs.declared.fault.StepFault.{StepFault}
+use Rattle.media_play.specs.declared.fault.RunError.{RunError}
 use Rattle.media_play.specs.declared.fault.RunError.TheVariants as error
 use Rattle.media_play.specs.declared.fault.RunFault.{RunFault}
-use Rattle.media_laws.specs.Headline.{HoldsOfRun, RunWidens, StepsAreAnswered, SealsAreRight, NoNonceTwice, SendsWrites, YieldsWrites, NoPacketTwice, FirstSendingsAreYielded}
+use Rattle.media_laws.specs.Headline.{HoldsOfRun, HoldsToKey, RunWidens, StepsAreAnswered, SealsAreRight, NoNonceTwice, SendsWrites, YieldsWrites, NoPacketTwice, FirstSendingsAreYielded}
 use Rattle.media_laws.specs.Opening.{Sealing}
 use Rattle.media_laws.specs.Play.{Played}
-use Rattle.media_play.specs.Running.{HasCause, OfRun}
+use Rattle.media_play.specs.Running.{HasCause, OfRun, Answered, AnsweredUntil, Holds, HoldsUntil, UsedUp}
 use Rattle.setup_rules.specs.declared.fault.SetupFault.{SetupFault}
 use Rattle.setup_rules.specs.SetupRules.{setup_fault}
 use Rattle.mediasim.specs.declared.ends.End.{End}
@@ -32,13 +33,30 @@ use Rattle.mediasim.specs.Lines.{memory_line, IsLastLine, reported}
 use Rattle.mediasim.specs.RunCommand.{key_line, script_cipher, script_sealing, syntax_line, setup_line, step_line, AreOfRun, RunEnds, RunMakes, IsNoScript, TellsWhole}
 
 -- all that holds of a run, whether it came to its end or not
+whole_holds : (seal : Sealing) (setup : Given) (entries : List Entry)
+    → StepsAreAnswered seal setup entries → SealsAreRight seal setup entries → NoNonceTwice entries → SendsWrites setup entries → YieldsWrites setup entries
+    → NoPacketTwice entries → FirstSendingsAreYielded setup entries → HoldsOfRun seal setup entries
+whole_holds seal setup entries steps seals nonces sendings yields once exactly =
+    record { steps = steps; seals = seals; nonces = nonces; sendings = sendings; yields = yields; once = once; exactly = exactly }
+
+until_holds : (seal : Sealing) (setup : Given) (cause : RunError) (entries : List Entry)
+    → AnsweredUntil seal setup cause entries → UsedUp setup entries cause → SealsAreRight seal setup entries → NoNonceTwice entries → SendsWrites setup entries
+    → YieldsWrites setup entries → NoPacketTwice entries → FirstSendingsAreYielded setup entries → HoldsUntil seal setup cause entries
+until_holds seal setup (error.KeyExhausted side counter) entries steps used seals nonces sendings yields once exactly =
+    record { steps = steps; front = record { seals = seals; nonces = nonces; sendings = sendings; yields = yields; once = once }; exactly = exactly; used_up = used }
+until_holds seal setup (error.Setup fault) entries steps used seals nonces sendings yields once exactly =
+    whole_holds seal setup entries steps seals nonces sendings yields once exactly
+until_holds seal setup (error.Step number fault) entries steps used seals nonces sendings yields once exactly =
+    whole_holds seal setup entries steps seals nonces sendings yields once exactly
+until_holds seal setup error.Memory entries steps used seals nonces sendings yields once exactly =
+    whole_holds seal setup entries steps seals nonces sendings yields once exactly
+
 pub all_holds : (seal : Sealing) (setup : Given) (r : Result Transcript RunFault)
-    → OfRun r (StepsAreAnswered seal setup) → OfRun r (SealsAreRight seal setup) → OfRun r NoNonceTwice → OfRun r (SendsWrites setup) → OfRun r (YieldsWrites setup)
-    → OfRun r NoPacketTwice → OfRun r (FirstSendingsAreYielded setup) → OfRun r (HoldsOfRun seal setup)
-all_holds seal setup (Ok entries) steps seals nonces sendings yields once exactly =
-    record { steps = steps; seals = seals; nonces = nonces; sendings = sendings; yields = yields; once = once; exactly = exactly }
-all_holds seal setup (Err fault) steps seals nonces sendings yields once exactly =
-    record { steps = steps; seals = seals; nonces = nonces; sendings = sendings; yields = yields; once = once; exactly = exactly }
+    → Answered seal setup r → IfErr r (λ f. UsedUp setup f.sofar f.cause) → OfRun r (SealsAreRight seal setup) → OfRun r NoNonceTwice → OfRun r (SendsWrites setup)
+    → OfRun r (YieldsWrites setup) → OfRun r NoPacketTwice → OfRun r (FirstSendingsAreYielded setup) → Holds seal setup r
+all_holds seal setup (Ok entries) steps used seals nonces sendings yields once exactly = whole_holds seal setup entries steps seals nonces sendings yields once exactly
+all_holds seal setup (Err fault) steps used seals nonces sendings yields once exactly =
+    until_holds seal setup fault.cause fault.sofar steps used seals nonces sendings yields once exactly
 
 -- all entries are a front of themselves
 all_told : (entries : List Entry) (last : List ℕ) → last ≡ memory_line → entries_text entries ++ last ≡ entries_text (take (length entries) entries) ++ memory_line
@@ -79,7 +97,7 @@ setup_ends view setup steps fault entries told (Err e) ended last is said same c
 pub key_ends : {X : Type 0} (view : X → List ℕ) (setup : Given) (steps : List Act) (side : Side) (counter : Counter) (entries told : List Entry)
     (line : Result X AllocError) (ended : End) (last : List ℕ)
     → IsLastLine view (KeyExhausted side counter) line ended last → IfOk line (λ text. view text ≡ key_line side counter) → told ≡ entries
-    → HasCause (script_cipher setup) setup steps entries (error.KeyExhausted side counter) → HoldsOfRun (script_sealing setup) setup entries
+    → HasCause (script_cipher setup) setup steps entries (error.KeyExhausted side counter) → HoldsToKey (script_sealing setup) setup side counter entries
     → RunEnds setup steps ended (reported ended told) (entries_text told ++ last)
 key_ends view setup steps side counter entries told (Ok text) ended last is said same cause holds =
     subst (λ (es : List Entry). RunEnds setup steps ended (reported ended es) (entries_text es ++ last)) (sym same)

@@ -1,6 +1,6 @@
 -- What the bytes that a source tells come to.
-use Rattle.std.proofs.Common.{◌≡◌, inl, inr, ℕ, ◌<◌, ◌≤◌, List, ◌++◌, length, take, Some, None, refl, sym, ap, ◌∙◌, subst, arith}
-use Rattle.media_laws.specs.Exhausting.{Exhausts, call_of, told_of}
+use Rattle.std.proofs.Common.{◌≡◌, inl, inr, ℕ, ◌<◌, ◌≤◌, List, [], ◌∷◌, ◌++◌, length, take, Some, None, refl, sym, ap, ◌∙◌, subst, arith}
+use Rattle.media_laws.specs.Exhausting.{Exhausts}
 use Rattle.media_model.specs.declared.entry.Side.{Side}
 use Rattle.media_model.specs.declared.setup.CipherName.{CipherName}
 use Rattle.media_model.specs.declared.setup.CipherName.TheVariants.{Toy, Sha}
@@ -18,7 +18,7 @@ use Rattle.media_model.specs.declared.setup.Setup.{Setup as Given}
 use Rattle.media_model.specs.declared.step.Step.{Step as Act}
 use Rattle.media_script.specs.Laws.{SpellsOne}
 use Rattle.media_script.specs.Spelling.{IsScript}
-use Rattle.media_laws.specs.Headline.{HoldsOfRun, PlaysSteps}
+use Rattle.media_laws.specs.Headline.{HoldsOfRun, HoldsToKey, PlaysSteps}
 use Rattle.media_laws.specs.Keys.{sealing_of}
 use Rattle.media_laws.specs.Opening.{Sealing}
 use Rattle.media_laws.specs.Play.{Played}
@@ -30,7 +30,7 @@ use Rattle.mediasim.specs.Command.{IsCommand, Makes, Carries}
 use Rattle.mediasim.specs.Ends.{Tells}
 use Rattle.mediasim.specs.Lines.{memory_line}
 use Rattle.mediasim.specs.MediaMain.{Cause, Answers, TellsScript, RunsScript, AnswersScript, IsInOrder}
-use Rattle.mediasim.specs.RunCommand.{meaning_of, script_cipher, script_sealing, RunEnds, RunMakes, EndsInRun, PlaysToEnd, PlaysAll}
+use Rattle.mediasim.specs.RunCommand.{meaning_of, script_cipher, script_sealing, RunEnds, RunMakes, EndsInRun, AnswersTo, PlaysToEnd, PlaysAll, UsesUp}
 use Rattle.mediasim.proofs.Texts.{front_of_second}
 
 -- what is read to the end of input is all that the source tells
@@ -223,38 +223,99 @@ none_holds None P is = tt
 none_holds (Some entries) P is = absurd cc
 
 -- the laws hold for the setup that was read
-holds_in : (setup : Given) (steps : List Act) (end : End) (transcript : Option (List Entry)) (text : List ℕ) → EndsInRun setup steps end transcript text
-    → IfSome transcript (HoldsOfRun (script_sealing setup) setup)
-holds_in setup steps Done None text h = tt
-holds_in setup steps Done (Some entries) text h = h.2
-holds_in setup steps (Setup fault) None text h = tt
-holds_in setup steps (Setup fault) (Some entries) text h = absurd h
-holds_in setup steps (Step number fault) None text h = tt
-holds_in setup steps (KeyExhausted by counter) None text h = tt
-holds_in setup steps (Step number fault) (Some entries) text h = h.1
-holds_in setup steps (KeyExhausted by counter) (Some entries) text h = h.1
-holds_in setup steps (Syntax line) transcript text h = absurd h
-holds_in setup steps (Call number) transcript text h = absurd h
-holds_in setup steps ReadFault transcript text h = none_holds transcript _ h
-holds_in setup steps WriteFault transcript text h = absurd h
-holds_in setup steps Memory None text h = tt
-holds_in setup steps Memory (Some entries) text h = absurd h
-holds_in setup steps TooLong transcript text h = none_holds transcript _ h
-holds_in setup steps Usage transcript text h = none_holds transcript _ h
-
-if_some_weaker : (o : Option (List Entry)) (P Q : List Entry → Type 0) → ((entries : List Entry) → P entries → Q entries) → IfSome o P → IfSome o Q
-if_some_weaker None P Q says h = tt
-if_some_weaker (Some entries) P Q says h = says entries h
+holds_in : (setup : Given) (steps : List Act) (end : End) (transcript : Option (List Entry)) (text : List ℕ) (Q : List Entry → Type 0)
+    → ((entries : List Entry) → HoldsOfRun (script_sealing setup) setup entries → Q entries)
+    → ((side : Side) (counter : Counter) (entries : List Entry) → HoldsToKey (script_sealing setup) setup side counter entries → Q entries)
+    → EndsInRun setup steps end transcript text → IfSome transcript Q
+holds_in setup steps Done None text Q says at_key h = tt
+holds_in setup steps Done (Some entries) text Q says at_key h = says entries h.2
+holds_in setup steps (Setup fault) None text Q says at_key h = tt
+holds_in setup steps (Setup fault) (Some entries) text Q says at_key h = absurd h
+holds_in setup steps (Step number fault) None text Q says at_key h = tt
+holds_in setup steps (KeyExhausted by counter) None text Q says at_key h = tt
+holds_in setup steps (Step number fault) (Some entries) text Q says at_key h = says entries h.1
+holds_in setup steps (KeyExhausted by counter) (Some entries) text Q says at_key h = at_key by counter entries h.1
+holds_in setup steps (Syntax line) transcript text Q says at_key h = absurd h
+holds_in setup steps (Call number) transcript text Q says at_key h = absurd h
+holds_in setup steps ReadFault transcript text Q says at_key h = none_holds transcript Q h
+holds_in setup steps WriteFault transcript text Q says at_key h = absurd h
+holds_in setup steps Memory None text Q says at_key h = tt
+holds_in setup steps Memory (Some entries) text Q says at_key h = absurd h
+holds_in setup steps TooLong transcript text Q says at_key h = none_holds transcript Q h
+holds_in setup steps Usage transcript text Q says at_key h = none_holds transcript Q h
 
 pub script_holds : (held held' : Option (List ℕ)) (setup : Given) (steps : List Act) (answer : End) (answered : Option (List Entry)) (Q : List Entry → Type 0)
     → ((entries : List Entry) → HoldsOfRun (script_sealing setup) setup entries → Q entries)
+    → ((side : Side) (counter : Counter) (entries : List Entry) → HoldsToKey (script_sealing setup) setup side counter entries → Q entries)
     → AnswersScript setup steps held held' answer answered → IfSome answered Q
-script_holds held held' setup steps answer answered Q says a =
+script_holds held held' setup steps answer answered Q says at_key a =
+    elim a.tells [
+      | inl t ↦ subst (λ (o : Option (List Entry)). IfSome o Q) (sym t.1) (holds_in setup steps a.end a.transcript a.text Q says at_key a.run)
+      | inr t ↦ none_holds answered Q t.1
+    ]
+
+-- how its steps are answered, and that a key is used up
+pub record AnswersRightly (setup : Given) (end : End) (transcript : Option (List Entry)) : Type 0 where
+  pub steps : AnswersTo (script_sealing setup) setup end transcript
+  pub used_up : UsesUp setup end transcript
+
+nothing_answered : (seal : Sealing) (setup : Given) (end : End) → AnswersTo seal setup end None
+nothing_answered seal setup Done = tt
+nothing_answered seal setup (Setup fault) = tt
+nothing_answered seal setup (Step number fault) = tt
+nothing_answered seal setup (KeyExhausted by counter) = tt
+nothing_answered seal setup (Call number) = tt
+nothing_answered seal setup (Syntax line) = tt
+nothing_answered seal setup ReadFault = tt
+nothing_answered seal setup WriteFault = tt
+nothing_answered seal setup Memory = tt
+nothing_answered seal setup TooLong = tt
+nothing_answered seal setup Usage = tt
+
+nothing_used : (setup : Given) (end : End) → UsesUp setup end None
+nothing_used setup Done = tt
+nothing_used setup (Setup fault) = tt
+nothing_used setup (Step number fault) = tt
+nothing_used setup (KeyExhausted by counter) = tt
+nothing_used setup (Call number) = tt
+nothing_used setup (Syntax line) = tt
+nothing_used setup ReadFault = tt
+nothing_used setup WriteFault = tt
+nothing_used setup Memory = tt
+nothing_used setup TooLong = tt
+nothing_used setup Usage = tt
+
+answers_none : (setup : Given) (end : End) (transcript : Option (List Entry)) → transcript ≡ None → AnswersRightly setup end transcript
+answers_none setup end transcript none =
+    subst (AnswersRightly setup end) (sym none) (record { steps = nothing_answered (script_sealing setup) setup end; used_up = nothing_used setup end })
+
+answers_in : (setup : Given) (steps : List Act) (end : End) (transcript : Option (List Entry)) (text : List ℕ) → EndsInRun setup steps end transcript text
+    → AnswersRightly setup end transcript
+answers_in setup steps Done None text h = absurd h
+answers_in setup steps Done (Some entries) text h = record { steps = h.2.steps; used_up = tt }
+answers_in setup steps (Setup fault) None text h = record { steps = tt; used_up = tt }
+answers_in setup steps (Setup fault) (Some entries) text h = absurd h
+answers_in setup steps (Step number fault) None text h = absurd h
+answers_in setup steps (Step number fault) (Some entries) text h = record { steps = h.1.steps; used_up = tt }
+answers_in setup steps (KeyExhausted by counter) None text h = absurd h
+answers_in setup steps (KeyExhausted by counter) (Some entries) text h = record { steps = h.1.steps; used_up = h.1.used_up }
+answers_in setup steps (Syntax line) transcript text h = absurd h
+answers_in setup steps (Call number) transcript text h = absurd h
+answers_in setup steps ReadFault transcript text h = answers_none setup ReadFault transcript h
+answers_in setup steps WriteFault transcript text h = absurd h
+answers_in setup steps Memory None text h = record { steps = tt; used_up = tt }
+answers_in setup steps Memory (Some entries) text h = absurd h
+answers_in setup steps TooLong transcript text h = answers_none setup TooLong transcript h
+answers_in setup steps Usage transcript text h = answers_none setup Usage transcript h
+
+pub script_answers : (held held' : Option (List ℕ)) (setup : Given) (steps : List Act) (answer : End) (answered : Option (List Entry))
+    → AnswersScript setup steps held held' answer answered → AnswersRightly setup answer answered
+script_answers held held' setup steps answer answered a =
     elim a.tells [
       | inl t ↦
-          subst (λ (o : Option (List Entry)). IfSome o Q) (sym t.1)
-          (if_some_weaker a.transcript (HoldsOfRun (script_sealing setup) setup) Q says (holds_in setup steps a.end a.transcript a.text a.run))
-      | inr t ↦ none_holds answered Q t.1
+          subst (λ (e : End). AnswersRightly setup e answered) (sym t.0)
+          (subst (λ (o : Option (List Entry)). AnswersRightly setup a.end o) (sym t.1) (answers_in setup steps a.end a.transcript a.text a.run))
+      | inr t ↦ answers_none setup answer answered t.1
     ]
 
 -- what holds under each cipher holds under the one of a name
@@ -262,12 +323,12 @@ under_named : (P : CipherMeaning → Type 0) → P toy_meaning → P sha_meaning
 under_named P toy sha Toy = toy
 under_named P toy sha Sha = sha
 
--- a run plays each step of its script once, in order, and the call that finds a key used up
+-- a run plays each step of its script once, in order, up to the one that finds a key used up
 pub record Playing (cipher : CipherMeaning) : Type 0 where
   pub whole : (setup : Given) (steps : List Act) (entries : List Entry) → Played (sealing_of cipher setup) setup steps entries → PlaysSteps steps entries
   pub exhausted : (setup : Given) (steps : List Act) (entries : List Entry) (step : Act) (side : Side) (counter : Counter)
-      → Played (sealing_of cipher setup) setup steps entries → Exhausts cipher setup entries step side counter
-      → PlaysSteps (steps ++ told_of step) (entries ++ call_of step)
+      (told : List Entry) → Played (sealing_of cipher setup) setup steps entries → Exhausts (sealing_of cipher setup) setup entries step side counter told
+      → PlaysSteps (steps ++ step ∷ []) (entries ++ told)
 
 -- the steps that were played are those of the script
 plays_in : (setup : Given) (steps : List Act) (end : End) (transcript : Option (List Entry)) (text : List ℕ) → Playing (script_cipher setup)
@@ -284,8 +345,8 @@ plays_in setup steps (KeyExhausted by counter) (Some entries) text law h =
       r.before,
       r.step,
       r.stands,
-      subst (λ (es : List Entry). PlaysSteps (take r.before steps ++ told_of r.step) es) (sym r.entries_are)
-          (law.exhausted setup (take r.before steps) r.past r.step by counter r.played r.exhausts),
+      subst (λ (es : List Entry). PlaysSteps (take r.before steps ++ r.step ∷ []) es) (sym r.entries_are)
+          (law.exhausted setup (take r.before steps) r.past r.step by counter r.told r.played r.exhausts),
     )
 plays_in setup steps (Syntax line) transcript text law h = absurd h
 plays_in setup steps (Call number) transcript text law h = absurd h
@@ -310,48 +371,51 @@ script_plays held held' setup steps answer answered toy sha a =
 -- what holds of each transcript, whatever the input was
 always_made : (read : List ℕ) (end : End) (transcript : Option (List Entry)) (text : List ℕ) (command : Command) (Q : List Entry → Type 0)
     → ((seal : Sealing) (setup : Given) (entries : List Entry) → HoldsOfRun seal setup entries → Q entries)
+    → ((seal : Sealing) (setup : Given) (side : Side) (counter : Counter) (entries : List Entry) → HoldsToKey seal setup side counter entries → Q entries)
     → Makes command read end transcript text → IfSome transcript Q
-always_made read end transcript text Pace Q says h = none_holds transcript Q h.0
-always_made read (Call number) transcript text Run Q says h = absurd h
-always_made read Done None text Run Q says h = tt
-always_made read Done (Some entries) text Run Q says h = says (script_sealing h.setup) h.setup entries h.run.2
-always_made read (Setup fault) None text Run Q says h = tt
-always_made read (Setup fault) (Some entries) text Run Q says h = absurd h.run
-always_made read (Step number fault) None text Run Q says h = tt
-always_made read (KeyExhausted by counter) None text Run Q says h = tt
-always_made read (Step number fault) (Some entries) text Run Q says h = says (script_sealing h.setup) h.setup entries h.run.1
-always_made read (KeyExhausted by counter) (Some entries) text Run Q says h = says (script_sealing h.setup) h.setup entries h.run.1
-always_made read (Syntax line) None text Run Q says h = tt
-always_made read (Syntax line) (Some entries) text Run Q says h = absurd h
-always_made read Memory None text Run Q says h = tt
-always_made read Memory (Some entries) text Run Q says h = absurd h
-always_made read ReadFault transcript text Run Q says h = absurd h
-always_made read WriteFault transcript text Run Q says h = absurd h
-always_made read TooLong transcript text Run Q says h = absurd h
-always_made read Usage transcript text Run Q says h = absurd h
+always_made read end transcript text Pace Q says at_key h = none_holds transcript Q h.0
+always_made read (Call number) transcript text Run Q says at_key h = absurd h
+always_made read Done None text Run Q says at_key h = tt
+always_made read Done (Some entries) text Run Q says at_key h = says (script_sealing h.setup) h.setup entries h.run.2
+always_made read (Setup fault) None text Run Q says at_key h = tt
+always_made read (Setup fault) (Some entries) text Run Q says at_key h = absurd h.run
+always_made read (Step number fault) None text Run Q says at_key h = tt
+always_made read (KeyExhausted by counter) None text Run Q says at_key h = tt
+always_made read (Step number fault) (Some entries) text Run Q says at_key h = says (script_sealing h.setup) h.setup entries h.run.1
+always_made read (KeyExhausted by counter) (Some entries) text Run Q says at_key h = at_key (script_sealing h.setup) h.setup by counter entries h.run.1
+always_made read (Syntax line) None text Run Q says at_key h = tt
+always_made read (Syntax line) (Some entries) text Run Q says at_key h = absurd h
+always_made read Memory None text Run Q says at_key h = tt
+always_made read Memory (Some entries) text Run Q says at_key h = absurd h
+always_made read ReadFault transcript text Run Q says at_key h = absurd h
+always_made read WriteFault transcript text Run Q says at_key h = absurd h
+always_made read TooLong transcript text Run Q says at_key h = absurd h
+always_made read Usage transcript text Run Q says at_key h = absurd h
 
 always_caused : (limit : ℕ) (words : List (List ℕ)) (left' : Option (List ℕ)) (read : List ℕ) (end : End) (transcript : Option (List Entry)) (text : List ℕ) (Q : List Entry → Type 0)
     → ((seal : Sealing) (setup : Given) (entries : List Entry) → HoldsOfRun seal setup entries → Q entries)
+    → ((seal : Sealing) (setup : Given) (side : Side) (counter : Counter) (entries : List Entry) → HoldsToKey seal setup side counter entries → Q entries)
     → Cause limit words left' read end transcript text → IfSome transcript Q
-always_caused limit words left' read Done transcript text Q says m = always_made read Done transcript text m.command Q says m.makes
-always_caused limit words left' read (Setup fault) transcript text Q says m = always_made read (Setup fault) transcript text m.command Q says m.makes
-always_caused limit words left' read (Step number fault) transcript text Q says m = always_made read (Step number fault) transcript text m.command Q says m.makes
-always_caused limit words left' read (KeyExhausted by counter) transcript text Q says m = always_made read (KeyExhausted by counter) transcript text m.command Q says m.makes
-always_caused limit words left' read (Syntax line) transcript text Q says m = always_made read (Syntax line) transcript text m.command Q says m.makes
-always_caused limit words left' read (Call number) transcript text Q says m = always_made read (Call number) transcript text m.command Q says m.makes
-always_caused limit words left' read Memory transcript text Q says (inl h) = none_holds transcript Q h.1
-always_caused limit words left' read Memory transcript text Q says (inr m) = always_made read Memory transcript text m.command Q says m.makes
-always_caused limit words left' read ReadFault transcript text Q says h = none_holds transcript Q h.1
-always_caused limit words left' read WriteFault transcript text Q says h = absurd h
-always_caused limit words left' read TooLong transcript text Q says h = none_holds transcript Q h.2
-always_caused limit words left' read Usage transcript text Q says h = none_holds transcript Q h.2
+always_caused limit words left' read Done transcript text Q says at_key m = always_made read Done transcript text m.command Q says at_key m.makes
+always_caused limit words left' read (Setup fault) transcript text Q says at_key m = always_made read (Setup fault) transcript text m.command Q says at_key m.makes
+always_caused limit words left' read (Step number fault) transcript text Q says at_key m = always_made read (Step number fault) transcript text m.command Q says at_key m.makes
+always_caused limit words left' read (KeyExhausted by counter) transcript text Q says at_key m = always_made read (KeyExhausted by counter) transcript text m.command Q says at_key m.makes
+always_caused limit words left' read (Syntax line) transcript text Q says at_key m = always_made read (Syntax line) transcript text m.command Q says at_key m.makes
+always_caused limit words left' read (Call number) transcript text Q says at_key m = always_made read (Call number) transcript text m.command Q says at_key m.makes
+always_caused limit words left' read Memory transcript text Q says at_key (inl h) = none_holds transcript Q h.1
+always_caused limit words left' read Memory transcript text Q says at_key (inr m) = always_made read Memory transcript text m.command Q says at_key m.makes
+always_caused limit words left' read ReadFault transcript text Q says at_key h = none_holds transcript Q h.1
+always_caused limit words left' read WriteFault transcript text Q says at_key h = absurd h
+always_caused limit words left' read TooLong transcript text Q says at_key h = none_holds transcript Q h.2
+always_caused limit words left' read Usage transcript text Q says at_key h = none_holds transcript Q h.2
 
 pub always_holds : (limit : ℕ) (words : List (List ℕ)) (left left' held held' : Option (List ℕ)) (answer : End) (answered : Option (List Entry)) (Q : List Entry → Type 0)
     → ((seal : Sealing) (setup : Given) (entries : List Entry) → HoldsOfRun seal setup entries → Q entries)
+    → ((seal : Sealing) (setup : Given) (side : Side) (counter : Counter) (entries : List Entry) → HoldsToKey seal setup side counter entries → Q entries)
     → Answers limit words left left' held held' answer answered → IfSome answered Q
-always_holds limit words left left' held held' answer answered Q says a =
+always_holds limit words left left' held held' answer answered Q says at_key a =
     elim a.tells [
       | inl t ↦
-          subst (λ (o : Option (List Entry)). IfSome o Q) (sym t.1) (always_caused limit words left' a.read a.end a.transcript a.text Q says a.cause)
+          subst (λ (o : Option (List Entry)). IfSome o Q) (sym t.1) (always_caused limit words left' a.read a.end a.transcript a.text Q says at_key a.cause)
       | inr t ↦ none_holds answered Q t.1
     ]

@@ -1,5 +1,5 @@
 -- What the command run makes of a whole input.
-use Rattle.std.specs.Prelude.{ℕ, ◌≡◌, ◌↔◌, ◌⊎◌, ◌+◌, Bool, IsTrue, List, ◌++◌, take, slice_get, codes}
+use Rattle.std.specs.Prelude.{ℕ, ◌≡◌, ◌↔◌, ◌⊎◌, ◌+◌, Bool, IsTrue, List, [], ◌∷◌, ◌++◌, take, slice_get, codes}
 use Rattle.std.specs.Fmt.{decimal}
 use Rattle.std.specs.declared.option.Option.{Option}
 use Rattle.std.specs.declared.option.Option.TheVariants.{Some, None}
@@ -21,9 +21,9 @@ use Rattle.setup_rules.specs.declared.fault.SetupFault.{SetupFault}
 use Rattle.media_laws.specs.declared.fault.StepFault.{StepFault}
 use Rattle.media_play.specs.declared.fault.RunError.{RunError}
 use Rattle.media_play.specs.declared.fault.RunError.TheVariants as error
-use Rattle.media_laws.specs.Exhausting.{told_of}
+use Rattle.media_laws.specs.Exhausting.{IsUsedUp}
 use Rattle.media_laws.specs.FaultNames.{step_fault_name, counter_name}
-use Rattle.media_laws.specs.Headline.{HoldsOfRun, PlaysSteps, RunWidens}
+use Rattle.media_laws.specs.Headline.{HoldsOfRun, HoldsToKey, StepsAreAnswered, StepsAreAnsweredToKey, PlaysSteps, RunWidens}
 use Rattle.media_laws.specs.Keys.{sealing_of}
 use Rattle.media_laws.specs.Opening.{Sealing}
 use Rattle.media_laws.specs.Play.{Played}
@@ -76,8 +76,8 @@ abbrev pub StopsAmong : List Entry → List ℕ → Type 0
 StopsAmong entries text = (count : ℕ) × (text ≡ entries_text (take count entries) ++ memory_line)
 
 -- what a setup and its steps come to: all steps are played; the setup breaks a rule, and nothing happens; the steps before
--- the first one that breaks a rule are played; a step finds a key used up, and the steps before it are played and its call
--- made, if it is one; or memory runs out, and what was told ends with a line
+-- the first one that breaks a rule are played; a step finds a key used up, and the steps before it are played, and of it its call
+-- is made, or its tick, with all that it seals until then; or memory runs out, and what was told ends with a line
 abbrev pub RunEnds : Given → List Act → End → Option (List Entry) → List ℕ → Type 0
 RunEnds setup steps Done (Some entries) text =
     (setup_fault setup ≡ None) × Played (script_sealing setup) setup steps entries
@@ -88,7 +88,7 @@ RunEnds setup steps (Step number fault) (Some entries) text =
     × HoldsOfRun (script_sealing setup) setup entries × (text ≡ entries_text entries ++ step_line number fault)
 RunEnds setup steps (KeyExhausted side counter) (Some entries) text =
     HasCause (script_cipher setup) setup steps entries (error.KeyExhausted side counter)
-    × HoldsOfRun (script_sealing setup) setup entries × (text ≡ entries_text entries ++ key_line side counter)
+    × HoldsToKey (script_sealing setup) setup side counter entries × (text ≡ entries_text entries ++ key_line side counter)
 RunEnds setup steps Memory None text = (entries : List Entry) × AreOfRun setup steps entries × StopsAmong entries text
 RunEnds setup steps end transcript text = ⊥
 
@@ -125,13 +125,13 @@ EndsInRun setup steps TooLong transcript text = transcript ≡ None
 EndsInRun setup steps Usage transcript text = transcript ≡ None
 EndsInRun setup steps end transcript text = ⊥
 
--- the steps among the entries are all those of the script, or those before the one that breaks a rule, or those before the
--- one that finds a key used up, and this one where it is a call
+-- the steps among the entries are all those of the script, or those before the one that breaks a rule, or those up to the one
+-- that finds a key used up
 abbrev pub PlaysToEnd : List Act → End → Option (List Entry) → Type 0
 PlaysToEnd steps Done (Some entries) = PlaysSteps steps entries
 PlaysToEnd steps (Step number fault) (Some entries) = (before : ℕ) × (number ≡ before + 1) × PlaysSteps (take before steps) entries
 PlaysToEnd steps (KeyExhausted side counter) (Some entries) =
-    (before : ℕ) × (step : Act) × (slice_get steps before ≡ Some step) × PlaysSteps (take before steps ++ told_of step) entries
+    (before : ℕ) × (step : Act) × (slice_get steps before ≡ Some step) × PlaysSteps (take before steps ++ step ∷ []) entries
 PlaysToEnd steps end transcript = transcript ≡ None
 
 -- all steps were played, or a step found a key used up, or memory ran out
@@ -141,3 +141,14 @@ PlaysAll setup steps (KeyExhausted side counter) (Some entries) =
     HasCause (script_cipher setup) setup steps entries (error.KeyExhausted side counter)
 PlaysAll setup steps Memory None = Unit {0}
 PlaysAll setup steps end transcript = ⊥
+
+-- each step is answered; the one that finds a key used up in part
+abbrev pub AnswersTo : Sealing → Given → End → Option (List Entry) → Type 0
+AnswersTo seal setup (KeyExhausted side counter) (Some entries) = StepsAreAnsweredToKey seal setup entries
+AnswersTo seal setup end (Some entries) = StepsAreAnswered seal setup entries
+AnswersTo seal setup end None = Unit {0}
+
+-- where a key is said to be used up, its side has sealed all its numbers
+abbrev pub UsesUp : Given → End → Option (List Entry) → Type 0
+UsesUp setup (KeyExhausted side counter) (Some entries) = IsUsedUp setup side counter entries
+UsesUp setup end transcript = Unit {0}

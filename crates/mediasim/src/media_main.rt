@@ -3,12 +3,12 @@ ghost use Rattle.std.specs.Prelude.{◌≡◌, List, ℕ, map, string_bytes, IfS
 ghost use Rattle.media_base.specs.Causes.{Rose};
 ghost use Rattle.media_model.specs.declared.setup.Setup.{Setup as Given};
 ghost use Rattle.media_model.specs.declared.step.Step.{Step as Act};
-ghost use Rattle.media_laws.specs.Headline.{StepsAreAnswered, SealsAreRight, NoNonceTwice, SendsWrites, SendsInSome, YieldsWrites, YieldsInSome, NoPacketTwice, FirstSendingsAreYielded};
+ghost use Rattle.media_laws.specs.Headline.{SealsAreRight, NoNonceTwice, SendsWrites, SendsInSome, YieldsWrites, YieldsInSome, NoPacketTwice, FirstSendingsAreYielded};
 ghost use Rattle.mediasim.specs.Ends.{status_of};
 ghost use Rattle.mediasim.specs.MediaMain.{Answers, AnswersScript, RunsScript, IsInOrder, RunsCalls, ArePaced};
 ghost use Rattle.mediasim.specs.PaceCommand.{AnswersCalls, PlaysAllCalls};
 ghost use Rattle.pace_core.specs.declared.run.PaceCall.{PaceCall as Told};
-ghost use Rattle.mediasim.specs.RunCommand.{script_sealing, PlaysToEnd, PlaysAll};
+ghost use Rattle.mediasim.specs.RunCommand.{script_sealing, AnswersTo, PlaysToEnd, PlaysAll, UsesUp};
 
 use crate::command::{Command, command_of};
 use crate::ends::{End, Report, tell_line};
@@ -57,8 +57,8 @@ fn answer<S: Source, K: Sink>(
 /// the script names, `pace` plays a pace script on a leaky bucket pacer.
 ///
 /// What is written is the text of the transcript, or one fault line, with the text of the steps that
-/// were played before it where a step broke a rule or found a key used up, and whole lines at the front of the text where
-/// memory ran out. A fault of the sink takes the place of the end that it cuts short, of whose text
+/// were played before it where a step broke a rule; of those and of what the step did until then where
+/// it found a key used up; and whole lines at the front of the text where memory ran out. A fault of the sink takes the place of the end that it cuts short, of whose text
 /// the front was written.
 ///
 /// # Errors
@@ -108,10 +108,15 @@ pub fn media_main<S: Source, K: Sink>(
         → PlaysToEnd acts result.end result.transcript }
     // A write brings nothing. A tick seals of each stream all queued writes, in order, and each kept
     // write asked for, unless the stream is capped; and it asks for exactly the due numbers. A call seals
-    // its feedback. What comes is opened exactly where it opens, and its packet yielded.
+    // its feedback. What comes is opened exactly where it opens, and its packet yielded. A tick that finds
+    // a key used up seals, until then, the first of these.
     ensures steps { (setup : Given) (acts : List Act)
         → RunsScript (map string_bytes words.now) (S.left source.old) setup acts
-        → IfSome result.transcript (StepsAreAnswered (script_sealing setup) setup) }
+        → AnswersTo (script_sealing setup) setup result.end result.transcript }
+    // A key is used up where its side has sealed all its numbers.
+    ensures used_up { (setup : Given) (acts : List Act)
+        → RunsScript (map string_bytes words.now) (S.left source.old) setup acts
+        → UsesUp setup result.end result.transcript }
     // Each sealed datagram is a seal under its side's keys.
     ensures seals { (setup : Given) (acts : List Act)
         → RunsScript (map string_bytes words.now) (S.left source.old) setup acts

@@ -253,7 +253,10 @@ fn used_up_numbers(rt: HostRuntime) -> Result<(), Fail> {
     assert_eq!(rt; report.end, used_up);
     assert_eq!(rt; report.status, 3);
     assert_eq!(rt; lines_with(sink.bytes(), "sealed A rtp 43"), 0);
-    assert!(rt; sink.bytes().ends_with(b"\nfault key A Rtx 43\n"));
+    assert!(rt;
+        sink.bytes()
+            .ends_with(b"\nticked A 33000000\nfault key A Rtx 43\n")
+    );
     let (report, sink) = ran_after_loss(
         alloc,
         "start 42 281474976710655\ncache 42 2000 3000 none\n",
@@ -265,6 +268,40 @@ fn used_up_numbers(rt: HostRuntime) -> Result<(), Fail> {
         lines_with(sink.bytes(), "sealed A rtp 43 281474976710655 "),
         1
     );
-    assert!(rt; sink.bytes().ends_with(b"\nfault key A Rtx 43\n"));
+    assert!(rt;
+        sink.bytes()
+            .ends_with(b"\nticked A 34000000\nfault key A Rtx 43\n")
+    );
+    Ok(())
+}
+
+// Two packets are asked for, and one number is left; and what asks for them finds no index left.
+#[test]
+fn used_up_within_a_tick(rt: HostRuntime) -> Result<(), Fail> {
+    let alloc = rt.alloc();
+    let steps = "write A 1 42 1 96 0 0 1 01\nwrite A 1 42 2 96 0 0 1 02
+write A 1 42 3 96 0 0 1 03\nwrite A 1 42 4 96 0 0 1 04\ntick A 1\ndeliver B 1 1\ndeliver B 1 4
+tick B 33ms\ndeliver A 33ms 1\ntick A 33ms\n";
+    let (report, sink) = ran(
+        alloc,
+        "start 42 281474976710655\ncache 42 2000 3000 none\n",
+        steps,
+    )?;
+    assert_eq!(rt;
+        report.end,
+        End::KeyExhausted(Side::A, Counter::Rtx(Ssrc::from(43)))
+    );
+    assert_eq!(rt; lines_with(sink.bytes(), "ticked A 33000000"), 1);
+    assert_eq!(rt;
+        lines_with(sink.bytes(), "sealed A rtp 43 281474976710655 "),
+        1
+    );
+    assert_eq!(rt; lines_with(sink.bytes(), "sealed A rtp 43 "), 1);
+    let (report, sink) = ran(alloc, "rtcp B 2147483648\n", steps)?;
+    assert_eq!(rt; report.end, End::KeyExhausted(Side::B, Counter::Rtcp));
+    assert!(rt;
+        sink.bytes()
+            .ends_with(b"\nticked B 33000000\nfault key B Rtcp\n")
+    );
     Ok(())
 }

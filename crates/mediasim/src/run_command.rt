@@ -1,9 +1,8 @@
 // The command run: what it makes of a whole input.
 ghost use Rattle.std.specs.Prelude.{◌≡◌, ◌++◌, ℕ, Some, None, take, string_bytes, IfOk, IfErr};
 ghost use Rattle.media_base.specs.Causes.{Rose};
-ghost use Rattle.media_laws.specs.Headline.{HoldsOfRun};
 ghost use Rattle.media_laws.specs.Play.{Played};
-ghost use Rattle.media_play.specs.Running.{HasCause, OfRun};
+ghost use Rattle.media_play.specs.Running.{HasCause, Holds};
 ghost use Rattle.setup_rules.specs.SetupRules.{setup_fault};
 ghost use Rattle.media_script.specs.Text.{entries_text};
 ghost use Rattle.mediasim.specs.declared.command.Command.TheVariants.{Run};
@@ -130,7 +129,7 @@ fn run_steps(alloc: Global, setup: &Setup, steps: &[Step]) -> Result<Transcript,
         × Played (script_sealing setup.now) setup.now steps.now t) }
     ensures cause { IfErr result (λ f.
         HasCause (script_cipher setup.now) setup.now steps.now f.sofar f.cause) }
-    ensures holds { OfRun result (HoldsOfRun (script_sealing setup.now) setup.now) }
+    ensures holds { Holds (script_sealing setup.now) setup.now result }
 {
     match setup.cipher {
         CipherName::Toy => media_run(alloc, setup, &ToyCipher, steps),
@@ -144,7 +143,7 @@ fn run_all(alloc: Global, setup: &Setup, steps: Vec<Step>) -> Result<Transcript,
         × Played (script_sealing setup.now) setup.now steps.items t) }
     ensures cause { IfErr result (λ f.
         HasCause (script_cipher setup.now) setup.now steps.items f.sofar f.cause) }
-    ensures holds { OfRun result (HoldsOfRun (script_sealing setup.now) setup.now) }
+    ensures holds { Holds (script_sealing setup.now) setup.now result }
 {
     run_steps(alloc, setup, steps.as_slice())
 }

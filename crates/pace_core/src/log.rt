@@ -1,10 +1,14 @@
 //! The log of a run.
-ghost use Rattle.std.specs.Prelude.{◌≡◌, ◌∷◌, ◌++◌, [], OnOk, OnErr};
+ghost use Rattle.std.specs.Prelude.{◌≡◌, ◌==◌, ◌∷◌, ◌++◌, [], length, OnOk, OnErr};
+ghost use Rattle.std.specs.Slice.Iter.{iter_rest};
+ghost use Rattle.std.specs.Iterator.Adapters.{IterYieldsInOrder};
+ghost use Rattle.pace_core.specs.declared.log.PaceEntry.{PaceEntry as Answer};
 
 use media_base::{Bitrate, DataSize, Debt, Instant};
 use rtp_base::Mid;
 use std::alloc::{AllocError, Global};
 use std::marker::Model;
+use std::slice;
 
 /// What a call answered.
 #[derive(Clone, Copy, Debug, PartialEq, Eq)]
@@ -62,6 +66,28 @@ impl PaceLog {
         let _none: (Option<(Mid, DataSize)>, Option<Instant>) = (None, None);
         self.all.push(entry)?;
         Ok(())
+    }
+
+    /// The number of entries.
+    pub fn len(&self) -> usize
+        ensures { result ≡ length self.now }
+    {
+        self.all.len()
+    }
+
+    /// Whether it has no entries.
+    pub fn is_empty(&self) -> bool
+        ensures { result ≡ (length self.now == 0) }
+    {
+        self.all.is_empty()
+    }
+
+    /// The entries, one after another.
+    pub fn iter(&self) -> slice::Iter<'_, PaceEntry>
+        ensures rest { iter_rest result ≡ self.now }
+        ensures runs { IterYieldsInOrder Answer }
+    {
+        self.all.iter()
     }
 
     /// The entries, in order.

@@ -80,7 +80,8 @@ pub enum PaceError {
 }
 
 /// A run that ended early, and its log so far.
-#[derive(Debug, Drop)]
+#[derive(Debug, Drop, Error)]
+#[error("{error}")]
 pub struct PaceFault {
     /// Why it ended.
     pub error: PaceError,

@@ -554,5 +554,5 @@ fn surface_ample(rt: HostRuntime) {
     assert!(rt; pacer.check_probe_complete(at(0)).is_none());
     let mut log = PaceLog::new(rt.alloc());
     assert!(rt; log.push(PaceEntry::Set).is_ok());
-    assert_eq!(rt; log.as_slice().len(), 1);
+    assert_eq!(rt; log.len(), 1);
 }

@@ -104,8 +104,9 @@ fn logs(
 ) -> Result<(), AllocError> {
     let (log, ended) = run(rt, alloc, table)?;
     assert!(rt; ended == error);
-    assert_eq!(rt; log.as_slice().len(), wanted.len());
-    for (i, (entry, line)) in log.as_slice().iter().zip(wanted.iter()).enumerate() {
+    assert_eq!(rt; log.len(), wanted.len());
+    assert_eq!(rt; log.is_empty(), wanted.is_empty());
+    for (i, (entry, line)) in log.iter().zip(wanted.iter()).enumerate() {
         assert!(rt; line_of(entry) == *line, "call {i}");
     }
     Ok(())

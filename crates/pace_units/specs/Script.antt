@@ -1,8 +1,5 @@
 -- Estimates and clusters of probes that come at moments which were set before.
-use Rattle.std.specs.Prelude.{ℕ, ◌+◌, ◌-◌, ◌<◌, ◌≤◌, ◌==◌, nat_lt, nat_le, Bool, if◌then◌else◌, List, [], ◌∷◌, length, drop, slice_get, Option, None, IsSome, option_map}
-use Rattle.std.proofs.Common.{arith}
-use Rattle.std.proofs.lemmas.Bool.Decides.{nat_tests}
-use Rattle.std.proofs.lemmas.Grind.{common_steps}
+use Rattle.std.specs.Prelude.{ℕ, ◌+◌, ◌-◌, ◌≤◌, ◌==◌, nat_lt, nat_le, Bool, if◌then◌else◌, List, [], ◌∷◌, length, drop, slice_get, Option, None, option_map}
 use Rattle.pace_units.specs.Queue.{earlier_of}
 use Rattle.pace_units.specs.declared.probe.ProbeClusterConfig.{ProbeClusterConfig}
 
@@ -66,6 +63,3 @@ pending_count s = s.due - s.polled
 abbrev pub next_moment : Script → Option ℕ
 next_moment s =
     earlier_of (option_map (λ e. e.0) (slice_get s.estimates s.due)) (option_map (λ p. p.0) (slice_get s.probes s.due_probes))
-
-pub lowers_pending : (s : Script) → IsSome (next_estimate s) → pending_count (after_polling s) < pending_count s
-lowers_pending s some = grind (arith, nat_tests, common_steps)

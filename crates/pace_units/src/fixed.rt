@@ -10,7 +10,6 @@ ghost use Rattle.pace_units.specs.Script.{
   last_due,
   pending_count,
   next_moment,
-  lowers_pending,
 };
 
 use crate::estimator::{Estimator, SendRecord};
@@ -53,6 +52,10 @@ impl FixedEstimate {
 }
 
 impl Estimator for FixedEstimate {
+    ghost use Rattle.std.proofs.Common.{rules};
+    ghost use Rattle.std.proofs.lemmas.Bool.Decides.{nat_tests};
+    ghost use Rattle.std.proofs.lemmas.Grind.{common_steps};
+
     ghost State = { Script };
 
     ghost state = { λ s. s };
@@ -89,7 +92,7 @@ impl Estimator for FixedEstimate {
 
     ghost after_reset = { λ s _. s };
 
-    ghost lowers = { lowers_pending };
+    ghost lowers = { Prim.search (rules, common_steps, nat_tests) };
 
     fn handle_timeout(&mut self, _now: Instant, _can_probe: bool) -> Option<ProbeClusterConfig> {
         self.is_due = true;

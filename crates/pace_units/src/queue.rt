@@ -79,11 +79,7 @@ impl Default for QueueSnapshot {
 fn first_of_priorities(one: QueuePriority, other: QueuePriority) -> QueuePriority
     ensures { result ≡ first_of_priorities one other }
 {
-    if other.rank() < one.rank() {
-        other
-    } else {
-        one
-    }
+    if other < one { other } else { one }
 }
 
 // The earlier of two moments that may be there.

@@ -12,7 +12,6 @@ ghost use Rattle.pace_units.specs.Script.{
   last_due,
   pending_count,
   next_moment,
-  lowers_pending,
 };
 
 use crate::estimator::{Estimator, SendRecord};
@@ -87,6 +86,10 @@ impl ScriptedEstimate {
 }
 
 impl Estimator for ScriptedEstimate {
+    ghost use Rattle.std.proofs.Common.{rules};
+    ghost use Rattle.std.proofs.lemmas.Bool.Decides.{nat_tests};
+    ghost use Rattle.std.proofs.lemmas.Grind.{common_steps};
+
     ghost State = { Script };
 
     ghost state = { λ s. s };
@@ -123,7 +126,7 @@ impl Estimator for ScriptedEstimate {
 
     ghost after_reset = { λ s _. s };
 
-    ghost lowers = { lowers_pending };
+    ghost lowers = { Prim.search (rules, common_steps, nat_tests) };
 
     fn handle_timeout(&mut self, now: Instant, can_probe: bool) -> Option<ProbeClusterConfig> {
         self.due = due_at(self.estimates.as_slice(), self.due, now);

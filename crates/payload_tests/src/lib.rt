@@ -5,6 +5,8 @@
 #[cfg(test)]
 mod formats;
 #[cfg(test)]
+mod placing;
+#[cfg(test)]
 mod redundancy;
 #[cfg(test)]
 mod reordering;

@@ -4,8 +4,8 @@ use Rattle.std.specs.Prelude.{◌&&◌, not, nat_lt, nat_le, unwrap_or, option_m
 use Rattle.std.proofs.lemmas.List.{length-set}
 use Rattle.std.proofs.lemmas.Bool.Decides.{nat_tests}
 use Rattle.std.proofs.lemmas.Bool.{cases_eq, cases_lt}
-use Rattle.resend_core.specs.ResendStore.{Event, pushed, evicted, Past, with_event, revalued, revalued_event, size_of, last_under, stored_under, stored_at, after_pushed, next_position, evicted_at, latest_eviction, IsRising, MustStore, MayGo, greatest_by, mark_above, raised_to, is_under, IsMarked, IsAtLeast, MarksPush, MarksEviction, greatest_stored}
-use Rattle.resend_core.specs.EventLaws.{greatest_by-push, greatest_by_grows, last_by-push, under_same, under_other, under_ignored, under_evicted, rising_front, rising_order, under_stored, under_next, may_go_more, greatest_same, last_same, after_same, evicted_same, at_same, rising_same, under_far, with_moment, under_all, may_go_same}
+use Rattle.resend_core.specs.ResendStore.{Event, pushed, evicted, Past, with_event, revalued, revalued_event, size_of, last_under, after_pushed, next_position, evicted_at, latest_eviction, IsRising, MustStore, MayGo, greatest_by, mark_above, raised_to, is_under, IsMarked, IsAtLeast, MarksPush, MarksEviction, greatest_stored}
+use Rattle.resend_core.specs.EventLaws.{AddsOneEvent, StoresUnder, ChangesOneValue, with_moment}
 use Rattle.queue_store.specs.declared.stamps.Stamp.{Stamp}
 use Rattle.queue_store.specs.declared.queue.QueueStore.{QueueStore}
 use Rattle.queue_store.specs.Stamps.{stamp_at, first_of, AllAbove, IsGreatest}
@@ -142,56 +142,60 @@ drops_stands {T} gone old new past d may low h = record {
   young = λ r p x is. h.young r p x (d.from p x is);
 }
 
+-- one event more gives no less
+grows : {T : Type 0} → AddsOneEvent T → (f : Event T → ℕ) (es : List (Event T)) (e : Event T) → greatest_by f es ≤ greatest_by f (es ++ e ∷ [])
+grows added f es e = omega (arith, added.greatest f es e)
+
 -- the mark is not above all that was pushed
-pub mark_low : {T : Type 0} (gone : ℕ → ℕ → Type 0) (old new : QueueStore T) (past : Past T) → Drops gone old new → StandsFor old past → (m : ℕ) → new.mark ≡ Some m → m ≤ next_position past.events
-mark_low {T} gone old new past d h m is =
+pub mark_low : {T : Type 0} (stored : StoresUnder T) (gone : ℕ → ℕ → Type 0) (old new : QueueStore T) (past : Past T) → Drops gone old new → StandsFor old past → (m : ℕ) → new.mark ≡ Some m → m ≤ next_position past.events
+mark_low {T} stored gone old new past d h m is =
     ⊎_elim
     (λ (e : new.mark ≡ old.mark). h.marked m (sym e ∙ is))
     (λ (f : (p : ℕ) × (x : ℕ × T) × (held_in old p ≡ Some x) × (held_in new p ≡ None) × (new.mark ≡ Some (mark_above p))).
     let same : mark_above f.0 ≡ m = same_some (mark_above f.0) m (sym f.4 ∙ is) in
-    let under : f.0 + 1 ≤ next_position past.events = under_next f.0 past.events f.1 (h.true_to f.0 f.1 f.2) in
+    let under : f.0 + 1 ≤ next_position past.events = stored.below f.0 past.events f.1 (h.true_to f.0 f.1 f.2) in
     low f.0 m (next_position past.events) same under)
     d.marks where
       low : (p m n : ℕ) → min (p + 1) (2 ^ 64 - 1) ≡ m → p + 1 ≤ n → m ≤ n
       low p m n e u = omega arith
 
 -- a push that is not stored
-pub ignored_stands : {T : Type 0} (q : QueueStore T) (past : Past T) (p t : ℕ) (v : T) → StandsFor q past → StandsFor q (with_event past (pushed p t v false))
-ignored_stands {T} q past p t v h = record {
+pub ignored_stands : {T : Type 0} (added : AddsOneEvent T) (q : QueueStore T) (past : Past T) (p t : ℕ) (v : T) → StandsFor q past → StandsFor q (with_event past (pushed p t v false))
+ignored_stands {T} added q past p t v h = record {
   ages = h.ages;
   sized = h.sized;
   timed = h.timed ∙ same evicted_at refl;
   paired = h.paired;
-  true_to = λ k x is. under_ignored past.events p t v k ∙ h.true_to k x is;
+  true_to = λ k x is. added.under_ignored past.events p t v k ∙ h.true_to k x is;
   keeps = λ k x is. ⊎_elim
       (λ (w : held_in q k ≡ Some x). inl w)
-      (λ (w : MayGo past k x.0). inr (may_go_more past (pushed p t v false) k x.0 w))
-      (h.keeps k x (sym (under_ignored past.events p t v k) ∙ is));
-  newest = h.newest ∙ sym (last_by-push stored_at past.events (pushed p t v false));
-  marked = λ m is. le m (next_position past.events) (next_position (past.events ++ pushed p t v false ∷ [])) (h.marked m is) (greatest_by_grows after_pushed past.events (pushed p t v false));
-  young = λ r k x is. subst (λ (n : ℕ). n ≤ x.0 + past.age) (same evicted_at refl) (h.young (rising_front past.events (pushed p t v false) r) k x is);
+      (λ (w : MayGo past k x.0). inr (added.may_go past (pushed p t v false) k x.0 w))
+      (h.keeps k x (sym (added.under_ignored past.events p t v k) ∙ is));
+  newest = h.newest ∙ sym (added.newest past.events (pushed p t v false));
+  marked = λ m is. le m (next_position past.events) (next_position (past.events ++ pushed p t v false ∷ [])) (h.marked m is) (grows added after_pushed past.events (pushed p t v false));
+  young = λ r k x is. subst (λ (n : ℕ). n ≤ x.0 + past.age) (same evicted_at refl) (h.young (added.rising past.events (pushed p t v false) r) k x is);
 } where
   le : (a b c : ℕ) → a ≤ b → b ≤ c → a ≤ c
   le a b c i j = omega arith
 
   same : (f : Event T → ℕ) → f (pushed p t v false) ≡ 0 → greatest_by f past.events ≡ greatest_by f (past.events ++ pushed p t v false ∷ [])
-  same f z = omega (arith, greatest_by-push f past.events (pushed p t v false))
+  same f z = omega (arith, added.greatest f past.events (pushed p t v false))
 
 -- a push that is stored
-pub put_stands : {T : Type 0} (old new : QueueStore T) (past : Past T) (p t : ℕ) (v : T) → Puts old new p t v → old.timeout ≤ t → StandsFor old past → StandsFor new (with_event past (pushed p t v true))
-put_stands {T} old new past p t v w timely h = record {
+pub put_stands : {T : Type 0} (added : AddsOneEvent T) (old new : QueueStore T) (past : Past T) (p t : ℕ) (v : T) → Puts old new p t v → old.timeout ≤ t → StandsFor old past → StandsFor new (with_event past (pushed p t v true))
+put_stands {T} added old new past p t v w timely h = record {
   ages = ap (λ (q : QueueStore T). q.age) w.rest ∙ h.ages;
   sized = ap (λ (q : QueueStore T). q.size) w.rest ∙ h.sized;
   timed = ap (λ (q : QueueStore T). q.timeout) w.rest ∙ h.timed ∙ late;
   paired = w.paired;
   true_to = λ k x is. true_at k x (sym (w.held k) ∙ is);
   keeps = λ k x is. keeps_at k x is;
-  newest = ap (λ (q : QueueStore T). q.last) w.rest ∙ sym (last_by-push stored_at past.events (pushed p t v true));
+  newest = ap (λ (q : QueueStore T). q.last) w.rest ∙ sym (added.newest past.events (pushed p t v true));
   marked = λ m is. mark_at m (sym (ap (λ (q : QueueStore T). q.mark) w.rest) ∙ is);
   young = λ r k x is. subst (λ (n : ℕ). n ≤ x.0 + past.age) late (young_at r k x (sym (w.held k) ∙ is));
 } where
   late : latest_eviction past.events ≡ latest_eviction (past.events ++ pushed p t v true ∷ [])
-  late = omega (arith, greatest_by-push evicted_at past.events (pushed p t v true))
+  late = omega (arith, added.greatest evicted_at past.events (pushed p t v true))
 
   here : (k : ℕ) (o : Option (ℕ × T)) → p ≡ k → cond (eqb p k) (Some (t, v)) o ≡ Some (t, v)
   here k o e = ap (λ (b : Bool). cond b (Some (t, v)) o) (eq_true p k e)
@@ -201,23 +205,23 @@ put_stands {T} old new past p t v w timely h = record {
 
   true_at : (k : ℕ) (x : ℕ × T) → cond (eqb p k) (Some (t, v)) (held_in old k) ≡ Some x → last_under k (past.events ++ pushed p t v true ∷ []) ≡ Some x
   true_at k x is = ⊎_elim
-      (λ (e : p ≡ k). ap (λ (i : ℕ). last_under i (past.events ++ pushed p t v true ∷ [])) (sym e) ∙ under_same past.events p t v ∙ sym (here k (held_in old k) e) ∙ is)
-      (λ (ne : p ≢ k). under_other past.events p t v k (λ e. ne (sym e)) ∙ h.true_to k x (sym (there k (held_in old k) ne) ∙ is))
+      (λ (e : p ≡ k). ap (λ (i : ℕ). last_under i (past.events ++ pushed p t v true ∷ [])) (sym e) ∙ added.under_same past.events p t v ∙ sym (here k (held_in old k) e) ∙ is)
+      (λ (ne : p ≢ k). added.under_other past.events p t v k (λ e. ne (sym e)) ∙ h.true_to k x (sym (there k (held_in old k) ne) ∙ is))
       (cases_eq p k)
 
   keeps_at : (k : ℕ) (x : ℕ × T) → last_under k (past.events ++ pushed p t v true ∷ []) ≡ Some x → (held_in new k ≡ Some x) ⊎ MayGo (with_event past (pushed p t v true)) k x.0
   keeps_at k x is = ⊎_elim
-      (λ (e : p ≡ k). inl (w.held k ∙ here k (held_in old k) e ∙ sym (under_same past.events p t v) ∙ ap (λ (i : ℕ). last_under i (past.events ++ pushed p t v true ∷ [])) e ∙ is))
+      (λ (e : p ≡ k). inl (w.held k ∙ here k (held_in old k) e ∙ sym (added.under_same past.events p t v) ∙ ap (λ (i : ℕ). last_under i (past.events ++ pushed p t v true ∷ [])) e ∙ is))
       (λ (ne : p ≢ k). ⊎_elim
       (λ (y : held_in old k ≡ Some x). inl (w.held k ∙ there k (held_in old k) ne ∙ y))
-      (λ (y : MayGo past k x.0). inr (may_go_more past (pushed p t v true) k x.0 y))
-      (h.keeps k x (sym (under_other past.events p t v k (λ e. ne (sym e))) ∙ is)))
+      (λ (y : MayGo past k x.0). inr (added.may_go past (pushed p t v true) k x.0 y))
+      (h.keeps k x (sym (added.under_other past.events p t v k (λ e. ne (sym e))) ∙ is)))
       (cases_eq p k)
 
   young_at : IsRising (past.events ++ pushed p t v true ∷ []) → (k : ℕ) (x : ℕ × T) → cond (eqb p k) (Some (t, v)) (held_in old k) ≡ Some x → latest_eviction past.events ≤ x.0 + past.age
   young_at r k x is = ⊎_elim
       (λ (e : p ≡ k). let both : Some (t, v) ≡ Some x = sym (here k (held_in old k) e) ∙ is in let same : ◌≡◌ {A = ℕ × T} (t, v) x = cc in new_young old.timeout (latest_eviction past.events) t x.0 past.age h.timed timely (ap (λ (y : ℕ × T). y.0) same))
-      (λ (ne : p ≢ k). h.young (rising_front past.events (pushed p t v true) r) k x (sym (there k (held_in old k) ne) ∙ is))
+      (λ (ne : p ≢ k). h.young (added.rising past.events (pushed p t v true) r) k x (sym (there k (held_in old k) ne) ∙ is))
       (cases_eq p k) where
         new_young : (a l m n g : ℕ) → a ≡ l → a ≤ m → m ≡ n → l ≤ n + g
         new_young a l m n g i j k = omega arith
@@ -225,44 +229,44 @@ put_stands {T} old new past p t v w timely h = record {
   mark_at : (m : ℕ) → Some (unwrap_or old.mark p) ≡ Some m → m ≤ next_position (past.events ++ pushed p t v true ∷ [])
   mark_at m is = pick old.mark refl (same_some (unwrap_or old.mark p) m is) where
     grew : next_position (past.events ++ pushed p t v true ∷ []) ≡ max (next_position past.events) (p + 1)
-    grew = greatest_by-push after_pushed past.events (pushed p t v true)
+    grew = added.greatest after_pushed past.events (pushed p t v true)
 
     pick : (o : Option ℕ) → old.mark ≡ o → unwrap_or o p ≡ m → m ≤ next_position (past.events ++ pushed p t v true ∷ [])
     pick None k l = omega (arith, grew)
     pick (Some n) k l = let low : n ≤ next_position past.events = h.marked n k in omega (arith, grew)
 
 -- what is far below may go
-pub far_goes : {T : Type 0} (q : QueueStore T) (past : Past T) (p t : ℕ) → StandsFor q past → IsFar q p t → MayGo past p t
-far_goes {T} q past p t h w =
-    let stored : w.0 ≤ greatest_stored past.events = under_stored w.0 past.events w.1 (h.true_to w.0 w.1 w.2) in
-    inr (reach p q.size (size_of past) w.0 (greatest_stored past.events) h.sized w.3 stored) where
+pub far_goes : {T : Type 0} (stored : StoresUnder T) (q : QueueStore T) (past : Past T) (p t : ℕ) → StandsFor q past → IsFar q p t → MayGo past p t
+far_goes {T} stored q past p t h w =
+    let within : w.0 ≤ greatest_stored past.events = stored.within w.0 past.events w.1 (h.true_to w.0 w.1 w.2) in
+    inr (reach p q.size (size_of past) w.0 (greatest_stored past.events) h.sized w.3 within) where
       reach : (p s n g m : ℕ) → s ≡ n → p + s ≤ g → g ≤ m → p + n ≤ m
       reach p s n g m e i j = omega arith
 
 -- an eviction
-pub evicted_stands : {T : Type 0} (old mid : QueueStore T) (past : Past T) (now : ℕ) → Drops (IsOld now old.age) old mid → IsDone mid now → old.timeout ≤ now → StandsFor old past → StandsFor (record mid { timeout = now }) (with_event past (evicted now))
-evicted_stands {T} old mid past now d done later h = record {
+pub evicted_stands : {T : Type 0} (added : AddsOneEvent T) (stored : StoresUnder T) (old mid : QueueStore T) (past : Past T) (now : ℕ) → Drops (IsOld now old.age) old mid → IsDone mid now → old.timeout ≤ now → StandsFor old past → StandsFor (record mid { timeout = now }) (with_event past (evicted now))
+evicted_stands {T} added stored old mid past now d done later h = record {
   ages = ap (λ (q : QueueStore T). q.age) d.rest ∙ h.ages;
   sized = ap (λ (q : QueueStore T). q.size) d.rest ∙ h.sized;
   timed = omega (arith, latest, h.timed);
   paired = d.paired;
-  true_to = λ p x is. under_evicted past.events now p ∙ h.true_to p x (d.from p x is);
+  true_to = λ p x is. added.under_evicted past.events now p ∙ h.true_to p x (d.from p x is);
   keeps = λ p x is. ⊎_elim
       (λ (k : held_in old p ≡ Some x). ⊎_elim
       (λ (l : held_in mid p ≡ Some x). inl l)
       (λ (l : IsOld now old.age p x.0 × (held_in mid p ≡ None) × IsMarked mid.mark p). inr (inl (old_goes x.0 old.age past.age (latest_eviction past.events) (latest_eviction (past.events ++ evicted now ∷ [])) h.ages latest l.0)))
       (d.stays p x k))
-      (λ (k : MayGo past p x.0). inr (may_go_more past (evicted now) p x.0 k))
-      (h.keeps p x (sym (under_evicted past.events now p) ∙ is));
-  newest = ap (λ (q : QueueStore T). q.last) d.rest ∙ h.newest ∙ sym (last_by-push stored_at past.events (evicted now));
-  marked = λ m is. le m (next_position past.events) (next_position (past.events ++ evicted now ∷ [])) (mark_low (IsOld now old.age) old mid past d h m is) (greatest_by_grows after_pushed past.events (evicted now));
-  young = λ r p x is. young_at (rising_front past.events (evicted now) r) p x is;
+      (λ (k : MayGo past p x.0). inr (added.may_go past (evicted now) p x.0 k))
+      (h.keeps p x (sym (added.under_evicted past.events now p) ∙ is));
+  newest = ap (λ (q : QueueStore T). q.last) d.rest ∙ h.newest ∙ sym (added.newest past.events (evicted now));
+  marked = λ m is. le m (next_position past.events) (next_position (past.events ++ evicted now ∷ [])) (mark_low stored (IsOld now old.age) old mid past d h m is) (grows added after_pushed past.events (evicted now));
+  young = λ r p x is. young_at (added.rising past.events (evicted now) r) p x is;
 } where
   le : (a b c : ℕ) → a ≤ b → b ≤ c → a ≤ c
   le a b c i j = omega arith
 
   latest : latest_eviction (past.events ++ evicted now ∷ []) ≡ max (latest_eviction past.events) now
-  latest = greatest_by-push evicted_at past.events (evicted now)
+  latest = added.greatest evicted_at past.events (evicted now)
 
   old_goes : (t a b l m : ℕ) → a ≡ b → m ≡ max l now → a < now - t → t + b < m
   old_goes t a b l m e f g = omega arith
@@ -274,7 +278,7 @@ evicted_stands {T} old mid past now d done later h = record {
       let mine = h.true_to p x (d.from p x is) in
       let theirs = h.true_to low.0 low.1 (d.from low.0 low.1 low.2) in
       ⊎_elim
-      (λ (lt : low.0 < p). close (latest_eviction past.events) (latest_eviction (past.events ++ evicted now ∷ [])) low.1.0 x.0 mid.age past.age (omega (arith, h.timed, later)) mid_age latest low.4 (rising_order past.events low.0 p low.1 x r theirs mine lt))
+      (λ (lt : low.0 < p). close (latest_eviction past.events) (latest_eviction (past.events ++ evicted now ∷ [])) low.1.0 x.0 mid.age past.age (omega (arith, h.timed, later)) mid_age latest low.4 (stored.order past.events low.0 p low.1 x r theirs mine lt))
       (λ (ge : p ≤ low.0).
       let at : low.0 ≡ p = omega (arith, low.3) in
       let both : Some low.1 ≡ Some x = sym low.2 ∙ ap (λ (n : ℕ). held_in mid n) at ∙ is in
@@ -364,17 +368,17 @@ unfolding value_at
 value_missed {T} q p is = ap (λ (o : Option ℕ). option_and_then (slice_get q.values) o) is ∙ sym (held_index q.stamps q.values p)
 
 -- the value of an entry was changed
-pub revalued_stands : {T : Type 0} (q : QueueStore T) (past : Past T) (p i : ℕ) (w : T) → index_of q.stamps p ≡ Some i → StandsFor q past → StandsFor (with_item q (Some i) w) (revalued past p w)
-revalued_stands {T} q past p i w at h = record {
+pub revalued_stands : {T : Type 0} (changed : ChangesOneValue T) (q : QueueStore T) (past : Past T) (p i : ℕ) (w : T) → index_of q.stamps p ≡ Some i → StandsFor q past → StandsFor (with_item q (Some i) w) (revalued past p w)
+revalued_stands {T} changed q past p i w at h = record {
   ages = h.ages;
   sized = h.sized;
-  timed = h.timed ∙ sym (greatest_same evicted_at p w past.events (evicted_same p w));
+  timed = h.timed ∙ sym (changed.evictions p w past.events);
   paired = h.paired ∙ sym (length-set q.values i w);
   true_to = λ k x is. true_at k x (sym (item k) ∙ is);
   keeps = λ k x is. keeps_at k x is;
-  newest = h.newest ∙ sym (last_same stored_at p w past.events (at_same p w));
-  marked = λ m is. subst (λ (n : ℕ). m ≤ n) (sym (greatest_same after_pushed p w past.events (after_same p w))) (h.marked m is);
-  young = λ r k x is. subst (λ (n : ℕ). n ≤ x.0 + past.age) (sym (greatest_same evicted_at p w past.events (evicted_same p w))) (young_at (rising_same p w past.events r) k x (sym (item k) ∙ is));
+  newest = h.newest ∙ sym (changed.newest p w past.events);
+  marked = λ m is. subst (λ (n : ℕ). m ≤ n) (sym (changed.next p w past.events)) (h.marked m is);
+  young = λ r k x is. subst (λ (n : ℕ). n ≤ x.0 + past.age) (sym (changed.evictions p w past.events)) (young_at (changed.rising p w past.events r) k x (sym (item k) ∙ is));
 } where
   item : (k : ℕ) → held_in (with_item q (Some i) w) k ≡ cond (eqb p k) (option_map (revalue w) (held_in q p)) (held_in q k)
   item k = held_item q.stamps q.values i p w k at
@@ -391,17 +395,17 @@ revalued_stands {T} q past p i w at h = record {
     pick None a b = absurd (let no : None ≡ Some x = b in cc)
     pick (Some y) a b = (y, a, let both : Some (revalue w y) ≡ Some x = b in cc)
 
-  changed : (o : Option (ℕ × T)) → last_under p past.events ≡ o → last_under p (map (revalued_event p w) past.events) ≡ option_map (with_moment w) o
-  changed o e = under_all p w past.events ∙ ap (λ (y : Option (ℕ × T)). option_map (with_moment w) y) e
+  other_value : (o : Option (ℕ × T)) → last_under p past.events ≡ o → last_under p (map (revalued_event p w) past.events) ≡ option_map (with_moment w) o
+  other_value o e = changed.under_same p w past.events ∙ ap (λ (y : Option (ℕ × T)). option_map (with_moment w) y) e
 
   far : (k : ℕ) → p ≢ k → last_under k (map (revalued_event p w) past.events) ≡ last_under k past.events
-  far k ne = last_same (stored_under k) p w past.events (under_far p w k (λ e. ne (sym e)))
+  far k ne = changed.under_other p w k past.events (λ e. ne (sym e))
 
   true_at : (k : ℕ) (x : ℕ × T) → cond (eqb p k) (option_map (revalue w) (held_in q p)) (held_in q k) ≡ Some x → last_under k (map (revalued_event p w) past.events) ≡ Some x
   true_at k x is = ⊎_elim
       (λ (e : p ≡ k).
       let y = was x (sym (mine k e) ∙ is) in
-      ap (λ (n : ℕ). last_under n (map (revalued_event p w) past.events)) (sym e) ∙ changed (Some y.0) (h.true_to p y.0 y.1) ∙ ap (λ (z : ℕ × T). Some z) y.2)
+      ap (λ (n : ℕ). last_under n (map (revalued_event p w) past.events)) (sym e) ∙ other_value (Some y.0) (h.true_to p y.0 y.1) ∙ ap (λ (z : ℕ × T). Some z) y.2)
       (λ (ne : p ≢ k). far k ne ∙ h.true_to k x (sym (theirs k ne) ∙ is))
       (cases_eq p k)
 
@@ -410,17 +414,17 @@ revalued_stands {T} q past p i w at h = record {
       (λ (e : p ≡ k). here e (last_under p past.events) refl)
       (λ (ne : p ≢ k). ⊎_elim
       (λ (y : held_in q k ≡ Some x). inl (item k ∙ theirs k ne ∙ y))
-      (λ (y : MayGo past k x.0). inr (may_go_same past p w k x.0 y))
+      (λ (y : MayGo past k x.0). inr (changed.may_go past p w k x.0 y))
       (h.keeps k x (sym (far k ne) ∙ is)))
       (cases_eq p k) where
         here : p ≡ k → (o : Option (ℕ × T)) → last_under p past.events ≡ o → (held_in (with_item q (Some i) w) k ≡ Some x) ⊎ MayGo (revalued past p w) k x.0
-        here e None l = absurd (let no : None ≡ Some x = sym (changed None l) ∙ ap (λ (n : ℕ). last_under n (map (revalued_event p w) past.events)) e ∙ is in cc)
+        here e None l = absurd (let no : None ≡ Some x = sym (other_value None l) ∙ ap (λ (n : ℕ). last_under n (map (revalued_event p w) past.events)) e ∙ is in cc)
         here e (Some y) l =
-            let both : Some (with_moment w y) ≡ Some x = sym (changed (Some y) l) ∙ ap (λ (n : ℕ). last_under n (map (revalued_event p w) past.events)) e ∙ is in
+            let both : Some (with_moment w y) ≡ Some x = sym (other_value (Some y) l) ∙ ap (λ (n : ℕ). last_under n (map (revalued_event p w) past.events)) e ∙ is in
             let same : with_moment w y ≡ x = cc in
             ⊎_elim
             (λ (z : held_in q p ≡ Some y). inl (item k ∙ mine k e ∙ ap (λ (o : Option (ℕ × T)). option_map (revalue w) o) z ∙ both))
-            (λ (z : MayGo past p y.0). inr (subst (λ (n : ℕ). MayGo (revalued past p w) n x.0) e (subst (λ (n : ℕ). MayGo (revalued past p w) p n) (ap (λ (a : ℕ × T). a.0) same) (may_go_same past p w p y.0 z))))
+            (λ (z : MayGo past p y.0). inr (subst (λ (n : ℕ). MayGo (revalued past p w) n x.0) e (subst (λ (n : ℕ). MayGo (revalued past p w) p n) (ap (λ (a : ℕ × T). a.0) same) (changed.may_go past p w p y.0 z))))
             (h.keeps p y l)
 
   young_at : IsRising past.events → (k : ℕ) (x : ℕ × T) → cond (eqb p k) (option_map (revalue w) (held_in q p)) (held_in q k) ≡ Some x → latest_eviction past.events ≤ x.0 + past.age
@@ -430,29 +434,29 @@ revalued_stands {T} q past p i w at h = record {
       (cases_eq p k)
 
 -- an eviction before the last changes nothing
-pub late_stands : {T : Type 0} (q : QueueStore T) (past : Past T) (now : ℕ) → StandsFor q past → now < q.timeout → StandsFor q (with_event past (evicted now))
-late_stands {T} q past now h late = record {
+pub late_stands : {T : Type 0} (added : AddsOneEvent T) (q : QueueStore T) (past : Past T) (now : ℕ) → StandsFor q past → now < q.timeout → StandsFor q (with_event past (evicted now))
+late_stands {T} added q past now h late = record {
   ages = h.ages;
   sized = h.sized;
   timed = omega (arith, same, h.timed);
   paired = h.paired;
-  true_to = λ k x is. under_evicted past.events now k ∙ h.true_to k x is;
+  true_to = λ k x is. added.under_evicted past.events now k ∙ h.true_to k x is;
   keeps = λ k x is. ⊎_elim
       (λ (w : held_in q k ≡ Some x). inl w)
-      (λ (w : MayGo past k x.0). inr (may_go_more past (evicted now) k x.0 w))
-      (h.keeps k x (sym (under_evicted past.events now k) ∙ is));
-  newest = h.newest ∙ sym (last_by-push stored_at past.events (evicted now));
-  marked = λ m is. le m (next_position past.events) (next_position (past.events ++ evicted now ∷ [])) (h.marked m is) (greatest_by_grows after_pushed past.events (evicted now));
-  young = λ r k x is. subst (λ (n : ℕ). n ≤ x.0 + past.age) kept (h.young (rising_front past.events (evicted now) r) k x is);
+      (λ (w : MayGo past k x.0). inr (added.may_go past (evicted now) k x.0 w))
+      (h.keeps k x (sym (added.under_evicted past.events now k) ∙ is));
+  newest = h.newest ∙ sym (added.newest past.events (evicted now));
+  marked = λ m is. le m (next_position past.events) (next_position (past.events ++ evicted now ∷ [])) (h.marked m is) (grows added after_pushed past.events (evicted now));
+  young = λ r k x is. subst (λ (n : ℕ). n ≤ x.0 + past.age) kept (h.young (added.rising past.events (evicted now) r) k x is);
 } where
   le : (a b c : ℕ) → a ≤ b → b ≤ c → a ≤ c
   le a b c i j = omega arith
 
   same : latest_eviction (past.events ++ evicted now ∷ []) ≡ max (latest_eviction past.events) now
-  same = greatest_by-push evicted_at past.events (evicted now)
+  same = added.greatest evicted_at past.events (evicted now)
 
   kept : latest_eviction past.events ≡ latest_eviction (past.events ++ evicted now ∷ [])
-  kept = omega (arith, greatest_by-push evicted_at past.events (evicted now), h.timed, late)
+  kept = omega (arith, added.greatest evicted_at past.events (evicted now), h.timed, late)
 
 -- a push that must be stored is looked at
 pub must_take : {T : Type 0} (q : QueueStore T) (past : Past T) (p t : ℕ) → StandsFor q past → MustStore past p t → takes_push q p t ≡ true

@@ -4,14 +4,14 @@ ghost use Rattle.std.specs.Borrow.{sem};
 ghost use Rattle.std.specs.Bool.{OnTrue};
 ghost use Rattle.resend_core.specs.ResendStore.{evicted, Past, made, with_event, emptied, revalued, last_position, HeldAs, IsPassedOver, MarksPush, MarksEviction, raised_to};
 ghost use Rattle.queue_store.specs.Stamps.{first_of, AllAbove};
-ghost use Rattle.queue_store.specs.Queue.{StandsFor, value_at, with_value, takes_push, Puts, Drops, IsOld, IsFar, IsThat, IsDone, held, put_held, IsPaired};
+ghost use Rattle.queue_store.specs.Queue.{StandsFor, value_at, with_value, takes_push, Puts, Drops, IsOld, IsFar, IsThat, IsDone, held, put_held, IsPaired, index_of};
 ghost use Rattle.queue_store.specs.Lending.{LendsValue};
 
 use crate::stamps::{Stamp, Stamps};
 use crate::steps::Steps;
 use crate::values::Values;
 use media_base::{Duration, Instant};
-use resend_core::ResendStore;
+use resend_core::{ResendStore, event_laws};
 use std::alloc::{AllocError, Global};
 use std::sync::ledger::Ledger;
 
@@ -43,12 +43,28 @@ impl<T: Drop> QueueStore<T> {
         }
     }
 
+    /// Makes room for four times the values that are held, at most for one more than the size. Without memory nothing
+    /// changes.
+    #[inline(never)]
+    fn grow(&mut self) -> Result<(), AllocError>
+        ensures { self.new ≡ self.old }
+    {
+        let held = self.values.len();
+        let more = held.saturating_mul(3).max(16);
+        let more = more.min(self.size.saturating_sub(held).saturating_add(1));
+        self.values.reserve(more)?;
+        self.stamps.reserve(more)
+    }
+
     /// Puts a value under its position. Without memory nothing changes.
     #[inline(always)]
     fn put(&mut self, position: u64, moment: Instant, value: T) -> Result<(), AllocError>
         ensures ok { OnOk result (IsPaired self.old → Puts self.old self.new position moment value) }
         ensures err { OnErr result (self.new ≡ self.old) }
     {
+        if self.values.is_full() {
+            self.grow()?;
+        }
         place(
             &mut self.stamps,
             &mut self.values,
@@ -56,15 +72,17 @@ impl<T: Drop> QueueStore<T> {
             value,
         )?;
         self.last = Some(position);
-        self.mark = Some(self.mark.unwrap_or(position));
+        begin(&mut self.mark, position);
         Ok(())
     }
 
     /// The value of a position, where it is held, found by halving alone: each comparison of positions is
-    /// a step.
+    /// a step. Where it is not among the n that are held there are at least log2 (n + 2) - 1.
     pub fn get_counted<L: Ledger>(&self, position: u64, steps: &mut Steps<L>) -> Option<&T>
         ensures value { option_copied result ≡ value_at self.now position }
         ensures cost { 2 ^ (steps.new - steps.old) ≤ 2 * length self.now.stamps + 1 }
+        ensures counted { index_of self.now.stamps position ≡ None
+            → length self.now.stamps + 2 ≤ 2 ^ (steps.new - steps.old + 1) }
     {
         let index = self.stamps.index_counted(position, steps)?;
         self.values.get(index)
@@ -161,6 +179,7 @@ impl<T: Drop> ResendStore<T> for QueueStore<T> {
 
     #[inline(always)]
     fn push(&mut self, position: u64, timestamp: Instant, value: T) -> Result<(), AllocError> {
+        event_laws::<T>();
         if !self.takes(position, timestamp) {
             return Ok(());
         }
@@ -170,6 +189,7 @@ impl<T: Drop> ResendStore<T> for QueueStore<T> {
     }
 
     fn maybe_evict(&mut self, now: Instant) {
+        event_laws::<T>();
         if now.as_nanos() < self.timeout.as_nanos() {
             return;
         }
@@ -192,6 +212,7 @@ impl<T: Drop> ResendStore<T> for QueueStore<T> {
     }
 
     fn get_mut(&mut self, position: u64) -> Option<&mut T> {
+        event_laws::<T>();
         let index = self.stamps.index(position)?;
         self.values.get_mut(index)
     }
@@ -238,6 +259,17 @@ fn place<T: Drop>(
             }
             Ok(())
         }
+    }
+}
+
+/// Sets the mark at the first position that is pushed.
+#[inline(always)]
+fn begin(mark: &mut Option<u64>, position: u64)
+    ensures { mark.new ≡ Some (unwrap_or mark.old position) }
+{
+    match mark {
+        Some(_) => {}
+        None => *mark = Some(position),
     }
 }
 

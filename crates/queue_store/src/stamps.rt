@@ -51,7 +51,7 @@ impl Stamps {
     }
 
     /// The index of a position, else the index where it would stand, found by halving. Each comparison is
-    /// a step.
+    /// a step; where it does not stand here, there are no fewer than halving needs.
     pub fn search_counted<L: Ledger>(
         &self,
         position: u64,
@@ -60,6 +60,7 @@ impl Stamps {
         ensures found { IfOk result (IsFound self.now position) }
         ensures missed { IfErr result (IsPlace self.now position) }
         ensures cost { 2 ^ (steps.new - steps.old) ≤ 2 * length self.now + 1 }
+        ensures counted { IfErr result (λ _. length self.now + 2 ≤ 2 ^ (steps.new - steps.old + 1)) }
     {
         let mut low = 0;
         let mut high = self.all.len();
@@ -162,8 +163,16 @@ impl Stamps {
     pub fn index_counted<L: Ledger>(&self, position: u64, steps: &mut Steps<L>) -> Option<usize>
         ensures value { result ≡ index_of self.now position }
         ensures cost { 2 ^ (steps.new - steps.old) ≤ 2 * length self.now + 1 }
+        ensures counted { IsNone result → length self.now + 2 ≤ 2 ^ (steps.new - steps.old + 1) }
     {
         self.search_counted(position, steps).ok()
+    }
+
+    /// Makes room for so many more stamps. Without memory nothing changes.
+    pub fn reserve(&mut self, more: usize) -> Result<(), AllocError>
+        ensures { self.new ≡ self.old }
+    {
+        self.all.reserve_exact(more)
     }
 
     /// Puts a stamp at its place. Without memory nothing changes.

@@ -31,6 +31,19 @@ impl<T: Drop> Values<T> {
         }
     }
 
+    /// Whether one more value makes the room grow.
+    #[inline(always)]
+    pub fn is_full(&self) -> bool {
+        self.all.len() == self.all.capacity()
+    }
+
+    /// Makes room for so many more values. Without memory nothing changes.
+    pub fn reserve(&mut self, more: usize) -> Result<(), AllocError>
+        ensures { self.new ≡ self.old }
+    {
+        self.all.reserve_exact(more)
+    }
+
     /// Puts a value at an index. Without memory nothing changes.
     #[inline(never)]
     fn insert_inside(&mut self, index: usize, value: T) -> Result<(), AllocError>

@@ -11,7 +11,7 @@ use Rattle.resend_core.specs.Ring.{slot_of, held, yields_to, has_room, is_other,
 use Rattle.resend_core.specs.ResendStore.{Event, pushed, evicted, Past, with_event, emptied, size_of, greatest_by, last_under, stored_at, stored_position, greatest_stored, after_pushed, next_position, evicted_at, latest_eviction, IsRising, MustStore, MayGo, mark_above, IsMarked, is_under, IsAtLeast, IsPassedOver, MarksPush}
 use Rattle.resend_core.specs.EvictingBuffer.{StandsFor, IsReady, Grows, Spans, Places, lowered, IsBounded, Drops, IsDone, IsPushed, takes_push}
 use Rattle.resend_core.proofs.RingLaws.{held_slot, held_in, in_held, slot_held, held_put_same, held_put_other, held_put_from, in_place_put, length-put, all_length, IsOutdone, grown, grown_from, grown_in_place, dropped_in_place, dropped_from}
-use Rattle.resend_core.specs.EventLaws.{may_go_more, greatest_by-push, greatest_by_grows, last_by-push, under_same, under_other, under_ignored, under_evicted, rising_front, under_stored, under_next, rising_order}
+use Rattle.resend_core.proofs.EventsAdded.{may_go_more, greatest_by-push, greatest_by_grows, last_by-push, under_same, under_other, under_ignored, under_evicted, rising_front, under_stored, under_next, rising_order}
 
 -- of two numbers with one remainder the greater is the divisor or more above
 step_up : (n a b : ℕ) → 0 < n → a < b → a % n ≡ b % n → a + n ≤ b

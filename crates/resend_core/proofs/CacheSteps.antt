@@ -7,7 +7,7 @@ use Rattle.std.proofs.lemmas.Bool.{cases_eq}
 use Rattle.resend_core.specs.declared.rtx_cache.RtxCache.{RtxCache}
 use Rattle.resend_core.specs.ResendStore.{Event, pushed, evicted, Past, with_event, emptied, latter, next_position, latest_eviction, InOrderFrom, IsInOrder, AllStored, HeldAs, IsPushedInto}
 use Rattle.resend_core.specs.RtxCache.{number_in, last_of_class, greatest_below, packet_at, made_for, StandsFor, IsCached, CachedOnce, NoneKept}
-use Rattle.resend_core.specs.EventLaws.{last_by-push}
+use Rattle.resend_core.proofs.EventsAdded.{last_by-push}
 use Rattle.resend_core.proofs.CacheLaws.{class_of_last, last_after, none_below, some_below, below_same}
 
 no_number : {P : Type 0} (size : P → ℕ) (numbers : List (Option ℕ)) → numbers ≡ replicate 80 None → (k : ℕ) → k < 80 → slice_index_or numbers k None ≡ None

@@ -7,7 +7,8 @@ use Rattle.resend_core.specs.declared.rtx_cache_buf.EvictingBuffer.{EvictingBuff
 use Rattle.resend_core.specs.Ring.{matching, slot_of, held, place_in, put_in}
 use Rattle.resend_core.specs.ResendStore.{Past, revalued_event, revalued, stored_under, last_under, stored_at, after_pushed, evicted_at, latest_eviction, IsRising, MayGo}
 use Rattle.resend_core.specs.EvictingBuffer.{StandsFor, with_slot}
-use Rattle.resend_core.specs.EventLaws.{greatest_same, last_same, after_same, evicted_same, at_same, rising_same, under_far, with_moment, under_all, may_go_same}
+use Rattle.resend_core.specs.EventLaws.{with_moment}
+use Rattle.resend_core.proofs.EventsRevalued.{greatest_same, last_same, after_same, evicted_same, at_same, rising_same, under_far, under_all, may_go_same}
 use Rattle.resend_core.proofs.RingLaws.{held_slot, slot_held, held_put_same, held_put_other, held_put_from, in_place_put, length-put}
 
 -- the index of a position is that of its slot, where its entry stands

@@ -2,12 +2,14 @@
 //! is too old or its room is needed, and the cache of sent packets, found by number and by size.
 #![tactic(auto)]
 
+mod laws;
 mod resend_store;
 mod ring;
 mod rtx_cache;
 mod rtx_cache_buf;
 mod size_classes;
 
+pub use laws::event_laws;
 pub use resend_store::ResendStore;
 pub use rtx_cache::{Cached, RtxCache};
 pub use rtx_cache_buf::EvictingBuffer;

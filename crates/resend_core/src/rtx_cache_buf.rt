@@ -57,7 +57,7 @@ impl<T: Drop> EvictingBuffer<T> {
     }
 
     /// As many slots as there are positions from the lowest to the greatest that is held, or to the
-    /// position, and no fewer than four times as many as before; at most the greatest size.
+    /// position, and no fewer than eight times as many as before; at most the greatest size.
     fn grown_size(&self, position: u64) -> usize
         requires roomy { 0 < length self.now.ring.items }
         requires small { length self.now.ring.items < self.now.size }
@@ -65,7 +65,7 @@ impl<T: Drop> EvictingBuffer<T> {
         ensures apart { Spans self.now position result ⊎ (result ≡ self.now.size) }
     {
         let below = self.high.max(position) - position.min(self.low);
-        let more = (self.ring.len() as u64).saturating_mul(4);
+        let more = (self.ring.len() as u64).saturating_mul(8);
         (self.size as u64).min(more.max(below.saturating_add(1))) as usize
     }
 
@@ -111,7 +111,7 @@ impl<T: Drop> EvictingBuffer<T> {
         ensures { Places self.old self.new entry }
     {
         self.last = Some(entry.position);
-        self.mark = Some(self.mark.unwrap_or(entry.position));
+        begin(&mut self.mark, entry.position);
         self.low = self.lowered(entry.position);
         self.high = self.high.max(entry.position);
         put(&mut self.ring, index, entry);
@@ -325,6 +325,17 @@ fn is_young<T>(entry: &Entry<T>, now: Instant, age: Duration) -> bool
     ensures { result ≡ nat_le (now - entry.now.moment) age }
 {
     now.as_nanos().saturating_sub(entry.moment.as_nanos()) <= age.as_nanos()
+}
+
+/// Sets the mark at the first position that is pushed.
+#[inline(always)]
+fn begin(mark: &mut Option<u64>, position: u64)
+    ensures { mark.new ≡ Some (unwrap_or mark.old position) }
+{
+    match mark {
+        Some(_) => {}
+        None => *mark = Some(position),
+    }
 }
 
 /// The mark after the value of a position was dropped for its age.

@@ -12,3 +12,5 @@ pub mod Texts
 pub mod Laws
 pub use Rattle.rtp_base.specs.Fields
 pub use Rattle.rtp_base.specs.NackEntry
+pub use Rattle.twcc_core.specs.Reports as Arrivals
+pub use Rattle.twcc_core.specs.Sending

@@ -7,6 +7,7 @@ use Rattle.rtcp_wire.specs.declared.packet.Rtcp.{Rtcp}
 use Rattle.rtcp_wire.specs.declared.packet.Rtcp.TheVariants as rtcp
 use Rattle.rtcp_wire.specs.declared.rtcp_fb.RtcpFb.{RtcpFb}
 use Rattle.rtcp_wire.specs.declared.rtcp_fb.RtcpFb.TheVariants.{SenderInfo, ReceptionReport, SourceDescription, Goodbye, Rrtr, DlrrItem, Nack, Pli, Fir, Twcc, Remb, AppSpecificFeedback}
+use Rattle.rtcp_wire.specs.Items.{items_of}
 
 -- a receiver's moment is told with the SSRC of the report that it stands in
 abbrev pub feedback_of_block : ℕ → ReportBlock → List RtcpFb
@@ -26,6 +27,10 @@ feedback_of (rtcp.Fir f) = map Fir f.reports
 feedback_of (rtcp.Twcc t) = Twcc t ∷ []
 feedback_of (rtcp.Remb r) = map (λ ssrc. Remb ssrc r.bitrate) r.ssrcs
 feedback_of (rtcp.AppSpecificFeedback f) = AppSpecificFeedback f ∷ []
+
+-- the feedback that a packet of RTCP holds, in order
+abbrev pub feedback_in : List ℕ → List RtcpFb
+feedback_in packet = flat_map feedback_of (items_of packet)
 
 -- the stream that feedback concerns
 abbrev pub stream_of : RtcpFb → ℕ

@@ -29,4 +29,6 @@ pub use request::{Fir, FirEntry, Pli};
 pub use rtcp_fb::RtcpFb;
 pub use rtp_base::{NackEntry, ReceptionReport, ReportList};
 pub use source::{Descriptions, Goodbye, Sdes, SdesItem, SdesType};
-pub use twcc_core::{PacketStatus, Twcc};
+pub use twcc_core::{
+    PacketStatus, Share, Twcc, TwccRecvRegister, TwccSendRecord, TwccSendRegister,
+};

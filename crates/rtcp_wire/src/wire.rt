@@ -1,22 +1,8 @@
 // Fields in bytes, the high byte first.
 ghost use Rattle.std.specs.Prelude.{◌≡◌, ◌+◌, ◌≤◌, length};
-ghost use Rattle.rtcp_wire.specs.Wire.{half_at, word_at, double_at, Puts};
+ghost use Rattle.rtcp_wire.specs.Wire.{double_at};
 
-pub fn half(bytes: &[u8], at: usize) -> u16
-    requires { at + 2 ≤ length bytes.now }
-    ensures { result ≡ half_at bytes.now at }
-{
-    let (_, rest) = bytes.split_at(at);
-    u16::from_be_bytes([rest[0], rest[1]])
-}
-
-pub fn word(bytes: &[u8], at: usize) -> u32
-    requires { at + 4 ≤ length bytes.now }
-    ensures { result ≡ word_at bytes.now at }
-{
-    let (_, rest) = bytes.split_at(at);
-    u32::from_be_bytes([rest[0], rest[1], rest[2], rest[3]])
-}
+pub use twcc_core::wire::{half, put, word};
 
 pub fn double(bytes: &[u8], at: usize) -> u64
     requires { at + 8 ≤ length bytes.now }
@@ -26,16 +12,4 @@ pub fn double(bytes: &[u8], at: usize) -> u64
     u64::from_be_bytes([
         rest[0], rest[1], rest[2], rest[3], rest[4], rest[5], rest[6], rest[7],
     ])
-}
-
-// Puts bytes at a place and says where they end, or None where there is no room for them.
-pub fn put(out: &mut [u8], at: usize, bytes: &[u8]) -> Option<usize>
-    ensures { Puts out.old at bytes.now out.new result }
-{
-    if out.len() < at || out.len() - at < bytes.len() {
-        return None;
-    }
-    let end = at + bytes.len();
-    out[at..end].copy_from_slice(bytes);
-    Some(end)
 }

@@ -15,6 +15,8 @@ struct Name {
 impl Model for Name {
     ghost use Rattle.std.specs.Prelude.{ℕ, List, ◌-◌, ◌++◌, length, take, replicate};
     ghost use Rattle.rtp_base.specs.Name.{IsKeptName};
+    ghost use Rattle.std.proofs.Common.{rules};
+    ghost use Rattle.std.proofs.lemmas.List.{length-take-le};
 
     ghost Value = { List ℕ };
 
@@ -22,11 +24,9 @@ impl Model for Name {
 
     ghost invariant = { λ n. IsKeptName n.bytes n.len };
 
-    ghost use Rattle.rtp_base.specs.NameLaws.{kept_of, kept_again};
+    ghost inverse = { λ l. record { bytes = l ++ replicate (16 - length l) 0; len = length l } };
 
-    ghost inverse = { kept_of };
-
-    ghost inverse_ok = { kept_again };
+    ghost inverse_ok = { λ n h. Prim.search (rules, length-take-le, h.long, h.zeros, h.within) };
 }
 
 impl PartialEq for Name {

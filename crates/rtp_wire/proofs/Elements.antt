@@ -8,7 +8,7 @@ use Rattle.rtp_wire.specs.declared.extension.ExtensionMap.{ExtensionMap}
 use Rattle.rtp_wire.specs.declared.values.ExtensionValues.{ExtensionValues}
 use Rattle.rtp_wire.specs.Writing.{value_bytes}
 use Rattle.rtp_wire.specs.Extensions.{named_by, bytes_at, left_after, element_at, element_bytes, written_elements, written_data}
-use Rattle.rtp_wire.specs.WritingLaws.{data_bound}
+use Rattle.rtp_wire.proofs.ValueLengths.{data_bound}
 
 -- the bytes of the elements from an id on
 pub data_from : ℕ → ExtensionMap → ExtensionValues → List ℕ

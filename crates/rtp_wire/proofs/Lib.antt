@@ -1,3 +1,11 @@
-pub mod Written
 pub mod Elements
+pub mod FirstElement
+pub mod HeaderLengths
+pub mod HeadersAgain
+pub mod OwnBytes
 pub mod Turns
+pub mod ValueLengths
+pub mod ValuesAgain
+pub mod ValuesTaken
+pub mod WordsAgain
+pub mod Written

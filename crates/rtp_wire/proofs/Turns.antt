@@ -2,7 +2,7 @@
 use Rattle.std.proofs.Common.{◌≡◌, ◌≢◌, ℕ, ◌+◌, ◌/◌, ◌%◌, ◌<◌, ◌≤◌, List, [], ◌∷◌, length, take, drop, get_or, sym, ap, ◌∙◌, arith, length-drop}
 use Rattle.std.proofs.lemmas.List.{drop_more, drop-drop, get_or-drop, drop_all}
 use Rattle.rtp_wire.specs.Extensions.{named_by, with_value, with_elements, one_byte_elements, two_byte_elements}
-use Rattle.rtp_wire.specs.ElementsLaws.{one_padding, one_stop, one_short, one_element, two_padding, two_short, two_element}
+use Rattle.rtp_wire.proofs.FirstElement.{one_padding, one_stop, one_short, one_element, two_padding, two_short, two_element}
 use Rattle.rtp_wire.specs.declared.extension.ExtensionMap.{ExtensionMap}
 use Rattle.rtp_wire.specs.declared.values.ExtensionValues.{ExtensionValues}
 

@@ -1,7 +1,6 @@
 pub mod AbsTime
 pub mod Bytes
 pub mod BytesLaws
-pub mod ElementsLaws
 pub mod Extensions
 pub mod Header
 pub mod HeaderLaws
@@ -9,7 +8,6 @@ pub mod Padding
 pub mod Reading
 pub mod Repairs
 pub mod Writing
-pub mod WritingLaws
 pub use Rattle.media_units.specs.Wallclock
 pub use Rattle.rtp_base.specs.Fields
 pub use Rattle.rtp_base.specs.Ids

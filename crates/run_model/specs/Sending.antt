@@ -172,3 +172,16 @@ pub record Answers (T : Types) (L : Outgoing) (Capped : Type 0) (s : Sendings) (
   pub answered : List ℕ
   pub carry : Carry T (cached T L s.sent) (repairs L new) answered
   pub keeps : Leaves (λ n. (Capped → ⊥) × Kept T L s.sent n) answered (wanted last s.named)
+
+-- what a tick that is cut off sealed of a stream: first sendings of the first writes that wait, in order; and repairs that
+-- carry, in order, some of the numbers wanted
+pub record AnswersPartly (T : Types) (L : Outgoing) (s : Sendings) (new : List Event) : Type 0 where
+  pub gone : List Write
+  pub left : List Write
+  pub waiting : s.waiting ≡ gone ++ left
+  pub sendings : first_sendings L.ssrc new ≡ map (λ w. (w.number, sending_of w)) gone
+  pub last : Option ℕ
+  pub is_last : IsLast T L s.sent last
+  pub answered : List ℕ
+  pub carry : Carry T (cached T L s.sent) (repairs L new) answered
+  pub among : Leaves (λ n. ⊥) answered (wanted last s.named)

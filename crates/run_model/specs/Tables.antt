@@ -43,11 +43,16 @@ abbrev pub AreIdle : Table → Type 0
 AreIdle [] = Unit {0}
 AreIdle (s ∷ rest) = (s.1.resends ≡ []) × ((s.1.queue ≡ []) × AreIdle rest)
 
--- what a tick takes out of a side: RTCP, and one poll of some stream after another, until nothing is left
-pub data DrainsAll (T : Types) (seal : Sealing) (now : ℕ) : Table → Table → List Event → Type 0 where
-  done : {xs : Table} → AreIdle xs → DrainsAll T seal now xs xs []
-  reports : {xs ys : Table} {events : List Event} (index : ℕ) (items : List RtcpFb) → DrainsAll T seal now xs ys events → DrainsAll T seal now xs ys (sealed_items index items ∷ events)
-  more : {xs ys zs : Table} {events rest : List Event} → PollsOne T seal now xs ys events → DrainsAll T seal now ys zs rest → DrainsAll T seal now xs zs (events ++ rest)
+-- what leaves a side in a tick: RTCP, and one poll of some stream after another
+pub data ServesAll (T : Types) (seal : Sealing) (now : ℕ) : Table → Table → List Event → Type 0 where
+  rests : {xs : Table} → ServesAll T seal now xs xs []
+  reports : {xs ys : Table} {events : List Event} (index : ℕ) (items : List RtcpFb) → ServesAll T seal now xs ys events → ServesAll T seal now xs ys (sealed_items index items ∷ events)
+  more : {xs ys zs : Table} {events rest : List Event} → PollsOne T seal now xs ys events → ServesAll T seal now ys zs rest → ServesAll T seal now xs zs (events ++ rest)
+
+-- what a tick takes out of a side: all of that, until nothing is left
+pub record DrainsAll (T : Types) (seal : Sealing) (now : ℕ) (xs ys : Table) (events : List Event) : Type 0 where
+  pub serves : ServesAll T seal now xs ys events
+  pub idle : AreIdle ys
 
 -- a tick begins for each stream
 abbrev pub begun_at : ℕ → Outgoing × TxRecord → Outgoing × TxRecord
@@ -91,6 +96,12 @@ pub data SidePlays (T : Types) (seal : Sealing) (Ls : List Outgoing) : Table →
   begun : SidePlays T seal Ls (map (λ L. (L, new_tx L)) Ls) []
   step : {xs ys : Table} {events new : List Event} → SidePlays T seal Ls xs events → SideStep T seal (clock events) xs ys new → SidePlays T seal Ls ys (events ++ new)
 
+-- the same, or these and a tick that is cut off
+pub data SideEnds (T : Types) (seal : Sealing) (Ls : List Outgoing) : Table → List Event → Type 0 where
+  at_step : {xs : Table} {events : List Event} → SidePlays T seal Ls xs events → SideEnds T seal Ls xs events
+  in_tick : {xs ys : Table} {events new : List Event} → SidePlays T seal Ls xs events → (time : ℕ) → clock events ≤ time → ServesAll T seal time (map (begun_at time) xs) ys new
+      → SideEnds T seal Ls ys (events ++ ticked time ∷ new)
+
 -- SSRC and number of what a side sealed
 abbrev pub nonce_of : Event → List (ℕ × ℕ)
 nonce_of (sealed ssrc n p bytes) = (ssrc, n) ∷ []
@@ -101,4 +112,4 @@ nonces events = flat_map nonce_of events
 
 -- no two RTP datagrams of a side share SSRC and number
 abbrev pub NoNonceTwice : Type 0
-NoNonceTwice = (T : Types) (seal : Sealing) (Ls : List Outgoing) (xs : Table) (events : List Event) → AreApart Ls → SidePlays T seal Ls xs events → NoRepeat (nonces events)
+NoNonceTwice = (T : Types) (seal : Sealing) (Ls : List Outgoing) (xs : Table) (events : List Event) → AreApart Ls → SideEnds T seal Ls xs events → NoRepeat (nonces events)

@@ -7,9 +7,7 @@ use Rattle.rtp_base.specs.declared.kind.Kind.TheVariants.{Rtp, Rtcp}
 use Rattle.rtp_wire.specs.declared.extension.ExtensionMap.{ExtensionMap}
 use Rattle.rtp_wire.specs.declared.header.RtpHeader.{RtpHeader}
 use Rattle.rtp_wire.specs.Header.{header_of, csrc_of}
-use Rattle.rtcp_wire.specs.declared.rtcp_fb.RtcpFb.{RtcpFb}
-use Rattle.rtcp_wire.specs.Items.{items_of}
-use Rattle.rtcp_wire.specs.Streams.{feedback_of}
+pub use Rattle.rtcp_wire.specs.Streams.{feedback_in}
 use Rattle.media_model.specs.declared.entry.Side.{Side}
 use Rattle.media_model.specs.declared.entry.Sealed.{Sealed as SealedEntry}
 use Rattle.media_model.specs.declared.entry.Opened.{Opened as OpenedEntry}
@@ -41,10 +39,6 @@ no_plain = record { pt = 0; padded = false; marker = false; time = 0; csrc = [];
 
 abbrev pub plain_in : ExtensionMap → List ℕ → Plain
 plain_in exts bytes = unwrap_or (option_map (λ h. plain_of h bytes) (header_of exts bytes)) no_plain
-
--- the feedback that a packet of RTCP holds, in order
-abbrev pub feedback_in : List ℕ → List RtcpFb
-feedback_in packet = flat_map feedback_of (items_of packet)
 
 -- a datagram that was sealed, and one that was opened, as it is read
 abbrev pub sealed_event : ExtensionMap → Kind → SealedEntry → Event

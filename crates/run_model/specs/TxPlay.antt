@@ -55,10 +55,24 @@ pub data Polls (T : Types) (L : Outgoing) (seal : Sealing) (now : ℕ) (t : TxRe
       → IsSeal seal L.ssrc w.number (sending_of w) bytes
       → Polls T L seal now t (record t { queue = rest; store = store; sent = t.sent ++ (now, length w.payload) ∷ [] }) (sealed L.ssrc w.number (sending_of w) bytes ∷ [])
 
--- what a tick takes out of a stream: one poll after another, until nothing is left
-pub data Drains (T : Types) (L : Outgoing) (seal : Sealing) (now : ℕ) : TxRecord → TxRecord → List Event → Type 0 where
-  empty : {t : TxRecord} → t.resends ≡ [] → t.queue ≡ [] → Drains T L seal now t t []
-  polls : {t u v : TxRecord} {events more : List Event} → Polls T L seal now t u events → Drains T L seal now u v more → Drains T L seal now t v (events ++ more)
+-- polls of a stream in a tick, one after another
+pub data Serves (T : Types) (L : Outgoing) (seal : Sealing) (now : ℕ) : TxRecord → TxRecord → List Event → Type 0 where
+  rests : {t : TxRecord} → Serves T L seal now t t []
+  polls : {t u v : TxRecord} {events more : List Event} → Polls T L seal now t u events → Serves T L seal now u v more → Serves T L seal now t v (events ++ more)
+
+-- what a tick takes out of a stream: polls, until nothing is left
+pub record Drains (T : Types) (L : Outgoing) (seal : Sealing) (now : ℕ) (t u : TxRecord) (events : List Event) : Type 0 where
+  pub serves : Serves T L seal now t u events
+  pub no_resends : u.resends ≡ []
+  pub no_queue : u.queue ≡ []
+
+-- a number is asked for that the store holds: its repair is due
+pub record IsDue (L : Outgoing) (t : TxRecord) : Type 0 where
+  pub number : ℕ
+  pub rest : List ℕ
+  pub write : Write
+  pub asked : t.resends ≡ number ∷ rest
+  pub held : HeldAs (past_of L t.store) number (Some write)
 
 -- of the numbers wanted those are queued that are held
 pub data Queues (past : Past Write) : List ℕ → List ℕ → Type 0 where
@@ -80,6 +94,13 @@ is_sealing _ = false
 pub record IsTick (T : Types) (L : Outgoing) (seal : Sealing) (time : ℕ) (t u : TxRecord) (new : List Event) : Type 0 where
   pub share : List Event
   pub drain : Drains T L seal time (begun_tick L time t) u share
+  pub own : filter (is_of L) new ≡ share
+  pub sealings : list_all is_sealing new ≡ true
+
+-- a tick that is cut off before nothing is left: the stream's share is polls
+pub record IsCutTick (T : Types) (L : Outgoing) (seal : Sealing) (time : ℕ) (t u : TxRecord) (new : List Event) : Type 0 where
+  pub share : List Event
+  pub serves : Serves T L seal time (begun_tick L time t) u share
   pub own : filter (is_of L) new ≡ share
   pub sealings : list_all is_sealing new ≡ true
 
@@ -124,3 +145,9 @@ pub data TxStep (T : Types) (L : Outgoing) (seal : Sealing) (now : ℕ) (t : TxR
 pub data TxPlays (T : Types) (L : Outgoing) (seal : Sealing) : TxRecord → List Event → Type 0 where
   begun : TxPlays T L seal (new_tx L) []
   step : {t u : TxRecord} {events new : List Event} → TxPlays T L seal t events → TxStep T L seal (sendings L.ssrc events).now t u new → TxPlays T L seal u (events ++ new)
+
+-- the same, or these and a tick that is cut off
+pub data TxEnds (T : Types) (L : Outgoing) (seal : Sealing) : TxRecord → List Event → Type 0 where
+  at_step : {t : TxRecord} {events : List Event} → TxPlays T L seal t events → TxEnds T L seal t events
+  in_tick : {t u : TxRecord} {events : List Event} → TxPlays T L seal t events → (time : ℕ) (new : List Event) → (sendings L.ssrc events).now ≤ time
+      → IsCutTick T L seal time t u new → TxEnds T L seal u (events ++ ticked time ∷ new)

@@ -14,13 +14,13 @@ use Rattle.media_model.specs.Sides.{peer_of}
 use Rattle.run_model.specs.Events.{as_packet, sealed_items, Plain, Event, wrote, ticked, called, got, opened, opened_items, yielded, Types, Outgoing, Incoming}
 use Rattle.run_model.specs.Listing.{IsIn, NoRepeat}
 use Rattle.run_model.specs.Capping.{IsCapped}
-use Rattle.run_model.specs.Sending.{is_some, sendings, sending_of, Answers}
+use Rattle.run_model.specs.Sending.{is_some, sendings, sending_of, Answers, AnswersPartly}
 use Rattle.run_model.specs.Seals.{Sealing, IsSeal, Reporting, IsReport}
 use Rattle.run_model.specs.TxPlay.{new_tx}
 use Rattle.run_model.specs.Receiving.{lists, begun_taken, yields, Opens, packets_on}
 use Rattle.run_model.specs.RxPlay.{RxRecord, lists_in}
 use Rattle.run_model.specs.Asking.{is_other, side_of, asked, modulo, owed, RxSide, RxSetup, new_side, opened_in, ticked_side, trip_after, Feedback, items_in}
-use Rattle.run_model.specs.Tables.{Table, has, AreApart, DrainsAll, begun_at, written_to, IsUnused, Hears, nonces}
+use Rattle.run_model.specs.Tables.{Table, has, AreApart, ServesAll, DrainsAll, begun_at, written_to, IsUnused, Hears, nonces}
 use Rattle.run_model.specs.Runs.{Happening, events_of, on_side, IsGenuine, RepairsWiden, YieldsWrites, SealsApart, TypesPair}
 
 -- the types, after how long a stream is paused, the round trip that an item tells at a moment; and of each side how it seals
@@ -99,6 +99,23 @@ pub data Played (C : Config) : Session → Session → List Happening → Type 0
   of_a : {a b c : Session} {entries : List Happening} {new : List Event} → Played C a b entries → Turns C A a c new → Played C c b (entries ++ on_side A new)
   of_b : {a b c : Session} {entries : List Happening} {new : List Event} → Played C a b entries → Turns C B b c new → Played C a c (entries ++ on_side B new)
 
+abbrev pub session_of : Side → Session → Session → Session
+session_of A a b = a
+session_of B a b = b
+
+-- a tick of a side is cut off after these events, and leaves these streams and this index: feedback and polls left, and maybe
+-- not all
+pub record CutsOff (C : Config) (side : Side) (a : Session) (time : ℕ) (streams : Table) (next : ℕ) (new : List Event) : Type 0 where
+  pub late : a.rx.now ≤ time
+  pub serves : ServesAll C.types (C.seals side) time (map (begun_at time) a.tx) streams new
+  pub counts : Counts a.rtcp (indices new) next
+
+-- the entries of a run that ends after a step, or within a tick of a side
+pub data Ends (C : Config) : List Happening → Type 0 where
+  at_step : {a b : Session} {entries : List Happening} → Played C a b entries → Ends C entries
+  in_tick : {a b : Session} {entries : List Happening} → Played C a b entries → (side : Side) (time : ℕ) (streams : Table) (next : ℕ) (new : List Event)
+      → CutsOff C side (session_of side a b) time streams next new → Ends C (entries ++ on_side side (ticked time ∷ new))
+
 -- a sound configuration: no SSRC of a side is used twice or is 0, seals are of one plain alone, and types pair
 pub record IsSound (C : Config) : Type 0 where
   pub apart : (side : Side) → AreApart (C.outgoing side)
@@ -108,11 +125,11 @@ pub record IsSound (C : Config) : Type 0 where
 
 -- no two RTP datagrams of a direction share a nonce
 abbrev pub RunsRepeatNoNonce : Type 0
-RunsRepeatNoNonce = (C : Config) (a b : Session) (entries : List Happening) → IsSound C → Played C a b entries → (side : Side) → NoRepeat (nonces (events_of side entries))
+RunsRepeatNoNonce = (C : Config) (entries : List Happening) → IsSound C → Ends C entries → (side : Side) → NoRepeat (nonces (events_of side entries))
 
 -- no two RTCP datagrams of a direction share an index
 abbrev pub RunsRepeatNoIndex : Type 0
-RunsRepeatNoIndex = (C : Config) (a b : Session) (entries : List Happening) → Played C a b entries → (side : Side) → NoRepeat (indices (events_of side entries))
+RunsRepeatNoIndex = (C : Config) (entries : List Happening) → Ends C entries → (side : Side) → NoRepeat (indices (events_of side entries))
 
 -- no packet is yielded twice
 abbrev pub RunsYieldOnce : Type 0
@@ -127,10 +144,6 @@ RunsYieldWrites =
     → ((side : Side) (M : Outgoing) → IsIn M (C.outgoing (peer_of side)) → RepairsWiden C.types side (incoming_of M) entries)
     → (side : Side) (M : Outgoing) → IsIn M (C.outgoing (peer_of side)) → YieldsWrites side (incoming_of M) entries
 
-abbrev pub session_of : Side → Session → Session → Session
-session_of A a b = a
-session_of B a b = b
-
 -- each tick of a side asks on each incoming stream for exactly the numbers that are due by the entries before
 abbrev pub RunsAskTheDue : Type 0
 RunsAskTheDue =
@@ -143,6 +156,12 @@ abbrev pub RunsAnswer : Type 0
 RunsAnswer =
     (C : Config) (a b c : Session) (entries : List Happening) (side : Side) (time : ℕ) (new : List Event) → IsSound C → Played C a b entries → Turns C side (session_of side a b) c (ticked time ∷ new)
     → (M : Outgoing) → IsIn M (C.outgoing side) → Answers C.types M (IsCapped M (events_of side entries) time) (sendings M.ssrc (events_of side entries)) new
+
+-- each tick of a side that is cut off answers in part
+abbrev pub RunsAnswerPartly : Type 0
+RunsAnswerPartly =
+    (C : Config) (a b : Session) (entries : List Happening) (side : Side) (time : ℕ) (streams : Table) (next : ℕ) (new : List Event) → IsSound C → Played C a b entries
+    → CutsOff C side (session_of side a b) time streams next new → (M : Outgoing) → IsIn M (C.outgoing side) → AnswersPartly C.types M (sendings M.ssrc (events_of side entries)) new
 
 -- what can be read of a datagram without its key: SSRC, the low 16 bits of the number, and the type
 pub record HeadsApart (seal : Sealing) : Type 0 where

@@ -1,4 +1,4 @@
-use media_base::{Bytes, Duration, Instant, Listed};
+use media_base::{Bytes, Duration, Instant};
 use media_model::*;
 use media_script::{ScriptError, end_line, entries_text, read_script, write_transcript};
 use rtp_wire::{Extension, Pt, SeqNo, Ssrc};
@@ -632,7 +632,7 @@ fn one_opened(alloc: Global) -> Result<Transcript, Fail> {
             pt: Pt::from(96),
             rtp_time: 0,
             marker: false,
-            csrc: Listed::new(alloc),
+            csrc: Sources::none(),
             payload: Bytes::from_slice(alloc, &[1])?,
         },
     ))?;

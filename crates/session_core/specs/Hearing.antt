@@ -1,15 +1,13 @@
 -- What an RTCP datagram opens to, and what a session makes of it.
 use Rattle.std.specs.Prelude.{◌≡◌, ℕ, ◌+◌, ◌-◌, ◌==◌, ◌&&◌, ◌||◌, Bool, nat_lt, nat_le, is_some, if◌then◌else◌, List, [], ◌∷◌, take, Option, Some, None}
 use Rattle.std.specs.Option.{option_or}
-use Rattle.std.specs.List.{flat_map}
 use Rattle.rtp_base.specs.declared.kind.Kind.TheVariants.{Rtcp}
 use Rattle.rtcp_wire.specs.declared.feedback.AppSpecificFeedback.{AppSpecificFeedback as Application}
 use Rattle.rtcp_wire.specs.declared.extended.DlrrItem.{DlrrItem as Delay}
 use Rattle.rtp_base.specs.declared.nack_entry.NackEntry.{NackEntry}
 use Rattle.rtcp_wire.specs.declared.rtcp_fb.RtcpFb.{RtcpFb}
 use Rattle.rtcp_wire.specs.declared.rtcp_fb.RtcpFb.TheVariants.{ReceptionReport, Nack, AppSpecificFeedback, DlrrItem}
-use Rattle.rtcp_wire.specs.Items.{items_of}
-use Rattle.rtcp_wire.specs.Streams.{feedback_of}
+pub use Rattle.rtcp_wire.specs.Streams.{feedback_in}
 use Rattle.srtp_core.specs.Cipher.{CipherMeaning}
 use Rattle.srtp_core.specs.Contexts.{SrtpState}
 use Rattle.srtp_core.specs.RtcpSeals.{RtcpOpensTo, stated_index, sender_of}
@@ -37,10 +35,6 @@ stated (Some state) bytes = stated_index state.profile bytes
 -- what they opened to: the SSRC is that of the first item's sender
 abbrev pub rtcp_opening_of : Option SrtpState → List ℕ → List ℕ → Opened
 rtcp_opening_of opening bytes plain = record { kind = Rtcp; ssrc = sender_of (take 8 plain); index = stated opening bytes; plain = plain }
-
--- the feedback that a packet holds, in order
-abbrev pub feedback_in : List ℕ → List RtcpFb
-feedback_in plain = flat_map feedback_of (items_of plain)
 
 -- a reception block tells that the peer knows the SSRC that it reports on
 abbrev pub acknowledged_by : RtcpFb → List (ℕ × TxRecord) → List (ℕ × TxRecord)

@@ -4,6 +4,7 @@ use Rattle.rtp_base.specs.declared.kind.Kind.TheVariants.{Rtp, Rtcp}
 use Rattle.rtcp_wire.specs.declared.feedback.AppSpecificFeedback.{AppSpecificFeedback as Application}
 use Rattle.rtcp_wire.specs.declared.packet.Rtcp.TheVariants.{AppSpecificFeedback}
 use Rattle.srtp_core.specs.Cipher.{CipherMeaning}
+use Rattle.srtp_core.specs.declared.counter.Counter.TheVariants as srtcp
 use Rattle.stream_core.specs.Tables.{place_of, change_place}
 use Rattle.stream_core.specs.TxRecord.{written}
 use Rattle.session_core.specs.declared.datagram.Datagram.{Datagram}
@@ -13,15 +14,19 @@ use Rattle.session_core.specs.Feedback.{FitsAlone}
 use Rattle.session_core.specs.Hearing.{ReceivesRtcp}
 use Rattle.session_core.specs.Receiving.{Receives}
 use Rattle.session_core.specs.Rounds.{after_timeout}
+use Rattle.session_core.specs.declared.error.RtcError.{RtcError}
+use Rattle.session_core.specs.declared.error.RtcError.TheVariants.{KeyExhausted, RepairsExhausted}
+use Rattle.session_core.specs.Draining.{IsDrainCut}
 use Rattle.session_core.specs.Sending.{NextDatagram, Drains}
 use Rattle.session_core.specs.SessionRecord.{SessionRecord}
 use Rattle.media_model.specs.declared.entry.Side.{Side}
 use Rattle.media_model.specs.declared.entry.Write.{Write}
 use Rattle.run_model.specs.Events.{Event, wrote, ticked, called, got}
-use Rattle.run_model.specs.Tables.{IsUnused}
-use Rattle.run_model.specs.Whole.{Config, Session, Turns}
+use Rattle.run_model.specs.Tables.{Table, IsUnused}
+use Rattle.run_model.specs.Whole.{Config, Session, Turns, CutsOff}
 use Rattle.session_turns.specs.Reading.{event_of, events_of, events_opened}
 use Rattle.session_turns.specs.Mirrors.{IsGiven, write_at, Mirrors, IsFit}
+use Rattle.session_turns.specs.Packets.{IsUsedUpIn}
 
 -- a turn of a plain session that brings these events, to one that a record mirrors; types, header extensions and the latch of
 -- the session are as they were
@@ -46,6 +51,26 @@ TicksTurn =
     (cipher : CipherMeaning) (C : Config) (side : Side) (r after : SessionRecord) (a : Session) (time : ℕ) (all : List Datagram) → IsFit C → Mirrors cipher C side r a
     → a.rx.now ≤ time → 0 < time → time ≤ 10 ^ 16 → Drains cipher time (after_events (after_timeout time r)) after all
     → TurnsTo cipher C side r a after (ticked time ∷ events_of r.state.transport.exts all)
+
+-- why a tick is cut off that leaves these streams and this index: no index is left, or no number for a repair that is due
+abbrev pub IsCutFor : RtcError → Table → ℕ → Type 0
+IsCutFor (KeyExhausted srtcp.Rtcp) streams next = next ≡ 2 ^ 31
+IsCutFor (RepairsExhausted ssrc) streams next = IsUsedUpIn ssrc streams
+IsCutFor error streams next = Unit {0}
+
+-- what leaves before an error ends a tick is that of a plain session whose tick is cut off
+pub record CutsTo (cipher : CipherMeaning) (C : Config) (side : Side) (r : SessionRecord) (a : Session) (time : ℕ) (error : RtcError) (sent : List Datagram) : Type 0 where
+  pub streams : Table
+  pub next : ℕ
+  pub cut : CutsOff C side a time streams next (events_of r.state.transport.exts sent)
+  pub cause : IsCutFor error streams next
+
+-- a tick, and all that leaves after it before an error
+abbrev pub TicksCut : Type 0
+TicksCut =
+    (cipher : CipherMeaning) (C : Config) (side : Side) (r after : SessionRecord) (a : Session) (time : ℕ) (error : RtcError) (sent : List Datagram) → IsFit C → Mirrors cipher C side r a
+    → a.rx.now ≤ time → 0 < time → time ≤ 10 ^ 16 → IsDrainCut cipher time (after_events (after_timeout time r)) error after sent
+    → CutsTo cipher C side r a time error sent
 
 -- an RTP datagram of bytes comes, and all that is told then is taken
 abbrev pub OpensTurn : Type 0

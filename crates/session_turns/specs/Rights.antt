@@ -16,7 +16,7 @@ use Rattle.session_core.specs.Feedback.{FitsAlone}
 use Rattle.session_core.specs.Hearing.{ReceivesRtcp}
 use Rattle.session_core.specs.Receiving.{Receives}
 use Rattle.session_core.specs.Rounds.{after_timeout}
-use Rattle.session_core.specs.Sending.{NextDatagram, Drains}
+use Rattle.session_core.specs.Sending.{NextDatagram, DrainsTo}
 use Rattle.session_core.specs.SessionRecord.{SessionRecord}
 use Rattle.rtcp_wire.specs.declared.feedback.AppSpecificFeedback.{AppSpecificFeedback as Application}
 use Rattle.rtcp_wire.specs.declared.packet.Rtcp.TheVariants.{AppSpecificFeedback}
@@ -57,12 +57,12 @@ pub data IsRight (cipher : CipherMeaning) (exts : ExtensionMap) (own : SrtpState
   right_rtp : IsRightRtp cipher exts own lines d → IsRight cipher exts own lines d
   right_rtcp : IsRightRtcp cipher own d → IsRight cipher exts own lines d
 
--- all that leaves at a tick
+-- all that leaves at a tick, and all that left before an error
 abbrev pub SealsAreRight : Type 0
 SealsAreRight =
     (cipher : CipherMeaning) (C : Config) (side : Side) (r after : SessionRecord) (a : Session) (own : SrtpState) (time : ℕ) (all : List Datagram)
     → IsFit C → Mirrors cipher C side r a → r.state.sealing ≡ Some own → 0 < time
-    → Drains cipher time (after_events (after_timeout time r)) after all
+    → DrainsTo cipher time (after_events (after_timeout time r)) after all
     → AllByRecursion (IsRight cipher r.state.transport.exts own (C.outgoing side)) all
 
 -- and at a call of the application

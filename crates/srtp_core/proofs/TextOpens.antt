@@ -1,15 +1,18 @@
 -- What opens under a cipher that is made of a block and a tag.
 use Rattle.std.proofs.Common.{◌≡◌, ℕ, ◌+◌, List, ◌++◌, length, take, drop, sym, ap, ◌∙◌, arith}
-use Rattle.std.proofs.lemmas.List.{take-append-drop}
+use Rattle.std.proofs.lemmas.List.{drop_at, take-append-drop}
 use Rattle.srtp_core.specs.Streams.{streamed}
 use Rattle.srtp_core.specs.Simulated.{nonce_stream, sealed_text}
-use Rattle.srtp_core.specs.SimulatedLaws.{streamed-streamed, take-tagged, drop-tagged, length-sealed_text}
+use Rattle.srtp_core.specs.SimulatedLaws.{streamed-streamed, length-streamed, take-tagged, length-sealed_text}
 
 -- what opens: the text of a front, where the tag of that text stands behind it
 opened : (stream : ℕ → ℕ) (input p t : List ℕ) (n : ℕ) → p ≡ streamed stream (take n input) → drop n input ≡ t → streamed stream p ++ t ≡ input
 opened stream input p t n e f =
     ap (λ q. q ++ t) (ap (streamed stream) e ∙ streamed-streamed stream (take n input))
     ∙ ap (λ q. take n input ++ q) (sym f) ∙ take-append-drop n input
+
+drop-tagged : (stream : ℕ → ℕ) (p t : List ℕ) (n : ℕ) → length p ≡ n → drop n (streamed stream p ++ t) ≡ t
+drop-tagged stream p t n h = drop_at (streamed stream p) t n (length-streamed stream p ∙ h)
 
 -- what has to open: of a tagged text the front gives the text again, and behind it stands its tag
 opens : (stream : ℕ → ℕ) (tag : List ℕ → List ℕ) (input p plain : List ℕ) (n : ℕ) → length plain ≡ n → p ≡ streamed stream (take n input) → streamed stream plain ++ tag plain ≡ input → drop n input ≡ tag p

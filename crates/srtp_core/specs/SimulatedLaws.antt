@@ -1,15 +1,12 @@
--- The laws of the simulated ciphers. An impl takes the proofs of its laws from specs/ alone.
-use Rattle.std.proofs.Common.{◌≡◌, ℕ, ◌+◌, ◌<◌, List, ◌++◌, length, get_or, take, drop, refl, sym, ap, ◌∙◌, arith}
+-- The laws of each cipher that is made of a block and a tag. An impl takes the proofs of its laws from specs/ alone.
+use Rattle.std.proofs.Common.{◌≡◌, ℕ, ◌+◌, ◌<◌, List, ◌++◌, length, get_or, take, refl, sym, ap, ◌∙◌, arith}
 use Rattle.std.specs.Prelude.{slice_index, bit_xor}
 use Rattle.std.specs.Int.Bits.{xor_assoc, xor_self, xor_zero_r}
-use Rattle.std.proofs.lemmas.List.{take_at, drop_at, length-append, length-take}
+use Rattle.std.proofs.lemmas.List.{take_at, length-append}
 use Rattle.std.proofs.lemmas.List.FromFn.{fill_by_all, length-map-range_with_len, get_or-map-range_with_len}
 use Rattle.media_base.specs.Text.{bytes_by}
-use Rattle.sha1.specs.Sha1.{sha1, digest_bytes}
 use Rattle.srtp_core.specs.Streams.{streamed}
 use Rattle.srtp_core.specs.Simulated.{nonce_stream, sealed_text}
-use Rattle.srtp_core.specs.Toy.{toy_tag}
-use Rattle.srtp_core.specs.Sha.{sha_tag}
 
 -- n bytes of which byte k is f k
 pub made : (f : ℕ → ℕ) (xs : List ℕ) (n : ℕ) → length xs ≡ n → ((k : ℕ) → k < n → get_or xs k 0 ≡ f k) → xs ≡ bytes_by f n
@@ -45,9 +42,6 @@ length-tagged stream p t n h = omega (arith, length-append (streamed stream p) t
 pub take-tagged : (stream : ℕ → ℕ) (p t : List ℕ) (n : ℕ) → length p ≡ n → take n (streamed stream p ++ t) ≡ streamed stream p
 take-tagged stream p t n h = take_at (streamed stream p) t n (length-streamed stream p ∙ h)
 
-pub drop-tagged : (stream : ℕ → ℕ) (p t : List ℕ) (n : ℕ) → length p ≡ n → drop n (streamed stream p ++ t) ≡ t
-drop-tagged stream p t n h = drop_at (streamed stream p) t n (length-streamed stream p ∙ h)
-
 -- no two texts are alike once they are XORed and tagged
 pub tagged_apart : (stream : ℕ → ℕ) (p q s t : List ℕ) → length s ≡ length t → streamed stream p ++ s ≡ streamed stream q ++ t → p ≡ q
 tagged_apart stream p q s t h e =
@@ -65,22 +59,3 @@ module _ (block : List ℕ → List ℕ → List ℕ) (tag : List ℕ → List �
   unfolding sealed_text
   sealed_text_apart key iv aad p q e =
       tagged_apart (nonce_stream block key iv) p q (tag key iv aad p) (tag key iv aad q) (tag_len key iv aad p ∙ sym (tag_len key iv aad q)) e
-
-pub length-toy_tag : (k iv aad p : List ℕ) → length (toy_tag k iv aad p) ≡ 16
-unfolding toy_tag
-length-toy_tag k iv aad p = refl
-
-length-digest_bytes : (h : List ℕ) → length (digest_bytes h 5) ≡ 20
-unfolding digest_bytes
-length-digest_bytes h = refl
-
-pub length-sha1 : (m : List ℕ) → length (sha1 m) ≡ 20
-unfolding sha1
-length-sha1 m = length-digest_bytes _
-
-length-front_of : (m : List ℕ) → length (take 16 (sha1 m)) ≡ 16
-length-front_of m = omega (arith, length-take 16 (sha1 m), length-sha1 m)
-
-pub length-sha_tag : (k iv aad p : List ℕ) → length (sha_tag k iv aad p) ≡ 16
-unfolding sha_tag
-length-sha_tag k iv aad p = length-front_of _

@@ -1,6 +1,6 @@
-ghost use Rattle.std.specs.Prelude.{◌≡◌, ℕ, ◌+◌, List, ◌++◌, length, take};
+ghost use Rattle.std.specs.Prelude.{◌≡◌, ℕ, ◌+◌, List, ◌++◌, length, take, refl};
 ghost use Rattle.srtp_core.specs.Sha.{sha_block, sha_tag};
-ghost use Rattle.srtp_core.specs.SimulatedLaws.{length-sha_tag};
+ghost use Rattle.sha1.specs.Sha1.{sha1, digest_bytes};
 
 use crate::key_stream::{Counter, xor_stream};
 use crate::simulated::{BlockCipher, Simulated};
@@ -52,5 +52,6 @@ impl Simulated for ShaCipher {
         front(&hasher.finalize())
     }
 
-    ghost tag_len = { length-sha_tag };
+    ghost tag_len = { λ k iv aad p. unfold sha_tag in
+        (unfold sha1 in (unfold digest_bytes in refl)) };
 }

@@ -1,9 +1,8 @@
-ghost use Rattle.std.specs.Prelude.{◌≡◌, ℕ, ◌+◌, ◌%◌, ◌<◌, ◌≤◌, List, ◌++◌, length, slice_index, bit_xor};
+ghost use Rattle.std.specs.Prelude.{◌≡◌, ℕ, ◌+◌, ◌%◌, ◌<◌, ◌≤◌, List, ◌++◌, length, slice_index, bit_xor, refl};
 ghost use Rattle.std.specs.Int.{w128, to_be_bytes};
 ghost use Rattle.std.specs.Simd.Lanes.{zip2, chunk, put_chunk};
 ghost use Rattle.srtp_core.specs.Streams.{streamed, blocks_at};
 ghost use Rattle.srtp_core.specs.Toy.{toy_block, column, toy_tag, word_block};
-ghost use Rattle.srtp_core.specs.SimulatedLaws.{length-toy_tag};
 
 use crate::SRTP_BLOCK_SIZE;
 use crate::key_stream::{nonce_and_word, xor_block, xor_whole};
@@ -177,5 +176,5 @@ impl Simulated for ToyCipher {
         tag
     }
 
-    ghost tag_len = { length-toy_tag };
+    ghost tag_len = { λ k iv aad p. unfold toy_tag in refl };
 }

@@ -58,12 +58,16 @@ impl<T: Drop> SsrcTable<T> {
         self.streams.iter()
     }
 
-    /// Where the stream of an SSRC stands: one look-up in a hash table.
+    /// Where the stream of an SSRC stands: one look-up in a hash table, none where it is the first.
+    #[tactic(auto, using(crate::proofs::Fronts::some_first))]
     pub fn place(&self, ssrc: Ssrc) -> Option<usize>
         ensures place { result ≡ place_of ssrc self.now }
         ensures within { IfSome result (λ i. i < length self.now) }
     {
-        self.streams.get_index_of(&ssrc)
+        match self.streams.get_index(0) {
+            Some(first) if ssrc == *first.0 => Some(0),
+            _ => self.streams.get_index_of(&ssrc),
+        }
     }
 
     /// Puts a stream behind the others, under an SSRC that none has. Without memory nothing changes.

@@ -4,13 +4,7 @@ use Rattle.std.specs.Prelude.{◌&&◌, ◌||◌, not, nat_lt, max}
 use Rattle.std.specs.List.{list_any}
 use Rattle.std.proofs.lemmas.Bool.{eqb-true, ltb-true, ltb-false, lt-ltb, false≢true, or_cases, or_parts, or_from, or_left, or_right, and_parts, and_from, not-true, not_from_false, cases_Bool, cases_lt}
 use Rattle.rtp_base.specs.Window.{greatest, is_fresh_rtx, is_fresh_after, with_fresh}
-use Rattle.repair_core.specs.Fresh.{greatest as greatest_number}
 use Rattle.session_turns.specs.Mirrors.{SameNumbers}
-
--- the greatest number is the same in both readings
-pub greatest_same : (xs : List ℕ) → greatest xs ≡ greatest_number xs
-greatest_same [] = refl
-greatest_same (x ∷ xs) = ap (max x) (greatest_same xs)
 
 greatest-append : (xs : List ℕ) (n : ℕ) → greatest (xs ++ n ∷ []) ≡ max (greatest xs) n
 greatest-append [] n = omega arith

@@ -14,7 +14,7 @@ use Rattle.run_model.specs.Sending.{is_just}
 use Rattle.run_model.specs.Receiving.{begun_with, floor_with, base_with}
 use Rattle.run_model.specs.RxPlay.{taken_in, register}
 use Rattle.session_turns.specs.Mirrors.{SameNumbers, MirrorsSeen, MirrorsPast, rtx_seen, HasBegun}
-use Rattle.turn_opens.proofs.Fresh.{greatest_same, same_refl, with_fresh_same}
+use Rattle.turn_opens.proofs.Fresh.{same_refl, with_fresh_same}
 use Rattle.turn_opens.proofs.Keyed.{seen_more, value_saw, value_saw_other}
 
 -- what was seen under an SSRC
@@ -22,7 +22,7 @@ use Rattle.turn_opens.proofs.Keyed.{seen_more, value_saw, value_saw_other}
 pub seen_greatest : (o : Option (List ℕ)) (ys : List ℕ) → MirrorsSeen o ys → option_map greatest o ≡ greatest_of ys
 seen_greatest None ys e = sym (ap greatest_of e)
 seen_greatest (Some xs) [] e = absurd e
-seen_greatest (Some xs) (y ∷ ys) s = ap Some (s.high ∙ greatest_same (y ∷ ys))
+seen_greatest (Some xs) (y ∷ ys) s = ap Some s.high
 
 seen_added : (n : ℕ) (o : Option (List ℕ)) (ys : List ℕ) → MirrorsSeen o ys → MirrorsSeen (seen_more n o) (ys ++ n ∷ [])
 seen_added n None ys e = subst (λ (l : List ℕ). MirrorsSeen (Some (n ∷ [])) (l ++ n ∷ [])) (sym e) (same_refl None (n ∷ []))

@@ -265,5 +265,5 @@ seals_are_right again fits cipher C side r after a own time all fit mirrors key 
       tx = sound_from r.state.types r.state.medias a.rx.now r.repairs ls r.state.tx a.tx mirrors.tx wide
           (λ p e. subst (λ (l : List Outgoing). list_any p l ≡ true) mirrors.outgoing e);
     } in
-    (drained_right again cipher own r.state.transport.exts ls time (after_events (after_timeout time r)) drains.last all drains.sent
+    (drained_right again cipher own r.state.transport.exts ls time (after_events (after_timeout time r)) after all drains
     (tick_stands own r.state.transport.exts ls fits time r begin)).0

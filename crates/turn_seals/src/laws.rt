@@ -3,8 +3,9 @@ ghost use Rattle.session_turns.specs.Rights.{CallsAreRight, OpeningsAreRight, Rt
 use rtcp_wire::items_fit_by_lengths;
 use rtp_wire::{header_reads_own_bytes, written_header_is_read_again};
 
-/// All that leaves at a tick is right: RTP of the session's own streams, whose plain reads with the SSRC and the low 16 bits of
-/// the number under which it is sealed, and encrypted RTCP.
+/// All that leaves at a tick, also before an error ends it, is right: RTP of the session's own
+/// streams, whose plain reads with the SSRC and the low 16 bits of the number under which it is
+/// sealed, and encrypted RTCP.
 pub fn seals_are_right()
     ensures { SealsAreRight }
 {

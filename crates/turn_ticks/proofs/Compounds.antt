@@ -1,5 +1,5 @@
 -- The feedback of a tick leaves first, in compounds; then packets leave.
-use Rattle.std.proofs.Common.{◌≡◌, inl, inr, ◌⊎◌, ℕ, zero, suc, ◌+◌, ◌≤◌, ◌<◌, ◌^◌, true, false, List, [], ◌∷◌, ◌++◌, take, drop, Option, Some, None, refl, sym, ap, ◌∙◌, subst, arith, append_assoc}
+use Rattle.std.proofs.Common.{◌≡◌, inl, inr, ◌⊎◌, ℕ, zero, suc, ◌+◌, ◌≤◌, ◌<◌, ◌^◌, Bool, true, false, List, [], ◌∷◌, ◌++◌, take, drop, Option, Some, None, refl, sym, ap, ◌∙◌, subst, arith, append_assoc}
 use Rattle.std.specs.Prelude.{◌&&◌, ◌||◌, ◌==◌, if◌then◌else◌}
 use Rattle.std.specs.List.{AllByRecursion, flat_map}
 use Rattle.std.proofs.lemmas.Bool.{eqb-true, eqb-false, false_from_ne_true}
@@ -13,16 +13,22 @@ use Rattle.rtcp_wire.specs.Laws.{ItemsReadBack}
 use Rattle.rtcp_wire.specs.Streams.{feedback_of}
 use Rattle.srtp_core.specs.Cipher.{CipherMeaning}
 use Rattle.srtp_core.specs.Contexts.{SrtpState}
+use Rattle.srtp_core.specs.declared.counter.Counter.TheVariants as srtcp
 use Rattle.stream_core.specs.declared.stream_tx.PacketReceipt.{PacketReceipt}
 use Rattle.session_core.specs.declared.datagram.Datagram.{Datagram}
-use Rattle.session_core.specs.Feedback.{leaving, compound_of, items_after, sealed_compound, due_of, some_due}
-use Rattle.session_core.specs.Sending.{sealed_as, sealed_by, NextPacket, none_due, given, passed, NextDatagram, silent, packet as leaves, compound, DrainsTo, start, more, Drains}
+use Rattle.session_core.specs.declared.error.RtcError.{RtcError}
+use Rattle.session_core.specs.declared.error.RtcError.TheVariants.{Memory, KeyExhausted, RepairsExhausted}
+use Rattle.session_core.specs.Draining.{PacketFails, stream_stays, packet_lost, used_up, after_pass, PollFails, packet as packet_fails, key_used_up, compound_kept, compound_lost, stopped_record, IsDrainCut, at_poll, between_polls}
+use Rattle.session_core.specs.Feedback.{leaving, compound_of, items_after, sealed_compound, due_of, some_due, is_used_up, exhausts}
+use Rattle.session_core.specs.Sending.{sealed_as, sealed_by, after_streams, NextPacket, none_due, given, passed, NextDatagram, silent, packet as leaves, compound, DrainsTo, start, more, Drains}
 use Rattle.session_core.specs.SessionRecord.{SessionState, SessionRecord}
 use Rattle.run_model.specs.Asking.{item_in, items_in}
 use Rattle.run_model.specs.Events.{Event, sealed_items, Types}
 use Rattle.run_model.specs.Seals.{Sealing}
-use Rattle.run_model.specs.Tables.{Table, DrainsAll, reports}
+use Rattle.run_model.specs.Tables.{Table, ServesAll, reports}
 use Rattle.run_model.specs.Whole.{index_of, indices, Counts}
+use Rattle.session_turns.specs.Laws.{IsCutFor}
+use Rattle.session_turns.specs.Packets.{IsUsedUpIn}
 use Rattle.session_turns.specs.Reading.{event_as, event_of, events_of}
 use Rattle.turn_ticks.proofs.Lists.{flat_map_append, all_append}
 use Rattle.turn_ticks.proofs.Items.{IsRead, reads_back, all_take, all_drop}
@@ -68,6 +74,16 @@ flat_take n xs = sym (flat_map_append feedback_of (take n xs) (drop n xs)) ∙ a
   take_drop zero xs = refl
   take_drop (suc n) [] = refl
   take_drop (suc n) (x ∷ xs) = ap (λ (l : List Rtcp). x ∷ l) (take_drop n xs)
+
+-- an error is the cause of a cut, where of an SSRC that it names a repair is due that has no number
+abbrev pub CausesIn : RtcError → ℕ → Type 0
+CausesIn error next = (streams : Table) → ((ssrc : ℕ) → error ≡ RepairsExhausted ssrc → IsUsedUpIn ssrc streams) → IsCutFor error streams next
+
+packet_cause : (now : ℕ) (r after : SessionRecord) (error : RtcError) (next : ℕ) → PacketFails now r after error → CausesIn error next
+packet_cause now _ _ _ next (stream_stays r place s due stays) = λ streams up. tt
+packet_cause now _ _ _ next (packet_lost r place s p due gives) = λ streams up. tt
+packet_cause now _ _ _ next (used_up r place ssrc due at) = λ streams up. up ssrc refl
+packet_cause now _ _ _ next (after_pass r after place s error due gives rest) = packet_cause now (after_streams r s None) after error next rest
 
 module _ (cipher : CipherMeaning) (time : ℕ) (later : 0 < time) where
   not_zero : (time == 0) ≡ false
@@ -122,7 +138,7 @@ module _ (cipher : CipherMeaning) (time : ℕ) (later : 0 < time) where
       pub bounded : next ≤ 2 ^ 31
       pub counts : Counts own.srtcp_index (indices (events_of exts ds)) next
       pub told : items_in (events_of exts ds) ++ flat_map feedback_of items ≡ flat_map feedback_of r.state.feedback
-      pub drains : (T : Types) (seal : Sealing) (now : ℕ) (xs ys : Table) (events : List Event) → DrainsAll T seal now xs ys events → DrainsAll T seal now xs ys (events_of exts ds ++ events)
+      pub serves : (T : Types) (seal : Sealing) (now : ℕ) (xs ys : Table) (events : List Event) → ServesAll T seal now xs ys events → ServesAll T seal now xs ys (events_of exts ds ++ events)
 
     begun : Reports r []
     begun = record {
@@ -133,7 +149,7 @@ module _ (cipher : CipherMeaning) (time : ℕ) (later : 0 < time) where
       bounded = first;
       counts = refl;
       told = refl;
-      drains = λ T seal now xs ys events d. d;
+      serves = λ T seal now xs ys events d. d;
     }
 
     one_more : (b after : SessionRecord) (ds : List Datagram) (d : Datagram) → (h : Reports b ds) → GaveCompound h.next h.items after (Some d) → Reports after (ds ++ d ∷ [])
@@ -162,10 +178,10 @@ module _ (cipher : CipherMeaning) (time : ℕ) (later : 0 < time) where
               ∙ append_assoc (items_in (events_of exts ds)) (flat_map feedback_of (take n h.items)) (flat_map feedback_of (drop n h.items))
               ∙ ap (λ (l : List RtcpFb). items_in (events_of exts ds) ++ l) (flat_take n h.items)
               ∙ h.told;
-          drains = λ T seal now xs ys more_events d.
-              subst (λ (l : List Event). DrainsAll T seal now xs ys (l ++ more_events)) (sym events)
-              (subst (λ (l : List Event). DrainsAll T seal now xs ys l) (sym (append_assoc (events_of exts ds) (last ∷ []) more_events))
-              (h.drains T seal now xs ys (last ∷ more_events) (reports h.next (flat_map feedback_of (take n h.items)) d)));
+          serves = λ T seal now xs ys more_events d.
+              subst (λ (l : List Event). ServesAll T seal now xs ys (l ++ more_events)) (sym events)
+              (subst (λ (l : List Event). ServesAll T seal now xs ys l) (sym (append_assoc (events_of exts ds) (last ∷ []) more_events))
+              (h.serves T seal now xs ys (last ∷ more_events) (reports h.next (flat_map feedback_of (take n h.items)) d)));
         }
 
     -- and packets after them
@@ -231,7 +247,7 @@ module _ (cipher : CipherMeaning) (time : ℕ) (later : 0 < time) where
       pub bounded : next ≤ 2 ^ 31
       pub counts : Counts own.srtcp_index (indices (events_of exts front)) next
       pub told : items_in (events_of exts front) ≡ flat_map feedback_of r.state.feedback
-      pub drains : (T : Types) (seal : Sealing) (now : ℕ) (xs ys : Table) (events : List Event) → DrainsAll T seal now xs ys events → DrainsAll T seal now xs ys (events_of exts front ++ events)
+      pub serves : (T : Types) (seal : Sealing) (now : ℕ) (xs ys : Table) (events : List Event) → ServesAll T seal now xs ys events → ServesAll T seal now xs ys (events_of exts front ++ events)
       pub packets : Drains cipher time (left_at next []) after rest
       pub rtp : AllByRecursion IsRtp rest
 
@@ -245,7 +261,7 @@ module _ (cipher : CipherMeaning) (time : ℕ) (later : 0 < time) where
       bounded = h.bounded;
       counts = h.counts;
       told = sym (append-nil (items_in (events_of exts front))) ∙ sym (ap (λ (l : List Rtcp). items_in (events_of exts front) ++ flat_map feedback_of l) none) ∙ h.told;
-      drains = h.drains;
+      serves = h.serves;
       packets = subst (λ (x : SessionRecord). Drains cipher time x after rest) (h.is ∙ ap (left_at h.next) none) drains;
       rtp = rtp;
     }
@@ -260,4 +276,80 @@ module _ (cipher : CipherMeaning) (time : ℕ) (later : 0 < time) where
                 | inr none ↦ split_at last after all all [] (sym (append-nil all)) h none (record { last = last; sent = start; ended = drains.ended }) tt
               ]
           | inr p ↦ split_at p.between after all p.front p.rest p.all p.reported p.none (record { last = last; sent = p.sent; ended = drains.ended }) p.rtp
+        ]
+
+    -- a drain that an error ends: while compounds leave; or once packets may leave, and then the drain of packets is cut off
+    pub data CutBy (error : RtcError) (next : ℕ) (rest : List Datagram) : Type 0 where
+      in_compounds : rest ≡ [] → ((streams : Table) → IsCutFor error streams next) → CutBy error next rest
+      in_packets : (after : SessionRecord) → IsDrainCut cipher time (left_at next []) error after rest → CausesIn error next → CutBy error next rest
+
+    -- compounds, and then packets, as far as they left
+    pub record SplitsCut (error : RtcError) (sent : List Datagram) : Type 0 where
+      pub front : List Datagram
+      pub rest : List Datagram
+      pub next : ℕ
+      pub is : sent ≡ front ++ rest
+      pub counts : Counts own.srtcp_index (indices (events_of exts front)) next
+      pub serves : (T : Types) (seal : Sealing) (now : ℕ) (xs ys : Table) (events : List Event) → ServesAll T seal now xs ys events → ServesAll T seal now xs ys (events_of exts front ++ events)
+      pub rtp : AllByRecursion IsRtp rest
+      pub cut : CutBy error next rest
+
+    cut_front : (between : SessionRecord) (error : RtcError) (sent : List Datagram) → (h : Reports between sent) → CutBy error h.next [] → SplitsCut error sent
+    cut_front between error sent h cut =
+        record { front = sent; rest = []; next = h.next; is = sym (append-nil sent); counts = h.counts; serves = h.serves; rtp = tt; cut = cut }
+
+    -- packets of a session that is left so
+    moved_cut : (between after : SessionRecord) (error : RtcError) (front rest : List Datagram) → (h : Reports between front) → h.items ≡ [] → IsDrainCut cipher time between error after rest
+        → CausesIn error h.next → CutBy error h.next rest
+    moved_cut between after error front rest h none drain cause =
+        in_packets after (subst (λ (x : SessionRecord). IsDrainCut cipher time x error after rest) (h.is ∙ ap (left_at h.next) none) drain) cause
+
+    cut_behind : (b after : SessionRecord) (error : RtcError) (sent : List Datagram) → (p : Packets b sent) → IsDrainCut cipher time p.between error after p.rest
+        → CausesIn error p.reported.next → SplitsCut error sent
+    cut_behind b after error sent p drain cause = record {
+      front = p.front;
+      rest = p.rest;
+      next = p.reported.next;
+      is = p.all;
+      counts = p.reported.counts;
+      serves = p.reported.serves;
+      rtp = p.rtp;
+      cut = moved_cut p.between after error p.front p.rest p.reported p.none drain cause;
+    }
+
+    last_used : (b : Bool) (n : ℕ) → (b && (n == 2 ^ 31)) ≡ true → n ≡ 2 ^ 31
+    last_used true n e = eqb-true n (2 ^ 31) e
+    last_used false n e = absurd cc
+
+    -- a poll fails while feedback may wait
+    fails_early : (between after : SessionRecord) (error : RtcError) (sent : List Datagram) → Reports between sent → PollFails time between after error → SplitsCut error sent
+    fails_early between _ _ sent h (packet_fails after error spoken due fails) =
+        let none : h.items ≡ [] = sym (due_is (left_at h.next h.items).state) ∙ ap (λ (x : SessionRecord). due_of time x.state) (sym h.is) ∙ due in
+        cut_front between error sent h
+        (moved_cut between (stopped_record after) error sent [] h none (at_poll between after error [] start (packet_fails after error spoken due fails)) (packet_cause time between after error h.next fails))
+    fails_early between _ _ sent h (key_used_up full) =
+        let is : exhausts time (left_at h.next h.items).state ≡ true = ap (λ (x : SessionRecord). exhausts time x.state) (sym h.is) ∙ full in
+        cut_front between (KeyExhausted srtcp.Rtcp) sent h (in_compounds refl (λ streams. last_used (some_due (due_of time (left_at h.next h.items).state)) h.next is))
+    fails_early between _ _ sent h (compound_kept some fresh) = cut_front between Memory sent h (in_compounds refl (λ streams. tt))
+    fails_early between _ _ sent h (compound_lost some fresh) = cut_front between Memory sent h (in_compounds refl (λ streams. tt))
+
+    -- and where none waits
+    fail_cause : (between after : SessionRecord) (error : RtcError) (next : ℕ) → between.state.feedback ≡ [] → PollFails time between after error → CausesIn error next
+    fail_cause between _ _ next none (packet_fails after error spoken due fails) = packet_cause time between after error next fails
+    fail_cause between _ _ next none (key_used_up full) =
+        let wrong : false ≡ true = sym (ap (λ (xs : List Rtcp). some_due xs && is_used_up between.state.sealing) (due_is between.state ∙ none)) ∙ full in
+        absurd cc
+    fail_cause between _ _ next none (compound_kept some fresh) = λ streams up. tt
+    fail_cause between _ _ next none (compound_lost some fresh) = λ streams up. tt
+
+    pub splits_cut : (error : RtcError) (after : SessionRecord) (sent : List Datagram) → IsDrainCut cipher time r error after sent → SplitsCut error sent
+    splits_cut _ _ _ (at_poll between after error sent drains fails) =
+        elim (sent_so_far drains) [
+          | inl h ↦ fails_early between after error sent h fails
+          | inr p ↦ cut_behind between (stopped_record after) error sent p (at_poll between after error p.rest p.sent fails) (fail_cause between after error p.reported.next p.quiet fails)
+        ]
+    splits_cut _ _ _ (between_polls between sent drains) =
+        elim (sent_so_far drains) [
+          | inl h ↦ cut_front between Memory sent h (in_compounds refl (λ streams. tt))
+          | inr p ↦ cut_behind between (stopped_record between) Memory sent p (between_polls between p.rest p.sent) (λ streams up. tt)
         ]

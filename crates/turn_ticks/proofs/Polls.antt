@@ -21,7 +21,7 @@ use Rattle.stream_core.specs.declared.stream_tx.PacketReceipt.{PacketReceipt}
 use Rattle.stream_core.specs.declared.transport.Transport.{Transport}
 use Rattle.stream_core.specs.Queue.{next_of, rest_of}
 use Rattle.stream_core.specs.Sealing.{sealed_values}
-use Rattle.stream_core.specs.Repairing.{SentPacket, RepairsRecord, size_of_sent, rtx_type_of, repair_values, repair_of, Repairs, repaired, none_asked, Keeps, kept, counted, Polls, without, again, first, nothing}
+use Rattle.stream_core.specs.Repairing.{SentPacket, RepairsRecord, size_of_sent, rtx_type_of, repair_values, repair_of, Repairs, repaired, none_asked, Keeps, kept, counted, Polls, without, again, first, nothing, IsUsedUp}
 use Rattle.stream_core.specs.TxRecord.{TxRecord as StreamTx, receipt_of, polled, after_poll}
 use Rattle.session_core.specs.Sending.{has_mid}
 use Rattle.session_core.specs.SessionRecord.{MediaRecord}
@@ -29,7 +29,7 @@ use Rattle.media_model.specs.declared.entry.Write.{Write}
 use Rattle.run_model.specs.Events.{Plain, Event, sealed, Types, Outgoing}
 use Rattle.run_model.specs.Sending.{is_some as plain_some, two_bytes, sending_of, repair_of as repair_plain}
 use Rattle.run_model.specs.Seals.{Sealing}
-use Rattle.run_model.specs.TxPlay.{TxRecord, past_of, Caches, ignored, stored, Polls as PlainPolls, drops, misses, resends, sends}
+use Rattle.run_model.specs.TxPlay.{TxRecord, past_of, Caches, ignored, stored, Polls as PlainPolls, drops, misses, resends, sends, Serves, rests, polls, IsDue}
 use Rattle.session_turns.specs.Reading.{types_in}
 use Rattle.session_turns.specs.Mirrors.{IsGiven, IsKept, packet_at, sent_packet, sent_event, write_in, SendsNothingAgain, IsWide}
 use Rattle.turn_ticks.proofs.Held.{Same, gone, holds, must_store, last_in}
@@ -62,14 +62,10 @@ pub record Mid (rows : List (ℕ × TypeRow)) (medias : List MediaRecord) (now :
   pub again : MirrorsAgain rows now L t q
 
 -- polls of a plain stream, one after another
-pub data Chain (T : Types) (L : Outgoing) (S : Sealing) (now : ℕ) : TxRecord → TxRecord → List Event → Type 0 where
-  ended : {t : TxRecord} → Chain T L S now t t []
-  polls : {t u v : TxRecord} {events more : List Event} → PlainPolls T L S now t u events → Chain T L S now u v more → Chain T L S now t v (events ++ more)
-
-pub chain_append : {T : Types} {L : Outgoing} {S : Sealing} {now : ℕ} {t u v : TxRecord} {events more : List Event} → Chain T L S now t u events → Chain T L S now u v more → Chain T L S now t v (events ++ more)
-chain_append ended rest = rest
+pub chain_append : {T : Types} {L : Outgoing} {S : Sealing} {now : ℕ} {t u v : TxRecord} {events more : List Event} → Serves T L S now t u events → Serves T L S now u v more → Serves T L S now t v (events ++ more)
+chain_append rests rest = rest
 chain_append {T} {L} {S} {now} {v = v} {more = more} (polls {t = t} {events = these} {more = those} one others) rest =
-    subst (λ (l : List Event). Chain T L S now t v l) (sym (append_assoc these those more)) (polls one (chain_append others rest))
+    subst (λ (l : List Event). Serves T L S now t v l) (sym (append_assoc these those more)) (polls one (chain_append others rest))
 
 -- the packet at the front
 pub record Front (now : ℕ) (x : StreamTx) (t : TxRecord) : Type 0 where
@@ -172,18 +168,26 @@ module _ (cipher : CipherMeaning) (own : SrtpState) (exts : ExtensionMap) (read_
   -- a poll that gives this is polls of the plain stream
   pub record Polled (key : ℕ) (after : StreamTx) (L : Outgoing) (t : TxRecord) (q : Option RepairsRecord) (o : Option PacketReceipt) : Type 0 where
     pub plain : TxRecord
-    pub chain : Chain types L sealing now t plain (events_given o)
+    pub chain : Serves types L sealing now t plain (events_given o)
     pub mid : Mid rows medias now q key after L plain
+
+  -- after polls that give nothing a repair is due, and no number is left for it
+  pub record UsedUp (L : Outgoing) (t : TxRecord) (ssrc : ℕ) : Type 0 where
+    pub plain : TxRecord
+    pub chain : Serves types L sealing now t plain []
+    pub rtx : L.rtx ≡ Some ssrc
+    pub next : plain.next_rtx ≡ 2 ^ 48
+    pub due : IsDue L plain
 
   module _ (L : Outgoing) where
     -- resends that are not held go by
     record Found (past : Past SentPacket) (t : TxRecord) (f : SentPacket × List Resend) : Type 0 where
       number : ℕ
-      chain : Chain types L sealing now t (record t { resends = number ∷ numbers_in f.1 }) []
+      chain : Serves types L sealing now t (record t { resends = number ∷ numbers_in f.1 }) []
       held : HeldAs past number (Some f.0)
 
     abbrev PassedTo : Past SentPacket → TxRecord → Option (SentPacket × List Resend) → Type 0
-    PassedTo past t None = Chain types L sealing now t (record t { resends = [] }) []
+    PassedTo past t None = Serves types L sealing now t (record t { resends = [] }) []
     PassedTo past t (Some f) = Found past t f
 
     misses_more : (past : Past SentPacket) (t : TxRecord) (rest : List ℕ) (o : Option (SentPacket × List Resend)) → PlainPolls types L sealing now t (record t { resends = rest }) []
@@ -191,8 +195,8 @@ module _ (cipher : CipherMeaning) (own : SrtpState) (exts : ExtensionMap) (read_
     misses_more past t rest None miss more = polls miss more
     misses_more past t rest (Some f) miss more = record { number = more.number; chain = polls miss more.chain; held = more.held }
 
-    same_asked : (t : TxRecord) (ns : List ℕ) → ns ≡ t.resends → Chain types L sealing now t (record t { resends = ns }) []
-    same_asked t ns e = subst (λ (l : List ℕ). Chain types L sealing now t (record t { resends = l }) []) (sym e) ended
+    same_asked : (t : TxRecord) (ns : List ℕ) → ns ≡ t.resends → Serves types L sealing now t (record t { resends = ns }) []
+    same_asked t ns e = subst (λ (l : List ℕ). Serves types L sealing now t (record t { resends = l }) []) (sym e) rests
 
     passes : (past : Past SentPacket) (rs : List Resend) (o : Option (SentPacket × List Resend)) (t : TxRecord) → FirstHeld past rs o → Same rows L t.store past → numbers_in rs ≡ t.resends → PassedTo past t o
     passes past _ _ t none_held s e = same_asked t [] e
@@ -203,13 +207,13 @@ module _ (cipher : CipherMeaning) (own : SrtpState) (exts : ExtensionMap) (read_
     -- the cap is met: all go
     drops_all : (t : TxRecord) (rs : List Resend) (cap : Option CapRecord) → numbers_in rs ≡ t.resends
         → MirrorsMid now L.cap t.sent t.resent t.reading (if length rs == 0 then cap else option_map (after_reading now) cap) → is_capped now cap ≡ true
-        → Chain types L sealing now t (record t { resends = [] }) []
+        → Serves types L sealing now t (record t { resends = [] }) []
     drops_all t [] cap e m capped = same_asked t [] e
     drops_all t (r ∷ rs) cap e m capped =
         let read = subst (λ (b : Bool). MirrorsMid now L.cap t.sent t.resent t.reading (if b then cap else option_map (after_reading now) cap)) (suc_asked (length rs)) m in
-        polls (drops (met_mirrors now L.cap t.sent t.resent t.reading cap read capped)) ended
+        polls (drops (met_mirrors now L.cap t.sent t.resent t.reading cap read capped)) rests
 
-    goes_none : (t : TxRecord) (q : RepairsRecord) → MidRepairs rows now L t q → IsNext now q None → Chain types L sealing now t (record t { resends = [] }) []
+    goes_none : (t : TxRecord) (q : RepairsRecord) → MidRepairs rows now L t q → IsNext now q None → Serves types L sealing now t (record t { resends = [] }) []
     goes_none t q m next =
         elim (tested (is_capped now q.state.cap)) [
           | inl capped ↦ drops_all t q.state.resends q.state.cap m.resends m.cap capped
@@ -236,6 +240,21 @@ module _ (cipher : CipherMeaning) (own : SrtpState) (exts : ExtensionMap) (read_
         cached = m.cached;
         again = repairs_none t q m.again;
       }
+
+      -- where no number is left for what is to be sent again, the plain stream has none for a number that is asked for and held
+      pub used_up_mirrors : (q : RepairsRecord) → Mid rows medias now (Some q) key x L t → (ssrc : ℕ) → x.rtx ≡ Some ssrc → IsUsedUp now q → UsedUp L t ssrc
+      used_up_mirrors q m ssrc has up =
+          let next = up.2 in
+          let is : next.0 ≡ Some (up.0, up.1) = found_is (is_capped now q.state.cap) next.0 (up.0, up.1) next.2 in
+          let f : Found q.cache t (up.0, up.1) = subst (PassedTo q.cache t) is (passes q.cache q.state.resends next.0 t next.1 m.again.same m.again.resends) in
+          let h = holds rows L t.store q.cache m.again.same f.number up.0 f.held in
+          record {
+            plain = record t { resends = f.number ∷ numbers_in up.1 };
+            chain = f.chain;
+            rtx = sym m.rtx ∙ has;
+            next = sym m.again.next ∙ up.3;
+            due = record { number = f.number; rest = numbers_in up.1; write = h.write; asked = refl; held = h.held };
+          }
 
     module _ (transport : Transport) (ids : transport.exts ≡ exts) (types_fit : (pt rtx : ℕ) → rtx_type_of rows pt ≡ Some rtx → rtx < 2 ^ 7) (wide : IsWide L) where
       -- a packet of the queue, as it is read again
@@ -266,7 +285,7 @@ module _ (cipher : CipherMeaning) (own : SrtpState) (exts : ExtensionMap) (read_
           abbrev repaired_to : SentPacket → RepairsRecord
           repaired_to p = record q { state = after_next now size_of_sent (Some (p, rest)) q.state }
 
-          repair_held : (n moment : ℕ) (w : Write) → Chain types L sealing now t (record t { resends = n ∷ numbers_in rest }) [] → HeldAs (past_of L t.store) n (Some w) → IsKept rows L.ssrc w
+          repair_held : (n moment : ℕ) (w : Write) → Serves types L sealing now t (record t { resends = n ∷ numbers_in rest }) [] → HeldAs (past_of L t.store) n (Some w) → IsKept rows L.ssrc w
               → Polled key x L t (Some (repaired_to (sent_packet rows moment w))) (Some (repair_of ssrc x transport now q.state.next_seq_no (sent_packet rows moment w)))
           repair_held n moment w chain held stay =
               let p : SentPacket = sent_packet rows moment w in
@@ -281,7 +300,7 @@ module _ (cipher : CipherMeaning) (own : SrtpState) (exts : ExtensionMap) (read_
               resends n (numbers_in rest) w ssrc type.0 (bytes_given cipher own exts receipt) refl held rtx type.1 (seal_is cipher own exts receipt ssrc t.next_rtx (repair_plain type.0 w) read) in
               record {
                 plain = u;
-                chain = subst (λ (e : Event). Chain types L sealing now t u (e ∷ [])) (sym event) (chain_append chain (polls poll ended));
+                chain = subst (λ (e : Event). Serves types L sealing now t u (e ∷ [])) (sym event) (chain_append chain (polls poll rests));
                 mid = record {
                   key_is = m.key_is;
                   ssrc = m.ssrc;
@@ -343,7 +362,7 @@ module _ (cipher : CipherMeaning) (own : SrtpState) (exts : ExtensionMap) (read_
               subst (λ (p : RtpPacket). Polled key (after_poll x) L t after (Some (receipt_of x transport now p))) (sym is)
               (record {
                 plain = u;
-                chain = subst (λ (e : Event). Chain types L sealing now t u (e ∷ [])) (sym event) (polls poll ended);
+                chain = subst (λ (e : Event). Serves types L sealing now t u (e ∷ [])) (sym event) (polls poll rests);
                 mid = record {
                   key_is = m.key_is;
                   ssrc = m.ssrc;
@@ -430,7 +449,7 @@ module _ (cipher : CipherMeaning) (own : SrtpState) (exts : ExtensionMap) (read_
                   subst (λ (o : Option RtpPacket). Polled key (after_poll x) L t None (option_map (receipt_of x transport now) o)) (sym n.next)
                   (record {
                     plain = t;
-                    chain = ended;
+                    chain = rests;
                     mid = record { key_is = m.key_is; ssrc = m.ssrc; rtx = m.rtx; mid = m.mid; queue = n.rest; given = m.given; cached = m.cached; again = m.again };
                   })
               | inr f ↦
@@ -440,14 +459,14 @@ module _ (cipher : CipherMeaning) (own : SrtpState) (exts : ExtensionMap) (read_
 
         -- nothing that is asked for is held, or the cap is met
         after_none : (q : RepairsRecord) → Mid rows medias now (Some q) key x L t → (ssrc : ℕ) (after : RepairsRecord) → Repairs transport now ssrc x q after None
-            → Chain types L sealing now t (record t { resends = [] }) [] × Mid rows medias now (Some after) key x L (record t { resends = [] })
+            → Serves types L sealing now t (record t { resends = [] }) [] × Mid rows medias now (Some after) key x L (record t { resends = [] })
         after_none q m ssrc _ (none_asked next) = (goes_none t q m.again next, none_mirrors key x t q m)
 
         after_some : (q : RepairsRecord) → Mid rows medias now (Some q) key x L t → (ssrc : ℕ) → x.rtx ≡ Some ssrc → (after : RepairsRecord) (receipt : PacketReceipt)
             → Repairs transport now ssrc x q after (Some receipt) → Polled key x L t (Some after) (Some receipt)
         after_some q m ssrc has _ _ (repaired p rest next small) = repair_polls key x t q m ssrc p rest has next
 
-        behind : (chain : Chain types L sealing now t (record t { resends = [] }) []) (y : StreamTx) (q : Option RepairsRecord) (o : Option PacketReceipt)
+        behind : (chain : Serves types L sealing now t (record t { resends = [] }) []) (y : StreamTx) (q : Option RepairsRecord) (o : Option PacketReceipt)
             → Polled key y L (record t { resends = [] }) q o → Polled key y L t q o
         behind chain y q o p = record { plain = p.plain; chain = chain_append chain p.chain; mid = p.mid }
 

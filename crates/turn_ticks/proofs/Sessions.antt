@@ -1,9 +1,10 @@
 -- A session that is drained, as its plain streams are.
-use Rattle.std.proofs.Common.{◌≡◌, ◌⊎◌, inl, inr, ℕ, suc, ◌<◌, ◌^◌, Bool, true, false, ◌&&◌, ◌||◌, List, [], ◌∷◌, ◌++◌, length, map, Option, Some, None, refl, sym, ap, ◌∙◌, subst}
+use Rattle.std.proofs.Common.{◌≡◌, ◌⊎◌, inl, inr, ℕ, suc, ◌<◌, ◌^◌, Bool, true, false, ◌&&◌, ◌||◌, List, [], ◌∷◌, ◌++◌, length, map, Option, Some, None, refl, sym, ap, ◌∙◌, subst, arith}
 use Rattle.std.specs.Prelude.{◌==◌, not, is_some, is_none, if◌then◌else◌}
 use Rattle.std.specs.List.{AllByRecursion, AllZip}
 use Rattle.std.specs.Map.{keys_of}
 use Rattle.std.specs.Option.{option_map}
+use Rattle.std.proofs.lemmas.Bool.Decides.{nat_tests}
 use Rattle.std.proofs.lemmas.List.{append-nil, map-append}
 use Rattle.std.proofs.lemmas.Option.{same_Some}
 use Rattle.rtp_wire.specs.HeaderLaws.{WrittenIsReadAgain}
@@ -12,30 +13,37 @@ use Rattle.rtx_core.specs.Resends.{cap_after}
 use Rattle.rtx_core.specs.declared.resend.Resend.{Resend}
 use Rattle.srtp_core.specs.Cipher.{CipherMeaning}
 use Rattle.srtp_core.specs.Contexts.{SrtpState}
+use Rattle.srtp_core.specs.declared.counter.Counter.TheVariants as srtcp
 use Rattle.stream_core.specs.declared.payload_types.TypeRow.{TypeRow}
 use Rattle.stream_core.specs.declared.stream_tx.PacketReceipt.{PacketReceipt}
 use Rattle.stream_core.specs.declared.transport.Transport.{Transport}
 use Rattle.stream_core.specs.Queue.{next_of}
 use Rattle.stream_core.specs.Repairing.{RepairsRecord, rtx_type_of, Polls, has_asked, state_in, repairs_of, with_repairs}
 use Rattle.stream_core.specs.Sealing.{after_packet}
-use Rattle.stream_core.specs.StreamsRecord.{StreamsRecord, polls_at, is_asked}
+use Rattle.stream_core.specs.StreamsRecord.{StreamsRecord, polls_at, is_asked, IsUsedUpAt}
 use Rattle.stream_core.specs.Tables.{change_place}
 use Rattle.stream_core.specs.TxRecord.{TxRecord as StreamTx}
 use Rattle.session_core.specs.declared.datagram.Datagram.{Datagram}
+use Rattle.session_core.specs.declared.error.RtcError.{RtcError}
+use Rattle.session_core.specs.declared.error.RtcError.TheVariants.{Memory, KeyExhausted, RepairsExhausted}
+use Rattle.session_core.specs.Draining.{PacketFails, stream_stays, packet_lost, used_up, after_pass, PollFails, packet as packet_fails, key_used_up, compound_kept, compound_lost, IsDrainCut, at_poll, between_polls}
 use Rattle.session_core.specs.Feedback.{due_of, some_due}
 use Rattle.session_core.specs.SessionRecord.{SessionRecord, streams_in}
 use Rattle.session_core.specs.Sending.{has_mid, is_due, first_due, next_place, sealed_as, sealed_by, after_streams, unreleased, Gives, NextPacket, none_due, given, passed, NextDatagram, silent, packet, compound, DrainsTo, start, more, Drains}
 use Rattle.run_model.specs.Capping.{reading_after, reading_for}
 use Rattle.run_model.specs.Events.{Event, Outgoing}
 use Rattle.run_model.specs.TxPlay.{TxRecord, begun_tick}
-use Rattle.run_model.specs.Tables.{Table, lines, AreApart, AreIdle, DrainsAll, done, begun_at}
-use Rattle.session_turns.specs.Reading.{types_in, sealing_of, event_of, events_of}
+use Rattle.run_model.specs.Tables.{Table, lines, AreApart, AreIdle, ServesAll, rests, begun_at}
+use Rattle.session_turns.specs.Reading.{event_of, events_of}
 use Rattle.session_turns.specs.Mirrors.{TxMirrors, MirrorsRepairs, IsWide}
-use Rattle.session_turns.specs.Packets.{DrainsPackets}
+use Rattle.session_turns.specs.Packets.{DrainsPackets, IsUsedUpIn, CutsPackets}
 use Rattle.turn_ticks.proofs.Asked.{suc_asked, numbers_in, no_numbers}
 use Rattle.turn_ticks.proofs.Caps.{MirrorsMid, mid_from, mid_to, begin_mirrors}
 use Rattle.turn_ticks.proofs.Polls.{MirrorsAgain, NoFront, Front, front_of}
-use Rattle.turn_ticks.proofs.Tables.{Many, none, many_append, many_drains, T, S, given_in, MidAt, table_polls, keys_changed}
+use Rattle.turn_ticks.proofs.Tables.{many_append, T, S, given_in, MidAt, table_polls, table_used_up, keys_changed}
+
+pub not_zero : (now : ℕ) → 0 < now → (now == 0) ≡ false
+not_zero now later = grind (arith, nat_tests)
 
 no_resends : (rs : List Resend) → not (length rs == 0) ≡ false → rs ≡ []
 no_resends [] e = refl
@@ -101,7 +109,7 @@ module _ (cipher : CipherMeaning) (r : SessionRecord) (own : SrtpState) (read_ag
 
   abbrev many_of : Table → Table → List Event → Type 0
   many_of xs ys events =
-      Many (T cipher own r.state.transport.exts read_again r.state.types r.state.medias now) (S cipher own r.state.transport.exts read_again r.state.types r.state.medias now) now xs ys events
+      ServesAll (T cipher own r.state.transport.exts read_again r.state.types r.state.medias now) (S cipher own r.state.transport.exts read_again r.state.types r.state.medias now) now xs ys events
 
   abbrev events_in : Option PacketReceipt → List Event
   events_in o = given_in cipher own r.state.transport.exts read_again r.state.types r.state.medias now o
@@ -224,6 +232,38 @@ module _ (cipher : CipherMeaning) (r : SessionRecord) (own : SrtpState) (read_ag
     next_packet _ _ _ events k (passed b after place s o at gives rest) =
         next_packet (after_streams b s None) after o events (subst (λ (l : List Event). Stage xs (after_streams b s None) l) (append-nil events) (polled b events place s None k gives)) rest
 
+    -- polls brought these events before an error, and this is what is left of the plain streams
+    record Cut (error : RtcError) (events : List Event) : Type 0 where
+      table : Table
+      many : many_of (map (begun_at now) xs) table events
+      used_up : (ssrc : ℕ) → error ≡ RepairsExhausted ssrc → IsUsedUpIn ssrc table
+
+    -- where no number is missing, they are as the last poll left them
+    cut_there : (b : SessionRecord) (events : List Event) (error : RtcError) → Stage xs b events → ((ssrc : ℕ) → error ≡ RepairsExhausted ssrc → ⊥) → Cut error events
+    cut_there b events error k fine = record { table = k.table; many = k.many; used_up = λ ssrc e. absurd (fine ssrc e) }
+
+    cut_used_up : (b : SessionRecord) (events : List Event) (place ssrc : ℕ) → Stage xs b events → IsUsedUpAt now place ssrc (streams_in b) → Cut (RepairsExhausted ssrc) events
+    cut_used_up b events place ssrc k at =
+        let u = table_used_up cipher own r.state.transport.exts read_again r.state.types r.state.medias now b.repairs at.0 ssrc at.3 at.1 at.4 at.5 b.state.tx place k.table k.mid at.2 in
+        record {
+          table = u.table;
+          many = subst (λ (l : List Event). many_of (map (begun_at now) xs) u.table l) (append-nil events) (many_append k.many u.many);
+          used_up = λ other e. let same : ssrc ≡ other = cc in subst (λ (n : ℕ). IsUsedUpIn n u.table) same u.used_up;
+        }
+
+    packet_cut : (b after : SessionRecord) (error : RtcError) (events : List Event) → Stage xs b events → PacketFails now b after error → Cut error events
+    packet_cut _ _ _ events k (stream_stays b place s due stays) = cut_there b events Memory k (λ ssrc e. absurd cc)
+    packet_cut _ _ _ events k (packet_lost b place s p due gives) = cut_there b events Memory k (λ ssrc e. absurd cc)
+    packet_cut _ _ _ events k (used_up b place ssrc due at) = cut_used_up b events place ssrc k at
+    packet_cut _ _ _ events k (after_pass b after place s error due gives rest) =
+        packet_cut (after_streams b s None) after error events (subst (λ (l : List Event). Stage xs (after_streams b s None) l) (append-nil events) (polled b events place s None k gives)) rest
+
+    poll_cut : (b after : SessionRecord) (error : RtcError) (events : List Event) → Stage xs b events → PollFails now b after error → Cut error events
+    poll_cut b _ _ events k (packet_fails after error spoken due fails) = packet_cut b after error events k fails
+    poll_cut b _ _ events k (key_used_up exhausts) = cut_there b events (KeyExhausted srtcp.Rtcp) k (λ ssrc e. absurd cc)
+    poll_cut b _ _ events k (compound_kept some fresh) = cut_there b events Memory k (λ ssrc e. absurd cc)
+    poll_cut b _ _ events k (compound_lost some fresh) = cut_there b events Memory k (λ ssrc e. absurd cc)
+
     module _ (later : (now == 0) ≡ false) (quiet : r.state.feedback ≡ []) (keys : r.state.sealing ≡ Some own) where
       no_feedback : (b : SessionRecord) (events : List Event) → Stage xs b events → due_of now b.state ≡ []
       no_feedback b events k = ap (λ (t : Bool). if t then [] else b.state.feedback) later ∙ ap (λ (z : SessionRecord). z.state.feedback) k.others ∙ quiet
@@ -264,7 +304,7 @@ module _ (cipher : CipherMeaning) (r : SessionRecord) (own : SrtpState) (read_ag
           exts = refl;
           beginning = refl;
           keys = refl;
-          many = none;
+          many = rests;
           mid = begins r.repairs r.state.tx xs mirrors;
           same_lines = begun_lines xs;
         }
@@ -282,12 +322,10 @@ module _ (cipher : CipherMeaning) (r : SessionRecord) (own : SrtpState) (read_ag
             ap (λ (z : SessionRecord). first_due z.state.medias last.state.released last.repairs last.state.tx) (sym s.others) ∙ e.none_is_due in
             let on : last.state.released ≡ true = ap (λ (z : SessionRecord). z.state.released) s.others ∙ released in
             let idle : AreIdle s.table = idles last.state.released on last.repairs last.state.tx s.table s.mid due in
-            let events : List Event = events_of r.state.transport.exts all in
             subst (λ (z : SessionRecord). DrainsPackets cipher r z own now xs all) (sym e.is)
             (record {
               streams = s.table;
-              drains = subst (λ (l : List Event). DrainsAll (types_in r.state.types) (sealing_of cipher r.state.transport.exts own) now (map (begun_at now) xs) s.table l) (append-nil events)
-                  (many_drains s.many (done idle));
+              drains = record { serves = s.many; idle = idle };
               same_lines = s.same_lines;
               tx = ends last.repairs last.state.tx s.table s.mid idle;
               keys = s.keys;
@@ -302,3 +340,12 @@ module _ (cipher : CipherMeaning) (r : SessionRecord) (own : SrtpState) (read_ag
             let k = all_sent d.last all d.sent in
             let g = gave d.last after None events k d.ended in
             ended_drain after all released (gives_none after events g.receipt g.is (next_packet d.last after g.receipt events k g.next))
+
+        cut_packets : (error : RtcError) (sent : List Datagram) → Cut error (events_of r.state.transport.exts sent) → CutsPackets cipher r own now xs error sent
+        cut_packets error sent c = record { streams = c.table; serves = c.many; used_up = c.used_up }
+
+        pub all_cut : (error : RtcError) (after : SessionRecord) (sent : List Datagram) → IsDrainCut cipher now r error after sent → CutsPackets cipher r own now xs error sent
+        all_cut _ _ _ (at_poll between after error sent drains fails) =
+            cut_packets error sent (poll_cut between after error (events_of r.state.transport.exts sent) (all_sent between sent drains) fails)
+        all_cut _ _ _ (between_polls between sent drains) =
+            cut_packets Memory sent (cut_there between (events_of r.state.transport.exts sent) Memory (all_sent between sent drains) (λ ssrc e. absurd cc))

@@ -1,5 +1,5 @@
 -- One poll of a stream of a table, as polls of the plain table that it mirrors.
-use Rattle.std.proofs.Common.{◌≡◌, ℕ, zero, suc, ◌<◌, ◌^◌, Bool, true, false, ◌||◌, List, [], ◌∷◌, ◌++◌, Option, Some, None, refl, sym, ap, ◌∙◌, subst, append_assoc}
+use Rattle.std.proofs.Common.{◌≡◌, inl, inr, ℕ, zero, suc, ◌<◌, ◌^◌, Bool, true, false, ◌||◌, List, [], ◌∷◌, ◌++◌, Option, Some, None, refl, sym, ap, ◌∙◌, subst, append_assoc}
 use Rattle.std.specs.Prelude.{slice_get, option_and_then}
 use Rattle.std.specs.List.{AllByRecursion, AllZip}
 use Rattle.std.specs.Map.{keys_of, values_of}
@@ -12,41 +12,35 @@ use Rattle.srtp_core.specs.Contexts.{SrtpState}
 use Rattle.stream_core.specs.declared.payload_types.TypeRow.{TypeRow}
 use Rattle.stream_core.specs.declared.stream_tx.PacketReceipt.{PacketReceipt}
 use Rattle.stream_core.specs.declared.transport.Transport.{Transport}
-use Rattle.stream_core.specs.Repairing.{RepairsRecord, rtx_type_of, Polls, without, again, first, nothing, repairs_of, with_repairs}
+use Rattle.stream_core.specs.Repairing.{RepairsRecord, rtx_type_of, IsUsedUp, Polls, without, again, first, nothing, repairs_of, with_repairs}
 use Rattle.stream_core.specs.Tables.{value_under, change_place, change_at}
 use Rattle.stream_core.specs.TxRecord.{TxRecord as StreamTx}
 use Rattle.session_core.specs.SessionRecord.{MediaRecord}
 use Rattle.run_model.specs.Events.{Event, Types, Outgoing}
 use Rattle.run_model.specs.Seals.{Sealing}
 use Rattle.run_model.specs.Sending.{is_just}
-use Rattle.run_model.specs.TxPlay.{TxRecord}
-use Rattle.run_model.specs.Tables.{Table, lines, has, AllStrange, AreApart, PollsOne, here, there, DrainsAll, more}
+use Rattle.run_model.specs.TxPlay.{TxRecord, Serves, rests as no_polls, polls}
+use Rattle.run_model.specs.Tables.{Table, lines, has, AllStrange, AreApart, here, there, ServesAll, rests, reports, more}
 use Rattle.session_turns.specs.Mirrors.{IsWide}
-use Rattle.turn_ticks.proofs.Polls.{Mid, Chain, ended, polls, types, sealing, events_given, Polled, polls_mirror}
+use Rattle.session_turns.specs.Packets.{IsUsedUpIn}
+use Rattle.turn_ticks.proofs.Polls.{Mid, types, sealing, events_given, Polled, polls_mirror, UsedUp, used_up_mirrors}
 use Rattle.turn_ticks.proofs.Values.{changed_value, other_value}
 
--- polls of the streams of a plain table, one after another
-pub data Many (T : Types) (S : Sealing) (now : ℕ) : Table → Table → List Event → Type 0 where
-  none : {xs : Table} → Many T S now xs xs []
-  one : {xs ys zs : Table} {events rest : List Event} → PollsOne T S now xs ys events → Many T S now ys zs rest → Many T S now xs zs (events ++ rest)
+-- polls of a stream, and of those behind it, are polls of the streams of a table
+many_here : {T : Types} {S : Sealing} {now : ℕ} (L : Outgoing) (rest : Table) {t u : TxRecord} {events : List Event} → Serves T L S now t u events → ServesAll T S now ((L, t) ∷ rest) ((L, u) ∷ rest) events
+many_here L rest no_polls = rests
+many_here L rest (polls p others) = more (here L p) (many_here L rest others)
 
-many_here : {T : Types} {S : Sealing} {now : ℕ} (L : Outgoing) (rest : Table) {t u : TxRecord} {events : List Event} → Chain T L S now t u events → Many T S now ((L, t) ∷ rest) ((L, u) ∷ rest) events
-many_here L rest ended = none
-many_here L rest (polls p others) = one (here L p) (many_here L rest others)
+many_there : {T : Types} {S : Sealing} {now : ℕ} (s : Outgoing × TxRecord) {xs ys : Table} {events : List Event} → ServesAll T S now xs ys events → ServesAll T S now (s ∷ xs) (s ∷ ys) events
+many_there s rests = rests
+many_there s (reports index items others) = reports index items (many_there s others)
+many_there s (more p others) = more (there s p) (many_there s others)
 
-many_there : {T : Types} {S : Sealing} {now : ℕ} (s : Outgoing × TxRecord) {xs ys : Table} {events : List Event} → Many T S now xs ys events → Many T S now (s ∷ xs) (s ∷ ys) events
-many_there s none = none
-many_there s (one p others) = one (there s p) (many_there s others)
-
-pub many_drains : {T : Types} {S : Sealing} {now : ℕ} {xs ys zs : Table} {events rest : List Event} → Many T S now xs ys events → DrainsAll T S now ys zs rest → DrainsAll T S now xs zs (events ++ rest)
-many_drains none drains = drains
-many_drains {T} {S} {now} {zs = zs} {rest = rest} (one {xs = xs} {events = these} {rest = those} p others) drains =
-    subst (λ (l : List Event). DrainsAll T S now xs zs l) (sym (append_assoc these those rest)) (more p (many_drains others drains))
-
-pub many_append : {T : Types} {S : Sealing} {now : ℕ} {xs ys zs : Table} {events rest : List Event} → Many T S now xs ys events → Many T S now ys zs rest → Many T S now xs zs (events ++ rest)
-many_append none rest = rest
-many_append {T} {S} {now} {zs = zs} {rest = rest} (one {xs = xs} {events = these} {rest = those} p others) behind =
-    subst (λ (l : List Event). Many T S now xs zs l) (sym (append_assoc these those rest)) (one p (many_append others behind))
+pub many_append : {T : Types} {S : Sealing} {now : ℕ} {xs ys zs : Table} {events rest : List Event} → ServesAll T S now xs ys events → ServesAll T S now ys zs rest → ServesAll T S now xs zs (events ++ rest)
+many_append rests rest = rest
+many_append (reports index items others) behind = reports index items (many_append others behind)
+many_append {T} {S} {now} {zs = zs} {rest = rest} (more {xs = xs} {events = these} {rest = those} p others) behind =
+    subst (λ (l : List Event). ServesAll T S now xs zs l) (sym (append_assoc these those rest)) (more p (many_append others behind))
 
 -- streams that are apart have SSRCs apart
 strange_ssrc : (L M : Outgoing) → ((ssrc : ℕ) → has L ssrc ≡ true → has M ssrc ≡ false) → L.ssrc ≡ M.ssrc → ⊥
@@ -93,6 +87,30 @@ module _ (cipher : CipherMeaning) (own : SrtpState) (exts : ExtensionMap) (read_
   abbrev pub MidAt : List (ℕ × RepairsRecord) → ℕ × StreamTx → Outgoing × TxRecord → Type 0
   MidAt qs e s = Mid rows medias now (repairs_of e.1 qs) e.0 e.1 s.0 s.1
 
+  -- after polls that give nothing, no number is left for a repair that is due
+  pub record TableUsedUp (xs : Table) (ssrc : ℕ) : Type 0 where
+    pub table : Table
+    pub many : ServesAll T S now xs table []
+    pub used_up : IsUsedUpIn ssrc table
+
+  module _ (qs : List (ℕ × RepairsRecord)) (x : StreamTx) (ssrc : ℕ) (has : x.rtx ≡ Some ssrc) (q : RepairsRecord) (again_is : repairs_of x qs ≡ Some q) (up : IsUsedUp now q) where
+    used_up_here : (e : ℕ × StreamTx) (s : Outgoing × TxRecord) → e.1 ≡ x → MidAt qs e s → UsedUp cipher own exts read_again rows medias now s.0 s.1 ssrc
+    used_up_here e s is m =
+        used_up_mirrors cipher own exts read_again rows medias now s.0 e.0 x s.1 q
+        (subst (λ (p : Option RepairsRecord). Mid rows medias now p e.0 x s.0 s.1) again_is (subst (λ (z : StreamTx). Mid rows medias now (repairs_of z qs) e.0 z s.0 s.1) is m))
+        ssrc has up
+
+    pub table_used_up : (es : List (ℕ × StreamTx)) (place : ℕ) (xs : Table) → AllZip (MidAt qs) es xs → slice_get (values_of es) place ≡ Some x → TableUsedUp xs ssrc
+    table_used_up [] place xs m at = absurd (none-some x at)
+    table_used_up (e ∷ es) place [] m at = absurd m
+    table_used_up (e ∷ es) zero (s ∷ xs) m at =
+        let u = used_up_here e s (same_Some e.1 x at) m.0 in
+        record { table = (s.0, u.plain) ∷ xs; many = many_here s.0 xs u.chain; used_up = ((s.0, u.plain), inl refl, u.rtx, u.next, u.due) }
+    table_used_up (e ∷ es) (suc place) (s ∷ xs) m at =
+        let u = table_used_up es place xs m.1 at in
+        let i = u.used_up in
+        record { table = s ∷ u.table; many = many_there s u.many; used_up = (i.0, inr i.1, i.2, i.3, i.4) }
+
   module _ (transport : Transport) (ids : transport.exts ≡ exts) (types_fit : (pt rtx : ℕ) → rtx_type_of rows pt ≡ Some rtx → rtx < 2 ^ 7)
       (qs : List (ℕ × RepairsRecord)) (x y : StreamTx) (q : Option RepairsRecord) (o : Option PacketReceipt) (poll : Polls rows transport now x (repairs_of x qs) y q o) where
     abbrev left_qs : List (ℕ × RepairsRecord)
@@ -103,7 +121,7 @@ module _ (cipher : CipherMeaning) (own : SrtpState) (exts : ExtensionMap) (read_
 
     pub record TablePolled (es : List (ℕ × StreamTx)) (place : ℕ) (xs : Table) : Type 0 where
       pub table : Table
-      pub many : Many T S now xs table (given_in o)
+      pub many : ServesAll T S now xs table (given_in o)
       pub mid : AllZip (MidAt left_qs) (changed es place) table
       pub same_lines : lines table ≡ lines xs
 

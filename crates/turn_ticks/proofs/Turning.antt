@@ -1,7 +1,7 @@
 -- A tick of a session, with its drain, is a turn of the plain session.
 use Rattle.std.proofs.Common.{◌≡◌, ℕ, ◌+◌, ◌-◌, ◌≤◌, ◌<◌, ◌^◌, Bool, true, false, List, [], ◌∷◌, ◌++◌, map, Some, None, is_some, is_none, refl, sym, ap, ◌∙◌, subst, arith}
 use Rattle.std.specs.Prelude.{◌&&◌, ◌||◌, ◌==◌, nat_eq, nat_le, position, if◌then◌else◌}
-use Rattle.std.specs.List.{AllByRecursion, flat_map}
+use Rattle.std.specs.List.{AllByRecursion, AllZip, flat_map}
 use Rattle.std.specs.Map.{keys_of}
 use Rattle.std.proofs.lemmas.List.{append-nil, map-append}
 use Rattle.media_units.specs.Wallclock.{ntp_nanos}
@@ -17,11 +17,13 @@ use Rattle.repair_core.specs.Rounds.{wait_of}
 use Rattle.stream_core.specs.declared.transport.Transport.{Transport}
 use Rattle.stream_core.specs.Missing.{after_round as stream_after_round, nacks}
 use Rattle.stream_core.specs.Pauses.{checked, on_record, told as stream_told}
-use Rattle.stream_core.specs.Repairing.{RepairsRecord}
+use Rattle.stream_core.specs.Repairing.{RepairsRecord, rtx_type_of}
 use Rattle.stream_core.specs.Tables.{each}
 use Rattle.stream_core.specs.TxRecord.{TxRecord as StreamTx, after_timeout as stream_after_timeout}
 use Rattle.session_core.specs.declared.datagram.Datagram.{Datagram}
+use Rattle.session_core.specs.declared.error.RtcError.{RtcError}
 use Rattle.session_core.specs.Calls.{lacks_keys, after_events}
+use Rattle.session_core.specs.Draining.{IsDrainCut}
 use Rattle.session_core.specs.Hearing.{trip_of}
 use Rattle.session_core.specs.Rounds.{is_round, round_interval, sender_ssrc, after_round, after_checks, after_timeout}
 use Rattle.session_core.specs.Sending.{Drains}
@@ -31,16 +33,16 @@ use Rattle.media_model.specs.Sides.{peer_of}
 use Rattle.run_model.specs.Events.{Event, ticked, Types}
 use Rattle.run_model.specs.Asking.{any_enabled as any_plain_enabled, is_round as is_plain_round, item_in, items_in, Feedback, ticked_in, ticked_side}
 use Rattle.run_model.specs.Seals.{Sealing}
-use Rattle.run_model.specs.Tables.{AreApart, begun_at, DrainsAll}
-use Rattle.run_model.specs.Whole.{Config, Session, ticks, Counts, index_of, indices}
-use Rattle.session_turns.specs.Laws.{TurnsTo, TicksTurn}
-use Rattle.session_turns.specs.Mirrors.{IsWide, IsFit, Mirrors}
-use Rattle.session_turns.specs.Packets.{PacketsDrain, DrainsPackets}
+use Rattle.run_model.specs.Tables.{Table, lines, AreApart, begun_at, ServesAll, rests, DrainsAll}
+use Rattle.run_model.specs.Whole.{Config, Session, ticks, Counts, CutsOff, index_of, indices}
+use Rattle.session_turns.specs.Laws.{TurnsTo, TicksTurn, IsCutFor, CutsTo, TicksCut}
+use Rattle.session_turns.specs.Mirrors.{TxMirrors, IsWide, IsFit, Mirrors}
+use Rattle.session_turns.specs.Packets.{PacketsDrain, DrainsPackets, PacketsCut, CutsPackets}
 use Rattle.session_turns.specs.Reading.{event_of, events_of, types_in, sealing_of}
 use Rattle.turn_ticks.proofs.Lists.{map_map, flat_map_append, and_turned, far_enough}
 use Rattle.turn_ticks.proofs.Items.{IsRead}
 use Rattle.turn_ticks.proofs.IncomingStreams.{ticked_rx, enabled_mirrored, rx_ticked_mirror}
-use Rattle.turn_ticks.proofs.Compounds.{Splits, splits, no_items, no_indices}
+use Rattle.turn_ticks.proofs.Compounds.{IsRtp, Splits, splits, CutBy, in_compounds, in_packets, SplitsCut, splits_cut, no_items, no_indices}
 use Rattle.turn_ticks.proofs.Asks.{nacks_read, feedback_is}
 use Rattle.turn_ticks.proofs.Outgoing.{same_keys, all_stamped}
 
@@ -97,7 +99,7 @@ begun_is now b r {own} {other} round seals opens quiet =
     ∙ ap {A = List Rtcp} {B = SessionRecord}
     (λ f. record (begun_session now b r) { state = record (begun_session now b r).state { feedback = if b then f ++ nacks (sender_ssrc r.state) now r.rx else f } }) quiet
 
-module _ (drain : PacketsDrain) (names : RoundsNameTheDue) (read_back : ItemsReadBack) (lengths : ItemsFitByLengths)
+module _ (read_back : ItemsReadBack) (lengths : ItemsFitByLengths)
     (cipher : CipherMeaning) (C : Config) (side : Side) (r : SessionRecord) (a : Session) (time : ℕ) (fit : IsFit C) (m : Mirrors cipher C side r a) (later : 0 < time) (after_now : a.rx.now ≤ time) where
   abbrev round : Bool
   round = is_plain_round a.rx time
@@ -141,83 +143,150 @@ module _ (drain : PacketsDrain) (names : RoundsNameTheDue) (read_back : ItemsRea
   abbrev own_at : ℕ → SrtpState
   own_at next = record m.own { srtcp_index = next }
 
-  abbrev Emptied : ℕ → SessionRecord → List Datagram → Type 0
-  Emptied next after rest = DrainsPackets cipher (before_packets next) after (own_at next) time a.tx rest
+  streams_apart : AreApart (lines a.tx)
+  streams_apart = subst AreApart (sym m.outgoing) (fit.apart side)
 
-  emptied : (next : ℕ) (after : SessionRecord) (rest : List Datagram) → Drains cipher time (before_packets next) after rest → Emptied next after rest
-  emptied next after rest drains =
-      drain cipher (before_packets next) after (own_at next) time a.tx rest later refl refl refl
-      (subst AreApart (sym m.outgoing) (fit.apart side))
-      (subst (AllByRecursion IsWide) (sym m.outgoing) (fit.words side))
-      (λ pt rtx e. fit.rtx_types pt rtx (ap (λ (T : Types). T.rtx_of pt) m.types ∙ e))
-      (all_stamped r.state.types r.state.medias a.rx.now time after_now r.repairs r.state.tx a.tx m.tx)
-      drains
+  streams_wide : AllByRecursion IsWide (lines a.tx)
+  streams_wide = subst (AllByRecursion IsWide) (sym m.outgoing) (fit.words side)
 
-  -- the session after all left
-  abbrev drained : ℕ → List (ℕ × StreamTx) → Transport → List (ℕ × RepairsRecord) → SessionRecord
-  drained next tx transport repairs = record (before_packets next) {
-    state = record (before_packets next).state { tx = tx; transport = transport; released = false };
-    repairs = repairs;
-  }
+  types_fit : (pt rtx : ℕ) → rtx_type_of r.state.types pt ≡ Some rtx → rtx < 2 ^ 7
+  types_fit pt rtx e = fit.rtx_types pt rtx (ap (λ (T : Types). T.rtx_of pt) m.types ∙ e)
 
-  turned : (after : SessionRecord) (all : List Datagram) → (s : SplitsTo after all) → Emptied s.next after s.rest → TurnsTo cipher C side r a after (ticked time ∷ events_of exts all)
-  turned after all s d =
-      let ones : List Event = events_of exts s.front in
-      let others : List Event = events_of exts s.rest in
-      let events : events_of exts all ≡ ones ++ others = ap (events_of exts) s.is ∙ map-append (event_of exts) s.front s.rest in
-      let drains : DrainsAll C.types (C.seals side) time (map (begun_at time) a.tx) d.streams (ones ++ others) =
-      subst (λ (T : Types). DrainsAll T (C.seals side) time (map (begun_at time) a.tx) d.streams (ones ++ others)) (sym m.types)
-      (subst (λ (S : Sealing). DrainsAll (types_in r.state.types) S time (map (begun_at time) a.tx) d.streams (ones ++ others)) (sym m.own_seals)
-      (s.drains (types_in r.state.types) (sealing_of cipher exts m.own) time (map (begun_at time) a.tx) d.streams others d.drains)) in
-      let items : items_in (ones ++ others) ≡ flat_map feedback_of first.state.feedback =
-      flat_map_append item_in ones others ∙ ap (λ (l : List RtcpFb). items_in ones ++ l) (no_items exts s.rest s.rtp) ∙ append-nil (items_in ones) ∙ s.told in
-      let feedback : Feedback a.rx time a.rx.table (items_in (ones ++ others)) =
-      subst (λ (l : List RtcpFb). Feedback a.rx time a.rx.table l) (sym items) (feedback_is a.rx time names C.threshold (sender_ssrc r.state) r a.rx.table m.rx) in
-      let counted : indices (ones ++ others) ≡ indices ones =
-      flat_map_append index_of ones others ∙ ap (λ (l : List ℕ). indices ones ++ l) (no_indices exts s.rest s.rtp) ∙ append-nil (indices ones) in
-      let counts : Counts a.rtcp (indices (ones ++ others)) s.next =
-      subst (λ (l : List ℕ). Counts a.rtcp l s.next) (sym counted) (subst (λ (k : ℕ). Counts k (indices ones) s.next) m.index s.counts) in
-      let x : SessionRecord = drained s.next after.state.tx after.state.transport after.repairs in
-      let keys : keys_of after.state.tx ≡ keys_of r.state.tx = d.keys ∙ same_keys time r.state.tx in
-      subst (λ (l : List Event). TurnsTo cipher C side r a after (ticked time ∷ l)) (sym events)
-      (subst (λ (y : SessionRecord). TurnsTo cipher C side r a y (ticked time ∷ ones ++ others)) (sym d.rest)
-      (record {
-        session = record { tx = d.streams; rx = ticked_side a.rx time; rtcp = s.next };
-        turn = ticks time (ones ++ others) s.next after_now drains feedback counts;
-        mirrors = record {
-          own = own_at s.next;
-          other = m.other;
-          seals = refl;
-          opens = m.opens;
-          own_seals = m.own_seals ∙ ap (λ (e : ExtensionMap). sealing_of cipher e m.own) (sym d.exts);
-          other_seals = m.other_seals ∙ ap (λ (e : ExtensionMap). sealing_of cipher e m.other) (sym d.exts);
-          own_reports = m.own_reports;
-          other_reports = m.other_reports;
-          index = refl;
-          bounded = s.bounded;
-          types = m.types;
-          trip = m.trip ∙ (λ i now delay. trip_of (ntp_nanos (sym d.beginning i).unix_secs now) delay);
-          owns = m.owns ∙ (λ i ssrc. ssrc == r.state.local_ssrc || is_some (position (nat_eq ssrc) (sym keys i)));
-          outgoing = d.same_lines ∙ m.outgoing;
-          incoming = map_map (λ s. s.0) (ticked_in time round (wait_of a.rx.trip)) a.rx.table ∙ m.incoming;
-          tx = d.tx;
-          rx = rx_ticked_mirror C.threshold a.rx.trip time round r x a.rx.table m.rx refl refl refl;
-          originals = m.originals;
-          last_round = λ i. if round then time else m.last_round i;
-          target = m.target;
-          feedback = refl;
-          released = refl;
-          application = refl;
-          packet = refl;
-        };
-        types = refl;
-        exts = d.exts;
-        runs = refl;
-      }))
+  streams_stamped : AllZip (TxMirrors r.state.types r.state.medias time (Some time) r.repairs) first.state.tx a.tx
+  streams_stamped = all_stamped r.state.types r.state.medias a.rx.now time after_now r.repairs r.state.tx a.tx m.tx
 
-  pub turns : (after : SessionRecord) (all : List Datagram) → Drains cipher time (after_events (after_timeout time r)) after all → TurnsTo cipher C side r a after (ticked time ∷ events_of exts all)
-  turns after all drains = let s = split after all drains in turned after all s (emptied s.next after s.rest s.packets)
+  abbrev begun : Table
+  begun = map (begun_at time) a.tx
+
+  abbrev Served : Table → List Event → Type 0
+  Served streams events = ServesAll (types_in r.state.types) (sealing_of cipher exts m.own) time begun streams events
+
+  -- what leaves of the plain streams behind compounds, as that of the side of the configuration
+  served : (streams : Table) (ones others : List Event)
+      → ((T : Types) (seal : Sealing) (now : ℕ) (xs ys : Table) (events : List Event) → ServesAll T seal now xs ys events → ServesAll T seal now xs ys (ones ++ events))
+      → Served streams others → ServesAll C.types (C.seals side) time begun streams (ones ++ others)
+  served streams ones others behind serves =
+      subst (λ (T : Types). ServesAll T (C.seals side) time begun streams (ones ++ others)) (sym m.types)
+      (subst (λ (S : Sealing). ServesAll (types_in r.state.types) S time begun streams (ones ++ others)) (sym m.own_seals)
+      (behind (types_in r.state.types) (sealing_of cipher exts m.own) time begun streams others serves))
+
+  -- packets behind compounds take no index
+  counted : (front rest : List Datagram) (next : ℕ) → AllByRecursion IsRtp rest → Counts m.own.srtcp_index (indices (events_of exts front)) next
+      → Counts a.rtcp (indices (events_of exts front ++ events_of exts rest)) next
+  counted front rest next rtp counts =
+      let ones : List Event = events_of exts front in
+      let same : indices (ones ++ events_of exts rest) ≡ indices ones =
+      flat_map_append index_of ones (events_of exts rest) ∙ ap (λ (l : List ℕ). indices ones ++ l) (no_indices exts rest rtp) ∙ append-nil (indices ones) in
+      subst (λ (l : List ℕ). Counts a.rtcp l next) (sym same) (subst (λ (k : ℕ). Counts k (indices ones) next) m.index counts)
+
+  module _ (drain : PacketsDrain) (names : RoundsNameTheDue) where
+    abbrev Emptied : ℕ → SessionRecord → List Datagram → Type 0
+    Emptied next after rest = DrainsPackets cipher (before_packets next) after (own_at next) time a.tx rest
+
+    emptied : (next : ℕ) (after : SessionRecord) (rest : List Datagram) → Drains cipher time (before_packets next) after rest → Emptied next after rest
+    emptied next after rest drains =
+        drain cipher (before_packets next) after (own_at next) time a.tx rest later refl refl refl streams_apart streams_wide types_fit streams_stamped drains
+
+    -- the session after all left
+    abbrev drained : ℕ → List (ℕ × StreamTx) → Transport → List (ℕ × RepairsRecord) → SessionRecord
+    drained next tx transport repairs = record (before_packets next) {
+      state = record (before_packets next).state { tx = tx; transport = transport; released = false };
+      repairs = repairs;
+    }
+
+    turned : (after : SessionRecord) (all : List Datagram) → (s : SplitsTo after all) → Emptied s.next after s.rest → TurnsTo cipher C side r a after (ticked time ∷ events_of exts all)
+    turned after all s d =
+        let ones : List Event = events_of exts s.front in
+        let others : List Event = events_of exts s.rest in
+        let events : events_of exts all ≡ ones ++ others = ap (events_of exts) s.is ∙ map-append (event_of exts) s.front s.rest in
+        let drains : DrainsAll C.types (C.seals side) time begun d.streams (ones ++ others) =
+        record { serves = served d.streams ones others s.serves d.drains.serves; idle = d.drains.idle } in
+        let items : items_in (ones ++ others) ≡ flat_map feedback_of first.state.feedback =
+        flat_map_append item_in ones others ∙ ap (λ (l : List RtcpFb). items_in ones ++ l) (no_items exts s.rest s.rtp) ∙ append-nil (items_in ones) ∙ s.told in
+        let feedback : Feedback a.rx time a.rx.table (items_in (ones ++ others)) =
+        subst (λ (l : List RtcpFb). Feedback a.rx time a.rx.table l) (sym items) (feedback_is a.rx time names C.threshold (sender_ssrc r.state) r a.rx.table m.rx) in
+        let counts : Counts a.rtcp (indices (ones ++ others)) s.next = counted s.front s.rest s.next s.rtp s.counts in
+        let x : SessionRecord = drained s.next after.state.tx after.state.transport after.repairs in
+        let keys : keys_of after.state.tx ≡ keys_of r.state.tx = d.keys ∙ same_keys time r.state.tx in
+        subst (λ (l : List Event). TurnsTo cipher C side r a after (ticked time ∷ l)) (sym events)
+        (subst (λ (y : SessionRecord). TurnsTo cipher C side r a y (ticked time ∷ ones ++ others)) (sym d.rest)
+        (record {
+          session = record { tx = d.streams; rx = ticked_side a.rx time; rtcp = s.next };
+          turn = ticks time (ones ++ others) s.next after_now drains feedback counts;
+          mirrors = record {
+            own = own_at s.next;
+            other = m.other;
+            seals = refl;
+            opens = m.opens;
+            own_seals = m.own_seals ∙ ap (λ (e : ExtensionMap). sealing_of cipher e m.own) (sym d.exts);
+            other_seals = m.other_seals ∙ ap (λ (e : ExtensionMap). sealing_of cipher e m.other) (sym d.exts);
+            own_reports = m.own_reports;
+            other_reports = m.other_reports;
+            index = refl;
+            bounded = s.bounded;
+            types = m.types;
+            trip = m.trip ∙ (λ i now delay. trip_of (ntp_nanos (sym d.beginning i).unix_secs now) delay);
+            owns = m.owns ∙ (λ i ssrc. ssrc == r.state.local_ssrc || is_some (position (nat_eq ssrc) (sym keys i)));
+            outgoing = d.same_lines ∙ m.outgoing;
+            incoming = map_map (λ s. s.0) (ticked_in time round (wait_of a.rx.trip)) a.rx.table ∙ m.incoming;
+            tx = d.tx;
+            rx = rx_ticked_mirror C.threshold a.rx.trip time round r x a.rx.table m.rx refl refl refl;
+            originals = m.originals;
+            last_round = λ i. if round then time else m.last_round i;
+            target = m.target;
+            feedback = refl;
+            released = refl;
+            application = refl;
+            packet = refl;
+          };
+          types = refl;
+          exts = d.exts;
+          runs = refl;
+        }))
+
+    pub turns : (after : SessionRecord) (all : List Datagram) → Drains cipher time (after_events (after_timeout time r)) after all → TurnsTo cipher C side r a after (ticked time ∷ events_of exts all)
+    turns after all drains = let s = split after all drains in turned after all s (emptied s.next after s.rest s.packets)
+
+  module _ (cuts : PacketsCut) where
+    abbrev SplitsCutTo : RtcError → List Datagram → Type 0
+    SplitsCutTo error sent = SplitsCut cipher time later read_back first m.own index_left m.seals exts items_read error sent
+
+    cut_split : (error : RtcError) (after : SessionRecord) (sent : List Datagram) → IsDrainCut cipher time (after_events (after_timeout time r)) error after sent
+        → SplitsCutTo error sent
+    cut_split error after sent drain =
+        splits_cut cipher time later read_back first m.own index_left m.seals exts items_read error after sent
+        (subst (λ (x : SessionRecord). IsDrainCut cipher time x error after sent) (begun_is time round r round_is m.seals m.opens m.feedback) drain)
+
+    cut_to : (error : RtcError) (sent : List Datagram) → (s : SplitsCutTo error sent) → (streams : Table) → Served streams (events_of exts s.rest) → IsCutFor error streams s.next
+        → CutsTo cipher C side r a time error sent
+    cut_to error sent s streams serves cause =
+        let ones : List Event = events_of exts s.front in
+        let others : List Event = events_of exts s.rest in
+        let events : events_of exts sent ≡ ones ++ others = ap (events_of exts) s.is ∙ map-append (event_of exts) s.front s.rest in
+        let cut : CutsOff C side a time streams s.next (ones ++ others) = record {
+          late = after_now;
+          serves = served streams ones others s.serves serves;
+          counts = counted s.front s.rest s.next s.rtp s.counts;
+        } in
+        record { streams = streams; next = s.next; cut = subst (λ (l : List Event). CutsOff C side a time streams s.next l) (sym events) cut; cause = cause }
+
+    cut_by : (error : RtcError) (sent : List Datagram) → (s : SplitsCutTo error sent)
+        → CutBy cipher time later read_back first m.own index_left m.seals exts items_read error s.next s.rest → CutsTo cipher C side r a time error sent
+    cut_by error sent s (in_compounds none cause) =
+        cut_to error sent s begun (subst (λ (ds : List Datagram). Served begun (events_of exts ds)) (sym none) rests) (cause begun)
+    cut_by error sent s (in_packets after drain cause) =
+        let p : CutsPackets cipher (before_packets s.next) (own_at s.next) time a.tx error s.rest =
+        cuts cipher (before_packets s.next) after (own_at s.next) time a.tx error s.rest later refl refl streams_apart streams_wide types_fit streams_stamped drain in
+        cut_to error sent s p.streams p.serves (cause p.streams p.used_up)
+
+    pub turns_cut : (error : RtcError) (after : SessionRecord) (sent : List Datagram) → IsDrainCut cipher time (after_events (after_timeout time r)) error after sent
+        → CutsTo cipher C side r a time error sent
+    turns_cut error after sent drain = let s = cut_split error after sent drain in cut_by error sent s s.cut
 
 pub ticks_turn : PacketsDrain → RoundsNameTheDue → ItemsReadBack → ItemsFitByLengths → TicksTurn
 ticks_turn drain names read_back lengths cipher C side r after a time all fit m after_now later small drains =
-    turns drain names read_back lengths cipher C side r a time fit m later after_now after all drains
+    turns read_back lengths cipher C side r a time fit m later after_now drain names after all drains
+
+pub ticks_cut : PacketsCut → ItemsReadBack → ItemsFitByLengths → TicksCut
+ticks_cut cuts read_back lengths cipher C side r after a time error sent fit m after_now later small drain =
+    turns_cut read_back lengths cipher C side r a time fit m later after_now cuts error after sent drain

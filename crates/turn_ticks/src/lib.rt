@@ -3,4 +3,4 @@
 
 mod laws;
 
-pub use laws::ticks_turn;
+pub use laws::{ticks_cut, ticks_turn};

@@ -7,6 +7,7 @@ use Rattle.std.proofs.lemmas.List.Concat.{flat_map-append}
 use Rattle.twcc_core.specs.declared.status.PacketStatus.{PacketStatus}
 use Rattle.twcc_core.specs.Wire.{halves, Puts}
 use Rattle.twcc_core.specs.Chunks.{symbol_at, run_of, vector_of, chunk_of, told_by, chunks_within, chunks_of}
+use Rattle.twcc_core.proofs.Rows.{behind_more}
 
 -- the chunks put so far, and those of the rest
 pub record IsPut (all rest : List PacketStatus) (old : List ℕ) (at : ℕ) (now : List ℕ) (end : ℕ) : Type 0 where
@@ -15,12 +16,13 @@ pub record IsPut (all rest : List PacketStatus) (old : List ℕ) (at : ℕ) (now
   pub enough : length rest ≤ fuel
   pub split : chunks_of all ≡ done ++ chunks_within fuel rest
   pub put : Puts old at (halves done) now (Some end)
+  pub behind : drop end now ≡ drop end old
   pub same : length now ≡ length old
 
 pub put_starts : (all : List PacketStatus) (old : List ℕ) (at : ℕ) → at ≤ length old → IsPut all all old at old at
 unfolding chunks_of
 put_starts all old at le =
-    record { done = []; fuel = length all; enough = omega arith; split = refl; put = (omega arith, sym (append-nil (take at old)), le); same = refl }
+    record { done = []; fuel = length all; enough = omega arith; split = refl; put = (omega arith, sym (append-nil (take at old)), le); behind = refl; same = refl }
 
 pub one_chunk : (fuel : ℕ) (rest : List PacketStatus) → 0 < length rest → length rest ≤ fuel → chunks_within fuel rest ≡ chunk_of rest ∷ chunks_within (fuel - 1) (drop (told_by rest) rest)
 one_chunk fuel [] some enough = absurd (omega arith)
@@ -35,9 +37,9 @@ halves_len [] = omega arith
 halves_len (c ∷ cs) = omega (arith, length-append (to_be_bytes w16 c) (halves cs), halves_len cs)
 
 pub put_more : (all rest after : List PacketStatus) (old : List ℕ) (at : ℕ) (now new : List ℕ) (end end' chunk told : ℕ) → 0 < length rest → chunk ≡ chunk_of rest → told ≡ told_by rest → 0 < told → told ≤ length rest → after ≡ drop told rest → length new ≡ length now
-    → Puts now end (to_be_bytes w16 chunk) new (Some end')
+    → Puts now end (to_be_bytes w16 chunk) new (Some end') → drop end' new ≡ drop end' now
     → IsPut all rest old at now end → IsPut all after old at new end'
-put_more all rest after old at now new end end' chunk told some c t pos le d same p h =
+put_more all rest after old at now new end end' chunk told some c t pos le d same p b h =
     let one = one_chunk h.fuel rest some h.enough in
     let step : chunks_within h.fuel rest ≡ chunk ∷ chunks_within (h.fuel - 1) after = rw (d, c, t) one in
     let e = halves_more h.done chunk in
@@ -48,6 +50,7 @@ put_more all rest after old at now new end end' chunk told some c t pos le d sam
       enough = len;
       split = h.split ∙ ap (λ (x : List ℕ). h.done ++ x) step ∙ sym (append_assoc h.done (chunk ∷ []) (chunks_within (h.fuel - 1) after));
       put = rw e (omega (arith, p.0, h.put.0, length-append (halves h.done) (to_be_bytes w16 chunk)), p.1 ∙ rw h.put.1 (append_assoc (take at old) (halves h.done) (to_be_bytes w16 chunk)), p.2);
+      behind = behind_more old now new end _ end' p.0 h.behind b;
       same = same ∙ h.same;
     }
 

@@ -1,10 +1,10 @@
 -- A loop over rows that are put one after another.
-use Rattle.std.proofs.Common.{◌≡◌, ℕ, zero, suc, refl, ◌+◌, ◌<◌, List, [], ◌∷◌, ◌++◌, length, get_or, take, replicate, Option, Some, None, ap, ◌∙◌, append_assoc, arith, length-append}
+use Rattle.std.proofs.Common.{◌≡◌, ℕ, zero, suc, refl, sym, ◌+◌, ◌<◌, List, [], ◌∷◌, ◌++◌, length, get_or, take, drop, drop-drop, replicate, Option, Some, None, ap, ◌∙◌, append_assoc, arith, length-append}
 use Rattle.std.specs.List.{flat_map}
 use Rattle.std.proofs.lemmas.List.{take_more, append-nil}
 use Rattle.std.proofs.lemmas.List.Concat.{length-flat_map, flat_map-append}
 use Rattle.std.proofs.lemmas.List.Sums.{sum_by-take-le}
-use Rattle.twcc_core.specs.Wire.{Puts}
+use Rattle.twcc_core.specs.Wire.{Puts, LeavesBehind}
 
 flat_map_next : {T : Type 0} (text : T → List ℕ) (rows : List T) (i : ℕ) (x : T) → i < length rows → x ≡ get_or rows i x
     → flat_map text (take (i + 1) rows) ≡ flat_map text (take i rows) ++ text x
@@ -48,3 +48,12 @@ zeros_are (suc (suc (suc (suc n)))) lt = absurd (omega arith)
 pub puts_on : (a b old : List ℕ) (at : ℕ) (now new : List ℕ) (end : ℕ) (r : Option ℕ) → length now ≡ length old → Puts old at a now (Some end) → Puts now end b new r → Puts old at (a ++ b) new r
 puts_on a b old at now new end None same p q = omega (arith, p.0, q, same, length-append a b)
 puts_on a b old at now new end (Some e) same p q = (omega (arith, p.0, q.0, length-append a b), q.1 ∙ rw p.1 (append_assoc (take at old) a b), q.2)
+
+-- what stands behind a text after another stays
+pub behind_more : (old now new : List ℕ) (end n end' : ℕ) → end' ≡ end + n → drop end now ≡ drop end old → drop end' new ≡ drop end' now → drop end' new ≡ drop end' old
+behind_more old now new end n end' on p q =
+    q ∙ ap (λ (m : ℕ). drop m now) on ∙ sym (drop-drop n end now) ∙ ap (drop n) p ∙ drop-drop n end old ∙ ap (λ (m : ℕ). drop m old) (sym on)
+
+pub behind_on : (b old now new : List ℕ) (end : ℕ) (r : Option ℕ) → drop end now ≡ drop end old → Puts now end b new r → LeavesBehind now new r → LeavesBehind old new r
+behind_on b old now new end None p q h = h
+behind_on b old now new end (Some e) p q h = behind_more old now new end (length b) e q.0 p h

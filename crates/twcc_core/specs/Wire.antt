@@ -21,3 +21,8 @@ words ns = flat_map (to_be_bytes w32) ns
 abbrev pub Puts : List ℕ → ℕ → List ℕ → List ℕ → Option ℕ → Type 0
 Puts old at text new None = length old < at + length text
 Puts old at text new (Some end) = (end ≡ at + length text) × (take end new ≡ take at old ++ text) × (end ≤ length new)
+
+-- what stands behind the text stays
+abbrev pub LeavesBehind : List ℕ → List ℕ → Option ℕ → Type 0
+LeavesBehind old new None = Unit {0}
+LeavesBehind old new (Some end) = drop end new ≡ drop end old

@@ -2,7 +2,7 @@
 // sections 3.1.3 and 3.1.4).
 ghost use Rattle.std.specs.Prelude.{◌≡◌, ◌<◌, ◌≤◌, ◌++◌, length, take, replicate, IfOk, OnOk};
 ghost use Rattle.std.specs.Option.{option_map};
-ghost use Rattle.twcc_core.specs.Wire.{halves, Puts};
+ghost use Rattle.twcc_core.specs.Wire.{halves, Puts, LeavesBehind};
 ghost use Rattle.twcc_core.specs.Chunks.{view, one_bit_symbols, two_bit_symbols, chunk_symbols, symbols_of, symbol_at, run_of, vector_of, chunk_of, told_by, chunks_of};
 
 use crate::PacketStatus;
@@ -157,7 +157,8 @@ fn first_chunk(rows: &[PacketStatus]) -> (u16, usize)
 
 // Puts the chunks of rows, or says that there is no room for them.
 pub fn write_chunks(rows: &[PacketStatus], out: &mut [u8], at: usize) -> Option<usize>
-    ensures { Puts out.old at (halves (chunks_of rows.now)) out.new result }
+    ensures text { Puts out.old at (halves (chunks_of rows.now)) out.new result }
+    ensures behind { LeavesBehind out.old out.new result }
 {
     if out.len() < at {
         return None;

@@ -1,7 +1,7 @@
 //! Transport-wide feedback (draft-holmer-rmcat-transport-wide-cc-extensions-01 section 3.1).
 ghost use Rattle.std.specs.Prelude.{◌≡◌, ◌+◌, ◌*◌, ◌<◌, IfOk, length};
 ghost use Rattle.std.specs.Option.{option_map};
-ghost use Rattle.twcc_core.specs.Wire.{words, Puts};
+ghost use Rattle.twcc_core.specs.Wire.{words, Puts, LeavesBehind};
 ghost use Rattle.twcc_core.specs.Feedback.{twcc_of, twcc_bytes};
 ghost use Rattle.rtp_base.specs.Fields.{signed24, bits24};
 
@@ -71,7 +71,8 @@ pub fn read_twcc(alloc: Global, body: &[u8]) -> Result<Option<Twcc>, AllocError>
 
 // Puts words one after another, or says that there is no room for them.
 fn write_words(all: &[u32], out: &mut [u8], at: usize) -> Option<usize>
-    ensures { Puts out.old at (words all.now) out.new result }
+    ensures text { Puts out.old at (words all.now) out.new result }
+    ensures behind { LeavesBehind out.old out.new result }
 {
     if out.len() < at {
         return None;
@@ -103,11 +104,13 @@ fn word_of(upper: u32, lower: u8) -> u32
 }
 
 /// Writes feedback into a slice, as the bytes after the header of an item of type 205 and format 15,
-/// filled up with zeros to a whole word, and says where they end, or None where there is no room.
+/// filled up with zeros to a whole word, and says where they end, or None where there is no room. What
+/// stands behind them stays.
 #[tactic(auto, unfolding(crate::specs::Feedback::twcc_fields, crate::specs::Feedback::twcc_bytes))]
 pub fn write_twcc(twcc: &Twcc, out: &mut [u8]) -> Option<usize>
     requires { length twcc.now.rows < 65536 }
-    ensures { Puts out.old 0 (twcc_bytes twcc.now) out.new result }
+    ensures text { Puts out.old 0 (twcc_bytes twcc.now) out.new result }
+    ensures behind { LeavesBehind out.old out.new result }
 {
     let rows = twcc.rows.as_slice();
     let words = [

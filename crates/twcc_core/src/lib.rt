@@ -11,7 +11,7 @@ mod send;
 mod share;
 mod size;
 mod status;
-mod wire;
+pub mod wire;
 
 pub use feedback::{Twcc, read_twcc, write_twcc};
 pub use laws::{

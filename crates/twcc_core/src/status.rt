@@ -1,7 +1,7 @@
 ghost use Rattle.std.specs.Prelude.{◌≡◌, ◌<◌, ◌≤◌, length, IfOk};
 ghost use Rattle.std.specs.Option.{option_map};
 ghost use Rattle.std.specs.List.{flat_map};
-ghost use Rattle.twcc_core.specs.Wire.{Puts};
+ghost use Rattle.twcc_core.specs.Wire.{Puts, LeavesBehind};
 ghost use Rattle.twcc_core.specs.Statuses.{delta_text, status_at, statuses_of};
 
 use crate::wire::{half, put};
@@ -45,7 +45,8 @@ impl PacketStatus {
 
     // Puts the delta, where there is one.
     fn write_delta(self, out: &mut [u8], at: usize) -> Option<usize>
-        ensures { Puts out.old at (delta_text self) out.new result }
+        ensures text { Puts out.old at (delta_text self) out.new result }
+        ensures behind { LeavesBehind out.old out.new result }
     {
         match self {
             PacketStatus::NotReceived => put(out, at, &[]),
@@ -103,7 +104,8 @@ pub(crate) fn read_statuses(
 
 // Puts deltas one after another, or says that there is no room for them.
 pub(crate) fn write_deltas(rows: &[PacketStatus], out: &mut [u8], at: usize) -> Option<usize>
-    ensures { Puts out.old at (flat_map delta_text rows.now) out.new result }
+    ensures text { Puts out.old at (flat_map delta_text rows.now) out.new result }
+    ensures behind { LeavesBehind out.old out.new result }
 {
     if out.len() < at {
         return None;

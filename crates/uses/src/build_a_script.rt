@@ -21,7 +21,7 @@ pub fn one_write(alloc: Global, mid: Mid, payload: &[u8]) -> Result<(Setup, Vec<
     let now = Instant::from_nanos(1);
     let payload = Bytes::from_slice(alloc, payload)?;
     let steps = vec![in alloc;
-        write(Side::A, now, packet(alloc, 42, 1, 96, payload)),
+        write(Side::A, now, packet(42, 1, 96, payload)),
         tick(Side::A, now),
         deliver(Side::B, now, 1),
     ]?;

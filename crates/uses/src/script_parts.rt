@@ -3,8 +3,8 @@ ghost use Rattle.std.specs.Prelude.{◌≡◌, [], None, false};
 
 use media_base::{Beginning, Bytes, Duration, Instant, Listed};
 use media_model::{
-    CipherName, Codec, Key, Local, Media, MediaKind, Mtu, PayloadType, Setup, Side, SrtcpIndex,
-    Step, Stream, Write,
+    CipherName, Codec, Key, Local, Media, MediaKind, Mtu, PayloadType, Setup, Side, Sources,
+    SrtcpIndex, Step, Stream, Write,
 };
 use rtp_wire::{Mid, Pt, SeqNo, Ssrc};
 use srtp_core::SrtpProfile;
@@ -102,7 +102,7 @@ pub fn setup(alloc: Global, types: Vec<PayloadType>, media: Vec<Media>) -> Setup
 }
 
 /// A packet at RTP time 0, without marker and contributing sources, that is not sent again.
-pub fn packet(alloc: Global, ssrc: u32, number: u64, pt: u8, payload: Bytes) -> Write
+pub fn packet(ssrc: u32, number: u64, pt: u8, payload: Bytes) -> Write
     ensures { result ≡ record {
       ssrc = ssrc;
       number = number;
@@ -121,7 +121,7 @@ pub fn packet(alloc: Global, ssrc: u32, number: u64, pt: u8, payload: Bytes) -> 
         rtp_time: 0,
         marker: false,
         nackable: false,
-        csrc: Listed::new(alloc),
+        csrc: Sources::none(),
         payload,
     }
 }

@@ -6,6 +6,7 @@ use crate::count_a_queue::wait_of_both;
 use crate::exchange_a_packet::exchange;
 use crate::keep_for_resending::keep_and_find;
 use crate::keep_in_a_queue::{queue_of_one, replace};
+use crate::measure_a_trip::measured_trip;
 use crate::pace_packets::send_next;
 use crate::play_a_run::played;
 use crate::put_into_order::next_frame;
@@ -23,7 +24,7 @@ use crate::tell_a_run::told;
 use crate::time_a_packet::leaves_at;
 use crate::widen_a_number::take_number;
 use mask_register::MaskRegister;
-use media_base::{Bytes, MemSink, MemSource};
+use media_base::{Bytes, MemSink, MemSource, SystemTime};
 use media_script::read_script;
 use media_units::{Beginning, Bitrate, DataSize, Duration, Instant};
 use pace_core::{NullPacer, QueuePriority, QueueSnapshot, QueueState};
@@ -33,8 +34,10 @@ use payload_core::{
 use queue_store::QueueStore;
 use repair_core::{GapWindow, NackRegister};
 use resend_core::{Cached, EvictingBuffer, ResendStore, RtxCache};
+use rtcp_wire::SenderInfo;
 use rtp_base::{
-    Frequency, MediaTime, Mid, MidRid, NackEntry, Pt, SeqNo, SeqNoWindow, Ssrc, TwccPacketId,
+    Frequency, MediaTime, Mid, MidRid, NackEntry, Pt, ReceptionReport, SeqNo, SeqNoWindow, Ssrc,
+    TwccPacketId,
 };
 use rtp_wire::{ExtensionMap, RtpHeader};
 use rtx_core::{ResendError, ResendQueue};
@@ -485,4 +488,27 @@ fn calls_are_played(rt: HostRuntime) {
         _ => String::new(rt.alloc()),
     };
     assert!(rt; text.as_str() == "chose v\nsent 8000 debt=8000000000000 rate=1000000\nend\n");
+}
+
+// RFC 3550 section 6.4.1, figure 2: a report that was sent at 11:33:25.125 is held for 5.25 s, and
+// the block comes back at 11:33:36.5, so the round trip is 6.125 s.
+#[test]
+fn the_figure_of_the_standard(rt: HostRuntime) {
+    let unix_secs = 3_024_992_005 - 2_208_988_800;
+    let info = SenderInfo {
+        ssrc: Ssrc::from(42),
+        ntp_time: SystemTime::from_unix_nanos(unix_secs * 1_000_000_000 + 125_000_000),
+        rtp_time: 0,
+        sender_packet_count: 0,
+        sender_octet_count: 0,
+    };
+    let trip = measured_trip(
+        info,
+        &ReceptionReport::default(),
+        Instant::from_nanos(1_000_000_000),
+        Instant::from_nanos(6_250_000_000),
+        Instant::from_nanos(11_500_000_000),
+        &Beginning { unix_secs },
+    );
+    assert!(rt; trip.is_some_and(|trip| trip.as_micros().abs_diff(6_125_000) <= 50));
 }

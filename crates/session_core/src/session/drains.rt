@@ -1,6 +1,7 @@
 //! A drain: all that a session tells, then all that leaves it.
 ghost use Rattle.std.specs.Prelude.{◌≡◌, ◌||◌, ◌++◌, [], None, false, is_err, IsTrue, IsErrAnd, IfOk, IfErr, OnOk, OnErr};
-ghost use Rattle.session_core.specs.Sending.{Drains};
+ghost use Rattle.std.specs.Bool.{OnTrue, OnFalse};
+ghost use Rattle.session_core.specs.Sending.{Drains, NextDatagram};
 ghost use Rattle.session_core.specs.Draining.{IsDrainCut, IsCutOff};
 ghost use Rattle.session_core.specs.SessionRecord.{SessionRecord, StandsFor};
 ghost use Rattle.session_core.specs.Calls.{after_events, told, wake_of};
@@ -9,7 +10,7 @@ ghost use Rattle.session_core.specs.declared.error.RtcError.TheVariants.{Stopped
 use super::Session;
 use crate::datagram::{Datagram, DrainFault, Drained, Event};
 use crate::error::RtcError;
-use media_base::Instant;
+use media_base::{Instant, already_happened};
 use repair_core::GapWindow;
 use resend_core::ResendStore;
 use srtp_core::SrtpCipher;
@@ -41,6 +42,8 @@ impl<C: SrtpCipher, W: GapWindow, S: ResendStore<Sent>> Session<C, W, S> {
             × (told r ≡ sofar.new.items ++ told between) × (after_events between ≡ after_events r)) }
         ensures runs { self.new.state.stopped ≡ self.old.state.stopped }
     {
+        // Mostly a packet comes alone: room for it, and for what the next poll might tell.
+        sofar.reserve_exact(2)?;
         loop {
             sofar.reserve(1)?;
             match self.poll_event() {
@@ -48,6 +51,24 @@ impl<C: SrtpCipher, W: GapWindow, S: ResendStore<Sent>> Session<C, W, S> {
                 None => return Ok(()),
             }
         }
+    }
+
+    /// Whether polls have come behind the last stream and nothing else leaves at a moment: then what is
+    /// asked for later waits for a tick.
+    fn ends(&mut self, now: Instant) -> bool
+        ensures ended { OnTrue result ((r : SessionRecord) → StandsFor W.remembers S.stands_for self.old r
+            → (after : SessionRecord) × NextDatagram C.meaning now r after None × StandsFor W.remembers S.stands_for self.new after) }
+        ensures same { OnFalse result (self.new ≡ self.old) }
+        ensures runs { self.new.state.stopped ≡ self.old.state.stopped }
+    {
+        if self.next_stream < self.streams.tx_len() || !self.feedback.is_empty() {
+            return false;
+        }
+        if now == already_happened() || self.sealing.is_none() {
+            return false;
+        }
+        self.released = false;
+        true
     }
 
     /// Takes all datagrams that leave, behind those before. Room is reserved before each poll.
@@ -60,6 +81,9 @@ impl<C: SrtpCipher, W: GapWindow, S: ResendStore<Sent>> Session<C, W, S> {
             → (after : SessionRecord) × IsDrainCut C.meaning now r e after sofar.new.items × StandsFor W.remembers S.stands_for self.new after) }
         ensures latch { self.new.state.stopped ≡ is_err result }
     {
+        if self.ends(now) {
+            return Ok(());
+        }
         loop {
             if sofar.reserve(1).is_err() {
                 self.stopped = true;

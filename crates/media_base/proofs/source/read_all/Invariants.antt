@@ -1,4 +1,4 @@
-use Rattle.std.proofs.Common.{length, ◌≤◌}
+use Rattle.std.proofs.Common.{◌≡◌, length, ◌≤◌}
 use Rattle.std.specs.Io.KnownBytes.{Consumes}
 use Rattle.media_base.proofs.source.read_all.Given as goal
 
@@ -8,4 +8,5 @@ invariant-loop-turn g l = record {
   short : length l.bytes.items ≤ l.limit;
   turns : l._turn ≤ length l.bytes.items;
   later : g.S.Source.fault_count l.initial.source ≤ g.S.Source.fault_count l.source;
+  same : g.S.Source.fault_count l.source ≡ g.S.Source.fault_count l.initial.source;
 }

@@ -1,6 +1,7 @@
 use Rattle.media_laws.specs.Keys.{sealing_of}
 use Rattle.media_laws.specs.WireLaws.{WireLaws}
-use Rattle.media_laws.proofs.Fronts.{holds_of_front, holds_at_key}
+use Rattle.media_laws.proofs.Cuts.{holds_to_key}
+use Rattle.media_laws.proofs.Fronts.{holds_of_front}
 use Rattle.media_laws.proofs.Holding.{holds_of_run}
 use Rattle.media_laws.proofs.Soundness.{sound_config}
 use Rattle.media_laws.proofs.Wire.{wire_laws}
@@ -17,6 +18,6 @@ returns-clause-front g c setup steps front rest fine played =
     holds_of_front front rest (sound_config wire fine) played.plays (holds_of_run wire fine played.plays)
 
 pub returns-clause-exhausted : goal.returns-clause-exhausted
-returns-clause-exhausted g c setup steps entries step side counter fine played e =
+returns-clause-exhausted g c setup steps past step side counter told fine played e =
     let wire : WireLaws (sealing_of g.C.SrtpCipher.meaning setup) setup = wire_laws g.C.SrtpCipher.meaning setup c.header_reads_own_bytes.ensures c.headers_are_as_long.ensures.few c.rtp_seals_apart.ensures c.rtp_seal_keeps_header.ensures in
-    holds_at_key g.C.SrtpCipher.meaning setup entries step side counter e (holds_of_run wire fine played.plays)
+    holds_to_key wire fine steps past step side counter told played e

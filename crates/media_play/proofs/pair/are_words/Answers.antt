@@ -1,5 +1,5 @@
 use Rattle.std.proofs.Common.{arith}
-use Rattle.rtp_wire.specs.BytesLaws.{are_words}
+use Rattle.media_play.proofs.Words.{are_words}
 use Rattle.media_play.proofs.pair.are_words.Goals as goal
 
 pub returns : goal.returns

@@ -1,4 +1,4 @@
-use Rattle.std.proofs.Common.{◌≡◌, ℕ, ap, subst, true, false, rules}
+use Rattle.std.proofs.Common.{◌≡◌, ℕ, subst, true, false, rules}
 use Rattle.std.specs.Option.{option_map}
 use Rattle.std.proofs.lemmas.Result.{on_ok_weaker}
 use Rattle.rtx_core.specs.Resends.{recached}

@@ -1,4 +1,4 @@
-use Rattle.std.proofs.Common.{◌≡◌, ◌≤◌, ◌^◌, refl, ap, subst, ◌∙◌, rules}
+use Rattle.std.proofs.Common.{◌≡◌, ◌≤◌, ◌^◌, refl, ap, subst, ◌∙◌}
 use Rattle.session_core.specs.declared.config.SessionConfig.{SessionConfig}
 use Rattle.media_model.specs.declared.setup.Local.{Local}
 use Rattle.media_model.specs.Setup.{local_of}

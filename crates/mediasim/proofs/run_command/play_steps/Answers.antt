@@ -1,8 +1,8 @@
 use Rattle.std.proofs.Common.{string_bytes, subst}
 use Rattle.media_play.specs.declared.fault.RunError.{RunError}
-use Rattle.media_play.specs.Running.{HasCause}
+use Rattle.media_play.specs.Running.{HasCause, HoldsUntil}
 use Rattle.mediasim.specs.Lines.{bytes_of}
-use Rattle.mediasim.specs.RunCommand.{script_cipher}
+use Rattle.mediasim.specs.RunCommand.{script_cipher, script_sealing}
 use Rattle.mediasim.proofs.Runs.{key_ends, setup_ends, step_ends, done_ends, memory_ends}
 use Rattle.mediasim.proofs.run_command.play_steps.Goals as goal
 
@@ -15,7 +15,7 @@ returns-in-Step-clause-ended c =
     step_ends (λ text. string_bytes text) setup steps c.in-Step.number c.in-Step.rule sofar c.new-in-Step.result.entries c.step_line.result c.new-in-Step.result.end (bytes_of c.new-in-Step.result.last)
     c.new-in-Step.ensures.last c.step_line.ensures c.new-in-Step.ensures.entries
     (subst (λ (x : RunError). HasCause (script_cipher setup) setup steps sofar x) c.in-Step.is e.cause)
-    e.holds
+    (subst (λ (x : RunError). HoldsUntil (script_sealing setup) setup x sofar) c.in-Step.is e.holds)
 
 pub returns-in-Setup-clause-ended : goal.returns-in-Setup-clause-ended
 returns-in-Setup-clause-ended c =
@@ -53,4 +53,4 @@ returns-in-KeyExhausted-clause-ended c =
     key_ends (λ text. string_bytes text) setup steps c.in-KeyExhausted.side c.in-KeyExhausted.counter sofar c.new-in-KeyExhausted.result.entries c.key_line-line.result c.new-in-KeyExhausted.result.end (bytes_of c.new-in-KeyExhausted.result.last)
     c.new-in-KeyExhausted.ensures.last c.key_line-line.ensures c.new-in-KeyExhausted.ensures.entries
     (subst (λ (x : RunError). HasCause (script_cipher setup) setup steps sofar x) c.in-KeyExhausted.is e.cause)
-    e.holds
+    (subst (λ (x : RunError). HoldsUntil (script_sealing setup) setup x sofar) c.in-KeyExhausted.is e.holds)

@@ -1,9 +1,8 @@
 use Rattle.std.proofs.Common.{◌≡◌, None, sym, subst}
 use Rattle.std.specs.Prelude.{IfOk, IfErr}
 use Rattle.media_model.specs.declared.setup.CipherName.{CipherName}
-use Rattle.media_laws.specs.Headline.{HoldsOfRun}
 use Rattle.media_laws.specs.Play.{Played}
-use Rattle.media_play.specs.Running.{HasCause, OfRun}
+use Rattle.media_play.specs.Running.{HasCause, Holds}
 use Rattle.media_laws.specs.Keys.{sealing_of}
 use Rattle.setup_rules.specs.SetupRules.{setup_fault}
 use Rattle.mediasim.specs.RunCommand.{meaning_of}
@@ -20,8 +19,8 @@ returns-in-Toy c =
     record {
       played = subst (λ (n : CipherName). IfOk r (λ t. (setup_fault setup ≡ None) × Played (sealing_of (meaning_of n) setup) setup steps t)) is e.played;
       cause = subst (λ (n : CipherName). IfErr r (λ f. HasCause (meaning_of n) setup steps f.sofar f.cause)) is e.cause;
-      holds = subst (λ (n : CipherName). OfRun r (HoldsOfRun (sealing_of (meaning_of n) setup) setup)) is
-          (all_holds _ setup r e.steps e.seals e.nonces e.sendings e.yields e.once e.exactly);
+      holds = subst (λ (n : CipherName). Holds (sealing_of (meaning_of n) setup) setup r) is
+          (all_holds _ setup r e.steps e.used_up e.seals e.nonces e.sendings e.yields e.once e.exactly);
     }
 
 pub returns-in-Sha : goal.returns-in-Sha
@@ -34,6 +33,6 @@ returns-in-Sha c =
     record {
       played = subst (λ (n : CipherName). IfOk r (λ t. (setup_fault setup ≡ None) × Played (sealing_of (meaning_of n) setup) setup steps t)) is e.played;
       cause = subst (λ (n : CipherName). IfErr r (λ f. HasCause (meaning_of n) setup steps f.sofar f.cause)) is e.cause;
-      holds = subst (λ (n : CipherName). OfRun r (HoldsOfRun (sealing_of (meaning_of n) setup) setup)) is
-          (all_holds _ setup r e.steps e.seals e.nonces e.sendings e.yields e.once e.exactly);
+      holds = subst (λ (n : CipherName). Holds (sealing_of (meaning_of n) setup) setup r) is
+          (all_holds _ setup r e.steps e.used_up e.seals e.nonces e.sendings e.yields e.once e.exactly);
     }

@@ -1,5 +1,5 @@
 use Rattle.std.proofs.Common.{arith}
-use Rattle.rtp_wire.specs.BytesLaws.{are_words}
+use Rattle.rtp_wire.proofs.WordsAgain.{are_words}
 use Rattle.rtp_wire.proofs.header.are_words.Goals as goal
 
 pub returns : goal.returns

@@ -1,5 +1,5 @@
 use Rattle.std.proofs.Common.{◌∙◌}
-use Rattle.rtp_wire.specs.BytesLaws.{put_more}
+use Rattle.rtp_wire.proofs.WordsAgain.{put_more}
 use Rattle.rtp_wire.proofs.header.put_words.Goals as goal
 
 pub loop-i-preserved : goal.loop-i-preserved

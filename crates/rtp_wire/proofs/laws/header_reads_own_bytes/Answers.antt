@@ -1,4 +1,4 @@
-use Rattle.rtp_wire.specs.HeaderLaws.{reads_own_bytes}
+use Rattle.rtp_wire.proofs.OwnBytes.{reads_own_bytes}
 use Rattle.rtp_wire.proofs.laws.header_reads_own_bytes.Goals as goal
 
 pub returns : goal.returns

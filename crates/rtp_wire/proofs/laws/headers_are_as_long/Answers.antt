@@ -1,4 +1,4 @@
-use Rattle.rtp_wire.specs.HeaderLaws.{plain_is_as_long, has_fixed_bytes, has_few_bytes}
+use Rattle.rtp_wire.proofs.HeaderLengths.{plain_is_as_long, has_fixed_bytes, has_few_bytes}
 use Rattle.rtp_wire.proofs.laws.headers_are_as_long.Goals as goal
 
 pub returns-clause-plain : goal.returns-clause-plain

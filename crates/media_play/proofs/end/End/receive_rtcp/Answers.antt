@@ -1,9 +1,8 @@
-use Rattle.std.proofs.Common.{◌≡◌, ℕ, [], ◌∷◌, List, Option, Some, None, refl, sym, ap, ◌∙◌, subst}
+use Rattle.std.proofs.Common.{[], ◌∷◌, Option, Some, None, refl, sym, ap, subst}
 use Rattle.rtp_base.specs.declared.kind.Kind.TheVariants.{Rtcp}
 use Rattle.session_core.specs.declared.datagram.Opened.{Opened as Opening}
 use Rattle.session_core.specs.Calls.{after_events}
 use Rattle.session_core.specs.Hearing.{ReceivesRtcp}
-use Rattle.session_core.specs.SessionRecord.{SessionRecord}
 use Rattle.session_turns.specs.Reading.{events_opened}
 use Rattle.media_model.specs.declared.entry.Entry.TheVariants.{Got}
 use Rattle.run_model.specs.Events.{got}

@@ -1,4 +1,4 @@
-use Rattle.std.proofs.Common.{◌≡◌, false, [], ◌∷◌, List, Option, Some, ap, sym, subst, refl, ◌∙◌}
+use Rattle.std.proofs.Common.{◌≡◌, false, [], ◌∷◌, Option, Some, ap, subst, refl, ◌∙◌}
 use Rattle.session_core.specs.Sending.{NextDatagram}
 use Rattle.session_core.specs.SessionRecord.{SessionState}
 use Rattle.session_core.specs.declared.datagram.Datagram.{Datagram}
@@ -8,7 +8,7 @@ use Rattle.media_model.specs.declared.entry.Entry.TheVariants.{Called, Sealed}
 use Rattle.run_model.specs.Events.{called}
 use Rattle.media_laws.specs.Config.{config_of}
 use Rattle.media_laws.specs.Keys.{sealing_of}
-use Rattle.media_play.specs.Ends.{EndSession, SessionStands}
+use Rattle.media_play.specs.Ends.{SessionStands}
 use Rattle.media_play.specs.Packets.{sealed_from}
 use Rattle.media_play.specs.Sessions.{EndState}
 use Rattle.media_play.proofs.Calls.{application_fits, calling_record, calling_stands, fails_used_up}

@@ -3,47 +3,65 @@ use Rattle.media_model.specs.declared.entry.Entry.TheVariants.{Wrote}
 use Rattle.media_model.specs.declared.step.Step.TheVariants.{Write}
 use Rattle.media_laws.specs.Play.{wrote}
 use Rattle.media_laws.specs.Rules.{time_fault, write_fault}
-use Rattle.media_play.specs.Errors.{IsCauseAt}
+use Rattle.media_play.specs.declared.fault.StepError.{StepError}
+use Rattle.media_play.specs.declared.fault.StepError.TheVariants.{Rule}
 use Rattle.media_play.specs.Running.{RunState, IsRunOf, PlaysOn, Refuses}
-use Rattle.media_play.proofs.Steps.{ready_a, ready_b, plays_a, plays_b, no_fault, cause_of_step, refused_after, handed_on}
+use Rattle.media_play.proofs.Steps.{ready_a, ready_b, plays_a, plays_b, in_time_inside, no_fault, first_broken, refused_by_rule, cause_of_step, refused_after, handed_on}
 use Rattle.media_play.proofs.pair.Pair.write.Goals as goal
 use Rattle.media_play.proofs.pair.Pair.write.Goals.{in-A+in_ok-write_step-in-A, in-B+in_ok-write_step-in-B}
+
+pub returns-in_err-check_time-clause-refused : goal.returns-in_err-check_time-clause-refused
+returns-in_err-check_time-clause-refused g c =
+    let K = g.C.SrtpCipher.meaning in
+    let run = c.args.self.now in
+    let fault = c.in_err-check_time.field-0.0 in
+    let step = Write c.args.side c.args.time c.args.write.now in
+    handed_on (λ (d : StepError). Refuses K run step d run.log) c.from_residual.result (Rule fault) c.from_residual.ensures.1
+    (λ setup steps is_run.
+    refused_by_rule K setup run.log step fault (first_broken (time_fault run.log c.args.time) (write_fault setup run.log c.args.side c.args.write.now) fault
+    (c.in_err-check_time.ensures.fault run.log is_run.time)))
 
 pub returns-in_err-write_step-in-A-clause-refused : goal.returns-in_err-write_step-in-A-clause-refused
 returns-in_err-write_step-in-A-clause-refused g c =
     let K = g.C.SrtpCipher.meaning in
     let side = c.args.side in
+    let time = c.args.time in
     let write = c.args.write.now in
+    let step = Write side time write in
     let e = c.in_err-write_step-in-A.field-0.0 in
-    handed_on (Refuses K c.args.self.now (Write side c.args.time write)) c.from_residual-in_err-write_step-in-A.result e
-    c.from_residual-in_err-write_step-in-A.ensures.1
-    (λ setup steps is_run.
+    let log = c.write_step.new.log in
     let run : RunState = record { a = c.self.inside.a; b = c.self.inside.b; log = c.self.inside.log; latest = c.self.inside.latest } in
-    let here = subst (λ (r : RunState). IsRunOf K setup steps r) (sym c.self.view_is) is_run in
-    let fine : time_fault c.args.self.now.log c.args.time ≡ None = c.in_ok-check_time.ensures.fault c.args.self.now.log is_run.time in
-    let fine_here : time_fault run.log c.args.time ≡ None = subst (λ (r : RunState). time_fault r.log c.args.time ≡ None) (sym c.self.view_is) fine in
-    cause_of_step K setup c.args.self.now.log (Write side c.args.time write) e
-    (refused_after e (time_fault c.args.self.now.log c.args.time) (write_fault setup c.args.self.now.log side write) fine
-    (subst (λ (r : RunState). IsCauseAt (write_fault setup r.log side write) e) c.self.view_is
-    (c.in_err-write_step-in-A.ensures.refused setup here.a run.log (ready_a here c.in-A.is c.args.time fine_here).ready))))
+    handed_on (λ (d : StepError). Refuses K c.args.self.now step d log) c.from_residual-in_err-write_step-in-A.result e
+    c.from_residual-in_err-write_step-in-A.ensures.1
+    (subst (λ (r : RunState). Refuses K r step e log) c.self.view_is
+    (λ setup steps here.
+    let fine = in_time_inside run c.args.self.now c.self.view_is time (c.in_ok-check_time.ensures.fault c.args.self.now.log) here.time in
+    let says = c.in_err-write_step-in-A.ensures in
+    cause_of_step K setup run.log log step e
+    (refused_after e (time_fault run.log time) (write_fault setup run.log side write) fine
+    (says.refused setup here.a run.log (ready_a here c.in-A.is time fine).ready))
+    says.unchanged c.write_step.ensures.longer))
 
 pub returns-in_err-write_step-in-B-clause-refused : goal.returns-in_err-write_step-in-B-clause-refused
 returns-in_err-write_step-in-B-clause-refused g c =
     let K = g.C.SrtpCipher.meaning in
     let side = c.args.side in
+    let time = c.args.time in
     let write = c.args.write.now in
+    let step = Write side time write in
     let e = c.in_err-write_step-in-B.field-0.0 in
-    handed_on (Refuses K c.args.self.now (Write side c.args.time write)) c.from_residual-in_err-write_step-in-B.result e
-    c.from_residual-in_err-write_step-in-B.ensures.1
-    (λ setup steps is_run.
+    let log = c.write_step-in-B.new.log in
     let run : RunState = record { a = c.self.inside.a; b = c.self.inside.b; log = c.self.inside.log; latest = c.self.inside.latest } in
-    let here = subst (λ (r : RunState). IsRunOf K setup steps r) (sym c.self.view_is) is_run in
-    let fine : time_fault c.args.self.now.log c.args.time ≡ None = c.in_ok-check_time.ensures.fault c.args.self.now.log is_run.time in
-    let fine_here : time_fault run.log c.args.time ≡ None = subst (λ (r : RunState). time_fault r.log c.args.time ≡ None) (sym c.self.view_is) fine in
-    cause_of_step K setup c.args.self.now.log (Write side c.args.time write) e
-    (refused_after e (time_fault c.args.self.now.log c.args.time) (write_fault setup c.args.self.now.log side write) fine
-    (subst (λ (r : RunState). IsCauseAt (write_fault setup r.log side write) e) c.self.view_is
-    (c.in_err-write_step-in-B.ensures.refused setup here.b run.log (ready_b here c.in-B.is c.args.time fine_here).ready))))
+    handed_on (λ (d : StepError). Refuses K c.args.self.now step d log) c.from_residual-in_err-write_step-in-B.result e
+    c.from_residual-in_err-write_step-in-B.ensures.1
+    (subst (λ (r : RunState). Refuses K r step e log) c.self.view_is
+    (λ setup steps here.
+    let fine = in_time_inside run c.args.self.now c.self.view_is time (c.in_ok-check_time.ensures.fault c.args.self.now.log) here.time in
+    let says = c.in_err-write_step-in-B.ensures in
+    cause_of_step K setup run.log log step e
+    (refused_after e (time_fault run.log time) (write_fault setup run.log side write) fine
+    (says.refused setup here.b run.log (ready_b here c.in-B.is time fine).ready))
+    says.unchanged c.write_step-in-B.ensures.longer))
 
 pub returns-clause-played : goal.returns-clause-played
 returns-clause-played g c setup steps is_run =

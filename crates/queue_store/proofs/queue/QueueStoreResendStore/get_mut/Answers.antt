@@ -22,6 +22,6 @@ returns g c =
       record {
         writes_back = tt;
         value = c.get_mut.ensures.value ∙ value_found q p c.in_ok-index.index is;
-        stands = some_when _ c.get_mut.result (λ past w h. subst (λ (o : Option ℕ). StandsFor (with_item q o w) (revalued past p w)) is (revalued_stands q past p c.in_ok-index.index w (sym is) h));
+        stands = some_when _ c.get_mut.result (λ past w h. subst (λ (o : Option ℕ). StandsFor (with_item q o w) (revalued past p w)) is (revalued_stands c.event_laws.ensures.changed q past p c.in_ok-index.index w (sym is) h));
       },
     )

@@ -8,7 +8,7 @@ pub returns-then-not-takes-clause-ok : goal.returns-then-not-takes-clause-ok
 returns-then-not-takes-clause-ok g c = λ past h. (
   false,
   (λ m. absurd (let no : false ≡ true = sym c.if-not-takes.true ∙ c.takes.ensures ∙ must_take c.args.self.now past c.args.position c.args.timestamp h m in cc)),
-  ignored_stands c.args.self.now past c.args.position c.args.timestamp c.args.value h,
+  ignored_stands c.event_laws.ensures.added c.args.self.now past c.args.position c.args.timestamp c.args.value h,
 )
 
 pub returns-clause-ok : goal.returns-clause-ok
@@ -17,9 +17,9 @@ returns-clause-ok g c = λ past h.
     let mid = c.put.new.self in
     let next = with_event past (pushed c.args.position c.args.timestamp c.args.value true) in
     let puts : Puts old mid c.args.position c.args.timestamp c.args.value = c.in_ok-put.ensures.ok h.paired in
-    let stands : StandsFor mid next = put_stands old mid past c.args.position c.args.timestamp c.args.value puts (taken_timely old c.args.position c.args.timestamp (sym c.takes.ensures ∙ c.if-not-takes.false)) h in
+    let stands : StandsFor mid next = put_stands c.event_laws.ensures.added old mid past c.args.position c.args.timestamp c.args.value puts (taken_timely old c.args.position c.args.timestamp (sym c.takes.ensures ∙ c.if-not-takes.false)) h in
     let drops : Drops (IsFar mid) mid c.trim.new.self = c.trim.ensures puts.paired in
-    (true, (λ m. refl), drops_stands (IsFar mid) mid c.trim.new.self next drops (λ p t far. far_goes mid next p t stands far) (mark_low (IsFar mid) mid c.trim.new.self next drops stands) stands)
+    (true, (λ m. refl), drops_stands (IsFar mid) mid c.trim.new.self next drops (λ p t far. far_goes c.event_laws.ensures.stored mid next p t stands far) (mark_low c.event_laws.ensures.stored (IsFar mid) mid c.trim.new.self next drops stands) stands)
 
 pub returns-clause-marked : goal.returns-clause-marked
 returns-clause-marked g c = λ past h.

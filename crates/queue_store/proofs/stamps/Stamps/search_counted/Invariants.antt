@@ -8,6 +8,7 @@ invariant-loop-low g l = record {
   within : l.high ≤ length l.self-inside.all.items;
   later : l.fn.steps ≤ l.steps;
   halves : 2 ^ (l.steps - l.fn.steps) * (l.high - l.low) ≤ length l.self-inside.all.items;
+  counted : length l.self-inside.all.items + 2 ≤ 2 ^ (l.steps - l.fn.steps) * (l.high - l.low + 2);
   cost : 2 ^ (l.steps - l.fn.steps) ≤ 2 * length l.self-inside.all.items + 1;
   below : (k : ℕ) → k < l.low → (stamp_at l.self-inside.all.items k).position < l.position;
   above : (k : ℕ) → l.high ≤ k → k < length l.self-inside.all.items → l.position < (stamp_at l.self-inside.all.items k).position;

@@ -2,7 +2,7 @@ use Rattle.std.proofs.Common.{ℕ, ◌+◌, ◌*◌, List, ◌++◌, length, dro
 use Rattle.std.specs.Prelude.{nat_lt}
 use Rattle.rtp_wire.specs.Extensions.{extension_bytes}
 use Rattle.rtp_wire.specs.Header.{fixed_bytes, header_bytes}
-use Rattle.rtp_wire.specs.HeaderLaws.{read_again, is_written}
+use Rattle.rtp_wire.proofs.HeadersAgain.{read_again, is_written}
 use Rattle.rtp_wire.proofs.Written.{written}
 use Rattle.rtp_wire.proofs.header.RtpHeader.write_to.Goals as goal
 

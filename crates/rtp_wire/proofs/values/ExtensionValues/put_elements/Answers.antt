@@ -2,7 +2,7 @@ use Rattle.std.proofs.Common.{◌≡◌, ℕ, ◌+◌, ◌≤◌, List, ◌++◌
 use Rattle.std.specs.List.{flat_map}
 use Rattle.rtp_wire.specs.Writing.{value_bytes}
 use Rattle.rtp_wire.specs.Extensions.{named_by, element_at, element_bytes}
-use Rattle.rtp_wire.specs.WritingLaws.{data_bound}
+use Rattle.rtp_wire.proofs.ValueLengths.{data_bound}
 use Rattle.rtp_wire.proofs.Elements.{data_at, sofar_first, sofar_none, sofar_room, sofar_some, sofar_all, sofar_length, sofar_next}
 use Rattle.rtp_wire.proofs.values.ExtensionValues.put_elements.Goals as goal
 use Rattle.rtp_wire.proofs.values.ExtensionValues.put_elements.Goals.{in-Some, in_default}

@@ -7,10 +7,24 @@ use Rattle.session_core.specs.Draining.{stopped_from, stopped_record, at_poll, b
 use Rattle.session_core.proofs.session.Session.drain_datagrams.Goals as goal
 
 pub loop-now-init : goal.loop-now-init
-loop-now-init g c = record {
-  runs = c.requires.runs;
-  drained = λ r h. (r, subst (DrainsTo g.C.SrtpCipher.meaning c.args.now r r) (sym c.requires.none) start, h);
-}
+loop-now-init g c =
+    let same = c.if-ends.ensures.same in
+    record {
+      runs = ap (λ v. v.state.stopped) same ∙ c.requires.runs;
+      drained = λ r h. (
+        r,
+        subst (DrainsTo g.C.SrtpCipher.meaning c.args.now r r) (sym c.requires.none) start,
+        subst (λ v. StandsFor g.W.GapWindow.remembers g.S.ResendStore.stands_for v r) (sym same) h,
+      );
+    }
+
+pub returns-then-ends-clause-drained : goal.returns-then-ends-clause-drained
+returns-then-ends-clause-drained g c = λ r h.
+    let k = c.if-ends.ensures.ended r h in (
+      k.0,
+      record { last = r; sent = subst (DrainsTo g.C.SrtpCipher.meaning c.args.now r r) (sym c.requires.none) start; ended = k.1 },
+      k.2,
+    )
 
 pub loop-now-preserved : goal.loop-now-preserved
 loop-now-preserved g c =

@@ -10,7 +10,7 @@ use Rattle.session_core.proofs.session.Session.take_events.Goals as goal
 pub loop-self-init : goal.loop-self-init
 loop-self-init g c = record {
   runs = refl;
-  front = λ r h. (r, h, sym (ap (λ (l : List Event). l ++ told r) c.requires.none), refl);
+  front = λ r h. (r, h, sym (ap (λ (l : List Event). l ++ told r) (c.reserve_exact.ensures.items ∙ c.requires.none)), refl);
 }
 
 pub loop-self-preserved : goal.loop-self-preserved

@@ -1,25 +1,20 @@
--- The elements in which values are written are read again, as the wire form of the values, and are at most 75 bytes.
-use Rattle.std.proofs.Common.{◌≡◌, ℕ, zero, suc, ◌+◌, ◌-◌, ◌*◌, ◌/◌, ◌%◌, ◌^◌, ◌≤◌, ◌⊎◌, inl, inr, ⊎_elim, Bool, true, false, cond, Option, Some, None, List, [], ◌∷◌, ◌++◌, length, take, drop, replicate, refl, sym, ap, ◌∙◌, append_assoc, arith, length-append}
+-- The values that are taken from elements are the wire form of those that were written.
+use Rattle.std.proofs.Common.{◌≡◌, ℕ, ◌+◌, ◌*◌, ◌/◌, ◌%◌, ◌≤◌, ◌^◌, Bool, true, false, cond, List, [], ◌∷◌, ◌++◌, take, refl, sym, ap, ◌∙◌, arith, ◌⊎◌, inl, inr, ⊎_elim, Option, Some, None}
 use Rattle.std.specs.Prelude.{◌==◌, ◌||◌, ℤ, pos, negsuc}
-use Rattle.std.specs.List.{flat_map, AllByRecursion, range_with_len}
+use Rattle.std.specs.Int.{w16, from_be_bytes, to_be_bytes, w64}
+use Rattle.rtp_wire.specs.declared.values.ExtensionValues.{ExtensionValues}
+use Rattle.rtp_wire.specs.Extensions.{no_values, with_elements, written_values, named_by, is_at, with_value, written_ids, bytes_at, left_after, element_at, written_elements, is_named}
+use Rattle.rtp_wire.specs.declared.extension.ExtensionMap.{ExtensionMap}
 use Rattle.std.specs.Option.{option_or, option_map, option_and_then}
-use Rattle.std.specs.Int.{w16, w64, to_be_bytes, from_be_bytes}
 use native.Mathlib.Nat.{div-div-eq-div-mul}
-use Rattle.std.proofs.lemmas.Bool.Decides.{nat_tests}
-use Rattle.std.proofs.lemmas.Grind.{flat_map-append}
-use Rattle.std.proofs.lemmas.List.{take_at, drop_at}
 use Rattle.rtp_base.specs.declared.media_time.MediaTime.{MediaTime}
 use Rattle.rtp_wire.specs.declared.extension.Extension.{Extension}
 use Rattle.rtp_wire.specs.declared.extension.Extension.TheVariants.{AudioLevel, AbsoluteSendTime, TransportSequenceNumber, RtpMid, RtpStreamId, RepairedRtpStreamId, VideoOrientation, AbsoluteCaptureTime, PlayoutDelay}
-use Rattle.rtp_wire.specs.declared.extension.ExtensionMap.{ExtensionMap}
-use Rattle.rtp_wire.specs.declared.values.ExtensionValues.{ExtensionValues}
 use Rattle.rtp_wire.specs.declared.values.VideoOrientation.{VideoOrientation as Turn}
 use Rattle.rtp_wire.specs.declared.values.VideoOrientation.TheVariants.{Deg0, Deg90, Deg180, Deg270}
 use Rattle.rtp_base.specs.Name.{is_name, name_of}
 use Rattle.rtp_wire.specs.Reading.{u24_of, level_of, hundredths}
-use Rattle.rtp_wire.specs.Writing.{u24_bytes, minus_level, level_byte, quarter_turns, delay_steps, both, value_bytes, without, wire_values}
-use Rattle.rtp_wire.specs.Extensions.{named_by, is_at, no_values, one_byte_elements, with_value, with_elements, values_of, written_ids, bytes_at, left_after, element_at, written_elements, element_bytes, written_data, is_named, written_values}
-use Rattle.rtp_wire.specs.ElementsLaws.{one_padding, one_element}
+use Rattle.rtp_wire.specs.Writing.{u24_bytes, minus_level, level_byte, quarter_turns, delay_steps, both, wire_values}
 
 -- numbers in bytes, read again
 
@@ -237,206 +232,9 @@ or_nothing true None = refl
 or_nothing true (Some x) = refl
 or_nothing false o = refl
 
-elements_hold : (exts : ExtensionMap) (values : ExtensionValues) → with_elements exts no_values (written_elements written_ids exts values) ≡ written_values exts values
+pub elements_hold : (exts : ExtensionMap) (values : ExtensionValues) → with_elements exts no_values (written_elements written_ids exts values) ≡ written_values exts values
 unfolding written_values
 elements_hold exts values =
     elements_taken written_ids exts no_values values
     ∙ same_values _ _ _ _ _ _ _ _ _ _ _ _ _ _ _ _ _ _ _ _ _ _
     (or_nothing _ _) (or_nothing _ _) (or_nothing _ _) (or_nothing _ _) (or_nothing _ _) (or_nothing _ _) (or_nothing _ _) (or_nothing _ _) (or_nothing _ _) (or_nothing _ _) (or_nothing _ _)
-
--- how long the bytes of values are
-
-abbrev FitsIn : ℕ → Option (List ℕ) → Type 0
-FitsIn n None = Unit {0}
-FitsIn n (Some bytes) = (1 ≤ length bytes) × (length bytes ≤ n)
-
-abbrev longest : Extension → ℕ
-longest AudioLevel = 1
-longest AbsoluteSendTime = 3
-longest TransportSequenceNumber = 2
-longest RtpMid = 16
-longest RtpStreamId = 16
-longest RepairedRtpStreamId = 16
-longest VideoOrientation = 1
-longest AbsoluteCaptureTime = 8
-longest PlayoutDelay = 3
-
-mapped_fits : {X : Type 0} (f : X → List ℕ) (n : ℕ) → ((x : X) → (1 ≤ length (f x)) × (length (f x) ≤ n)) → (o : Option X) → FitsIn n (option_map f o)
-mapped_fits f n h None = tt
-mapped_fits f n h (Some x) = h x
-
-both_fits : {X Y : Type 0} (f : X → Y → List ℕ) (n : ℕ) → ((x : X) (y : Y) → (1 ≤ length (f x y)) × (length (f x y) ≤ n)) → (o : Option X) (p : Option Y) → FitsIn n (both f o p)
-both_fits f n h None p = tt
-both_fits f n h (Some x) None = tt
-both_fits f n h (Some x) (Some y) = h x y
-
-name_long : (bytes : List ℕ) → is_name bytes ≡ true → (1 ≤ length bytes) × (length bytes ≤ 16)
-name_long bytes h = (grind (arith, nat_tests), grind (arith, nat_tests))
-
-name_fits_at : (bytes : List ℕ) (t : Bool) → is_name bytes ≡ t → FitsIn 16 (cond t (Some bytes) None)
-name_fits_at bytes true h = name_long bytes h
-name_fits_at bytes false h = tt
-
-name_fits : (name : Option (List ℕ)) → FitsIn 16 (option_and_then name_of name)
-name_fits None = tt
-name_fits (Some bytes) = name_fits_at bytes (is_name bytes) refl
-
-value_fits : (e : Extension) (w : ExtensionValues) → FitsIn (longest e) (value_bytes e w)
-value_fits AudioLevel w = both_fits _ 1 (λ x y. (omega arith, omega arith)) w.audio_level w.voice_activity
-value_fits AbsoluteSendTime w = mapped_fits _ 3 (λ x. (omega arith, omega arith)) w.abs_send_time
-value_fits TransportSequenceNumber w = mapped_fits _ 2 (λ x. (omega arith, omega arith)) w.transport_cc
-value_fits RtpMid w = name_fits w.mid
-value_fits RtpStreamId w = name_fits w.rid
-value_fits RepairedRtpStreamId w = name_fits w.rid_repair
-value_fits VideoOrientation w = mapped_fits _ 1 (λ x. (omega arith, omega arith)) w.video_orientation
-value_fits AbsoluteCaptureTime w = mapped_fits _ 8 (λ x. (omega arith, omega arith)) w.abs_capture_time
-value_fits PlayoutDelay w = both_fits _ 3 (λ x y. (omega arith, omega arith)) w.play_delay_min w.play_delay_max
-
--- the length of an element
-abbrev size_of : Option (List ℕ) → ℕ
-size_of None = 0
-size_of (Some bytes) = length bytes + 1
-
-abbrev size : ExtensionValues → ℕ
-size w =
-    size_of (value_bytes AudioLevel w) + size_of (value_bytes AbsoluteSendTime w) + size_of (value_bytes TransportSequenceNumber w) + size_of (value_bytes RtpMid w)
-    + size_of (value_bytes RtpStreamId w) + size_of (value_bytes RepairedRtpStreamId w) + size_of (value_bytes VideoOrientation w) + size_of (value_bytes AbsoluteCaptureTime w)
-    + size_of (value_bytes PlayoutDelay w)
-
-size_fits : (n : ℕ) (o : Option (List ℕ)) → FitsIn n o → size_of o ≤ n + 1
-size_fits n None h = omega arith
-size_fits n (Some bytes) h = omega arith
-
-sum_bound : (a b c d e f g h i : ℕ) → a ≤ 2 → b ≤ 4 → c ≤ 3 → d ≤ 17 → e ≤ 17 → f ≤ 17 → g ≤ 2 → h ≤ 9 → i ≤ 4 → a + b + c + d + e + f + g + h + i ≤ 75
-sum_bound a b c d e f g h i ha hb hc hd he hf hg hh hi = omega arith
-
-size_at : (e : Extension) (w : ExtensionValues) → size_of (value_bytes e w) ≤ longest e + 1
-size_at e w = size_fits (longest e) (value_bytes e w) (value_fits e w)
-
-size_bound : (w : ExtensionValues) → size w ≤ 75
-size_bound w =
-    sum_bound _ _ _ _ _ _ _ _ _ (size_at AudioLevel w) (size_at AbsoluteSendTime w) (size_at TransportSequenceNumber w) (size_at RtpMid w) (size_at RtpStreamId w) (size_at RepairedRtpStreamId w) (size_at VideoOrientation w) (size_at AbsoluteCaptureTime w) (size_at PlayoutDelay w)
-
-size_split : (e : Extension) (w : ExtensionValues) → size w ≡ size_of (value_bytes e w) + size (without e w)
-size_split AudioLevel w = omega arith
-size_split AbsoluteSendTime w = omega arith
-size_split TransportSequenceNumber w = omega arith
-size_split RtpMid w = omega arith
-size_split RtpStreamId w = omega arith
-size_split RepairedRtpStreamId w = omega arith
-size_split VideoOrientation w = omega arith
-size_split AbsoluteCaptureTime w = omega arith
-size_split PlayoutDelay w = omega arith
-
-size_at_id : (p : Option Extension) (w : ExtensionValues) → size w ≡ size_of (bytes_at p w) + size (left_after p w)
-size_at_id None w = omega arith
-size_at_id (Some e) w = size_split e w
-
-length-element : (id : ℕ) (bytes : Option (List ℕ)) → length (flat_map element_bytes (element_at id bytes)) ≡ size_of bytes
-length-element id None = refl
-length-element id (Some bytes) = omega (arith, length-append bytes [])
-
-elements_bound : (ids : List ℕ) (exts : ExtensionMap) (w : ExtensionValues) → length (flat_map element_bytes (written_elements ids exts w)) ≤ size w
-unfolding written_elements
-elements_bound [] exts w = omega arith
-elements_bound (id ∷ ids) exts w =
-    let p : Option Extension = named_by exts id in
-    let first : List (ℕ × List ℕ) = element_at id (bytes_at p w) in
-    let rest : List (ℕ × List ℕ) = written_elements ids exts (left_after p w) in
-    let parts : length (flat_map element_bytes (first ++ rest)) ≡ length (flat_map element_bytes first) + length (flat_map element_bytes rest) = ap length (flat_map-append element_bytes first rest) ∙ length-append (flat_map element_bytes first) (flat_map element_bytes rest) in
-    joined_bound _ _ _ _ _ _ parts (length-element id (bytes_at p w)) (elements_bound ids exts (left_after p w)) (size_at_id p w)
-  where
-    joined_bound : (all a b s t whole : ℕ) → all ≡ a + b → a ≡ s → b ≤ t → whole ≡ s + t → all ≤ whole
-    joined_bound all a b s t whole e f g h = omega arith
-
-pub data_bound : (exts : ExtensionMap) (values : ExtensionValues) → length (written_data exts values) ≤ 75
-unfolding written_data
-data_bound exts values = omega (arith, elements_bound written_ids exts values, size_bound values)
-
--- elements that are written are read again, with the zeros that fill them up
-
-abbrev IsElement : ℕ × List ℕ → Type 0
-IsElement e = (1 ≤ e.0) × (e.0 ≤ 14) × (1 ≤ length e.1) × (length e.1 ≤ 16)
-
-abbrev IsId : ℕ → Type 0
-IsId id = (1 ≤ id) × (id ≤ 14)
-
-longest_bound : (e : Extension) → longest e ≤ 16
-longest_bound AudioLevel = omega arith
-longest_bound AbsoluteSendTime = omega arith
-longest_bound TransportSequenceNumber = omega arith
-longest_bound RtpMid = omega arith
-longest_bound RtpStreamId = omega arith
-longest_bound RepairedRtpStreamId = omega arith
-longest_bound VideoOrientation = omega arith
-longest_bound AbsoluteCaptureTime = omega arith
-longest_bound PlayoutDelay = omega arith
-
-element_fits : (id n : ℕ) (bytes : Option (List ℕ)) (rest : List (ℕ × List ℕ)) → IsId id → n ≤ 16 → FitsIn n bytes → AllByRecursion IsElement rest → AllByRecursion IsElement (element_at id bytes ++ rest)
-element_fits id n None rest i h f r = r
-element_fits id n (Some bytes) rest i h f r = ((i.0, i.1, f.0, omega arith), r)
-
-elements_fit_at : (id : ℕ) (ids : List ℕ) (exts : ExtensionMap) (p : Option Extension) (w : ExtensionValues) → IsId id → AllByRecursion IsElement (written_elements ids exts (left_after p w)) → AllByRecursion IsElement (element_at id (bytes_at p w) ++ written_elements ids exts (left_after p w))
-elements_fit_at id ids exts None w i r = r
-elements_fit_at id ids exts (Some e) w i r = element_fits id (longest e) (value_bytes e w) _ i (longest_bound e) (value_fits e w) r
-
-elements_fit : (ids : List ℕ) (exts : ExtensionMap) (w : ExtensionValues) → AllByRecursion IsId ids → AllByRecursion IsElement (written_elements ids exts w)
-unfolding written_elements
-elements_fit [] exts w h = tt
-elements_fit (id ∷ ids) exts w h = elements_fit_at id ids exts (named_by exts id) w h.0 (elements_fit ids exts (left_after (named_by exts id) w) h.1)
-
-ids_are : (n id : ℕ) → 1 ≤ id → id + n ≤ 15 → AllByRecursion IsId (range_with_len id n)
-ids_are zero id low high = tt
-ids_are (suc n) id low high = ((low, omega arith), ids_are n (id + 1) (omega arith) (omega arith))
-
-zeros_read : (k : ℕ) → one_byte_elements 0 (replicate k 0) ≡ []
-zeros_read zero = unfold one_byte_elements in refl
-zeros_read (suc k) = one_padding (replicate k 0) ∙ zeros_read k
-
-same_element : (id n : ℕ) (bytes : List ℕ) (m : ℕ) (more : List ℕ) (es fs : List (ℕ × List ℕ)) → m ≡ id → more ≡ bytes → es ≡ fs → (m, more) ∷ es ≡ (id, bytes) ∷ fs
-same_element id n bytes m more es fs p q r = cc
-
-element_again : (id : ℕ) (bytes tail : List ℕ) (es : List (ℕ × List ℕ)) → 1 ≤ id → id ≤ 14 → 1 ≤ length bytes → length bytes ≤ 16 → one_byte_elements 0 tail ≡ es → one_byte_elements 0 ((id * 16 + (length bytes - 1)) ∷ bytes ++ tail) ≡ (id, bytes) ∷ es
-element_again id bytes tail es low high some few e =
-    let b : ℕ = id * 16 + (length bytes - 1) in
-    let n_is : b % 16 + 1 ≡ length bytes = omega arith in
-    one_element b (bytes ++ tail) (omega arith) (omega arith) (omega (arith, n_is, length-append bytes tail))
-    ∙ same_element id 0 bytes _ _ _ _ (omega arith) (ap (λ (k : ℕ). take k (bytes ++ tail)) n_is ∙ take_at bytes tail (length bytes) refl) (ap (λ (k : ℕ). one_byte_elements 0 (drop k (bytes ++ tail))) n_is ∙ ap (one_byte_elements 0) (drop_at bytes tail (length bytes) refl) ∙ e)
-
-elements_again : (es : List (ℕ × List ℕ)) (k : ℕ) → AllByRecursion IsElement es → one_byte_elements 0 (flat_map element_bytes es ++ replicate k 0) ≡ es
-elements_again [] k h = zeros_read k
-elements_again (e ∷ es) k h =
-    ap (λ (l : List ℕ). one_byte_elements 0 ((e.0 * 16 + (length e.1 - 1)) ∷ l)) (append_assoc e.1 (flat_map element_bytes es) (replicate k 0))
-    ∙ element_again e.0 e.1 (flat_map element_bytes es ++ replicate k 0) es h.0.0 h.0.1 h.0.2 h.0.3 (elements_again es k h.1)
-
--- the data that is written has the values as their wire form holds them, whatever zeros follow it
-pub data_again : (exts : ExtensionMap) (values : ExtensionValues) (k : ℕ) → values_of exts 48862 (written_data exts values ++ replicate k 0) ≡ written_values exts values
-unfolding values_of written_data
-data_again exts values k =
-    ap (with_elements exts no_values) (elements_again (written_elements written_ids exts values) k (elements_fit written_ids exts values (ids_are 14 1 (omega arith) (omega arith))))
-    ∙ elements_hold exts values
-
--- without values nothing is written
-
-no_bytes : (p : Option Extension) → bytes_at p no_values ≡ None
-no_bytes None = refl
-no_bytes (Some AudioLevel) = refl
-no_bytes (Some other) = refl
-
-none_left : (p : Option Extension) → left_after p no_values ≡ no_values
-none_left None = refl
-none_left (Some AudioLevel) = refl
-none_left (Some other) = refl
-
-no_elements : (ids : List ℕ) (exts : ExtensionMap) → written_elements ids exts no_values ≡ []
-unfolding written_elements
-no_elements [] exts = refl
-no_elements (id ∷ ids) exts =
-    let p : Option Extension = named_by exts id in
-    ap (λ (o : Option (List ℕ)). element_at id o ++ written_elements ids exts (left_after p no_values)) (no_bytes p)
-    ∙ ap (written_elements ids exts) (none_left p)
-    ∙ no_elements ids exts
-
-pub no_data : (exts : ExtensionMap) → written_data exts no_values ≡ []
-unfolding written_data
-no_data exts = ap (flat_map element_bytes) (no_elements written_ids exts)

@@ -1,0 +1,3 @@
+pub mod HoleLaws
+pub mod Lasting
+pub mod Sides

@@ -1,0 +1,111 @@
+ghost use Rattle.std.specs.Prelude.{◌≡◌, ◌+◌, ◌<◌, ◌≤◌, ◌^◌, true, IfSome, []};
+ghost use Rattle.repair_core.specs.Fresh.{is_fresh};
+ghost use Rattle.repair_core.specs.Rounds.{Heard, taken, came};
+ghost use Rattle.red_core.specs.Known.{with_known, LastAreKnown};
+ghost use Rattle.red_core.specs.Placing.{place_of};
+
+use crate::holes::place_between;
+use crate::known::{KnownNumber, above, below, is_at};
+use arrayvec::ArrayVec;
+use repair_core::GapWindow;
+use rtp_base::SeqNo;
+use std::marker::Model;
+
+// How many packets back a block may be placed.
+const MAX_DEPTH: u64 = 8;
+
+/// The last 32 numbers that were taken on a stream, and their times. Contracts see the list of
+/// them, the last one first. No call takes memory.
+#[derive(Debug, Drop)]
+pub struct RedMemory {
+    known: ArrayVec<KnownNumber, 32>,
+}
+
+impl Model for RedMemory {
+    ghost use Rattle.std.specs.Prelude.{List};
+    ghost use Rattle.red_core.specs.Known.{Known};
+
+    ghost Value = { List Known };
+
+    ghost view = { λ m. m.known.items };
+}
+
+impl RedMemory {
+    /// A memory of no number.
+    pub fn new() -> Self
+        ensures { result ≡ [] }
+    {
+        RedMemory {
+            known: ArrayVec::new(),
+        }
+    }
+
+    /// Forgets all numbers, as where the SSRC of the stream changes.
+    pub fn clear(&mut self)
+        ensures { self.new ≡ [] }
+    {
+        self.known.clear();
+    }
+
+    /// Remembers a number of the stream that its window took, below 2^48, and its time, widened,
+    /// in ticks of the RTP clock. What was known before the last 32 is forgotten. Moves at most 32
+    /// entries.
+    pub fn took(&mut self, number: SeqNo, time: u64)
+        requires { number < 2 ^ 48 }
+        ensures { self.new ≡ with_known self.old (record { number = number; time = time }) }
+    {
+        self.known.truncate(31);
+        self.known.insert(0, KnownNumber::new(number, time));
+    }
+
+    /// A block was placed: the window takes its number, below 2^48, which is then neither asked
+    /// for nor taken again, and its number and time are known. No other block of that time has a
+    /// place then.
+    pub fn recovered<W: GapWindow>(&mut self, window: &mut W, number: SeqNo, time: u64)
+        requires { number < 2 ^ 48 }
+        ensures known { self.new ≡ with_known self.old (record { number = number; time = time }) }
+        ensures window { (past : Heard) → W.remembers window.old past
+            → W.remembers window.new (came past number) }
+    {
+        window.update(number);
+        self.took(number, time);
+    }
+
+    /// The number of a redundant block (RFC 2198 section 3) of this time, widened, that came in a
+    /// datagram that was taken under this number. None where a known number has that time, and
+    /// where it cannot be told. It is between L, the greatest of the known numbers with an earlier
+    /// time, and U, the least with a later time: the only number there that the window may still
+    /// take, or of several the one at the block's time, where times rise from L to U by whole and
+    /// equal steps, if it may still be taken. L is 0 to 9 below the datagram, and the number 0 to
+    /// 8. At most 32 entries are looked at, and each number from L to U: at most 8 where the
+    /// datagram is known with a later time.
+    pub fn place<W: GapWindow>(&self, window: &W, datagram: SeqNo, time: u64) -> Option<SeqNo>
+        ensures place { (past : Heard) → W.remembers window.now past
+            → result ≡ place_of self.now (taken past) datagram time }
+        ensures fresh { (past : Heard) → W.remembers window.now past
+            → IfSome result (λ p. is_fresh (taken past) p ≡ true) }
+        ensures near { IfSome result (λ p. (p ≤ datagram) × (datagram ≤ p + 8)) }
+    {
+        let datagram = u64::from(datagram);
+        let known = self.known.as_slice();
+        if is_at(known, time) {
+            return None;
+        }
+        let low = below(known, time)?;
+        let high = above(known, time)?;
+        if low.number() > datagram || datagram - low.number() > MAX_DEPTH + 1 {
+            return None;
+        }
+        let place = place_between(window, low, high, time)?;
+        if place <= datagram && datagram - place <= MAX_DEPTH {
+            Some(SeqNo::from(place))
+        } else {
+            None
+        }
+    }
+}
+
+/// A memory that is told of numbers in turn knows the last 32 of them all.
+pub fn last_32_are_known()
+    ensures { LastAreKnown }
+{}

@@ -1,0 +1,12 @@
+pub mod Due
+pub mod Exchange
+pub mod LastReport
+pub mod Loss
+pub mod Moments
+pub mod Receiver
+pub mod Sender
+pub mod Stats
+pub mod Times
+pub mod Traffic
+pub mod Trip
+pub mod TxStats
