@@ -1,9 +1,11 @@
+pub mod Arrivals
 pub mod Lending
 pub mod LendingStreams
 pub mod Missing
 pub mod Pauses
 pub mod Queue
 pub mod Repairing
+pub mod Reporting
 pub mod RxRecord
 pub mod RxRepairs
 pub mod Sealing

@@ -48,8 +48,3 @@ nack_of sender now e = nack_with sender e.1.state.ssrc (packed None (due_of now 
 -- the items of a round, in order of the streams
 abbrev pub nacks : ℕ → ℕ → List (ℕ × RxRecord) → List Rtcp
 nacks sender now rs = flat_map (nack_of sender now) rs
-
--- an item that asks, with at most six entries
-abbrev pub IsShortNack : Rtcp → Type 0
-IsShortNack (Nack n) = length n.reports ≤ 6
-IsShortNack _ = ⊥

@@ -15,7 +15,7 @@ use Rattle.stream_core.specs.declared.transport.Transport.{Transport}
 use Rattle.stream_core.specs.Queue.{next_of}
 use Rattle.stream_core.specs.Sealing.{with_sealing, with_values}
 use Rattle.stream_core.specs.Tables.{value_under, change_at}
-use Rattle.stream_core.specs.TxRecord.{TxRecord, receipt_of, polled, after_poll}
+use Rattle.stream_core.specs.TxRecord.{TxRecord, receipt_of, polled, after_poll, after_resend}
 
 -- a packet that was sent and may be sent again, and the payload type of its repairs
 pub record SentPacket : Type 0 where
@@ -96,7 +96,7 @@ pub data Keeps (types : List (ℕ × TypeRow)) (now : ℕ) (p : RtpPacket) (q : 
 pub data Polls (types : List (ℕ × TypeRow)) (t : Transport) (now : ℕ) (x : TxRecord) : Option RepairsRecord → TxRecord → Option RepairsRecord → Option PacketReceipt → Type 0 where
   without : Polls types t now x None (after_poll x) None (polled x t now)
   again : (ssrc : ℕ) (q after : RepairsRecord) (receipt : PacketReceipt) → x.rtx ≡ Some ssrc → Repairs t now ssrc x q after (Some receipt)
-      → Polls types t now x (Some q) x (Some after) (Some receipt)
+      → Polls types t now x (Some q) (after_resend receipt x) (Some after) (Some receipt)
   first : (ssrc : ℕ) (q between after : RepairsRecord) (p : RtpPacket) → x.rtx ≡ Some ssrc → Repairs t now ssrc x q between None → next_of x.queue ≡ Some p
       → Keeps types now p between after → Polls types t now x (Some q) (after_poll x) (Some after) (Some (receipt_of x t now p))
   nothing : (ssrc : ℕ) (q after : RepairsRecord) → x.rtx ≡ Some ssrc → Repairs t now ssrc x q after None → next_of x.queue ≡ None

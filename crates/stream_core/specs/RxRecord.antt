@@ -5,11 +5,15 @@ use Rattle.repair_core.specs.Fresh.{is_fresh, greatest_of}
 use Rattle.rtp_base.specs.declared.window.SeqNoWindow.{SeqNoWindow}
 use Rattle.repair_core.specs.Rounds.{Heard, started_at, came, taken}
 use Rattle.rtx_core.specs.Repairs.{RepairPast, Remembers as RepairsRemember}
+use Rattle.stream_core.specs.declared.reports.Arrival.{Arrival}
+use Rattle.stream_core.specs.declared.reports.RxReports.{RxReports}
+use Rattle.stream_core.specs.Arrivals.{no_rx_reports, with_arrival}
 
 -- all of an incoming stream but its window: its SSRC and that of its repairs, the media section and the stream in it; the
 -- rollover count that the next datagram is taken to have, if one was set; whether it asks for nothing that is missing; how
 -- long nothing comes on it until it is paused; from which moment on it is paused unless something comes, None while it is
--- paused; whether it was paused or unpaused since that was told; and the round trip to its sender, where one is known
+-- paused; whether it was paused or unpaused since that was told; the round trip to its sender, where one is known; and what it
+-- keeps for its reports
 pub record RxState : Type 0 where
   pub ssrc : ℕ
   pub rtx : Option ℕ
@@ -21,6 +25,7 @@ pub record RxState : Type 0 where
   pub pause_at : Option ℕ
   pub untold : Bool
   pub trip : Option ℕ
+  pub reports : RxReports
 
 -- an incoming stream as its callers see it: the windows of its packets and of its repairs
 pub record RxView (W : Type 0) : Type 0 where
@@ -49,6 +54,7 @@ expected ssrc rtx mid rid suppressed threshold = record {
     pause_at = None;
     untold = false;
     trip = None;
+    reports = no_rx_reports;
   };
   numbers = None;
   repairs = None;
@@ -82,13 +88,12 @@ unpaused now s = record s {
   untold = s.untold || is_none s.pause_at;
 }
 
--- a packet opened at a moment: a rollover count that was set is used up
-abbrev pub came_at : ℕ → RxState → RxState
-came_at now s = record (unpaused now s) { roc = None }
+-- a packet opened under this number: a rollover count that was set is used up
+abbrev pub came_at : Arrival → ℕ → RxState → RxState
+came_at a n s = record (unpaused a.now s) { roc = None; reports = with_arrival a n s.reports }
 
--- a packet opened under this number at a moment
-abbrev pub opened_as : Option ℕ → ℕ → ℕ → RxRecord → RxRecord
-opened_as remembered now n r = record r { state = came_at now r.state; numbers = Some (came (heard remembered r) n) }
+abbrev pub opened_as : Option ℕ → Arrival → ℕ → RxRecord → RxRecord
+opened_as remembered a n r = record r { state = came_at a n r.state; numbers = Some (came (heard remembered r) n) }
 
 -- the numbers are forgotten, those of the repairs too, and a rollover count was set
 abbrev pub restarted : ℕ → RxRecord → RxRecord

@@ -4,6 +4,8 @@ use Rattle.rtp_base.specs.Widen.{widen16}
 use Rattle.repair_core.specs.Fresh.{is_fresh, greatest_of}
 use Rattle.repair_core.specs.Rounds.{came}
 use Rattle.rtx_core.specs.Repairs.{repair_number, is_fresh_repair, repair_opened}
+use Rattle.stream_core.specs.declared.reports.Arrival.{Arrival}
+use Rattle.stream_core.specs.Arrivals.{with_arrival, with_late}
 use Rattle.stream_core.specs.RxRecord.{RxRecord, heard, taken_of, unpaused}
 
 -- a repair's own number with these low 16 bits: near the greatest repair that was taken, before the first one near the
@@ -29,11 +31,16 @@ abbrev pub restored : Option ℕ → RxRecord → ℕ → Option ℕ
 restored remembered r low =
     if is_fresh (taken_of remembered r) (restored_for remembered r low) then Some (restored_for remembered r low) else None
 
--- the number is taken, if there is one
-abbrev pub with_packet : Option ℕ → Option ℕ → RxRecord → RxRecord
-with_packet remembered None r = r
-with_packet remembered (Some n) r = record r { numbers = Some (came (heard remembered r) n) }
+-- a number is taken
+abbrev pub with_number : Option ℕ → ℕ → RxRecord → RxRecord
+with_number remembered n r = record r { numbers = Some (came (heard remembered r) n) }
+
+-- a packet came in a repair: its number is taken, if it is fresh, and else it enters the jitter alone
+abbrev pub with_packet : Option ℕ → Arrival → Option ℕ → RxRecord → RxRecord
+with_packet remembered a None r = record r { state = record r.state { reports = with_late a r.state.reports } }
+with_packet remembered a (Some n) r =
+    with_number remembered n (record r { state = record r.state { reports = with_arrival a n r.state.reports } })
 
 -- the stream after the packet was restored
-abbrev pub after_restored : Option ℕ → ℕ → RxRecord → RxRecord
-after_restored remembered low r = with_packet remembered (restored remembered r low) r
+abbrev pub after_restored : Option ℕ → Arrival → ℕ → RxRecord → RxRecord
+after_restored remembered a low r = with_packet remembered a (restored remembered r low) r

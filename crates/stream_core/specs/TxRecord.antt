@@ -7,13 +7,15 @@ use Rattle.rtp_wire.specs.declared.header.RtpHeader.{RtpHeader}
 use Rattle.rtp_wire.specs.Header.{header_bytes}
 use Rattle.stream_core.specs.declared.packet.RtpPacket.{RtpPacket}
 use Rattle.stream_core.specs.declared.stream_tx.PacketReceipt.{PacketReceipt}
+use Rattle.stream_core.specs.declared.reports.TxReports.{TxReports}
 use Rattle.stream_core.specs.declared.transport.Transport.{Transport}
+use Rattle.stream_core.specs.Arrivals.{no_tx_reports, with_write, with_first_of, with_repair}
 use Rattle.stream_core.specs.Queue.{needs_tick, with_stamp, next_of, rest_of}
 use Rattle.stream_core.specs.Sealing.{sealed_values, with_values, after_packet}
 use Rattle.stream_core.specs.Write.{WriteRecord, packet_of}
 
 -- an outgoing stream: its SSRC and that of its repairs, the media section and the stream in it, whether the peer has
--- acknowledged its SSRC, and the packets that wait, in order
+-- acknowledged its SSRC, the packets that wait, in order, and what it keeps for its reports
 pub record TxRecord : Type 0 where
   pub ssrc : ℕ
   pub rtx : Option ℕ
@@ -21,14 +23,15 @@ pub record TxRecord : Type 0 where
   pub rid : Option (List ℕ)
   pub acknowledged : Bool
   pub queue : List RtpPacket
+  pub reports : TxReports
 
 -- a stream on which nothing was written
 abbrev pub declared : ℕ → Option ℕ → List ℕ → Option (List ℕ) → TxRecord
-declared ssrc rtx mid rid = record { ssrc = ssrc; rtx = rtx; mid = mid; rid = rid; acknowledged = false; queue = [] }
+declared ssrc rtx mid rid = record { ssrc = ssrc; rtx = rtx; mid = mid; rid = rid; acknowledged = false; queue = []; reports = no_tx_reports }
 
 -- a write puts its packet behind those that wait
 abbrev pub written : WriteRecord → TxRecord → TxRecord
-written w r = record r { queue = r.queue ++ packet_of r.ssrc w ∷ [] }
+written w r = record r { queue = r.queue ++ packet_of r.ssrc w ∷ []; reports = with_write w.time w.wallclock r.reports }
 
 -- a tick stamps each packet that has no stamp
 abbrev pub after_timeout : ℕ → TxRecord → TxRecord
@@ -69,10 +72,14 @@ polled r t now = option_map (receipt_of r t now) (next_of r.queue)
 
 -- the stream and the transport after that
 abbrev pub after_poll : TxRecord → TxRecord
-after_poll r = record r { queue = rest_of r.queue }
+after_poll r = record r { queue = rest_of r.queue; reports = with_first_of (next_of r.queue) r.reports }
 
 abbrev pub transport_after_poll : TxRecord → Transport → Transport
 transport_after_poll r t = if is_some (next_of r.queue) then after_packet t else t
+
+-- the stream after a packet was sent again
+abbrev pub after_resend : PacketReceipt → TxRecord → TxRecord
+after_resend p r = record r { reports = with_repair p r.reports }
 
 -- a packet that may be sealed: its number has 48 bits, of which its header has the low 16, and its plain is the header and
 -- at most 1,402 bytes behind it

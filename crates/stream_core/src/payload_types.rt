@@ -4,6 +4,7 @@ ghost use Rattle.indexmap.specs.IndexMap.{insert_entry};
 ghost use Rattle.stream_core.specs.Tables.{place_of};
 ghost use Rattle.stream_core.specs.declared.payload_types.TypeRow.{TypeRow as Row};
 ghost use Rattle.stream_core.specs.Repairing.{rtx_type_of, primary_type_of, ArePrimaries};
+ghost use Rattle.stream_core.specs.Reporting.{clock_under};
 
 use indexmap::IndexMap;
 use indexmap::map::Iter;
@@ -119,6 +120,14 @@ impl PayloadTypes {
     {
         let place = self.rows.get_index_of(&pt)?;
         self.rows[place].rtx
+    }
+
+    /// The clock of a type's RTP times: one look-up in a hash table.
+    pub fn clock(&self, pt: Pt) -> Option<Frequency>
+        ensures { result ≡ clock_under self.now pt }
+    {
+        let place = self.rows.get_index_of(&pt)?;
+        Some(self.rows[place].clock)
     }
 
     /// The first type whose packets have repairs of a type: one look-up in an array. None where it is no

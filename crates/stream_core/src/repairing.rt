@@ -229,7 +229,10 @@ pub(crate) fn poll_both<S: ResendStore<Sent>>(
         → (after : RepairsRecord) × Stays now (Some r) (Some after) × RepairsStandFor S.stands_for repairs.new after)) }
 {
     match poll_repair(alloc, stream, ssrc, repairs, now, transport) {
-        Ok(Some(receipt)) => return Ok(Some(receipt)),
+        Ok(Some(receipt)) => {
+            stream.count_resend(&receipt);
+            return Ok(Some(receipt));
+        }
         Ok(None) => {}
         Err(error) => return Err(error),
     }

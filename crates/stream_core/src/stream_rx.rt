@@ -5,12 +5,17 @@ ghost use Rattle.repair_core.specs.Entries.{packed};
 ghost use Rattle.repair_core.specs.Rounds.{came, started_at};
 ghost use Rattle.stream_core.specs.Missing.{is_enabled, due_of, after_round};
 ghost use Rattle.stream_core.specs.Pauses.{checked, told_of, told};
+ghost use Rattle.report_core.specs.Receiver.{receiver_report_of};
+ghost use Rattle.stream_core.specs.Reporting.{report_at, is_report_due, block_at, reported, with_news};
 ghost use Rattle.stream_core.specs.RxRecord.{RxRecord, StandsFor, expected, taken_of, number_for, fresh_number, unpaused, came_at, opened_as, restarted};
-ghost use Rattle.stream_core.specs.RxRepairs.{own_number, fresh_repair, repair_came, restored_for, restored, with_packet, after_restored};
+ghost use Rattle.stream_core.specs.RxRepairs.{own_number, fresh_repair, repair_came, restored_for, restored, with_number, after_restored};
 
+use crate::reports::{Arrival, RxReports};
 use crate::stream_paused::StreamPaused;
 use media_base::{Duration, Instant};
 use repair_core::GapWindow;
+use report_core::{LastSenderReport, ReportIntervals, receiver_report};
+use rtcp_wire::{ReceiverReport, SenderInfo};
 use rtp_base::{Mid, MidRid, NackEntry, ReportList, Rid, SeqNo, Ssrc, widen16};
 use rtx_core::RepairWindow;
 use std::alloc::{AllocError, Global};
@@ -37,6 +42,7 @@ pub struct StreamRx<W: GapWindow> {
     untold: bool,
     // The round trip to its sender.
     trip: Option<Duration>,
+    reports: RxReports,
     window: Option<W>,
     repairs: RepairWindow,
 }
@@ -58,6 +64,7 @@ impl<W: GapWindow> Model for StreamRx<W> {
         pause_at = s.pause_at;
         untold = s.untold;
         trip = s.trip;
+        reports = s.reports;
       };
       window = s.window;
       repairs = s.repairs;
@@ -124,6 +131,7 @@ impl<W: GapWindow> StreamRx<W> {
             pause_at: None,
             untold: false,
             trip: None,
+            reports: RxReports::new(),
             window: None,
             repairs: RepairWindow::new(),
         }
@@ -224,7 +232,7 @@ impl<W: GapWindow> StreamRx<W> {
     fn put(&mut self, number: SeqNo, remembered: Option<SeqNo>) -> Result<(), AllocError>
         requires number { number < 2 ^ 48 }
         requires remembered { ForSome remembered (λ n. n < 2 ^ 48) }
-        ensures ok { OnOk result ((r : RxRecord) → StandsFor W.remembers self.old r → StandsFor W.remembers self.new (with_packet remembered (Some number) r)) }
+        ensures ok { OnOk result ((r : RxRecord) → StandsFor W.remembers self.old r → StandsFor W.remembers self.new (with_number remembered number r)) }
         ensures state { self.new.state ≡ self.old.state }
         ensures err { OnErr result (self.new ≡ self.old) }
     {
@@ -247,23 +255,24 @@ impl<W: GapWindow> StreamRx<W> {
         self.pause_at = Some(now.saturating_add(self.pause_threshold));
     }
 
-    /// Takes a number under which a datagram opened at a moment: the stream is not paused until its
-    /// threshold has passed. Without memory nothing changes.
+    /// Takes a number under which a datagram opened: the stream is not paused until its threshold has
+    /// passed. Without memory nothing changes.
     pub fn take(
         &mut self,
-        now: Instant,
+        arrival: &Arrival,
         number: SeqNo,
         remembered: Option<SeqNo>,
     ) -> Result<(), AllocError>
         requires number { number < 2 ^ 48 }
         requires remembered { ForSome remembered (λ n. n < 2 ^ 48) }
-        ensures ok { OnOk result ((r : RxRecord) → StandsFor W.remembers self.old r → StandsFor W.remembers self.new (opened_as remembered now number r)) }
-        ensures state { OnOk result (self.new.state ≡ came_at now self.old.state) }
+        ensures ok { OnOk result ((r : RxRecord) → StandsFor W.remembers self.old r → StandsFor W.remembers self.new (opened_as remembered arrival.now number r)) }
+        ensures state { OnOk result (self.new.state ≡ came_at arrival.now number self.old.state) }
         ensures err { OnErr result (self.new ≡ self.old) }
     {
         self.put(number, remembered)?;
-        self.unpause(now);
+        self.unpause(arrival.now);
         self.roc = None;
+        self.reports.arrived(number, arrival);
         Ok(())
     }
 
@@ -320,26 +329,29 @@ impl<W: GapWindow> StreamRx<W> {
     }
 
     /// Takes the number of the packet that a repair repairs, and gives it: the payload of the repair
-    /// begins with its low 16 bits (RFC 4588 section 4). None where it is not fresh, and then nothing
-    /// changes. Without memory nothing changes.
+    /// begins with its low 16 bits (RFC 4588 section 4). None where it is not fresh: the packet then enters
+    /// the jitter alone. Without memory nothing changes.
     pub fn restore(
         &mut self,
         low: u16,
+        arrival: &Arrival,
         remembered: Option<SeqNo>,
     ) -> Result<Option<SeqNo>, AllocError>
         requires { ForSome remembered (λ n. n < 2 ^ 48) }
         ensures restored { IfOk result (λ o. (r : RxRecord) → StandsFor W.remembers self.old r → o ≡ restored remembered r low) }
-        ensures after { OnOk result ((r : RxRecord) → StandsFor W.remembers self.old r → StandsFor W.remembers self.new (after_restored remembered low r)) }
-        ensures state { self.new.state ≡ self.old.state }
+        ensures after { OnOk result ((r : RxRecord) → StandsFor W.remembers self.old r → StandsFor W.remembers self.new (after_restored remembered arrival.now low r)) }
+        ensures state { self.new.state ≡ record self.old.state { reports = self.new.state.reports } }
         ensures small { IfOk result (λ o. IfSome o (λ n. n < 2 ^ 48)) }
         ensures low { IfOk result (λ o. IfSome o (λ n. n % 65536 ≡ low)) }
         ensures err { OnErr result (self.new ≡ self.old) }
     {
         let number = self.restored_number(low, &remembered);
         if !self.is_fresh(number, &remembered) {
+            self.reports.came_late(arrival);
             return Ok(None);
         }
         self.put(number, remembered)?;
+        self.reports.arrived(number, arrival);
         Ok(Some(number))
     }
 
@@ -450,5 +462,64 @@ impl<W: GapWindow> StreamRx<W> {
             }
         }
         reports
+    }
+
+    /// When its next report is due, at the latest at the last moment, 2^64 - 1 ns. Without an SSRC of
+    /// repairs it counts as sound.
+    pub fn receiver_report_at(&self, intervals: &ReportIntervals) -> Instant
+        ensures { result ≡ report_at intervals.now self.now.state }
+    {
+        self.reports.clock.due_at(intervals, self.rtx.is_some())
+    }
+
+    /// Whether its report is due at a moment.
+    pub fn needs_report(&self, intervals: &ReportIntervals, now: Instant) -> bool
+        ensures { result ≡ is_report_due intervals.now now self.now.state }
+    {
+        self.reports.clock.is_due(intervals, self.rtx.is_some(), now)
+    }
+
+    /// Its report at a moment (RFC 3550 section 6.4.2): how it is received, or nothing of it where no
+    /// packet came on it. The fraction lost is that since the report before. Without memory nothing
+    /// changes.
+    pub fn create_report(
+        &mut self,
+        alloc: Global,
+        sender_ssrc: Ssrc,
+        now: Instant,
+    ) -> Result<ReceiverReport, AllocError>
+        ensures report { IfOk result (λ x. (r : RxRecord) → StandsFor W.remembers self.old r → x ≡ receiver_report_of sender_ssrc (block_at now r)) }
+        ensures after { OnOk result ((r : RxRecord) → StandsFor W.remembers self.old r → StandsFor W.remembers self.new (reported now r)) }
+        ensures state { self.new.state ≡ record self.old.state { reports = self.new.state.reports } }
+        ensures short { IfOk result (λ x. length x.reports ≤ 1) }
+        ensures err { OnErr result (self.new ≡ self.old) }
+    {
+        let greatest = match &self.window {
+            Some(window) => window.max_seq(),
+            None => None,
+        };
+        let mut counts = self.reports.counts;
+        let block = match counts.report(greatest) {
+            Some(counted) => Some(self.reports.news.block(self.ssrc, &counted, now)),
+            None => None,
+        };
+        let report = receiver_report(alloc, sender_ssrc, block)?;
+        self.reports.counts = counts;
+        self.reports.clock.report(now);
+        Ok(report)
+    }
+
+    /// Its sender reported, and that came at a moment (RFC 3550 section 6.4.1).
+    pub fn handle_sender_info(&mut self, info: &SenderInfo, now: Instant)
+        ensures { self.new ≡ record self.old { state = with_news info.now now self.old.state } }
+    {
+        self.reports.news.take(*info, now);
+    }
+
+    /// What its sender reported last, None before it did.
+    pub fn last_sender_report(&self) -> Option<LastSenderReport>
+        ensures { result ≡ self.now.state.reports.news.last }
+    {
+        self.reports.news.last
     }
 }

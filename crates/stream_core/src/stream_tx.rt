@@ -7,11 +7,15 @@ ghost use Rattle.stream_core.specs.Sealing.{sealed_values};
 
 use crate::packet::RtpPacket;
 use crate::payload::Payload;
+use crate::payload_types::PayloadTypes;
+use crate::reports::TxReports;
 use crate::send_queue::SendQueue;
 use crate::transport::Transport;
 use crate::write::{RtpWrite, WriteError};
-use media_base::{Bytes, Instant};
+use media_base::{Beginning, Bytes, Instant};
 use pace_units::QueueSnapshot;
+use report_core::{ReportIntervals, RtpClock, sender_info};
+use rtcp_wire::SenderInfo;
 use rtp_base::{Mid, MidRid, ReceptionReport, Rid, SeqNo, Ssrc};
 use rtp_wire::{ExtensionMap, ExtensionValues, RtpHeader};
 use std::alloc::{AllocError, Global};
@@ -47,6 +51,7 @@ pub struct StreamTx {
     rid: Option<Rid>,
     acknowledged: bool,
     queue: SendQueue,
+    reports: TxReports,
 }
 
 impl Model for StreamTx {
@@ -54,7 +59,7 @@ impl Model for StreamTx {
 
     ghost Value = { TxRecord };
 
-    ghost view = { λ s. record { ssrc = s.ssrc; rtx = s.rtx; mid = s.mid; rid = s.rid; acknowledged = s.acknowledged; queue = s.queue } };
+    ghost view = { λ s. record { ssrc = s.ssrc; rtx = s.rtx; mid = s.mid; rid = s.rid; acknowledged = s.acknowledged; queue = s.queue; reports = s.reports } };
 }
 
 /// The header and its length, and the header's bytes with bytes behind them, and the payload behind those.
@@ -91,7 +96,8 @@ pub(crate) fn receipt(
 }
 
 impl StreamTx {
-    ghost use Rattle.stream_core.specs.TxRecord.{declared, written, after_timeout, after_reception, IsTooBig, IsTooLong, Fits, polled, after_poll, transport_after_poll, IsSealable};
+    ghost use Rattle.stream_core.specs.TxRecord.{declared, written, after_timeout, after_reception, IsTooBig, IsTooLong, Fits, polled, after_poll, after_resend, transport_after_poll, IsSealable};
+    ghost use Rattle.stream_core.specs.Reporting.{rtp_clock_of, sender_info_at, tx_report_at, is_tx_report_due, tx_reported, with_kind};
 
     /// A stream of an SSRC and of that of its repairs, for a media section or one stream of it, on which
     /// nothing was written.
@@ -105,6 +111,7 @@ impl StreamTx {
             rid: mid_rid.1,
             acknowledged: false,
             queue: SendQueue::new(alloc),
+            reports: TxReports::new(),
         }
     }
 
@@ -154,8 +161,13 @@ impl StreamTx {
         if write.payload_len() > MAX_PAYLOAD_LEN {
             return Err(WriteError::PayloadTooLong);
         }
+        let time = write.time();
+        let wallclock = write.wallclock();
         match self.queue.push(write.into_packet(self.ssrc)) {
-            Ok(()) => Ok(()),
+            Ok(()) => {
+                self.reports.wrote(time, wallclock);
+                Ok(())
+            }
             Err(_) => Err(WriteError::Memory),
         }
     }
@@ -226,11 +238,85 @@ impl StreamTx {
         Ok(Some(receipt))
     }
 
-    /// Takes that packet out, if there is one.
+    /// Takes that packet out, if there is one, and counts it as sealed.
     pub(crate) fn pop_packet(&mut self)
         ensures { self.new ≡ after_poll self.old }
     {
+        if let Some(packet) = self.queue.peek() {
+            self.reports.sealed(packet);
+        }
         self.queue.pop();
+    }
+
+    /// Counts a packet that is sent again as sealed.
+    pub(crate) fn count_resend(&mut self, repair: &PacketReceipt)
+        ensures { self.new ≡ after_resend repair.now self.old }
+    {
+        self.reports.resent(repair);
+    }
+
+    /// What tells its RTP time: its last write, and the clock of the type that was last sealed for the
+    /// first time. At most one look-up in a hash table.
+    fn rtp_clock(&self, types: &PayloadTypes) -> RtpClock
+        ensures { result ≡ rtp_clock_of types.now self.now }
+    {
+        let clock = match self.reports.sealed_type {
+            Some(pt) => types.clock(pt),
+            None => None,
+        };
+        RtpClock {
+            written: self.reports.written,
+            clock,
+        }
+    }
+
+    /// What it says of itself at a moment (RFC 3550 section 6.4.1): its packets and bytes are those that
+    /// were sealed, repairs among them.
+    pub fn sender_info(
+        &self,
+        types: &PayloadTypes,
+        now: Instant,
+        beginning: &Beginning,
+    ) -> SenderInfo
+        ensures { result ≡ sender_info_at types.now now beginning.now self.now }
+    {
+        let clock = self.rtp_clock(types);
+        sender_info(self.ssrc, &clock, &self.reports.sent, now, beginning)
+    }
+
+    /// When its next report is due; before its kind was told it is a moment that never comes.
+    pub fn sender_report_at(&self, intervals: &ReportIntervals) -> Instant
+        ensures { result ≡ tx_report_at intervals.now self.now }
+    {
+        self.reports.clock.due_at(intervals)
+    }
+
+    /// Whether its report is due at a moment: never before its kind was told.
+    pub fn needs_report(&self, intervals: &ReportIntervals, now: Instant) -> bool
+        ensures { result ≡ is_tx_report_due intervals.now now self.now }
+    {
+        self.reports.clock.is_due(intervals, now)
+    }
+
+    /// It reported at a moment.
+    pub fn reported(&mut self, now: Instant)
+        ensures { self.new ≡ tx_reported now self.old }
+    {
+        self.reports.clock.report(now);
+    }
+
+    /// Whether it is of sound, None before that was told.
+    pub fn is_audio(&self) -> Option<bool>
+        ensures { result ≡ self.now.reports.clock.is_audio }
+    {
+        self.reports.clock.is_audio
+    }
+
+    /// Tells whether it is of sound or of pictures.
+    pub fn tell_kind(&mut self, is_audio: bool)
+        ensures { self.new ≡ with_kind is_audio self.old }
+    {
+        self.reports.clock.tell(is_audio);
     }
 
     /// What is to be sealed next of a stream without repairs: the packet at the front of those that wait,

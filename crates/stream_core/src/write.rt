@@ -145,6 +145,20 @@ impl RtpWrite {
         self.seq_no
     }
 
+    /// Its RTP time, in ticks of its type's clock.
+    pub fn time(&self) -> u32
+        ensures { result ≡ self.now.time }
+    {
+        self.time
+    }
+
+    /// The moment to which that time belongs.
+    pub fn wallclock(&self) -> Instant
+        ensures { result ≡ self.now.wallclock }
+    {
+        self.wallclock
+    }
+
     /// The bytes of its payload.
     pub fn payload_len(&self) -> usize
         ensures { result ≡ length self.now.payload }

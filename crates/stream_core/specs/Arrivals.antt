@@ -1,0 +1,45 @@
+-- What streams count of their packets for reports.
+use Rattle.std.specs.Prelude.{ℕ, ◌+◌, ◌-◌, true, List, length, Option, Some, None, unwrap_or}
+use Rattle.std.specs.Option.{option_map}
+use Rattle.repair_core.specs.Counts.{no_counts, counted, after_point}
+use Rattle.repair_core.specs.declared.jitter.TimePoint.{TimePoint}
+use Rattle.report_core.specs.LastReport.{no_news}
+use Rattle.report_core.specs.Traffic.{no_traffic, with_packet}
+use Rattle.stream_core.specs.declared.packet.RtpPacket.{RtpPacket}
+use Rattle.stream_core.specs.declared.reports.Arrival.{Arrival}
+use Rattle.stream_core.specs.declared.reports.RxReports.{RxReports}
+use Rattle.stream_core.specs.declared.reports.TxReports.{TxReports}
+use Rattle.stream_core.specs.declared.stream_tx.PacketReceipt.{PacketReceipt}
+
+-- when a packet came, for the jitter
+abbrev pub point_of : Arrival → TimePoint
+point_of a = record { arrival = a.now; rtp_time = a.rtp_time; clock_rate = a.clock }
+
+-- an incoming stream on which nothing came and that never reported
+abbrev pub no_rx_reports : RxReports
+no_rx_reports = record { counts = no_counts; clock = record { last = 0 }; news = no_news }
+
+-- a packet came under a fresh number
+abbrev pub with_arrival : Arrival → ℕ → RxReports → RxReports
+with_arrival a n x = record x { counts = counted n true (point_of a) x.counts }
+
+-- a packet came under a number that is not fresh: it enters the jitter alone
+abbrev pub with_late : Arrival → RxReports → RxReports
+with_late a x = record x { counts = after_point (point_of a) x.counts }
+
+-- an outgoing stream on which nothing was written, of a kind that was not told
+abbrev pub no_tx_reports : TxReports
+no_tx_reports = record { clock = record { last = 0; is_audio = None }; written = None; sealed_type = None; sent = no_traffic }
+
+-- a packet was written with this RTP time, which its media had at a moment
+abbrev pub with_write : ℕ → ℕ → TxReports → TxReports
+with_write time wallclock x = record x { written = Some (record { rtp_time = time; wallclock = wallclock }) }
+
+-- a packet is sealed for the first time, if there is one
+abbrev pub with_first_of : Option RtpPacket → TxReports → TxReports
+with_first_of None x = x
+with_first_of (Some p) x = record x { sealed_type = Some p.header.payload_type; sent = with_packet (length p.payload) x.sent }
+
+-- a packet is sent again: its payload stands behind the header and the two bytes of the original number (RFC 4588 section 4)
+abbrev pub with_repair : PacketReceipt → TxReports → TxReports
+with_repair p x = record x { sent = with_packet (length p.plain - (p.header.header_len + 2)) x.sent }
