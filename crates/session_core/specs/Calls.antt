@@ -1,5 +1,5 @@
 -- What the calls of a session answer, and what they leave.
-use Rattle.std.specs.Prelude.{◌≡◌, ◌+◌, ◌==◌, ◌&&◌, ◌||◌, ℕ, Bool, true, false, not, is_none, if◌then◌else◌, List, [], ◌∷◌, ◌++◌, map, find, Option, Some, None}
+use Rattle.std.specs.Prelude.{◌≡◌, ◌+◌, ◌==◌, ◌&&◌, ◌||◌, ℕ, Bool, true, false, not, is_none, if◌then◌else◌, List, [], ◌∷◌, ◌++◌, map, Option, Some, None}
 use Rattle.std.specs.Option.{option_map, option_to_list}
 use Rattle.std.specs.Cmp.Lexicographic.{pointwise}
 use Rattle.rtp_base.specs.Ids.{halved}
@@ -16,7 +16,8 @@ use Rattle.stream_core.specs.Tables.{each}
 use Rattle.session_core.specs.declared.config.SessionConfig.{SessionConfig}
 use Rattle.session_core.specs.declared.datagram.Event.{Event}
 use Rattle.session_core.specs.declared.datagram.Event.TheVariants as event
-use Rattle.session_core.specs.SessionRecord.{MediaRecord, SessionState, SessionView, SessionRecord}
+use Rattle.session_core.specs.SessionRecord.{SessionState, SessionView, SessionRecord}
+use Rattle.session_core.specs.Reports.{reports_at}
 use Rattle.session_core.specs.Rounds.{round_at, send_at}
 use Rattle.session_core.specs.Sending.{has_mid}
 
@@ -42,6 +43,8 @@ fresh_session config = record {
     transport = record { exts = config.exts; beginning = config.beginning; twcc = 0 };
     last_round = 0;
     released = false;
+    intervals = config.intervals;
+    moments = [];
     feedback = [];
     application = None;
     packet = None;
@@ -115,13 +118,10 @@ Polled r (Some e) after = (told r ≡ e ∷ told after) × (after_events after �
 abbrev pub with_feedback : Rtcp → SessionState → SessionState
 with_feedback x s = record s { feedback = s.feedback ++ x ∷ [] }
 
--- when a tick is wanted: for a round, to pause a stream, and at once where some packet was written since the last one
+-- when a tick is wanted: for reports, for a round, to pause a stream, and at once where some packet was written since the last
+-- one
 abbrev pub wake_of : SessionRecord → Option ℕ
-wake_of r = sooner (round_at r) (sooner (sooner (first_pause r.rx) r.probes.state.pause_at) (send_at r.state))
-
--- the first media section of a mid
-abbrev pub media_of : List ℕ → List MediaRecord → Option MediaRecord
-media_of mid medias = find (λ m. pointwise ◌==◌ m.mid mid) medias
+wake_of r = sooner (reports_at r) (sooner (round_at r) (sooner (sooner (first_pause r.rx) r.probes.state.pause_at) (send_at r.state)))
 
 abbrev pub is_app : List ℕ → Option (List ℕ × ℕ) → Bool
 is_app mid None = false

@@ -3,8 +3,10 @@ pub mod Draining
 pub mod Feedback
 pub mod Hearing
 pub mod LendingStreams
+pub mod Medias
 pub mod Receiving
 pub mod Repairs
+pub mod Reports
 pub mod Rounds
 pub mod Sending
 pub mod SessionRecord

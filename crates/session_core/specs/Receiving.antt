@@ -10,9 +10,11 @@ use Rattle.srtp_core.specs.Contexts.{SrtpState}
 use Rattle.srtp_core.specs.Seals.{OpensTo}
 use Rattle.stream_core.specs.declared.packet.RtpPacket.{RtpPacket}
 use Rattle.stream_core.specs.RxRecord.{RxRecord, fresh_number, opened_as}
+use Rattle.stream_core.specs.Reporting.{clock_under}
 use Rattle.stream_core.specs.StreamsRecord.{accepted, restored_on, restored_number_on}
 use Rattle.stream_core.specs.Tables.{value_under, place_of, change_at}
 use Rattle.stream_core.specs.declared.payload_types.TypeRow.{TypeRow}
+use Rattle.stream_core.specs.declared.reports.Arrival.{Arrival}
 use Rattle.session_core.specs.declared.datagram.Opened.{Opened}
 use Rattle.stream_core.specs.Seen.{seen_of, saw}
 use Rattle.stream_core.specs.RxRepairs.{repair_came, after_restored}
@@ -28,11 +30,16 @@ abbrev pub number_of : Option ℕ → List (ℕ × RxRecord) → RxRecord → �
 number_of remembered rx probes ssrc low = if ssrc == 0 then fresh_number remembered probes low else accepted remembered rx ssrc low
 
 -- the incoming streams after a datagram opened
-abbrev pub rx_opened : Option ℕ → ℕ → ℕ → ℕ → List (ℕ × RxRecord) → List (ℕ × RxRecord)
-rx_opened remembered now ssrc n rx = if ssrc == 0 then rx else change_at ssrc (opened_as remembered now n) rx
+abbrev pub rx_opened : Option ℕ → Arrival → ℕ → ℕ → List (ℕ × RxRecord) → List (ℕ × RxRecord)
+rx_opened remembered a ssrc n rx = if ssrc == 0 then rx else change_at ssrc (opened_as remembered a n) rx
 
-abbrev pub probes_opened : Option ℕ → ℕ → ℕ → ℕ → RxRecord → RxRecord
-probes_opened remembered now ssrc n probes = if ssrc == 0 then opened_as remembered now n probes else probes
+abbrev pub probes_opened : Option ℕ → Arrival → ℕ → ℕ → RxRecord → RxRecord
+probes_opened remembered a ssrc n probes = if ssrc == 0 then opened_as remembered a n probes else probes
+
+-- how a packet of this header came at a moment: the clock of a type that is not known has one tick in a second
+abbrev pub arrival_of : List (ℕ × TypeRow) → ℕ → RtpHeader → Arrival
+arrival_of types now h =
+    record { now = now; rtp_time = h.timestamp; clock = unwrap_or (clock_under types h.payload_type) 1 }
 
 -- where its padding bit is set, the payload ends in padding (RFC 3550 section 5.1)
 abbrev pub Unpads : RtpHeader → List ℕ → Type 0
@@ -84,9 +91,9 @@ after_opened now h n payload r = record {
   state = record r.state {
     packet = packet_after now h n (cut h payload) r.state.packet;
   };
-  rx = rx_opened (seen_of h.ssrc r.seen) now h.ssrc n r.rx;
+  rx = rx_opened (seen_of h.ssrc r.seen) (arrival_of r.state.types now h) h.ssrc n r.rx;
   originals = r.originals;
-  probes = probes_opened (seen_of h.ssrc r.seen) now h.ssrc n r.probes;
+  probes = probes_opened (seen_of h.ssrc r.seen) (arrival_of r.state.types now h) h.ssrc n r.probes;
   seen = saw h.ssrc n r.seen;
   repairs = r.repairs;
 }
@@ -110,7 +117,7 @@ after_original now h original low payload r = record r {
   state = record r.state {
     packet = packet_restored r.state.types now h original payload (restored_on (seen_of original r.seen) r.rx original low) r.state.packet;
   };
-  rx = change_at original (after_restored (seen_of original r.seen) low) r.rx;
+  rx = change_at original (after_restored (seen_of original r.seen) (arrival_of r.state.types now (restored_header r.state.types original low h)) low) r.rx;
   seen = option_map_or (λ n. saw original n r.seen) (restored_number_on (seen_of original r.seen) r.rx original low) r.seen;
 }
 

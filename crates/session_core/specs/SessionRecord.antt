@@ -16,6 +16,8 @@ use Rattle.stream_core.specs.declared.payload_types.TypeRow.{TypeRow}
 use Rattle.stream_core.specs.Repairing.{SentPacket, RepairsView, RepairsRecord, RepairsStandFor}
 use Rattle.stream_core.specs.StreamsRecord.{StreamsRecord}
 use Rattle.resend_core.specs.ResendStore.{Past}
+use Rattle.report_core.specs.declared.clock.ReportIntervals.{ReportIntervals}
+use Rattle.report_core.specs.declared.moments.ReceiverMoment.{ReceiverMoment}
 
 -- a media section: its mid, its kind, and the canonical name of its sources
 pub record MediaRecord : Type 0 where
@@ -29,8 +31,9 @@ pub record MediaRecord : Type 0 where
 -- contexts that seal and open, once there are keys; the index of the first SRTCP datagram under the keys that are set next;
 -- the outgoing streams, each under its SSRC, and what they share; the
 -- moment of the last round in which it asked for what is missing, at first 0; whether there was a tick since a poll gave no
--- packet, so that packets that are asked for may leave; the feedback that waits to be sent; the
--- feedback of an application and the packet that came and wait to be told; and whether an error stopped it
+-- packet, so that packets that are asked for may leave; after how long the next report of a stream is due, and the moments of
+-- receivers that wait for an answer; the feedback that waits to be sent; the feedback of an application and the packet that came
+-- and wait to be told; and whether an error stopped it
 pub record SessionState : Type 0 where
   pub id : ℕ
   pub target : ℕ
@@ -46,6 +49,8 @@ pub record SessionState : Type 0 where
   pub transport : Transport
   pub last_round : ℕ
   pub released : Bool
+  pub intervals : ReportIntervals
+  pub moments : List ReceiverMoment
   pub feedback : List Rtcp
   pub application : Option AppSpecificFeedback
   pub packet : Option RtpPacket

@@ -1,4 +1,7 @@
 ghost use Rattle.std.specs.Prelude.{◌≡◌};
+ghost use Rattle.std.specs.Option.{option_copied};
+ghost use Rattle.session_core.specs.Medias.{media_of};
+ghost use Rattle.session_core.specs.Reports.{is_sound};
 
 use media_base::Bytes;
 use rtp_base::Mid;
@@ -11,6 +14,18 @@ pub enum MediaKind {
     Audio,
     /// Pictures.
     Video,
+}
+
+impl MediaKind {
+    /// Whether it is heard.
+    pub fn is_audio(self) -> bool
+        ensures { result ≡ is_sound self }
+    {
+        match self {
+            MediaKind::Audio => true,
+            MediaKind::Video => false,
+        }
+    }
 }
 
 /// A media section (RFC 8866 section 5.14). Contracts see the record of its mid, its kind and its CNAME.
@@ -58,4 +73,11 @@ impl Media {
     {
         self.cname.as_slice()
     }
+}
+
+/// The first media section of a mid. The time grows with the number of media sections.
+pub fn media_of(medias: &[Media], mid: Mid) -> Option<&Media>
+    ensures { option_copied result ≡ media_of mid medias.now }
+{
+    medias.iter().find(|media| media.mid() == mid)
 }

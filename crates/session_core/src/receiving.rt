@@ -4,7 +4,7 @@ ghost use Rattle.srtp_core.specs.Seals.{OpensTo};
 ghost use Rattle.stream_core.specs.RxRecord.{RxRecord, StandsFor};
 ghost use Rattle.stream_core.specs.StreamsRecord.{StreamsRecord, StandsFor as StreamsStand};
 ghost use Rattle.stream_core.specs.Tables.{place_of};
-ghost use Rattle.session_core.specs.Receiving.{Unpads, OpensIn, IsOpening, cut, number_of, rx_opened, probes_opened, is_claimed, packet_from, packet_after};
+ghost use Rattle.session_core.specs.Receiving.{Unpads, OpensIn, IsOpening, cut, number_of, rx_opened, probes_opened, is_claimed, packet_from, packet_after, arrival_of};
 ghost use Rattle.session_core.specs.Repairs.{original_number};
 
 use media_base::{Bytes, Instant};
@@ -15,7 +15,7 @@ use rtp_wire::RtpHeader;
 use srtp_core::laws::rtp_opens_once;
 use srtp_core::{SrtpCipher, SrtpContext};
 use std::alloc::{AllocError, Global};
-use stream_core::{Payload, PayloadTypes, RtpPacket, Sent, StreamRx, Streams};
+use stream_core::{Arrival, Payload, PayloadTypes, RtpPacket, Sent, StreamRx, Streams};
 
 /// What bytes opened to.
 #[derive(Debug, Drop)]
@@ -158,11 +158,24 @@ pub fn accepts<W: GapWindow, S: ResendStore<Sent>>(
     }
 }
 
-/// Has the stream at a place, or with none that of SSRC 0, take a number under which a datagram opened at
-/// a moment.
+/// How a packet of this header came at a moment: the clock of a type that is not known has one tick in a
+/// second.
+pub fn arrival(types: &PayloadTypes, now: Instant, header: &RtpHeader) -> Arrival
+    ensures { result ≡ arrival_of types.now now header.now }
+{
+    Arrival {
+        now,
+        rtp_time: header.timestamp,
+        clock: types
+            .clock(header.payload_type)
+            .unwrap_or(Frequency::SECONDS),
+    }
+}
+
+/// Has the stream at a place, or with none that of SSRC 0, take a number under which a datagram opened.
 pub fn take<W: GapWindow, S: ResendStore<Sent>>(
     place: Option<usize>,
-    now: Instant,
+    arrival: &Arrival,
     number: SeqNo,
     remembered: &Option<SeqNo>,
     streams: &mut Streams<W, S>,
@@ -173,9 +186,9 @@ pub fn take<W: GapWindow, S: ResendStore<Sent>>(
     requires remembered { ForSome remembered.now (λ n. n < 2 ^ 48) }
     ensures rx { OnOk result ((r : StreamsRecord) (ssrc : ℕ) → StreamsStand W.remembers S.stands_for streams.old r
         → is_none place ≡ (ssrc == 0) → IfSome place (λ i. place_of ssrc streams.old.rx ≡ Some i)
-        → StreamsStand W.remembers S.stands_for streams.new (record r { rx = rx_opened remembered.now now ssrc number r.rx })) }
+        → StreamsStand W.remembers S.stands_for streams.new (record r { rx = rx_opened remembered.now arrival.now ssrc number r.rx })) }
     ensures probes { OnOk result ((p : RxRecord) (ssrc : ℕ) → StandsFor W.remembers probes.old p → is_none place ≡ (ssrc == 0)
-        → StandsFor W.remembers probes.new (probes_opened remembered.now now ssrc number p)) }
+        → StandsFor W.remembers probes.new (probes_opened remembered.now arrival.now ssrc number p)) }
     ensures tx { streams.new.tx ≡ streams.old.tx }
     ensures repairs { streams.new.repairs ≡ streams.old.repairs }
     ensures threshold { streams.new.threshold ≡ streams.old.threshold }
@@ -183,8 +196,8 @@ pub fn take<W: GapWindow, S: ResendStore<Sent>>(
     ensures err { OnErr result ((streams.new ≡ streams.old) × (probes.new ≡ probes.old)) }
 {
     match place {
-        Some(place) => streams.take_at(place, now, number, *remembered)?,
-        None => probes.take(now, number, *remembered)?,
+        Some(place) => streams.take_at(place, arrival, number, *remembered)?,
+        None => probes.take(arrival, number, *remembered)?,
     }
     Ok(())
 }

@@ -5,16 +5,16 @@ ghost use Rattle.std.specs.Option.{option_map};
 ghost use Rattle.stream_core.specs.Seen.{SeenStandsFor};
 ghost use Rattle.stream_core.specs.StreamsRecord.{StreamsRecord, StandsFor as StreamsStand};
 ghost use Rattle.stream_core.specs.Tables.{place_of, value_under};
-ghost use Rattle.session_core.specs.Receiving.{packet_restored};
+ghost use Rattle.session_core.specs.Receiving.{arrival_of, packet_restored};
 ghost use Rattle.session_core.specs.Repairs.{is_known, original_under, repaired_by, repair_accepted, restored_header};
 
-use crate::receiving::packet_from;
+use crate::receiving::{arrival, packet_from};
 use media_base::Instant;
 use repair_core::GapWindow;
 use resend_core::ResendStore;
 use rtp_base::{Pt, SeqNo, Ssrc};
 use rtp_wire::RtpHeader;
-use stream_core::{Payload, PayloadTypes, RtpPacket, Seen, Sent, Streams};
+use stream_core::{Arrival, Payload, PayloadTypes, RtpPacket, Seen, Sent, Streams};
 
 /// Whether both ends know a type, as one of packets or of repairs.
 fn is_known(types: &PayloadTypes, pt: Pt) -> bool
@@ -116,6 +116,17 @@ fn restored_header(
         restored.payload_type = pt;
     }
     restored
+}
+
+/// How the packet that a repair restores came at a moment, by the clock of its type.
+pub fn restored_arrival(types: &PayloadTypes, now: Instant, header: &RtpHeader) -> Arrival
+    ensures { (original low : ℕ) → result ≡ arrival_of types.now now (restored_header types.now original low header.now) }
+{
+    let mut restored = *header;
+    if let Some(pt) = types.primary(header.payload_type) {
+        restored.payload_type = pt;
+    }
+    arrival(types, now, &restored)
 }
 
 /// Has the packet that a repair restored wait to be told, where its number is fresh.

@@ -3,7 +3,8 @@ ghost use Rattle.std.specs.Option.{option_copied};
 ghost use Rattle.srtp_core.specs.Contexts.{new_state};
 ghost use Rattle.srtp_core.specs.Keys.{material_len};
 ghost use Rattle.session_core.specs.SessionRecord.{StandsFor};
-ghost use Rattle.session_core.specs.Calls.{fresh_session, probe_mid, media_of, has_media, has_other_mid, has_other_place};
+ghost use Rattle.session_core.specs.Medias.{media_of};
+ghost use Rattle.session_core.specs.Calls.{fresh_session, probe_mid, has_media, has_other_mid, has_other_place};
 
 mod drains;
 mod events;
@@ -13,10 +14,11 @@ mod ticks;
 
 use crate::config::SessionConfig;
 use crate::error::{AppError, RtcError};
-use crate::media::Media;
+use crate::media::{Media, media_of};
 use crate::sending::has_mid;
 use media_base::{Instant, already_happened};
 use repair_core::GapWindow;
+use report_core::{ReceiverMoments, ReportIntervals};
 use resend_core::ResendStore;
 use rtcp_wire::{AppSpecificFeedback, Rtcp};
 use rtp_base::{Mid, MidRid, SessionId, Ssrc};
@@ -54,6 +56,10 @@ pub struct Session<C: SrtpCipher, W: GapWindow, S: ResendStore<Sent>> {
     last_round: Instant,
     // Whether what peers asked for may leave: there was a tick since a poll gave no packet.
     released: bool,
+    // How long after a report of a stream the next one is due.
+    intervals: ReportIntervals,
+    // The moments of receivers that wait for an answer.
+    moments: ReceiverMoments,
     feedback: VecDeque<Rtcp>,
     application: Option<AppSpecificFeedback>,
     packet: Option<RtpPacket>,
@@ -84,6 +90,8 @@ impl<C: SrtpCipher, W: GapWindow, S: ResendStore<Sent>> Model for Session<C, W, 
         transport = s.transport;
         last_round = s.last_round;
         released = s.released;
+        intervals = s.intervals;
+        moments = s.moments;
         feedback = s.feedback.items;
         application = s.application;
         packet = s.packet;
@@ -173,6 +181,8 @@ impl<C: SrtpCipher, W: GapWindow, S: ResendStore<Sent>> Session<C, W, S> {
             },
             last_round: already_happened(),
             released: false,
+            intervals: config.intervals,
+            moments: ReceiverMoments::new(alloc),
             feedback: VecDeque::new(alloc),
             application: None,
             packet: None,
@@ -287,7 +297,7 @@ impl<C: SrtpCipher, W: GapWindow, S: ResendStore<Sent>> Session<C, W, S> {
     pub fn media_by_mid(&self, mid: Mid) -> Option<&Media>
         ensures { option_copied result ≡ media_of mid self.now.state.medias }
     {
-        self.medias.iter().find(|media| media.mid() == mid)
+        media_of(self.medias.as_slice(), mid)
     }
 
     /// Whether there are keys.

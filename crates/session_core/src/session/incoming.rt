@@ -15,8 +15,9 @@ use crate::datagram::Opened;
 use crate::error::RtcError;
 use crate::feedback::sender;
 use crate::hearing::{RtcpOpening, ask_all, feedback_in, hear, last_delay, measure, open_rtcp};
-use crate::receiving::{Opening, accepts, is_claimed, open, put_packet, take};
-use crate::restoring::{accepts_repair, put_restored, repaired_by};
+use crate::receiving::{Opening, accepts, arrival, is_claimed, open, put_packet, take};
+use crate::reporting::{hear_senders, take_moments};
+use crate::restoring::{accepts_repair, put_restored, repaired_by, restored_arrival};
 use media_base::{Bytes, Instant, InstantExt};
 use repair_core::GapWindow;
 use resend_core::ResendStore;
@@ -125,7 +126,8 @@ impl<C: SrtpCipher, W: GapWindow, S: ResendStore<Sent>> Session<C, W, S> {
     {
         let greatest = self.seen.get(original);
         let number = self.streams.restored_number_at(place, low, &greatest);
-        let fresh = self.streams.restore_at(place, low, greatest)?;
+        let came = restored_arrival(&self.types, now, header);
+        let fresh = self.streams.restore_at(place, low, &came, greatest)?;
         self.seen.put(original, number)?;
         put_restored(
             now,
@@ -233,7 +235,7 @@ impl<C: SrtpCipher, W: GapWindow, S: ResendStore<Sent>> Session<C, W, S> {
         };
         take(
             found.0,
-            now,
+            &arrival(&self.types, now, header),
             number,
             &remembered,
             &mut self.streams,
@@ -252,7 +254,8 @@ impl<C: SrtpCipher, W: GapWindow, S: ResendStore<Sent>> Session<C, W, S> {
 
     /// Takes in an RTCP datagram that came, and tells what it opened to: its NACKs ask for packets that were
     /// sent, which may leave again after the next tick, its reception blocks acknowledge streams without
-    /// repairs, its last item that tells how long ago a moment of this session came in gives the round
+    /// repairs, its sender reports are kept for the reports of their streams, its moments of receivers wait
+    /// for an answer, its last item that tells how long ago a moment of this session came in gives the round
     /// trip of the incoming streams, its last feedback of an application is told by `poll_event`. None
     /// where it does not open, and then nothing changes: where it is shorter than a packet of 8 bytes and
     /// what seals it, where its tag does not hold, and without keys. One that comes again opens again. The
@@ -273,7 +276,10 @@ impl<C: SrtpCipher, W: GapWindow, S: ResendStore<Sent>> Session<C, W, S> {
         ensures latch { self.new.state.stopped ≡ self.old.state.stopped || is_err result }
         ensures unchanged { IsErrOf result Stopped → self.new ≡ self.old }
         ensures memory { self.old.state.stopped ≡ false → IfErr result (λ e. e ≡ Memory) }
-        ensures failed { IsErrOf result Memory → self.new ≡ record self.old { state = stopped_from self.old.state; repairs = self.new.repairs } }
+        ensures failed { IsErrOf result Memory → self.new ≡ record self.old {
+          state = record (stopped_from self.old.state) { moments = self.new.state.moments };
+          repairs = self.new.repairs;
+        } }
     {
         if self.stopped {
             return Err(RtcError::Stopped);
@@ -292,7 +298,7 @@ impl<C: SrtpCipher, W: GapWindow, S: ResendStore<Sent>> Session<C, W, S> {
             → (after : SessionRecord) × ReceivesRtcp C.meaning r bytes.now now after opened × StandsFor W.remembers S.stands_for self.new after) }
         ensures unopened { IfOk result (λ opened. IfNone opened (self.new ≡ self.old)) }
         ensures runs { self.new.state.stopped ≡ self.old.state.stopped }
-        ensures err { OnErr result (self.new ≡ record self.old { repairs = self.new.repairs }) }
+        ensures err { OnErr result (self.new ≡ record self.old { state = record self.old.state { moments = self.new.state.moments }; repairs = self.new.repairs }) }
     {
         let Some(RtcpOpening { plain, index }) = open_rtcp(&mut self.opening, bytes)? else {
             return Ok(None);
@@ -301,8 +307,10 @@ impl<C: SrtpCipher, W: GapWindow, S: ResendStore<Sent>> Session<C, W, S> {
         let delay = last_delay(self.local_ssrc, &self.streams, feedback.as_slice());
         self.next_stream = 0;
         ask_all(feedback.as_slice(), &mut self.streams, now)?;
+        take_moments(feedback.as_slice(), now, &mut self.moments)?;
         let ntp = now.to_ntp_duration(&self.transport.beginning);
         measure(ntp, &delay, &mut self.streams);
+        hear_senders(feedback.as_slice(), now, &mut self.streams);
         hear(feedback, &mut self.streams, &mut self.application);
         Ok(Some(Opened {
             kind: Kind::Rtcp,

@@ -1,0 +1,232 @@
+//! What a session reports of the streams that it sends (RFC 3550 section 6.4.1), and what it hears of
+//! reports.
+ghost use Rattle.std.specs.Prelude.{◌≡◌, ◌++◌, ◌<◌, ℕ, List, is_some, length, slice_get, Some, IfOk, OnOk, OnErr};
+ghost use Rattle.std.specs.List.{AllByRecursion};
+ghost use Rattle.std.specs.Map.{values_of};
+ghost use Rattle.std.specs.Option.{option_copied, option_map};
+ghost use Rattle.rtcp_wire.specs.declared.packet.Rtcp.{Rtcp as Item};
+ghost use Rattle.stream_core.specs.StreamsRecord.{StreamsRecord, StandsFor};
+ghost use Rattle.stream_core.specs.Tables.{each, change_place};
+ghost use Rattle.stream_core.specs.TxRecord.{TxRecord};
+ghost use Rattle.session_core.specs.Feedback.{FitsAlone};
+ghost use Rattle.session_core.specs.Reports.{
+  description_items,
+  sender_report_items,
+  reports_in,
+  sender_items_with,
+  items_under,
+  sender_after,
+  some_reports,
+  told_kind,
+  rx_heard,
+  moments_heard_by,
+  moments_heard,
+  TickItemsFit,
+};
+
+use crate::media::{Media, media_of};
+use media_base::{Beginning, Instant};
+use repair_core::GapWindow;
+use report_core::{ReceiverMoments, description, sender_report};
+use resend_core::ResendStore;
+use rtcp_wire::{Rtcp, RtcpFb, SenderInfo};
+use rtp_base::{Mid, Ssrc};
+use std::alloc::{AllocError, Global};
+use std::collections::VecDeque;
+use stream_core::{PayloadTypes, Sent, Streams, is_among};
+
+/// The most bytes of the name of a source (RFC 3550 section 6.5).
+const MAX_CNAME_LEN: usize = 255;
+
+/// The media section in which an outgoing stream reports in a tick: its own, where the report of some
+/// stream of that is due.
+fn reports_in<'a>(mids: &[Mid], medias: &'a [Media], mid: Mid) -> Option<&'a Media>
+    ensures { (x : TxRecord) → x.mid ≡ mid → option_copied result ≡ reports_in mids.now medias.now x }
+{
+    if is_among(mid, mids) {
+        media_of(medias, mid)
+    } else {
+        None
+    }
+}
+
+/// Puts the description of a source by its name behind the other items, where that has 1 to 255 bytes.
+fn push_description(
+    alloc: Global,
+    ssrc: Ssrc,
+    cname: &[u8],
+    feedback: &mut VecDeque<Rtcp>,
+) -> Result<(), AllocError>
+    ensures said { OnOk result (feedback.new.items ≡ feedback.old.items ++ description_items ssrc cname.now) }
+    ensures fit { (more : List Item) × (feedback.new.items ≡ feedback.old.items ++ more) × AllByRecursion FitsAlone more }
+{
+    if cname.is_empty() || cname.len() > MAX_CNAME_LEN {
+        return Ok(());
+    }
+    let names = description(alloc, ssrc, cname)?;
+    feedback.push_back(Rtcp::SourceDescription(names))
+}
+
+/// Puts the report of an outgoing stream behind the other items, and the description of its source
+/// behind that.
+fn push_sender_report(
+    alloc: Global,
+    info: SenderInfo,
+    cname: &[u8],
+    feedback: &mut VecDeque<Rtcp>,
+) -> Result<(), AllocError>
+    ensures said { OnOk result (feedback.new.items ≡ feedback.old.items ++ sender_report_items info cname.now) }
+    ensures fit { (more : List Item) × (feedback.new.items ≡ feedback.old.items ++ more) × AllByRecursion FitsAlone more }
+{
+    let ssrc = info.ssrc;
+    let report = sender_report(alloc, info);
+    feedback.push_back(Rtcp::SenderReport(report))?;
+    push_description(alloc, ssrc, cname, feedback)
+}
+
+/// Has the outgoing stream at a place report, where the report of some stream of its media section is due,
+/// and tells whether it did.
+fn report_at<W: GapWindow, S: ResendStore<Sent>>(
+    alloc: Global,
+    streams: &mut Streams<W, S>,
+    place: usize,
+    medias: &[Media],
+    mids: &[Mid],
+    types: &PayloadTypes,
+    beginning: &Beginning,
+    now: Instant,
+    feedback: &mut VecDeque<Rtcp>,
+) -> Result<bool, AllocError>
+    requires { place < length streams.old.tx }
+    ensures some { IfOk result (λ some. option_map (λ x. is_some (reports_in mids.now medias.now x)) (slice_get (values_of streams.old.tx) place) ≡ Some some) }
+    ensures said { OnOk result ((x : TxRecord) → slice_get (values_of streams.old.tx) place ≡ Some x
+        → feedback.new.items ≡ feedback.old.items ++ items_under types.now beginning.now now x (reports_in mids.now medias.now x)) }
+    ensures after { OnOk result (streams.new ≡ record streams.old { tx = change_place (sender_after medias.now now mids.now) streams.old.tx place }) }
+    ensures others { streams.new ≡ record streams.old { tx = streams.new.tx } }
+    ensures fit { (more : List Item) × (feedback.new.items ≡ feedback.old.items ++ more) × AllByRecursion FitsAlone more }
+{
+    let stream = streams.tx(place);
+    let Some(media) = reports_in(mids, medias, stream.mid()) else {
+        return Ok(false);
+    };
+    let info = stream.sender_info(types, now, beginning);
+    push_sender_report(alloc, info, media.cname(), feedback)?;
+    streams.tx_at(place).reported(now);
+    Ok(true)
+}
+
+/// The reports of outgoing streams in a tick, in order, behind the other items: of each of these media
+/// sections the report of some stream is due. Tells whether some stream reported. The time grows with the
+/// number of streams, and with that of the media sections and of those named for each.
+pub fn report_all<W: GapWindow, S: ResendStore<Sent>>(
+    alloc: Global,
+    streams: &mut Streams<W, S>,
+    medias: &[Media],
+    mids: &[Mid],
+    types: &PayloadTypes,
+    beginning: &Beginning,
+    now: Instant,
+    feedback: &mut VecDeque<Rtcp>,
+) -> Result<bool, AllocError>
+    ensures some { IfOk result (λ some. some ≡ some_reports medias.now mids.now streams.old.tx) }
+    ensures said { OnOk result (feedback.new.items ≡ feedback.old.items ++ sender_items_with types.now beginning.now medias.now now mids.now streams.old.tx) }
+    ensures after { OnOk result (streams.new ≡ record streams.old { tx = each (sender_after medias.now now mids.now) streams.old.tx }) }
+    ensures others { streams.new ≡ record streams.old { tx = streams.new.tx } }
+    ensures fit { (more : List Item) × (feedback.new.items ≡ feedback.old.items ++ more) × AllByRecursion FitsAlone more }
+{
+    let mut some = false;
+    for place in 0..streams.tx_len() {
+        let said = report_at(
+            alloc, streams, place, medias, mids, types, beginning, now, feedback,
+        )?;
+        some = some || said;
+    }
+    Ok(some)
+}
+
+/// Tells the outgoing stream at a place its kind, where it was not told and has a media section.
+fn tell_kind<W: GapWindow, S: ResendStore<Sent>>(
+    streams: &mut Streams<W, S>,
+    place: usize,
+    medias: &[Media],
+)
+    requires { place < length streams.old.tx }
+    ensures { streams.new ≡ record streams.old { tx = change_place (told_kind medias.now) streams.old.tx place } }
+{
+    let stream = streams.tx(place);
+    if stream.is_audio().is_some() {
+        return;
+    }
+    if let Some(media) = media_of(medias, stream.mid()) {
+        let is_audio = media.kind().is_audio();
+        streams.tx_at(place).tell_kind(is_audio);
+    }
+}
+
+/// Tells each outgoing stream its kind that was not told it and has a media section. The time grows with
+/// the number of streams.
+pub fn tell_kinds<W: GapWindow, S: ResendStore<Sent>>(
+    streams: &mut Streams<W, S>,
+    medias: &[Media],
+)
+    ensures { streams.new ≡ record streams.old { tx = each (told_kind medias.now) streams.old.tx } }
+{
+    for place in 0..streams.tx_len() {
+        tell_kind(streams, place, medias);
+    }
+}
+
+/// Has the moment of a receiver wait for an answer, where feedback tells one (RFC 3611 section 4.4).
+/// Without memory nothing changes.
+fn take_moment(
+    item: &RtcpFb,
+    now: Instant,
+    moments: &mut ReceiverMoments,
+) -> Result<(), AllocError>
+    ensures ok { OnOk result (moments.new ≡ moments_heard_by now item.now moments.old) }
+    ensures err { OnErr result (moments.new ≡ moments.old) }
+{
+    if let RtcpFb::Rrtr(moment, ssrc) = item {
+        moments.take(*ssrc, moment, now)?;
+    }
+    Ok(())
+}
+
+/// Has the moments of receivers wait for an answer that feedback tells, in order.
+pub fn take_moments(
+    feedback: &[RtcpFb],
+    now: Instant,
+    moments: &mut ReceiverMoments,
+) -> Result<(), AllocError>
+    ensures { OnOk result (moments.new ≡ moments_heard now feedback.now moments.old) }
+{
+    for item in feedback {
+        take_moment(item, now, moments)?;
+    }
+    Ok(())
+}
+
+/// Has incoming streams know what their senders reported (RFC 3550 section 6.4.1).
+pub fn hear_senders<W: GapWindow, S: ResendStore<Sent>>(
+    feedback: &[RtcpFb],
+    now: Instant,
+    streams: &mut Streams<W, S>,
+)
+    ensures streams { (r : StreamsRecord) → StandsFor W.remembers S.stands_for streams.old r
+        → StandsFor W.remembers S.stands_for streams.new (record r { rx = rx_heard now feedback.now r.rx }) }
+    ensures tx { streams.new.tx ≡ streams.old.tx }
+    ensures repairs { streams.new.repairs ≡ streams.old.repairs }
+    ensures threshold { streams.new.threshold ≡ streams.old.threshold }
+    ensures originals { streams.new.originals ≡ streams.old.originals }
+{
+    for item in feedback {
+        if let RtcpFb::SenderInfo(info) = item {
+            streams.handle_sender_info(info, now);
+        }
+    }
+}
+
+/// Each item that a tick queues fits a compound of its own.
+pub fn tick_items_fit()
+    ensures { TickItemsFit }
+{}
