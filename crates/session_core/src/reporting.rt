@@ -64,7 +64,8 @@ fn push_description(
         return Ok(());
     }
     let names = description(alloc, ssrc, cname)?;
-    feedback.push_back(Rtcp::SourceDescription(names))
+    feedback.push_back(Rtcp::SourceDescription(names))?;
+    Ok(())
 }
 
 /// Puts the report of an outgoing stream behind the other items, and the description of its source

@@ -108,7 +108,8 @@ fn push_nack(
         sender_ssrc,
         ssrc,
         reports,
-    }))
+    }))?;
+    Ok(())
 }
 
 /// Puts the report of an incoming stream behind the other items, and the moment of the receiver behind
@@ -126,7 +127,8 @@ fn push_report<W: GapWindow>(
     let moment = moment_report(alloc, tick.sender_ssrc, tick.now, &tick.beginning)?;
     let report = stream.create_report(alloc, tick.sender_ssrc, tick.now)?;
     feedback.push_back(Rtcp::ReceiverReport(report))?;
-    feedback.push_back(Rtcp::ExtendedReport(moment))
+    feedback.push_back(Rtcp::ExtendedReport(moment))?;
+    Ok(())
 }
 
 /// What an incoming stream says in a tick, behind the other items: its report, where it makes one, then
