@@ -1,3 +1,5 @@
+ghost use Rattle.std.specs.Prelude.{◌≡◌};
+
 use red_core::RedMemory;
 use repair_core::{GapWindow, NackRegister};
 use rtp_base::SeqNo;
