@@ -18,6 +18,7 @@ use Rattle.media_model.specs.declared.setup.NamedExtension.{NamedExtension}
 use Rattle.media_model.specs.declared.setup.Cache.{Cache}
 use Rattle.media_model.specs.declared.setup.NamedCache.{NamedCache}
 use Rattle.media_model.specs.declared.setup.NamedStart.{NamedStart}
+use Rattle.media_model.specs.declared.setup.ReportTimes.{ReportTimes}
 use Rattle.media_model.specs.declared.setup.Setup.{Setup}
 use Rattle.media_model.specs.Sides.{same_side}
 
@@ -70,6 +71,10 @@ start_of ssrc setup = option_map_or (λ (s : NamedStart). s.number) (find (start
 -- 2,000 packets, each for 3 s, and 15 hundredths
 abbrev pub default_cache : Cache
 default_cache = record { packets = 2000; age = 3000000000; cap = Some 15 }
+
+-- 5 s for sound, and 1 s for pictures
+abbrev pub default_intervals : ReportTimes
+default_intervals = record { audio = 5000000000; video = 1000000000 }
 
 abbrev pub keeps_on : ℕ → NamedCache → Bool
 keeps_on ssrc named = named.ssrc == ssrc

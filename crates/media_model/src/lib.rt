@@ -17,7 +17,7 @@ pub use first_number::FirstNumber;
 pub use rtp_wire::Kind;
 pub use setup::{
     Cache, CipherName, Codec, Key, Local, Media, MediaKind, Mtu, NamedCache, NamedExtension,
-    NamedStart, PayloadType, Setup, Stream,
+    NamedStart, PayloadType, ReportTimes, Setup, Stream,
 };
 pub use sources::Sources;
 pub use srtcp_index::SrtcpIndex;

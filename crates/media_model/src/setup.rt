@@ -136,6 +136,37 @@ pub struct NamedCache {
     pub cache: Cache,
 }
 
+/// After how long the next report of a stream is due (RFC 3550 section 6.4).
+#[derive(Clone, Copy, Debug, PartialEq, Eq)]
+pub struct ReportTimes {
+    /// For a stream of sound: at most 10^16 ns in a run.
+    pub audio: Duration,
+    /// For a stream of pictures: at most 10^16 ns in a run.
+    pub video: Duration,
+}
+
+impl ReportTimes {
+    /// That of sound where a script says nothing of it, in nanoseconds: 5 s.
+    pub const DEFAULT_AUDIO_NANOS: u64 = 5_000_000_000;
+
+    /// That of pictures where a script says nothing of it, in nanoseconds: 1 s.
+    pub const DEFAULT_VIDEO_NANOS: u64 = 1_000_000_000;
+}
+
+/// Those where a script says nothing of them: 5 s for sound, and 1 s for pictures.
+impl Default for ReportTimes {
+    ghost use Rattle.media_model.specs.Setup.{default_intervals};
+
+    ghost is_default = { λ t. t ≡ default_intervals };
+
+    fn default() -> Self {
+        ReportTimes {
+            audio: Duration::from_nanos(Self::DEFAULT_AUDIO_NANOS),
+            video: Duration::from_nanos(Self::DEFAULT_VIDEO_NANOS),
+        }
+    }
+}
+
 /// A header extension and the id that names it (RFC 8285).
 #[derive(Clone, Copy, Debug, PartialEq, Eq)]
 pub struct NamedExtension {
@@ -179,6 +210,9 @@ pub struct Setup {
     /// A stream that comes counts as paused once no packet of it came for so long: 1.5 s where a
     /// script says nothing of it.
     pub pause_threshold: Duration,
+    /// After how long the next report of a stream is due: 5 s for sound and 1 s for pictures where a
+    /// script says nothing of it.
+    pub intervals: ReportTimes,
     /// What side A alone brings.
     pub a: Local,
     /// What side B alone brings.
