@@ -8,6 +8,7 @@ use Rattle.stream_core.specs.declared.payload_types.TypeRow.{TypeRow}
 use Rattle.stream_core.specs.Repairing.{RepairsRecord}
 use Rattle.stream_core.specs.RxRecord.{RxRecord}
 use Rattle.stream_core.specs.StreamsRecord.{StreamsRecord}
+use Rattle.report_core.specs.declared.clock.ReportIntervals.{ReportIntervals}
 use Rattle.stream_core.specs.TxRecord.{TxRecord}
 use Rattle.session_core.specs.Sending.{has_mid}
 use Rattle.session_core.specs.SessionRecord.{MediaRecord, SessionRecord, streams_in}
@@ -89,6 +90,10 @@ with_streams s r = record r {
 abbrev pub StreamsChange : (StreamsRecord → StreamsRecord) → EndSession → EndSession → Type 0
 StreamsChange f old new = (r : SessionRecord) → SessionStands old r → SessionStands new (with_streams (f (streams_in r)) r)
 
+-- after how long the next report of a stream is due
+abbrev pub intervals_of : Setup → ReportIntervals
+intervals_of setup = record { audio = setup.intervals.audio; video = setup.intervals.video }
+
 -- a session of a side with keys that sends these streams and receives those, on which nothing happened
 pub record Begun (cipher : CipherMeaning) (setup : Setup) (side : Side) (sent received : List Outgoing) (s : SessionRecord) : Type 0 where
   pub seals : s.state.sealing
@@ -108,6 +113,7 @@ pub record Begun (cipher : CipherMeaning) (setup : Setup) (side : Side) (sent re
   pub types : AllZip IsRow s.state.types setup.types
   pub exts : s.state.transport.exts ≡ extensions_of setup
   pub pauses : s.state.pause_threshold ≡ setup.pause_threshold
+  pub intervals : s.state.intervals ≡ intervals_of setup
   pub sends : AllZip (IsIdle s.state.medias) s.state.tx sent
   pub repairs : s.repairs ≡ flat_map kept_in sent
   pub takes : AllZip (IsUnheard setup.pause_threshold) s.rx received
@@ -130,5 +136,6 @@ pub record IsStarted (cipher : CipherMeaning) (setup : Setup) (side : Side) (vie
   pub mirrors : Mirrors cipher (config_of (sealing_of cipher setup) setup) side session (new_session (config_of (sealing_of cipher setup) setup) side)
   pub types : (pt : ℕ) → is_some (place_of pt session.state.types) ≡ has (type_numbers setup) pt
   pub exts : session.state.transport.exts ≡ extensions_of setup
+  pub intervals : session.state.intervals ≡ intervals_of setup
   pub runs : session.state.stopped ≡ false
   pub fit : IsFit (config_of (sealing_of cipher setup) setup)

@@ -27,7 +27,7 @@ use media_base::Bytes;
 use media_model::{Cache, FirstNumber, Media, MediaKind, Setup, Side, Stream};
 use queue_store::QueueStore;
 use rtp_wire::{Frequency, Mid, MidRid, SeqNo, Ssrc};
-use session_core::{Media as Section, MediaKind as SectionKind, Mtu, Session, SessionConfig};
+use session_core::{ReportIntervals, Media as Section, MediaKind as SectionKind, Mtu, Session, SessionConfig};
 use srtp_core::{KeyingMaterial, SrtpCipher};
 use std::alloc::{AllocError, Global};
 use stream_core::{PayloadTypes, Sent, TypeRow};
@@ -98,6 +98,10 @@ fn with_keys<C: SrtpCipher>(
             },
             local_ssrc: setup.local(side).ssrc,
             pause_threshold: setup.pause_threshold,
+            intervals: ReportIntervals {
+                audio: setup.intervals.audio,
+                video: setup.intervals.video,
+            },
             srtcp_index: setup.local(side).srtcp_index.get(),
             exts: setup.extension_map(),
             types: payload_types(alloc, setup)?,

@@ -7,9 +7,7 @@ use media_base::{Beginning, Bytes, Duration, Instant};
 use queue_store::QueueStore;
 use rtp_base::{Frequency, Mid, MidRid, NackEntry, Pt, SeqNo, Ssrc};
 use rtp_wire::ExtensionMap;
-use session_core::{
-    DATAGRAM_MTU, DATAGRAM_MTU_WARN, Datagram, Media, MediaKind, Mtu, Session, SessionConfig,
-};
+use session_core::{DATAGRAM_MTU, DATAGRAM_MTU_WARN, Datagram, Media, MediaKind, Mtu, ReportIntervals, Session, SessionConfig};
 use srtp_core::{KeyingMaterial, SrtpProfile, ToyCipher};
 use std::alloc::{AllocError, Global};
 use stream_core::{Payload, PayloadTypes, RtpWrite, Sent, Streams, TypeRow};
@@ -57,6 +55,10 @@ fn config(alloc: Global) -> Result<SessionConfig, AllocError>
         },
         local_ssrc: Ssrc::from(1),
         pause_threshold: Duration::from_millis(1_500),
+        intervals: ReportIntervals {
+            audio: Duration::from_secs(5),
+            video: Duration::from_secs(1),
+        },
         srtcp_index: 0,
         exts: ExtensionMap::empty(),
         types,

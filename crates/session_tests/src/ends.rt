@@ -5,7 +5,7 @@ use media_base::{Beginning, Bytes, Duration, Instant};
 use queue_store::QueueStore;
 use rtp_base::{Frequency, Mid, MidRid, Pt, Rid, Ssrc};
 use rtp_wire::ExtensionMap;
-use session_core::{Media, MediaKind, Mtu, RtcError, Session, SessionConfig};
+use session_core::{Media, MediaKind, Mtu, ReportIntervals, RtcError, Session, SessionConfig};
 use srtp_core::{KeyingMaterial, SrtpProfile, ToyCipher};
 use std::alloc::Global;
 use stream_core::{PayloadTypes, Sent, TypeRow};
@@ -64,6 +64,10 @@ pub fn config(
         },
         local_ssrc: Ssrc::from(2),
         pause_threshold: Duration::from_millis(1_500),
+        intervals: ReportIntervals {
+            audio: Duration::from_secs(5),
+            video: Duration::from_secs(1),
+        },
         srtcp_index: u64::from(srtcp_index).min(2_147_483_648),
         exts,
         types,

@@ -12,9 +12,7 @@ use media_base::{Beginning, Bytes, Duration, Instant};
 use queue_store::QueueStore;
 use rtp_base::{Frequency, Mid, MidRid, Pt, SeqNo, Ssrc};
 use rtp_wire::{ExtensionMap, written_header_is_read_again};
-use session_core::{
-    DATAGRAM_MTU, DATAGRAM_MTU_WARN, Event, Media, MediaKind, Mtu, RtcError, Session, SessionConfig,
-};
+use session_core::{DATAGRAM_MTU, DATAGRAM_MTU_WARN, Event, Media, MediaKind, Mtu, ReportIntervals, RtcError, Session, SessionConfig};
 use srtp_core::laws::{rtp_seal_keeps_header, rtp_seals_apart};
 use srtp_core::{KeyingMaterial, SrtpProfile, ToyCipher};
 use std::alloc::Global;
@@ -42,6 +40,10 @@ pub fn end(alloc: Global, material: &KeyingMaterial, mid: Mid, left: bool) -> Re
         mtu: Mtu { target, warn },
         local_ssrc: Ssrc::from(1),
         pause_threshold: Duration::from_millis(1_500),
+        intervals: ReportIntervals {
+            audio: Duration::from_secs(5),
+            video: Duration::from_secs(1),
+        },
         srtcp_index: 0,
         exts: ExtensionMap::empty(),
         types,
