@@ -8,7 +8,7 @@ use queue_store::QueueStore;
 use rtp_base::{Frequency, MidRid, Pt, SeqNo, Ssrc};
 use std::alloc::{AllocError, Global};
 use std::test::Fail;
-use stream_core::{PayloadTypes, Sent, StreamRx, Streams, TypeRow};
+use stream_core::{Arrival, PayloadTypes, Sent, StreamRx, Streams, TypeRow};
 
 /// The SSRC under which a repair comes: that of the stream, or that of its repairs.
 #[derive(Clone, Copy, PartialEq, Eq)]
@@ -183,12 +183,20 @@ fn seen_on(side: &Side, on: On) -> Option<u64> {
     }
 }
 
+fn arrival(now: Instant) -> Arrival {
+    Arrival {
+        now,
+        rtp_time: 0,
+        clock: Frequency::SECONDS,
+    }
+}
+
 fn comes(side: &mut Side, low: u16, wanted: Option<u64>) -> Result<bool, AllocError> {
     let remembered = side.main;
     let found = side.stream.accepts(low, seen(&remembered));
     if let Some(number) = &found {
         let now = Instant::from_nanos(1);
-        side.stream.take(now, *number, seen(&remembered))?;
+        side.stream.take(&arrival(now), *number, seen(&remembered))?;
         side.main = greater(&remembered, *number);
     }
     Ok(number_of(found) == wanted)
@@ -210,7 +218,8 @@ fn comes_again(side: &mut Side, on: On, low: u16, wanted: Option<u64>) -> bool {
 
 fn restores(side: &mut Side, low: u16, wanted: Option<u64>) -> Result<bool, AllocError> {
     let remembered = side.main;
-    let restored = side.stream.restore(low, seen(&remembered))?;
+    let came = arrival(Instant::from_nanos(1));
+    let restored = side.stream.restore(low, &came, seen(&remembered))?;
     if let Some(number) = &restored {
         side.main = greater(&remembered, *number);
     }
