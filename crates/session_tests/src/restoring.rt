@@ -322,13 +322,14 @@ fn repairs_are_taken_at_a_place(rt: HostRuntime) -> Result<(), Fail> {
     };
     streams.take_repair_at(place, Instant::from_nanos(1), number, None);
     assert!(rt; streams.accepts_repair(place, 5, None).is_none());
-    let restored = streams.restore_at(place, 7, None)?;
+    let came = arrival(Instant::from_nanos(1));
+    let restored = streams.restore_at(place, 7, &came, None)?;
     assert!(rt; number_of(restored) == Some(7));
     let Some(same) = streams.repair_place(Ssrc::from(43)) else {
         return Err(Fail::from("no place"));
     };
     assert!(rt; same == place);
-    let again = streams.restore_at(same, 7, None)?;
+    let again = streams.restore_at(same, 7, &came, None)?;
     assert!(rt; again.is_none());
     Ok(())
 }
