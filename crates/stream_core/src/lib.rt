@@ -28,6 +28,6 @@ pub use ssrc_table::SsrcTable;
 pub use stream_paused::StreamPaused;
 pub use stream_rx::StreamRx;
 pub use stream_tx::{PacketReceipt, StreamTx};
-pub use streams::{Streams, sooner};
+pub use streams::{Streams, is_among, sooner};
 pub use transport::Transport;
 pub use write::{RtpWrite, WriteError};

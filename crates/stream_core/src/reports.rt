@@ -16,9 +16,7 @@ use crate::packet::RtpPacket;
 use crate::stream_tx::PacketReceipt;
 use media_base::{Beginning, Instant};
 use repair_core::{ReceptionCounts, TimePoint};
-use report_core::{
-    ReceiverClock, ReportIntervals, SenderClock, SenderNews, Traffic, Written,
-};
+use report_core::{ReceiverClock, ReportIntervals, SenderClock, SenderNews, Traffic, Written};
 use rtp_base::{Frequency, Pt, SeqNo, Ssrc};
 
 /// The bytes of the original number in front of the payload of a repair (RFC 4588 section 4).

@@ -476,7 +476,9 @@ impl<W: GapWindow> StreamRx<W> {
     pub fn needs_report(&self, intervals: &ReportIntervals, now: Instant) -> bool
         ensures { result ≡ is_report_due intervals.now now self.now.state }
     {
-        self.reports.clock.is_due(intervals, self.rtx.is_some(), now)
+        self.reports
+            .clock
+            .is_due(intervals, self.rtx.is_some(), now)
     }
 
     /// Its report at a moment (RFC 3550 section 6.4.2): how it is received, or nothing of it where no

@@ -1,4 +1,4 @@
-ghost use Rattle.std.specs.Prelude.{◌≡◌, ◌<◌, ◌≤◌, ◌^◌, ◌%◌, ◌+◌, ◌++◌, ◌∷◌, ℕ, List, [], None, Some, true, if◌then◌else◌, length, take, slice_get, IfOk, IfSome, IfNone, OnOk, OnErr, IsErrOf, is_some};
+ghost use Rattle.std.specs.Prelude.{◌≡◌, ◌<◌, ◌≤◌, ◌^◌, ◌%◌, ◌+◌, ◌++◌, ◌∷◌, ◌⊎◌, ℕ, List, [], None, Some, true, if◌then◌else◌, length, take, slice_get, IfOk, IfSome, IfNone, OnOk, OnErr, IsErrOf, is_some};
 ghost use Rattle.std.specs.List.{AllByRecursion};
 ghost use Rattle.std.specs.Map.{keys_of, values_of};
 ghost use Rattle.std.specs.Option.{ForSome, option_map};
@@ -27,8 +27,8 @@ use crate::stream_tx::{PacketReceipt, StreamTx};
 use crate::transport::Transport;
 use media_base::{Duration, Instant};
 use repair_core::GapWindow;
-use resend_core::ResendStore;
 use report_core::{ReportIntervals, moment_report};
+use resend_core::ResendStore;
 use rtcp_wire::{Nack, Rtcp, SenderInfo};
 use rtp_base::{Mid, MidRid, NackEntry, ReportList, SeqNo, Ssrc};
 use rtx_core::{ResendError, ResendQueue};
@@ -143,6 +143,7 @@ fn say<W: GapWindow>(
     ensures said { OnOk result ((key : ℕ) (r : RxRecord) → RxStandsFor W.remembers stream.old r → RxStandsFor W.remembers stream.new (rx_after tick.now reports r)
         × (feedback.new.items ≡ feedback.old.items ++ rx_items tick.now reports (key, r))) }
     ensures brief { (more : List Item) × (feedback.new.items ≡ feedback.old.items ++ more) × AllByRecursion IsBrief more }
+    ensures cause { OnErr result ((tick.now.is_round ≡ true) ⊎ (reports ≡ true)) }
 {
     if reports {
         push_report(alloc, stream, tick, feedback)?;
@@ -168,6 +169,7 @@ fn say_all<W: GapWindow>(
         → Along (RxStandsFor W.remembers) streams.new (after_with tick.now mids.now rs)
         × (feedback.new.items ≡ feedback.old.items ++ items_with tick.now mids.now rs)) }
     ensures brief { (more : List Item) × (feedback.new.items ≡ feedback.old.items ++ more) × AllByRecursion IsBrief more }
+    ensures cause { OnErr result ((tick.now.is_round ≡ true) ⊎ (mids.now ≡ [] → ⊥)) }
 {
     for place in 0..streams.len() {
         let stream = streams.at_mut(place);
@@ -191,7 +193,8 @@ fn due_mids<W: GapWindow>(
     intervals: &ReportIntervals,
     now: Instant,
 ) -> Result<Vec<Mid>, AllocError>
-    ensures { IfOk result (λ v. (rs : List (ℕ × RxRecord)) → Along (RxStandsFor W.remembers) streams.now rs → v.items ≡ due_mids intervals.now now rs) }
+    ensures mids { IfOk result (λ v. (rs : List (ℕ × RxRecord)) → Along (RxStandsFor W.remembers) streams.now rs → v.items ≡ due_mids intervals.now now rs) }
+    ensures cause { OnErr result ((rs : List (ℕ × RxRecord)) → Along (RxStandsFor W.remembers) streams.now rs → due_mids intervals.now now rs ≡ [] → ⊥) }
 {
     let mut mids = Vec::new(alloc);
     for place in 0..streams.len() {
@@ -640,6 +643,8 @@ impl<W: GapWindow, S: ResendStore<Sent>> Streams<W, S> {
             → StandsFor W.remembers S.stands_for self.new (record r { rx = incoming_after tick.now r.rx })
             × (feedback.new.items ≡ feedback.old.items ++ incoming_items tick.now r.rx)) }
         ensures brief { (more : List Item) × (feedback.new.items ≡ feedback.old.items ++ more) × AllByRecursion IsBrief more }
+        ensures cause { OnErr result ((r : StreamsRecord) → StandsFor W.remembers S.stands_for self.old r
+            → (tick.now.is_round ≡ true) ⊎ (due_mids tick.now.intervals tick.now.now r.rx ≡ [] → ⊥)) }
         ensures tx { self.new.tx ≡ self.old.tx }
         ensures repairs { self.new.repairs ≡ self.old.repairs }
         ensures threshold { self.new.threshold ≡ self.old.threshold }
