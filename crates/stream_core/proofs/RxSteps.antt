@@ -3,10 +3,10 @@ use Rattle.std.proofs.Common.{◌≡◌, ℕ, zero, suc, ◌+◌, ◌<◌, ◌�
 use Rattle.std.proofs.lemmas.List.{take_all, append-nil, append_assoc}
 use Rattle.std.specs.List.{AllByRecursion}
 use Rattle.std.specs.Prelude.{if◌then◌else◌, option_and_then, IfSome, IfNone}
-use Rattle.rtp_base.specs.declared.nack_entry.NackEntry.{NackEntry}
 use Rattle.rtcp_wire.specs.declared.packet.Rtcp.{Rtcp}
-use Rattle.repair_core.specs.Entries.{packed}
-use Rattle.stream_core.specs.Missing.{due_of, after_round, nack_with, nack_of, nacks}
+use Rattle.report_core.specs.declared.clock.ReportIntervals.{ReportIntervals}
+use Rattle.stream_core.specs.declared.reports.Tick.{Tick}
+use Rattle.stream_core.specs.Reporting.{is_among, report_at, is_report_due, due_mids, report_before, rx_items, rx_after, items_with, after_with}
 use Rattle.std.specs.Map.{values_of}
 use Rattle.std.specs.Option.{option_map, option_map_or}
 use Rattle.indexmap.specs.IndexMap.{set_value_at}
@@ -115,43 +115,115 @@ value_set [] i old new x at is = absurd cc
 value_set (e ∷ es) zero old new x at is = cc
 value_set (e ∷ es) (suc i) old new x at is = value_set es i old new x at is
 
-module _ {W : Type 0} (remembers : W → Heard → Type 0) (now sender : ℕ) where
-  -- one more stream asks
-  pub asks_more : (xs : List (ℕ × RxView W)) (rs : List (ℕ × RxRecord)) (i : ℕ) (x new : RxView W) (entries : List NackEntry) (before sofar after : List Rtcp)
-      → Along (StandsFor remembers) xs (each (after_round now) (take i rs) ++ drop i rs) → slice_get (values_of xs) i ≡ Some x
-      → ((r : RxRecord) → StandsFor remembers x r → entries ≡ packed None (due_of now r)) → ((r : RxRecord) → StandsFor remembers x r → StandsFor remembers new (after_round now r))
-      → sofar ≡ before ++ nacks sender now (take i rs) → after ≡ sofar ++ nack_with sender x.state.ssrc entries
-      → Along (StandsFor remembers) (set_value_at xs i new) (each (after_round now) (take (i + 1) rs) ++ drop (i + 1) rs) × (after ≡ before ++ nacks sender now (take (i + 1) rs))
-  asks_more xs rs i x new entries before sofar after h at names asked is adds =
-      let y = value_along (StandsFor remembers) xs (each (after_round now) (take i rs) ++ drop i rs) i x h at in
+-- the first moment of all reports, where that of one stream more is taken in
+pub report_more : (intervals : ReportIntervals) (first : Option ℕ) (rs : List (ℕ × RxRecord)) (i : ℕ) (r : RxRecord) → slice_get (values_of rs) i ≡ Some r
+    → report_before intervals (sooner first (Some (report_at intervals r.state))) (drop (i + 1) rs) ≡ report_before intervals first (drop i rs)
+report_more intervals first rs i r at = ap (λ n. report_before intervals (sooner first (Some (report_at intervals r.state))) (drop n rs)) (add-one i) ∙ by rs i at
+  where
+    by : (rs : List (ℕ × RxRecord)) (i : ℕ) → slice_get (values_of rs) i ≡ Some r
+        → report_before intervals (sooner first (Some (report_at intervals r.state))) (drop (suc i) rs) ≡ report_before intervals first (drop i rs)
+    by [] i at = absurd cc
+    by (e ∷ es) zero at = let same : r ≡ e.1 = cc in ap (λ (x : RxRecord). report_before intervals (sooner first (Some (report_at intervals x.state))) es) same
+    by (e ∷ es) (suc i) at = by es i at
+
+-- the media section of a stream, where its report is due
+mid_if : Bool → List ℕ → List (List ℕ)
+mid_if true mid = mid ∷ []
+mid_if false mid = []
+
+module _ (intervals : ReportIntervals) (now : ℕ) where
+  mids_suc : (rs : List (ℕ × RxRecord)) (i : ℕ) (r : RxRecord) (b : Bool) → slice_get (values_of rs) i ≡ Some r → is_report_due intervals now r.state ≡ b
+      → due_mids intervals now (take (suc i) rs) ≡ due_mids intervals now (take i rs) ++ mid_if b r.state.mid
+  mids_suc [] i r b at due = absurd cc
+  mids_suc (e ∷ es) zero r b at due =
+      let same : r ≡ e.1 = cc in
+      by b (sym (ap (λ (x : RxRecord). is_report_due intervals now x.state) same) ∙ due) ∙ ap (λ (x : RxRecord). mid_if b x.state.mid) (sym same)
+    where
+      by : (b : Bool) → is_report_due intervals now e.1.state ≡ b → (if is_report_due intervals now e.1.state then e.1.state.mid ∷ [] else []) ≡ mid_if b e.1.state.mid
+      by true h = ap (λ c. if c then e.1.state.mid ∷ [] else []) h
+      by false h = ap (λ c. if c then e.1.state.mid ∷ [] else []) h
+  mids_suc (e ∷ es) (suc i) r b at due = by (is_report_due intervals now e.1.state) (mids_suc es i r b at due)
+    where
+      by : (c : Bool) → due_mids intervals now (take (suc i) es) ≡ due_mids intervals now (take i es) ++ mid_if b r.state.mid
+          → (if c then e.1.state.mid ∷ due_mids intervals now (take (suc i) es) else due_mids intervals now (take (suc i) es))
+          ≡ (if c then e.1.state.mid ∷ due_mids intervals now (take i es) else due_mids intervals now (take i es)) ++ mid_if b r.state.mid
+      by true rest = ap (λ l. e.1.state.mid ∷ l) rest
+      by false rest = rest
+
+  -- the report of one stream more is due
+  pub mids_more : (rs : List (ℕ × RxRecord)) (i : ℕ) (r : RxRecord) → slice_get (values_of rs) i ≡ Some r → is_report_due intervals now r.state ≡ true
+      → due_mids intervals now (take (i + 1) rs) ≡ due_mids intervals now (take i rs) ++ r.state.mid ∷ []
+  mids_more rs i r at due = ap (λ n. due_mids intervals now (take n rs)) (add-one i) ∙ mids_suc rs i r true at due
+
+  -- or it is not
+  pub mids_same : (rs : List (ℕ × RxRecord)) (i : ℕ) (r : RxRecord) → slice_get (values_of rs) i ≡ Some r → is_report_due intervals now r.state ≡ false
+      → due_mids intervals now (take (i + 1) rs) ≡ due_mids intervals now (take i rs)
+  mids_same rs i r at due = ap (λ n. due_mids intervals now (take n rs)) (add-one i) ∙ mids_suc rs i r false at due ∙ append-nil (due_mids intervals now (take i rs))
+
+  -- at the end all were looked at
+  pub mids_all : (rs : List (ℕ × RxRecord)) (i : ℕ) → length rs ≤ i → due_mids intervals now (take i rs) ≡ due_mids intervals now rs
+  mids_all rs i long = ap (due_mids intervals now) (take_all i rs long)
+
+  -- where the report of some stream is due, some media section is named
+  pub mids_some : (rs : List (ℕ × RxRecord)) (i : ℕ) (r : RxRecord) → slice_get (values_of rs) i ≡ Some r → is_report_due intervals now r.state ≡ true → due_mids intervals now rs ≡ [] → ⊥
+  mids_some [] i r at due none = absurd cc
+  mids_some (e ∷ es) zero r at due none =
+      let same : r ≡ e.1 = cc in
+      let here : is_report_due intervals now e.1.state ≡ true = sym (ap (λ (x : RxRecord). is_report_due intervals now x.state) same) ∙ due in
+      let some : due_mids intervals now (e ∷ es) ≡ e.1.state.mid ∷ due_mids intervals now es =
+      ap (λ c. if c then e.1.state.mid ∷ due_mids intervals now es else due_mids intervals now es) here in
+      cc
+  mids_some (e ∷ es) (suc i) r at due none = by (is_report_due intervals now e.1.state) none
+    where
+      by : (c : Bool) → (if c then e.1.state.mid ∷ due_mids intervals now es else due_mids intervals now es) ≡ [] → ⊥
+      by true h = absurd cc
+      by false h = mids_some es i r at due h
+
+-- among no media sections there is none
+pub among_some : (mid : List ℕ) (mids : List (List ℕ)) → is_among mid mids ≡ true → mids ≡ [] → ⊥
+among_some mid mids is none = let not : is_among mid mids ≡ false = ap (is_among mid) none in absurd cc
+
+module _ {W : Type 0} (remembers : W → Heard → Type 0) (tick : Tick) (mids : List (List ℕ)) where
+  -- one more stream says what it says
+  pub says_more : (xs : List (ℕ × RxView W)) (rs : List (ℕ × RxRecord)) (i : ℕ) (x new : RxView W) (reports : Bool) (before sofar after : List Rtcp)
+      → Along (StandsFor remembers) xs (after_with tick mids (take i rs) ++ drop i rs) → slice_get (values_of xs) i ≡ Some x → reports ≡ is_among x.state.mid mids
+      → ((key : ℕ) (r : RxRecord) → StandsFor remembers x r → StandsFor remembers new (rx_after tick reports r) × (after ≡ sofar ++ rx_items tick reports (key, r)))
+      → sofar ≡ before ++ items_with tick mids (take i rs)
+      → Along (StandsFor remembers) (set_value_at xs i new) (after_with tick mids (take (i + 1) rs) ++ drop (i + 1) rs) × (after ≡ before ++ items_with tick mids (take (i + 1) rs))
+  says_more xs rs i x new reports before sofar after h at which said is =
+      let y = value_along (StandsFor remembers) xs (after_with tick mids (take i rs) ++ drop i rs) i x h at in
       let there = not_yet rs i y.0 y.1 in (
-        each_along (StandsFor remembers) xs rs i x new (after_round now) h at asked,
-        adds
-            ∙ ap (λ l. l ++ nack_with sender x.state.ssrc entries) is
-            ∙ append_assoc before (nacks sender now (take i rs)) (nack_with sender x.state.ssrc entries)
-            ∙ ap (λ l. before ++ (nacks sender now (take i rs) ++ l)) ((λ j. nack_with sender (y.2.state j).ssrc (names y.0 y.2 j)))
-            ∙ ap (λ l. before ++ l) (one_more rs i y.0 there ∙ ap (λ n. nacks sender now (take n rs)) (sym (add-one i))),
+        each_along (StandsFor remembers) xs rs i x new (λ r. rx_after tick (is_among r.state.mid mids) r) h at
+            (λ r k. subst (λ b. StandsFor remembers new (rx_after tick b r)) (same r k) (said 0 r k).0),
+        (said 0 y.0 y.2).1
+            ∙ ap (λ b. sofar ++ rx_items tick b (0, y.0)) (same y.0 y.2)
+            ∙ ap (λ l. l ++ rx_items tick (is_among y.0.state.mid mids) (0, y.0)) is
+            ∙ append_assoc before (items_with tick mids (take i rs)) (rx_items tick (is_among y.0.state.mid mids) (0, y.0))
+            ∙ ap (λ l. before ++ l) (one_more rs i y.0 there ∙ ap (λ n. items_with tick mids (take n rs)) (sym (add-one i))),
       )
     where
-      not_yet : (rs : List (ℕ × RxRecord)) (i : ℕ) (r : RxRecord) → slice_get (values_of (each (after_round now) (take i rs) ++ drop i rs)) i ≡ Some r → slice_get (values_of rs) i ≡ Some r
+      same : (r : RxRecord) → StandsFor remembers x r → reports ≡ is_among r.state.mid mids
+      same r k = which ∙ ap (λ (s : RxState). is_among s.mid mids) k.state
+
+      not_yet : (rs : List (ℕ × RxRecord)) (i : ℕ) (r : RxRecord) → slice_get (values_of (after_with tick mids (take i rs) ++ drop i rs)) i ≡ Some r → slice_get (values_of rs) i ≡ Some r
       not_yet [] zero r at = at
       not_yet [] (suc i) r at = at
       not_yet (e ∷ es) zero r at = at
       not_yet (e ∷ es) (suc i) r at = not_yet es i r at
 
       one_more : (rs : List (ℕ × RxRecord)) (i : ℕ) (r : RxRecord) → slice_get (values_of rs) i ≡ Some r
-          → nacks sender now (take i rs) ++ nack_with sender r.state.ssrc (packed None (due_of now r)) ≡ nacks sender now (take (suc i) rs)
+          → items_with tick mids (take i rs) ++ rx_items tick (is_among r.state.mid mids) (0, r) ≡ items_with tick mids (take (suc i) rs)
       one_more [] i r at = absurd cc
       one_more (e ∷ es) zero r at =
           let same : r ≡ e.1 = cc in
-          ap (λ (x : RxRecord). nack_with sender x.state.ssrc (packed None (due_of now x))) same ∙ sym (append-nil (nack_of sender now e))
+          ap (λ (x : RxRecord). rx_items tick (is_among x.state.mid mids) (0, x)) same ∙ sym (append-nil (rx_items tick (is_among e.1.state.mid mids) e))
       one_more (e ∷ es) (suc i) r at =
-          append_assoc (nack_of sender now e) (nacks sender now (take i es)) (nack_with sender r.state.ssrc (packed None (due_of now r)))
-          ∙ ap (λ l. nack_of sender now e ++ l) (one_more es i r at)
+          append_assoc (rx_items tick (is_among e.1.state.mid mids) e) (items_with tick mids (take i es)) (rx_items tick (is_among r.state.mid mids) (0, r))
+          ∙ ap (λ l. rx_items tick (is_among e.1.state.mid mids) e ++ l) (one_more es i r at)
 
--- at the end all have asked
-pub asked_all : (now sender : ℕ) (rs : List (ℕ × RxRecord)) (i : ℕ) → length rs ≤ i → nacks sender now (take i rs) ≡ nacks sender now rs
-asked_all now sender rs i long = ap (nacks sender now) (take_all i rs long)
+-- at the end all have said it
+pub said_all : (tick : Tick) (mids : List (List ℕ)) (rs : List (ℕ × RxRecord)) (i : ℕ) → length rs ≤ i → items_with tick mids (take i rs) ≡ items_with tick mids rs
+said_all tick mids rs i long = ap (items_with tick mids) (take_all i rs long)
 
 -- what holds of each of two lists holds of both together
 pub all_more : (P : Rtcp → Type 0) (xs ys : List Rtcp) → AllByRecursion P xs → AllByRecursion P ys → AllByRecursion P (xs ++ ys)

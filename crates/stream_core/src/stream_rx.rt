@@ -265,8 +265,8 @@ impl<W: GapWindow> StreamRx<W> {
     ) -> Result<(), AllocError>
         requires number { number < 2 ^ 48 }
         requires remembered { ForSome remembered (λ n. n < 2 ^ 48) }
-        ensures ok { OnOk result ((r : RxRecord) → StandsFor W.remembers self.old r → StandsFor W.remembers self.new (opened_as remembered arrival.now number r)) }
-        ensures state { OnOk result (self.new.state ≡ came_at arrival.now number self.old.state) }
+        ensures ok { OnOk result ((r : RxRecord) → StandsFor W.remembers self.old r → StandsFor W.remembers self.new (opened_as remembered arrival.entry.now number r)) }
+        ensures state { OnOk result (self.new.state ≡ came_at arrival.entry.now number self.old.state) }
         ensures err { OnErr result (self.new ≡ self.old) }
     {
         self.put(number, remembered)?;
@@ -339,7 +339,7 @@ impl<W: GapWindow> StreamRx<W> {
     ) -> Result<Option<SeqNo>, AllocError>
         requires { ForSome remembered (λ n. n < 2 ^ 48) }
         ensures restored { IfOk result (λ o. (r : RxRecord) → StandsFor W.remembers self.old r → o ≡ restored remembered r low) }
-        ensures after { OnOk result ((r : RxRecord) → StandsFor W.remembers self.old r → StandsFor W.remembers self.new (after_restored remembered arrival.now low r)) }
+        ensures after { OnOk result ((r : RxRecord) → StandsFor W.remembers self.old r → StandsFor W.remembers self.new (after_restored remembered arrival.entry.now low r)) }
         ensures state { self.new.state ≡ record self.old.state { reports = self.new.state.reports } }
         ensures small { IfOk result (λ o. IfSome o (λ n. n < 2 ^ 48)) }
         ensures low { IfOk result (λ o. IfSome o (λ n. n % 65536 ≡ low)) }
@@ -476,7 +476,9 @@ impl<W: GapWindow> StreamRx<W> {
     pub fn needs_report(&self, intervals: &ReportIntervals, now: Instant) -> bool
         ensures { result ≡ is_report_due intervals.now now self.now.state }
     {
-        self.reports.clock.is_due(intervals, self.rtx.is_some(), now)
+        self.reports
+            .clock
+            .is_due(intervals, self.rtx.is_some(), now)
     }
 
     /// Its report at a moment (RFC 3550 section 6.4.2): how it is received, or nothing of it where no

@@ -29,7 +29,7 @@ returns-clause-restored g c = λ r ssrc h there.
 
 pub returns-clause-after : goal.returns-clause-after
 returns-clause-after g c = λ r ssrc.
-    rx_changed g.W.GapWindow.remembers g.S.ResendStore.stands_for ssrc c.args.self.now _ c.args.place c.at_mut.result.now c.restore.new.self (after_restored c.args.remembered c.args.low) _ c.self.view_is c.at_mut.ensures.value c.in_ok-number.ensures.after refl r
+    rx_changed g.W.GapWindow.remembers g.S.ResendStore.stands_for ssrc c.args.self.now _ c.args.place c.at_mut.result.now c.restore.new.self (after_restored c.args.remembered c.args.arrival.now c.args.low) _ c.self.view_is c.at_mut.ensures.value c.in_ok-number.ensures.after refl r
 
 pub returns-clause-places : goal.returns-clause-places
 returns-clause-places g c =

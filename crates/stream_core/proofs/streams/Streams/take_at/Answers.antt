@@ -31,8 +31,8 @@ invariant_of-self-else-is_untold g c =
 
 pub returns-then-is_untold-clause-ok : goal.returns-then-is_untold-clause-ok
 returns-then-is_untold-clause-ok g c = λ r ssrc.
-    rx_changed g.W.GapWindow.remembers g.S.ResendStore.stands_for ssrc c.args.self.now _ c.args.place c.at_mut.result.now c.take.new.self (opened_as c.args.remembered c.args.now c.args.number) _ c.self.view_is c.at_mut.ensures.value c.in_ok-take.ensures.ok refl r
+    rx_changed g.W.GapWindow.remembers g.S.ResendStore.stands_for ssrc c.args.self.now _ c.args.place c.at_mut.result.now c.take.new.self (opened_as c.args.remembered c.args.arrival.now c.args.number) _ c.self.view_is c.at_mut.ensures.value c.in_ok-take.ensures.ok refl r
 
 pub returns-else-is_untold-clause-ok : goal.returns-else-is_untold-clause-ok
 returns-else-is_untold-clause-ok g c = λ r ssrc.
-    rx_changed g.W.GapWindow.remembers g.S.ResendStore.stands_for ssrc c.args.self.now _ c.args.place c.at_mut.result.now c.take.new.self (opened_as c.args.remembered c.args.now c.args.number) _ c.self.view_is c.at_mut.ensures.value c.in_ok-take.ensures.ok refl r
+    rx_changed g.W.GapWindow.remembers g.S.ResendStore.stands_for ssrc c.args.self.now _ c.args.place c.at_mut.result.now c.take.new.self (opened_as c.args.remembered c.args.arrival.now c.args.number) _ c.self.view_is c.at_mut.ensures.value c.in_ok-take.ensures.ok refl r
