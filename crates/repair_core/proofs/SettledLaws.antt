@@ -7,7 +7,7 @@ use Rattle.std.proofs.lemmas.List.{get_or-set_other, get_or-set_same}
 use Rattle.std.proofs.lemmas.Bool.{cases_eq, cases_lt}
 use Rattle.repair_core.specs.declared.slots.Slot.{Slot}
 use Rattle.repair_core.specs.RegisterState.{RegisterState, IsQuiet, IsSettled}
-use Rattle.repair_core.specs.Slots.{no_slot, taken_slot, known, known_in, slot_needs, slot_due, asked_slot}
+use Rattle.repair_core.specs.Slots.{no_slot, taken_slot, known, known_in, slot_needs, slot_due}
 use Rattle.repair_core.specs.Rounds.{numbers_up}
 use Rattle.repair_core.specs.NackRegister.{needs_any}
 use Rattle.repair_core.proofs.RegisterLaws.{apart}

@@ -1,10 +1,12 @@
 -- What is reported of a source, read off what came from it (RFC 3550, sections 6.4.1, A.3 and A.8).
-use Rattle.std.specs.Prelude.{ℕ, ◌+◌, ◌-◌, ◌*◌, ◌/◌, ◌%◌, ◌^◌, ◌==◌, ℤ, pos, ◌-ℤ◌, nat_le, min, unwrap_or, if◌then◌else◌, Option, Some, None}
+use Rattle.std.specs.Prelude.{ℕ, ◌+◌, ◌-◌, ◌^◌, min, unwrap_or, if◌then◌else◌, Option, Some, None}
 use Rattle.rtp_base.specs.declared.reception_report.ReceptionReport.{ReceptionReport}
 use Rattle.repair_core.specs.declared.jitter.TimePoint.{TimePoint}
 use Rattle.repair_core.specs.Fresh.{is_fresh, greatest_of}
 use Rattle.repair_core.specs.Rounds.{Heard, started_at, came, round, taken}
 use Rattle.repair_core.specs.Jitter.{entered, jitter_after, rtp_jitter}
+use Rattle.repair_core.specs.Counts.{Counts, counts_report}
+pub use Rattle.repair_core.specs.Counts.{expected_of, lost_of, fraction_of, block_of}
 
 -- what a register was told since it was made or cleared: the number it started from, if any, then the packets that came, the
 -- numbers that were recovered, the rounds of asking, and the reports, each with the counts it was made of
@@ -62,40 +64,16 @@ jitter_of (recovered past n) = jitter_of past
 jitter_of (asked_at past now wait) = jitter_of past
 jitter_of (reported past e r) = jitter_of past
 
--- how many packets are expected from the first number to the last
-abbrev pub expected_of : ℕ → ℕ → ℕ
-expected_of first last = last - first + 1
-
--- the packets lost, in 24 signed bits: from -0x800000 to 0x7fffff
-abbrev pub lost_of : ℕ → ℕ → ℤ
-lost_of expected received =
-    if nat_le received expected then pos (min (expected - received) 8388607) else (pos 0 -ℤ pos (min (received - expected) 8388608))
-
--- how many were lost since the last counts
-abbrev pub lost_since : ℕ × ℕ → ℕ → ℕ → ℕ
-lost_since last expected received = (expected - last.0) + last.1 - received
-
--- the share of what was expected since the last counts that was lost, in 256ths, at most 255
-abbrev pub fraction_of : ℕ × ℕ → ℕ → ℕ → ℕ
-fraction_of last expected received =
-    if expected - last.0 == 0 then 0 else min 255 (256 * lost_since last expected received / (expected - last.0))
+-- what is counted beside the numbers
+abbrev pub counts_in : Reception → Counts
+counts_in past = record { first = first_in past; received = received past; expected_then = (last_counts past).0; received_then = (last_counts past).1; point = last_point past; jitter = jitter_of past }
 
 abbrev pub jitter_in : Reception → ℕ
 jitter_in past = rtp_jitter (last_point past) (jitter_of past)
 
--- a report of a source whose SSRC and last sender report are left 0
-abbrev pub block_of : ℕ → ℤ → ℕ → ℕ → ReceptionReport
-block_of fraction lost last jitter = record { ssrc = 0; fraction_lost = fraction; packets_lost = lost; max_seq = last % 2 ^ 32; jitter = jitter; last_sr_time = 0; last_sr_delay = 0 }
-
--- the report, where a packet came, of the first number and the greatest
-abbrev pub report_from : Reception → Option ℕ → Option ℕ → Option ReceptionReport
-report_from past (Some first) (Some last) =
-    Some (block_of (fraction_of (last_counts past) (expected_of first last) (received past)) (lost_of (expected_of first last) (received past)) last (jitter_in past))
-report_from past (Some first) None = None
-report_from past None o = None
-
+-- the report, where a packet came
 abbrev pub report_of : Reception → Option ReceptionReport
-report_of past = report_from past (first_in past) (greatest_of (taken (heard past)))
+report_of past = counts_report (greatest_of (taken (heard past))) (counts_in past)
 
 abbrev pub after_from : Reception → Option ℕ → Option ℕ → Reception
 after_from past (Some first) (Some last) = reported past (expected_of first last) (received past)

@@ -4,20 +4,22 @@ ghost use Rattle.repair_core.specs.Jitter.{distance as distance_of, nanos_of, de
 use media_base::Instant;
 
 /// When a packet arrived, and its RTP time, in so many units a second.
-#[derive(Clone, Copy, Debug)]
+#[derive(Clone, Copy, Debug, PartialEq, Eq)]
 pub struct TimePoint {
+    /// When it arrived.
     pub arrival: Instant,
+    /// Its RTP time.
     pub rtp_time: u32,
+    /// How many units of the RTP clock a second has, at least 1 where the packet enters the jitter.
     pub clock_rate: u32,
 }
 
-/// The interarrival jitter (RFC 3550 sections 6.4.1 and A.8), in 65,536ths of a nanosecond, and the
-/// last packet that entered it.
+/// The interarrival jitter (RFC 3550 sections 6.4.1 and A.8), in 65,536ths of a nanosecond, below
+/// 2^82, and the last packet that entered it.
 #[derive(Clone, Copy, Debug)]
 pub struct Jitter {
     pub last: Option<TimePoint>,
     pub value: u128,
-    ghost small: { value < 2 ^ 82 },
 }
 
 impl Jitter {
@@ -34,28 +36,36 @@ impl Jitter {
 
     /// Takes a packet in, unless it has the RTP time of the last one that entered.
     pub fn enter(&mut self, point: TimePoint)
-        requires { 0 < point.clock_rate }
+        requires rate { 0 < point.clock_rate }
+        requires small { self.old.value < 2 ^ 82 }
         ensures last { self.new.last ≡ entered self.old.last point }
         ensures value { self.new.value ≡ jitter_after self.old.value self.old.last point }
+        ensures small { self.new.value < 2 ^ 82 }
     {
         *self = self.after(point);
     }
 
     fn after(self, point: TimePoint) -> Jitter
-        requires { 0 < point.clock_rate }
+        requires rate { 0 < point.clock_rate }
+        requires small { self.value < 2 ^ 82 }
         ensures last { result.last ≡ entered self.last point }
         ensures value { result.value ≡ jitter_after self.value self.last point }
+        ensures small { result.value < 2 ^ 82 }
     {
-        let Some(last) = self.last else {
+        let Jitter { last, value } = self;
+        let Some(last) = last else {
             return Jitter {
                 last: Some(point),
-                value: self.value,
+                value,
             };
         };
         if last.rtp_time == point.rtp_time {
-            return self;
+            return Jitter {
+                last: Some(last),
+                value,
+            };
         }
-        let value = next(self.value, deviation(&last, &point));
+        let value = next(value, deviation(&last, &point));
         Jitter {
             last: Some(point),
             value,
@@ -64,6 +74,7 @@ impl Jitter {
 
     /// The jitter in units of the last packet's RTP clock, rounded half up, at most 2^32 - 1.
     pub fn in_rtp_ts(&self) -> u32
+        requires { self.now.value < 2 ^ 82 }
         ensures { result ≡ rtp_jitter self.now.last self.now.value }
     {
         match self.last {

@@ -2,6 +2,7 @@
 //! section 6.2.1), and the buffer of sent packets of `resend_core`, from which they are resent (RFC 4588).
 #![tactic(auto)]
 
+mod counts;
 mod gap_window;
 mod jitter;
 mod laws;
@@ -10,9 +11,11 @@ mod register;
 mod register_nack;
 mod slots;
 
+pub use counts::{ReceptionCounts, expected, packets_lost};
 pub use gap_window::GapWindow;
+pub use jitter::TimePoint;
 pub use laws::{remembered_is_not_fresh, rounds_name_the_due, taken_is_not_fresh};
-pub use register::{ReceiverRegister, expected, packets_lost};
+pub use register::ReceiverRegister;
 pub use register_nack::NackRegister;
 pub use resend_core::{Cached, EvictingBuffer, ResendStore, RtxCache};
 

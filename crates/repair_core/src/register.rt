@@ -1,16 +1,16 @@
-ghost use Rattle.std.specs.Prelude.{◌≡◌, ℕ, ◌+◌, ◌-◌, ◌<◌, ◌≤◌, ◌^◌, ◌++◌, None, IfOk, IfSome, length};
+ghost use Rattle.std.specs.Prelude.{◌≡◌, ◌+◌, ◌<◌, ◌≤◌, ◌^◌, ◌++◌, None, IfOk, IfSome, length};
 ghost use Rattle.std.specs.Option.{ForSome};
-ghost use Rattle.rtp_base.specs.Fields.{IsSigned24};
 ghost use Rattle.repair_core.specs.Fresh.{is_fresh, greatest_of};
 ghost use Rattle.repair_core.specs.Rounds.{taken, due, is_pending, wait_of, deadline};
 ghost use Rattle.repair_core.specs.Entries.{packed};
-ghost use Rattle.repair_core.specs.Reception.{Reception, begun_at, arrived, recovered, asked_at, reported, heard, last_counts, jitter_in, fraction_of, lost_of, expected_of, block_of, report_of, after_report};
+ghost use Rattle.repair_core.specs.Reception.{Reception, begun_at, arrived, recovered, asked_at, reported, heard, last_counts, jitter_in, fraction_of, report_of, after_report};
 
+use crate::counts::ReceptionCounts;
 use crate::gap_window::GapWindow;
-use crate::jitter::{Jitter, TimePoint};
+use crate::jitter::TimePoint;
 use crate::register_nack::NackRegister;
 use media_base::{Duration, Instant};
-use rtp_base::{NackEntry, ReceptionReport, ReportList, SeqNo, Ssrc};
+use rtp_base::{NackEntry, ReceptionReport, ReportList, SeqNo};
 use std::alloc::{AllocError, Global};
 use std::ops::Range;
 
@@ -19,11 +19,7 @@ use std::ops::Range;
 #[derive(Debug, Drop)]
 pub struct ReceiverRegister<W: GapWindow = NackRegister> {
     nack: W,
-    first: Option<SeqNo>,
-    count: u64,
-    expected_prior: u64,
-    received_prior: u64,
-    jitter: Jitter,
+    counts: ReceptionCounts,
 }
 
 impl<W: GapWindow> ReceiverRegister<W> {
@@ -38,11 +34,7 @@ impl<W: GapWindow> ReceiverRegister<W> {
         let nack = W::new(alloc, max_seq_no)?;
         Ok(ReceiverRegister {
             nack,
-            first: None,
-            count: 0,
-            expected_prior: 0,
-            received_prior: 0,
-            jitter: Jitter::new(),
+            counts: ReceptionCounts::new(),
         })
     }
 
@@ -52,11 +44,7 @@ impl<W: GapWindow> ReceiverRegister<W> {
         ensures { StandsFor W.remembers self.new (begun_at max_seq_no) }
     {
         self.nack.clear(max_seq_no);
-        self.first = None;
-        self.count = 0;
-        self.expected_prior = 0;
-        self.received_prior = 0;
-        self.jitter = Jitter::new();
+        self.counts = ReceptionCounts::new();
     }
 
     /// Whether the number may still be taken.
@@ -84,16 +72,13 @@ impl<W: GapWindow> ReceiverRegister<W> {
         ensures fresh { (past : Reception) → StandsFor W.remembers self.old past → result ≡ is_fresh (taken (heard past)) seq }
         ensures arrived { (past : Reception) → StandsFor W.remembers self.old past → StandsFor W.remembers self.new (arrived past seq (record { arrival = arrival; rtp_time = rtp_time; clock_rate = clock_rate })) }
     {
-        self.first = Some(self.first.unwrap_or(seq));
-        let fresh = self.nack.update(seq);
-        if fresh {
-            self.count = self.count.saturating_add(1);
-        }
-        self.jitter.enter(TimePoint {
+        let point = TimePoint {
             arrival,
             rtp_time,
             clock_rate,
-        });
+        };
+        let fresh = self.nack.update(seq);
+        self.counts.arrived(seq, fresh, point);
         fresh
     }
 
@@ -145,19 +130,15 @@ impl<W: GapWindow> ReceiverRegister<W> {
         ensures report { (past : Reception) → StandsFor W.remembers self.old past → result ≡ report_of past }
         ensures after { (past : Reception) → StandsFor W.remembers self.old past → StandsFor W.remembers self.new (after_report past) }
     {
-        let first = self.first?;
-        let last = self.max_seq()?;
-        let expected = expected(first, last);
-        let fraction = self.fraction_lost(expected, self.count);
-        let lost = packets_lost(expected, self.count);
-        Some(report(fraction, lost, last, self.jitter_in_rtp_ts()))
+        let greatest = self.max_seq();
+        self.counts.report(greatest)
     }
 
     /// The jitter in units of the RTP clock, rounded half up (RFC 3550 section 6.4.1).
     pub fn jitter_in_rtp_ts(&self) -> u32
         ensures { (past : Reception) → StandsFor W.remembers self.now past → result ≡ jitter_in past }
     {
-        self.jitter.in_rtp_ts()
+        self.counts.jitter_in_rtp_ts()
     }
 
     /// The share of the packets expected since the last such call that was lost, in 256ths, at most
@@ -166,54 +147,6 @@ impl<W: GapWindow> ReceiverRegister<W> {
         ensures fraction { (past : Reception) → StandsFor W.remembers self.old past → result ≡ fraction_of (last_counts past) expected received }
         ensures reported { (past : Reception) → StandsFor W.remembers self.old past → StandsFor W.remembers self.new (reported past expected received) }
     {
-        let fraction = fraction(self.expected_prior, self.received_prior, expected, received);
-        self.expected_prior = expected;
-        self.received_prior = received;
-        fraction
-    }
-}
-
-fn fraction(expected_prior: u64, received_prior: u64, expected: u64, received: u64) -> u8
-    ensures { result ≡ fraction_of (expected_prior, received_prior) expected received }
-{
-    let more = expected.saturating_sub(expected_prior);
-    if more == 0 {
-        return 0;
-    }
-    let lost = (u128::from(more) + u128::from(received_prior)).saturating_sub(u128::from(received));
-    (256 * lost / u128::from(more)).min(255) as u8
-}
-
-fn report(fraction_lost: u8, packets_lost: i32, last: SeqNo, jitter: u32) -> ReceptionReport
-    ensures { result ≡ block_of fraction_lost packets_lost last jitter }
-{
-    ReceptionReport {
-        ssrc: Ssrc::from(0),
-        fraction_lost,
-        packets_lost,
-        max_seq: (u64::from(last) % 0x1_0000_0000) as u32,
-        jitter,
-        last_sr_time: 0,
-        last_sr_delay: 0,
-    }
-}
-
-/// How many packets are expected from the first number to the last, which is below 2^48.
-pub fn expected(first: SeqNo, last: SeqNo) -> u64
-    requires { last < 2 ^ 48 }
-    ensures { result ≡ expected_of first last }
-{
-    u64::from(last).saturating_sub(u64::from(first)) + 1
-}
-
-/// The packets lost, in 24 signed bits: from -0x800000 to 0x7fffff (RFC 3550 section A.3).
-pub fn packets_lost(expected: u64, received: u64) -> i32
-    ensures value { result ≡ lost_of expected received }
-    ensures bits { IsSigned24 result }
-{
-    if received <= expected {
-        (expected - received).min(0x7f_ffff) as i32
-    } else {
-        -((received - expected).min(0x80_0000) as i32)
+        self.counts.fraction_lost(expected, received)
     }
 }

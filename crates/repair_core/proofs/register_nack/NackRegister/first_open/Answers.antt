@@ -1,4 +1,4 @@
-use Rattle.std.proofs.Common.{ℕ, ◌-◌, ◌<◌, ◌≤◌, max, arith, subst, sym, ⊎_elim}
+use Rattle.std.proofs.Common.{◌-◌, ◌<◌, ◌≤◌, max, arith, subst, sym, ⊎_elim}
 use Rattle.std.proofs.lemmas.Bool.{cases_lt}
 use Rattle.repair_core.specs.RegisterState.{RegisterState, IsQuiet}
 use Rattle.repair_core.proofs.register_nack.NackRegister.first_open.Goals as goal
