@@ -4,7 +4,8 @@ use Rattle.std.specs.List.{flat_map}
 use Rattle.std.proofs.lemmas.List.{take_more, append-nil}
 use Rattle.std.proofs.lemmas.List.Concat.{length-flat_map, flat_map-append}
 use Rattle.std.proofs.lemmas.List.Sums.{sum_by-take-le}
-use Rattle.rtcp_wire.specs.Wire.{rows_of, Puts}
+use Rattle.rtp_base.specs.Wire.{Puts}
+use Rattle.rtcp_wire.specs.Wire.{rows_of}
 
 pub rows_more : {T : Type 0} (row : List ℕ → T) (size count i : ℕ) (front : List T) (rest : List ℕ) (all : List T) → i < count
     → front ++ rows_of row size (count - i) rest ≡ all → (front ++ row rest ∷ []) ++ rows_of row size (count - (i + 1)) (drop size rest) ≡ all

@@ -6,7 +6,7 @@ use Rattle.std.specs.Int.{w32, to_be_bytes}
 use Rattle.std.proofs.lemmas.Bool.{le-ltb, ne_eqb}
 use Rattle.std.proofs.lemmas.List.{take_at, drop_at, length-take}
 use Rattle.std.proofs.lemmas.Nat.{from_be_bytes-to_be_bytes_4}
-use Rattle.rtcp_wire.specs.Wire.{word_at}
+use Rattle.rtp_base.specs.Wire.{word_at}
 use Rattle.rtcp_wire.specs.declared.source.SdesItem.{SdesItem}
 use Rattle.rtcp_wire.specs.declared.source.Sdes.{Sdes}
 use Rattle.rtcp_wire.specs.declared.source.Descriptions.{Descriptions}

@@ -5,7 +5,8 @@ use Rattle.std.proofs.lemmas.List.{append-nil, take_at, drop_at, take_all, drop-
 use Rattle.std.proofs.lemmas.List.Concat.{flat_map-append}
 use Rattle.std.proofs.lemmas.Bool.{le-leb, lt-leb}
 use Rattle.rtcp_wire.specs.declared.packet.Rtcp.{Rtcp}
-use Rattle.rtcp_wire.specs.Wire.{Puts, LeavesBehind}
+use Rattle.rtp_base.specs.Wire.{Puts}
+use Rattle.rtcp_wire.specs.Wire.{LeavesRest}
 use Rattle.rtcp_wire.specs.Texts.{IsWritable, text_of, fitting}
 
 -- room of a text's length, where it was put
@@ -41,7 +42,7 @@ first_fits room x xs le = rw (le-leb (length (text_of x)) room le) refl
 first_fails : (room : ℕ) (x : Rtcp) (xs : List Rtcp) → room < length (text_of x) → fitting room (x ∷ xs) ≡ 0
 first_fails room x xs lt = rw (lt-leb (length (text_of x)) room lt) refl
 
-pub write_more : (all now new : List Rtcp) (x : Rtcp) (old out out' : List ℕ) (at end left : ℕ) → now ≡ x ∷ new → Puts out at (text_of x) out' (Some end) → LeavesBehind out out' (Some end) → length out' ≡ length out
+pub write_more : (all now new : List Rtcp) (x : Rtcp) (old out out' : List ℕ) (at end left : ℕ) → now ≡ x ∷ new → Puts out at (text_of x) out' (Some end) → LeavesRest out out' (Some end) → length out' ≡ length out
     → IsWritten all now old out at left → IsWritten all new old out' end (left - 1)
 write_more all now new x old out out' at end left e p b same h =
     let text : flat_map text_of (h.done ++ x ∷ []) ≡ flat_map text_of h.done ++ text_of x = flat_map-append text_of h.done (x ∷ []) ∙ ap (λ (t : List ℕ). flat_map text_of h.done ++ t) (append-nil (text_of x)) in

@@ -3,7 +3,7 @@ use Rattle.std.specs.Prelude.{ℕ, zero, suc, ◌+◌, ◌-◌, ◌%◌, ◌==�
 use Rattle.std.specs.List.{flat_map}
 use Rattle.std.specs.Option.{option_map, option_and_then}
 use Rattle.std.specs.Int.{w32, to_be_bytes}
-use Rattle.rtcp_wire.specs.Wire.{word_at}
+use Rattle.rtp_base.specs.Wire.{word_at}
 use Rattle.rtcp_wire.specs.declared.source.SdesType.{SdesType}
 use Rattle.rtcp_wire.specs.declared.source.SdesType.TheVariants.{CNAME, NAME, EMAIL, PHONE, LOC, TOOL, NOTE, PRIV, Unknown}
 use Rattle.rtcp_wire.specs.declared.source.SdesItem.{SdesItem}

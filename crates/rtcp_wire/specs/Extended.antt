@@ -4,7 +4,8 @@ use Rattle.std.specs.List.{flat_map}
 use Rattle.std.specs.Option.{option_map, option_and_then}
 use Rattle.std.specs.Int.{w16, w32, w64, to_be_bytes}
 use Rattle.media_base.specs.Wallclock.{unix_of_ntp, ntp_of_unix}
-use Rattle.rtcp_wire.specs.Wire.{word_at, double_at, words, rows_of}
+use Rattle.rtp_base.specs.Wire.{word_at, double_at, words}
+use Rattle.rtcp_wire.specs.Wire.{rows_of}
 use Rattle.rtcp_wire.specs.Frame.{item_len}
 use Rattle.rtcp_wire.specs.declared.extended.DlrrItem.{DlrrItem}
 use Rattle.rtcp_wire.specs.declared.extended.ReportBlock.{ReportBlock}

@@ -1,7 +1,8 @@
 -- Feedback (RFC 4585 section 6).
 use Rattle.std.specs.Prelude.{ℕ, ◌-◌, ◌/◌, ◌%◌, ◌==◌, ◌||◌, not, min, List, [], ◌∷◌, ◌++◌, length, drop, nat_lt, Option, Some, None, if◌then◌else◌}
 use Rattle.std.specs.List.{flat_map}
-use Rattle.rtcp_wire.specs.Wire.{word_at, words, rows_of}
+use Rattle.rtp_base.specs.Wire.{word_at, words}
+use Rattle.rtcp_wire.specs.Wire.{rows_of}
 use Rattle.rtcp_wire.specs.Rows.{nack_entry_at, nack_entry_text, fir_entry_at, fir_entry_text}
 use Rattle.rtcp_wire.specs.declared.nack.Nack.{Nack}
 use Rattle.rtcp_wire.specs.declared.request.Pli.{Pli}

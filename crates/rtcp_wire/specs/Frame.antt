@@ -1,6 +1,6 @@
 -- The header that each item begins with (RFC 3550 section 6.4.1).
 use Rattle.std.specs.Prelude.{ℕ, ◌+◌, ◌-◌, ◌*◌, ◌/◌, ◌%◌, ◌==◌, ◌||◌, ◌&&◌, not, nat_lt, nat_le, List, length, take, drop, slice_index, Option, Some, None, if◌then◌else◌}
-use Rattle.rtcp_wire.specs.Wire.{half_at}
+use Rattle.rtp_base.specs.Wire.{half_at}
 use Rattle.rtcp_wire.specs.declared.frame.Frame.{Frame as Found}
 
 -- an item: its count or format, its type, the bytes after its header, and what follows it

@@ -1,7 +1,8 @@
 -- The greatest rate that a receiver asks for (draft-alvestrand-rmcat-remb section 2.2).
 use Rattle.std.specs.Prelude.{ℕ, Bool, ◌+◌, ◌-◌, ◌*◌, ◌/◌, ◌%◌, ◌^◌, ◌==◌, ◌&&◌, ◌||◌, min, List, [], ◌∷◌, ◌++◌, length, drop, nat_lt, nat_le, Option, Some, None, if◌then◌else◌}
 use Rattle.std.specs.Int.{w64, leading_zeros}
-use Rattle.rtcp_wire.specs.Wire.{word_at, words, rows_of}
+use Rattle.rtp_base.specs.Wire.{word_at, words}
+use Rattle.rtcp_wire.specs.Wire.{rows_of}
 use Rattle.rtcp_wire.specs.declared.remb.Remb.{Remb}
 
 -- a rate is mantissa * 2 ^ exponent, the mantissa below 2 ^ 18: the exponent is how many more bits than

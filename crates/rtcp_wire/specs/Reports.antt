@@ -3,7 +3,8 @@ use Rattle.std.specs.Prelude.{ℕ, ◌+◌, ◌*◌, List, [], ◌∷◌, ◌++�
 use Rattle.std.specs.List.{flat_map}
 use Rattle.std.specs.Int.{w32, w64, to_be_bytes}
 use Rattle.media_base.specs.Wallclock.{unix_of_ntp, ntp_of_unix}
-use Rattle.rtcp_wire.specs.Wire.{word_at, double_at, words, rows_of}
+use Rattle.rtp_base.specs.Wire.{word_at, double_at, words}
+use Rattle.rtcp_wire.specs.Wire.{rows_of}
 use Rattle.rtcp_wire.specs.Rows.{report_at, report_text}
 use Rattle.rtcp_wire.specs.declared.report.ReceiverReport.{ReceiverReport}
 use Rattle.rtcp_wire.specs.declared.report.SenderReport.{SenderReport}

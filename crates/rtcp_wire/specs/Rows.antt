@@ -1,7 +1,7 @@
 -- The rows of fields that items are made of.
 use Rattle.std.specs.Prelude.{ℕ, ◌+◌, ◌*◌, ◌/◌, ◌%◌, List, [], ◌∷◌, ◌++◌, slice_index}
 use Rattle.std.specs.Int.{w16, w32, to_be_bytes}
-use Rattle.rtcp_wire.specs.Wire.{half_at, word_at, words}
+use Rattle.rtp_base.specs.Wire.{half_at, word_at, words}
 use Rattle.rtp_base.specs.Fields.{signed24, bits24}
 use Rattle.rtp_base.specs.declared.reception_report.ReceptionReport.{ReceptionReport}
 use Rattle.rtp_base.specs.declared.nack_entry.NackEntry.{NackEntry}

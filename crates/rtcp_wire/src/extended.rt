@@ -2,13 +2,14 @@
 ghost use Rattle.std.specs.Prelude.{◌≡◌, ◌++◌, length, IfOk, Option};
 ghost use Rattle.std.specs.Int.{w16, to_be_bytes};
 ghost use Rattle.std.specs.Option.{option_map};
-ghost use Rattle.rtcp_wire.specs.Wire.{Puts, some_if};
+ghost use Rattle.rtp_base.specs.Wire.{Puts};
+ghost use Rattle.rtcp_wire.specs.Wire.{some_if};
 ghost use Rattle.rtcp_wire.specs.Extended.{with_blocks, kept, block_of, block_at, block_kind, block_content, block_text, blocks_of, extended_report_of, extended_report_body};
 
 use crate::row::{Put, Row, read_many, rows_len, write_rows};
-use crate::wire::{double, half, put, word};
 use media_base::{Listed, SystemTime, SystemTimeExt};
 use rtp_base::Ssrc;
+use rtp_base::wire::{double, half, put, word};
 use std::alloc::{AllocError, Global};
 
 /// Blocks of reports of one sender (RFC 3611 section 2).

@@ -1,12 +1,12 @@
 //! Feedback on what was received (RFC 4585 section 6).
 ghost use Rattle.std.specs.Prelude.{◌≡◌, IfOk};
-ghost use Rattle.rtcp_wire.specs.Wire.{Puts};
+ghost use Rattle.rtp_base.specs.Wire.{Puts};
 ghost use Rattle.rtcp_wire.specs.Feedback.{app_feedback_of, app_feedback_body};
 
 use crate::row::write_rows;
-use crate::wire::{put, word};
 use media_base::Bytes;
 use rtp_base::Ssrc;
+use rtp_base::wire::{put, word};
 use std::alloc::{AllocError, Global};
 
 /// Feedback of an application (RFC 4585 section 6.4), whose words are its own.

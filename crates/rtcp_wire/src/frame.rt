@@ -3,7 +3,7 @@ ghost use Rattle.std.specs.Prelude.{◌≡◌, ◌≤◌, IfSome};
 ghost use Rattle.std.specs.Option.{option_map};
 ghost use Rattle.rtcp_wire.specs.Frame.{view, frame_at, unpadded};
 
-use crate::wire;
+use rtp_base::wire;
 
 // An item in bytes: its count or format, its type, what stands after its header, and what follows it.
 #[derive(Drop)]

@@ -16,7 +16,6 @@ mod request;
 mod row;
 mod rtcp_fb;
 mod source;
-mod wire;
 
 pub use extended::{Dlrr, DlrrItem, ExtendedReport, ReportBlock, Rrtr};
 pub use feedback::AppSpecificFeedback;

@@ -1,10 +1,10 @@
 //! Packets that are missing (RFC 4585 section 6.2.1).
 ghost use Rattle.std.specs.Prelude.{◌≡◌};
-ghost use Rattle.rtcp_wire.specs.Wire.{Puts};
+ghost use Rattle.rtp_base.specs.Wire.{Puts};
 ghost use Rattle.rtcp_wire.specs.Feedback.{nack_of, nack_body};
 
 use crate::row::{Put, Row, read_rows, write_rows};
-use crate::wire::{half, put, word};
+use rtp_base::wire::{half, put, word};
 use rtp_base::{NackEntry, ReportList, Ssrc};
 
 /// Packets of a source that are missing (RFC 4585 section 6.2.1).

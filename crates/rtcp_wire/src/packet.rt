@@ -73,7 +73,8 @@ fn add<T: Kind>(items: &mut Vec<Rtcp>, item: Option<T>) -> Result<bool, AllocErr
 impl Rtcp {
     ghost use Rattle.rtcp_wire.specs.Items.{goes_on, said, reading_of, transport_feedback_of, payload_feedback_of, application_of, item_at, added_of, rest_of, items_of, items_within};
     ghost use Rattle.rtcp_wire.specs.Texts.{IsWritable, CountFits, text_of, body_of, count_of, kind_of, fitting};
-    ghost use Rattle.rtcp_wire.specs.Wire.{Puts, LeavesBehind};
+    ghost use Rattle.rtp_base.specs.Wire.{Puts};
+    ghost use Rattle.rtcp_wire.specs.Wire.{LeavesRest};
     ghost use Rattle.rtcp_wire.specs.Remb.{is_remb};
 
     /// Reads the items of a datagram, in order, and adds them to a list. Reading stops at an item whose
@@ -239,7 +240,7 @@ impl Rtcp {
     fn write(&self, out: &mut [u8], at: usize) -> Option<usize>
         requires { IsWritable self.now }
         ensures text { Puts out.old at (text_of self.now) out.new result }
-        ensures behind { LeavesBehind out.old out.new result }
+        ensures behind { LeavesRest out.old out.new result }
     {
         let len = 4 + self.body_len();
         if out.len() < at || out.len() - at < len {

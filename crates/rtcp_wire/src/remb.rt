@@ -1,12 +1,12 @@
 //! The greatest rate that a receiver asks for (draft-alvestrand-rmcat-remb).
 ghost use Rattle.std.specs.Prelude.{◌≡◌, ◌≤◌, ◌/◌, ◌^◌, ◌*◌, ◌<◌, IfOk, length, min};
-ghost use Rattle.rtcp_wire.specs.Wire.{Puts};
+ghost use Rattle.rtp_base.specs.Wire.{Puts};
 ghost use Rattle.rtcp_wire.specs.Remb.{is_remb, remb_of, remb_body, exponent_of, mantissa_of};
 
 use crate::row::{read_many, write_rows};
-use crate::wire::word;
 use media_base::{Bitrate, Listed};
 use rtp_base::Ssrc;
+use rtp_base::wire::word;
 use std::alloc::{AllocError, Global};
 
 const NAME: u32 = 0x5245_4d42;

@@ -1,12 +1,12 @@
 //! Reports on what was sent and received (RFC 3550 section 6.4).
 ghost use Rattle.std.specs.Prelude.{◌≡◌, ◌<◌, ◌≤◌, length, IfOk};
 ghost use Rattle.rtp_base.specs.Fields.{signed24};
-ghost use Rattle.rtcp_wire.specs.Wire.{Puts};
+ghost use Rattle.rtp_base.specs.Wire.{Puts};
 ghost use Rattle.rtcp_wire.specs.Reports.{receiver_report_of, receiver_report_body, sender_info_at, sender_info_text, sender_report_of, sender_report_body};
 
 use crate::row::{Put, Row, read_many, write_rows};
-use crate::wire::{double, put, word};
 use media_base::{Listed, SystemTime, SystemTimeExt};
+use rtp_base::wire::{double, put, word};
 use rtp_base::{ReceptionReport, Ssrc};
 use std::alloc::{AllocError, Global};
 

@@ -1,10 +1,10 @@
 //! Requests for a picture that stands alone (RFC 4585 section 6.3.1, RFC 5104 section 4.3.1).
 ghost use Rattle.std.specs.Prelude.{◌≡◌};
-ghost use Rattle.rtcp_wire.specs.Wire.{Puts};
+ghost use Rattle.rtp_base.specs.Wire.{Puts};
 ghost use Rattle.rtcp_wire.specs.Feedback.{pli_of, pli_body, fir_of, fir_body};
 
 use crate::row::{Put, Row, read_rows, write_rows};
-use crate::wire::{put, word};
+use rtp_base::wire::{put, word};
 use rtp_base::{ReportList, Ssrc};
 
 /// A picture was lost (RFC 4585 section 6.3.1).

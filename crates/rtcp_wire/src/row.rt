@@ -1,11 +1,11 @@
 // Rows of fields of a fixed length.
 ghost use Rattle.std.specs.Prelude.{◌≡◌, ◌+◌, ◌*◌, ◌^◌, ◌<◌, ◌≤◌, List, ℕ, length, IfOk};
 ghost use Rattle.std.specs.List.{flat_map};
-ghost use Rattle.rtcp_wire.specs.Wire.{rows_of, Puts};
+ghost use Rattle.rtp_base.specs.Wire.{Puts};
+ghost use Rattle.rtcp_wire.specs.Wire.{rows_of};
 
-use crate::wire;
 use media_base::Listed;
-use rtp_base::ReportList;
+use rtp_base::{ReportList, wire};
 use std::alloc::{AllocError, Global};
 
 // What is put in bytes.

@@ -1,19 +1,19 @@
 //! Sources that describe themselves and leave (RFC 3550 sections 6.5 and 6.6).
 ghost use Rattle.std.specs.Prelude.{◌≡◌, ◌≤◌, IfOk, OnOk, IfSome, length};
 ghost use Rattle.std.specs.Option.{option_map};
-ghost use Rattle.rtcp_wire.specs.Wire.{Puts};
+ghost use Rattle.rtp_base.specs.Wire.{Puts};
 ghost use Rattle.rtcp_wire.specs.Reports.{goodbye_of, goodbye_body};
 ghost use Rattle.rtcp_wire.specs.Descriptions.{sdes_item_at, with_item, first_31, sdes_items_of, sdes_at, descriptions_of, descriptions_body};
 
 use crate::row::{Put, Row, read_rows, rows_len, write_rows};
-use crate::wire::{put, word};
 use media_base::{Bytes, Listed};
+use rtp_base::wire::{put, word};
 use rtp_base::{ReportList, Ssrc};
 use std::alloc::{AllocError, Global};
 
 impl Row for Ssrc {
     ghost use Rattle.std.specs.Int.{w32, to_be_bytes};
-    ghost use Rattle.rtcp_wire.specs.Wire.{word_at};
+    ghost use Rattle.rtp_base.specs.Wire.{word_at};
 
     ghost size = { 4 };
 
@@ -30,7 +30,7 @@ impl Row for Ssrc {
 
 impl Put for Ssrc {
     ghost use Rattle.std.specs.Int.{w32, to_be_bytes};
-    ghost use Rattle.rtcp_wire.specs.Wire.{word_at};
+    ghost use Rattle.rtp_base.specs.Wire.{word_at};
 
     ghost text_of = { to_be_bytes w32 };
 

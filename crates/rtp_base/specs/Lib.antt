@@ -5,3 +5,4 @@ pub mod NackEntry
 pub mod Name
 pub mod Widen
 pub mod Window
+pub mod Wire

@@ -5,7 +5,8 @@ use Rattle.std.specs.List.{flat_map}
 use Rattle.std.specs.Int.{w16, w32, from_be_bytes, to_be_bytes}
 use Rattle.std.proofs.lemmas.Bool.Decides.{nat_tests}
 use Rattle.std.proofs.lemmas.Nat.{from_be_bytes-to_be_bytes_2, from_be_bytes-to_be_bytes_4}
-use Rattle.rtp_wire.specs.Bytes.{u16_at, words_of}
+use Rattle.rtp_base.specs.Wire.{half_at}
+use Rattle.rtp_wire.specs.Bytes.{words_of}
 use Rattle.std.proofs.lemmas.List.{length-take-le, take_at, drop_at, drop-drop, length-replicate}
 use Rattle.rtp_wire.specs.declared.values.ExtensionValues.{ExtensionValues}
 use Rattle.rtp_wire.specs.Extensions.{no_values, one_byte_elements, with_elements, values_of, written_data, words_for, with_data, extension_bytes, written_values}
@@ -111,12 +112,12 @@ packet_start h extension rest i =
     let same : sources_end bytes ≡ sources_end bytes + 0 = omega arith in
     ap (λ (n : ℕ). drop n bytes) same ∙ packet_end h extension rest 0 i
 
-packet_length : (h : RtpHeader) (n : ℕ) (bytes rest : List ℕ) → IsHeader h → n < 2 ^ 16 → u16_at (packet h (190 ∷ 222 ∷ to_be_bytes w16 n ++ bytes) rest) (sources_end (packet h (190 ∷ 222 ∷ to_be_bytes w16 n ++ bytes) rest) + 2) ≡ n
+packet_length : (h : RtpHeader) (n : ℕ) (bytes rest : List ℕ) → IsHeader h → n < 2 ^ 16 → half_at (packet h (190 ∷ 222 ∷ to_be_bytes w16 n ++ bytes) rest) (sources_end (packet h (190 ∷ 222 ∷ to_be_bytes w16 n ++ bytes) rest) + 2) ≡ n
 packet_length h n bytes rest i small =
-    ap (λ (l : List ℕ). from_be_bytes w16 (take 2 l)) (packet_end h (190 ∷ 222 ∷ to_be_bytes w16 n ++ bytes) rest 2 i) ∙ from_be_bytes-to_be_bytes_2 n small
+    ap (from_be_bytes w16) (packet_end h (190 ∷ 222 ∷ to_be_bytes w16 n ++ bytes) rest 2 i) ∙ from_be_bytes-to_be_bytes_2 n small
 
 packet_profile : (h : RtpHeader) (n : ℕ) (bytes rest : List ℕ) → IsHeader h → extension_profile (packet h (190 ∷ 222 ∷ to_be_bytes w16 n ++ bytes) rest) ≡ 48862
-packet_profile h n bytes rest i = ap (λ (l : List ℕ). from_be_bytes w16 (take 2 l)) (packet_start h (190 ∷ 222 ∷ to_be_bytes w16 n ++ bytes) rest i)
+packet_profile h n bytes rest i = ap (from_be_bytes w16) (packet_start h (190 ∷ 222 ∷ to_be_bytes w16 n ++ bytes) rest i)
 
 packet_data : (h : RtpHeader) (n : ℕ) (bytes rest : List ℕ) → IsHeader h → length bytes ≡ 4 * n → take (4 * n) (drop (sources_end (packet h (190 ∷ 222 ∷ to_be_bytes w16 n ++ bytes) rest) + 4) (packet h (190 ∷ 222 ∷ to_be_bytes w16 n ++ bytes) rest)) ≡ bytes
 packet_data h n bytes rest i long =

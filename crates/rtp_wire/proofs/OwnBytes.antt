@@ -4,7 +4,8 @@ use Rattle.std.specs.Prelude.{◌==◌, if◌then◌else◌}
 use Rattle.std.specs.Int.{w16, w32, from_be_bytes}
 use Rattle.std.proofs.lemmas.Bool.Decides.{nat_tests}
 use Rattle.std.proofs.lemmas.Option.{cond_some}
-use Rattle.rtp_wire.specs.Bytes.{u16_at, words_of}
+use Rattle.rtp_base.specs.Wire.{half_at, word_at}
+use Rattle.rtp_wire.specs.Bytes.{words_of}
 use Rattle.std.proofs.lemmas.List.{length-take-le, take_at}
 use Rattle.rtp_wire.specs.declared.values.ExtensionValues.{ExtensionValues}
 use Rattle.rtp_wire.specs.Extensions.{no_values, values_of}
@@ -12,7 +13,7 @@ use Rattle.rtp_wire.specs.declared.extension.ExtensionMap.{ExtensionMap}
 use Rattle.rtp_wire.specs.declared.header.RtpHeader.{RtpHeader}
 use Rattle.rtp_wire.specs.Header.{version, has_extension_bit, source_count, sources_end, extension_profile, extension_length, extension_data, header_end, has_header, fields_of, header_of}
 use Rattle.rtp_wire.specs.HeaderLaws.{ReadsOwnBytes}
-use Rattle.rtp_wire.proofs.WordsAgain.{same_piece, same_byte}
+use Rattle.rtp_wire.proofs.WordsAgain.{same_piece, same_byte, half_cut, word_cut}
 
 -- what it takes for a header to stand
 pub record Stands (bytes : List ℕ) : Type 0 where
@@ -49,8 +50,14 @@ second_same a b h = sym (same_byte (header_end a) 1 a b h.front (omega (arith, e
 piece_same : (at k : ℕ) (a b : List ℕ) → Agree a b → at + k ≤ header_end a → take k (drop at b) ≡ take k (drop at a)
 piece_same at k a b h le = sym (same_piece (header_end a) at k a b h.front le)
 
-length_same : (a b : List ℕ) → Agree a b → has_extension_bit a ≡ true → 4 * u16_at b (sources_end a + 2) ≡ extension_length a
-length_same a b h x = ap (λ (l : List ℕ). 4 * from_be_bytes w16 l) (piece_same (sources_end a + 2) 2 a b h (omega (arith, end_extended a x)))
+half_same : (at : ℕ) (a b : List ℕ) → Agree a b → at + 2 ≤ header_end a → half_at b at ≡ half_at a at
+half_same at a b h le = sym (half_cut (drop at b)) ∙ ap (from_be_bytes w16) (piece_same at 2 a b h le) ∙ half_cut (drop at a)
+
+word_same : (at : ℕ) (a b : List ℕ) → Agree a b → at + 4 ≤ header_end a → word_at b at ≡ word_at a at
+word_same at a b h le = sym (word_cut (drop at b)) ∙ ap (from_be_bytes w32) (piece_same at 4 a b h le) ∙ word_cut (drop at a)
+
+length_same : (a b : List ℕ) → Agree a b → has_extension_bit a ≡ true → 4 * half_at b (sources_end a + 2) ≡ extension_length a
+length_same a b h x = ap (λ (n : ℕ). 4 * n) (half_same (sources_end a + 2) a b h (omega (arith, end_extended a x)))
 
 cond_same : {X : Type 0} (t : Bool) (x y u v : X) → (t ≡ true → x ≡ y) → u ≡ v → cond t x u ≡ cond t y v
 cond_same true x y u v f e = f refl
@@ -68,22 +75,22 @@ unfolding values_in
 values_same exts a b h =
     rw (first_same a b h)
     (cond_same (has_extension_bit a) _ _ _ _
-    (λ x. let profile : u16_at b (sources_end a) ≡ extension_profile a = ap (from_be_bytes w16) (piece_same (sources_end a) 2 a b h (omega (arith, end_extended a x))) in
+    (λ x. let profile : half_at b (sources_end a) ≡ extension_profile a = half_same (sources_end a) a b h (omega (arith, end_extended a x)) in
     let piece : take (extension_length a) (drop (sources_end a + 4) b) ≡ extension_data a = piece_same (sources_end a + 4) (extension_length a) a b h (omega (arith, end_extended a x)) in
-    ap (λ (n : ℕ). values_of exts n (take (4 * u16_at b (sources_end a + 2)) (drop (sources_end a + 4) b))) profile
+    ap (λ (n : ℕ). values_of exts n (take (4 * half_at b (sources_end a + 2)) (drop (sources_end a + 4) b))) profile
     ∙ ap (λ (n : ℕ). values_of exts (extension_profile a) (take n (drop (sources_end a + 4) b))) (length_same a b h x)
     ∙ ap (values_of exts (extension_profile a)) piece)
     refl)
 
 -- the header that these parts make
-header_with : ℕ → ℕ → List ℕ → List ℕ → List ℕ → List ℕ → ExtensionValues → ℕ → RtpHeader
+header_with : ℕ → ℕ → ℕ → ℕ → ℕ → List ℕ → ExtensionValues → ℕ → RtpHeader
 header_with first second number time source words values len = record {
   has_padding = first / 32 % 2 == 1;
   marker = second / 128 % 2 == 1;
   payload_type = second % 128;
-  sequence_number = from_be_bytes w16 number;
-  timestamp = from_be_bytes w32 time;
-  ssrc = from_be_bytes w32 source;
+  sequence_number = number;
+  timestamp = time;
+  ssrc = source;
   csrc_count = first % 16;
   csrc = words_of words ++ replicate (15 - first % 16) 0;
   ext_vals = values;
@@ -91,7 +98,7 @@ header_with first second number time source words values len = record {
 }
 
 fields_are : (exts : ExtensionMap) (bytes : List ℕ)
-    → fields_of exts bytes ≡ header_with (get_or bytes 0 0) (get_or bytes 1 0) (take 2 (drop 2 bytes)) (take 4 (drop 4 bytes)) (take 4 (drop 8 bytes)) (take (4 * source_count bytes) (drop 12 bytes)) (values_in exts bytes) (header_end bytes)
+    → fields_of exts bytes ≡ header_with (get_or bytes 0 0) (get_or bytes 1 0) (half_at bytes 2) (word_at bytes 4) (word_at bytes 8) (take (4 * source_count bytes) (drop 12 bytes)) (values_in exts bytes) (header_end bytes)
 unfolding header_with values_in
 fields_are exts bytes = refl
 
@@ -99,9 +106,9 @@ fields_same : (exts : ExtensionMap) (a b : List ℕ) → Agree a b → fields_of
 fields_same exts a b h =
     let first = first_same a b h in
     let second = second_same a b h in
-    let number = piece_same 2 2 a b h (omega (arith, end_bound a)) in
-    let time = piece_same 4 4 a b h (omega (arith, end_bound a)) in
-    let source = piece_same 8 4 a b h (omega (arith, end_bound a)) in
+    let number = half_same 2 a b h (omega (arith, end_bound a)) in
+    let time = word_same 4 a b h (omega (arith, end_bound a)) in
+    let source = word_same 8 a b h (omega (arith, end_bound a)) in
     let words : take (4 * source_count b) (drop 12 b) ≡ take (4 * source_count a) (drop 12 a) = rw first (piece_same 12 (4 * source_count a) a b h (omega (arith, end_bound a))) in
     let values = values_same exts a b h in
     let long = end_same a b h in

@@ -1,7 +1,7 @@
 -- The values that are taken from elements are the wire form of those that were written.
-use Rattle.std.proofs.Common.{◌≡◌, ℕ, ◌+◌, ◌*◌, ◌/◌, ◌%◌, ◌≤◌, ◌^◌, Bool, true, false, cond, List, [], ◌∷◌, ◌++◌, take, refl, sym, ap, ◌∙◌, arith, ◌⊎◌, inl, inr, ⊎_elim, Option, Some, None}
+use Rattle.std.proofs.Common.{◌≡◌, ℕ, ◌+◌, ◌*◌, ◌/◌, ◌%◌, ◌≤◌, ◌^◌, Bool, true, false, cond, List, [], ◌∷◌, ◌++◌, refl, sym, ap, ◌∙◌, arith, ◌⊎◌, inl, inr, ⊎_elim, Option, Some, None}
 use Rattle.std.specs.Prelude.{◌==◌, ◌||◌, ℤ, pos, negsuc}
-use Rattle.std.specs.Int.{w16, from_be_bytes, to_be_bytes, w64}
+use Rattle.std.specs.Int.{w16, to_be_bytes, w64}
 use Rattle.rtp_wire.specs.declared.values.ExtensionValues.{ExtensionValues}
 use Rattle.rtp_wire.specs.Extensions.{no_values, with_elements, written_values, named_by, is_at, with_value, written_ids, bytes_at, left_after, element_at, written_elements, is_named}
 use Rattle.rtp_wire.specs.declared.extension.ExtensionMap.{ExtensionMap}
@@ -13,38 +13,39 @@ use Rattle.rtp_wire.specs.declared.extension.Extension.TheVariants.{AudioLevel, 
 use Rattle.rtp_wire.specs.declared.values.VideoOrientation.{VideoOrientation as Turn}
 use Rattle.rtp_wire.specs.declared.values.VideoOrientation.TheVariants.{Deg0, Deg90, Deg180, Deg270}
 use Rattle.rtp_base.specs.Name.{is_name, name_of}
-use Rattle.rtp_wire.specs.Reading.{u24_of, level_of, hundredths}
-use Rattle.rtp_wire.specs.Writing.{u24_bytes, minus_level, level_byte, quarter_turns, delay_steps, both, wire_values}
+use Rattle.rtp_base.specs.Wire.{half_at, triple_at, double_at, triple_bytes}
+use Rattle.rtp_wire.specs.Reading.{level_of, hundredths}
+use Rattle.rtp_wire.specs.Writing.{minus_level, level_byte, quarter_turns, delay_steps, both, wire_values}
 
 -- numbers in bytes, read again
 
 byte_and_rest : (n p : ℕ) → n / p ≡ n / p % 256 + n / (p * 256) * 256
 byte_and_rest n p = omega (arith, div-div-eq-div-mul n p 256)
 
-u24_joined : (a b c n p q r : ℕ) → n ≡ a + p * 256 → p ≡ b + q * 256 → q ≡ c + r * 256 → c * 65536 + b * 256 + a + r * 16777216 ≡ n
-u24_joined a b c n p q r at_0 at_1 at_2 = omega arith
+triple_joined : (a b c n p q r : ℕ) → n ≡ a + p * 256 → p ≡ b + q * 256 → q ≡ c + r * 256 → c * 65536 + b * 256 + a + r * 16777216 ≡ n
+triple_joined a b c n p q r at_0 at_1 at_2 = omega arith
 
-u24_again : (n : ℕ) → u24_of (u24_bytes n) ≡ n % 2 ^ 24
-u24_again n =
+triple_again : (n : ℕ) → triple_at (triple_bytes n) 0 ≡ n % 2 ^ 24
+triple_again n =
     let low : n ≡ n % 256 + n / 256 * 256 = omega arith in
-    omega (arith, u24_joined _ _ _ n _ _ _ low (byte_and_rest n 256) (byte_and_rest n 65536))
+    omega (arith, triple_joined _ _ _ n _ _ _ low (byte_and_rest n 256) (byte_and_rest n 65536))
 
-u16_again : (n : ℕ) → n / 256 % 256 * 256 + n % 256 ≡ n % 2 ^ 16
-u16_again n =
+half_again : (n : ℕ) → half_at (to_be_bytes w16 n) 0 ≡ n % 2 ^ 16
+half_again n =
     let low : n ≡ n % 256 + n / 256 * 256 = omega arith in
     omega (arith, byte_and_rest n 256)
 
-u64_joined : (a b c d e f g h n p q r s t u v w : ℕ) → n ≡ a + p * 256 → p ≡ b + q * 256 → q ≡ c + r * 256 → r ≡ d + s * 256 → s ≡ e + t * 256 → t ≡ f + u * 256 → u ≡ g + v * 256 → v ≡ h + w * 256
+double_joined : (a b c d e f g h n p q r s t u v w : ℕ) → n ≡ a + p * 256 → p ≡ b + q * 256 → q ≡ c + r * 256 → r ≡ d + s * 256 → s ≡ e + t * 256 → t ≡ f + u * 256 → u ≡ g + v * 256 → v ≡ h + w * 256
     → h * 72057594037927936 + g * 281474976710656 + f * 1099511627776 + e * 4294967296 + d * 16777216 + c * 65536 + b * 256 + a + w * 18446744073709551616 ≡ n
-u64_joined a b c d e f g h n p q r s t u v w at_0 at_1 at_2 at_3 at_4 at_5 at_6 at_7 = omega arith
+double_joined a b c d e f g h n p q r s t u v w at_0 at_1 at_2 at_3 at_4 at_5 at_6 at_7 = omega arith
 
-u64_cut : (s n : ℕ) → s + n / 18446744073709551616 * 18446744073709551616 ≡ n → s ≡ n % 2 ^ 64
-u64_cut s n h = omega arith
+double_cut : (s n : ℕ) → s + n / 18446744073709551616 * 18446744073709551616 ≡ n → s ≡ n % 2 ^ 64
+double_cut s n h = omega arith
 
-u64_again : (n : ℕ) → from_be_bytes w64 (take 8 (to_be_bytes w64 n)) ≡ n % 2 ^ 64
-u64_again n =
+double_again : (n : ℕ) → double_at (to_be_bytes w64 n) 0 ≡ n % 2 ^ 64
+double_again n =
     let low : n ≡ n % 256 + n / 256 * 256 = omega arith in
-    u64_cut _ n (u64_joined _ _ _ _ _ _ _ _ n _ _ _ _ _ _ _ _ low (byte_and_rest n 256) (byte_and_rest n 65536) (byte_and_rest n 16777216) (byte_and_rest n 4294967296) (byte_and_rest n 1099511627776) (byte_and_rest n 281474976710656) (byte_and_rest n 72057594037927936))
+    double_cut _ n (double_joined _ _ _ _ _ _ _ _ n _ _ _ _ _ _ _ _ low (byte_and_rest n 256) (byte_and_rest n 65536) (byte_and_rest n 16777216) (byte_and_rest n 4294967296) (byte_and_rest n 1099511627776) (byte_and_rest n 281474976710656) (byte_and_rest n 72057594037927936))
 
 level_bound : (l : ℤ) → minus_level l ≤ 127
 level_bound (pos n) = omega arith
@@ -89,15 +90,15 @@ level_taken v None voice = refl
 level_taken v (Some l) None = refl
 level_taken v (Some l) (Some s) = same_level v _ _ _ _ (byte_level s (minus_level l) (level_bound l)) (byte_voice s (minus_level l) (level_bound l))
 
-time_taken : (v : ExtensionValues) (time : Option ℕ) → with_bytes v (Some AbsoluteSendTime) (option_map u24_bytes time) ≡ record v { abs_send_time = option_or (option_map (λ n. n % 2 ^ 24) time) v.abs_send_time }
+time_taken : (v : ExtensionValues) (time : Option ℕ) → with_bytes v (Some AbsoluteSendTime) (option_map triple_bytes time) ≡ record v { abs_send_time = option_or (option_map (λ n. n % 2 ^ 24) time) v.abs_send_time }
 unfolding with_bytes
 time_taken v None = refl
-time_taken v (Some n) = ap (λ (t : ℕ). let x : ExtensionValues = record v { abs_send_time = Some t } in x) (u24_again n)
+time_taken v (Some n) = ap (λ (t : ℕ). let x : ExtensionValues = record v { abs_send_time = Some t } in x) (triple_again n)
 
 number_taken : (v : ExtensionValues) (number : Option ℕ) → with_bytes v (Some TransportSequenceNumber) (option_map (to_be_bytes w16) number) ≡ record v { transport_cc = option_or (option_map (λ n. n % 2 ^ 16) number) v.transport_cc }
 unfolding with_bytes
 number_taken v None = refl
-number_taken v (Some n) = ap (λ (t : ℕ). let x : ExtensionValues = record v { transport_cc = Some t } in x) (u16_again n)
+number_taken v (Some n) = ap (λ (t : ℕ). let x : ExtensionValues = record v { transport_cc = Some t } in x) (half_again n)
 
 turn_taken : (v : ExtensionValues) (turn : Option Turn) → with_bytes v (Some VideoOrientation) (option_map (λ t. quarter_turns t ∷ []) turn) ≡ record v { video_orientation = option_or turn v.video_orientation }
 unfolding with_bytes
@@ -110,7 +111,7 @@ turn_taken v (Some Deg270) = refl
 capture_taken : (v : ExtensionValues) (time : Option ℕ) → with_bytes v (Some AbsoluteCaptureTime) (option_map (to_be_bytes w64) time) ≡ record v { abs_capture_time = option_or (option_map (λ n. n % 2 ^ 64) time) v.abs_capture_time }
 unfolding with_bytes
 capture_taken v None = refl
-capture_taken v (Some n) = ap (λ (t : ℕ). let x : ExtensionValues = record v { abs_capture_time = Some t } in x) (u64_again n)
+capture_taken v (Some n) = ap (λ (t : ℕ). let x : ExtensionValues = record v { abs_capture_time = Some t } in x) (double_again n)
 
 same_delays : (v : ExtensionValues) (a b c d : ℕ) → a ≡ b → c ≡ d → (let x : ExtensionValues = record v { play_delay_min = Some (hundredths a); play_delay_max = Some (hundredths c) } in x) ≡ record v { play_delay_min = Some (hundredths b); play_delay_max = Some (hundredths d) }
 same_delays v a b c d p q = cc
@@ -121,13 +122,13 @@ delays_again a b n small few e = (omega arith, omega arith)
 steps_bound : (t : MediaTime) → delay_steps t ≤ 4095
 steps_bound t = omega arith
 
-delays_taken : (v : ExtensionValues) (least greatest : Option MediaTime) → with_bytes v (Some PlayoutDelay) (both (λ a b. u24_bytes (delay_steps a * 4096 + delay_steps b)) least greatest)
+delays_taken : (v : ExtensionValues) (least greatest : Option MediaTime) → with_bytes v (Some PlayoutDelay) (both (λ a b. triple_bytes (delay_steps a * 4096 + delay_steps b)) least greatest)
     ≡ record v { play_delay_min = option_or (both (λ a b. hundredths (delay_steps a)) least greatest) v.play_delay_min; play_delay_max = option_or (both (λ a b. hundredths (delay_steps b)) least greatest) v.play_delay_max }
 unfolding with_bytes
 delays_taken v None greatest = refl
 delays_taken v (Some a) None = refl
 delays_taken v (Some a) (Some b) =
-    let again = delays_again (delay_steps a) (delay_steps b) (u24_of (u24_bytes (delay_steps a * 4096 + delay_steps b))) (steps_bound a) (steps_bound b) (u24_again (delay_steps a * 4096 + delay_steps b)) in
+    let again = delays_again (delay_steps a) (delay_steps b) (triple_at (triple_bytes (delay_steps a * 4096 + delay_steps b)) 0) (steps_bound a) (steps_bound b) (triple_again (delay_steps a * 4096 + delay_steps b)) in
     same_delays v _ _ _ _ again.0 again.1
 
 name_case : (bytes : List ℕ) → (name_of bytes ≡ Some bytes) ⊎ (name_of bytes ≡ None)

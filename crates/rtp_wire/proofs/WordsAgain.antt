@@ -3,11 +3,13 @@ use Rattle.std.proofs.Common.{◌≡◌, ℕ, zero, suc, ◌+◌, ◌-◌, ◌*�
 use Rattle.std.specs.List.{flat_map}
 use Rattle.std.specs.Int.{w32, from_be_bytes, to_be_bytes}
 use Rattle.std.proofs.lemmas.Nat.{from_be_bytes-to_be_bytes_4}
-use Rattle.rtp_wire.specs.Bytes.{words_of, u32_at}
+use Rattle.rtp_base.specs.Wire.{half_at, word_at}
+use Rattle.rtp_wire.specs.Bytes.{words_of}
 use Rattle.std.proofs.lemmas.List.{take_at, drop_at, drop-drop, set_at, take_more, drop-take, take-take, get_or-take}
 use Rattle.rtp_wire.specs.Header.{sources}
 use Rattle.std.proofs.lemmas.Grind.{flat_map-append}
 use Rattle.std.proofs.Math.ListN.{set}
+use Rattle.rtp_base.specs.Wire.{half_at, word_at}
 use Rattle.rtp_wire.specs.BytesLaws.{AreWords}
 
 -- the same bytes at the front hold the same numbers
@@ -18,7 +20,20 @@ same_piece n at k a b e h =
 pub same_byte : (n i : ℕ) (a b : List ℕ) → take n a ≡ take n b → i < n → get_or a i 0 ≡ get_or b i 0
 same_byte n i a b e h = sym (get_or-take n a i 0 h) ∙ ap (λ (l : List ℕ). get_or l i 0) e ∙ get_or-take n b i 0 h
 
-pub words_more : (i m n : ℕ) (bs : List ℕ) → m ≡ 4 * i → n ≡ m + 4 → n ≤ length bs → words_of (take n bs) ≡ words_of (take m bs) ++ u32_at bs m ∷ []
+-- a number is read off its own bytes
+pub half_cut : (bytes : List ℕ) → half_at (take 2 bytes) 0 ≡ half_at bytes 0
+half_cut [] = refl
+half_cut (a ∷ []) = refl
+half_cut (a ∷ b ∷ rest) = refl
+
+pub word_cut : (bytes : List ℕ) → word_at (take 4 bytes) 0 ≡ word_at bytes 0
+word_cut [] = refl
+word_cut (a ∷ []) = refl
+word_cut (a ∷ b ∷ []) = refl
+word_cut (a ∷ b ∷ c ∷ []) = refl
+word_cut (a ∷ b ∷ c ∷ d ∷ rest) = refl
+
+pub words_more : (i m n : ℕ) (bs : List ℕ) → m ≡ 4 * i → n ≡ m + 4 → n ≤ length bs → words_of (take n bs) ≡ words_of (take m bs) ++ word_at bs m ∷ []
 words_more i m n [] e f h = absurd (omega arith)
 words_more i m n (a ∷ []) e f h = absurd (omega arith)
 words_more i m n (a ∷ b ∷ []) e f h = absurd (omega arith)
@@ -80,13 +95,13 @@ put_more bytes old words i h e =
     ∙ ap (λ (n : ℕ). flat_map (to_be_bytes w32) (take (i + 1) words) ++ drop n old) (sym next)
 
 -- one source more in the array
-pub source_put : (bytes sources : List ℕ) (i v : ℕ) → i < 15 → 12 + 4 * i + 4 ≤ length bytes → v ≡ u32_at bytes (12 + 4 * i) → sources ≡ words_of (take (4 * i) (drop 12 bytes)) ++ replicate (15 - i) 0
+pub source_put : (bytes sources : List ℕ) (i v : ℕ) → i < 15 → 12 + 4 * i + 4 ≤ length bytes → v ≡ word_at bytes (12 + 4 * i) → sources ≡ words_of (take (4 * i) (drop 12 bytes)) ++ replicate (15 - i) 0
     → set sources i v ≡ words_of (take (4 * (i + 1)) (drop 12 bytes)) ++ replicate (15 - (i + 1)) 0
 source_put bytes sources i v lt h e inv =
     let xs : List ℕ = words_of (take (4 * i) (drop 12 bytes)) in
     let long : length xs ≡ i = length-words_of i (4 * i) (drop 12 bytes) refl (omega (arith, length-drop 12 bytes)) in
     let more = words_more i (4 * i) (4 * (i + 1)) (drop 12 bytes) refl (omega arith) (omega (arith, length-drop 12 bytes)) in
-    let same : u32_at (drop 12 bytes) (4 * i) ≡ v = ap (λ (l : List ℕ). from_be_bytes w32 (take 4 l)) (drop-drop (4 * i) 12 bytes) ∙ sym e in
+    let same : word_at (drop 12 bytes) (4 * i) ≡ v = ap (from_be_bytes w32) (drop-drop (4 * i) 12 bytes) ∙ sym e in
     ap (λ (s : List ℕ). set s i v) inv
     ∙ words_put xs i v long lt
     ∙ ap (λ (l : List ℕ). l ++ replicate (15 - (i + 1)) 0) (sym (more ∙ ap (λ (n : ℕ). xs ++ n ∷ []) same))

@@ -2,7 +2,8 @@
 use Rattle.std.specs.Prelude.{ℕ, ◌+◌, ◌-◌, ◌*◌, ◌/◌, ◌%◌, Bool, not, ◌==◌, nat_le, nat_lt, ◌&&◌, ◌||◌, if◌then◌else◌, Option, Some, None, List, ◌∷◌, ◌++◌, length, take, drop, replicate, slice_index}
 use Rattle.std.specs.List.{flat_map}
 use Rattle.std.specs.Int.{w16, w32, to_be_bytes}
-use Rattle.rtp_wire.specs.Bytes.{u16_at, u32_at, words_of}
+use Rattle.rtp_base.specs.Wire.{half_at, word_at}
+use Rattle.rtp_wire.specs.Bytes.{words_of}
 use Rattle.rtp_wire.specs.declared.extension.ExtensionMap.{ExtensionMap}
 use Rattle.rtp_wire.specs.declared.header.RtpHeader.{RtpHeader}
 use Rattle.rtp_wire.specs.Extensions.{no_values, values_of, extension_bytes, written_values}
@@ -36,10 +37,10 @@ sources_end bytes = 12 + 4 * source_count bytes
 
 -- an extension has a profile, its length in words and so many words of data (RFC 3550 section 5.3.1)
 abbrev pub extension_profile : List ℕ → ℕ
-extension_profile bytes = u16_at bytes (sources_end bytes)
+extension_profile bytes = half_at bytes (sources_end bytes)
 
 abbrev pub extension_length : List ℕ → ℕ
-extension_length bytes = 4 * u16_at bytes (sources_end bytes + 2)
+extension_length bytes = 4 * half_at bytes (sources_end bytes + 2)
 
 abbrev pub extension_data : List ℕ → List ℕ
 extension_data bytes = take (extension_length bytes) (drop (sources_end bytes + 4) bytes)
@@ -62,9 +63,9 @@ fields_of exts bytes = record {
   has_padding = has_padding_bit bytes;
   marker = has_marker_bit bytes;
   payload_type = type_number bytes;
-  sequence_number = u16_at bytes 2;
-  timestamp = u32_at bytes 4;
-  ssrc = u32_at bytes 8;
+  sequence_number = half_at bytes 2;
+  timestamp = word_at bytes 4;
+  ssrc = word_at bytes 8;
   csrc_count = source_count bytes;
   csrc = sources bytes ++ replicate (15 - source_count bytes) 0;
   ext_vals = if has_extension_bit bytes then values_of exts (extension_profile bytes) (extension_data bytes) else no_values;

@@ -16,3 +16,4 @@ pub use Rattle.rtp_base.specs.NackEntry
 pub use Rattle.rtp_base.specs.Name
 pub use Rattle.rtp_base.specs.Widen
 pub use Rattle.rtp_base.specs.Window
+pub use Rattle.rtp_base.specs.Wire

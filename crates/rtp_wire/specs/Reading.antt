@@ -1,13 +1,9 @@
 -- The value of an extension, as its bytes hold it.
-use Rattle.std.specs.Prelude.{ℕ, ◌+◌, ◌*◌, ◌/◌, ◌%◌, ◌==◌, ℤ, pos, ◌-ℤ◌, Bool, ◌||◌, Option, Some, None, List, length, take, slice_index, if◌then◌else◌}
-use Rattle.std.specs.Int.{w64, from_be_bytes}
+use Rattle.std.specs.Prelude.{ℕ, ◌/◌, ◌%◌, ◌==◌, ℤ, pos, ◌-ℤ◌, Bool, ◌||◌, Option, Some, None, List, length, slice_index, if◌then◌else◌}
+use Rattle.rtp_base.specs.Wire.{half_at, triple_at, double_at}
 use Rattle.rtp_base.specs.declared.media_time.MediaTime.{MediaTime}
 use Rattle.rtp_wire.specs.declared.values.VideoOrientation.{VideoOrientation as Turn}
 use Rattle.rtp_wire.specs.declared.values.VideoOrientation.TheVariants.{Deg0, Deg90, Deg180, Deg270}
-
--- the number of three bytes
-abbrev pub u24_of : List ℕ → ℕ
-u24_of bytes = slice_index bytes 0 * 65536 + slice_index bytes 1 * 256 + slice_index bytes 2
 
 -- A value has one length, or two; bytes of another length are passed over.
 abbrev pub has_length : ℕ → List ℕ → Bool
@@ -15,11 +11,11 @@ has_length n bytes = length bytes == n
 
 -- the transport number: 16 bits
 abbrev pub transport_in : List ℕ → Option ℕ
-transport_in bytes = if has_length 2 bytes then Some (slice_index bytes 0 * 256 + slice_index bytes 1) else None
+transport_in bytes = if has_length 2 bytes then Some (half_at bytes 0) else None
 
 -- the time of sending: 24 bits
 abbrev pub send_time_in : List ℕ → Option ℕ
-send_time_in bytes = if has_length 3 bytes then Some (u24_of bytes) else None
+send_time_in bytes = if has_length 3 bytes then Some (triple_at bytes 0) else None
 
 -- voice activity is the high bit, and the other seven are minus the level (RFC 6464 section 3)
 abbrev pub level_of : ℕ → ℤ
@@ -40,14 +36,14 @@ turn_in bytes = if has_length 1 bytes then Some (turned_by (slice_index bytes 0 
 
 -- the time of capture: 64 bits of NTP, behind which an offset of 64 bits may stand
 abbrev pub capture_in : List ℕ → Option ℕ
-capture_in bytes = if has_length 8 bytes || has_length 16 bytes then Some (from_be_bytes w64 (take 8 bytes)) else None
+capture_in bytes = if has_length 8 bytes || has_length 16 bytes then Some (double_at bytes 0) else None
 
 -- the least and the greatest delay: 12 bits each, in 10 ms
 abbrev pub hundredths : ℕ → MediaTime
 hundredths n = record { numer = n; frequency = 100 }
 
 abbrev pub least_delay_in : List ℕ → Option MediaTime
-least_delay_in bytes = if has_length 3 bytes then Some (hundredths (u24_of bytes / 4096)) else None
+least_delay_in bytes = if has_length 3 bytes then Some (hundredths (triple_at bytes 0 / 4096)) else None
 
 abbrev pub greatest_delay_in : List ℕ → Option MediaTime
-greatest_delay_in bytes = if has_length 3 bytes then Some (hundredths (u24_of bytes % 4096)) else None
+greatest_delay_in bytes = if has_length 3 bytes then Some (hundredths (triple_at bytes 0 % 4096)) else None

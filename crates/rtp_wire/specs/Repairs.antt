@@ -1,11 +1,11 @@
 -- The payload of a repair, and of a packet that is only padding.
 use Rattle.std.specs.Prelude.{ℕ, ◌+◌, ◌-◌, ◌*◌, ◌/◌, nat_le, if◌then◌else◌, Option, Some, None, List, [], ◌∷◌, ◌++◌, length, drop, replicate}
-use Rattle.rtp_wire.specs.Bytes.{u16_at}
+use Rattle.rtp_base.specs.Wire.{half_at}
 
 -- a repair begins with the number of the packet that it repairs, behind which stands that packet's payload (RFC 4588
 -- section 4)
 abbrev pub original_of : List ℕ → Option (ℕ × List ℕ)
-original_of payload = if nat_le 2 (length payload) then Some (u16_at payload 0, drop 2 payload) else None
+original_of payload = if nat_le 2 (length payload) then Some (half_at payload 0, drop 2 payload) else None
 
 -- a blank packet of an asked length is that length in whole blocks of 16 bytes
 abbrev pub blank_length : ℕ → ℕ

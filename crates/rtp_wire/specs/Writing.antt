@@ -9,11 +9,8 @@ use Rattle.rtp_wire.specs.declared.values.ExtensionValues.{ExtensionValues}
 use Rattle.rtp_wire.specs.declared.values.VideoOrientation.{VideoOrientation as Turn}
 use Rattle.rtp_wire.specs.declared.values.VideoOrientation.TheVariants.{Deg0, Deg90, Deg180, Deg270}
 use Rattle.rtp_base.specs.Name.{name_of}
+use Rattle.rtp_base.specs.Wire.{triple_bytes}
 use Rattle.rtp_wire.specs.Reading.{level_of, hundredths}
-
--- the low 24 bits of a number
-abbrev pub u24_bytes : ℕ → List ℕ
-u24_bytes n = n / 65536 % 256 ∷ n / 256 % 256 ∷ n % 256 ∷ []
 
 -- minus a level, from 0 to 127: a level above 0 counts as 0, and one below -127 as -127
 abbrev pub minus_level : ℤ → ℕ
@@ -48,14 +45,14 @@ bytes_or_none (Some bytes) = bytes
 -- the bytes of the value of an extension, if it is there
 abbrev pub value_bytes : Extension → ExtensionValues → Option (List ℕ)
 value_bytes AudioLevel v = both (λ level voice. level_byte level voice ∷ []) v.audio_level v.voice_activity
-value_bytes AbsoluteSendTime v = option_map u24_bytes v.abs_send_time
+value_bytes AbsoluteSendTime v = option_map triple_bytes v.abs_send_time
 value_bytes TransportSequenceNumber v = option_map (to_be_bytes w16) v.transport_cc
 value_bytes RtpMid v = option_and_then name_of v.mid
 value_bytes RtpStreamId v = option_and_then name_of v.rid
 value_bytes RepairedRtpStreamId v = option_and_then name_of v.rid_repair
 value_bytes VideoOrientation v = option_map (λ turn. quarter_turns turn ∷ []) v.video_orientation
 value_bytes AbsoluteCaptureTime v = option_map (to_be_bytes w64) v.abs_capture_time
-value_bytes PlayoutDelay v = both (λ least greatest. u24_bytes (delay_steps least * 4096 + delay_steps greatest)) v.play_delay_min v.play_delay_max
+value_bytes PlayoutDelay v = both (λ least greatest. triple_bytes (delay_steps least * 4096 + delay_steps greatest)) v.play_delay_min v.play_delay_max
 
 -- the values without that of an extension
 abbrev pub without : Extension → ExtensionValues → ExtensionValues

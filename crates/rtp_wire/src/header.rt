@@ -4,11 +4,11 @@ ghost use Rattle.std.specs.Int.{w16, w32, to_be_bytes};
 ghost use Rattle.std.specs.Option.{option_map};
 ghost use Rattle.rtp_base.specs.Widen.{widen16};
 ghost use Rattle.rtp_wire.specs.Repairs.{original_of, blank_length, blank_payload};
-ghost use Rattle.rtp_wire.specs.Bytes.{u16_at, u32_at};
 ghost use Rattle.rtp_wire.specs.BytesLaws.{AreWords};
 
 use crate::extension::ExtensionMap;
 use crate::values::ExtensionValues;
+use rtp_base::wire::{half, put_word, word};
 use rtp_base::{Pt, SeqNo, Ssrc, widen16 as wide16};
 
 /// The header of an RTP packet (RFC 3550 section 5.1).
@@ -34,22 +34,6 @@ pub struct RtpHeader {
     pub ext_vals: ExtensionValues,
     /// The bytes of the header, with sources and extension.
     pub header_len: usize,
-}
-
-fn u16_at(bytes: &[u8], at: usize) -> u16
-    requires { at + 2 ≤ length bytes.now }
-    ensures { result ≡ u16_at bytes.now at }
-{
-    let (_, rest) = bytes.split_at(at);
-    u16::from_be_bytes([rest[0], rest[1]])
-}
-
-fn u32_at(bytes: &[u8], at: usize) -> u32
-    requires { at + 4 ≤ length bytes.now }
-    ensures { result ≡ u32_at bytes.now at }
-{
-    let (_, rest) = bytes.split_at(at);
-    u32::from_be_bytes([rest[0], rest[1], rest[2], rest[3]])
 }
 
 impl RtpHeader {
@@ -79,7 +63,7 @@ impl RtpHeader {
     {
         let end = Self::sources_end(bytes);
         if Self::is_extended(bytes) {
-            end + 4 + 4 * usize::from(u16_at(bytes, end + 2))
+            end + 4 + 4 * usize::from(half(bytes, end + 2))
         } else {
             end
         }
@@ -107,7 +91,7 @@ impl RtpHeader {
     {
         let count = usize::from(bytes[0] & 15);
         for i in 0..count {
-            places[i] = u32_at(bytes, 12 + 4 * i);
+            places[i] = word(bytes, 12 + 4 * i);
         }
     }
 
@@ -131,9 +115,9 @@ impl RtpHeader {
             has_padding: (bytes[0] >> 5) & 1 == 1,
             marker: bytes[1] >> 7 == 1,
             payload_type: Pt::from(bytes[1] & 0x7f),
-            sequence_number: u16_at(bytes, 2),
-            timestamp: u32_at(bytes, 4),
-            ssrc: Ssrc::from(u32_at(bytes, 8)),
+            sequence_number: half(bytes, 2),
+            timestamp: word(bytes, 4),
+            ssrc: Ssrc::from(word(bytes, 8)),
             csrc_count: usize::from(bytes[0] & 15),
             csrc: [0; 15],
             ext_vals: ExtensionValues::none(),
@@ -143,8 +127,8 @@ impl RtpHeader {
         if Self::is_extended(bytes) {
             let end = Self::sources_end(bytes);
             let (_, rest) = bytes.split_at(end + 4);
-            let (data, _) = rest.split_at(4 * usize::from(u16_at(bytes, end + 2)));
-            header.ext_vals.fill(exts, u16_at(bytes, end), data);
+            let (data, _) = rest.split_at(4 * usize::from(half(bytes, end + 2)));
+            header.ext_vals.fill(exts, half(bytes, end), data);
         }
         header
     }
@@ -238,7 +222,7 @@ impl RtpHeader {
             return None;
         }
         let (_, original) = payload.split_at(2);
-        Some((u16_at(payload, 0), original))
+        Some((half(payload, 0), original))
     }
 
     /// Writes the low 16 bits of the number of the packet that a repair repairs to the front of its payload, and gives their
@@ -278,21 +262,12 @@ fn are_words(words: &[u32])
     let _count = words.len();
 }
 
-fn put_u32(bytes: &mut [u8], at: usize, number: u32)
-    requires { at + 4 ≤ length bytes.old }
-    ensures { bytes.new ≡ take at bytes.old ++ to_be_bytes w32 number ++ drop (at + 4) bytes.old }
-{
-    let (_, rest) = bytes.split_at_mut(at);
-    let (word, _) = rest.split_at_mut(4);
-    word.copy_from_slice(&number.to_be_bytes());
-}
-
 // Writes numbers one after another, and leaves what is behind them.
 fn put_words(bytes: &mut [u8], words: &[u32])
     requires { length bytes.old ≡ 4 * length words.now }
     ensures { bytes.new ≡ flat_map (to_be_bytes w32) words.now }
 {
     for i in 0..words.len() {
-        put_u32(bytes, 4 * i, words[i]);
+        put_word(bytes, 4 * i, words[i]);
     }
 }

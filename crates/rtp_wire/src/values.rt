@@ -1,8 +1,9 @@
 ghost use Rattle.std.specs.Prelude.{◌≡◌, ◌%◌, ◌<◌, ◌≤◌, ◌^◌, length};
-ghost use Rattle.rtp_wire.specs.Reading.{u24_of, transport_in, send_time_in, level_in, voice_in, turn_in, capture_in, least_delay_in, greatest_delay_in};
+ghost use Rattle.rtp_wire.specs.Reading.{transport_in, send_time_in, level_in, voice_in, turn_in, capture_in, least_delay_in, greatest_delay_in};
 
 use crate::extension::{Extension, ExtensionMap};
 use crate::{AbsCaptureTime, AbsSendTime};
+use rtp_base::wire::{double, half, triple};
 use rtp_base::{Frequency, MediaTime, Mid, Rid};
 
 /// How the picture has to be turned to be shown upright, in degrees clockwise.
@@ -188,19 +189,11 @@ impl ExtensionValues {
     }
 }
 
-fn u24_of(bytes: &[u8]) -> u32
-    requires { length bytes.now ≡ 3 }
-    ensures value { result ≡ u24_of bytes.now }
-    ensures bound { result < 2 ^ 24 }
-{
-    u32::from_be_bytes([0, bytes[0], bytes[1], bytes[2]])
-}
-
 fn transport_in(bytes: &[u8]) -> Option<u16>
     ensures { result ≡ transport_in bytes.now }
 {
     if bytes.len() == 2 {
-        Some(u16::from_be_bytes([bytes[0], bytes[1]]))
+        Some(half(bytes, 0))
     } else {
         None
     }
@@ -210,7 +203,7 @@ fn send_time_in(bytes: &[u8]) -> Option<AbsSendTime>
     ensures { result ≡ send_time_in bytes.now }
 {
     if bytes.len() == 3 {
-        Some(AbsSendTime::from_units(u64::from(u24_of(bytes))))
+        Some(AbsSendTime::from_units(u64::from(triple(bytes, 0))))
     } else {
         None
     }
@@ -256,9 +249,7 @@ fn capture_in(bytes: &[u8]) -> Option<AbsCaptureTime>
     if bytes.len() != 8 && bytes.len() != 16 {
         return None;
     }
-    Some(AbsCaptureTime::from_ntp_64(u64::from_be_bytes([
-        bytes[0], bytes[1], bytes[2], bytes[3], bytes[4], bytes[5], bytes[6], bytes[7],
-    ])))
+    Some(AbsCaptureTime::from_ntp_64(double(bytes, 0)))
 }
 
 fn least_delay_in(bytes: &[u8]) -> Option<MediaTime>
@@ -266,7 +257,7 @@ fn least_delay_in(bytes: &[u8]) -> Option<MediaTime>
 {
     if bytes.len() == 3 {
         Some(MediaTime {
-            numer: u64::from(u24_of(bytes) / 4096),
+            numer: u64::from(triple(bytes, 0) / 4096),
             frequency: Frequency::HUNDREDTHS,
         })
     } else {
@@ -279,7 +270,7 @@ fn greatest_delay_in(bytes: &[u8]) -> Option<MediaTime>
 {
     if bytes.len() == 3 {
         Some(MediaTime {
-            numer: u64::from(u24_of(bytes) % 4096),
+            numer: u64::from(triple(bytes, 0) % 4096),
             frequency: Frequency::HUNDREDTHS,
         })
     } else {

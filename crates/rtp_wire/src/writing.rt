@@ -1,9 +1,10 @@
 ghost use Rattle.std.specs.Prelude.{◌≡◌, ◌≤◌, ◌++◌, length, drop, unwrap_or};
 ghost use Rattle.std.specs.Option.{option_map};
-ghost use Rattle.rtp_wire.specs.Writing.{u24_bytes, level_byte, quarter_turns, delay_steps};
+ghost use Rattle.rtp_wire.specs.Writing.{level_byte, quarter_turns, delay_steps};
 
 use crate::extension::{Extension, ExtensionMap};
 use crate::values::{ExtensionValues, VideoOrientation};
+use rtp_base::wire::triple_bytes;
 use rtp_base::{Frequency, MediaTime};
 
 // Writes a piece to the front of the bytes, and gives its length.
@@ -15,13 +16,6 @@ fn put(bytes: &mut [u8], piece: &[u8]) -> usize
     let (front, _) = bytes.split_at_mut(piece.len());
     front.copy_from_slice(piece);
     piece.len()
-}
-
-fn u24_bytes(number: u32) -> [u8; 3]
-    ensures { result ≡ u24_bytes number }
-{
-    let [_, high, middle, low] = number.to_be_bytes();
-    [high, middle, low]
 }
 
 fn level_byte(level: i8, voice: bool) -> u8
@@ -71,7 +65,7 @@ impl ExtensionValues {
             }
             Extension::AbsoluteSendTime => {
                 let time = self.abs_send_time?;
-                Some(put(bytes, &u24_bytes(time.units())))
+                Some(put(bytes, &triple_bytes(time.units())))
             }
             Extension::TransportSequenceNumber => {
                 let number = self.transport_cc?;
@@ -100,7 +94,7 @@ impl ExtensionValues {
             Extension::PlayoutDelay => {
                 let least = delay_steps(self.play_delay_min?);
                 let greatest = delay_steps(self.play_delay_max?);
-                Some(put(bytes, &u24_bytes(least * 4096 + greatest)))
+                Some(put(bytes, &triple_bytes(least * 4096 + greatest)))
             }
         }
     }

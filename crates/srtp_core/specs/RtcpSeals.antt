@@ -1,6 +1,7 @@
 -- Sealed RTCP packets (RFC 3711, 3.4; RFC 7714, 9 and 17).
 use Rattle.std.specs.Prelude.{ℕ, ◌≡◌, ◌≤◌, ◌+◌, ◌-◌, ◌%◌, ◌^◌, Bool, true, false, nat_le, List, [], ◌++◌, length, take, drop}
-use Rattle.std.specs.Int.{w32, to_be_bytes, from_be_bytes}
+use Rattle.std.specs.Int.{w32, to_be_bytes}
+use Rattle.rtp_base.specs.Wire.{word_at}
 use Rattle.srtp_core.specs.Cipher.{CipherMeaning}
 use Rattle.srtp_core.specs.Streams.{streamed}
 use Rattle.srtp_core.specs.Hmac.{hmac_of}
@@ -16,7 +17,7 @@ e_and_index false index = to_be_bytes w32 index
 
 -- the SSRC of a packet whose first 8 bytes these are
 abbrev pub sender_of : List ℕ → ℕ
-sender_of header = from_be_bytes w32 (drop 4 header)
+sender_of header = word_at header 4
 
 -- RFC 7714, 9.2 and 9.3. Encrypted: the first 8 bytes, the rest sealed with these 8 bytes and the word as associated
 -- data, the word. Else: the packet, the tag over packet and word, the word
@@ -54,7 +55,7 @@ word_place AeadAes256Gcm = 4
 
 -- what a datagram states: its word, and in it the E bit and the index
 unfoldable pub stated_word : SrtpProfile → List ℕ → ℕ
-stated_word profile bytes = from_be_bytes w32 (drop (length bytes - word_place profile) bytes)
+stated_word profile bytes = word_at bytes (length bytes - word_place profile)
 
 abbrev pub stated_bit : SrtpProfile → List ℕ → Bool
 stated_bit profile bytes = nat_le (2 ^ 31) (stated_word profile bytes)
@@ -70,5 +71,5 @@ pub record RtcpOpensTo (cipher : CipherMeaning) (profile : SrtpProfile) (keys : 
 -- the same with the authenticated encryption alone: the word is the last 4 bytes
 pub record GcmRtcpOpens (cipher : CipherMeaning) (key salt bytes plain : List ℕ) : Type 0 where
   pub header : 8 ≤ length plain
-  pub seal : let word = from_be_bytes w32 (drop (length bytes - 4) bytes) in
+  pub seal : let word = word_at bytes (length bytes - 4) in
       gcm_sealed_rtcp cipher key salt (nat_le (2 ^ 31) word) (word % 2 ^ 31) (take 8 plain) (drop 8 plain) ≡ bytes

@@ -10,7 +10,8 @@ use crate::aes_128_cm_sha1_80::{
     rtp_iv, rtp_tag, rtp_verify,
 };
 use crate::cipher::SrtpCipher;
-use crate::srtcp::{E_BIT, HEADER_LEN, WORD_LEN, number_of, sender};
+use crate::srtcp::{E_BIT, HEADER_LEN, WORD_LEN, sender};
+use rtp_base::wire;
 use std::alloc::{AllocError, Global};
 
 /// The length of the shortest sealed RTCP packet, in bytes.
@@ -207,7 +208,7 @@ pub(crate) fn open_rtcp<C: SrtpCipher>(
         return Ok(None);
     }
     let (packet, word) = text.split_at(text.len() - WORD_LEN);
-    let number = number_of(word);
+    let number = wire::word(word, 0);
     if number >= E_BIT {
         Ok(Some(deciphered(alloc, cipher, keys, packet, number % E_BIT)?))
     } else {

@@ -7,7 +7,8 @@ use crate::SRTCP_OVERHEAD;
 use crate::aead_aes_128_gcm::TAG_LEN;
 use crate::cipher::SrtpCipher;
 use crate::gcm::{GcmKeys, rtcp_iv};
-use crate::srtcp::{E_BIT, HEADER_LEN, WORD_LEN, number_of, sender};
+use crate::srtcp::{E_BIT, HEADER_LEN, WORD_LEN, sender};
+use rtp_base::wire;
 use std::alloc::{AllocError, Global};
 
 /// The length of the shortest sealed RTCP packet, in bytes.
@@ -109,7 +110,7 @@ pub(crate) fn open_rtcp<C: SrtpCipher>(
         return Ok(None);
     }
     let (sealed, word) = buf.split_at(buf.len() - WORD_LEN);
-    let number = number_of(word);
+    let number = wire::word(word, 0);
     let index = number % E_BIT;
     if number >= E_BIT {
         let (header, body) = sealed.split_at(HEADER_LEN);

@@ -3,8 +3,9 @@ ghost use Rattle.srtp_core.specs.Keys.{material_len};
 ghost use Rattle.srtp_core.specs.Names.{profile_name};
 ghost use Rattle.srtp_core.specs.RtcpSeals.{word_place, stated_index};
 
-use crate::srtcp::{E_BIT, WORD_LEN, number_of};
+use crate::srtcp::{E_BIT, WORD_LEN};
 use crate::{aead_aes_128_gcm as gcm_128, aead_aes_256_gcm as gcm_256, aes_128_cm_sha1_80 as cm};
+use rtp_base::wire::word;
 use std::fmt;
 
 /// A protection profile (RFC 5764 section 4.1.2, RFC 7714 section 14.2).
@@ -58,8 +59,7 @@ impl SrtpProfile {
         if datagram.len() < place {
             return None;
         }
-        let (_, word) = datagram.split_at(datagram.len() - place);
-        Some(number_of(word) % E_BIT)
+        Some(word(datagram, datagram.len() - place) % E_BIT)
     }
 }
 

@@ -5,7 +5,7 @@ use Rattle.std.proofs.lemmas.List.{append-nil}
 use Rattle.std.proofs.lemmas.Bool.{le-leb, lt-leb}
 use Rattle.std.proofs.lemmas.List.Concat.{flat_map-append}
 use Rattle.twcc_core.specs.declared.status.PacketStatus.{PacketStatus}
-use Rattle.twcc_core.specs.Wire.{halves, Puts}
+use Rattle.rtp_base.specs.Wire.{halves, Puts}
 use Rattle.twcc_core.specs.Chunks.{symbol_at, run_of, vector_of, chunk_of, told_by, chunks_within, chunks_of}
 use Rattle.twcc_core.proofs.Rows.{behind_more}
 

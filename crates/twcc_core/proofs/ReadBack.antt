@@ -12,7 +12,7 @@ use Rattle.std.proofs.lemmas.Nat.{from_be_bytes-to_be_bytes_2, from_be_bytes-to_
 use Rattle.twcc_core.specs.declared.status.PacketStatus.{PacketStatus}
 use Rattle.twcc_core.specs.declared.status.PacketStatus.TheVariants.{NotReceived, Received}
 use Rattle.twcc_core.specs.declared.feedback.Twcc.{Twcc}
-use Rattle.twcc_core.specs.Wire.{half_at, word_at, halves, words}
+use Rattle.rtp_base.specs.Wire.{half_at, word_at, halves, words}
 use Rattle.twcc_core.specs.Statuses.{symbol_of, delta_text, status_at, statuses_of}
 use Rattle.twcc_core.specs.Chunks.{two_bit_symbols, chunk_symbols, with_symbols, symbols_within, symbols_of, symbol_at, run_of, vector_of, chunk_of, told_by, chunks_within, chunks_of}
 use Rattle.twcc_core.specs.Feedback.{with_rows, twcc_of, twcc_fields, fill_of, twcc_bytes}

@@ -4,7 +4,7 @@ use Rattle.std.specs.List.{flat_map}
 use Rattle.std.proofs.lemmas.List.{take_more, append-nil}
 use Rattle.std.proofs.lemmas.List.Concat.{length-flat_map, flat_map-append}
 use Rattle.std.proofs.lemmas.List.Sums.{sum_by-take-le}
-use Rattle.twcc_core.specs.Wire.{Puts, LeavesBehind}
+use Rattle.rtp_base.specs.Wire.{Puts, LeavesBehind}
 
 flat_map_next : {T : Type 0} (text : T → List ℕ) (rows : List T) (i : ℕ) (x : T) → i < length rows → x ≡ get_or rows i x
     → flat_map text (take (i + 1) rows) ≡ flat_map text (take i rows) ++ text x

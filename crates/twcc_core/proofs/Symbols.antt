@@ -5,7 +5,7 @@ use Rattle.std.proofs.lemmas.List.{append-nil, length-take, take_min}
 use Rattle.std.proofs.lemmas.Bool.{le-ltb, lt-ltb}
 use Rattle.std.proofs.Math.ListN.{drop_of_length-le}
 use Rattle.twcc_core.specs.declared.status.PacketStatus.{PacketStatus}
-use Rattle.twcc_core.specs.Wire.{half_at}
+use Rattle.rtp_base.specs.Wire.{half_at}
 use Rattle.twcc_core.specs.Statuses.{status_at, statuses_of}
 use Rattle.twcc_core.specs.Chunks.{one_bit_symbols, chunk_symbols, with_symbols, symbols_within, symbols_of}
 

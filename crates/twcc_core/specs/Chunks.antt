@@ -3,7 +3,7 @@
 use Rattle.std.specs.Prelude.{ℕ, zero, suc, ◌+◌, ◌-◌, ◌*◌, ◌/◌, ◌%◌, ◌==◌, min, List, [], ◌∷◌, ◌++◌, length, take, drop, replicate, slice_get, nat_lt, nat_le, Option, Some, None, if◌then◌else◌}
 use Rattle.std.specs.List.{take_while}
 use Rattle.std.specs.Option.{option_map, option_map_or}
-use Rattle.twcc_core.specs.Wire.{half_at}
+use Rattle.rtp_base.specs.Wire.{half_at}
 use Rattle.twcc_core.specs.Statuses.{symbol_of}
 use Rattle.twcc_core.specs.declared.status.PacketStatus.{PacketStatus}
 use Rattle.twcc_core.specs.declared.chunk.Told.{Told}

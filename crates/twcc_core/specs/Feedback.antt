@@ -3,7 +3,7 @@ use Rattle.std.specs.Prelude.{ℕ, ◌+◌, ◌-◌, ◌*◌, ◌/◌, ◌%◌, 
 use Rattle.std.specs.List.{flat_map}
 use Rattle.std.specs.Option.{option_map, option_and_then}
 use Rattle.rtp_base.specs.Fields.{signed24, bits24}
-use Rattle.twcc_core.specs.Wire.{half_at, word_at, halves, words}
+use Rattle.rtp_base.specs.Wire.{half_at, word_at, halves, words}
 use Rattle.twcc_core.specs.Statuses.{statuses_of, delta_text}
 use Rattle.twcc_core.specs.Chunks.{symbols_of, chunks_of}
 use Rattle.twcc_core.specs.declared.status.PacketStatus.{PacketStatus}

@@ -1,4 +1,3 @@
-pub mod Wire
 pub mod Statuses
 pub mod Chunks
 pub mod Feedback
@@ -8,3 +7,4 @@ pub mod Sizes
 pub mod Times
 pub mod Sending
 pub use Rattle.rtp_base.specs.Fields
+pub use Rattle.rtp_base.specs.Wire

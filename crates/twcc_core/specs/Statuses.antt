@@ -1,8 +1,9 @@
 -- What feedback says of a packet, its symbol and its delta
 -- (draft-holmer-rmcat-transport-wide-cc-extensions-01 sections 3.1.1 and 3.1.5).
 use Rattle.std.specs.Prelude.{ℕ, ℤ, pos, negsuc, ◌==◌, Bool, false, List, [], ◌∷◌, length, drop, slice_index, nat_lt, Option, Some, None, if◌then◌else◌}
-use Rattle.std.specs.Int.{w16, from_be_bytes, to_be_bytes, cast_signed, cast_unsigned}
+use Rattle.std.specs.Int.{w16, to_be_bytes, cast_signed, cast_unsigned}
 use Rattle.std.specs.Option.{option_map, option_and_then}
+use Rattle.rtp_base.specs.Wire.{half_at}
 use Rattle.twcc_core.specs.declared.status.PacketStatus.{PacketStatus}
 use Rattle.twcc_core.specs.declared.status.PacketStatus.TheVariants.{NotReceived, Received}
 
@@ -26,7 +27,7 @@ delta_text (Received delta) = if is_small delta then cast_unsigned w16 delta ∷
 unfoldable pub status_at : ℕ → List ℕ → Option (PacketStatus × List ℕ)
 status_at symbol bytes =
     if symbol == 1 then (if nat_lt (length bytes) 1 then None else Some (Received (pos (slice_index bytes 0)), drop 1 bytes))
-    else (if symbol == 2 then (if nat_lt (length bytes) 2 then None else Some (Received (cast_signed w16 (from_be_bytes w16 bytes)), drop 2 bytes))
+    else (if symbol == 2 then (if nat_lt (length bytes) 2 then None else Some (Received (cast_signed w16 (half_at bytes 0)), drop 2 bytes))
     else Some (NotReceived, bytes))
 
 -- what symbols say, with the deltas one after another

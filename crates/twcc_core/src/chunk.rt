@@ -2,11 +2,11 @@
 // sections 3.1.3 and 3.1.4).
 ghost use Rattle.std.specs.Prelude.{◌≡◌, ◌<◌, ◌≤◌, ◌++◌, length, take, replicate, IfOk, OnOk};
 ghost use Rattle.std.specs.Option.{option_map};
-ghost use Rattle.twcc_core.specs.Wire.{halves, Puts, LeavesBehind};
+ghost use Rattle.rtp_base.specs.Wire.{halves, Puts, LeavesBehind};
 ghost use Rattle.twcc_core.specs.Chunks.{view, one_bit_symbols, two_bit_symbols, chunk_symbols, symbols_of, symbol_at, run_of, vector_of, chunk_of, told_by, chunks_of};
 
 use crate::PacketStatus;
-use crate::wire::{half, put};
+use rtp_base::wire::{half, put};
 use std::alloc::{AllocError, Global};
 
 // The symbols that chunks tell, and the bytes after those chunks.

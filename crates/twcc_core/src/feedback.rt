@@ -1,16 +1,16 @@
 //! Transport-wide feedback (draft-holmer-rmcat-transport-wide-cc-extensions-01 section 3.1).
 ghost use Rattle.std.specs.Prelude.{◌≡◌, ◌+◌, ◌*◌, ◌<◌, IfOk, length};
 ghost use Rattle.std.specs.Option.{option_map};
-ghost use Rattle.twcc_core.specs.Wire.{words, Puts, LeavesBehind};
+ghost use Rattle.rtp_base.specs.Wire.{words, Puts, LeavesBehind};
 ghost use Rattle.twcc_core.specs.Feedback.{twcc_of, twcc_bytes};
 ghost use Rattle.rtp_base.specs.Fields.{signed24, bits24};
 
 use crate::PacketStatus;
 use crate::chunk::{read_symbols, write_chunks};
 use crate::status::{read_statuses, write_deltas};
-use crate::wire::{half, put, word};
 use media_base::Listed;
 use rtp_base::Ssrc;
+use rtp_base::wire::{half, put, word};
 use std::alloc::{AllocError, Global};
 
 /// Transport-wide feedback: what a receiver says of packets in a row (section 3.1).

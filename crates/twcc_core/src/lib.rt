@@ -11,7 +11,6 @@ mod send;
 mod share;
 mod size;
 mod status;
-pub mod wire;
 
 pub use feedback::{Twcc, read_twcc, write_twcc};
 pub use laws::{

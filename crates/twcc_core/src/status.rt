@@ -1,11 +1,11 @@
 ghost use Rattle.std.specs.Prelude.{◌≡◌, ◌<◌, ◌≤◌, length, IfOk};
 ghost use Rattle.std.specs.Option.{option_map};
 ghost use Rattle.std.specs.List.{flat_map};
-ghost use Rattle.twcc_core.specs.Wire.{Puts, LeavesBehind};
+ghost use Rattle.rtp_base.specs.Wire.{Puts, LeavesBehind};
 ghost use Rattle.twcc_core.specs.Statuses.{delta_text, status_at, statuses_of};
 
-use crate::wire::{half, put};
 use media_base::Listed;
+use rtp_base::wire::{half, put};
 use std::alloc::{AllocError, Global};
 
 /// What feedback says of a packet (draft-holmer-rmcat-transport-wide-cc-extensions-01 section 3.1.1).

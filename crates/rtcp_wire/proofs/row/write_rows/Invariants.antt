@@ -1,6 +1,6 @@
 use Rattle.std.proofs.Common.{Some, take, length, ◌≡◌}
 use Rattle.std.specs.List.{flat_map}
-use Rattle.rtcp_wire.specs.Wire.{Puts}
+use Rattle.rtp_base.specs.Wire.{Puts}
 use Rattle.rtcp_wire.proofs.row.write_rows.Given as goal
 
 abbrev pub invariant-loop-row : goal.invariant-loop-row

@@ -13,7 +13,7 @@ returns-then-not-rtcp_verify-clause-none g c =
 
 pub returns-in_ok-deciphered-clause-some : goal.returns-in_ok-deciphered-clause-some
 returns-in_ok-deciphered-clause-some g c =
-    let s : Split c.args.buf.now c.split_at.result.0.now c.split_at.result.1.now c.split_at-2.result.0.now c.split_at-2.result.1.now c.number_of-number.result =
+    let s : Split c.args.buf.now c.split_at.result.0.now c.split_at.result.1.now c.split_at-2.result.0.now c.split_at-2.result.1.now c.word-number.result =
     record {
       size = omega arith;
       front = c.split_at.ensures.front;
@@ -21,14 +21,14 @@ returns-in_ok-deciphered-clause-some g c =
       packet_is = c.split_at-2.ensures.front;
       word_is = c.split_at-2.ensures.back;
       small = λ i. omega (arith, c.type_inv.buf i);
-      is = c.number_of-number.ensures;
+      is = c.word-number.ensures;
       fits = omega arith;
     } in
-    encrypted_opens g.C.SrtpCipher.meaning (g.C.SrtpCipher.bytes_128 c.args.keys.now.key) c.args.keys.now.authentication c.args.keys.now.salt c.args.buf.now c.split_at.result.0.now c.split_at.result.1.now c.split_at-2.result.0.now c.split_at-2.result.1.now c.in_ok-deciphered.field-0.items c.number_of-number.result s (c.rtcp_verify.ensures.0 c.if-not-rtcp_verify.false) (omega arith) c.in_ok-deciphered.ensures
+    encrypted_opens g.C.SrtpCipher.meaning (g.C.SrtpCipher.bytes_128 c.args.keys.now.key) c.args.keys.now.authentication c.args.keys.now.salt c.args.buf.now c.split_at.result.0.now c.split_at.result.1.now c.split_at-2.result.0.now c.split_at-2.result.1.now c.in_ok-deciphered.field-0.items c.word-number.result s (c.rtcp_verify.ensures.0 c.if-not-rtcp_verify.false) (omega arith) c.in_ok-deciphered.ensures
 
 pub returns-in_ok-copied-clause-some : goal.returns-in_ok-copied-clause-some
 returns-in_ok-copied-clause-some g c =
-    let s : Split c.args.buf.now c.split_at.result.0.now c.split_at.result.1.now c.split_at-2.result.0.now c.split_at-2.result.1.now c.number_of-number.result =
+    let s : Split c.args.buf.now c.split_at.result.0.now c.split_at.result.1.now c.split_at-2.result.0.now c.split_at-2.result.1.now c.word-number.result =
     record {
       size = omega arith;
       front = c.split_at.ensures.front;
@@ -36,7 +36,7 @@ returns-in_ok-copied-clause-some g c =
       packet_is = c.split_at-2.ensures.front;
       word_is = c.split_at-2.ensures.back;
       small = λ i. omega (arith, c.type_inv.buf i);
-      is = c.number_of-number.ensures;
+      is = c.word-number.ensures;
       fits = omega arith;
     } in
-    clear_opens g.C.SrtpCipher.meaning (g.C.SrtpCipher.bytes_128 c.args.keys.now.key) c.args.keys.now.authentication c.args.keys.now.salt c.args.buf.now c.split_at.result.0.now c.split_at.result.1.now c.split_at-2.result.0.now c.split_at-2.result.1.now c.in_ok-copied.field-0.items c.number_of-number.result s (c.rtcp_verify.ensures.0 c.if-not-rtcp_verify.false) (omega arith) c.in_ok-copied.ensures
+    clear_opens g.C.SrtpCipher.meaning (g.C.SrtpCipher.bytes_128 c.args.keys.now.key) c.args.keys.now.authentication c.args.keys.now.salt c.args.buf.now c.split_at.result.0.now c.split_at.result.1.now c.split_at-2.result.0.now c.split_at-2.result.1.now c.in_ok-copied.field-0.items c.word-number.result s (c.rtcp_verify.ensures.0 c.if-not-rtcp_verify.false) (omega arith) c.in_ok-copied.ensures

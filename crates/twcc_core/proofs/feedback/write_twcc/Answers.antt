@@ -1,7 +1,7 @@
 use Rattle.std.proofs.Common.{◌≡◌, ℕ, ◌+◌, ◌*◌, List, [], ◌∷◌, ◌++◌, length, replicate, Some, subst, arith}
 use Rattle.std.proofs.lemmas.Grind.{common_steps}
 use Rattle.std.specs.List.{flat_map}
-use Rattle.twcc_core.specs.Wire.{halves, words, Puts}
+use Rattle.rtp_base.specs.Wire.{halves, words, Puts}
 use Rattle.twcc_core.specs.Statuses.{delta_text}
 use Rattle.twcc_core.specs.Chunks.{chunks_of}
 use Rattle.twcc_core.specs.Feedback.{fill_of, twcc_fields, twcc_bytes}

@@ -1,5 +1,5 @@
 use Rattle.std.proofs.Common.{◌≡◌, Some, take, drop, length}
-use Rattle.twcc_core.specs.Wire.{words, Puts}
+use Rattle.rtp_base.specs.Wire.{words, Puts}
 use Rattle.twcc_core.proofs.feedback.write_words.Given as goal
 
 abbrev pub invariant-loop-word : goal.invariant-loop-word

@@ -1,6 +1,6 @@
 use Rattle.std.proofs.Common.{◌≡◌, Some, take, drop, length}
 use Rattle.std.specs.List.{flat_map}
-use Rattle.twcc_core.specs.Wire.{Puts}
+use Rattle.rtp_base.specs.Wire.{Puts}
 use Rattle.twcc_core.specs.Statuses.{delta_text}
 use Rattle.twcc_core.proofs.status.write_deltas.Given as goal
 

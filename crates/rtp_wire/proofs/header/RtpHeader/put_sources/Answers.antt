@@ -5,4 +5,4 @@ use Rattle.rtp_wire.proofs.header.RtpHeader.put_sources.Goals as goal
 
 pub loop-i-preserved : goal.loop-i-preserved
 loop-i-preserved c =
-    source_put c.args.bytes.now c.loop-i.places c.loop-i.i c.u32_at.result (grind (arith, common_steps)) (grind (arith, common_steps)) c.u32_at.ensures c.loop-i.invariant
+    source_put c.args.bytes.now c.loop-i.places c.loop-i.i c.word.result (grind (arith, common_steps)) (grind (arith, common_steps)) c.word.ensures c.loop-i.invariant

@@ -1,14 +1,24 @@
--- Fields in bytes, the high byte first.
-use Rattle.std.specs.Prelude.{◌≡◌, ℕ, ◌+◌, ◌<◌, ◌≤◌, List, ◌++◌, length, take, drop, Option, Some, None}
-use Rattle.std.specs.Int.{w16, w32, from_be_bytes, to_be_bytes}
+-- Fields in bytes, the high byte first (RFC 3550 section 4).
+use Rattle.std.specs.Prelude.{◌≡◌, ℕ, ◌+◌, ◌*◌, ◌/◌, ◌%◌, ◌<◌, ◌≤◌, List, [], ◌∷◌, ◌++◌, length, take, drop, slice_index, Option, Some, None}
+use Rattle.std.specs.Int.{w16, w32, w64, from_be_bytes, to_be_bytes}
 use Rattle.std.specs.List.{flat_map}
 
--- the number in the two or four bytes at a place
+-- the number in the two, three, four or eight bytes at a place
 abbrev pub half_at : List ℕ → ℕ → ℕ
 half_at bytes at = from_be_bytes w16 (drop at bytes)
 
+abbrev pub triple_at : List ℕ → ℕ → ℕ
+triple_at bytes at = slice_index (drop at bytes) 0 * 65536 + slice_index (drop at bytes) 1 * 256 + slice_index (drop at bytes) 2
+
 abbrev pub word_at : List ℕ → ℕ → ℕ
 word_at bytes at = from_be_bytes w32 (drop at bytes)
+
+abbrev pub double_at : List ℕ → ℕ → ℕ
+double_at bytes at = from_be_bytes w64 (drop at bytes)
+
+-- the three bytes of a number's low 24 bits
+abbrev pub triple_bytes : ℕ → List ℕ
+triple_bytes n = n / 65536 % 256 ∷ n / 256 % 256 ∷ n % 256 ∷ []
 
 -- halves and words, one after another
 abbrev pub halves : List ℕ → List ℕ
