@@ -41,6 +41,7 @@ setup = record {
   beginning = record { unix_secs = 1700000000 };
   mtu = record { target = 1150; warn = 1280 };
   pause_threshold = 1500000000;
+  intervals = record { audio = 5000000000; video = 1000000000 };
   a = record { ssrc = 1; srtcp_index = 0 };
   b = record { ssrc = 2; srtcp_index = 0 };
   exts = [];

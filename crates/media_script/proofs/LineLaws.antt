@@ -5,7 +5,7 @@ use Rattle.std.specs.Fmt.{decimal}
 use Rattle.media_model.specs.declared.setup.Codec.{Codec}
 use Rattle.media_script.specs.declared.setup_line.SetupLine.{SetupLine}
 use Rattle.media_script.specs.declared.setup_line.SetupLine.TheVariants as line
-use Rattle.media_script.specs.Grammar.{cipher_line, profile_line, key_line, unix_line, mtu_line, pause_line, rtcp_line, local_line, ext_line, repairs_in, type_line, media_line, stream_line, start_line, cache_line, no_other, side_kinds, side_line_of, named_kinds, named_line_of, number_kinds, number_line_of, setup_kinds, setup_line_of, in_few}
+use Rattle.media_script.specs.Grammar.{cipher_line, profile_line, key_line, unix_line, mtu_line, pause_line, reports_line, rtcp_line, local_line, ext_line, repairs_in, type_line, media_line, stream_line, start_line, cache_line, no_other, side_kinds, side_line_of, named_kinds, named_line_of, number_kinds, number_line_of, setup_kinds, setup_line_of, in_few}
 use Rattle.media_script.specs.Names.{codec_text}
 use Rattle.media_script.specs.Spelling.{IsRepairType, IsSetupLine}
 use Rattle.media_script.specs.Words.{repair_type_of, ◌>>=◌}
@@ -35,6 +35,11 @@ mtu_tells =
 
 pause_tells : Tells pause_line (Behind (codes "pause"))
 pause_tells = then_tells millis_spelled (λ w threshold is. done_tells (is.0, is.2, is.3, λ i. codes "pause" ∷ is.1 i ∷ []))
+
+reports_tells : Tells reports_line (Behind (codes "reports"))
+reports_tells =
+    then_tells millis_spelled (λ a audio is. then_tells millis_spelled (λ v video has.
+    done_tells (is.0, has.0, is.2, is.3, has.2, has.3, λ i. codes "reports" ∷ is.1 i ∷ has.1 i ∷ [])))
 
 rtcp_tells : Tells rtcp_line (Behind (codes "rtcp"))
 rtcp_tells =
@@ -100,7 +105,7 @@ named_line_spelled = look_up_tells IsSetupLine side_line_of named_kinds (media_t
 
 number_line_spelled : (words : List (List ℕ)) (said : SetupLine) → number_line_of words ≡ Some said → IsSetupLine words said
 unfolding number_line_of
-number_line_spelled = look_up_tells IsSetupLine named_line_of number_kinds (unix_tells, (mtu_tells, (pause_tells, tt))) named_line_spelled
+number_line_spelled = look_up_tells IsSetupLine named_line_of number_kinds (unix_tells, (mtu_tells, (pause_tells, (reports_tells, tt)))) named_line_spelled
 
 -- what a setup line says is how it is spelled
 pub setup_line_spelled : (words : List (List ℕ)) (said : SetupLine) → setup_line_of words ≡ Some said → IsSetupLine words said
@@ -126,6 +131,9 @@ setup_line_again words (line.Key key) is = ap (in_few setup_line_of) is.2 ∙ rw
 setup_line_again words (line.Unix beginning) is = ap (in_few setup_line_of) is.1 ∙ rw (number_again beginning.unix_secs is.0) refl
 setup_line_again words (line.Mtu mtu) is = ap (in_few setup_line_of) is.2 ∙ rw (number_again mtu.target is.0, number_again mtu.warn is.1) refl
 setup_line_again words (line.Pause threshold) is = ap (in_few setup_line_of) is.3 ∙ rw (millis_again is.0 threshold is.1 is.2) refl
+setup_line_again words (line.Reports intervals) is =
+    ap (in_few setup_line_of) is.6
+    ∙ rw (millis_again is.0 intervals.audio is.2 is.3, millis_again is.1 intervals.video is.4 is.5) refl
 setup_line_again words (line.Rtcp side index) is = ap (in_few setup_line_of) is.1 ∙ rw (side_again side, at_most_again (2 ^ 31) index (lit< tt) is.0) refl
 setup_line_again words (line.Local side ssrc) is =
     ap (in_few setup_line_of) is.1 ∙ rw (side_again side, narrow_again (2 ^ 32) ssrc (lit≤ tt) is.0) refl

@@ -32,6 +32,7 @@ blank = record {
   beginning = record { unix_secs = 1700000000 };
   mtu = record { target = 1150; warn = 1280 };
   pause_threshold = 1500000000;
+  intervals = record { audio = 5000000000; video = 1000000000 };
   a = record { ssrc = 1; srtcp_index = 0 };
   b = record { ssrc = 2; srtcp_index = 0 };
   exts = [];
@@ -59,6 +60,7 @@ told draft (line.Key key) = record draft { key = Some key }
 told draft (line.Unix beginning) = record draft { beginning = beginning }
 told draft (line.Mtu mtu) = record draft { mtu = mtu }
 told draft (line.Pause threshold) = record draft { pause_threshold = threshold }
+told draft (line.Reports intervals) = record draft { intervals = intervals }
 told draft (line.Rtcp side index) = with_index side index draft
 told draft (line.Local side ssrc) = with_ssrc side ssrc draft
 told draft (line.Ext named) = record draft { exts = draft.exts ++ named ∷ [] }
@@ -78,6 +80,7 @@ setup_of draft = draft.key >>= λ key. Some (record {
   beginning = draft.beginning;
   mtu = draft.mtu;
   pause_threshold = draft.pause_threshold;
+  intervals = draft.intervals;
   a = draft.a;
   b = draft.b;
   exts = draft.exts;

@@ -71,6 +71,12 @@ mtu_line =
 abbrev pub pause_line : List (List ℕ) → Option SetupLine
 pause_line = and_then millis_of (λ threshold. done (line.Pause threshold))
 
+abbrev pub reports_line : List (List ℕ) → Option SetupLine
+reports_line =
+    and_then millis_of (λ audio.
+    and_then millis_of (λ video.
+    done (line.Reports (record { audio = audio; video = video }))))
+
 abbrev pub rtcp_line : List (List ℕ) → Option SetupLine
 rtcp_line =
     and_then side_of (λ side.
@@ -148,7 +154,8 @@ unfoldable pub named_line_of : List (List ℕ) → Option SetupLine
 named_line_of words = look_up side_line_of named_kinds words
 
 abbrev pub number_kinds : List (List ℕ × (List (List ℕ) → Option SetupLine))
-number_kinds = (codes "unix", unix_line) ∷ (codes "mtu", mtu_line) ∷ (codes "pause", pause_line) ∷ []
+number_kinds =
+    (codes "unix", unix_line) ∷ (codes "mtu", mtu_line) ∷ (codes "pause", pause_line) ∷ (codes "reports", reports_line) ∷ []
 
 -- what the lines that have numbers alone, and those of media, of streams and of one side say
 unfoldable pub number_line_of : List (List ℕ) → Option SetupLine

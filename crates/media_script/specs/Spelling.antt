@@ -67,6 +67,11 @@ IsSetupLine words (line.Mtu mtu) =
 -- after how long without packets a stream that comes counts as paused: the word has milliseconds
 IsSetupLine words (line.Pause threshold) =
     (ms : ℕ) × (threshold ≡ ms * 1000000) × (threshold < 2 ^ 64) × (words ≡ codes "pause" ∷ decimal ms ∷ [])
+-- after how long the next report of a stream of sound, and of one of pictures, is due: the words have milliseconds
+IsSetupLine words (line.Reports intervals) =
+    (audio : ℕ) × (video : ℕ) × (intervals.audio ≡ audio * 1000000) × (intervals.audio < 2 ^ 64)
+    × (intervals.video ≡ video * 1000000) × (intervals.video < 2 ^ 64)
+    × (words ≡ codes "reports" ∷ decimal audio ∷ decimal video ∷ [])
 -- the index of a side's first SRTCP datagram
 IsSetupLine words (line.Rtcp side index) = (index ≤ 2 ^ 31) × (words ≡ codes "rtcp" ∷ side_text side ∷ decimal index ∷ [])
 -- the SSRC under which a side speaks of what it receives

@@ -8,8 +8,8 @@ use crate::media_list::MediaList;
 use crate::setup_line::SetupLine;
 use media_base::{Beginning, Duration, Listed};
 use media_model::{
-    CipherName, Key, Local, Media, Mtu, NamedCache, NamedExtension, NamedStart, PayloadType, Setup,
-    Side, SrtcpIndex,
+    CipherName, Key, Local, Media, Mtu, NamedCache, NamedExtension, NamedStart, PayloadType,
+    ReportTimes, Setup, Side, SrtcpIndex,
 };
 use rtp_wire::Ssrc;
 use srtp_core::SrtpProfile;
@@ -38,6 +38,8 @@ pub struct Draft {
     pub mtu: Mtu,
     /// After how long without packets a stream that comes counts as paused.
     pub pause_threshold: Duration,
+    /// After how long the next report of a stream is due.
+    pub intervals: ReportTimes,
     /// What side A alone brings.
     pub a: Local,
     /// What side B alone brings.
@@ -65,6 +67,7 @@ impl Draft {
             },
             mtu: DEFAULT_MTU,
             pause_threshold: Duration::from_nanos(DEFAULT_PAUSE_NANOS),
+            intervals: ReportTimes::default(),
             a: Local {
                 ssrc: Ssrc::from(1),
                 srtcp_index: SrtcpIndex::FIRST,
@@ -112,6 +115,7 @@ impl Draft {
             SetupLine::Unix(beginning) => self.beginning = beginning,
             SetupLine::Mtu(mtu) => self.mtu = mtu,
             SetupLine::Pause(threshold) => self.pause_threshold = threshold,
+            SetupLine::Reports(intervals) => self.intervals = intervals,
             SetupLine::Rtcp(side, index) => self.set_index(side, index),
             SetupLine::Local(side, ssrc) => self.set_ssrc(side, ssrc),
             SetupLine::Ext(named) => self.exts.push(named)?,
@@ -141,6 +145,7 @@ impl Draft {
             beginning: self.beginning,
             mtu: self.mtu,
             pause_threshold: self.pause_threshold,
+            intervals: self.intervals,
             a: self.a,
             b: self.b,
             exts: self.exts,

@@ -3,8 +3,8 @@ ghost use Rattle.media_script.specs.Order.{word, per, slot, needs, gives};
 
 use media_base::{Beginning, Bytes, Duration};
 use media_model::{
-    CipherName, Key, MediaKind, Mtu, NamedCache, NamedExtension, NamedStart, PayloadType, Side,
-    SrtcpIndex, Stream,
+    CipherName, Key, MediaKind, Mtu, NamedCache, NamedExtension, NamedStart, PayloadType,
+    ReportTimes, Side, SrtcpIndex, Stream,
 };
 use rtp_wire::{Mid, Ssrc};
 use srtp_core::SrtpProfile;
@@ -20,6 +20,8 @@ pub enum SetupLine {
     Mtu(Mtu),
     /// After how long without packets a stream that comes counts as paused.
     Pause(Duration),
+    /// After how long the next report of a stream is due.
+    Reports(ReportTimes),
     /// The index of the side's first SRTCP datagram.
     Rtcp(Side, SrtcpIndex),
     /// The SSRC under which the side speaks of what it receives.
@@ -87,6 +89,7 @@ impl SetupLine {
             SetupLine::Unix(_) => b"unix",
             SetupLine::Mtu(_) => b"mtu",
             SetupLine::Pause(_) => b"pause",
+            SetupLine::Reports(_) => b"reports",
             SetupLine::Rtcp(_, _) => b"rtcp",
             SetupLine::Local(_, _) => b"local",
             SetupLine::Ext(_) => b"ext",

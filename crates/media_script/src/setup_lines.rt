@@ -1,7 +1,7 @@
 // The words of a setup line.
 ghost use Rattle.std.specs.Prelude.{◌≡◌};
 ghost use Rattle.media_script.specs.Gives.{Gives};
-ghost use Rattle.media_script.specs.Grammar.{texts, cipher_line, profile_line, key_line, unix_line, mtu_line, pause_line, rtcp_line, local_line, ext_line, repairs_in, type_line, media_line, stream_line, start_line, cache_line, side_line_of, named_line_of, number_line_of, setup_line_of, in_few};
+ghost use Rattle.media_script.specs.Grammar.{texts, cipher_line, profile_line, key_line, unix_line, mtu_line, pause_line, reports_line, rtcp_line, local_line, ext_line, repairs_in, type_line, media_line, stream_line, start_line, cache_line, side_line_of, named_line_of, number_line_of, setup_line_of, in_few};
 ghost use Rattle.media_script.specs.Spelling.{words_of};
 
 use crate::error::LineError;
@@ -13,7 +13,9 @@ use crate::words::{
     rate, repair_type, rid, side, srtcp_index,
 };
 use media_base::{Beginning, Bytes, Duration};
-use media_model::{Cache, Mtu, NamedCache, NamedExtension, NamedStart, PayloadType, Stream};
+use media_model::{
+    Cache, Mtu, NamedCache, NamedExtension, NamedStart, PayloadType, ReportTimes, Stream,
+};
 use rtp_wire::{Pt, Ssrc};
 use std::alloc::Global;
 
@@ -72,6 +74,18 @@ fn pause(words: &[&[u8]]) -> Result<SetupLine, LineError>
 {
     match words {
         [threshold] => Ok(SetupLine::Pause(Duration::from_nanos(millis(threshold)?))),
+        _ => Err(LineError::Outside),
+    }
+}
+
+fn reports(words: &[&[u8]]) -> Result<SetupLine, LineError>
+    ensures { Gives (λ l. l) result (reports_line (texts words.now)) }
+{
+    match words {
+        [audio, video] => Ok(SetupLine::Reports(ReportTimes {
+            audio: Duration::from_nanos(millis(audio)?),
+            video: Duration::from_nanos(millis(video)?),
+        })),
         _ => Err(LineError::Outside),
     }
 }
@@ -246,6 +260,8 @@ fn number_line(alloc: Global, words: &[&[u8]]) -> Result<SetupLine, LineError>
                 mtu(rest)
             } else if *kind == b"pause".as_slice() {
                 pause(rest)
+            } else if *kind == b"reports".as_slice() {
+                reports(rest)
             } else {
                 named_line(alloc, words)
             }

@@ -336,7 +336,7 @@ fn setup_script(alloc: Global, lines: &str) -> Result<Vec<u8>, Fail> {
 }
 
 // Setup lines, and the first rule that they break: each rule alone.
-const SETUP_FAULTS: [(&str, &str); 34] = [
+const SETUP_FAULTS: [(&str, &str); 38] = [
     (SHORT_KEY, "KeyLength"),
     ("key 00\nmtu 899 1280\n", "KeyLength"),
     ("key zero\nmtu 899 1280\nunix 2075000001\n", "Mtu"),
@@ -358,6 +358,16 @@ const SETUP_FAULTS: [(&str, &str); 34] = [
     ("key zero\npause 10000000001\next 0 mid\n", "Times"),
     ("key zero\nmtu 899 1280\npause 18446744073709\n", "Mtu"),
     ("key zero\npause 10000000000\next 0 mid\n", "ExtId"),
+    ("key zero\nreports 10000000001 1000\next 0 mid\n", "Times"),
+    ("key zero\nreports 5000 10000000001\next 0 mid\n", "Times"),
+    (
+        "key zero\nmtu 899 1280\nreports 18446744073709 1000\n",
+        "Mtu",
+    ),
+    (
+        "key zero\nreports 10000000000 10000000000\next 0 mid\n",
+        "ExtId",
+    ),
     ("key zero\next 14 rid\next 15 mid\n", "ExtId"),
     ("key zero\next 3 mid\next 1 rid\next 3 twcc\n", "ExtId"),
     (
@@ -502,6 +512,37 @@ fn pause_threshold(rt: HostRuntime) -> Result<(), Fail> {
         assert_eq!(rt; sink.bytes(), b"fault syntax 2\n".as_slice(), "at {words}");
     }
     let (report, sink) = ran_on(alloc, setup_script(alloc, "pause 1\npause 1\n")?)?;
+    assert_eq!(rt; report.status, 7);
+    assert_eq!(rt; sink.bytes(), b"fault syntax 3\n".as_slice());
+    Ok(())
+}
+
+#[test]
+fn intervals_of_reports(rt: HostRuntime) -> Result<(), Fail> {
+    let alloc = rt.alloc();
+    for intervals in ["0 0", "5000 1000", "10000000000 10000000000"] {
+        let lines = format!(in alloc; "reports {intervals}\n")?;
+        let bytes = script_with(alloc, lines.as_str(), ONE_WRITE)?;
+        let (report, sink) = ran_on(alloc, bytes)?;
+        assert_eq!(rt; report.status, 0, "at {intervals}");
+        assert_eq!(rt; sink.bytes(), ONE_WRITE_TEXT.as_bytes(), "at {intervals}");
+    }
+    for words in [
+        "reports",
+        "reports 5000",
+        "reports 1 2 3",
+        "reports 5s 1000",
+        "reports 5000 5ms",
+        "reports 18446744073710 1000",
+        "reports 5000 18446744073710",
+    ] {
+        let bytes = setup_script(alloc, format!(in alloc; "{words}\n")?.as_str())?;
+        let (report, sink) = ran_on(alloc, bytes)?;
+        assert_eq!(rt; report.status, 7, "at {words}");
+        assert_eq!(rt; sink.bytes(), b"fault syntax 2\n".as_slice(), "at {words}");
+    }
+    let twice = setup_script(alloc, "reports 1 2\nreports 1 2\n")?;
+    let (report, sink) = ran_on(alloc, twice)?;
     assert_eq!(rt; report.status, 7);
     assert_eq!(rt; sink.bytes(), b"fault syntax 3\n".as_slice());
     Ok(())

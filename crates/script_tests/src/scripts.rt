@@ -12,7 +12,7 @@ media a audio mic2\nstream A v 42 - -\next 14 delay\ncipher toy\nunix 5\next 0 m
 stream B a 4294967295 0 hi\nkey 00Ff\nprofile gcm128\nstream B v 7 - lo\nrtcp B 2147483648\nmtu 900 1500\n\
 type 97 vp9 90000 rtx=255\nstart 4294967295 281474976710656\ncache 7 0 18446744073709 4294967295\n\
 cache 42 18446744073709551615 0 none\n\
-pause 250\nlocal A 4294967295\nbegin\n\
+pause 250\nreports 4000 18446744073709\nlocal A 4294967295\nbegin\n\
 write A 5ms 42 18446744073709551615 96 4294967295 1 0 8060Ff c=0000002AffFFffff\ntick B 1000\ndeliver A 0 3\n\
 foreign A 1 rtcp -\napp B 2ms 4294967295 0 0102fFfF\nforeign B 1 rtp 80\n#\nend\n\n# end\n";
 
@@ -115,6 +115,10 @@ fn each_line_is_read(rt: HostRuntime) -> Result<(), Fail> {
         }
     );
     assert_eq!(rt; setup.pause_threshold, Duration::from_nanos(250_000_000));
+    assert_eq!(rt;
+        setup.intervals,
+        intervals(4_000_000_000, 18_446_744_073_709_000_000)
+    );
     assert_eq!(rt; setup.a, local(u32::MAX, SrtcpIndex::FIRST));
     let last = SrtcpIndex::new(2_147_483_648).ok_or("an index")?;
     assert_eq!(rt; setup.b, local(2, last));
@@ -172,6 +176,14 @@ fn local(ssrc: u32, srtcp_index: SrtcpIndex) -> Local {
     Local {
         ssrc: Ssrc::from(ssrc),
         srtcp_index,
+    }
+}
+
+// The intervals of reports of sound and of pictures, in nanoseconds.
+fn intervals(audio: u64, video: u64) -> ReportTimes {
+    ReportTimes {
+        audio: Duration::from_nanos(audio),
+        video: Duration::from_nanos(video),
     }
 }
 
@@ -341,6 +353,32 @@ fn pause_threshold_is_read(rt: HostRuntime) -> Result<(), Fail> {
 }
 
 #[test]
+fn intervals_of_reports_are_read(rt: HostRuntime) -> Result<(), Fail> {
+    let alloc = rt.alloc();
+    for (before, after, audio, video) in [
+        ("", "", 5_000_000_000, 1_000_000_000),
+        ("reports 5000 1000\n", "", 5_000_000_000, 1_000_000_000),
+        ("reports 0 0\n", "", 0, 0),
+        ("", "reports 7 250\n", 7_000_000, 250_000_000),
+        (
+            "reports 10000000001 18446744073709\n",
+            "",
+            10_000_000_001_000_000,
+            18_446_744_073_709_000_000,
+        ),
+    ] {
+        let text = format!(in alloc; "str0m-media 1\n{before}key zero\n{after}begin\nend\n")?;
+        let (setup, _) = read_script(alloc, text.as_bytes()).ok().ok_or("a script")?;
+        assert_eq!(rt;
+            setup.intervals,
+            intervals(audio, video),
+            "at {before}{after}"
+        );
+    }
+    Ok(())
+}
+
+#[test]
 fn ids_of_extensions(rt: HostRuntime) -> Result<(), Fail> {
     let alloc = rt.alloc();
     let text = b"str0m-media 1\nkey zero\next 0 mid\next 1 twcc\next 15 rid\next 3 abs\n\
@@ -485,6 +523,20 @@ fn first_line_outside_is_told(rt: HostRuntime) {
         ("str0m-media 1\npause 18446744073709551616\n", 2),
         ("str0m-media 1\npause 1500\npause 1500\n", 3),
         ("str0m-media 1\nkey zero\nbegin\npause 1500\nend\n", 4),
+        ("str0m-media 1\nreports\n", 2),
+        ("str0m-media 1\nreports 5000\n", 2),
+        ("str0m-media 1\nreports 1 2 3\n", 2),
+        ("str0m-media 1\nreports 5ms 1000\n", 2),
+        ("str0m-media 1\nreports 5000 -\n", 2),
+        ("str0m-media 1\nreports 05 1000\n", 2),
+        ("str0m-media 1\nreports 5000  1000\n", 2),
+        ("str0m-media 1\nreports 18446744073710 1000\n", 2),
+        ("str0m-media 1\nreports 5000 18446744073710\n", 2),
+        ("str0m-media 1\nreports 5000 1000\nreports 5000 1000\n", 3),
+        (
+            "str0m-media 1\nkey zero\nbegin\nreports 5000 1000\nend\n",
+            4,
+        ),
         ("str0m-media 1\nrtcp A 2147483649\n", 2),
         ("str0m-media 1\nrtcp 5\n", 2),
         ("str0m-media 1\nrtcp A 1\nrtcp B 1\nrtcp A 1\n", 4),

@@ -8,6 +8,7 @@ use Rattle.media_model.specs.declared.setup.Stream.{Stream}
 use Rattle.media_model.specs.declared.setup.NamedCache.{NamedCache}
 use Rattle.media_model.specs.declared.setup.Media.{Media}
 use Rattle.media_model.specs.declared.setup.Mtu.{Mtu}
+use Rattle.media_model.specs.declared.setup.ReportTimes.{ReportTimes}
 use Rattle.media_model.specs.declared.setup.Setup.{Setup}
 use Rattle.srtp_core.specs.Keys.{material_len}
 use Rattle.media_model.specs.Setup.{material_of, claimed_of, is_extension_id}
@@ -57,14 +58,20 @@ all_ssrcs setup = setup.a.ssrc ∷ setup.b.ssrc ∷ stream_ssrcs setup
 abbrev pub is_mtu : Mtu → Bool
 is_mtu mtu = nat_le 900 mtu.target && nat_le mtu.target mtu.warn && nat_le mtu.warn 1500
 
+-- an interval of reports, in nanoseconds, is too great
+abbrev pub are_long : ReportTimes → Bool
+are_long intervals = nat_lt (10 ^ 16) intervals.audio || nat_lt (10 ^ 16) intervals.video
+
 -- the age of a cache, in nanoseconds, is too great
 abbrev pub is_old : NamedCache → Bool
 is_old named = nat_lt (10 ^ 16) named.cache.age
 
--- the Unix time of the moment 0 in seconds, or the threshold of pauses or the age of a cache in nanoseconds, is too great
+-- the Unix time of the moment 0 in seconds, or an interval of reports, the threshold of pauses or the age of a cache in
+-- nanoseconds, is too great
 abbrev pub is_beyond : Setup → Bool
 is_beyond setup =
-    nat_lt 2075000000 setup.beginning.unix_secs || nat_lt (10 ^ 16) setup.pause_threshold || list_any is_old setup.caches
+    nat_lt 2075000000 setup.beginning.unix_secs || are_long setup.intervals || nat_lt (10 ^ 16) setup.pause_threshold
+    || list_any is_old setup.caches
 
 abbrev pub any_mid_again : List Media → Bool
 any_mid_again [] = false

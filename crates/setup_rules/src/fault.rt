@@ -13,8 +13,8 @@ pub enum SetupFault {
     /// one above 1,500.
     #[error("the lengths of datagrams are out of bounds or out of order")]
     Mtu,
-    /// The Unix time of the moment 0 is above 2,075,000,000 s, or the threshold of pauses or the age
-    /// of a cache above 10^16 ns.
+    /// The Unix time of the moment 0 is above 2,075,000,000 s, or one of the two intervals of reports,
+    /// the threshold of pauses or the age of a cache above 10^16 ns.
     #[error("a time is too great")]
     Times,
     /// An id of a header extension is outside 1 to 14, or stands twice, or an extension stands

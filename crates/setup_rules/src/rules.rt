@@ -4,10 +4,10 @@ ghost use Rattle.std.specs.List.{list_any, flat_map};
 ghost use Rattle.srtp_core.specs.Keys.{material_len};
 ghost use Rattle.media_model.specs.Setup.{material_of, claimed_of};
 ghost use Rattle.setup_rules.specs.SetupRules.{has};
-ghost use Rattle.setup_rules.specs.SetupRules.{repeats, clash, any_ext_wrong, both_of, all_ssrcs, is_mtu, is_beyond, any_mid_again, rids_meet, meets, any_rid_again, is_old, any_size_wrong, media_fault, setup_fault};
+ghost use Rattle.setup_rules.specs.SetupRules.{repeats, clash, any_ext_wrong, both_of, all_ssrcs, is_mtu, are_long, is_beyond, any_mid_again, rids_meet, meets, any_rid_again, is_old, any_size_wrong, media_fault, setup_fault};
 
 use crate::fault::SetupFault;
-use media_model::{Media, Mtu, NamedCache, NamedExtension, Setup, Stream};
+use media_model::{Media, Mtu, NamedCache, NamedExtension, ReportTimes, Setup, Stream};
 use rtp_wire::{Mid, Pt, Rid};
 use std::alloc::{AllocError, Global};
 
@@ -23,8 +23,8 @@ const GREATEST_WARN: u64 = 1_500;
 /// The greatest Unix time of the moment 0, in seconds: the NTP seconds of every step fit 32 bits.
 const MAX_UNIX_SECS: u64 = 2_075_000_000;
 
-/// The greatest threshold of pauses and the greatest age of a cache, in nanoseconds: that of the time
-/// of a step.
+/// The greatest interval of reports, threshold of pauses and age of a cache, in nanoseconds: that of
+/// the time of a step.
 const MAX_NANOS: u64 = 10_000_000_000_000_000;
 
 /// The most packets of a cache.
@@ -117,6 +117,12 @@ fn is_mtu(mtu: &Mtu) -> bool
     LEAST_TARGET <= mtu.target && mtu.target <= mtu.warn && mtu.warn <= GREATEST_WARN
 }
 
+fn are_long(intervals: &ReportTimes) -> bool
+    ensures { result ≡ are_long intervals.now }
+{
+    intervals.audio.as_nanos() > MAX_NANOS || intervals.video.as_nanos() > MAX_NANOS
+}
+
 fn any_cache_old(caches: &[NamedCache]) -> bool
     ensures { result ≡ list_any is_old caches.now }
 {
@@ -130,6 +136,7 @@ fn is_beyond(setup: &Setup) -> bool
     ensures { result ≡ is_beyond setup.now }
 {
     setup.beginning.unix_secs > MAX_UNIX_SECS
+        || are_long(&setup.intervals)
         || setup.pause_threshold.as_nanos() > MAX_NANOS
         || any_cache_old(setup.caches.as_slice())
 }

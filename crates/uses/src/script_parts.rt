@@ -3,8 +3,8 @@ ghost use Rattle.std.specs.Prelude.{◌≡◌, [], None, false};
 
 use media_base::{Beginning, Bytes, Duration, Instant, Listed};
 use media_model::{
-    CipherName, Codec, Key, Local, Media, MediaKind, Mtu, PayloadType, Setup, Side, Sources,
-    SrtcpIndex, Step, Stream, Write,
+    CipherName, Codec, Key, Local, Media, MediaKind, Mtu, PayloadType, ReportTimes, Setup, Side,
+    Sources, SrtcpIndex, Step, Stream, Write,
 };
 use rtp_wire::{Mid, Pt, SeqNo, Ssrc};
 use srtp_core::SrtpProfile;
@@ -62,8 +62,8 @@ pub fn local(ssrc: u32) -> Local
 }
 
 /// A setup with the toy cipher, the profile of 128 bits and keys of zeros, whose moment 0 is the Unix
-/// epoch, without header extensions. The MTU, the threshold of pauses and what each side alone
-/// brings are those of a script without a line for them.
+/// epoch, without header extensions. The MTU, the threshold of pauses, the intervals of reports
+/// and what each side alone brings are those of a script without a line for them.
 pub fn setup(alloc: Global, types: Vec<PayloadType>, media: Vec<Media>) -> Setup
     ensures { result ≡ record {
       cipher = CipherName.Toy;
@@ -72,6 +72,7 @@ pub fn setup(alloc: Global, types: Vec<PayloadType>, media: Vec<Media>) -> Setup
       beginning = record { unix_secs = 0 };
       mtu = record { target = 1150; warn = 1280 };
       pause_threshold = 1500000000;
+      intervals = record { audio = 5000000000; video = 1000000000 };
       a = record { ssrc = 1; srtcp_index = 0 };
       b = record { ssrc = 2; srtcp_index = 0 };
       exts = [];
@@ -91,6 +92,7 @@ pub fn setup(alloc: Global, types: Vec<PayloadType>, media: Vec<Media>) -> Setup
             warn: 1280,
         },
         pause_threshold: Duration::from_nanos(1_500_000_000),
+        intervals: ReportTimes::default(),
         a: local(1),
         b: local(2),
         exts: Listed::new(alloc),
