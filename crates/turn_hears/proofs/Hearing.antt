@@ -14,7 +14,7 @@ use Rattle.stream_core.specs.Tables.{place_of}
 use Rattle.stream_core.specs.TxRecord.{TxRecord as StreamTx, after_reception}
 use Rattle.session_core.specs.declared.datagram.Opened.{Opened as Opening}
 use Rattle.session_core.specs.Calls.{after_events}
-use Rattle.session_core.specs.Hearing.{RtcpOpensIn, stated, feedback_in, acknowledged_by, acknowledged, AskedByAll, last_delay, ntp_of, after_rtcp, ReceivesRtcp, opened as opened_so, stays as stays_so}
+use Rattle.session_core.specs.Hearing.{RtcpOpensIn, stated, feedback_in, acknowledged_by, acknowledged, AskedByAll, last_delay, ntp_of, measured, after_rtcp, ReceivesRtcp, opened as opened_so, stays as stays_so}
 use Rattle.session_core.specs.SessionRecord.{MediaRecord, SessionRecord}
 use Rattle.media_model.specs.declared.entry.Side.{Side}
 use Rattle.media_model.specs.Sides.{peer_of}
@@ -34,6 +34,7 @@ use Rattle.turn_hears.proofs.Later.{tx_later, keys_there, told_record, told_all}
 use Rattle.turn_hears.proofs.Asking.{Heard, heard_on}
 use Rattle.turn_hears.proofs.Queued.{Queued, queued_of}
 use Rattle.turn_hears.proofs.Trips.{told_trip, trip_told, all_told, all_measured}
+use Rattle.turn_hears.proofs.News.{all_news}
 
 -- an acknowledgement leaves what waits
 
@@ -201,9 +202,10 @@ module _ (cipher : CipherMeaning) (C : Config) (side : Side) (r : SessionRecord)
         let ntp : ℕ = ntp_of r.state time in
         rx_mirror s rest is probes
         (all_told C.threshold r.seen trip left.rx rest
-        (subst (λ (o : Option ℕ). AllZip (RxStands C.threshold o r.seen) left.rx rest) (trip_told C side r.state.local_ssrc r.state.tx time h.owns a.rx.trip items)
+        (all_news C.threshold r.seen trip time items (measured ntp delay r.rx) rest
+        (subst (λ (o : Option ℕ). AllZip (RxStands C.threshold o r.seen) (measured ntp delay r.rx) rest) (trip_told C side r.state.local_ssrc r.state.tx time h.owns a.rx.trip items)
         (all_measured C.threshold r.seen a.rx.trip ntp (told_trip C side r.state.local_ssrc r.state.tx time h.owns) (λ o. refl) (λ o d. ap {A = ℕ → Delay → Option ℕ} {B = Option ℕ} (λ f. f time d) h.trip)
-        delay r.rx rest others)))
+        delay r.rx rest others))))
 
     heard_mirrors : Mirrors cipher C side (told_record left) heard
     heard_mirrors = record {

@@ -4,5 +4,6 @@ pub mod Writing
 pub mod Asking
 pub mod Queued
 pub mod Trips
+pub mod News
 pub mod Hearing
 pub mod Calling

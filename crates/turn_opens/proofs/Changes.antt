@@ -8,6 +8,9 @@ use Rattle.repair_core.specs.Fresh.{greatest_of, is_fresh}
 use Rattle.repair_core.specs.Rounds.{started_at, came, taken}
 use Rattle.rtx_core.specs.Repairs.{is_fresh_repair, repair_opened}
 use Rattle.rtp_wire.specs.declared.header.RtpHeader.{RtpHeader}
+use Rattle.stream_core.specs.declared.reports.Arrival.{Arrival}
+use Rattle.stream_core.specs.declared.reports.RxReports.{RxReports}
+use Rattle.stream_core.specs.Arrivals.{with_arrival, with_late}
 use Rattle.stream_core.specs.RxRecord.{RxState, RxRecord as StreamRx, heard, taken_of, number_with, fresh_number, opened_as}
 use Rattle.stream_core.specs.RxRepairs.{own_number, repair_came, restored_for, restored as restored_fresh, after_restored, with_packet}
 use Rattle.stream_core.specs.Seen.{seen_of as greatest_seen, is_unseen, saw}
@@ -31,6 +34,11 @@ own_at L l m low = widen16 (base_with (floor_of L l m) l.tried) low
 
 abbrev pub is_own_fresh : Incoming → Lists → ℕ → Bool → ℕ → Bool
 is_own_fresh L l m padded n = if padded then is_fresh_rtx (seen_of L l m) n else is_fresh_after (floor_of L l m) l.tried n
+
+-- what a stream keeps for its reports after a repair restored a fresh number, or one that was not fresh
+abbrev pub reports_restored : Arrival → Option ℕ → RxReports → RxReports
+reports_restored arrival None reports = with_late arrival reports
+reports_restored arrival (Some n) reports = with_arrival arrival n reports
 
 abbrev fresh_in : Option ℕ → List ℕ → ℕ → Option ℕ
 fresh_in roc l low = where_fresh (is_fresh l (number_with roc l low)) (number_with roc l low)
@@ -127,14 +135,14 @@ module _ {threshold : ℕ} {seen : List (ℕ × List ℕ)} {x : StreamRx} {s : I
   pause_after now early short = ap (λ (t : ℕ). Some (min (now + t) (2 ^ 64 - 1))) k.threshold_is ∙ ap Some (pause_is now threshold early short)
 
   -- a first sending opened
-  pub first_opened : (now n : ℕ) → now ≤ 10 ^ 16 → threshold ≤ 10 ^ 16 → IsLine s.0
-      → RxMirrors threshold (saw s.0.ssrc n seen) (opened_as (greatest_seen s.0.ssrc seen) now n x) (s.0, rx_first (now + threshold) n s.1)
-  first_opened now n early short line = record {
+  pub first_opened : (arrival : Arrival) (n : ℕ) → arrival.now ≤ 10 ^ 16 → threshold ≤ 10 ^ 16 → IsLine s.0
+      → RxMirrors threshold (saw s.0.ssrc n seen) (opened_as (greatest_seen s.0.ssrc seen) arrival n x) (s.0, rx_first (arrival.now + threshold) n s.1)
+  first_opened arrival n early short line = record {
     ssrc = k.ssrc;
     roc = refl;
     suppressed = k.suppressed;
     threshold_is = k.threshold_is;
-    pause = pause_after now early short;
+    pause = pause_after arrival.now early short;
     numbers = ap (λ h. Some (came h n)) heard_same;
     begun = with_number_some (taken (register s.1.seen_main s.1.numbers)) n;
     repairs = k.repairs;
@@ -184,14 +192,14 @@ module _ {threshold : ℕ} {seen : List (ℕ × List ℕ)} {x : StreamRx} {s : I
   }
 
   -- the number that it restores
-  restored_numbers : (low : ℕ) → (with_packet (greatest_seen s.0.ssrc seen) (restored_fresh (greatest_seen s.0.ssrc seen) x low) x).numbers
+  restored_numbers : (arrival : Arrival) (low : ℕ) → (with_packet (greatest_seen s.0.ssrc seen) arrival (restored_fresh (greatest_seen s.0.ssrc seen) x low) x).numbers
       ≡ (rx_restored (Some (restored_at (lists_in s.1) low)) s.1).numbers
-  restored_numbers low = ap (λ o. (with_packet (greatest_seen s.0.ssrc seen) o x).numbers) (restored_where low) ∙ go (is_fresh (begun_taken (lists_in s.1)) q)
+  restored_numbers arrival low = ap (λ o. (with_packet (greatest_seen s.0.ssrc seen) arrival o x).numbers) (restored_where low) ∙ go (is_fresh (begun_taken (lists_in s.1)) q)
     where
       q : ℕ
       q = restored_at (lists_in s.1) low
 
-      go : (b : Bool) → (with_packet (greatest_seen s.0.ssrc seen) (where_fresh b q) x).numbers ≡ (if b then Some (came (register s.1.seen_main s.1.numbers) q) else s.1.numbers)
+      go : (b : Bool) → (with_packet (greatest_seen s.0.ssrc seen) arrival (where_fresh b q) x).numbers ≡ (if b then Some (came (register s.1.seen_main s.1.numbers) q) else s.1.numbers)
       go true = ap (λ h. Some (came h q)) heard_same
       go false = k.numbers
 
@@ -202,27 +210,29 @@ module _ {threshold : ℕ} {seen : List (ℕ × List ℕ)} {x : StreamRx} {s : I
       go true = with_number_some (taken (register s.1.seen_main s.1.numbers)) q
       go false = k.begun
 
-  pub same_state : (o : Option ℕ) → (with_packet (greatest_seen s.0.ssrc seen) o x).state ≡ x.state
-  same_state None = refl
-  same_state (Some n) = refl
+  -- all but what it keeps for its reports stays
+  pub same_state : (arrival : Arrival) (o : Option ℕ)
+      → (with_packet (greatest_seen s.0.ssrc seen) arrival o x).state ≡ record x.state { reports = reports_restored arrival o x.state.reports }
+  same_state arrival None = refl
+  same_state arrival (Some n) = refl
 
-  same_repairs : (o : Option ℕ) → (with_packet (greatest_seen s.0.ssrc seen) o x).repairs ≡ x.repairs
-  same_repairs None = refl
-  same_repairs (Some n) = refl
+  same_repairs : (arrival : Arrival) (o : Option ℕ) → (with_packet (greatest_seen s.0.ssrc seen) arrival o x).repairs ≡ x.repairs
+  same_repairs arrival None = refl
+  same_repairs arrival (Some n) = refl
 
-  pub original_opened : (low : ℕ) → IsLine s.0
-      → RxMirrors threshold (saw s.0.ssrc (restored_at (lists_in s.1) low) seen) (after_restored (greatest_seen s.0.ssrc seen) low x)
+  pub original_opened : (arrival : Arrival) (low : ℕ) → IsLine s.0
+      → RxMirrors threshold (saw s.0.ssrc (restored_at (lists_in s.1) low) seen) (after_restored (greatest_seen s.0.ssrc seen) arrival low x)
       (s.0, rx_restored (Some (restored_at (lists_in s.1) low)) s.1)
-  original_opened low line =
-      let same = same_state (restored_fresh (greatest_seen s.0.ssrc seen) x low) in record {
+  original_opened arrival low line =
+      let same = same_state arrival (restored_fresh (greatest_seen s.0.ssrc seen) x low) in record {
         ssrc = ap (λ (t : RxState). t.ssrc) same ∙ k.ssrc;
         roc = ap (λ (t : RxState). t.roc) same ∙ k.roc;
         suppressed = ap (λ (t : RxState). t.suppressed) same ∙ k.suppressed;
         threshold_is = ap (λ (t : RxState). t.threshold) same ∙ k.threshold_is;
         pause = ap (λ (t : RxState). t.pause_at) same ∙ k.pause;
-        numbers = restored_numbers low;
+        numbers = restored_numbers arrival low;
         begun = restored_begun (restored_at (lists_in s.1) low);
-        repairs = subst (λ p. MirrorsPast p s.1.floor s.1.tried) (sym (same_repairs (restored_fresh (greatest_seen s.0.ssrc seen) x low))) k.repairs;
+        repairs = subst (λ p. MirrorsPast p s.1.floor s.1.tried) (sym (same_repairs arrival (restored_fresh (greatest_seen s.0.ssrc seen) x low))) k.repairs;
         seen_main = saw_main s.0.ssrc (restored_at (lists_in s.1) low) seen s.1.seen_main k.seen_main;
         seen_rtx = saw_rtx_other s.0.rtx s.0.ssrc (restored_at (lists_in s.1) low) seen s.1.seen_rtx line.apart k.seen_rtx;
       }

@@ -12,6 +12,7 @@ use Rattle.rtp_wire.specs.HeaderLaws.{ReadsOwnBytes}
 use Rattle.srtp_core.specs.Cipher.{CipherMeaning}
 use Rattle.stream_core.specs.declared.packet.RtpPacket.{RtpPacket}
 use Rattle.stream_core.specs.Repairing.{primary_type_of}
+use Rattle.stream_core.specs.declared.reports.Arrival.{Arrival}
 use Rattle.stream_core.specs.RxRecord.{RxRecord as StreamRx, fresh_number, opened_as}
 use Rattle.stream_core.specs.RxRepairs.{repair_came, restored as restored_fresh, restored_for, after_restored}
 use Rattle.stream_core.specs.Seen.{seen_of, saw}
@@ -19,8 +20,8 @@ use Rattle.stream_core.specs.StreamsRecord.{restored_on, restored_number_on}
 use Rattle.stream_core.specs.Tables.{value_under, place_of, change_place, change_at}
 use Rattle.session_core.specs.declared.datagram.Opened.{Opened as Opening}
 use Rattle.session_core.specs.Calls.{after_events}
-use Rattle.session_core.specs.Receiving.{packet_from, packet_after, packet_restored, rx_opened as real_opened, probes_opened, cut as cut_here, after_opened, after_repair, after_restoring, after_repaired, opening_of, Opens as OpensHere, OpensRepair as OpensRepairHere, Receives, opened as opened_so, repaired as repaired_so, stays as stays_so}
-use Rattle.session_core.specs.Repairs.{is_known, repair_accepted, original_number}
+use Rattle.session_core.specs.Receiving.{packet_from, packet_after, packet_restored, rx_opened as real_opened, probes_opened, arrival_of, cut as cut_here, after_opened, after_repair, after_restoring, after_repaired, opening_of, Opens as OpensHere, OpensRepair as OpensRepairHere, Receives, opened as opened_so, repaired as repaired_so, stays as stays_so}
+use Rattle.session_core.specs.Repairs.{is_known, repair_accepted, original_number, restored_header}
 use Rattle.session_core.specs.SessionRecord.{SessionRecord}
 use Rattle.media_model.specs.declared.entry.Side.{Side}
 use Rattle.media_model.specs.declared.entry.Packet.{Packet}
@@ -69,6 +70,10 @@ module _ (cipher : CipherMeaning) (C : Config) (side : Side) (r : SessionRecord)
 
   zero_out : AllAway 0 p.rest
   zero_out = no_zero cipher C side r a fit mirrors own bytes
+
+  -- how a packet of a header comes
+  abbrev arrival : RtpHeader → Arrival
+  arrival h = arrival_of r.state.types time h
 
   -- what a stream is told as, in a turn
   abbrev Turn : SessionRecord → RtpHeader → ℕ → List ℕ → Type 0
@@ -125,13 +130,13 @@ module _ (cipher : CipherMeaning) (C : Config) (side : Side) (r : SessionRecord)
         (or_left (p.head.0.ssrc == 0) (is_known r.state.types h.payload_type) (eq-eqb p.head.0.ssrc 0 head_ssrc))
         (sym probe_number.1) (subst (λ (m : ℕ). is_fresh (begun_taken (lists_in p.head.1)) m ≡ true) probe_number.1 probe_number.0)
 
-    probe_rx : real_opened (seen_of h.ssrc r.seen) time h.ssrc n r.rx ≡ r.rx
-    probe_rx = ap (λ b. if b then r.rx else change_at h.ssrc (opened_as (seen_of h.ssrc r.seen) time n) r.rx) (eq-eqb h.ssrc 0 zero)
+    probe_rx : real_opened (seen_of h.ssrc r.seen) (arrival h) h.ssrc n r.rx ≡ r.rx
+    probe_rx = ap (λ b. if b then r.rx else change_at h.ssrc (opened_as (seen_of h.ssrc r.seen) (arrival h) n) r.rx) (eq-eqb h.ssrc 0 zero)
 
-    probe_first : probes_opened (seen_of h.ssrc r.seen) time h.ssrc n r.probes ≡ opened_as (seen_of p.head.0.ssrc r.seen) time n r.probes
+    probe_first : probes_opened (seen_of h.ssrc r.seen) (arrival h) h.ssrc n r.probes ≡ opened_as (seen_of p.head.0.ssrc r.seen) (arrival h) n r.probes
     probe_first =
-        ap (λ b. if b then opened_as (seen_of h.ssrc r.seen) time n r.probes else r.probes) (eq-eqb h.ssrc 0 zero)
-        ∙ ap (λ (j : ℕ). opened_as (seen_of j r.seen) time n r.probes) (zero ∙ sym head_ssrc)
+        ap (λ b. if b then opened_as (seen_of h.ssrc r.seen) (arrival h) n r.probes else r.probes) (eq-eqb h.ssrc 0 zero)
+        ∙ ap (λ (j : ℕ). opened_as (seen_of j r.seen) (arrival h) n r.probes) (zero ∙ sym head_ssrc)
 
     probe_seen : saw h.ssrc n r.seen ≡ saw p.head.0.ssrc n r.seen
     probe_seen = ap (λ (j : ℕ). saw j n r.seen) (zero ∙ sym head_ssrc)
@@ -159,15 +164,15 @@ module _ (cipher : CipherMeaning) (C : Config) (side : Side) (r : SessionRecord)
         turn_from cipher C side r a fit mirrors own bytes time le h n payload p.head (subst (IsIn p.head) (sym p.is) (inl refl)) probe_comes probe_opens (record {
           packet = None;
           rx = r.rx;
-          first = opened_as (seen_of p.head.0.ssrc r.seen) time n r.probes;
+          first = opened_as (seen_of p.head.0.ssrc r.seen) (arrival h) n r.probes;
           seen = saw p.head.0.ssrc n r.seen;
           is = λ j. made r (probe_packet j) (probe_rx j) (probe_first j) (probe_seen j);
-          streams = streams_first cipher C side r a fit mirrors own bytes time le h n payload p None (saw p.head.0.ssrc n r.seen) (opened_as (seen_of p.head.0.ssrc r.seen) time n r.probes)
+          streams = streams_first cipher C side r a fit mirrors own bytes time le h n payload p None (saw p.head.0.ssrc n r.seen) (opened_as (seen_of p.head.0.ssrc r.seen) (arrival h) n r.probes)
               (rx_first (time + C.threshold) n p.head.1)
               (subst (λ (j : ℕ). AllAway j p.rest) (sym zero) zero_out)
               (λ z t k none. others_same k p.head.0.ssrc n (subst (λ (j : ℕ). concerns t.0 j ≡ false) (zero ∙ sym head_ssrc) none))
               probe_moved
-              (first_opened p.mirrors time n early fit.threshold head_line);
+              (first_opened p.mirrors (arrival h) n early fit.threshold head_line);
           told = ap (map yielded) probe_yields;
         })
 
@@ -239,14 +244,14 @@ module _ (cipher : CipherMeaning) (C : Config) (side : Side) (r : SessionRecord)
           (or_left (is_some (place_of h.payload_type r.state.types)) (is_some (primary_type_of r.state.types h.payload_type)) placed_type))
           (sym first_number.1) (subst (λ (m : ℕ). is_fresh (begun_taken (lists_in s.1)) m ≡ true) first_number.1 first_number.0)
 
-      first_rx : real_opened (seen_of h.ssrc r.seen) time h.ssrc n r.rx ≡ change_place (opened_as (seen_of s.0.ssrc r.seen) time n) r.rx spot.place
+      first_rx : real_opened (seen_of h.ssrc r.seen) (arrival h) h.ssrc n r.rx ≡ change_place (opened_as (seen_of s.0.ssrc r.seen) (arrival h) n) r.rx spot.place
       first_rx =
-          ap (λ b. if b then r.rx else change_at h.ssrc (opened_as (seen_of h.ssrc r.seen) time n) r.rx) (ne_eqb h.ssrc 0 nonzero)
-          ∙ ap (λ (j : ℕ). change_at j (opened_as (seen_of j r.seen) time n) r.rx) is
-          ∙ changed (opened_as (seen_of s.0.ssrc r.seen) time n)
+          ap (λ b. if b then r.rx else change_at h.ssrc (opened_as (seen_of h.ssrc r.seen) (arrival h) n) r.rx) (ne_eqb h.ssrc 0 nonzero)
+          ∙ ap (λ (j : ℕ). change_at j (opened_as (seen_of j r.seen) (arrival h) n) r.rx) is
+          ∙ changed (opened_as (seen_of s.0.ssrc r.seen) (arrival h) n)
 
-      first_probes : probes_opened (seen_of h.ssrc r.seen) time h.ssrc n r.probes ≡ r.probes
-      first_probes = ap (λ b. if b then opened_as (seen_of h.ssrc r.seen) time n r.probes else r.probes) (ne_eqb h.ssrc 0 nonzero)
+      first_probes : probes_opened (seen_of h.ssrc r.seen) (arrival h) h.ssrc n r.probes ≡ r.probes
+      first_probes = ap (λ b. if b then opened_as (seen_of h.ssrc r.seen) (arrival h) n r.probes else r.probes) (ne_eqb h.ssrc 0 nonzero)
 
       first_seen : saw h.ssrc n r.seen ≡ saw s.0.ssrc n r.seen
       first_seen = ap (λ (j : ℕ). saw j n r.seen) is
@@ -277,15 +282,15 @@ module _ (cipher : CipherMeaning) (C : Config) (side : Side) (r : SessionRecord)
       first_turn =
           turn_from cipher C side r a fit mirrors own bytes time le h n payload s in_table first_comes opens_first (record {
             packet = Some (packet_from time h n (cut_here h payload));
-            rx = change_place (opened_as (seen_of s.0.ssrc r.seen) time n) r.rx spot.place;
+            rx = change_place (opened_as (seen_of s.0.ssrc r.seen) (arrival h) n) r.rx spot.place;
             first = r.probes;
             seen = saw s.0.ssrc n r.seen;
             is = λ j. made r (first_told j) (first_rx j) (first_probes j) (first_seen j);
             streams = streams_at cipher C side r a fit mirrors own bytes time le h n payload p (Some (packet_from time h n (cut_here h payload))) (saw s.0.ssrc n r.seen)
-                (opened_as (seen_of s.0.ssrc r.seen) time n) (rx_first (time + C.threshold) n s.1) spot.at of away
+                (opened_as (seen_of s.0.ssrc r.seen) (arrival h) n) (rx_first (time + C.threshold) n s.1) spot.at of away
                 (λ x t k strange. others_same k s.0.ssrc n (strange s.0.ssrc (concerns_main s.0)))
                 first_moved
-                (first_opened stands.mirrors time n early fit.threshold spot.line)
+                (first_opened stands.mirrors (arrival h) n early fit.threshold spot.line)
                 refl;
             told = ap (map yielded) first_yields;
           })
@@ -365,8 +370,12 @@ module _ (cipher : CipherMeaning) (C : Config) (side : Side) (r : SessionRecord)
         abbrev fresh : Bool
         fresh = is_fresh (begun_taken (lists_in tried)) q
 
+        -- how the packet that is restored came
+        abbrev arrival_restored : Arrival
+        arrival_restored = arrival (restored_header r.state.types s.0.ssrc low h)
+
         abbrev original : StreamRx → StreamRx
-        original x = after_restored (seen_of s.0.ssrc seen_own) low x
+        original x = after_restored (seen_of s.0.ssrc seen_own) arrival_restored low x
 
         abbrev rx_own : List Real
         rx_own = change_at s.0.ssrc came r.rx
@@ -421,8 +430,8 @@ module _ (cipher : CipherMeaning) (C : Config) (side : Side) (r : SessionRecord)
           seen = saw s.0.ssrc q seen_own;
           is = λ j. made r (packet_again j) (rx_again j) r.probes (seen_again j);
           streams = streams_at cipher C side r a fit mirrors own bytes time le h n payload p (packet_with (where_fresh fresh q)) (saw s.0.ssrc q seen_own) (λ x. original (came x))
-              (rx_restored (Some q) tried) spot.at of away keeps_again (repair_moved (Some low) is) (original_opened own_mirrors low spot.line)
-              (ap (λ t. t.trip) (same_state own_mirrors (restored_fresh (seen_of s.0.ssrc seen_own) (came spot.real.1) low)));
+              (rx_restored (Some q) tried) spot.at of away keeps_again (repair_moved (Some low) is) (original_opened own_mirrors arrival_restored low spot.line)
+              (ap (λ t. t.trip) (same_state own_mirrors arrival_restored (restored_fresh (seen_of s.0.ssrc seen_own) (came spot.real.1) low)));
           told = told_again fresh ∙ ap (map yielded) (repair_told (Some low) is);
         }
 
