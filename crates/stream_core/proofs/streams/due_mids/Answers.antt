@@ -1,6 +1,6 @@
-use Rattle.std.proofs.Common.{◌≡◌, ◌≤◌, ◌++◌, [], ◌∷◌, length, sym, ap, ◌∙◌, arith}
+use Rattle.std.proofs.Common.{◌≡◌, ◌≤◌, ◌++◌, [], ◌∷◌, length, take, sym, ap, ◌∙◌, arith}
 use Rattle.std.specs.Prelude.{ℕ, List}
-use Rattle.stream_core.specs.Reporting.{is_report_due}
+use Rattle.stream_core.specs.Reporting.{due_mids, is_report_due}
 use Rattle.stream_core.specs.RxRecord.{RxState, StandsFor}
 use Rattle.stream_core.proofs.Alongside.{value_along, length_along}
 use Rattle.stream_core.proofs.RepairSteps.{on_err}
@@ -25,7 +25,7 @@ loop-place-preserved g c = λ rs h.
           ap (λ v. v.items) w.mids-is
           ∙ w.in_ok-push.ensures.items
           ∙ ap (λ (l : List (List ℕ)). l ++ w.mid.result ∷ []) before
-          ∙ ap (λ (m : List ℕ). _ ++ m ∷ []) (w.mid.ensures ∙ ap (λ (s : RxState). s.mid) y.2.state)
+          ∙ ap (λ (m : List ℕ). due_mids c.args.intervals.now c.args.now (take c.loop-place.place rs) ++ m ∷ []) (w.mid.ensures ∙ ap (λ (s : RxState). s.mid) y.2.state)
           ∙ sym (mids_more c.args.intervals.now c.args.now rs c.loop-place.place y.0 y.1 (sym due ∙ w.if-needs_report.true))
       | else-needs_report w ↦
           ap (λ v. v.items) w.mids-is ∙ before ∙ sym (mids_same c.args.intervals.now c.args.now rs c.loop-place.place y.0 y.1 (sym due ∙ w.if-needs_report.false))
