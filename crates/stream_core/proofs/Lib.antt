@@ -3,6 +3,7 @@ pub mod Alongside
 pub mod Any
 pub mod Fronts
 pub mod Mending
+pub mod Places
 pub mod PollSteps
 pub mod Polling
 pub mod Primaries
