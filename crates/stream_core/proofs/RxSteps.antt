@@ -127,7 +127,7 @@ report_more intervals first rs i r at = ap (λ n. report_before intervals (soone
     by (e ∷ es) (suc i) at = by es i at
 
 -- the media section of a stream, where its report is due
-mid_if : Bool → List ℕ → List (List ℕ)
+abbrev mid_if : Bool → List ℕ → List (List ℕ)
 mid_if true mid = mid ∷ []
 mid_if false mid = []
 
@@ -173,11 +173,11 @@ module _ (intervals : ReportIntervals) (now : ℕ) where
       let some : due_mids intervals now (e ∷ es) ≡ e.1.state.mid ∷ due_mids intervals now es =
       ap (λ c. if c then e.1.state.mid ∷ due_mids intervals now es else due_mids intervals now es) here in
       cc
-  mids_some (e ∷ es) (suc i) r at due none = by (is_report_due intervals now e.1.state) none
+  mids_some (e ∷ es) (suc i) r at due none = by (is_report_due intervals now e.1.state) none (mids_some es i r at due)
     where
-      by : (c : Bool) → (if c then e.1.state.mid ∷ due_mids intervals now es else due_mids intervals now es) ≡ [] → ⊥
-      by true h = absurd cc
-      by false h = mids_some es i r at due h
+      by : (c : Bool) → (if c then e.1.state.mid ∷ due_mids intervals now es else due_mids intervals now es) ≡ [] → (due_mids intervals now es ≡ [] → ⊥) → ⊥
+      by true h rest = absurd cc
+      by false h rest = rest h
 
 -- among no media sections there is none
 pub among_some : (mid : List ℕ) (mids : List (List ℕ)) → is_among mid mids ≡ true → mids ≡ [] → ⊥

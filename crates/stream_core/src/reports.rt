@@ -1,6 +1,6 @@
 //! What streams keep for their reports (RFC 3550 section 6.4): how a packet came, what was counted of
 //! packets, and when reports are due. Each call takes constant time.
-ghost use Rattle.std.specs.Prelude.{◌≡◌, ◌+◌, ◌≤◌, length, Some};
+ghost use Rattle.std.specs.Prelude.{◌≡◌, ◌+◌, ◌<◌, ◌≤◌, length, Some};
 ghost use Rattle.stream_core.specs.Arrivals.{
   point_of,
   no_rx_reports,
@@ -35,7 +35,8 @@ pub struct Arrival {
 
 impl Arrival {
     fn point(&self) -> TimePoint
-        ensures { result ≡ point_of self.now }
+        ensures point { result ≡ point_of self.entry.now }
+        ensures rate { 0 < result.clock_rate }
     {
         TimePoint {
             arrival: self.now,
@@ -85,14 +86,14 @@ impl RxReports {
 
     /// A packet came under a fresh number.
     pub(crate) fn arrived(&mut self, number: SeqNo, arrival: &Arrival)
-        ensures { self.new ≡ with_arrival arrival.now number self.old }
+        ensures { self.new ≡ with_arrival arrival.entry.now number self.old }
     {
         self.counts.arrived(number, true, arrival.point());
     }
 
     /// A packet came under a number that is not fresh: it enters the jitter alone.
     pub(crate) fn came_late(&mut self, arrival: &Arrival)
-        ensures { self.new ≡ with_late arrival.now self.old }
+        ensures { self.new ≡ with_late arrival.entry.now self.old }
     {
         self.counts.entered(arrival.point());
     }

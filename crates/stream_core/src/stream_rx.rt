@@ -265,8 +265,8 @@ impl<W: GapWindow> StreamRx<W> {
     ) -> Result<(), AllocError>
         requires number { number < 2 ^ 48 }
         requires remembered { ForSome remembered (λ n. n < 2 ^ 48) }
-        ensures ok { OnOk result ((r : RxRecord) → StandsFor W.remembers self.old r → StandsFor W.remembers self.new (opened_as remembered arrival.now number r)) }
-        ensures state { OnOk result (self.new.state ≡ came_at arrival.now number self.old.state) }
+        ensures ok { OnOk result ((r : RxRecord) → StandsFor W.remembers self.old r → StandsFor W.remembers self.new (opened_as remembered arrival.entry.now number r)) }
+        ensures state { OnOk result (self.new.state ≡ came_at arrival.entry.now number self.old.state) }
         ensures err { OnErr result (self.new ≡ self.old) }
     {
         self.put(number, remembered)?;
@@ -339,7 +339,7 @@ impl<W: GapWindow> StreamRx<W> {
     ) -> Result<Option<SeqNo>, AllocError>
         requires { ForSome remembered (λ n. n < 2 ^ 48) }
         ensures restored { IfOk result (λ o. (r : RxRecord) → StandsFor W.remembers self.old r → o ≡ restored remembered r low) }
-        ensures after { OnOk result ((r : RxRecord) → StandsFor W.remembers self.old r → StandsFor W.remembers self.new (after_restored remembered arrival.now low r)) }
+        ensures after { OnOk result ((r : RxRecord) → StandsFor W.remembers self.old r → StandsFor W.remembers self.new (after_restored remembered arrival.entry.now low r)) }
         ensures state { self.new.state ≡ record self.old.state { reports = self.new.state.reports } }
         ensures small { IfOk result (λ o. IfSome o (λ n. n < 2 ^ 48)) }
         ensures low { IfOk result (λ o. IfSome o (λ n. n % 65536 ≡ low)) }

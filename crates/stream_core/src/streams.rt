@@ -120,8 +120,8 @@ fn push_report<W: GapWindow>(
     tick: &Tick,
     feedback: &mut VecDeque<Rtcp>,
 ) -> Result<(), AllocError>
-    ensures reported { OnOk result ((r : RxRecord) → RxStandsFor W.remembers stream.old r → RxStandsFor W.remembers stream.new (reported tick.now.now r)
-        × (feedback.new.items ≡ feedback.old.items ++ report_items tick.now r)) }
+    ensures reported { OnOk result ((r : RxRecord) → RxStandsFor W.remembers stream.old r → RxStandsFor W.remembers stream.new (reported tick.entry.now.now r)
+        × (feedback.new.items ≡ feedback.old.items ++ report_items tick.entry.now r)) }
     ensures brief { (more : List Item) × (feedback.new.items ≡ feedback.old.items ++ more) × AllByRecursion IsBrief more }
 {
     let moment = moment_report(alloc, tick.sender_ssrc, tick.now, &tick.beginning)?;
@@ -140,10 +140,10 @@ fn say<W: GapWindow>(
     reports: bool,
     feedback: &mut VecDeque<Rtcp>,
 ) -> Result<(), AllocError>
-    ensures said { OnOk result ((key : ℕ) (r : RxRecord) → RxStandsFor W.remembers stream.old r → RxStandsFor W.remembers stream.new (rx_after tick.now reports r)
-        × (feedback.new.items ≡ feedback.old.items ++ rx_items tick.now reports (key, r))) }
+    ensures said { OnOk result ((key : ℕ) (r : RxRecord) → RxStandsFor W.remembers stream.old r → RxStandsFor W.remembers stream.new (rx_after tick.entry.now reports r)
+        × (feedback.new.items ≡ feedback.old.items ++ rx_items tick.entry.now reports (key, r))) }
     ensures brief { (more : List Item) × (feedback.new.items ≡ feedback.old.items ++ more) × AllByRecursion IsBrief more }
-    ensures cause { OnErr result ((tick.now.is_round ≡ true) ⊎ (reports ≡ true)) }
+    ensures cause { OnErr result ((tick.entry.now.is_round ≡ true) ⊎ (reports ≡ true)) }
 {
     if reports {
         push_report(alloc, stream, tick, feedback)?;
@@ -166,10 +166,10 @@ fn say_all<W: GapWindow>(
     feedback: &mut VecDeque<Rtcp>,
 ) -> Result<(), AllocError>
     ensures said { OnOk result ((rs : List (ℕ × RxRecord)) → Along (RxStandsFor W.remembers) streams.old rs
-        → Along (RxStandsFor W.remembers) streams.new (after_with tick.now mids.now rs)
-        × (feedback.new.items ≡ feedback.old.items ++ items_with tick.now mids.now rs)) }
+        → Along (RxStandsFor W.remembers) streams.new (after_with tick.entry.now mids.now rs)
+        × (feedback.new.items ≡ feedback.old.items ++ items_with tick.entry.now mids.now rs)) }
     ensures brief { (more : List Item) × (feedback.new.items ≡ feedback.old.items ++ more) × AllByRecursion IsBrief more }
-    ensures cause { OnErr result ((tick.now.is_round ≡ true) ⊎ (mids.now ≡ [] → ⊥)) }
+    ensures cause { OnErr result ((tick.entry.now.is_round ≡ true) ⊎ (mids.now ≡ [] → ⊥)) }
 {
     for place in 0..streams.len() {
         let stream = streams.at_mut(place);
@@ -640,11 +640,11 @@ impl<W: GapWindow, S: ResendStore<Sent>> Streams<W, S> {
         feedback: &mut VecDeque<Rtcp>,
     ) -> Result<(), AllocError>
         ensures said { OnOk result ((r : StreamsRecord) → StandsFor W.remembers S.stands_for self.old r
-            → StandsFor W.remembers S.stands_for self.new (record r { rx = incoming_after tick.now r.rx })
-            × (feedback.new.items ≡ feedback.old.items ++ incoming_items tick.now r.rx)) }
+            → StandsFor W.remembers S.stands_for self.new (record r { rx = incoming_after tick.entry.now r.rx })
+            × (feedback.new.items ≡ feedback.old.items ++ incoming_items tick.entry.now r.rx)) }
         ensures brief { (more : List Item) × (feedback.new.items ≡ feedback.old.items ++ more) × AllByRecursion IsBrief more }
         ensures cause { OnErr result ((r : StreamsRecord) → StandsFor W.remembers S.stands_for self.old r
-            → (tick.now.is_round ≡ true) ⊎ (due_mids tick.now.intervals tick.now.now r.rx ≡ [] → ⊥)) }
+            → (tick.entry.now.is_round ≡ true) ⊎ (due_mids tick.entry.now.intervals tick.entry.now.now r.rx ≡ [] → ⊥)) }
         ensures tx { self.new.tx ≡ self.old.tx }
         ensures repairs { self.new.repairs ≡ self.old.repairs }
         ensures threshold { self.new.threshold ≡ self.old.threshold }
@@ -806,7 +806,7 @@ impl<W: GapWindow, S: ResendStore<Sent>> Streams<W, S> {
         requires number { number < 2 ^ 48 }
         requires remembered { ForSome remembered (λ n. n < 2 ^ 48) }
         ensures ok { OnOk result ((r : StreamsRecord) (ssrc : ℕ) → StandsFor W.remembers S.stands_for self.old r → place_of ssrc self.old.rx ≡ Some place
-            → StandsFor W.remembers S.stands_for self.new (record r { rx = change_at ssrc (opened_as remembered arrival.now number) r.rx })) }
+            → StandsFor W.remembers S.stands_for self.new (record r { rx = change_at ssrc (opened_as remembered arrival.entry.now number) r.rx })) }
         ensures tx { self.new.tx ≡ self.old.tx }
         ensures repairs { self.new.repairs ≡ self.old.repairs }
         ensures threshold { self.new.threshold ≡ self.old.threshold }
@@ -893,7 +893,7 @@ impl<W: GapWindow, S: ResendStore<Sent>> Streams<W, S> {
         ensures restored { IfOk result (λ o. (r : StreamsRecord) (ssrc : ℕ) → StandsFor W.remembers S.stands_for self.old r → place_of ssrc self.old.rx ≡ Some place
             → o ≡ restored_on remembered r.rx ssrc low) }
         ensures after { OnOk result ((r : StreamsRecord) (ssrc : ℕ) → StandsFor W.remembers S.stands_for self.old r → place_of ssrc self.old.rx ≡ Some place
-            → StandsFor W.remembers S.stands_for self.new (record r { rx = change_at ssrc (after_restored remembered arrival.now low) r.rx })) }
+            → StandsFor W.remembers S.stands_for self.new (record r { rx = change_at ssrc (after_restored remembered arrival.entry.now low) r.rx })) }
         ensures small { IfOk result (λ o. IfSome o (λ n. n < 2 ^ 48)) }
         ensures low { IfOk result (λ o. IfSome o (λ n. n % 65536 ≡ low)) }
         ensures places { keys_of self.new.rx ≡ keys_of self.old.rx }

@@ -28,3 +28,16 @@ loop-place-preserved g c =
         all_more IsBrief k.0 more.0 k.2 more.2,
       );
     }
+
+pub returns-clause-said : goal.returns-clause-said
+returns-clause-said g c = λ rs h.
+    let R = StandsFor g.W.GapWindow.remembers in
+    let done = c.loop-place.invariant.so_far rs h in
+    let same = length_along R c.args.streams.now rs h in
+    let ended = c.loop-place-test.false in
+    let count = c.len-place-end.ensures in
+    let long : length rs ≤ c.loop-place.place = omega arith in (
+      subst (λ (l : List (ℕ × RxRecord)). Along R c.loop-place.streams l)
+          (each_all (λ (r : RxRecord). rx_after c.args.tick.now (is_among r.state.mid c.args.mids.now) r) rs c.loop-place.place long) done.0,
+      done.1 ∙ ap (λ (l : List Rtcp). c.args.feedback.now.items ++ l) (said_all c.args.tick.now c.args.mids.now rs c.loop-place.place long),
+    )
