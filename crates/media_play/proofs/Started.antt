@@ -158,6 +158,7 @@ module _ (cipher : CipherMeaning) (setup : Setup) (side : Side) where
     mirrors = begun_mirrors h.session h.bounded (f.once side) h.begun;
     types = λ pt. places pt h.session.state.types setup.types h.begun.types;
     exts = h.begun.exts;
+    intervals = h.begun.intervals;
     runs = h.begun.runs;
     fit = fits cipher setup side f h.sent_words h.heard_words;
   }

@@ -36,7 +36,7 @@ use Rattle.run_model.specs.Transcripts.{outgoing_as}
 use Rattle.run_model.specs.Whole.{incoming_of}
 use Rattle.media_laws.specs.Keys.{is_left}
 use Rattle.media_laws.specs.Plain.{extensions_of}
-use Rattle.media_play.specs.Starting.{ssrcs_in, AreOnce, HasWords, IsRow, IsIdle, IsUnheard, kept_for, kept_in, with_streams, StreamsChange, Begun, Starts}
+use Rattle.media_play.specs.Starting.{intervals_of, ssrcs_in, AreOnce, HasWords, IsRow, IsIdle, IsUnheard, kept_for, kept_in, with_streams, StreamsChange, Begun, Starts}
 use Rattle.media_play.proofs.StartingLists.{all_push, zip_push, zip_weaker, zip_keys, any_left, any_last, new_last, place_absent, change_none, change_last, keys_among, mains_among, strange}
 
 -- the sides
@@ -159,10 +159,10 @@ originals_of (L ∷ Ls) = ap (λ l. original_in (incoming_of L) ++ l) (originals
 module _ (cipher : CipherMeaning) (setup : Setup) (side : Side) where
   -- with keys
 
-  keyed_begins : (config : SessionConfig) → 900 ≤ config.mtu.target → config.pause_threshold ≡ setup.pause_threshold → config.srtcp_index ≡ (local_of side setup).srtcp_index
+  keyed_begins : (config : SessionConfig) → 900 ≤ config.mtu.target → config.pause_threshold ≡ setup.pause_threshold → config.intervals ≡ intervals_of setup → config.srtcp_index ≡ (local_of side setup).srtcp_index
       → config.local_ssrc ≡ (local_of side setup).ssrc → config.beginning ≡ setup.beginning → config.exts ≡ extensions_of setup → AllZip IsRow config.types setup.types
       → Begun cipher setup side [] [] (record (fresh_session config) { state = keyed cipher setup.profile (material_of setup) (is_left side) (fresh_session config).state })
-  keyed_begins config target pauses index ssrc beginning exts types =
+  keyed_begins config target pauses intervals index ssrc beginning exts types =
       record {
         seals = ap (λ (i : ℕ). Some (new_state cipher setup.profile (material_of setup) (is_left side) i)) index;
         opens = ap (λ (l : Bool). Some (new_state cipher setup.profile (material_of setup) l 0)) (other_left side);
@@ -179,6 +179,7 @@ module _ (cipher : CipherMeaning) (setup : Setup) (side : Side) where
         types = types;
         exts = exts;
         pauses = pauses;
+        intervals = intervals;
         sends = tt;
         repairs = refl;
         takes = tt;
@@ -186,11 +187,11 @@ module _ (cipher : CipherMeaning) (setup : Setup) (side : Side) where
         originals = refl;
       }
 
-  pub starts_keyed : (config : SessionConfig) (v new : EndSession) (material : List ℕ) (left : Bool) → 900 ≤ config.mtu.target → config.pause_threshold ≡ setup.pause_threshold → config.srtcp_index ≡ (local_of side setup).srtcp_index
+  pub starts_keyed : (config : SessionConfig) (v new : EndSession) (material : List ℕ) (left : Bool) → 900 ≤ config.mtu.target → config.pause_threshold ≡ setup.pause_threshold → config.intervals ≡ intervals_of setup → config.srtcp_index ≡ (local_of side setup).srtcp_index
       → config.local_ssrc ≡ (local_of side setup).ssrc → config.beginning ≡ setup.beginning → config.exts ≡ extensions_of setup → AllZip IsRow config.types setup.types
       → material ≡ material_of setup → left ≡ is_left side → (local_of side setup).srtcp_index ≤ 2 ^ 31 → SessionStands v (fresh_session config)
       → new ≡ record v { state = keyed cipher setup.profile material left v.state } → Starts cipher setup side [] [] new
-  starts_keyed config v new material left target pauses index ssrc beginning exts types key l bounded h is =
+  starts_keyed config v new material left target pauses intervals index ssrc beginning exts types key l bounded h is =
       let to = λ (s : SessionState). keyed cipher setup.profile (material_of setup) (is_left side) s in
       let state : new.state ≡ to (fresh_session config).state =
       ap (λ (w : EndSession). w.state) is
@@ -210,7 +211,7 @@ module _ (cipher : CipherMeaning) (setup : Setup) (side : Side) where
           seen = rw is h.seen;
           repairs = rw is h.repairs;
         };
-        begun = keyed_begins config target pauses index ssrc beginning exts types;
+        begun = keyed_begins config target pauses intervals index ssrc beginning exts types;
       }
 
   module _ (sent received : List Outgoing) where
@@ -234,6 +235,7 @@ module _ (cipher : CipherMeaning) (setup : Setup) (side : Side) where
       types = b.types;
       exts = b.exts;
       pauses = b.pauses;
+      intervals = b.intervals;
       sends = zip_weaker (IsIdle s.state.medias) (IsIdle (s.state.medias ++ m ∷ [])) s.state.tx sent
           (λ e L i. record { key = i.key; ssrc = i.ssrc; rtx = i.rtx; mid = any_left (λ (n : MediaRecord). pointwise ◌==◌ n.mid e.1.mid) s.state.medias (m ∷ []) i.mid; queue = i.queue }) b.sends;
       repairs = b.repairs;
@@ -282,6 +284,7 @@ module _ (cipher : CipherMeaning) (setup : Setup) (side : Side) where
       types = b.types;
       exts = b.exts;
       pauses = b.pauses;
+      intervals = b.intervals;
       sends = zip_push (IsIdle s.state.medias) s.state.tx sent (L.ssrc, declared L.ssrc L.rtx mid rid) L b.sends (record { key = refl; ssrc = refl; rtx = refl; mid = known; queue = refl });
       repairs = ap (λ (l : List (ℕ × RepairsRecord)). l ++ kept_in L) b.repairs ∙ ap (λ l. flat_map kept_in sent ++ l) (sym (append-nil (kept_in L))) ∙ sym (flat_map-append kept_in sent (L ∷ []));
       takes = b.takes;
@@ -331,6 +334,7 @@ module _ (cipher : CipherMeaning) (setup : Setup) (side : Side) where
       types = b.types;
       exts = b.exts;
       pauses = b.pauses;
+      intervals = b.intervals;
       sends = b.sends;
       repairs = b.repairs;
       takes = zip_push (IsUnheard setup.pause_threshold) s.rx received (L.ssrc, expected L.ssrc L.rtx mid rid (is_none L.rtx) s.state.pause_threshold) L b.takes

@@ -10,8 +10,8 @@ pub returns-in-Ok : goal.returns-in-Ok
 returns-in-Ok g c =
     let setup = c.args.setup.now in
     let same : c.local-2.result ≡ local_of c.args.side setup = c.local-2.ensures in
-    let config : SessionConfig = record { id = c.identification.result; beginning = setup.beginning; mtu = record { target = setup.mtu.target; warn = setup.mtu.warn }; local_ssrc = c.local.result.ssrc; pause_threshold = setup.pause_threshold; srtcp_index = c.get.result; exts = c.extension_map.result; types = c.in_ok-payload_types.field-0 } in
+    let config : SessionConfig = record { id = c.identification.result; beginning = setup.beginning; mtu = record { target = setup.mtu.target; warn = setup.mtu.warn }; local_ssrc = c.local.result.ssrc; pause_threshold = setup.pause_threshold; intervals = record { audio = setup.intervals.audio; video = setup.intervals.video }; srtcp_index = c.get.result; exts = c.extension_map.result; types = c.in_ok-payload_types.field-0 } in
     starts_keyed g.C.SrtpCipher.meaning setup c.args.side config c.new-session.result c.set_keying_material.new.self c.in_ok-material-2.material c.is_left.result
-    (wide_mtu setup.mtu c.requires.mtu) refl (c.get.ensures.value ∙ ap (λ (l : Local). l.srtcp_index) same) (ap (λ (l : Local). l.ssrc) c.local.ensures) refl c.extension_map.ensures
+    (wide_mtu setup.mtu c.requires.mtu) refl refl (c.get.ensures.value ∙ ap (λ (l : Local). l.srtcp_index) same) (ap (λ (l : Local). l.ssrc) c.local.ensures) refl c.extension_map.ensures
     c.in_ok-payload_types.ensures (c.in_ok-material-2.ensures ∙ c.deref.ensures.value ∙ c.in_ok-material.ensures) c.is_left.ensures
     (subst (λ (l : Local). l.srtcp_index ≤ 2 ^ 31) same c.get.ensures.bounded) c.new-session.ensures c.in-Ok.ensures.ok
