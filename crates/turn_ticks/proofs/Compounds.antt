@@ -10,7 +10,6 @@ use Rattle.rtp_wire.specs.declared.extension.ExtensionMap.{ExtensionMap}
 use Rattle.rtcp_wire.specs.declared.packet.Rtcp.{Rtcp}
 use Rattle.rtcp_wire.specs.declared.rtcp_fb.RtcpFb.{RtcpFb}
 use Rattle.rtcp_wire.specs.Laws.{ItemsReadBack}
-use Rattle.rtcp_wire.specs.Streams.{feedback_of}
 use Rattle.srtp_core.specs.Cipher.{CipherMeaning}
 use Rattle.srtp_core.specs.Contexts.{SrtpState}
 use Rattle.srtp_core.specs.declared.counter.Counter.TheVariants as srtcp
@@ -31,7 +30,7 @@ use Rattle.session_turns.specs.Laws.{IsCutFor}
 use Rattle.session_turns.specs.Packets.{IsUsedUpIn}
 use Rattle.session_turns.specs.Reading.{event_as, event_of, events_of}
 use Rattle.turn_ticks.proofs.Lists.{flat_map_append, all_append}
-use Rattle.turn_ticks.proofs.Items.{IsRead, reads_back, all_take, all_drop}
+use Rattle.turn_ticks.proofs.Items.{IsRead, told_of, reads_back, all_take, all_drop}
 
 -- packets leave no feedback behind, and are RTP
 
@@ -68,8 +67,8 @@ counts_more : (k n : ℕ) (is : List ℕ) → Counts k is n → Counts k (is ++ 
 counts_more k n [] h = (sym h, ap (λ (m : ℕ). m + 1) h)
 counts_more k n (i ∷ is) h = (h.0, counts_more (k + 1) n is h.1)
 
-flat_take : (n : ℕ) (xs : List Rtcp) → flat_map feedback_of (take n xs) ++ flat_map feedback_of (drop n xs) ≡ flat_map feedback_of xs
-flat_take n xs = sym (flat_map_append feedback_of (take n xs) (drop n xs)) ∙ ap (flat_map feedback_of) (take_drop n xs) where
+flat_take : (n : ℕ) (xs : List Rtcp) → flat_map told_of (take n xs) ++ flat_map told_of (drop n xs) ≡ flat_map told_of xs
+flat_take n xs = sym (flat_map_append told_of (take n xs) (drop n xs)) ∙ ap (flat_map told_of) (take_drop n xs) where
   take_drop : (n : ℕ) (xs : List Rtcp) → take n xs ++ drop n xs ≡ xs
   take_drop zero xs = refl
   take_drop (suc n) [] = refl
@@ -137,7 +136,7 @@ module _ (cipher : CipherMeaning) (time : ℕ) (later : 0 < time) where
       pub read : AllByRecursion IsRead items
       pub bounded : next ≤ 2 ^ 31
       pub counts : Counts own.srtcp_index (indices (events_of exts ds)) next
-      pub told : items_in (events_of exts ds) ++ flat_map feedback_of items ≡ flat_map feedback_of r.state.feedback
+      pub told : items_in (events_of exts ds) ++ flat_map told_of items ≡ flat_map told_of r.state.feedback
       pub serves : (T : Types) (seal : Sealing) (now : ℕ) (xs ys : Table) (events : List Event) → ServesAll T seal now xs ys events → ServesAll T seal now xs ys (events_of exts ds ++ events)
 
     begun : Reports r []
@@ -156,11 +155,11 @@ module _ (cipher : CipherMeaning) (time : ℕ) (later : 0 < time) where
     one_more b after ds d h g =
         let n = leaving r.state.target h.items in
         let is : d ≡ compound_at h.next h.items = same_Some d (compound_at h.next h.items) g.is in
-        let event : event_of exts d ≡ sealed_items h.next (flat_map feedback_of (take n h.items)) =
+        let event : event_of exts d ≡ sealed_items h.next (flat_map told_of (take n h.items)) =
         ap (event_of exts) is ∙ ap (sealed_items h.next) (reads_back law (take n h.items) (all_take IsRead n h.items h.read)) in
-        let events : events_of exts (ds ++ d ∷ []) ≡ events_of exts ds ++ sealed_items h.next (flat_map feedback_of (take n h.items)) ∷ [] =
+        let events : events_of exts (ds ++ d ∷ []) ≡ events_of exts ds ++ sealed_items h.next (flat_map told_of (take n h.items)) ∷ [] =
         map-append (event_of exts) ds (d ∷ []) ∙ ap (λ (e : Event). events_of exts ds ++ e ∷ []) event in
-        let last : Event = sealed_items h.next (flat_map feedback_of (take n h.items)) in
+        let last : Event = sealed_items h.next (flat_map told_of (take n h.items)) in
         let less = g.less in
         record {
           items = drop n h.items;
@@ -172,16 +171,16 @@ module _ (cipher : CipherMeaning) (time : ℕ) (later : 0 < time) where
               subst (λ (l : List ℕ). Counts own.srtcp_index l (h.next + 1)) (sym (ap indices events ∙ flat_map_append index_of (events_of exts ds) (last ∷ [])))
               (counts_more own.srtcp_index h.next (indices (events_of exts ds)) h.counts);
           told =
-              ap (λ (l : List Event). items_in l ++ flat_map feedback_of (drop n h.items)) events
-              ∙ ap (λ (l : List RtcpFb). l ++ flat_map feedback_of (drop n h.items)) (flat_map_append item_in (events_of exts ds) (last ∷ []))
-              ∙ ap (λ (l : List RtcpFb). (items_in (events_of exts ds) ++ l) ++ flat_map feedback_of (drop n h.items)) (append-nil (flat_map feedback_of (take n h.items)))
-              ∙ append_assoc (items_in (events_of exts ds)) (flat_map feedback_of (take n h.items)) (flat_map feedback_of (drop n h.items))
+              ap (λ (l : List Event). items_in l ++ flat_map told_of (drop n h.items)) events
+              ∙ ap (λ (l : List RtcpFb). l ++ flat_map told_of (drop n h.items)) (flat_map_append item_in (events_of exts ds) (last ∷ []))
+              ∙ ap (λ (l : List RtcpFb). (items_in (events_of exts ds) ++ l) ++ flat_map told_of (drop n h.items)) (append-nil (flat_map told_of (take n h.items)))
+              ∙ append_assoc (items_in (events_of exts ds)) (flat_map told_of (take n h.items)) (flat_map told_of (drop n h.items))
               ∙ ap (λ (l : List RtcpFb). items_in (events_of exts ds) ++ l) (flat_take n h.items)
               ∙ h.told;
           serves = λ T seal now xs ys more_events d.
               subst (λ (l : List Event). ServesAll T seal now xs ys (l ++ more_events)) (sym events)
               (subst (λ (l : List Event). ServesAll T seal now xs ys l) (sym (append_assoc (events_of exts ds) (last ∷ []) more_events))
-              (h.serves T seal now xs ys (last ∷ more_events) (reports h.next (flat_map feedback_of (take n h.items)) d)));
+              (h.serves T seal now xs ys (last ∷ more_events) (reports h.next (flat_map told_of (take n h.items)) d)));
         }
 
     -- and packets after them
@@ -246,7 +245,7 @@ module _ (cipher : CipherMeaning) (time : ℕ) (later : 0 < time) where
       pub is : all ≡ front ++ rest
       pub bounded : next ≤ 2 ^ 31
       pub counts : Counts own.srtcp_index (indices (events_of exts front)) next
-      pub told : items_in (events_of exts front) ≡ flat_map feedback_of r.state.feedback
+      pub told : items_in (events_of exts front) ≡ flat_map told_of r.state.feedback
       pub serves : (T : Types) (seal : Sealing) (now : ℕ) (xs ys : Table) (events : List Event) → ServesAll T seal now xs ys events → ServesAll T seal now xs ys (events_of exts front ++ events)
       pub packets : Drains cipher time (left_at next []) after rest
       pub rtp : AllByRecursion IsRtp rest
@@ -260,7 +259,7 @@ module _ (cipher : CipherMeaning) (time : ℕ) (later : 0 < time) where
       is = is;
       bounded = h.bounded;
       counts = h.counts;
-      told = sym (append-nil (items_in (events_of exts front))) ∙ sym (ap (λ (l : List Rtcp). items_in (events_of exts front) ++ flat_map feedback_of l) none) ∙ h.told;
+      told = sym (append-nil (items_in (events_of exts front))) ∙ sym (ap (λ (l : List Rtcp). items_in (events_of exts front) ++ flat_map told_of l) none) ∙ h.told;
       serves = h.serves;
       packets = subst (λ (x : SessionRecord). Drains cipher time x after rest) (h.is ∙ ap (left_at h.next) none) drains;
       rtp = rtp;

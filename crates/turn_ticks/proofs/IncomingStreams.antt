@@ -3,10 +3,12 @@ use Rattle.std.proofs.Common.{◌≡◌, ℕ, Bool, true, false, List, [], ◌�
 use Rattle.std.specs.Prelude.{◌&&◌, ◌||◌, not, if◌then◌else◌}
 use Rattle.std.specs.List.{AllZip}
 use Rattle.repair_core.specs.Rounds.{Heard, wait_of}
-use Rattle.stream_core.specs.Missing.{pending_in, is_enabled, any_enabled, asked_in, after_round as stream_after_round}
+use Rattle.stream_core.specs.Missing.{pending_in, is_enabled, any_enabled, asked_in}
 use Rattle.stream_core.specs.Pauses.{is_over, checked, on_record, told as stream_told}
+use Rattle.stream_core.specs.Reporting.{is_among, after_report, rx_after, after_with}
 use Rattle.stream_core.specs.RxRecord.{RxState, RxRecord as StreamRx}
 use Rattle.stream_core.specs.Tables.{each}
+use Rattle.stream_core.specs.declared.reports.Tick.{Tick}
 use Rattle.session_core.specs.SessionRecord.{SessionRecord}
 use Rattle.run_model.specs.Events.{Incoming}
 use Rattle.run_model.specs.Sending.{is_some as is_something}
@@ -124,26 +126,56 @@ module _ (threshold : ℕ) (seen : List (ℕ × List ℕ)) where
       (enabled_same x s m) (asks_mirror now trip b (is_enabled x) x s known m) in
       checks_mirror now (asked_by now b (is_enabled x) x) (s.0, record s.1 { numbers = plain_asked_in now (asks_of b (wait_of trip) s) s.1.numbers }) asks
 
-  tick_stands : (now : ℕ) (trip : Option ℕ) (b : Bool) (e : ℕ × StreamRx) (s : Incoming × RxRecord) → RxStands threshold trip seen e s
+  -- a report tells of the stream, and leaves its mirror
+  report_mirror : (t : Tick) (reports : Bool) (x : StreamRx) (s : Incoming × RxRecord) → RxMirrors threshold seen x s → RxMirrors threshold seen (after_report t reports x) s
+  report_mirror t true x s m = record {
+    ssrc = m.ssrc;
+    roc = m.roc;
+    suppressed = m.suppressed;
+    threshold_is = m.threshold_is;
+    pause = m.pause;
+    numbers = m.numbers;
+    begun = m.begun;
+    repairs = m.repairs;
+    seen_main = m.seen_main;
+    seen_rtx = m.seen_rtx;
+  }
+  report_mirror t false x s m = m
+
+  report_trip : (t : Tick) (reports : Bool) (x : StreamRx) → (after_report t reports x).state.trip ≡ x.state.trip
+  report_trip t true x = refl
+  report_trip t false x = refl
+
+  pub report_stands : (t : Tick) (trip : Option ℕ) (reports : Bool) (e : ℕ × StreamRx) (s : Incoming × RxRecord) → RxStands threshold trip seen e s
+      → RxStands threshold trip seen (e.0, after_report t reports e.1) s
+  report_stands t trip reports e s h = record {
+    key = h.key;
+    trip_is = report_trip t reports e.1 ∙ h.trip_is;
+    mirrors = report_mirror t reports e.1 s h.mirrors;
+  }
+
+  ask_stands : (now : ℕ) (trip : Option ℕ) (b : Bool) (e : ℕ × StreamRx) (s : Incoming × RxRecord) → RxStands threshold trip seen e s
       → RxStands threshold trip seen (e.0, on_record stream_told (on_record (checked now) (asked_by now b (is_enabled e.1) e.1))) (ticked_in now b (wait_of trip) s)
-  tick_stands now trip b e s h = record {
+  ask_stands now trip b e s h = record {
     key = h.key;
     trip_is = check_trip (is_over (asked_by now b (is_enabled e.1) e.1).state.pause_at now) (asked_by now b (is_enabled e.1) e.1) ∙ asks_trip now b (is_enabled e.1) e.1 ∙ h.trip_is;
     mirrors = told_mirror (on_record (checked now) (asked_by now b (is_enabled e.1) e.1)) (ticked_in now b (wait_of trip) s) (tick_mirror now trip b e.1 s h.trip_is h.mirrors);
   }
 
-  -- the incoming streams after a tick, which may be a round, and after all was told
-  abbrev pub ticked_rx : ℕ → Bool → List (ℕ × StreamRx) → List (ℕ × StreamRx)
-  ticked_rx now b rx = each (on_record stream_told) (each (on_record (checked now)) (if b then each (stream_after_round now) rx else rx))
+  tick_stands : (t : Tick) (trip : Option ℕ) (reports : Bool) (e : ℕ × StreamRx) (s : Incoming × RxRecord) → RxStands threshold trip seen e s
+      → RxStands threshold trip seen (e.0, on_record stream_told (on_record (checked t.now) (rx_after t reports e.1))) (ticked_in t.now t.is_round (wait_of trip) s)
+  tick_stands t trip reports e s h = ask_stands t.now trip t.is_round (e.0, after_report t reports e.1) s (report_stands t trip reports e s h)
 
-  all_stand : (now : ℕ) (trip : Option ℕ) (b : Bool) (rx : List (ℕ × StreamRx)) (table : List (Incoming × RxRecord)) → AllZip (RxStands threshold trip seen) rx table
-      → AllZip (RxStands threshold trip seen) (ticked_rx now b rx) (map (ticked_in now b (wait_of trip)) table)
-  all_stand now trip true [] [] h = tt
-  all_stand now trip false [] [] h = tt
-  all_stand now trip b [] (s ∷ table) h = absurd h
-  all_stand now trip b (e ∷ rx) [] h = absurd h
-  all_stand now trip true (e ∷ rx) (s ∷ table) h = (tick_stands now trip true e s h.0, all_stand now trip true rx table h.1)
-  all_stand now trip false (e ∷ rx) (s ∷ table) h = (tick_stands now trip false e s h.0, all_stand now trip false rx table h.1)
+  -- the incoming streams after a tick, in which those of these media sections report, and after all was told
+  abbrev pub ticked_rx : Tick → List (List ℕ) → List (ℕ × StreamRx) → List (ℕ × StreamRx)
+  ticked_rx t mids rx = each (on_record stream_told) (each (on_record (checked t.now)) (after_with t mids rx))
+
+  all_stand : (t : Tick) (mids : List (List ℕ)) (trip : Option ℕ) (rx : List (ℕ × StreamRx)) (table : List (Incoming × RxRecord)) → AllZip (RxStands threshold trip seen) rx table
+      → AllZip (RxStands threshold trip seen) (ticked_rx t mids rx) (map (ticked_in t.now t.is_round (wait_of trip)) table)
+  all_stand t mids trip [] [] h = tt
+  all_stand t mids trip [] (s ∷ table) h = absurd h
+  all_stand t mids trip (e ∷ rx) [] h = absurd h
+  all_stand t mids trip (e ∷ rx) (s ∷ table) h = (tick_stands t trip (is_among e.1.state.mid mids) e s h.0, all_stand t mids trip rx table h.1)
 
   -- some stream asks
   any_same : (trip : Option ℕ) (rx : List (ℕ × StreamRx)) (table : List (Incoming × RxRecord)) → AllZip (RxStands threshold trip seen) rx table → any_enabled rx ≡ any_plain_enabled table
@@ -168,17 +200,18 @@ enabled_mirrored threshold trip r _ (rx_mirror s rest is h hs) =
     let here = probes_rest s is in
     any_same threshold r.seen trip r.rx rest hs ∙ sym (λ i. here i || any_plain_enabled rest)
 
-pub rx_ticked_mirror : (threshold : ℕ) (trip : Option ℕ) (now : ℕ) (b : Bool) (r after : SessionRecord) (table : List (Incoming × RxRecord)) → RxMirror threshold trip r table
-    → after.rx ≡ ticked_rx threshold r.seen now b r.rx → after.probes ≡ on_record (checked now) r.probes → after.seen ≡ r.seen
-    → RxMirror threshold trip after (map (ticked_in now b (wait_of trip)) table)
-rx_ticked_mirror threshold trip now b r after _ (rx_mirror s rest is h hs) rx probed known =
-    let none = no_round now b trip s is in
-    let first : RxMirrors threshold r.seen (on_record (checked now) r.probes) (ticked_in now b (wait_of trip) s) =
+pub rx_ticked_mirror : (threshold : ℕ) (trip : Option ℕ) (t : Tick) (mids : List (List ℕ)) (r after : SessionRecord) (table : List (Incoming × RxRecord)) → RxMirror threshold trip r table
+    → after.rx ≡ ticked_rx threshold r.seen t mids r.rx → after.probes ≡ on_record (checked t.now) r.probes → after.seen ≡ r.seen
+    → RxMirror threshold trip after (map (ticked_in t.now t.is_round (wait_of trip)) table)
+rx_ticked_mirror threshold trip t mids r after _ (rx_mirror s rest is h hs) rx probed known =
+    let now : ℕ = t.now in
+    let none = no_round now t.is_round trip s is in
+    let first : RxMirrors threshold r.seen (on_record (checked now) r.probes) (ticked_in now t.is_round (wait_of trip) s) =
     subst (λ (o : Option ℕ). RxMirrors threshold r.seen (on_record (checked now) r.probes) (s.0, record s.1 { numbers = plain_asked_in now o s.1.numbers; pause_at = paused_in now s.1.pause_at })) (sym none)
     (checks_mirror threshold r.seen now r.probes s h) in
-    rx_mirror (ticked_in now b (wait_of trip) s) (map (ticked_in now b (wait_of trip)) rest) is
-    (subst (λ (y : StreamRx). RxMirrors threshold after.seen y (ticked_in now b (wait_of trip) s)) (sym probed)
-    (subst (λ (l : List (ℕ × List ℕ)). RxMirrors threshold l (on_record (checked now) r.probes) (ticked_in now b (wait_of trip) s)) (sym known) first))
-    (subst (λ (l : List (ℕ × StreamRx)). AllZip (RxStands threshold trip after.seen) l (map (ticked_in now b (wait_of trip)) rest)) (sym rx)
-    (subst (λ (l : List (ℕ × List ℕ)). AllZip (RxStands threshold trip l) (ticked_rx threshold r.seen now b r.rx) (map (ticked_in now b (wait_of trip)) rest)) (sym known)
-    (all_stand threshold r.seen now trip b r.rx rest hs)))
+    rx_mirror (ticked_in now t.is_round (wait_of trip) s) (map (ticked_in now t.is_round (wait_of trip)) rest) is
+    (subst (λ (y : StreamRx). RxMirrors threshold after.seen y (ticked_in now t.is_round (wait_of trip) s)) (sym probed)
+    (subst (λ (l : List (ℕ × List ℕ)). RxMirrors threshold l (on_record (checked now) r.probes) (ticked_in now t.is_round (wait_of trip) s)) (sym known) first))
+    (subst (λ (l : List (ℕ × StreamRx)). AllZip (RxStands threshold trip after.seen) l (map (ticked_in now t.is_round (wait_of trip)) rest)) (sym rx)
+    (subst (λ (l : List (ℕ × List ℕ)). AllZip (RxStands threshold trip l) (ticked_rx threshold r.seen t mids r.rx) (map (ticked_in now t.is_round (wait_of trip)) rest)) (sym known)
+    (all_stand threshold r.seen t mids trip r.rx rest hs)))

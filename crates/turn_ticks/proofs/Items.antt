@@ -1,9 +1,11 @@
--- The items that ask for packets are read back as they were written, whatever their sender.
-use Rattle.std.proofs.Common.{◌≡◌, ℕ, zero, suc, ◌%◌, ◌/◌, ◌^◌, ◌<◌, List, [], ◌∷◌, ◌++◌, take, drop, map, refl, ap, ◌∙◌, arith}
+-- What is told of items that are read back; those that ask for packets are, whatever their sender.
+use Rattle.std.proofs.Common.{◌≡◌, ℕ, zero, suc, ◌%◌, ◌/◌, ◌^◌, ◌<◌, List, [], ◌∷◌, ◌++◌, take, drop, map, refl, sym, ap, ◌∙◌, arith}
 use Rattle.std.specs.List.{AllByRecursion, flat_map}
 use Rattle.std.specs.Int.{w32, to_be_bytes}
+use Rattle.std.proofs.lemmas.List.{append-nil}
 use Rattle.rtp_base.specs.declared.nack_entry.NackEntry.{NackEntry}
 use Rattle.rtcp_wire.specs.declared.packet.Rtcp.{Rtcp}
+use Rattle.rtcp_wire.specs.declared.rtcp_fb.RtcpFb.{RtcpFb}
 use Rattle.rtcp_wire.specs.declared.packet.Rtcp.TheVariants.{Nack}
 use Rattle.rtcp_wire.specs.Feedback.{nack_body}
 use Rattle.rtcp_wire.specs.Items.{items_of}
@@ -13,43 +15,51 @@ use Rattle.rtcp_wire.specs.Streams.{feedback_of}
 use Rattle.rtcp_wire.specs.Texts.{text_of, framed, body_of}
 use Rattle.turn_ticks.proofs.Entries.{AreFew}
 
--- an item whose bytes are those of one that is read back, with the same feedback
+-- an item whose bytes are those of one that is read back
 pub record IsRead (x : Rtcp) : Type 0 where
   pub read : Rtcp
   pub text : text_of x ≡ text_of read
   pub held_is : IsHeld read
-  pub still : held read ≡ read
-  pub feedback : feedback_of read ≡ feedback_of x
+
+-- what is told of an item: what its bytes are read as
+abbrev pub told_of : Rtcp → List RtcpFb
+told_of x = flat_map feedback_of (items_of (text_of x))
+
+-- and of one that is read back
+pub told_is : ItemsReadBack → (x : Rtcp) → (h : IsRead x) → told_of x ≡ feedback_of (held h.read)
+told_is law x h =
+    ap (λ (bytes : List ℕ). flat_map feedback_of (items_of bytes)) (h.text ∙ sym (append-nil (text_of h.read)))
+    ∙ ap (flat_map feedback_of) (law (h.read ∷ []) (h.held_is, tt))
+    ∙ append-nil (feedback_of (held h.read))
 
 record AreRead (xs : List Rtcp) : Type 0 where
   items : List Rtcp
   texts : flat_map text_of xs ≡ flat_map text_of items
   held_are : AllByRecursion IsHeld items
-  still : map held items ≡ items
-  feedback : flat_map feedback_of items ≡ flat_map feedback_of xs
+  told : flat_map feedback_of (map held items) ≡ flat_map told_of xs
 
-are_read : (xs : List Rtcp) → AllByRecursion IsRead xs → AreRead xs
-are_read [] h = record { items = []; texts = refl; held_are = tt; still = refl; feedback = refl }
-are_read (x ∷ xs) h =
-    let rest = are_read xs h.1 in
+are_read : ItemsReadBack → (xs : List Rtcp) → AllByRecursion IsRead xs → AreRead xs
+are_read law [] h = record { items = []; texts = refl; held_are = tt; told = refl }
+are_read law (x ∷ xs) h =
+    let rest = are_read law xs h.1 in
+    let here = told_is law x h.0 in
     record {
       items = h.0.read ∷ rest.items;
       texts = λ i. h.0.text i ++ rest.texts i;
       held_are = (h.0.held_is, rest.held_are);
-      still = λ i. h.0.still i ∷ rest.still i;
-      feedback = λ i. h.0.feedback i ++ rest.feedback i;
+      told = λ i. sym here i ++ rest.told i;
     }
 
-pub reads_back : ItemsReadBack → (xs : List Rtcp) → AllByRecursion IsRead xs → flat_map feedback_of (items_of (flat_map text_of xs)) ≡ flat_map feedback_of xs
+-- items in one text are read as each is
+pub reads_back : ItemsReadBack → (xs : List Rtcp) → AllByRecursion IsRead xs → flat_map feedback_of (items_of (flat_map text_of xs)) ≡ flat_map told_of xs
 reads_back law xs h =
-    let a = are_read xs h in
+    let a = are_read law xs h in
     ap (λ (bytes : List ℕ). flat_map feedback_of (items_of bytes)) a.texts
     ∙ ap (flat_map feedback_of) (law a.items a.held_are)
-    ∙ ap (flat_map feedback_of) a.still
-    ∙ a.feedback
+    ∙ a.told
 
 -- a word has the low 32 bits of a number
-same_word : (n : ℕ) → to_be_bytes w32 n ≡ to_be_bytes w32 (n % 4294967296)
+pub same_word : (n : ℕ) → to_be_bytes w32 n ≡ to_be_bytes w32 (n % 4294967296)
 same_word n =
     let a : n / 16777216 % 256 ≡ n % 4294967296 / 16777216 % 256 = omega arith in
     let b : n / 65536 % 256 ≡ n % 4294967296 / 65536 % 256 = omega arith in
@@ -79,9 +89,14 @@ nack_is_read sender ssrc es law word few =
         writable = law (Nack (record { sender_ssrc = sender % 4294967296; ssrc = ssrc; reports = es })) (omega arith);
         fields = (low, word, omega arith, few.fit);
       };
-      still = refl;
-      feedback = refl;
     }
+
+-- and what is told of it is what it says
+pub nack_told : ItemsReadBack → (sender ssrc : ℕ) (es : List NackEntry) → ItemsFitByLengths → ssrc < 2 ^ 32 → AreFew es
+    → told_of (Nack (record { sender_ssrc = sender; ssrc = ssrc; reports = es })) ≡ feedback_of (Nack (record { sender_ssrc = sender; ssrc = ssrc; reports = es }))
+unfolding nack_is_read
+nack_told law sender ssrc es lengths word few =
+    told_is law (Nack (record { sender_ssrc = sender; ssrc = ssrc; reports = es })) (nack_is_read sender ssrc es lengths word few)
 
 -- the first of some, and the others
 pub all_take : {X : Type 0} (P : X → Type 0) (n : ℕ) (xs : List X) → AllByRecursion P xs → AllByRecursion P (take n xs)

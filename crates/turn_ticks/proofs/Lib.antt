@@ -9,6 +9,7 @@ pub mod Tables
 pub mod Sessions
 pub mod Entries
 pub mod Items
+pub mod Others
 pub mod IncomingStreams
 pub mod Compounds
 pub mod Asks

@@ -17,12 +17,14 @@ use Rattle.srtp_core.specs.Cipher.{CipherMeaning}
 use Rattle.srtp_core.specs.Contexts.{SrtpState}
 use Rattle.stream_core.specs.declared.packet.RtpPacket.{RtpPacket}
 use Rattle.stream_core.specs.declared.payload_types.TypeRow.{TypeRow}
+use Rattle.stream_core.specs.declared.reports.TxReports.{TxReports}
 use Rattle.stream_core.specs.declared.stream_tx.PacketReceipt.{PacketReceipt}
 use Rattle.stream_core.specs.declared.transport.Transport.{Transport}
+use Rattle.stream_core.specs.Arrivals.{with_repair}
 use Rattle.stream_core.specs.Queue.{next_of, rest_of}
 use Rattle.stream_core.specs.Sealing.{sealed_values}
 use Rattle.stream_core.specs.Repairing.{SentPacket, RepairsRecord, size_of_sent, rtx_type_of, repair_values, repair_of, Repairs, repaired, none_asked, Keeps, kept, counted, Polls, without, again, first, nothing, IsUsedUp}
-use Rattle.stream_core.specs.TxRecord.{TxRecord as StreamTx, receipt_of, polled, after_poll}
+use Rattle.stream_core.specs.TxRecord.{TxRecord as StreamTx, receipt_of, polled, after_poll, after_resend}
 use Rattle.session_core.specs.Sending.{has_mid}
 use Rattle.session_core.specs.SessionRecord.{MediaRecord}
 use Rattle.media_model.specs.declared.entry.Write.{Write}
@@ -437,6 +439,17 @@ module _ (cipher : CipherMeaning) (own : SrtpState) (exts : ExtensionMap) (read_
           sends_packet q after k is m keeps =
               sends_given k is (Some q) (Some after) m (keeps_packet q after m (subst (λ (p : RtpPacket). Keeps rows now p q after) is keeps))
 
+      -- what a stream counts for its reports is no part of its mirror
+      counted_polled : (key : ℕ) (x : StreamTx) (t : TxRecord) (counts : TxReports) (q : Option RepairsRecord) (o : Option PacketReceipt) → Polled key x L t q o
+          → Polled key (record x { reports = counts }) L t q o
+      counted_polled key x t counts q o p =
+          let m = p.mid in
+          record {
+            plain = p.plain;
+            chain = p.chain;
+            mid = record { key_is = m.key_is; ssrc = m.ssrc; rtx = m.rtx; mid = m.mid; queue = m.queue; given = m.given; cached = m.cached; again = m.again };
+          }
+
       none_given : (o : Option RtpPacket) (p : RtpPacket) → o ≡ Some p → o ≡ None → ⊥
       none_given o p e h = cc
 
@@ -463,8 +476,11 @@ module _ (cipher : CipherMeaning) (own : SrtpState) (exts : ExtensionMap) (read_
         after_none q m ssrc _ (none_asked next) = (goes_none t q m.again next, none_mirrors key x t q m)
 
         after_some : (q : RepairsRecord) → Mid rows medias now (Some q) key x L t → (ssrc : ℕ) → x.rtx ≡ Some ssrc → (after : RepairsRecord) (receipt : PacketReceipt)
-            → Repairs transport now ssrc x q after (Some receipt) → Polled key x L t (Some after) (Some receipt)
-        after_some q m ssrc has _ _ (repaired p rest next small) = repair_polls key x t q m ssrc p rest has next
+            → Repairs transport now ssrc x q after (Some receipt) → Polled key (after_resend receipt x) L t (Some after) (Some receipt)
+        after_some q m ssrc has _ _ (repaired p rest next small) =
+            let after : RepairsRecord = record q { state = after_next now size_of_sent (Some (p, rest)) q.state } in
+            let receipt : PacketReceipt = repair_of ssrc x transport now q.state.next_seq_no p in
+            counted_polled key x t (with_repair receipt x.reports) (Some after) (Some receipt) (repair_polls key x t q m ssrc p rest has next)
 
         behind : (chain : Serves types L sealing now t (record t { resends = [] }) []) (y : StreamTx) (q : Option RepairsRecord) (o : Option PacketReceipt)
             → Polled key y L (record t { resends = [] }) q o → Polled key y L t q o

@@ -1,5 +1,5 @@
 -- A tick of a session, with its drain, is a turn of the plain session.
-use Rattle.std.proofs.Common.{◌≡◌, ℕ, ◌+◌, ◌-◌, ◌≤◌, ◌<◌, ◌^◌, Bool, true, false, List, [], ◌∷◌, ◌++◌, map, Some, None, is_some, is_none, refl, sym, ap, ◌∙◌, subst, arith}
+use Rattle.std.proofs.Common.{◌≡◌, ℕ, ◌+◌, ◌-◌, ◌≤◌, ◌<◌, ◌^◌, Bool, true, false, List, [], ◌∷◌, ◌++◌, map, Some, None, is_some, is_none, refl, sym, ap, ◌∙◌, subst, arith, append_assoc}
 use Rattle.std.specs.Prelude.{◌&&◌, ◌||◌, ◌==◌, nat_eq, nat_le, position, if◌then◌else◌}
 use Rattle.std.specs.List.{AllByRecursion, AllZip, flat_map}
 use Rattle.std.specs.Map.{keys_of}
@@ -9,25 +9,27 @@ use Rattle.rtp_wire.specs.declared.extension.ExtensionMap.{ExtensionMap}
 use Rattle.rtcp_wire.specs.declared.packet.Rtcp.{Rtcp}
 use Rattle.rtcp_wire.specs.declared.rtcp_fb.RtcpFb.{RtcpFb}
 use Rattle.rtcp_wire.specs.Laws.{ItemsReadBack, ItemsFitByLengths}
-use Rattle.rtcp_wire.specs.Streams.{feedback_of}
 use Rattle.srtp_core.specs.Cipher.{CipherMeaning}
 use Rattle.srtp_core.specs.Contexts.{SrtpState}
 use Rattle.repair_core.specs.Entries.{RoundsNameTheDue}
 use Rattle.repair_core.specs.Rounds.{wait_of}
+use Rattle.report_core.specs.Moments.{unanswered}
+use Rattle.stream_core.specs.declared.reports.Tick.{Tick}
 use Rattle.stream_core.specs.declared.transport.Transport.{Transport}
-use Rattle.stream_core.specs.Missing.{after_round as stream_after_round, nacks}
 use Rattle.stream_core.specs.Pauses.{checked, on_record, told as stream_told}
 use Rattle.stream_core.specs.Repairing.{RepairsRecord, rtx_type_of}
+use Rattle.stream_core.specs.Reporting.{due_mids, items_with, incoming_after}
 use Rattle.stream_core.specs.Tables.{each}
-use Rattle.stream_core.specs.TxRecord.{TxRecord as StreamTx, after_timeout as stream_after_timeout}
+use Rattle.stream_core.specs.TxRecord.{TxRecord as StreamTx}
 use Rattle.session_core.specs.declared.datagram.Datagram.{Datagram}
 use Rattle.session_core.specs.declared.error.RtcError.{RtcError}
 use Rattle.session_core.specs.Calls.{lacks_keys, after_events}
 use Rattle.session_core.specs.Draining.{IsDrainCut}
 use Rattle.session_core.specs.Hearing.{trip_of}
-use Rattle.session_core.specs.Rounds.{is_round, round_interval, sender_ssrc, after_round, after_checks, after_timeout}
+use Rattle.session_core.specs.Reports.{sender_ssrc, tick_at, some_reports, due_senders, sender_items, after_senders, answers, after_answers}
+use Rattle.session_core.specs.Rounds.{is_round, round_interval, after_outgoing, after_checks, after_timeout}
 use Rattle.session_core.specs.Sending.{Drains}
-use Rattle.session_core.specs.SessionRecord.{SessionRecord}
+use Rattle.session_core.specs.SessionRecord.{SessionState, SessionRecord}
 use Rattle.media_model.specs.declared.entry.Side.{Side}
 use Rattle.media_model.specs.Sides.{peer_of}
 use Rattle.run_model.specs.Events.{Event, ticked, Types}
@@ -39,49 +41,83 @@ use Rattle.session_turns.specs.Laws.{TurnsTo, TicksTurn, IsCutFor, CutsTo, Ticks
 use Rattle.session_turns.specs.Mirrors.{TxMirrors, IsWide, IsFit, Mirrors}
 use Rattle.session_turns.specs.Packets.{PacketsDrain, DrainsPackets, PacketsCut, CutsPackets}
 use Rattle.session_turns.specs.Reading.{event_of, events_of, types_in, sealing_of}
-use Rattle.turn_ticks.proofs.Lists.{map_map, flat_map_append, and_turned, far_enough}
-use Rattle.turn_ticks.proofs.Items.{IsRead}
+use Rattle.turn_ticks.proofs.Lists.{map_map, flat_map_append, all_append, and_turned, far_enough}
+use Rattle.turn_ticks.proofs.Items.{IsRead, told_of}
+use Rattle.turn_ticks.proofs.Others.{IsAside, asides_read, asides_told, sender_asides, answers_if}
 use Rattle.turn_ticks.proofs.IncomingStreams.{ticked_rx, enabled_mirrored, rx_ticked_mirror}
 use Rattle.turn_ticks.proofs.Compounds.{IsRtp, Splits, splits, CutBy, in_compounds, in_packets, SplitsCut, splits_cut, no_items, no_indices}
-use Rattle.turn_ticks.proofs.Asks.{nacks_read, feedback_is}
-use Rattle.turn_ticks.proofs.Outgoing.{same_keys, all_stamped}
+use Rattle.turn_ticks.proofs.Asks.{incoming_read, feedback_is}
+use Rattle.turn_ticks.proofs.Outgoing.{begun_tx, begun_keys, all_begun}
+
+-- which streams report, and what all say, in a tick that may be a round
+abbrev tick : ℕ → Bool → SessionRecord → Tick
+tick now b r = tick_at now b r.state
+
+abbrev due_incoming : ℕ → SessionRecord → List (List ℕ)
+due_incoming now r = due_mids r.state.intervals now r.rx
+
+abbrev incoming_said : ℕ → Bool → SessionRecord → List Rtcp
+incoming_said now b r = items_with (tick now b r) (due_incoming now r) r.rx
+
+abbrev some_report : ℕ → SessionRecord → Bool
+some_report now r = some_reports r.state.medias (due_senders now r.state) r.state.tx
+
+abbrev answers_said : ℕ → SessionRecord → List Rtcp
+answers_said now r = if some_report now r then answers now (sender_ssrc (after_senders now r.state)) r.state.moments else []
+
+abbrev outgoing_said : ℕ → SessionRecord → List Rtcp
+outgoing_said now r = sender_items now r.state ++ answers_said now r
 
 -- a session after a tick, which may be a round, and after all was told
 abbrev begun_session : ℕ → Bool → SessionRecord → SessionRecord
 begun_session now b r = record {
   state = record r.state {
-    tx = each (stream_after_timeout now) r.state.tx;
+    tx = begun_tx r.state.medias now (due_senders now r.state) r.state.tx;
     released = true;
-    feedback = if b then nacks (sender_ssrc r.state) now r.rx else [];
+    feedback = incoming_said now b r ++ outgoing_said now r;
+    moments = if some_report now r then unanswered r.state.moments else r.state.moments;
     last_round = if b then now else r.state.last_round;
     application = None;
     packet = None;
   };
-  rx = ticked_rx r.state.pause_threshold r.seen now b r.rx;
+  rx = ticked_rx r.state.pause_threshold r.seen (tick now b r) (due_incoming now r) r.rx;
   originals = r.originals;
   probes = on_record (checked now) r.probes;
   seen = r.seen;
   repairs = r.repairs;
 }
 
-abbrev checked_session : ℕ → Bool → SessionRecord → SessionRecord
-checked_session now b r = record {
+-- after incoming streams reported and asked
+abbrev incoming_session : ℕ → Bool → SessionRecord → SessionRecord
+incoming_session now b r = record r {
   state = record r.state {
-    tx = each (stream_after_timeout now) r.state.tx;
-    released = true;
-    feedback = if b then r.state.feedback ++ nacks (sender_ssrc r.state) now r.rx else r.state.feedback;
+    feedback = r.state.feedback ++ incoming_said now b r;
     last_round = if b then now else r.state.last_round;
   };
-  rx = each (on_record (checked now)) (if b then each (stream_after_round now) r.rx else r.rx);
-  originals = r.originals;
-  probes = on_record (checked now) r.probes;
-  seen = r.seen;
-  repairs = r.repairs;
+  rx = incoming_after (tick now b r) r.rx;
 }
 
-checks_are : (now : ℕ) (b : Bool) (r : SessionRecord) → after_checks now (if b then after_round now r else r) ≡ checked_session now b r
-checks_are now true r = refl
-checks_are now false r = refl
+-- and after answers
+abbrev answered_state : ℕ → Bool → SessionState → SessionState
+answered_state now b s = record s {
+  feedback = s.feedback ++ (if b then answers now (sender_ssrc s) s.moments else []);
+  moments = if b then unanswered s.moments else s.moments;
+}
+
+answered_is : (now : ℕ) (b : Bool) (s : SessionState) → after_answers now b s ≡ answered_state now b s
+answered_is now true s = refl
+answered_is now false s = ap (λ (l : List Rtcp). record s { feedback = l }) (sym (append-nil s.feedback))
+
+abbrev checked_session : ℕ → Bool → SessionRecord → SessionRecord
+checked_session now b r =
+    let x : SessionRecord = incoming_session now b r in
+    after_checks now (record x { state = answered_state now (some_report now r) (after_senders now x.state) })
+
+timed_is : (now : ℕ) (b : Bool) (r : SessionRecord) → is_round now r ≡ b → after_timeout now r ≡ checked_session now b r
+timed_is now b r round =
+    ap {A = Bool} {B = SessionRecord} (λ c. after_checks now (after_outgoing now (incoming_session now c r))) round
+    ∙ ap {A = SessionState} {B = SessionRecord} (λ s. after_checks now (record (incoming_session now b r) { state = s }))
+    (answered_is now (some_report now r) (after_senders now (incoming_session now b r).state))
 
 told_all : (s : SessionRecord) → lacks_keys s.state ≡ false → after_events s ≡ record s { state = record s.state { application = None; packet = None }; rx = each (on_record stream_told) s.rx }
 told_all s keys = λ j. record s {
@@ -93,11 +129,11 @@ begun_is : (now : ℕ) (b : Bool) (r : SessionRecord) {own other : SrtpState} �
     → after_events (after_timeout now r) ≡ begun_session now b r
 begun_is now b r {own} {other} round seals opens quiet =
     let keys : lacks_keys r.state ≡ false = λ i. is_none (seals i) || is_none (opens i) in
-    let timed : after_timeout now r ≡ checked_session now b r =
-    ap {A = Bool} {B = SessionRecord} (λ c. after_checks now (if c then after_round now r else r)) round ∙ checks_are now b r in
-    ap after_events timed ∙ told_all (checked_session now b r) keys
-    ∙ ap {A = List Rtcp} {B = SessionRecord}
-    (λ f. record (begun_session now b r) { state = record (begun_session now b r).state { feedback = if b then f ++ nacks (sender_ssrc r.state) now r.rx else f } }) quiet
+    let said : List Rtcp = incoming_said now b r in
+    let all : ((r.state.feedback ++ said) ++ sender_items now r.state) ++ answers_said now r ≡ said ++ outgoing_said now r =
+    ap (λ (l : List Rtcp). ((l ++ said) ++ sender_items now r.state) ++ answers_said now r) quiet ∙ append_assoc said (sender_items now r.state) (answers_said now r) in
+    ap after_events (timed_is now b r round) ∙ told_all (checked_session now b r) keys
+    ∙ ap {A = List Rtcp} {B = SessionRecord} (λ f. record (begun_session now b r) { state = record (begun_session now b r).state { feedback = f } }) all
 
 module _ (read_back : ItemsReadBack) (lengths : ItemsFitByLengths)
     (cipher : CipherMeaning) (C : Config) (side : Side) (r : SessionRecord) (a : Session) (time : ℕ) (fit : IsFit C) (m : Mirrors cipher C side r a) (later : 0 < time) (after_now : a.rx.now ≤ time) where
@@ -106,9 +142,6 @@ module _ (read_back : ItemsReadBack) (lengths : ItemsFitByLengths)
 
   abbrev exts : ExtensionMap
   exts = r.state.transport.exts
-
-  abbrev asked_items : List Rtcp
-  asked_items = nacks (sender_ssrc r.state) time r.rx
 
   round_is : is_round time r ≡ round
   round_is =
@@ -119,11 +152,16 @@ module _ (read_back : ItemsReadBack) (lengths : ItemsFitByLengths)
   abbrev first : SessionRecord
   first = begun_session time round r
 
+  outgoing_asides : AllByRecursion IsAside (outgoing_said time r)
+  outgoing_asides =
+      all_append IsAside (sender_items time r.state) (answers_said time r) (sender_asides lengths time r.state)
+      (answers_if lengths (some_report time r) time (sender_ssrc (after_senders time r.state)) r.state.moments)
+
   items_read : AllByRecursion IsRead first.state.feedback
-  items_read = by round where
-    by : (b : Bool) → AllByRecursion IsRead (if b then nacks (sender_ssrc r.state) time r.rx else [])
-    by true = nacks_read C.threshold a.rx.trip r (C.outgoing (peer_of side)) a.rx.table lengths (sender_ssrc r.state) time m.rx m.incoming (fit.words (peer_of side))
-    by false = tt
+  items_read =
+      all_append IsRead (incoming_said time round r) (outgoing_said time r)
+      (incoming_read C.threshold a.rx.trip r (C.outgoing (peer_of side)) a.rx.table lengths (tick time round r) (due_incoming time r) m.rx m.incoming (fit.words (peer_of side)))
+      (asides_read (outgoing_said time r) outgoing_asides)
 
   index_left : m.own.srtcp_index ≤ 2 ^ 31
   index_left = let is = m.index in let most = m.bounded in omega (arith, is, most)
@@ -153,7 +191,7 @@ module _ (read_back : ItemsReadBack) (lengths : ItemsFitByLengths)
   types_fit pt rtx e = fit.rtx_types pt rtx (ap (λ (T : Types). T.rtx_of pt) m.types ∙ e)
 
   streams_stamped : AllZip (TxMirrors r.state.types r.state.medias time (Some time) r.repairs) first.state.tx a.tx
-  streams_stamped = all_stamped r.state.types r.state.medias a.rx.now time after_now r.repairs r.state.tx a.tx m.tx
+  streams_stamped = all_begun r.state.types r.state.medias a.rx.now time after_now r.repairs (due_senders time r.state) r.state.tx a.tx m.tx
 
   abbrev begun : Table
   begun = map (begun_at time) a.tx
@@ -201,13 +239,16 @@ module _ (read_back : ItemsReadBack) (lengths : ItemsFitByLengths)
         let events : events_of exts all ≡ ones ++ others = ap (events_of exts) s.is ∙ map-append (event_of exts) s.front s.rest in
         let drains : DrainsAll C.types (C.seals side) time begun d.streams (ones ++ others) =
         record { serves = served d.streams ones others s.serves d.drains.serves; idle = d.drains.idle } in
-        let items : items_in (ones ++ others) ≡ flat_map feedback_of first.state.feedback =
-        flat_map_append item_in ones others ∙ ap (λ (l : List RtcpFb). items_in ones ++ l) (no_items exts s.rest s.rtp) ∙ append-nil (items_in ones) ∙ s.told in
+        let items : items_in (ones ++ others) ≡ flat_map told_of (incoming_said time round r) ++ flat_map told_of (outgoing_said time r) =
+        flat_map_append item_in ones others ∙ ap (λ (l : List RtcpFb). items_in ones ++ l) (no_items exts s.rest s.rtp) ∙ append-nil (items_in ones) ∙ s.told
+        ∙ flat_map_append told_of (incoming_said time round r) (outgoing_said time r) in
         let feedback : Feedback a.rx time a.rx.table (items_in (ones ++ others)) =
-        subst (λ (l : List RtcpFb). Feedback a.rx time a.rx.table l) (sym items) (feedback_is a.rx time names C.threshold (sender_ssrc r.state) r a.rx.table m.rx) in
+        subst (λ (l : List RtcpFb). Feedback a.rx time a.rx.table l) (sym items)
+        (feedback_is a.rx (tick time round r) read_back lengths names C.threshold refl (flat_map told_of (outgoing_said time r)) (asides_told read_back (outgoing_said time r) outgoing_asides)
+        (due_incoming time r) r (C.outgoing (peer_of side)) a.rx.table m.rx m.incoming (fit.words (peer_of side))) in
         let counts : Counts a.rtcp (indices (ones ++ others)) s.next = counted s.front s.rest s.next s.rtp s.counts in
         let x : SessionRecord = drained s.next after.state.tx after.state.transport after.repairs in
-        let keys : keys_of after.state.tx ≡ keys_of r.state.tx = d.keys ∙ same_keys time r.state.tx in
+        let keys : keys_of after.state.tx ≡ keys_of r.state.tx = d.keys ∙ begun_keys r.state.medias time (due_senders time r.state) r.state.tx in
         subst (λ (l : List Event). TurnsTo cipher C side r a after (ticked time ∷ l)) (sym events)
         (subst (λ (y : SessionRecord). TurnsTo cipher C side r a y (ticked time ∷ ones ++ others)) (sym d.rest)
         (record {
@@ -230,7 +271,7 @@ module _ (read_back : ItemsReadBack) (lengths : ItemsFitByLengths)
             outgoing = d.same_lines ∙ m.outgoing;
             incoming = map_map (λ s. s.0) (ticked_in time round (wait_of a.rx.trip)) a.rx.table ∙ m.incoming;
             tx = d.tx;
-            rx = rx_ticked_mirror C.threshold a.rx.trip time round r x a.rx.table m.rx refl refl refl;
+            rx = rx_ticked_mirror C.threshold a.rx.trip (tick time round r) (due_incoming time r) r x a.rx.table m.rx refl refl refl;
             originals = m.originals;
             last_round = λ i. if round then time else m.last_round i;
             target = m.target;
