@@ -5,12 +5,13 @@ ghost use Rattle.resend_core.specs.Ring.{slot_of, held, place_in, has_room, is_o
 use media_base::{Duration, Instant};
 use std::alloc::{AllocError, Global};
 
-/// A value under its position, and when it was stored.
+/// A value under its position, and when it was stored. Position and value, which a look-up reads, stand
+/// side by side.
 #[derive(Debug, Drop)]
 pub struct Entry<T> {
     pub position: u64,
-    pub moment: Instant,
     pub value: T,
+    pub moment: Instant,
 }
 
 /// The index of the slot of a position: its remainder, which of a low position is the position.
