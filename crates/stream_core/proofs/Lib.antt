@@ -3,6 +3,7 @@ pub mod Alongside
 pub mod Any
 pub mod Fronts
 pub mod Mending
+pub mod Places
 pub mod PollSteps
 pub mod Polling
 pub mod Primaries
@@ -13,4 +14,5 @@ pub mod SeenSteps
 pub mod StreamsSteps
 pub mod TableSteps
 pub mod Totals
+pub mod TxSteps
 pub mod Untold

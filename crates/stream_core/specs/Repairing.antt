@@ -14,7 +14,7 @@ use Rattle.stream_core.specs.declared.stream_tx.PacketReceipt.{PacketReceipt}
 use Rattle.stream_core.specs.declared.transport.Transport.{Transport}
 use Rattle.stream_core.specs.Queue.{next_of}
 use Rattle.stream_core.specs.Sealing.{with_sealing, with_values}
-use Rattle.stream_core.specs.Tables.{value_under, change_at}
+use Rattle.stream_core.specs.Tables.{place_of, value_under, change_at}
 use Rattle.stream_core.specs.TxRecord.{TxRecord, receipt_of, polled, after_poll, after_resend}
 
 -- a packet that was sent and may be sent again, and the payload type of its repairs
@@ -54,6 +54,10 @@ primary_type_of (e ∷ es) pt = if is_type pt e.1.rtx then Some e.1.pt else prim
 -- under each type the first one whose packets have repairs of it
 abbrev pub ArePrimaries : List (Option ℕ) → List (ℕ × TypeRow) → Type 0
 ArePrimaries primaries types = (pt : ℕ) → pt < 256 → slice_index_or primaries pt None ≡ primary_type_of types pt
+
+-- under each type the place where its row stands
+abbrev pub ArePlaces : List (Option ℕ) → List (ℕ × TypeRow) → Type 0
+ArePlaces places types = (pt : ℕ) → pt < 256 → slice_index_or places pt None ≡ place_of pt types
 
 -- the type of the repairs of a packet: none where the packet is not kept to be sent again
 abbrev pub kept_as : List (ℕ × TypeRow) → RtpPacket → Option ℕ

@@ -1,4 +1,4 @@
-ghost use Rattle.std.specs.Prelude.{◌≡◌, ◌==◌, ℕ, [], length, nat_eq, is_some, OnOk, OnErr};
+ghost use Rattle.std.specs.Prelude.{◌≡◌, ◌==◌, ◌<◌, ℕ, [], length, nat_eq, is_some, IfSome, OnOk, OnErr};
 ghost use Rattle.std.specs.Map.Iter.{ShowsInOrder, deref_pair};
 ghost use Rattle.indexmap.specs.IndexMap.{insert_entry};
 ghost use Rattle.stream_core.specs.Tables.{place_of};
@@ -30,6 +30,8 @@ pub struct PayloadTypes {
     rows: IndexMap<Pt, TypeRow>,
     // Under each type of repairs, the first type whose packets have such repairs.
     primaries: [Option<Pt>; 256],
+    // Under each type the place where its row stands.
+    places: [Option<usize>; 256],
 }
 
 impl Model for PayloadTypes {
@@ -38,11 +40,11 @@ impl Model for PayloadTypes {
 
     ghost Value = { List (ℕ × TypeRow) };
 
-    ghost use Rattle.stream_core.specs.Repairing.{ArePrimaries};
+    ghost use Rattle.stream_core.specs.Repairing.{ArePrimaries, ArePlaces};
 
     ghost view = { λ t. t.rows.entries };
 
-    ghost invariant = { λ t. ArePrimaries t.primaries t.rows.entries };
+    ghost invariant = { λ t. ArePrimaries t.primaries t.rows.entries × ArePlaces t.places t.rows.entries };
 }
 
 /// Under each type the first one whose packets have repairs of it. The time grows with the number of
@@ -71,6 +73,7 @@ impl PayloadTypes {
         PayloadTypes {
             rows: IndexMap::new(alloc),
             primaries: [None; 256],
+            places: [None; 256],
         }
     }
 
@@ -82,6 +85,7 @@ impl PayloadTypes {
     {
         self.rows.insert(row.pt, row)?;
         self.primaries = primaries_of(&self.rows);
+        self.places[usize::from(u8::from(row.pt))] = self.rows.get_index_of(&row.pt);
         Ok(())
     }
 
@@ -107,26 +111,34 @@ impl PayloadTypes {
         self.rows.iter()
     }
 
-    /// Whether a type is one of them: one look-up in a hash table.
+    /// Where the row of a type stands: one look-up in an array.
+    fn place(&self, pt: Pt) -> Option<usize>
+        ensures place { result ≡ place_of pt self.now }
+        ensures within { IfSome result (λ i. i < length self.now) }
+    {
+        self.places[usize::from(u8::from(pt))]
+    }
+
+    /// Whether a type is one of them: one look-up in an array.
     pub fn has(&self, pt: Pt) -> bool
         ensures { result ≡ is_some (place_of pt self.now) }
     {
-        self.rows.get_index_of(&pt).is_some()
+        self.place(pt).is_some()
     }
 
-    /// The type of repairs of a type's packets: one look-up in a hash table.
+    /// The type of repairs of a type's packets: one look-up in an array.
     pub fn rtx(&self, pt: Pt) -> Option<Pt>
         ensures { result ≡ rtx_type_of self.now pt }
     {
-        let place = self.rows.get_index_of(&pt)?;
+        let place = self.place(pt)?;
         self.rows[place].rtx
     }
 
-    /// The clock of a type's RTP times: one look-up in a hash table.
+    /// The clock of a type's RTP times: one look-up in an array.
     pub fn clock(&self, pt: Pt) -> Option<Frequency>
         ensures { result ≡ clock_under self.now pt }
     {
-        let place = self.rows.get_index_of(&pt)?;
+        let place = self.place(pt)?;
         Some(self.rows[place].clock)
     }
 

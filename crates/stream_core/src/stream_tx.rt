@@ -256,7 +256,7 @@ impl StreamTx {
     }
 
     /// What tells its RTP time: its last write, and the clock of the type that was last sealed for the
-    /// first time. At most one look-up in a hash table.
+    /// first time. At most one look-up in an array.
     fn rtp_clock(&self, types: &PayloadTypes) -> RtpClock
         ensures { result ≡ rtp_clock_of types.now self.now }
     {
