@@ -1,6 +1,5 @@
 -- What streams count of their packets for reports.
-use Rattle.std.specs.Prelude.{ℕ, ◌+◌, ◌-◌, true, List, length, Option, Some, None, unwrap_or}
-use Rattle.std.specs.Option.{option_map}
+use Rattle.std.specs.Prelude.{ℕ, ◌+◌, ◌-◌, true, length, Option, Some, None}
 use Rattle.repair_core.specs.Counts.{no_counts, counted, after_point}
 use Rattle.repair_core.specs.declared.jitter.TimePoint.{TimePoint}
 use Rattle.report_core.specs.LastReport.{no_news}

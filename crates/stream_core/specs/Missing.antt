@@ -1,5 +1,5 @@
 -- What incoming streams ask for (RFC 4585 section 6.2.1).
-use Rattle.std.specs.Prelude.{ℕ, ◌≤◌, ◌&&◌, ◌||◌, Bool, false, not, is_some, if◌then◌else◌, List, [], ◌∷◌, length, Option, Some, None}
+use Rattle.std.specs.Prelude.{ℕ, ◌&&◌, ◌||◌, Bool, false, not, is_some, if◌then◌else◌, List, [], ◌∷◌, Option, Some, None}
 use Rattle.std.specs.List.{flat_map, list_any}
 use Rattle.repair_core.specs.Entries.{packed}
 use Rattle.repair_core.specs.Rounds.{Heard, round, due, is_pending, wait_of}
