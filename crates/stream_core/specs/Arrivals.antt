@@ -26,6 +26,10 @@ with_arrival a n x = record x { counts = counted n true (point_of a) x.counts }
 abbrev pub with_late : Arrival → RxReports → RxReports
 with_late a x = record x { counts = after_point (point_of a) x.counts }
 
+-- what was counted is forgotten; what the sender reported, and when the next report is due, stays
+abbrev pub forgotten : RxReports → RxReports
+forgotten x = record x { counts = no_counts }
+
 -- an outgoing stream on which nothing was written, of a kind that was not told
 abbrev pub no_tx_reports : TxReports
 no_tx_reports = record { clock = record { last = 0; is_audio = None }; written = None; sealed_type = None; sent = no_traffic }

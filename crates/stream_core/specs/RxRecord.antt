@@ -7,7 +7,7 @@ use Rattle.repair_core.specs.Rounds.{Heard, started_at, came, taken}
 use Rattle.rtx_core.specs.Repairs.{RepairPast, Remembers as RepairsRemember}
 use Rattle.stream_core.specs.declared.reports.Arrival.{Arrival}
 use Rattle.stream_core.specs.declared.reports.RxReports.{RxReports}
-use Rattle.stream_core.specs.Arrivals.{no_rx_reports, with_arrival}
+use Rattle.stream_core.specs.Arrivals.{no_rx_reports, with_arrival, forgotten}
 
 -- all of an incoming stream but its window: its SSRC and that of its repairs, the media section and the stream in it; the
 -- rollover count that the next datagram is taken to have, if one was set; whether it asks for nothing that is missing; how
@@ -95,9 +95,9 @@ came_at a n s = record (unpaused a.now s) { roc = None; reports = with_arrival a
 abbrev pub opened_as : Option ℕ → Arrival → ℕ → RxRecord → RxRecord
 opened_as remembered a n r = record r { state = came_at a n r.state; numbers = Some (came (heard remembered r) n) }
 
--- the numbers are forgotten, those of the repairs too, and a rollover count was set
+-- the numbers are forgotten, those of the repairs too, with what was counted, and a rollover count was set
 abbrev pub restarted : ℕ → RxRecord → RxRecord
-restarted roc r = record { state = record r.state { roc = Some roc }; numbers = None; repairs = None }
+restarted roc r = record { state = record r.state { roc = Some roc; reports = forgotten r.state.reports }; numbers = None; repairs = None }
 
 -- there is a window exactly where the record says so, and it remembers what it was told
 abbrev pub Remembers : {W : Type 0} → (W → Heard → Type 0) → Option W → Option Heard → Type 0

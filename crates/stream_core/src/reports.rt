@@ -6,6 +6,7 @@ ghost use Rattle.stream_core.specs.Arrivals.{
   no_rx_reports,
   with_arrival,
   with_late,
+  forgotten,
   no_tx_reports,
   with_write,
   with_first_of,
@@ -89,6 +90,13 @@ impl RxReports {
         ensures { self.new ≡ with_arrival arrival.entry.now number self.old }
     {
         self.counts.arrived(number, true, arrival.point());
+    }
+
+    /// Forgets what was counted of packets.
+    pub(crate) fn forget(&mut self)
+        ensures { self.new ≡ forgotten self.old }
+    {
+        self.counts = ReceptionCounts::new();
     }
 
     /// A packet came under a number that is not fresh: it enters the jitter alone.

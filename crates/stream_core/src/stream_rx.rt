@@ -355,14 +355,16 @@ impl<W: GapWindow> StreamRx<W> {
         Ok(Some(number))
     }
 
-    /// Forgets the numbers that were taken, those of repairs too, and takes the rollover count for granted
-    /// that the next datagram has that opens and is no repair (RFC 3711 section 3.3.1).
+    /// Forgets the numbers that were taken, those of repairs too, and what was counted of packets, and takes
+    /// the rollover count for granted that the next datagram has that opens and is no repair (RFC 3711
+    /// section 3.3.1).
     pub fn reset_roc(&mut self, roc: u32)
         ensures { (r : RxRecord) → StandsFor W.remembers self.old r → StandsFor W.remembers self.new (restarted roc r) }
     {
         self.window = None;
         self.repairs = RepairWindow::new();
         self.roc = Some(roc);
+        self.reports.forget();
     }
 
     /// Sets how long nothing comes on the stream until it is paused, from the next datagram on.
