@@ -76,16 +76,6 @@ impl<T: Drop> QueueStore<T> {
         Ok(())
     }
 
-    /// The value of a position, where it is held, also where one is left out between the lowest and the
-    /// greatest.
-    #[inline(never)]
-    fn get_far(&self, position: u64) -> Option<&T>
-        ensures { option_copied result ≡ value_at self.now position }
-    {
-        let index = self.stamps.index(position)?;
-        self.values.get(index)
-    }
-
     /// The value of a position, where it is held, found by halving alone: each comparison of positions is
     /// a step. Where it is not among the n that are held there are at least log2 (n + 2) - 1.
     pub fn get_counted<L: Ledger>(&self, position: u64, steps: &mut Steps<L>) -> Option<&T>
@@ -217,10 +207,8 @@ impl<T: Drop> ResendStore<T> for QueueStore<T> {
 
     #[inline(always)]
     fn get(&self, position: u64) -> Option<&T> {
-        match self.stamps.index_in_row(position) {
-            Some(index) => self.values.get(index),
-            None => self.get_far(position),
-        }
+        let index = self.stamps.index(position)?;
+        self.values.get(index)
     }
 
     fn get_mut(&mut self, position: u64) -> Option<&mut T> {

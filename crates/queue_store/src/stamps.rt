@@ -107,7 +107,7 @@ impl Stamps {
 
     /// The index of a position, where none is left out between the lowest and the greatest.
     #[inline(always)]
-    pub fn index_in_row(&self, position: u64) -> Option<usize>
+    fn index_in_row(&self, position: u64) -> Option<usize>
         ensures { IfSome result (IsFound self.now position) }
     {
         let count = self.all.len();
