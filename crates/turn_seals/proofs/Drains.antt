@@ -1,12 +1,11 @@
 -- What leaves a session is right.
-use Rattle.std.proofs.Common.{◌≡◌, inl, inr, ℕ, zero, suc, ◌<◌, ◌≤◌, ◌^◌, Bool, true, false, ◌||◌, ◌&&◌, List, [], ◌∷◌, map, length, drop, Option, Some, None, refl, sym, ap, ◌∙◌, subst, arith}
+use Rattle.std.proofs.Common.{◌≡◌, inl, inr, ℕ, zero, suc, ◌<◌, ◌≤◌, ◌^◌, Bool, true, false, ◌||◌, ◌&&◌, List, [], ◌∷◌, ◌++◌, map, length, drop, Option, Some, None, refl, sym, ap, ◌∙◌, subst, arith}
 use Rattle.std.specs.Prelude.{◌==◌, if◌then◌else◌, is_some}
 use Rattle.std.specs.List.{list_any, flat_map, AllByRecursion, AllZip}
 use Rattle.std.specs.Option.{option_map}
 use Rattle.std.proofs.lemmas.Bool.Decides.{nat_tests}
 use Rattle.resend_core.specs.ResendStore.{Event as Stored, pushed, evicted}
 use Rattle.rtcp_wire.specs.declared.packet.Rtcp.{Rtcp}
-use Rattle.rtcp_wire.specs.Laws.{ItemsFitByLengths}
 use Rattle.rtp_wire.specs.declared.extension.ExtensionMap.{ExtensionMap}
 use Rattle.rtp_wire.specs.HeaderLaws.{WrittenIsReadAgain}
 use Rattle.srtp_core.specs.Cipher.{CipherMeaning}
@@ -17,15 +16,17 @@ use Rattle.srtp_core.specs.RtcpSeals.{sealed_rtcp}
 use Rattle.srtp_core.specs.declared.profile.SrtpProfile.{SrtpProfile}
 use Rattle.stream_core.specs.declared.payload_types.TypeRow.{TypeRow}
 use Rattle.stream_core.specs.declared.stream_tx.PacketReceipt.{PacketReceipt}
-use Rattle.stream_core.specs.Missing.{nacks}
 use Rattle.stream_core.specs.Repairing.{RepairsRecord, repairs_of}
+use Rattle.stream_core.specs.Reporting.{incoming_items}
 use Rattle.stream_core.specs.Sealing.{after_packet}
 use Rattle.stream_core.specs.StreamsRecord.{StreamsRecord}
-use Rattle.stream_core.specs.TxRecord.{TxRecord as StreamTx}
+use Rattle.stream_core.specs.Tables.{each}
+use Rattle.stream_core.specs.TxRecord.{TxRecord as StreamTx, after_timeout as stream_after_timeout}
 use Rattle.session_core.specs.declared.datagram.Datagram.{Datagram}
 use Rattle.session_core.specs.Calls.{lacks_keys, after_events}
 use Rattle.session_core.specs.Feedback.{FitsAlone, compound_of, sealed_compound, due_of, some_due, exhausts, is_used_up, leaving, after_compound, counted}
-use Rattle.session_core.specs.Rounds.{is_round, sender_ssrc, after_round, after_asks, after_checks, after_timeout}
+use Rattle.session_core.specs.Reports.{sender_ssrc, tick_at, due_senders, some_reports, sender_items, after_senders, answers, after_answers, TickItemsFit}
+use Rattle.session_core.specs.Rounds.{tick_of, after_incoming, after_outgoing, after_checks, after_timeout}
 use Rattle.session_core.specs.Sending.{sealed_as, sealed_by, after_streams, Gives, NextPacket, none_due, given, passed, NextDatagram, silent, packet as leaves, compound, DrainsTo, start, more}
 use Rattle.session_core.specs.SessionRecord.{MediaRecord, SessionState, SessionRecord}
 use Rattle.media_model.specs.declared.entry.Write.{Write}
@@ -37,8 +38,7 @@ use Rattle.session_turns.specs.Mirrors.{IsGiven, IsKept, packet_at, sent_event, 
 use Rattle.session_turns.specs.Rights.{IsRightRtp, IsRightRtcp, IsRight, right_rtp, right_rtcp, SealsAreRight}
 use Rattle.turn_seals.proofs.Calls.{compound_long, index_left, right_compound}
 use Rattle.turn_seals.proofs.Headers.{given_fine}
-use Rattle.turn_seals.proofs.Nacks.{all_append, nacks_fit}
-use Rattle.turn_seals.proofs.Streams.{IsQueued, AreCached, IsOf, AreSound, ticked_sound, place_right}
+use Rattle.turn_seals.proofs.Streams.{IsQueued, AreCached, IsOf, AreSound, ticked_sound, reported_sound, told_sound, place_right}
 use Rattle.turn_seals.proofs.Tests.{tested}
 
 -- the keys under which a session seals are those of a context, and an index is left or the last one is used up
@@ -56,6 +56,10 @@ pub record Stands (own : SrtpState) (exts : ExtensionMap) (ls : List Outgoing) (
   pub wide : 900 ≤ s.target
   pub fit : AllByRecursion FitsAlone s.feedback
   pub tx : AreSound ls qs s.tx
+
+all_append : {X : Type 0} (P : X → Type 0) (xs ys : List X) → AllByRecursion P xs → AllByRecursion P ys → AllByRecursion P (xs ++ ys)
+all_append P [] ys h k = k
+all_append P (x ∷ xs) ys h k = (h.0, all_append P xs ys h.1 k)
 
 drop_all : {X : Type 0} (P : X → Type 0) (n : ℕ) (xs : List X) → AllByRecursion P xs → AllByRecursion P (drop n xs)
 drop_all P zero xs h = h
@@ -169,22 +173,47 @@ module _ (again : WrittenIsReadAgain) (cipher : CipherMeaning) (own : SrtpState)
 
 -- a tick
 
-module _ (own : SrtpState) (exts : ExtensionMap) (ls : List Outgoing) (fits : ItemsFitByLengths) where
-  asks_stand : (now : ℕ) (r : SessionRecord) → Stands own exts ls r.state r.repairs → Stands own exts ls (after_asks now r).state (after_asks now r).repairs
-  asks_stand now r h = by (is_round now r)
-    where
-      by : (b : Bool) → Stands own exts ls (if b then after_round now r else r).state (if b then after_round now r else r).repairs
-      by true = record {
-        ids = h.ids;
-        keyed = h.keyed;
-        wide = h.wide;
-        fit = all_append FitsAlone r.state.feedback (nacks (sender_ssrc r.state) now r.rx) h.fit (nacks_fit (sender_ssrc r.state) now r.rx fits);
-        tx = h.tx;
-      }
-      by false = h
+module _ (own : SrtpState) (exts : ExtensionMap) (ls : List Outgoing) (items : TickItemsFit) where
+  incoming_stand : (now : ℕ) (r : SessionRecord) → Stands own exts ls r.state r.repairs → Stands own exts ls (after_incoming now r).state (after_incoming now r).repairs
+  incoming_stand now r h = record {
+    ids = h.ids;
+    keyed = h.keyed;
+    wide = h.wide;
+    fit = all_append FitsAlone r.state.feedback (incoming_items (tick_of now r) r.rx) h.fit (items now (tick_of now r) r.state r.rx []).0;
+    tx = h.tx;
+  }
+
+  senders_stand : (now : ℕ) (s : SessionState) (qs : List (ℕ × RepairsRecord)) → Stands own exts ls s qs → Stands own exts ls (after_senders now s) qs
+  senders_stand now s qs h = record {
+    ids = h.ids;
+    keyed = h.keyed;
+    wide = h.wide;
+    fit = all_append FitsAlone s.feedback (sender_items now s) h.fit (items now (tick_at now false s) s [] []).1;
+    tx = reported_sound ls qs s.medias now (due_senders now s) s.tx h.tx;
+  }
+
+  answers_stand : (now : ℕ) (reports : Bool) (s : SessionState) (qs : List (ℕ × RepairsRecord)) → Stands own exts ls s qs → Stands own exts ls (after_answers now reports s) qs
+  answers_stand now true s qs h = record {
+    ids = h.ids;
+    keyed = h.keyed;
+    wide = h.wide;
+    fit = all_append FitsAlone s.feedback (answers now (sender_ssrc s) s.moments) h.fit (items now (tick_at now false s) s [] s.moments).2;
+    tx = h.tx;
+  }
+  answers_stand now false s qs h = h
+
+  outgoing_stand : (now : ℕ) (r : SessionRecord) → Stands own exts ls r.state r.repairs → Stands own exts ls (after_outgoing now r).state (after_outgoing now r).repairs
+  outgoing_stand now r h =
+      answers_stand now (some_reports r.state.medias (due_senders now r.state) r.state.tx) (after_senders now r.state) r.repairs (senders_stand now r.state r.repairs h)
 
   checks_stand : (now : ℕ) (r : SessionRecord) → Stands own exts ls r.state r.repairs → Stands own exts ls (after_checks now r).state (after_checks now r).repairs
-  checks_stand now r h = record { ids = h.ids; keyed = h.keyed; wide = h.wide; fit = h.fit; tx = ticked_sound ls r.repairs now r.state.tx h.tx }
+  checks_stand now r h = record {
+    ids = h.ids;
+    keyed = h.keyed;
+    wide = h.wide;
+    fit = h.fit;
+    tx = told_sound ls r.repairs r.state.medias (each (stream_after_timeout now) r.state.tx) (ticked_sound ls r.repairs now r.state.tx h.tx);
+  }
 
   told_stand : (r : SessionRecord) → Stands own exts ls r.state r.repairs → Stands own exts ls (after_events r).state (after_events r).repairs
   told_stand r h = by (lacks_keys r.state)
@@ -195,7 +224,8 @@ module _ (own : SrtpState) (exts : ExtensionMap) (ls : List Outgoing) (fits : It
 
   tick_stands : (now : ℕ) (r : SessionRecord) → Stands own exts ls r.state r.repairs
       → Stands own exts ls (after_events (after_timeout now r)).state (after_events (after_timeout now r)).repairs
-  tick_stands now r h = told_stand (after_timeout now r) (checks_stand now (after_asks now r) (asks_stand now r h))
+  tick_stands now r h =
+      told_stand (after_timeout now r) (checks_stand now (after_outgoing now (after_incoming now r)) (outgoing_stand now (after_incoming now r) (incoming_stand now r h)))
 
 -- what a session holds that mirrors a plain one
 
@@ -250,8 +280,8 @@ sound_from rows medias now qs ls (e ∷ es) (x ∷ xs) h wide among =
       sound_from rows medias now qs ls es xs h.1 wide.1 (λ p is. among p (or_true (p x.0) (list_any p (lines xs)) is)),
     )
 
-pub seals_are_right : WrittenIsReadAgain → ItemsFitByLengths → SealsAreRight
-seals_are_right again fits cipher C side r after a own time all fit mirrors key late drains =
+pub seals_are_right : WrittenIsReadAgain → TickItemsFit → SealsAreRight
+seals_are_right again items cipher C side r after a own time all fit mirrors key late drains =
     let is : mirrors.own ≡ own = let both : Some mirrors.own ≡ Some own = sym mirrors.seals ∙ key in cc in
     let index : own.srtcp_index ≡ a.rtcp = ap (λ (s : SrtpState). s.srtcp_index) (sym is) ∙ mirrors.index in
     let bound = mirrors.bounded in
@@ -266,4 +296,4 @@ seals_are_right again fits cipher C side r after a own time all fit mirrors key 
           (λ p e. subst (λ (l : List Outgoing). list_any p l ≡ true) mirrors.outgoing e);
     } in
     (drained_right again cipher own r.state.transport.exts ls time (after_events (after_timeout time r)) after all drains
-    (tick_stands own r.state.transport.exts ls fits time r begin)).0
+    (tick_stands own r.state.transport.exts ls items time r begin)).0

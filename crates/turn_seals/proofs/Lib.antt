@@ -1,7 +1,6 @@
 pub mod Tests
 pub mod Openings
 pub mod Calls
-pub mod Nacks
 pub mod Headers
 pub mod Streams
 pub mod Drains

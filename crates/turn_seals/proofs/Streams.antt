@@ -1,6 +1,6 @@
 -- What the outgoing streams hold may be sealed, and what a poll of them gives is right.
 use Rattle.std.proofs.Common.{◌≡◌, ◌⊎◌, inl, inr, ℕ, zero, suc, ◌<◌, ◌^◌, Bool, true, false, ◌&&◌, List, [], ◌∷◌, ◌++◌, map, slice_get, Option, Some, None, refl, sym, ap, ◌∙◌, subst}
-use Rattle.std.specs.Prelude.{◌==◌, if◌then◌else◌, option_and_then, position, nat_eq}
+use Rattle.std.specs.Prelude.{◌==◌, if◌then◌else◌, is_some, option_and_then, position, nat_eq}
 use Rattle.std.specs.List.{list_any, AllByRecursion}
 use Rattle.std.specs.Map.{keys_of, values_of}
 use Rattle.std.specs.Option.{option_map, option_map_or}
@@ -16,10 +16,14 @@ use Rattle.stream_core.specs.declared.stream_tx.PacketReceipt.{PacketReceipt}
 use Rattle.stream_core.specs.declared.transport.Transport.{Transport}
 use Rattle.stream_core.specs.Queue.{with_stamp, if_stamped, next_of, rest_after, rest_of}
 use Rattle.stream_core.specs.Repairing.{SentPacket, RepairsRecord, Repairs, repaired, none_asked, Keeps, kept, counted, Polls, without, again as sends_again, first as sends_first, nothing, repair_of, repairs_of, with_repairs, number_of_sent, size_of_sent}
+use Rattle.stream_core.specs.Reporting.{tx_reported}
 use Rattle.stream_core.specs.StreamsRecord.{StreamsRecord, PollsAt, polls_at}
 use Rattle.stream_core.specs.Tables.{place_of, value_under, each, change_place, change_at}
 use Rattle.stream_core.specs.TxRecord.{TxRecord, after_timeout, receipt_of, after_poll}
+use Rattle.session_core.specs.Medias.{media_of}
+use Rattle.session_core.specs.Reports.{reports_in, sender_after, of_kind, told_kind}
 use Rattle.session_core.specs.Sending.{sealed_as}
+use Rattle.session_core.specs.SessionRecord.{MediaRecord}
 use Rattle.run_model.specs.Events.{Outgoing}
 use Rattle.run_model.specs.Tables.{has}
 use Rattle.session_turns.specs.Rights.{IsRightRtp}
@@ -149,6 +153,30 @@ module _ (lines : List Outgoing) where
     ticked_sound qs now es h.1,
   )
 
+  -- its reports change, and nothing else
+  reported : (qs : List (ℕ × RepairsRecord)) (medias : List MediaRecord) (now : ℕ) (mids : List (List ℕ)) (x : TxRecord) → IsSound lines qs x
+      → IsSound lines qs (sender_after medias now mids x)
+  reported qs medias now mids x h = by (is_some (reports_in mids medias x))
+    where
+      by : (b : Bool) → IsSound lines qs (if b then tx_reported now x else x)
+      by true = record { own = h.own; rtx = h.rtx; queue = h.queue; again = h.again }
+      by false = h
+
+  pub reported_sound : (qs : List (ℕ × RepairsRecord)) (medias : List MediaRecord) (now : ℕ) (mids : List (List ℕ)) (es : List (ℕ × TxRecord)) → AreSound lines qs es
+      → AreSound lines qs (each (sender_after medias now mids) es)
+  reported_sound qs medias now mids [] h = tt
+  reported_sound qs medias now mids (e ∷ es) h = (reported qs medias now mids e.1 h.0, reported_sound qs medias now mids es h.1)
+
+  told : (qs : List (ℕ × RepairsRecord)) (kind : Option Bool) (media : Option MediaRecord) (x : TxRecord) → IsSound lines qs x → IsSound lines qs (of_kind kind media x)
+  told qs (Some is_audio) media x h = h
+  told qs None None x h = h
+  told qs None (Some m) x h = record { own = h.own; rtx = h.rtx; queue = h.queue; again = h.again }
+
+  pub told_sound : (qs : List (ℕ × RepairsRecord)) (medias : List MediaRecord) (es : List (ℕ × TxRecord)) → AreSound lines qs es
+      → AreSound lines qs (each (told_kind medias) es)
+  told_sound qs medias [] h = tt
+  told_sound qs medias (e ∷ es) h = (told qs e.1.reports.clock.is_audio (media_of e.1.mid medias) e.1 h.0, told_sound qs medias es h.1)
+
   pub sound_at : (qs : List (ℕ × RepairsRecord)) (es : List (ℕ × TxRecord)) (i : ℕ) (x : TxRecord) → AreSound lines qs es → slice_get (values_of es) i ≡ Some x → IsSound lines qs x
   sound_at qs [] i x h e = absurd cc
   sound_at qs (y ∷ es) zero x h e = let same : y.1 ≡ x = cc in subst (IsSound lines qs) same h.0
@@ -265,7 +293,7 @@ module _ (lines : List Outgoing) where
     polls_right types t now x qs _ _ _ _ (sends_again ssrc q after receipt rtx repairs) h f =
         let r = repairs_right t now ssrc x q after (Some receipt) repairs (h.rtx ssrc rtx) (f q refl) in
         record {
-          streams = λ rs s. s;
+          streams = λ rs s. record { own = s.own; rtx = s.rtx; queue = s.queue; again = s.again };
           repairs = λ v e. let same : after ≡ v = cc in subst (λ (w : RepairsRecord). AreCached w.cache.events) same r.0;
           gives = r.1;
         }

@@ -1,7 +1,7 @@
 ghost use Rattle.session_turns.specs.Rights.{CallsAreRight, OpeningsAreRight, RtcpOpeningsAreRight, SealsAreRight};
 
-use rtcp_wire::items_fit_by_lengths;
 use rtp_wire::{header_reads_own_bytes, written_header_is_read_again};
+use session_core::tick_items_fit;
 
 /// All that leaves at a tick, also before an error ends it, is right: RTP of the session's own
 /// streams, whose plain reads with the SSRC and the low 16 bits of the number under which it is
@@ -9,8 +9,8 @@ use rtp_wire::{header_reads_own_bytes, written_header_is_read_again};
 pub fn seals_are_right()
     ensures { SealsAreRight }
 {
+    tick_items_fit();
     written_header_is_read_again();
-    items_fit_by_lengths();
 }
 
 /// What an application's call sends is the encrypted seal of its item, under the next index.

@@ -12,7 +12,6 @@ use Rattle.srtp_core.specs.Laws.{RtpSealsApart, RtpSealKeepsHeader}
 use Rattle.srtp_core.specs.Toy.{toy_meaning}
 use Rattle.srtp_core.specs.declared.profile.SrtpProfile.TheVariants.{AeadAes128Gcm}
 use Rattle.stream_core.specs.declared.transport.Transport.{Transport}
-use Rattle.stream_core.specs.Missing.{any_enabled}
 use Rattle.stream_core.specs.Repairing.{SentPacket, RepairsStandFor}
 use Rattle.stream_core.specs.RxRecord.{expected, StandsFor as RxStandsFor}
 use Rattle.stream_core.specs.StreamsRecord.{StreamsView, StreamsRecord, no_streams, StandsFor as StreamsStandsFor}
@@ -23,12 +22,13 @@ use Rattle.session_core.specs.declared.datagram.Datagram.{Datagram}
 use Rattle.session_core.specs.declared.datagram.Event.{Event}
 use Rattle.session_core.specs.declared.datagram.Opened.{Opened}
 use Rattle.session_core.specs.Calls.{after_event, Polled}
+use Rattle.session_core.specs.Medias.{media_of}
 use Rattle.session_core.specs.Receiving.{Receives}
-use Rattle.session_core.specs.Rounds.{round_interval, after_round, after_asks, after_checks, after_timeout}
+use Rattle.session_core.specs.Rounds.{round_interval, after_incoming, after_outgoing, after_checks, after_timeout}
 use Rattle.session_core.specs.Sending.{NextDatagram}
 use Rattle.session_core.specs.SessionRecord.{SessionState, SessionView, SessionRecord, StandsFor}
 use Rattle.uses.specs.Exchange.{payload_told, first_write, end_config, end_of}
-use Rattle.uses.proofs.Exchanged.{Expects, awaited, streams, sent_bytes, packet_bytes, second_carries}
+use Rattle.uses.proofs.Exchanged.{Expects, awaited, sent_bytes, packet_bytes, second_carries}
 
 -- a value is written over by what it changes to
 set_change : {X : Type 0} (f : X → X) (es : List (ℕ × X)) (i : ℕ) (x : X) → slice_get (values_of es) i ≡ Some x → set_value_at es i (f x) ≡ change_place f es i
@@ -58,15 +58,6 @@ pub write_is : (pt number now : ℕ) (carried payload : List ℕ) → pt ≡ 96 
 write_is pt number now carried payload p n c =
     λ j. record { pt = p j; seq_no = n j; time = 0; wallclock = now; marker = false; ext_vals = no_values; nackable = false; payload = c j; csrc = [] }
 
--- a tick of a session on which nothing comes in asks for nothing
-asks_none : (now : ℕ) (r : SessionRecord) → r.rx ≡ [] → after_asks now r ≡ r
-asks_none now r none =
-    ap (λ es. if nat_le round_interval (now - r.state.last_round) && any_enabled es then after_round now r else r) none ∙ by (nat_le round_interval (now - r.state.last_round))
-  where
-    by : (b : Bool) → (if b && false then after_round now r else r) ≡ r
-    by true = refl
-    by false = refl
-
 module _ (material mid payload : List ℕ) where
   -- the one that sends, once its packet is written, and the one that is sent to, once it expects the stream
   abbrev pub sender : ℕ → SessionRecord
@@ -82,6 +73,14 @@ module _ (material mid payload : List ℕ) where
 
   abbrev pub transport : Transport
   transport = (end_of material mid true).state.transport
+
+  -- nothing comes in that a tick could report of or ask for, and the stream does not report before its kind is told
+  says_nothing : (now : ℕ) → after_outgoing now (after_incoming now (sender now)) ≡ sender now
+  says_nothing now = by (nat_le round_interval (now - 0))
+    where
+      by : (b : Bool) → (let s : SessionRecord = sender now in record s { state = record s.state { last_round = if b && false then now else 0 } }) ≡ sender now
+      by true = refl
+      by false = refl
 
   -- a session that stands for an end, with a stream that it expects
   pub expects : {W S : Type 0} (remembers : W → Heard → Type 0) (holds : S → Past SentPacket → Type 0) (s : SessionView W S) (lent left : StreamsView W S) (ssrc : ℕ) → ssrc ≡ 42
@@ -133,7 +132,7 @@ module _ (material mid payload : List ℕ) where
   pub ticked : {W S : Type 0} (remembers : W → Heard → Type 0) (holds : S → Past SentPacket → Type 0) (now : ℕ) (s after : SessionView W S) → StandsFor remembers holds s (sender now)
       → ((r : SessionRecord) → StandsFor remembers holds s r → StandsFor remembers holds after (after_timeout now r)) → StandsFor remembers holds after (after_checks now (sender now))
   ticked remembers holds now s after stands ok =
-      subst (λ (r : SessionRecord). StandsFor remembers holds after (after_checks now r)) (asks_none now (sender now) refl) (ok (sender now) stands)
+      subst (λ (r : SessionRecord). StandsFor remembers holds after (after_checks now r)) (says_nothing now) (ok (sender now) stands)
 
   pub at_end : {W S : Type 0} (remembers : W → Heard → Type 0) (holds : S → Past SentPacket → Type 0) (now : ℕ) (left leaves_behind before came between : SessionView W S) (sent : Datagram) (bytes : List ℕ)
       (opened : Option Opened) (first second : Option Event)
@@ -150,7 +149,7 @@ module _ (material mid payload : List ℕ) where
   at_end remembers holds now left leaves_behind before came between sent bytes opened first second again keeps apart sends polled handed stands received told leaves told_next =
       let next = polled (after_checks now (sender now)) sends in
       let sealed : bytes ≡ packet_bytes toy_meaning key transport now mid payload =
-      handed ∙ sent_bytes toy_meaning key transport now mid payload (after_checks now (sender now)) next.0 sent refl refl (record { transport = refl; tx = refl; repairs = refl }) next.1 in
+      handed ∙ sent_bytes toy_meaning key transport now mid payload (after_checks now (sender now)) next.0 sent refl refl (record { transport = refl; media = media_of mid (sender now).state.medias; tx = refl; repairs = refl }) next.1 in
       let after = received receiver stands in
       second_carries toy_meaning key transport now mid payload receiver after.0 (after_event after.0) (after_event (after_event after.0)) opened bytes first second again keeps apart waits sealed after.1
       (told after.0 after.2) (told_next (after_event after.0) (leaves after.0 after.2))

@@ -31,11 +31,12 @@ use Rattle.session_core.specs.declared.datagram.Event.{Event}
 use Rattle.session_core.specs.declared.datagram.Event.TheVariants as event
 use Rattle.session_core.specs.declared.datagram.Opened.{Opened}
 use Rattle.session_core.specs.Calls.{lacks_keys, told, after_events, Polled}
-use Rattle.session_core.specs.Receiving.{Receives, Opens, OpensRepair, OpensIn, number_of, rx_opened, after_opened, packet_from, cut, opened, repaired, stays}
+use Rattle.session_core.specs.Receiving.{Receives, Opens, OpensRepair, OpensIn, number_of, rx_opened, arrival_of, after_opened, packet_from, cut, opened, repaired, stays}
 use Rattle.session_core.specs.Repairs.{repaired_by, original_under}
 use Rattle.session_core.specs.Feedback.{due_of, some_due}
+use Rattle.session_core.specs.Reports.{of_kind}
 use Rattle.session_core.specs.Sending.{sealed_as, sealed_by, Gives, NextPacket, none_due, given, passed, NextDatagram, silent, packet as leaves, compound}
-use Rattle.session_core.specs.SessionRecord.{SessionState, SessionRecord}
+use Rattle.session_core.specs.SessionRecord.{MediaRecord, SessionState, SessionRecord}
 use Rattle.uses.specs.Exchange.{payload_told, first_write, end_config}
 use Rattle.uses.proofs.Opening.{sealed_packet, opens_to_it, reads_header}
 
@@ -116,25 +117,31 @@ module _ (cipher : CipherMeaning) (k : SrtpState) (t : Transport) (now : ℕ) (m
   is_header : IsHeader header
   is_header = record { number = omega arith; time = omega arith; source = omega arith; few = omega arith; room = refl; words = zeros 15 }
 
-  abbrev pub streams : List (ℕ × TxRecord)
-  streams = (42, stream) ∷ []
+  -- the tick tells it its kind, where it has a media section: it gives the same packet
+  abbrev pub streams : Option MediaRecord → List (ℕ × TxRecord)
+  streams media = (42, of_kind None media stream) ∷ []
+
+  told_gives : (media : Option MediaRecord) → polled (of_kind None media stream) t now ≡ Some receipt
+  told_gives None = refl
+  told_gives (Some m) = refl
 
   -- the stream at any place gives its packet
-  at_place : (place : ℕ) (x : TxRecord) → slice_get (values_of streams) place ≡ Some x → polled x t now ≡ Some receipt
-  at_place zero x at = ap (λ y. polled y t now) (sym (some_same stream x at))
-  at_place (suc i) x at = absurd cc
+  at_place : (media : Option MediaRecord) (place : ℕ) (x : TxRecord) → slice_get (values_of (streams media)) place ≡ Some x → polled x t now ≡ Some receipt
+  at_place media zero x at = ap (λ y. polled y t now) (sym (some_same (of_kind None media stream) x at)) ∙ told_gives media
+  at_place media (suc i) x at = absurd cc
 
   -- a session with that stream alone, whose packets are not kept
   pub record Sends (r : SessionRecord) : Type 0 where
     pub transport : r.state.transport ≡ t
-    pub tx : r.state.tx ≡ streams
+    pub media : Option MediaRecord
+    pub tx : r.state.tx ≡ streams media
     pub repairs : r.repairs ≡ []
 
   gives_it : (r : SessionRecord) (place : ℕ) (s : StreamsRecord) (o : Option PacketReceipt) → Sends r → Gives now r place s o → o ≡ Some receipt
   gives_it r place _ _ is (polls_at x after q o at polls) =
       polls_front r.state.types r.state.transport now x after (repairs_of x r.repairs) q o (ap (λ (l : List (ℕ × RepairsRecord)). repairs_of x l) is.repairs ∙ no_repairs x) polls
       ∙ ap (λ (u : Transport). polled x u now) is.transport
-      ∙ at_place place x (ap (λ (es : List (ℕ × TxRecord)). slice_get (values_of es) place) (sym is.tx) ∙ at)
+      ∙ at_place is.media place x (ap (λ (es : List (ℕ × TxRecord)). slice_get (values_of es) place) (sym is.tx) ∙ at)
 
   next_is : (r after : SessionRecord) (o : Option PacketReceipt) (p : PacketReceipt) → Sends r → o ≡ Some p → NextPacket now r after o → p ≡ receipt
   next_is r _ _ p is same (none_due _ e) = absurd cc
@@ -230,12 +237,12 @@ module _ (cipher : CipherMeaning) (k : SrtpState) (t : Transport) (now : ℕ) (m
 
   -- after it came it is told that the stream is unpaused, and then the packet
   told_then : (r : SessionRecord) (h : RtpHeader) (n : ℕ) (other : List ℕ) → Expects r → Reads h
-      → told (after_opened now h n other r) ≡ event.StreamPaused (pause_of (came_at now (awaited mid).state)) ∷ event.RtpPacket (packet_from now h n (cut h other)) ∷ []
+      → told (after_opened now h n other r) ≡ event.StreamPaused (pause_of (came_at (arrival_of r.state.types now h) n (awaited mid).state)) ∷ event.RtpPacket (packet_from now h n (cut h other)) ∷ []
   told_then r h n other x y =
       λ j.
       if x.keys j then []
       else option_to_list (option_map event.AppSpecificFeedback (x.application j))
-      ++ (map event.StreamPaused (pauses (rx_opened (seen_of (y.source j) (x.seen j)) now (y.source j) n (x.rx j)))
+      ++ (map event.StreamPaused (pauses (rx_opened (seen_of (y.source j) (x.seen j)) (arrival_of r.state.types now h) (y.source j) n (x.rx j)))
       ++ option_to_list (option_map event.RtpPacket (if y.source j == 0 then r.state.packet else Some (packet_from now h n (cut h other)))))
 
   -- no datagram of the stream is a repair

@@ -39,6 +39,7 @@ end_config = record {
   mtu = record { target = 1150; warn = 1280 };
   local_ssrc = 1;
   pause_threshold = 1500000000;
+  intervals = record { audio = 5000000000; video = 1000000000 };
   srtcp_index = 0;
   exts = no_extensions;
   types = (96, record { pt = 96; clock = 90000; rtx = None }) ∷ [];

@@ -12,7 +12,10 @@ use media_base::{Beginning, Bytes, Duration, Instant};
 use queue_store::QueueStore;
 use rtp_base::{Frequency, Mid, MidRid, Pt, SeqNo, Ssrc};
 use rtp_wire::{ExtensionMap, written_header_is_read_again};
-use session_core::{DATAGRAM_MTU, DATAGRAM_MTU_WARN, Event, Media, MediaKind, Mtu, ReportIntervals, RtcError, Session, SessionConfig};
+use session_core::{
+    DATAGRAM_MTU, DATAGRAM_MTU_WARN, Event, Media, MediaKind, Mtu, ReportIntervals, RtcError,
+    Session, SessionConfig,
+};
 use srtp_core::laws::{rtp_seal_keeps_header, rtp_seals_apart};
 use srtp_core::{KeyingMaterial, SrtpProfile, ToyCipher};
 use std::alloc::Global;
