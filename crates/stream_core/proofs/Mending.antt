@@ -15,6 +15,7 @@ use Rattle.rtx_core.specs.declared.resend.Resend.{Resend}
 use Rattle.stream_core.specs.Repairing.{SentPacket, RepairsView, RepairsRecord, RepairsStandFor, size_of_sent, repair_header, repair_of, Repairs, repaired, none_asked, Keeps, Polls, first, nothing, Stays, none_left, IsUsedUp}
 use Rattle.stream_core.specs.declared.packet.RtpPacket.{RtpPacket}
 use Rattle.stream_core.specs.declared.payload_types.TypeRow.{TypeRow}
+use Rattle.stream_core.specs.Arrivals.{with_first_of}
 use Rattle.stream_core.specs.Queue.{next_of, rest_of, rest_after, if_stamped}
 use Rattle.stream_core.specs.TxRecord.{TxRecord, IsSealable, receipt_of, polled, after_poll}
 use Rattle.stream_core.proofs.Polling.{bytes_of_any}
@@ -137,7 +138,7 @@ module _ {S : Type 0} (stands_for : S → Past SentPacket → Type 0) (types : L
       )
   polls_first None is keeps none r k =
       let last = no_next x t now (next_of x.queue) is in
-      let unchanged : y ≡ x = after ∙ (λ i. record x { queue = rest_same x.queue last i }) in (
+      let unchanged : y ≡ x = after ∙ (λ i. record x { queue = rest_same x.queue last i; reports = with_first_of (last i) x.reports }) in (
         k.0,
         subst (λ (z : TxRecord). Polls types t now x (Some r) z (Some k.0) None) (sym unchanged) (nothing ssrc r k.0 has k.1 last),
         subst (λ v. RepairsStandFor stands_for v k.0) (sym none) k.2,

@@ -1,5 +1,6 @@
 use Rattle.std.proofs.Common.{Some, refl, sym, subst}
-use Rattle.stream_core.specs.Repairing.{Repairs, RepairsStandFor, again, same}
+use Rattle.stream_core.specs.Repairing.{Repairs, RepairsStandFor, Polls, again, same}
+use Rattle.stream_core.specs.TxRecord.{TxRecord}
 use Rattle.stream_core.proofs.Mending.{polls_first, none_stays}
 use Rattle.stream_core.proofs.repairing.poll_both.Goals as goal
 
@@ -7,8 +8,9 @@ pub returns-in-Ok-Some-clause-polled : goal.returns-in-Ok-Some-clause-polled
 returns-in-Ok-Some-clause-polled g c = λ r h.
     let k = c.in-Ok-Some.ensures.polled r h in (
       k.0,
-      again c.args.ssrc r k.0 c.in-Ok-Some.receipt c.requires
-          (subst (λ o. Repairs c.args.transport.now c.args.now c.args.ssrc c.args.stream.now r k.0 o) c.in-Ok-Some.field-0-is k.1),
+      subst (λ (z : TxRecord). Polls c.args.types.now c.args.transport.now c.args.now c.args.stream.now (Some r) z (Some k.0) (Some c.in-Ok-Some.receipt)) (sym c.count_resend.ensures)
+          (again c.args.ssrc r k.0 c.in-Ok-Some.receipt c.requires
+          (subst (λ o. Repairs c.args.transport.now c.args.now c.args.ssrc c.args.stream.now r k.0 o) c.in-Ok-Some.field-0-is k.1)),
       k.2,
     )
 
