@@ -13,4 +13,5 @@ pub mod SeenSteps
 pub mod StreamsSteps
 pub mod TableSteps
 pub mod Totals
+pub mod TxSteps
 pub mod Untold

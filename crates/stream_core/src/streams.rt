@@ -687,7 +687,8 @@ impl<W: GapWindow, S: ResendStore<Sent>> Streams<W, S> {
         intervals: &ReportIntervals,
         now: Instant,
     ) -> Result<Vec<Mid>, AllocError>
-        ensures { IfOk result (λ v. v.items ≡ due_tx_mids intervals.now now self.now.tx) }
+        ensures mids { IfOk result (λ v. v.items ≡ due_tx_mids intervals.now now self.now.tx) }
+        ensures cause { OnErr result (due_tx_mids intervals.now now self.now.tx ≡ [] → ⊥) }
     {
         let mut mids = Vec::new(self.alloc);
         for place in 0..self.tx.len() {
