@@ -1,5 +1,5 @@
 -- Items that a session queues fit a compound of their own.
-use Rattle.std.proofs.Common.{◌≡◌, ◌+◌, ◌-◌, ◌*◌, ◌<◌, ◌≤◌, ◌^◌, refl, ap, sym, subst, ◌∙◌, ◌%◌, ℕ, List, [], ◌∷◌, ◌++◌, length, take, arith}
+use Rattle.std.proofs.Common.{◌≡◌, ◌+◌, ◌-◌, ◌*◌, ◌≤◌, refl, ap, sym, subst, ◌∙◌, ◌%◌, ℕ, List, [], ◌∷◌, ◌++◌, length, take, arith}
 use Rattle.std.specs.Int.{w32, to_be_bytes}
 use Rattle.std.specs.List.{AllByRecursion, flat_map}
 use Rattle.std.proofs.lemmas.List.{length-append, length-take}
@@ -16,7 +16,6 @@ use Rattle.rtcp_wire.specs.declared.packet.Rtcp.TheVariants.{SenderReport, Recei
 use Rattle.rtcp_wire.specs.declared.report.ReceiverReport.{ReceiverReport as Received}
 use Rattle.rtcp_wire.specs.declared.report.SenderReport.{SenderReport as Sent}
 use Rattle.rtcp_wire.specs.declared.source.Descriptions.{Descriptions}
-use Rattle.rtcp_wire.specs.declared.source.SdesItem.{SdesItem}
 use Rattle.rtcp_wire.specs.declared.source.SdesType.TheVariants.{CNAME}
 use Rattle.rtcp_wire.specs.Descriptions.{ended, sdes_item_text, sdes_text, descriptions_body}
 use Rattle.rtcp_wire.specs.Extended.{block_content, block_text, dlrr_item_text, extended_report_body}

@@ -1,14 +1,14 @@
 -- Each item that a tick queues is brief.
-use Rattle.std.proofs.Common.{◌≡◌, ◌≤◌, ℕ, refl, Bool, true, false, List, [], ◌∷◌, ◌++◌, length, take, Option, Some, None, arith}
+use Rattle.std.proofs.Common.{◌≡◌, ◌≤◌, ℕ, refl, Bool, true, false, List, [], ◌∷◌, length, take, Option, Some, None, arith}
 use Rattle.std.specs.Prelude.{nat_le, nat_lt, ◌&&◌, if◌then◌else◌, map}
-use Rattle.std.specs.List.{AllByRecursion, flat_map}
-use Rattle.std.specs.Option.{option_map, option_to_list}
+use Rattle.std.specs.List.{AllByRecursion}
+use Rattle.std.specs.Option.{option_to_list}
 use Rattle.std.proofs.lemmas.Bool.{leb-true}
 use Rattle.std.proofs.lemmas.List.{length-map, length-take}
 use Rattle.media_units.specs.declared.wallclock.Beginning.{Beginning}
 use Rattle.rtp_base.specs.declared.reception_report.ReceptionReport.{ReceptionReport}
 use Rattle.rtcp_wire.specs.declared.packet.Rtcp.{Rtcp}
-use Rattle.rtcp_wire.specs.declared.packet.Rtcp.TheVariants.{SourceDescription, ExtendedReport}
+use Rattle.rtcp_wire.specs.declared.packet.Rtcp.TheVariants.{SourceDescription}
 use Rattle.rtcp_wire.specs.declared.report.SenderInfo.{SenderInfo}
 use Rattle.report_core.specs.declared.moments.ReceiverMoment.{ReceiverMoment}
 use Rattle.report_core.specs.Moments.{item_of}

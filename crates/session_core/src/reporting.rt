@@ -177,10 +177,7 @@ fn tell_kind<W: GapWindow, S: ResendStore<Sent>>(
 
 /// Tells each outgoing stream its kind that was not told it and has a media section. The time grows with
 /// the number of streams.
-pub fn tell_kinds<W: GapWindow, S: ResendStore<Sent>>(
-    streams: &mut Streams<W, S>,
-    medias: &[Media],
-)
+pub fn tell_kinds<W: GapWindow, S: ResendStore<Sent>>(streams: &mut Streams<W, S>, medias: &[Media])
     ensures { streams.new ≡ record streams.old { tx = each (told_kind medias.now) streams.old.tx } }
 {
     for place in 0..streams.tx_len() {
@@ -190,11 +187,7 @@ pub fn tell_kinds<W: GapWindow, S: ResendStore<Sent>>(
 
 /// Has the moment of a receiver wait for an answer, where feedback tells one (RFC 3611 section 4.4).
 /// Without memory nothing changes.
-fn take_moment(
-    item: &RtcpFb,
-    now: Instant,
-    moments: &mut ReceiverMoments,
-) -> Result<(), AllocError>
+fn take_moment(item: &RtcpFb, now: Instant, moments: &mut ReceiverMoments) -> Result<(), AllocError>
     ensures ok { OnOk result (moments.new ≡ moments_heard_by now item.now moments.old) }
     ensures err { OnErr result (moments.new ≡ moments.old) }
 {

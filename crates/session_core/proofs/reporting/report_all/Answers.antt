@@ -1,8 +1,7 @@
-use Rattle.std.proofs.Common.{◌≡◌, ◌+◌, ◌<◌, ◌≤◌, ◌++◌, ℕ, suc, Bool, List, [], Option, Some, length, slice_get, take, refl, sym, ap, ◌∙◌, add-one, append_assoc, arith}
+use Rattle.std.proofs.Common.{◌≡◌, ◌<◌, ◌≤◌, ◌++◌, ℕ, Bool, List, Some, length, slice_get, take, sym, ap, ◌∙◌, add-one, append_assoc, arith}
 use Rattle.std.specs.Prelude.{◌||◌, is_some}
 use Rattle.std.specs.Map.{values_of}
 use Rattle.std.specs.Option.{option_map}
-use Rattle.std.proofs.lemmas.List.{append-nil}
 use Rattle.rtcp_wire.specs.declared.packet.Rtcp.{Rtcp}
 use Rattle.stream_core.specs.StreamsRecord.{StreamsView}
 use Rattle.stream_core.specs.Tables.{change_place}
@@ -10,7 +9,7 @@ use Rattle.stream_core.specs.TxRecord.{TxRecord}
 use Rattle.session_core.specs.Feedback.{FitsAlone}
 use Rattle.session_core.specs.Reports.{items_under, reports_in, sender_after, sender_items_with, some_reports}
 use Rattle.session_core.proofs.Fitting.{all_append}
-use Rattle.session_core.proofs.Tables.{value_there, upto, upto_step, upto_at, upto_length, upto_all, take_all, items_step, any_step}
+use Rattle.session_core.proofs.Tables.{value_there, upto, upto_step, upto_at, upto_length, upto_all, items_step, any_step}
 use Rattle.session_core.proofs.reporting.report_all.Goals as goal
 
 pub report_at-requires : goal.report_at-requires

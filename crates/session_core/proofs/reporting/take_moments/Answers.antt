@@ -1,4 +1,4 @@
-use Rattle.std.proofs.Common.{List, length, take, sym, ap, ◌∙◌}
+use Rattle.std.proofs.Common.{List, take, sym, ap, ◌∙◌}
 use Rattle.rtcp_wire.specs.declared.rtcp_fb.RtcpFb.{RtcpFb}
 use Rattle.session_core.specs.Reports.{moments_heard_by, moments_heard}
 use Rattle.session_core.proofs.Asking.{one_more}

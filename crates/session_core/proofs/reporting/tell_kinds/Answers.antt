@@ -1,4 +1,4 @@
-use Rattle.std.proofs.Common.{◌≡◌, ◌+◌, ◌≤◌, ℕ, List, length, sym, ap, ◌∙◌, add-one, arith}
+use Rattle.std.proofs.Common.{◌≡◌, ◌≤◌, ℕ, List, length, sym, ap, ◌∙◌, add-one, arith}
 use Rattle.stream_core.specs.StreamsRecord.{StreamsView}
 use Rattle.stream_core.specs.Tables.{change_place}
 use Rattle.stream_core.specs.TxRecord.{TxRecord}

@@ -1,4 +1,4 @@
-use Rattle.std.proofs.Common.{◌≡◌, ℕ, true, List, [], sym, ap, ◌∙◌}
+use Rattle.std.proofs.Common.{◌≡◌, true, [], sym, ap, ◌∙◌}
 use Rattle.stream_core.specs.Reporting.{due_tx_mids}
 use Rattle.session_core.specs.Reports.{due_senders, some_reports}
 use Rattle.session_core.specs.Rounds.{is_one}

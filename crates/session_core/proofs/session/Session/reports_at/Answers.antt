@@ -1,4 +1,4 @@
-use Rattle.std.proofs.Common.{◌≡◌, None, sym, ap, subst, ◌∙◌}
+use Rattle.std.proofs.Common.{None, sym, ap, subst, ◌∙◌}
 use Rattle.stream_core.specs.Pauses.{sooner}
 use Rattle.stream_core.specs.Reporting.{report_before, tx_report_before}
 use Rattle.session_core.specs.SessionRecord.{streams_in, SessionState, StandsFor}
