@@ -47,3 +47,13 @@ on_ok_given (Err e) not p = absurd cc
 pub on_err_given : {T E : Type 0} (r : Result T E) {P : Type 0} → is_err r ≡ true → OnErr r P → P
 on_err_given (Ok x) is p = absurd cc
 on_err_given (Err e) is p = p
+
+-- what holds anyway
+pub on_err_any : {T E : Type 0} (r : Result T E) {P : Type 0} → P → OnErr r P
+on_err_any (Ok x) p = tt
+on_err_any (Err e) p = p
+
+-- and what follows from what holds of a result that is no error
+pub on_ok_then : {T E : Type 0} (r : Result T E) {P Q : Type 0} → OnOk r P → (P → Q) → OnOk r Q
+on_ok_then (Ok x) p f = f p
+on_ok_then (Err e) p f = tt

@@ -6,6 +6,9 @@ use Rattle.rtcp_wire.specs.declared.rtcp_fb.RtcpFb.{RtcpFb}
 use Rattle.srtp_core.specs.Contexts.{SrtpState}
 use Rattle.stream_core.specs.TxRecord.{TxRecord}
 use Rattle.session_core.specs.Hearing.{feedback_in, acknowledged_by, acknowledged, application_in, last_application, state_heard}
+use Rattle.report_core.specs.declared.moments.ReceiverMoment.{ReceiverMoment}
+use Rattle.stream_core.specs.RxRecord.{RxRecord}
+use Rattle.session_core.specs.Reports.{rx_heard_by, rx_heard, moments_heard_by, moments_heard}
 use Rattle.session_core.specs.SessionRecord.{SessionState}
 
 pub acknowledged_more : (fs : List RtcpFb) (f : RtcpFb) (es : List (ℕ × TxRecord)) → acknowledged (fs ++ f ∷ []) es ≡ acknowledged_by f (acknowledged fs es)
@@ -16,11 +19,20 @@ pub application_more : (fs : List RtcpFb) (f : RtcpFb) (before : Option AppSpeci
 application_more [] f before = refl
 application_more (g ∷ fs) f before = application_more fs f (option_or (application_in g) before)
 
+pub rx_more : (now : ℕ) (fs : List RtcpFb) (f : RtcpFb) (rx : List (ℕ × RxRecord)) → rx_heard now (fs ++ f ∷ []) rx ≡ rx_heard_by now f (rx_heard now fs rx)
+rx_more now [] f rx = refl
+rx_more now (g ∷ fs) f rx = rx_more now fs f (rx_heard_by now g rx)
+
+pub moments_more : (now : ℕ) (fs : List RtcpFb) (f : RtcpFb) (ms : List ReceiverMoment) → moments_heard now (fs ++ f ∷ []) ms ≡ moments_heard_by now f (moments_heard now fs ms)
+moments_more now [] f ms = refl
+moments_more now (g ∷ fs) f ms = moments_more now fs f (moments_heard_by now g ms)
+
 -- the state after a packet opened
-pub heard_state : (s r : SessionState) (plain : List ℕ) (threshold : ℕ) (opening : Option SrtpState) (tx : List (ℕ × TxRecord)) (application : Option AppSpecificFeedback)
+pub heard_state : (s r : SessionState) (now : ℕ) (plain : List ℕ) (threshold : ℕ) (opening : Option SrtpState) (tx : List (ℕ × TxRecord)) (application : Option AppSpecificFeedback) (moments : List ReceiverMoment)
     → s ≡ r → threshold ≡ s.pause_threshold → opening ≡ s.opening → tx ≡ acknowledged (feedback_in plain) s.tx → application ≡ last_application (feedback_in plain) s.application
-    → record s { pause_threshold = threshold; opening = opening; tx = tx; application = application } ≡ state_heard plain r
-heard_state s r plain threshold opening tx application same h o x a =
-    let changed : record s { pause_threshold = threshold; opening = opening; tx = tx; application = application } ≡ state_heard plain s =
-    λ j. record s { pause_threshold = h j; opening = o j; tx = x j; application = a j } in
-    changed ∙ ap {A = SessionState} {B = SessionState} (state_heard plain) same
+    → moments ≡ moments_heard now (feedback_in plain) s.moments
+    → record s { pause_threshold = threshold; opening = opening; tx = tx; application = application; moments = moments } ≡ state_heard now plain r
+heard_state s r now plain threshold opening tx application moments same h o x a m =
+    let changed : record s { pause_threshold = threshold; opening = opening; tx = tx; application = application; moments = moments } ≡ state_heard now plain s =
+    λ j. record s { pause_threshold = h j; opening = o j; tx = x j; application = a j; moments = m j } in
+    changed ∙ ap {A = SessionState} {B = SessionState} (state_heard now plain) same

@@ -6,10 +6,14 @@ pub mod Dues
 pub mod Failing
 pub mod Fitting
 pub mod Heard
+pub mod Nacks
 pub mod Others
 pub mod Passing
 pub mod RepairSteps
+pub mod Reported
+pub mod Spoken
 pub mod Staying
 pub mod StreamsIn
 pub mod Tables
 pub mod Telling
+pub mod TickItems

@@ -19,4 +19,5 @@ pub use datagram::{Datagram, DrainFault, Drained, Event, Opened};
 pub use error::{AppError, RtcError};
 pub use media::{Media, MediaKind};
 pub use report_core::ReportIntervals;
+pub use reporting::tick_items_fit;
 pub use session::Session;

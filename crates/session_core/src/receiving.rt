@@ -186,9 +186,9 @@ pub fn take<W: GapWindow, S: ResendStore<Sent>>(
     requires remembered { ForSome remembered.now (λ n. n < 2 ^ 48) }
     ensures rx { OnOk result ((r : StreamsRecord) (ssrc : ℕ) → StreamsStand W.remembers S.stands_for streams.old r
         → is_none place ≡ (ssrc == 0) → IfSome place (λ i. place_of ssrc streams.old.rx ≡ Some i)
-        → StreamsStand W.remembers S.stands_for streams.new (record r { rx = rx_opened remembered.now arrival.now ssrc number r.rx })) }
+        → StreamsStand W.remembers S.stands_for streams.new (record r { rx = rx_opened remembered.now arrival.entry.now ssrc number r.rx })) }
     ensures probes { OnOk result ((p : RxRecord) (ssrc : ℕ) → StandsFor W.remembers probes.old p → is_none place ≡ (ssrc == 0)
-        → StandsFor W.remembers probes.new (probes_opened remembered.now arrival.now ssrc number p)) }
+        → StandsFor W.remembers probes.new (probes_opened remembered.now arrival.entry.now ssrc number p)) }
     ensures tx { streams.new.tx ≡ streams.old.tx }
     ensures repairs { streams.new.repairs ≡ streams.old.repairs }
     ensures threshold { streams.new.threshold ≡ streams.old.threshold }

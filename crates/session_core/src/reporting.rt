@@ -1,6 +1,6 @@
 //! What a session reports of the streams that it sends (RFC 3550 section 6.4.1), and what it hears of
 //! reports.
-ghost use Rattle.std.specs.Prelude.{◌≡◌, ◌++◌, ◌<◌, ℕ, List, is_some, length, slice_get, Some, IfOk, OnOk, OnErr};
+ghost use Rattle.std.specs.Prelude.{◌≡◌, ◌++◌, ◌<◌, ℕ, List, [], is_some, length, slice_get, Some, IfOk, OnOk, OnErr};
 ghost use Rattle.std.specs.List.{AllByRecursion};
 ghost use Rattle.std.specs.Map.{values_of};
 ghost use Rattle.std.specs.Option.{option_copied, option_map};
@@ -18,6 +18,7 @@ ghost use Rattle.session_core.specs.Reports.{
   sender_after,
   some_reports,
   told_kind,
+  rx_heard_by,
   rx_heard,
   moments_heard_by,
   moments_heard,
@@ -29,7 +30,7 @@ use media_base::{Beginning, Instant};
 use repair_core::GapWindow;
 use report_core::{ReceiverMoments, description, sender_report};
 use resend_core::ResendStore;
-use rtcp_wire::{Rtcp, RtcpFb, SenderInfo};
+use rtcp_wire::{Rtcp, RtcpFb, SenderInfo, items_fit_by_lengths};
 use rtp_base::{Mid, Ssrc};
 use std::alloc::{AllocError, Global};
 use std::collections::VecDeque;
@@ -37,6 +38,17 @@ use stream_core::{PayloadTypes, Sent, Streams, is_among};
 
 /// The most bytes of the name of a source (RFC 3550 section 6.5).
 const MAX_CNAME_LEN: usize = 255;
+
+/// What the reports of senders are made by: the clocks of the payload types, the calendar, and the moment.
+#[derive(Clone, Copy)]
+pub struct ReportTime<'a> {
+    /// The payload types.
+    pub types: &'a PayloadTypes,
+    /// When moment 0 is by the calendar.
+    pub beginning: &'a Beginning,
+    /// The moment of the reports.
+    pub moment: Instant,
+}
 
 /// The media section in which an outgoing stream reports in a tick: its own, where the report of some
 /// stream of that is due.
@@ -63,6 +75,7 @@ fn push_description(
     if cname.is_empty() || cname.len() > MAX_CNAME_LEN {
         return Ok(());
     }
+    items_fit_by_lengths();
     let names = description(alloc, ssrc, cname)?;
     feedback.push_back(Rtcp::SourceDescription(names))?;
     Ok(())
@@ -79,6 +92,7 @@ fn push_sender_report(
     ensures said { OnOk result (feedback.new.items ≡ feedback.old.items ++ sender_report_items info cname.now) }
     ensures fit { (more : List Item) × (feedback.new.items ≡ feedback.old.items ++ more) × AllByRecursion FitsAlone more }
 {
+    items_fit_by_lengths();
     let ssrc = info.ssrc;
     let report = sender_report(alloc, info);
     feedback.push_back(Rtcp::SenderReport(report))?;
@@ -93,26 +107,25 @@ fn report_at<W: GapWindow, S: ResendStore<Sent>>(
     place: usize,
     medias: &[Media],
     mids: &[Mid],
-    types: &PayloadTypes,
-    beginning: &Beginning,
-    now: Instant,
+    time: &ReportTime<'_>,
     feedback: &mut VecDeque<Rtcp>,
 ) -> Result<bool, AllocError>
     requires { place < length streams.old.tx }
     ensures some { IfOk result (λ some. option_map (λ x. is_some (reports_in mids.now medias.now x)) (slice_get (values_of streams.old.tx) place) ≡ Some some) }
     ensures said { OnOk result ((x : TxRecord) → slice_get (values_of streams.old.tx) place ≡ Some x
-        → feedback.new.items ≡ feedback.old.items ++ items_under types.now beginning.now now x (reports_in mids.now medias.now x)) }
-    ensures after { OnOk result (streams.new ≡ record streams.old { tx = change_place (sender_after medias.now now mids.now) streams.old.tx place }) }
+        → feedback.new.items ≡ feedback.old.items ++ items_under time.now.types.now time.now.beginning.now time.now.moment x (reports_in mids.now medias.now x)) }
+    ensures after { OnOk result (streams.new ≡ record streams.old { tx = change_place (sender_after medias.now time.now.moment mids.now) streams.old.tx place }) }
     ensures others { streams.new ≡ record streams.old { tx = streams.new.tx } }
+    ensures cause { OnErr result (mids.now ≡ [] → ⊥) }
     ensures fit { (more : List Item) × (feedback.new.items ≡ feedback.old.items ++ more) × AllByRecursion FitsAlone more }
 {
     let stream = streams.tx(place);
     let Some(media) = reports_in(mids, medias, stream.mid()) else {
         return Ok(false);
     };
-    let info = stream.sender_info(types, now, beginning);
+    let info = stream.sender_info(time.types, time.moment, time.beginning);
     push_sender_report(alloc, info, media.cname(), feedback)?;
-    streams.tx_at(place).reported(now);
+    streams.tx_at(place).reported(time.moment);
     Ok(true)
 }
 
@@ -124,23 +137,20 @@ pub fn report_all<W: GapWindow, S: ResendStore<Sent>>(
     streams: &mut Streams<W, S>,
     medias: &[Media],
     mids: &[Mid],
-    types: &PayloadTypes,
-    beginning: &Beginning,
-    now: Instant,
+    time: &ReportTime<'_>,
     feedback: &mut VecDeque<Rtcp>,
 ) -> Result<bool, AllocError>
     ensures some { IfOk result (λ some. some ≡ some_reports medias.now mids.now streams.old.tx) }
-    ensures said { OnOk result (feedback.new.items ≡ feedback.old.items ++ sender_items_with types.now beginning.now medias.now now mids.now streams.old.tx) }
-    ensures after { OnOk result (streams.new ≡ record streams.old { tx = each (sender_after medias.now now mids.now) streams.old.tx }) }
+    ensures said { OnOk result (feedback.new.items ≡ feedback.old.items ++ sender_items_with time.now.types.now time.now.beginning.now medias.now time.now.moment mids.now streams.old.tx) }
+    ensures after { OnOk result (streams.new ≡ record streams.old { tx = each (sender_after medias.now time.now.moment mids.now) streams.old.tx }) }
     ensures others { streams.new ≡ record streams.old { tx = streams.new.tx } }
+    ensures cause { OnErr result (mids.now ≡ [] → ⊥) }
     ensures fit { (more : List Item) × (feedback.new.items ≡ feedback.old.items ++ more) × AllByRecursion FitsAlone more }
 {
     let mut some = false;
     for place in 0..streams.tx_len() {
-        let said = report_at(
-            alloc, streams, place, medias, mids, types, beginning, now, feedback,
-        )?;
-        some = some || said;
+        let said = report_at(alloc, streams, place, medias, mids, time, feedback)?;
+        some |= said;
     }
     Ok(some)
 }
@@ -158,18 +168,16 @@ fn tell_kind<W: GapWindow, S: ResendStore<Sent>>(
     if stream.is_audio().is_some() {
         return;
     }
-    if let Some(media) = media_of(medias, stream.mid()) {
-        let is_audio = media.kind().is_audio();
-        streams.tx_at(place).tell_kind(is_audio);
-    }
+    let Some(media) = media_of(medias, stream.mid()) else {
+        return;
+    };
+    let is_audio = media.kind().is_audio();
+    streams.tx_at(place).tell_kind(is_audio);
 }
 
 /// Tells each outgoing stream its kind that was not told it and has a media section. The time grows with
 /// the number of streams.
-pub fn tell_kinds<W: GapWindow, S: ResendStore<Sent>>(
-    streams: &mut Streams<W, S>,
-    medias: &[Media],
-)
+pub fn tell_kinds<W: GapWindow, S: ResendStore<Sent>>(streams: &mut Streams<W, S>, medias: &[Media])
     ensures { streams.new ≡ record streams.old { tx = each (told_kind medias.now) streams.old.tx } }
 {
     for place in 0..streams.tx_len() {
@@ -179,11 +187,7 @@ pub fn tell_kinds<W: GapWindow, S: ResendStore<Sent>>(
 
 /// Has the moment of a receiver wait for an answer, where feedback tells one (RFC 3611 section 4.4).
 /// Without memory nothing changes.
-fn take_moment(
-    item: &RtcpFb,
-    now: Instant,
-    moments: &mut ReceiverMoments,
-) -> Result<(), AllocError>
+fn take_moment(item: &RtcpFb, now: Instant, moments: &mut ReceiverMoments) -> Result<(), AllocError>
     ensures ok { OnOk result (moments.new ≡ moments_heard_by now item.now moments.old) }
     ensures err { OnErr result (moments.new ≡ moments.old) }
 {
@@ -207,6 +211,24 @@ pub fn take_moments(
     Ok(())
 }
 
+/// Has an incoming stream know what its sender reported, where feedback tells that.
+fn hear_sender<W: GapWindow, S: ResendStore<Sent>>(
+    item: &RtcpFb,
+    now: Instant,
+    streams: &mut Streams<W, S>,
+)
+    ensures streams { (r : StreamsRecord) → StandsFor W.remembers S.stands_for streams.old r
+        → StandsFor W.remembers S.stands_for streams.new (record r { rx = rx_heard_by now item.now r.rx }) }
+    ensures tx { streams.new.tx ≡ streams.old.tx }
+    ensures repairs { streams.new.repairs ≡ streams.old.repairs }
+    ensures threshold { streams.new.threshold ≡ streams.old.threshold }
+    ensures originals { streams.new.originals ≡ streams.old.originals }
+{
+    if let RtcpFb::SenderInfo(info) = item {
+        streams.handle_sender_info(info, now);
+    }
+}
+
 /// Has incoming streams know what their senders reported (RFC 3550 section 6.4.1).
 pub fn hear_senders<W: GapWindow, S: ResendStore<Sent>>(
     feedback: &[RtcpFb],
@@ -221,13 +243,13 @@ pub fn hear_senders<W: GapWindow, S: ResendStore<Sent>>(
     ensures originals { streams.new.originals ≡ streams.old.originals }
 {
     for item in feedback {
-        if let RtcpFb::SenderInfo(info) = item {
-            streams.handle_sender_info(info, now);
-        }
+        hear_sender(item, now, streams);
     }
 }
 
 /// Each item that a tick queues fits a compound of its own.
 pub fn tick_items_fit()
     ensures { TickItemsFit }
-{}
+{
+    items_fit_by_lengths();
+}

@@ -123,9 +123,8 @@ pub fn restored_arrival(types: &PayloadTypes, now: Instant, header: &RtpHeader) 
     ensures { (original low : ℕ) → result ≡ arrival_of types.now now (restored_header types.now original low header.now) }
 {
     let mut restored = *header;
-    if let Some(pt) = types.primary(header.payload_type) {
-        restored.payload_type = pt;
-    }
+    let repaired = types.primary(header.payload_type);
+    restored.payload_type = repaired.unwrap_or(header.payload_type);
     arrival(types, now, &restored)
 }
 

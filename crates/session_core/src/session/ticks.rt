@@ -1,7 +1,7 @@
 //! The ticks of a session, which of them are rounds, and when it wants one.
-ghost use Rattle.std.specs.Prelude.{◌≡◌, ◌↔◌, ◌||◌, true, false, is_err, IsTrue, IfErr, OnOk, OnErr, IsErrOf};
-ghost use Rattle.session_core.specs.Reports.{sender_ssrc, after_answers, after_sender_reports, reports_at};
-ghost use Rattle.session_core.specs.Rounds.{is_round, is_spoken, after_incoming, after_outgoing, after_timeout, round_at, send_at};
+ghost use Rattle.std.specs.Prelude.{◌≡◌, ◌↔◌, ◌||◌, true, false, if◌then◌else◌, is_err, IsTrue, IfErr, OnOk, OnErr, IsErrOf};
+ghost use Rattle.session_core.specs.Reports.{sender_ssrc, due_senders, after_answers, after_sender_reports, reports_at};
+ghost use Rattle.session_core.specs.Rounds.{is_round, is_one, is_spoken, after_incoming, after_outgoing, after_timeout, round_at, send_at};
 ghost use Rattle.session_core.specs.Draining.{stopped_from};
 ghost use Rattle.session_core.specs.SessionRecord.{SessionRecord, StandsFor};
 ghost use Rattle.session_core.specs.Calls.{wake_of};
@@ -9,7 +9,7 @@ ghost use Rattle.session_core.specs.declared.error.RtcError.TheVariants.{Stopped
 
 use super::Session;
 use crate::error::RtcError;
-use crate::reporting::{report_all, tell_kinds};
+use crate::reporting::{ReportTime, report_all, tell_kinds};
 use media_base::{Duration, Instant, InstantExt, already_happened};
 use repair_core::GapWindow;
 use resend_core::ResendStore;
@@ -21,6 +21,13 @@ use stream_core::{Sent, Tick, sooner};
 
 /// The least time between two rounds that ask for what is missing, in nanoseconds.
 const NACK_MIN_INTERVAL: u64 = 33_000_000;
+
+/// The moment of the last round after a tick, of which it is known whether it is one.
+fn last_round(is_round: bool, now: Instant, before: Instant) -> Instant
+    ensures { result ≡ (if is_round then now else before) }
+{
+    if is_round { now } else { before }
+}
 
 impl<C: SrtpCipher, W: GapWindow, S: ResendStore<Sent>> Session<C, W, S> {
     /// The SSRC of the session's feedback: that of its first outgoing stream, else its own.
@@ -107,9 +114,7 @@ impl<C: SrtpCipher, W: GapWindow, S: ResendStore<Sent>> Session<C, W, S> {
         };
         items_fit_by_lengths();
         self.streams.create_feedback(&tick, &mut self.feedback)?;
-        if is_round {
-            self.last_round = now;
-        }
+        self.last_round = last_round(is_round, now, self.last_round);
         Ok(())
     }
 
@@ -122,34 +127,38 @@ impl<C: SrtpCipher, W: GapWindow, S: ResendStore<Sent>> Session<C, W, S> {
     {
         let sender = self.sender_ssrc();
         items_fit_by_lengths();
-        if let Some(report) = self.moments.answer(self.alloc, sender, now)? {
-            self.feedback.push_back(Rtcp::ExtendedReport(report))?;
-        }
+        let Some(report) = self.moments.answer(self.alloc, sender, now)? else {
+            return Ok(());
+        };
+        self.feedback.push_back(Rtcp::ExtendedReport(report))?;
         Ok(())
     }
 
     /// What outgoing streams report in a tick, and the answers behind that.
     fn report(&mut self, now: Instant) -> Result<(), AllocError>
         ensures ok { OnOk result (self.new ≡ record self.old { state = after_sender_reports now self.old.state }) }
-        ensures cause { OnErr result ((r : SessionRecord) → StandsFor W.remembers S.stands_for self.old r → is_spoken now r ≡ true) }
+        ensures cause { OnErr result (is_one (due_senders now self.old.state) ≡ true) }
         ensures others { self.new ≡ record self.old {
           state = record self.old.state { feedback = self.new.state.feedback; tx = self.new.state.tx; moments = self.new.state.moments };
         } }
     {
         let mids = self.streams.due_sender_mids(&self.intervals, now)?;
         self.next_stream = 0;
+        let time = ReportTime {
+            types: &self.types,
+            beginning: &self.transport.beginning,
+            moment: now,
+        };
         let some = report_all(
             self.alloc,
             &mut self.streams,
             self.medias.as_slice(),
             mids.as_slice(),
-            &self.types,
-            &self.transport.beginning,
-            now,
+            &time,
             &mut self.feedback,
         )?;
         if some {
-            self.answer(now)?;
+            return self.answer(now);
         }
         Ok(())
     }

@@ -5,8 +5,10 @@ use Rattle.stream_core.specs.RxRepairs.{after_restored}
 use Rattle.stream_core.specs.Seen.{SeenStandsFor, seen_of, saw}
 use Rattle.stream_core.specs.StreamsRecord.{restored_on, restored_number_on}
 use Rattle.stream_core.specs.Tables.{place_of, change_at, Along}
-use Rattle.session_core.specs.Receiving.{packet_restored}
-use Rattle.session_core.specs.SessionRecord.{streams_in, SessionView, StandsFor}
+use Rattle.stream_core.specs.declared.reports.Arrival.{Arrival}
+use Rattle.session_core.specs.Receiving.{arrival_of, packet_restored}
+use Rattle.session_core.specs.Repairs.{restored_header}
+use Rattle.session_core.specs.SessionRecord.{streams_in, SessionState, SessionView, StandsFor}
 use Rattle.session_core.proofs.Others.{restored_state}
 use Rattle.session_core.proofs.StreamsIn.{streams_stand}
 use Rattle.session_core.proofs.session.Session.restore.Goals as goal
@@ -25,13 +27,16 @@ returns-clause-ok g c = λ r h place.
     c.restored_number_at-number.ensures.number (streams_in r) original stands here ∙ ap (λ o. restored_number_on o r.rx original low) greatest in
     let fresh : c.in_ok-fresh.fresh ≡ restored_on (seen_of original r.seen) r.rx original low =
     c.in_ok-fresh.ensures.restored (streams_in r) original stands here ∙ ap (λ o. restored_on o r.rx original low) greatest in
+    let came : c.restored_arrival-came.result ≡ arrival_of r.state.types c.args.now (restored_header r.state.types original low c.args.header.now) =
+    c.restored_arrival-came.ensures original low ∙ ap (λ (s : SessionState). arrival_of s.types c.args.now (restored_header s.types original low c.args.header.now)) mine.state in
     let after = c.in_ok-fresh.ensures.after (streams_in r) original stands here in
     record {
       state = restored_state _ r.state c.restore_at.new.self.threshold c.restore_at.new.self.tx c.put_restored.new.packet
           (λ s. packet_restored s.types c.args.now c.args.header.now original c.args.payload (restored_on (seen_of original r.seen) r.rx original low) s.packet) mine.state
           c.in_ok-fresh.ensures.threshold c.in_ok-fresh.ensures.tx
           (c.put_restored.ensures ∙ ap (λ o. packet_restored c.self.inside.types c.args.now c.args.header.now original c.args.payload o c.self.inside.packet) fresh);
-      rx = subst (λ o. Along (StreamStandsFor R) c.restore_at.new.self.rx (change_at original (after_restored o low) r.rx)) greatest after.rx;
+      rx = subst (λ (a : Arrival). Along (StreamStandsFor R) c.restore_at.new.self.rx (change_at original (after_restored (seen_of original r.seen) a low) r.rx)) came
+          (subst (λ o. Along (StreamStandsFor R) c.restore_at.new.self.rx (change_at original (after_restored o c.restored_arrival-came.result low) r.rx)) greatest after.rx);
       originals = after.originals;
       probes = mine.probes;
       seen = subst (λ o. SeenStandsFor c.put.new.self (option_map_or (λ n. saw original n r.seen) o r.seen)) number (c.in_ok-put.ensures.ok r.seen mine.seen);

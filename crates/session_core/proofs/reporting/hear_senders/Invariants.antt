@@ -1,0 +1,14 @@
+use Rattle.std.proofs.Common.{◌≡◌, take}
+use Rattle.stream_core.specs.StreamsRecord.{StreamsRecord, StandsFor}
+use Rattle.session_core.specs.Reports.{rx_heard}
+use Rattle.session_core.proofs.reporting.hear_senders.Given as goal
+
+abbrev pub invariant-loop-item : goal.invariant-loop-item
+invariant-loop-item g l = record {
+  streams : (r : StreamsRecord) → StandsFor g.W.GapWindow.remembers g.S.ResendStore.stands_for l.fn.streams r
+      → StandsFor g.W.GapWindow.remembers g.S.ResendStore.stands_for l.streams (record r { rx = rx_heard l.now (take l.item-index l.fn.feedback) r.rx });
+  tx : l.streams.tx ≡ l.fn.streams.tx;
+  repairs : l.streams.repairs ≡ l.fn.streams.repairs;
+  threshold : l.streams.threshold ≡ l.fn.streams.threshold;
+  originals : l.streams.originals ≡ l.fn.streams.originals;
+}
