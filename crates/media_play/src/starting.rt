@@ -27,7 +27,9 @@ use media_base::Bytes;
 use media_model::{Cache, FirstNumber, Media, MediaKind, Setup, Side, Stream};
 use queue_store::QueueStore;
 use rtp_wire::{Frequency, Mid, MidRid, SeqNo, Ssrc};
-use session_core::{ReportIntervals, Media as Section, MediaKind as SectionKind, Mtu, Session, SessionConfig};
+use session_core::{
+    Media as Section, MediaKind as SectionKind, Mtu, ReportIntervals, Session, SessionConfig,
+};
 use srtp_core::{KeyingMaterial, SrtpCipher};
 use std::alloc::{AllocError, Global};
 use stream_core::{PayloadTypes, Sent, TypeRow};

@@ -7,7 +7,10 @@ use media_base::{Beginning, Bytes, Duration, Instant};
 use queue_store::QueueStore;
 use rtp_base::{Frequency, Mid, MidRid, NackEntry, Pt, SeqNo, Ssrc};
 use rtp_wire::ExtensionMap;
-use session_core::{DATAGRAM_MTU, DATAGRAM_MTU_WARN, Datagram, Media, MediaKind, Mtu, ReportIntervals, Session, SessionConfig};
+use session_core::{
+    DATAGRAM_MTU, DATAGRAM_MTU_WARN, Datagram, Media, MediaKind, Mtu, ReportIntervals, Session,
+    SessionConfig,
+};
 use srtp_core::{KeyingMaterial, SrtpProfile, ToyCipher};
 use std::alloc::{AllocError, Global};
 use stream_core::{Payload, PayloadTypes, RtpWrite, Sent, Streams, TypeRow};
