@@ -1,8 +1,6 @@
 use crate::arriving::{Wanted, first_packet, refuses, tells};
 use crate::carrying::{EXTENSIONS, Ids, carries, map_of};
-use crate::ends::{
-    End, FIRST_REPORT, config, expect_stream, give_keys, moment, prepare_sender,
-};
+use crate::ends::{End, FIRST_REPORT, config, expect_stream, give_keys, moment, prepare_sender};
 use crate::feedback::{Feedback, holds};
 use crate::leaving::{drains, is_silent, sends, write};
 use crate::packets::Incoming::{Changed, Cut, Long, Padded, SealOf};
