@@ -327,12 +327,19 @@ fn failing_sink(rt: HostRuntime) -> Result<(), Fail> {
 const SHORT_KEY: &str =
     "key 00000000000000000000000000000000000000000000000000000000000000000000000000000000000000000000000000000000000000\n";
 
-// A script of these setup lines, without steps.
-fn setup_script(alloc: Global, lines: &str) -> Result<Vec<u8>, Fail> {
+// A script of these setup lines and steps.
+fn script_of(alloc: Global, lines: &str, steps: &str) -> Result<Vec<u8>, Fail> {
     let mut text = "str0m-media 1\n".to_string(alloc)?;
     text.push_str(lines)?;
-    text.push_str("begin\nend\n")?;
+    text.push_str("begin\n")?;
+    text.push_str(steps)?;
+    text.push_str("end\n")?;
     Ok(text.into_bytes())
+}
+
+// A script of these setup lines, without steps.
+fn setup_script(alloc: Global, lines: &str) -> Result<Vec<u8>, Fail> {
+    script_of(alloc, lines, "")
 }
 
 // Setup lines, and the first rule that they break: each rule alone.
@@ -545,6 +552,27 @@ fn intervals_of_reports(rt: HostRuntime) -> Result<(), Fail> {
     let (report, sink) = ran_on(alloc, twice)?;
     assert_eq!(rt; report.status, 7);
     assert_eq!(rt; sink.bytes(), b"fault syntax 3\n".as_slice());
+    Ok(())
+}
+
+// A write, and the reports of both sides on it: the sender's report and description, the receiver's
+// report and moment, and the sender's next report with its answer. The toy cipher seals them under a key
+// of zeros; moment 0 is 1,700,000,000 s after 1970.
+const REPORT_LINES: &str =
+    "key zero\ntype 96 vp8 90000 rtx=97\nmedia v video cam\nstream A v 42 43 -\n";
+
+const REPORT_STEPS: &str =
+    "write A 1 42 1 96 0 0 0 0102\ntick A 1\ndeliver B 1ms 1\ntick A 1000ms\ndeliver B 1001ms 2\ntick B 1011ms\ndeliver A 1012ms 1\ntick A 2000ms\ndeliver B 2003ms 3\n";
+
+const REPORT_TEXT: &str =
+    "wrote A 42 1\nticked A 1\nsealed A rtp 42 1 80600001000000000000002a010280600001002a00020000002b01020001\ngot B rtp 30\nopened B rtp 42 1\nyielded B 42 1 96 0 0 0102\nticked A 1000000000\nsealed A rtcp 42 0 80c800060000002ae8fe6f81002a000600015f8f000000030000000281e000050000002a010363626d00000001020005002b5f898103636085fe6f8280000000\ngot B rtcp 64\nopened B rtcp 42 0\nticked B 1011000000\nsealed B rtcp 2 0 81c90007000000020000002a0002000600000001000000026f8100000002028980cf00040000000104000002e8fc6f8702d0e56069376d09821de561800000026b81002980000000\ngot A rtcp 72\nopened A rtcp 2 0\nticked A 2000000000\nsealed A rtcp 42 1 80c800060000002ae8fe6f82002a00060002bf1e000000030000000281e000050000002b010363626d00000080e500030000002b05000007000000026fab02d60000fcecee4c02d0002843de8403636385fe6f8380000001\ngot B rtcp 88\nopened B rtcp 42 1\nend genuine=yes repairs=yes\n";
+
+#[test]
+fn reports(rt: HostRuntime) -> Result<(), Fail> {
+    let bytes = script_of(rt.alloc(), REPORT_LINES, REPORT_STEPS)?;
+    let (report, sink) = ran_on(rt.alloc(), bytes)?;
+    assert_eq!(rt; report.end, End::Done);
+    assert_eq!(rt; sink.bytes(), REPORT_TEXT.as_bytes());
     Ok(())
 }
 

@@ -18,6 +18,13 @@ pub fn moment() -> Instant {
     Instant::from_nanos(1_500_000_000)
 }
 
+/// When the first report is due of a stream that receives, or of one that sends whose kind was told:
+/// 10,000,000 s after moment 0, in nanoseconds.
+pub const FIRST_REPORT: u64 = 10_000_000_000_000_000;
+
+/// The same of a stream that sends before its first tick: 100 years of 365 days after moment 0.
+pub const BEFORE_TOLD: u64 = 3_153_600_000_000_000_000;
+
 /// The media section of the stream.
 pub fn mid() -> Mid {
     match Mid::from_slice(b"v") {
@@ -35,7 +42,8 @@ pub fn rid() -> Rid {
 }
 
 /// What both ends are made with: they know type 96. The target for their feedback is cut to 900 to 1,500
-/// bytes, the first index of SRTCP datagrams to at most 2^31. Their own SSRC is 2.
+/// bytes, the first index of SRTCP datagrams to at most 2^31. Their own SSRC is 2. Their reports are so far
+/// apart that none is due.
 pub fn config(
     alloc: Global,
     exts: ExtensionMap,
@@ -65,8 +73,8 @@ pub fn config(
         local_ssrc: Ssrc::from(2),
         pause_threshold: Duration::from_millis(1_500),
         intervals: ReportIntervals {
-            audio: Duration::from_secs(5),
-            video: Duration::from_secs(1),
+            audio: Duration::from_secs(10_000_000),
+            video: Duration::from_secs(10_000_000),
         },
         srtcp_index: u64::from(srtcp_index).min(2_147_483_648),
         exts,

@@ -1,4 +1,4 @@
-use crate::ends::{End, ended_with, give_keys, moment};
+use crate::ends::{BEFORE_TOLD, End, ended_with, give_keys, moment};
 use crate::leaving::{drains, sends, write};
 use crate::packets::{SEALED, seal_feedback};
 use media_base::Bytes;
@@ -130,7 +130,7 @@ fn is_cleared(alloc: Global, a: &mut End) -> Result<bool, Fail> {
     a.clear_feedback();
     let silent = a.poll_datagram(moment())?.is_none();
     queue_one(alloc, a)?;
-    let then = drains(a, &FEEDBACK)?;
+    let then = drains(a, &FEEDBACK, BEFORE_TOLD)?;
     Ok(silent && then)
 }
 

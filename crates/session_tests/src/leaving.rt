@@ -45,12 +45,12 @@ pub fn is_silent(end: &mut End, now: Instant) -> Result<bool, Fail> {
     Ok(sent.is_none())
 }
 
-/// Whether a drain gives the datagram with these bytes alone, and no wake.
-pub fn drains(end: &mut End, bytes: &[u8]) -> Result<bool, Fail> {
+/// Whether a drain gives the datagram with these bytes alone, and this wake in nanoseconds.
+pub fn drains(end: &mut End, bytes: &[u8], wake: u64) -> Result<bool, Fail> {
     let drained = end.drain(moment())?;
     let [sent] = drained.datagrams.as_slice() else {
         return Ok(false);
     };
-    let alone = drained.events.is_empty() && drained.wake.is_none();
+    let alone = drained.events.is_empty() && drained.wake == Some(Instant::from_nanos(wake));
     Ok(sent.bytes.as_slice() == bytes && alone)
 }

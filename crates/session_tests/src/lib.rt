@@ -17,6 +17,8 @@ mod packets;
 #[cfg(test)]
 mod repairs;
 #[cfg(test)]
+mod reports;
+#[cfg(test)]
 mod restored;
 #[cfg(test)]
 mod restoring;

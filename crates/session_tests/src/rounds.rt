@@ -1,5 +1,5 @@
 use crate::carrying::{Ids, map_of};
-use crate::ends::{End, config, give_keys};
+use crate::ends::{End, FIRST_REPORT, config, give_keys};
 use crate::steps::Step::{
     Comes, Declare, Drains, Ends, Expect, Hears, Queues, Stale, Stream, Tells, Tick, Wakes, Words,
     Writes,
@@ -423,9 +423,9 @@ const PAUSES: [Row; 11] = [
             Tick(366_000_000, ASKS_11),
             Wakes(Some(399_000_000)),
             Tick(471_000_000, ASKS_11),
-            Wakes(None),
+            Wakes(Some(FIRST_REPORT)),
             Tick(576_000_000, &[]),
-            Wakes(None),
+            Wakes(Some(FIRST_REPORT)),
         ],
     ),
     (
@@ -547,7 +547,7 @@ const PAUSES: [Row; 11] = [
             Expect(42, false),
             Expect(43, true),
             Declare(7),
-            Wakes(None),
+            Wakes(Some(FIRST_REPORT)),
             Comes(1_000_000, 43, 20),
             Wakes(Some(1_501_000_000)),
             Comes(1_000_000, 42, 10),
@@ -564,7 +564,7 @@ const PAUSES: [Row; 11] = [
             Tick(41_000_000, &[]),
             Wakes(Some(73_000_000)),
             Tick(1_503_000_000, &[]),
-            Wakes(None),
+            Wakes(Some(FIRST_REPORT)),
         ],
     ),
     (
@@ -609,7 +609,7 @@ const PAUSES: [Row; 11] = [
             Stale(1_000_000, 42, 10),
             Tick(33_000_000, &[]),
             Tells(&[]),
-            Wakes(None),
+            Wakes(Some(FIRST_REPORT)),
         ],
     ),
     (

@@ -1,6 +1,6 @@
 use crate::arriving::{Wanted, first_packet, refuses, tells};
 use crate::carrying::{EXTENSIONS, Ids, carries, map_of};
-use crate::ends::{End, config, expect_stream, give_keys, moment, prepare_sender};
+use crate::ends::{End, FIRST_REPORT, config, expect_stream, give_keys, moment, prepare_sender};
 use crate::feedback::{Feedback, holds};
 use crate::leaving::{drains, is_silent, sends, write};
 use crate::packets::Incoming::{Changed, Cut, Long, Padded, SealOf};
@@ -88,7 +88,7 @@ fn seals(alloc: Global, a: &mut End, bytes: &[u8]) -> Result<bool, Fail> {
 fn gives_all(alloc: Global, a: &mut End) -> Result<bool, Fail> {
     give_keys(alloc, a, true)?;
     write_first(alloc, a)?;
-    drains(a, &SEALED)
+    drains(a, &SEALED, FIRST_REPORT)
 }
 
 fn waits_to_send(alloc: Global, a: &mut End) -> Result<bool, Fail> {

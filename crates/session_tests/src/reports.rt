@@ -1,0 +1,109 @@
+//! Reports (RFC 3550 section 6.4, RFC 3611 sections 4.4 and 4.5): when they leave, and what they tell.
+mod counted;
+mod due;
+mod many;
+mod names;
+mod steps;
+mod told;
+
+use crate::carrying::{Ids, map_of};
+use crate::ends::{End, config, give_keys};
+use crate::reports::counted::COUNTED;
+use crate::reports::due::DUE;
+use crate::reports::many::{Receivers, answers_all, reports_of_64};
+use crate::reports::names::names_itself;
+use crate::reports::steps::{Step, goes};
+use crate::reports::told::TOLD;
+use media_base::Duration;
+use session_core::ReportIntervals;
+use std::alloc::Global;
+use std::test::Fail;
+
+/// What is asked of an end.
+#[derive(Clone, Copy)]
+enum Asked {
+    /// It goes through these steps.
+    Steps(&'static [Step]),
+    /// The reports of 64 streams leave in order.
+    Many,
+    /// It answers the moments of so many receivers.
+    Moments(Receivers),
+    /// It names its source, by so many bytes.
+    Named(usize),
+}
+
+fn goes_through(alloc: Global, end: &mut End, steps: &[Step]) -> Result<bool, Fail> {
+    for step in steps {
+        if !goes(alloc, end, *step)? {
+            return Ok(false);
+        }
+    }
+    Ok(true)
+}
+
+fn holds(alloc: Global, end: &mut End, asked: Asked) -> Result<bool, Fail> {
+    give_keys(alloc, end, false)?;
+    match asked {
+        Asked::Steps(steps) => goes_through(alloc, end, steps),
+        Asked::Many => reports_of_64(alloc, end),
+        Asked::Moments(receivers) => answers_all(alloc, end, receivers),
+        Asked::Named(len) => names_itself(alloc, end, len),
+    }
+}
+
+// Makes an end that reports every 5 s and every 1 s, and asks it: the one function that owns a session,
+// with one exit.
+fn play(alloc: Global, asked: Asked) -> Result<bool, Fail> {
+    let mut made = config(alloc, map_of(Ids::Nothing), 1150, 0)?;
+    made.intervals = ReportIntervals {
+        audio: Duration::from_secs(5),
+        video: Duration::from_secs(1),
+    };
+    let mut end = End::new(alloc, made);
+    holds(alloc, &mut end, asked)
+}
+
+#[test]
+fn reports_hold(rt: HostRuntime) -> Result<(), Fail> {
+    for (name, steps) in TOLD.iter().chain(COUNTED.iter()).chain(DUE.iter()) {
+        let held = play(rt.alloc(), Asked::Steps(steps))?;
+        assert!(rt; held, "{name}");
+    }
+    Ok(())
+}
+
+// Of how many receivers moments came, and how many the reports answer, one after the other: each at most
+// 50, of the last 300 in all.
+const MOMENTS: [Receivers; 6] = [
+    Receivers(0, 1, &[0]),
+    Receivers(49, 1, &[49, 0]),
+    Receivers(50, 1, &[50, 0]),
+    Receivers(51, 1, &[50, 1, 0]),
+    Receivers(300, 1, &[50, 50, 50, 50, 50, 50, 0]),
+    Receivers(301, 2, &[50, 50, 50, 50, 50, 50, 0]),
+];
+
+#[test]
+fn moments_are_answered(rt: HostRuntime) -> Result<(), Fail> {
+    for receivers in MOMENTS {
+        let held = play(rt.alloc(), Asked::Moments(receivers))?;
+        assert!(rt; held, "{}", receivers.0);
+    }
+    Ok(())
+}
+
+#[test]
+fn sources_are_named(rt: HostRuntime) -> Result<(), Fail> {
+    for len in [0, 1, 2, 255, 256] {
+        let held = play(rt.alloc(), Asked::Named(len))?;
+        assert!(rt; held, "{len}");
+    }
+    Ok(())
+}
+
+#[test]
+fn many_streams_report(rt: HostRuntime) -> Result<(), Fail> {
+    let held = play(rt.alloc(), Asked::Many)?;
+    assert!(rt; held);
+    Ok(())
+}
