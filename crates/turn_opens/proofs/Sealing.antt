@@ -23,12 +23,6 @@ use Rattle.session_turns.specs.Reading.{plain_of, read_of, len_in, plain_in, no_
 two_bytes : (l : List ℕ) → ((i : ℕ) → slice_index l i < 256) → from_be_bytes w16 l < 65536
 two_bytes l h = omega (arith, h 0, h 1)
 
-cut_bytes : (n : ℕ) (l : List ℕ) → ((i : ℕ) → get_or l i 0 < 256) → (i : ℕ) → get_or (take n l) i 0 < 256
-cut_bytes zero l h i = omega arith
-cut_bytes (suc n) [] h i = omega arith
-cut_bytes (suc n) (x ∷ l) h zero = h zero
-cut_bytes (suc n) (x ∷ l) h (suc i) = cut_bytes n l (λ j. h (suc j)) i
-
 left_bytes : (n : ℕ) (l : List ℕ) → ((i : ℕ) → get_or l i 0 < 256) → (i : ℕ) → get_or (drop n l) i 0 < 256
 left_bytes zero l h i = h i
 left_bytes (suc n) [] h i = omega arith
@@ -38,7 +32,7 @@ pub low_fits : (exts : ExtensionMap) (bytes : List ℕ) (h : RtpHeader) → ((i 
 unfolding header_of
 low_fits exts bytes h are e =
     let is : fields_of exts bytes ≡ h = (cond_some (has_header bytes) (fields_of exts bytes) h e).1 in
-    subst (λ (g : RtpHeader). g.sequence_number < 65536) is (two_bytes (take 2 (drop 2 bytes)) (cut_bytes 2 (drop 2 bytes) (left_bytes 2 bytes are)))
+    subst (λ (g : RtpHeader). g.sequence_number < 65536) is (two_bytes (drop 2 bytes) (left_bytes 2 bytes are))
 
 -- a seal begins with the header
 pub record BeginsWith (front bytes : List ℕ) : Type 0 where
