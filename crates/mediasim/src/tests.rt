@@ -1,10 +1,12 @@
 // Whole runs, from the bytes of a script to the bytes of its text.
+mod feedback;
+mod foreign;
+mod setups;
+
 use crate::ends::{End, Report};
 use crate::media_main::media_main;
 use media_base::{MemSink, MemSource};
-use media_laws::{Counter, StepFault};
-use media_model::Side;
-use setup_rules::SetupFault;
+use media_laws::StepFault;
 use std::alloc::Global;
 use std::fmt::Write;
 use std::test::Fail;
@@ -33,11 +35,6 @@ fn script_with(alloc: Global, lines: &str, steps: &str) -> Result<Vec<u8>, Fail>
     text.push_str("end\n")?;
     Ok(text.into_bytes())
 }
-
-// The feedback of an application in a sealed datagram, of index 0: the toy cipher's keystream and tag
-// under a key of zeros.
-const SEALED_FEEDBACK: &str =
-    "8fce0003000000010000002a010303028ecc030700010007800000000000002b80000000";
 
 // A script of these steps.
 fn script(alloc: Global, steps: &str) -> Result<Vec<u8>, Fail> {
@@ -323,10 +320,6 @@ fn failing_sink(rt: HostRuntime) -> Result<(), Fail> {
     Ok(())
 }
 
-// A key of 55 bytes, where the profile takes 56.
-const SHORT_KEY: &str =
-    "key 00000000000000000000000000000000000000000000000000000000000000000000000000000000000000000000000000000000000000\n";
-
 // A script of these setup lines and steps.
 fn script_of(alloc: Global, lines: &str, steps: &str) -> Result<Vec<u8>, Fail> {
     let mut text = "str0m-media 1\n".to_string(alloc)?;
@@ -335,224 +328,6 @@ fn script_of(alloc: Global, lines: &str, steps: &str) -> Result<Vec<u8>, Fail> {
     text.push_str(steps)?;
     text.push_str("end\n")?;
     Ok(text.into_bytes())
-}
-
-// A script of these setup lines, without steps.
-fn setup_script(alloc: Global, lines: &str) -> Result<Vec<u8>, Fail> {
-    script_of(alloc, lines, "")
-}
-
-// Setup lines, and the first rule that they break: each rule alone.
-const SETUP_FAULTS: [(&str, &str); 38] = [
-    (SHORT_KEY, "KeyLength"),
-    ("key 00\nmtu 899 1280\n", "KeyLength"),
-    ("key zero\nmtu 899 1280\nunix 2075000001\n", "Mtu"),
-    ("key zero\nmtu 1281 1280\n", "Mtu"),
-    ("key zero\nmtu 900 1501\n", "Mtu"),
-    ("key zero\nmtu 1500 1500\nlocal B 0\n", "SsrcZero"),
-    ("key zero\nmtu 900 900\nlocal B 1\n", "SsrcTwice"),
-    (
-        "key zero\nlocal A 42\nmedia v video cam\nstream A v 42 - -\n",
-        "SsrcTwice",
-    ),
-    ("key 00\nunix 2075000001\next 15 mid\n", "KeyLength"),
-    ("key zero\nunix 2075000001\n", "Times"),
-    (
-        "key zero\nunix 2075000001\next 15 mid\ntype 128 vp8 90000\n",
-        "Times",
-    ),
-    ("key zero\nunix 2075000000\next 0 mid\n", "ExtId"),
-    ("key zero\npause 10000000001\next 0 mid\n", "Times"),
-    ("key zero\nmtu 899 1280\npause 18446744073709\n", "Mtu"),
-    ("key zero\npause 10000000000\next 0 mid\n", "ExtId"),
-    ("key zero\nreports 10000000001 1000\next 0 mid\n", "Times"),
-    ("key zero\nreports 5000 10000000001\next 0 mid\n", "Times"),
-    (
-        "key zero\nmtu 899 1280\nreports 18446744073709 1000\n",
-        "Mtu",
-    ),
-    (
-        "key zero\nreports 10000000000 10000000000\next 0 mid\n",
-        "ExtId",
-    ),
-    ("key zero\next 14 rid\next 15 mid\n", "ExtId"),
-    ("key zero\next 3 mid\next 1 rid\next 3 twcc\n", "ExtId"),
-    (
-        "key zero\next 3 mid\next 4 mid\ntype 128 vp8 90000\n",
-        "ExtId",
-    ),
-    (
-        "key zero\ntype 96 vp8 90000\ntype 96 vp9 90000\n",
-        "TypeTwice",
-    ),
-    ("key zero\ntype 128 vp8 90000\n", "TypeTwice"),
-    (
-        "key zero\nmedia v video cam\nstream A v 0 - -\n",
-        "SsrcZero",
-    ),
-    (
-        "key zero\nmedia v video cam\nstream A v 42 - -\nstream B v 42 - -\n",
-        "SsrcTwice",
-    ),
-    (
-        "key zero\nmedia v video cam\nstream A v 2 - -\n",
-        "SsrcTwice",
-    ),
-    (
-        "key zero\nmedia v video cam\nmedia v audio mic\n",
-        "RidTwice",
-    ),
-    (
-        "key zero\nmedia v video cam\nstream A v 42 - h\nstream A v 43 - -\n",
-        "RidTwice",
-    ),
-    (
-        "key zero\nmedia v video cam\nstream A v 42 - -\ncache 42 0 10000000001 15\next 0 mid\n",
-        "Times",
-    ),
-    ("key zero\ntype 96 vp8 90000 rtx=96\n", "TypeTwice"),
-    (
-        "key zero\ntype 96 vp8 90000 rtx=97\ntype 97 vp9 90000\n",
-        "TypeTwice",
-    ),
-    ("key zero\ntype 96 vp8 90000 rtx=128\n", "TypeTwice"),
-    (
-        "key zero\nmedia v video cam\nstream A v 42 0 -\ncache 42 0 1 1\n",
-        "SsrcZero",
-    ),
-    (
-        "key zero\nmedia v video cam\nstream A v 42 43 a\nstream B v 43 - b\n",
-        "SsrcTwice",
-    ),
-    (
-        "key zero\nmedia v video cam\nstream A v 42 - -\nstream A v 43 - -\ncache 43 0 1 1\n",
-        "RidTwice",
-    ),
-    (
-        "key zero\nmedia v video cam\nstream A v 42 43 -\ncache 42 0 10000000000 none\n",
-        "CacheSize",
-    ),
-    (
-        "key zero\nmedia v video cam\nstream A v 42 - -\ncache 42 32001 1 1\n",
-        "CacheSize",
-    ),
-];
-
-// Setup lines of streams and types with repairs that break no rule.
-const REPAIR_SETUPS: [&str; 4] = [
-    "key zero\nmedia v video cam\nstream A v 42 43 -\n",
-    "key zero\nmedia v video cam\nstream A v 42 43 -\nstart 42 281474976710656\ncache 42 32000 1 1\n",
-    "key zero\ntype 96 vp8 90000 rtx=127\n",
-    "key zero\ntype 96 vp8 90000 rtx=97\nmedia v video cam\nstream A v 42 - -\nstart 42 5\ncache 42 2000 3000 none\n",
-];
-
-#[test]
-fn setups_with_repairs(rt: HostRuntime) -> Result<(), Fail> {
-    let alloc = rt.alloc();
-    for lines in REPAIR_SETUPS {
-        let (report, sink) = ran_on(alloc, setup_script(alloc, lines)?)?;
-        assert_eq!(rt; report.status, 0, "at {lines}");
-        assert_eq!(rt;
-            sink.bytes(),
-            b"end genuine=yes repairs=yes\n".as_slice(),
-            "at {lines}"
-        );
-    }
-    Ok(())
-}
-
-// How many bytes of keying material each profile asks for.
-const MATERIAL: [(&str, u64); 3] = [("cm", 60), ("gcm128", 56), ("gcm256", 88)];
-
-// A script under this profile, with so many zeros for its key.
-fn key_script(alloc: Global, profile: &str, bytes: u64) -> Result<Vec<u8>, Fail> {
-    let mut lines = format!(in alloc; "profile {profile}\nkey ")?;
-    push_zeros(&mut lines, bytes)?;
-    lines.push('\n')?;
-    setup_script(alloc, lines.as_str())
-}
-
-#[test]
-fn key_length_by_profile(rt: HostRuntime) -> Result<(), Fail> {
-    let alloc = rt.alloc();
-    for (profile, bytes) in MATERIAL {
-        let (report, _) = ran_on(alloc, key_script(alloc, profile, bytes)?)?;
-        assert_eq!(rt; report.end, End::Done, "at {profile}");
-        for other in [bytes.saturating_sub(1), bytes.saturating_add(1)] {
-            let (report, _) = ran_on(alloc, key_script(alloc, profile, other)?)?;
-            assert_eq!(rt;
-                report.end,
-                End::Setup(SetupFault::KeyLength),
-                "at {profile}"
-            );
-        }
-    }
-    Ok(())
-}
-
-#[test]
-fn setup_faults(rt: HostRuntime) -> Result<(), Fail> {
-    let alloc = rt.alloc();
-    for (lines, fault) in SETUP_FAULTS {
-        let (report, sink) = ran_on(alloc, setup_script(alloc, lines)?)?;
-        let text = format!(in alloc; "fault setup {fault}\n")?;
-        assert_eq!(rt; report.status, 1, "at {lines}");
-        assert_eq!(rt; sink.bytes(), text.as_bytes(), "at {lines}");
-    }
-    Ok(())
-}
-
-#[test]
-fn pause_threshold(rt: HostRuntime) -> Result<(), Fail> {
-    let alloc = rt.alloc();
-    for threshold in ["0", "1500", "10000000000"] {
-        let lines = format!(in alloc; "pause {threshold}\n")?;
-        let bytes = script_with(alloc, lines.as_str(), ONE_WRITE)?;
-        let (report, sink) = ran_on(alloc, bytes)?;
-        assert_eq!(rt; report.status, 0, "at {threshold}");
-        assert_eq!(rt; sink.bytes(), ONE_WRITE_TEXT.as_bytes(), "at {threshold}");
-    }
-    for words in ["pause", "pause 5ms", "pause 1 2", "pause 18446744073710"] {
-        let bytes = setup_script(alloc, format!(in alloc; "{words}\n")?.as_str())?;
-        let (report, sink) = ran_on(alloc, bytes)?;
-        assert_eq!(rt; report.status, 7, "at {words}");
-        assert_eq!(rt; sink.bytes(), b"fault syntax 2\n".as_slice(), "at {words}");
-    }
-    let (report, sink) = ran_on(alloc, setup_script(alloc, "pause 1\npause 1\n")?)?;
-    assert_eq!(rt; report.status, 7);
-    assert_eq!(rt; sink.bytes(), b"fault syntax 3\n".as_slice());
-    Ok(())
-}
-
-#[test]
-fn intervals_of_reports(rt: HostRuntime) -> Result<(), Fail> {
-    let alloc = rt.alloc();
-    for intervals in ["0 0", "5000 1000", "10000000000 10000000000"] {
-        let lines = format!(in alloc; "reports {intervals}\n")?;
-        let bytes = script_with(alloc, lines.as_str(), ONE_WRITE)?;
-        let (report, sink) = ran_on(alloc, bytes)?;
-        assert_eq!(rt; report.status, 0, "at {intervals}");
-        assert_eq!(rt; sink.bytes(), ONE_WRITE_TEXT.as_bytes(), "at {intervals}");
-    }
-    for words in [
-        "reports",
-        "reports 5000",
-        "reports 1 2 3",
-        "reports 5s 1000",
-        "reports 5000 5ms",
-        "reports 18446744073710 1000",
-        "reports 5000 18446744073710",
-    ] {
-        let bytes = setup_script(alloc, format!(in alloc; "{words}\n")?.as_str())?;
-        let (report, sink) = ran_on(alloc, bytes)?;
-        assert_eq!(rt; report.status, 7, "at {words}");
-        assert_eq!(rt; sink.bytes(), b"fault syntax 2\n".as_slice(), "at {words}");
-    }
-    let twice = setup_script(alloc, "reports 1 2\nreports 1 2\n")?;
-    let (report, sink) = ran_on(alloc, twice)?;
-    assert_eq!(rt; report.status, 7);
-    assert_eq!(rt; sink.bytes(), b"fault syntax 3\n".as_slice());
-    Ok(())
 }
 
 // A write, and the reports of both sides on it: the sender's report and description, the receiver's
@@ -573,22 +348,6 @@ fn reports(rt: HostRuntime) -> Result<(), Fail> {
     let (report, sink) = ran_on(rt.alloc(), bytes)?;
     assert_eq!(rt; report.end, End::Done);
     assert_eq!(rt; sink.bytes(), REPORT_TEXT.as_bytes());
-    Ok(())
-}
-
-// A stream without repairs keeps nothing, whatever the lines of it say.
-#[test]
-fn lines_of_a_stream_without_repairs(rt: HostRuntime) -> Result<(), Fail> {
-    let alloc = rt.alloc();
-    for lines in [
-        "start 42 5\n",
-        "cache 42 1 0 0\n",
-        "cache 42 32000 10000000000 none\nstart 42 281474976710656\n",
-    ] {
-        let (report, sink) = ran_on(alloc, script_with(alloc, lines, ONE_WRITE)?)?;
-        assert_eq!(rt; report.status, 0, "at {lines}");
-        assert_eq!(rt; sink.bytes(), ONE_WRITE_TEXT.as_bytes(), "at {lines}");
-    }
     Ok(())
 }
 
@@ -641,68 +400,6 @@ fn step_faults(rt: HostRuntime) -> Result<(), Fail> {
     Ok(())
 }
 
-#[test]
-fn foreign_seal(rt: HostRuntime) -> Result<(), Fail> {
-    let (report, sink) = ran(
-        rt.alloc(),
-        "foreign B 1 rtp 80600002000000000000002a0380600002002a00020000002803000001\n",
-    )?;
-    assert_eq!(rt; report.end, End::Done);
-    assert_eq!(rt;
-        sink.bytes(),
-        b"got B rtp 29\nopened B rtp 42 2\nyielded B 42 2 96 0 0 03\nend genuine=no repairs=yes\n".as_slice()
-    );
-    Ok(())
-}
-
-// A datagram with SSRC 42 and number 6, whose payload is sealed to so many zeros.
-fn zeros(alloc: Global, bytes: u64) -> Result<String, Fail> {
-    let mut step = "foreign B 1 rtp 80600006000000000000002a".to_string(alloc)?;
-    push_zeros(&mut step, bytes)?;
-    step.push_str("804a0004002a00040000005100000001\n")?;
-    Ok(step)
-}
-
-// Each of these is the seal of its plain datagram wherever a header stands in front of it.
-const UNOPENED: &str = "foreign B 1 rtp -
-foreign B 1 rtp 8060000100000000000000
-foreign B 1 rtp 00600002000000000000002a0300600002002a00020000002803000001
-foreign B 1 rtp 40600002000000000000002a0340600002002a00020000002803000001
-foreign B 1 rtp c0600002000000000000002a03c0600002002a00020000002803000001
-foreign B 1 rtp 8f600002000000000000002a0380600002002a00020000002803000001
-foreign B 1 rtp 90600002000000000000002abede000480600002002a000200000028
-foreign B 1 rtp a0600003000000000000002a00a0600003002a00020000002900000001
-foreign B 1 rtp a0600004000000000000002a05a0600004002a00020000002e05000001
-foreign B 1 rtp 80610005000000000000002a0380610005002a00020000002f03000001
-foreign B 1 rtp 8060000500000000000000630380600005006300020000006603000001
-";
-
-// And each of these opens: SSRC 0, a number that a datagram which did not open had, and padding.
-const OPENED: &str = "foreign B 1 rtp 80600001000000000000000080600001000000020000000100000001
-foreign B 1 rtp 80600002000000000000002a0380600002002a00020000002803000001
-foreign B 1 rtp a0600004000000000000002a070002a0600004002a00020000002e07000201
-";
-
-#[test]
-fn foreign_datagrams(rt: HostRuntime) -> Result<(), Fail> {
-    let alloc = rt.alloc();
-    let mut steps = UNOPENED.to_string(alloc)?;
-    steps.push_str(zeros(alloc, 1_973)?.as_str())?;
-    let (report, sink) = ran(alloc, steps.as_str())?;
-    assert_eq!(rt; report.end, End::Done);
-    assert_eq!(rt; lines_with(sink.bytes(), "got B rtp"), 12);
-    assert_eq!(rt; lines_with(sink.bytes(), "opened"), 0);
-    steps.push_str(OPENED)?;
-    steps.push_str(zeros(alloc, 1_972)?.as_str())?;
-    let (_, sink) = ran(alloc, steps.as_str())?;
-    assert_eq!(rt; lines_with(sink.bytes(), "opened B rtp"), 4);
-    assert_eq!(rt; lines_with(sink.bytes(), "opened B rtp 0 1"), 1);
-    assert_eq!(rt; lines_with(sink.bytes(), "yielded B"), 3);
-    assert_eq!(rt; lines_with(sink.bytes(), "yielded B 42 4 96 0 0 07"), 1);
-    assert_eq!(rt; lines_with(sink.bytes(), "end genuine=no repairs=yes"), 1);
-    Ok(())
-}
-
 // Pace scripts, with the text and the status of each.
 const PACED: [(&str, &str, u8); 4] = [
     (
@@ -733,95 +430,5 @@ fn paced(rt: HostRuntime) -> Result<(), Fail> {
         assert_eq!(rt; sink.bytes(), text.as_bytes(), "at {script}");
         assert!(rt; report.transcript.is_none(), "at {script}");
     }
-    Ok(())
-}
-
-// Setup lines and steps with feedback of an application, and the text of the run.
-const RTCP_RUNS: [(&str, &str, &str); 4] = [
-    (
-        "",
-        "app A 1 1 42 01020304\ndeliver B 1 1\n",
-        "called A app\nsealed A rtcp 1 0 SEALED\ngot B rtcp 36\nopened B rtcp 1 0\nend genuine=yes repairs=yes\n",
-    ),
-    // It comes twice, and opens twice.
-    (
-        "",
-        "app A 1 1 42 01020304\ndeliver B 1 1\ndeliver B 2 1\n",
-        "called A app\nsealed A rtcp 1 0 SEALED\ngot B rtcp 36\nopened B rtcp 1 0\ngot B rtcp 36\nopened B rtcp 1 0\nend genuine=yes repairs=yes\n",
-    ),
-    // Its datagrams count beside those of RTP, and each is handed in as what it is.
-    (
-        "",
-        "write A 1 42 1 96 0 0 0 0102\napp A 1 1 42 01020304\ntick A 1\ndeliver B 1 2\ndeliver B 1 1\n",
-        "wrote A 42 1\ncalled A app\nsealed A rtcp 1 0 SEALED\nticked A 1\nsealed A rtp 42 1 80600001000000000000002a010280600001002a00020000002b01020001\ngot B rtp 30\nopened B rtp 42 1\nyielded B 42 1 96 0 0 0102\ngot B rtcp 36\nopened B rtcp 1 0\nend genuine=yes repairs=yes\n",
-    ),
-    // A receiver's report that is not encrypted, with the tag of the index 0; and with another tag.
-    (
-        "",
-        "foreign B 1 rtcp 80c900010000000180c9000100010007000000000000000100000000\nforeign B 1 rtcp 80c900010000000180c9000100010007000000000000000200000000\nforeign B 1 rtcp -\n",
-        "got B rtcp 28\nopened B rtcp 1 0\ngot B rtcp 28\ngot B rtcp 0\nend genuine=no repairs=yes\n",
-    ),
-];
-
-#[test]
-fn application_feedback(rt: HostRuntime) -> Result<(), Fail> {
-    let alloc = rt.alloc();
-    for (lines, steps, text) in RTCP_RUNS {
-        let (report, sink) = ran_on(alloc, script_with(alloc, lines, steps)?)?;
-        let text = text.replace(alloc, "SEALED", SEALED_FEEDBACK)?;
-        assert_eq!(rt; report.end, End::Done, "at {steps}");
-        assert_eq!(rt; sink.bytes(), text.as_bytes(), "at {steps}");
-    }
-    Ok(())
-}
-
-// What is sealed opens again, under each profile and cipher.
-#[test]
-fn application_feedback_by_profile(rt: HostRuntime) -> Result<(), Fail> {
-    let alloc = rt.alloc();
-    for cipher in ["toy", "sha"] {
-        for profile in ["cm", "gcm128", "gcm256"] {
-            let lines = format!(in alloc; "cipher {cipher}\nprofile {profile}\n")?;
-            let steps = "app A 1 1 42 01020304\ndeliver B 1 1\n";
-            let (report, sink) = ran_on(alloc, script_with(alloc, lines.as_str(), steps)?)?;
-            assert_eq!(rt; report.end, End::Done, "at {lines}");
-            assert_eq!(rt;
-                lines_with(sink.bytes(), "opened B rtcp 1 0"),
-                1,
-                "at {lines}"
-            );
-            assert_eq!(rt;
-                lines_with(sink.bytes(), "end genuine=yes"),
-                1,
-                "at {lines}"
-            );
-        }
-    }
-    Ok(())
-}
-
-// The last index, and the first behind it.
-#[test]
-fn used_up_index(rt: HostRuntime) -> Result<(), Fail> {
-    let alloc = rt.alloc();
-    let step = "app A 1 1 42 01020304\n";
-    let (report, sink) = ran_on(alloc, script_with(alloc, "rtcp A 2147483648\n", step)?)?;
-    assert_eq!(rt; report.end, End::KeyExhausted(Side::A, Counter::Rtcp));
-    assert_eq!(rt; report.status, 3);
-    assert_eq!(rt;
-        sink.bytes(),
-        b"called A app\nfault key A Rtcp\n".as_slice()
-    );
-    let Some(transcript) = report.transcript else {
-        return Err(Fail::from("no transcript"));
-    };
-    assert_eq!(rt; transcript.entries().len(), 1);
-    let steps = "app B 1 2 42 01020304\napp B 1 2 42 -\ntick B 2\n";
-    let (report, sink) = ran_on(alloc, script_with(alloc, "rtcp B 2147483647\n", steps)?)?;
-    assert_eq!(rt; report.end, End::KeyExhausted(Side::B, Counter::Rtcp));
-    assert_eq!(rt; lines_with(sink.bytes(), "sealed B rtcp 2 2147483647 "), 1);
-    assert_eq!(rt; lines_with(sink.bytes(), "called B app"), 2);
-    assert_eq!(rt; lines_with(sink.bytes(), "ticked"), 0);
-    assert!(rt; sink.bytes().ends_with(b"fault key B Rtcp\n"));
     Ok(())
 }

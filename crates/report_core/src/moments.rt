@@ -171,17 +171,15 @@ impl ReceiverMoments {
     }
 
     /// The extended report that answers the first 50 that wait, at a moment, with the sender's SSRC
-    /// (RFC 3611 section 4.5); they wait no more. None exactly where none waits. Without memory
-    /// nothing changes. The time grows with the number that is answered.
+    /// (RFC 3611 section 4.5). None exactly where none waits. They wait on until `answered` is called. The
+    /// time grows with the number that is answered.
     pub fn answer(
-        &mut self,
+        &self,
         alloc: Global,
         sender_ssrc: Ssrc,
         now: Instant,
     ) -> Result<Option<ExtendedReport>, AllocError>
-        ensures report { IfOk result (λ r. r ≡ answer_of sender_ssrc now self.old) }
-        ensures ok { OnOk result (self.new ≡ unanswered self.old) }
-        ensures err { OnErr result (self.new ≡ self.old) }
+        ensures { IfOk result (λ r. r ≡ answer_of sender_ssrc now self.now) }
     {
         if self.waiting.is_empty() {
             return Ok(None);
@@ -189,11 +187,17 @@ impl ReceiverMoments {
         let items = Listed::from_vec(items(alloc, &self.waiting, MAX_ANSWERED_MOMENTS, now)?);
         let mut blocks = Listed::new(alloc);
         blocks.push(ReportBlock::Dlrr(Dlrr { items }))?;
-        drop_front(&mut self.waiting, MAX_ANSWERED_MOMENTS);
         Ok(Some(ExtendedReport {
             ssrc: sender_ssrc,
             blocks,
         }))
+    }
+
+    /// The first 50 that wait were answered: they wait no more.
+    pub fn answered(&mut self)
+        ensures { self.new ≡ unanswered self.old }
+    {
+        drop_front(&mut self.waiting, MAX_ANSWERED_MOMENTS);
     }
 }
 

@@ -110,6 +110,7 @@ fn of_301_moments_the_oldest_goes(rt: HostRuntime) -> Result<(), Fail> {
         let mut moments = moments_of(rt.alloc(), count)?;
         assert!(rt; moments.len() == 300);
         let report = moments.answer(rt.alloc(), Ssrc::from(9), ms(400_000))?;
+        moments.answered();
         assert!(rt; answered(&report) == Some((50, first)) && moments.len() == 250);
     }
     Ok(())
@@ -122,6 +123,7 @@ fn at_most_50_are_answered(rt: HostRuntime) -> Result<(), Fail> {
         // The first is renewed in its place.
         moments.take(Ssrc::from(0), &moment(), ms(100_000))?;
         let report = moments.answer(rt.alloc(), Ssrc::from(9), ms(100_000))?;
+        moments.answered();
         assert!(rt; answered(&report) == Some((told, 0)) && moments.len() == left);
     }
     let none = ReceiverMoments::new(rt.alloc()).answer(rt.alloc(), Ssrc::from(9), ms(1))?;

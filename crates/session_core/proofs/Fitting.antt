@@ -5,6 +5,7 @@ use Rattle.std.specs.List.{AllByRecursion, flat_map}
 use Rattle.std.proofs.lemmas.List.{length-append, length-take}
 use Rattle.rtp_base.specs.declared.nack_entry.NackEntry.{NackEntry}
 use Rattle.rtp_base.specs.declared.reception_report.ReceptionReport.{ReceptionReport}
+use Rattle.rtp_base.specs.Wire.{words}
 use Rattle.rtcp_wire.specs.declared.extended.DlrrItem.{DlrrItem}
 use Rattle.rtcp_wire.specs.declared.extended.ExtendedReport.{ExtendedReport as Extended}
 use Rattle.rtcp_wire.specs.declared.extended.ReportBlock.{ReportBlock}
@@ -13,16 +14,21 @@ use Rattle.rtcp_wire.specs.declared.feedback.AppSpecificFeedback.{AppSpecificFee
 use Rattle.rtcp_wire.specs.declared.nack.Nack.{Nack as Asks}
 use Rattle.rtcp_wire.specs.declared.packet.Rtcp.{Rtcp}
 use Rattle.rtcp_wire.specs.declared.packet.Rtcp.TheVariants.{SenderReport, ReceiverReport, SourceDescription, Goodbye, ExtendedReport, Nack, Pli, Fir, Twcc, Remb, AppSpecificFeedback}
+use Rattle.rtcp_wire.specs.declared.remb.Remb.{Remb as Rate}
 use Rattle.rtcp_wire.specs.declared.report.ReceiverReport.{ReceiverReport as Received}
 use Rattle.rtcp_wire.specs.declared.report.SenderReport.{SenderReport as Sent}
+use Rattle.rtcp_wire.specs.declared.request.Fir.{Fir as Intra}
+use Rattle.rtcp_wire.specs.declared.request.FirEntry.{FirEntry}
+use Rattle.rtcp_wire.specs.declared.request.Pli.{Pli as Lost}
 use Rattle.rtcp_wire.specs.declared.source.Descriptions.{Descriptions}
 use Rattle.rtcp_wire.specs.declared.source.SdesType.TheVariants.{CNAME}
 use Rattle.rtcp_wire.specs.Descriptions.{ended, sdes_item_text, sdes_text, descriptions_body}
 use Rattle.rtcp_wire.specs.Extended.{block_content, block_text, dlrr_item_text, extended_report_body}
-use Rattle.rtcp_wire.specs.Feedback.{app_feedback_body, nack_body}
+use Rattle.rtcp_wire.specs.Feedback.{app_feedback_body, nack_body, pli_body, fir_body}
 use Rattle.rtcp_wire.specs.Laws.{ItemsFitByLengths}
+use Rattle.rtcp_wire.specs.Remb.{remb_body}
 use Rattle.rtcp_wire.specs.Reports.{receiver_report_body, sender_info_text, sender_report_body}
-use Rattle.rtcp_wire.specs.Rows.{nack_entry_text, report_text}
+use Rattle.rtcp_wire.specs.Rows.{nack_entry_text, fir_entry_text, report_text}
 use Rattle.rtcp_wire.specs.Texts.{text_of}
 use Rattle.report_core.specs.Sender.{name_of}
 use Rattle.stream_core.specs.Reporting.{IsBrief, IsBriefBlock, AreBriefBlocks}
@@ -61,6 +67,34 @@ entries_length (e ∷ es) =
 nack_length : (n : Asks) → length (text_of (Nack n)) ≡ 12 + 4 * length n.reports
 unfolding text_of nack_body
 nack_length n = let rest = entries_length n.reports in omega arith
+
+-- the header and two SSRCs
+lost_length : (p : Lost) → length (text_of (Pli p)) ≡ 12
+unfolding text_of pli_body
+lost_length p = omega arith
+
+-- an entry of a full intra request has eight bytes
+intras_length : (es : List FirEntry) → length (flat_map fir_entry_text es) ≡ 8 * length es
+unfolding fir_entry_text
+intras_length [] = refl
+intras_length (e ∷ es) =
+    let rest = intras_length es in
+    length-append (fir_entry_text e) (flat_map fir_entry_text es) ∙ (omega arith)
+
+intra_length : (f : Intra) → length (text_of (Fir f)) ≡ 12 + 8 * length f.reports
+unfolding text_of fir_body
+intra_length f = let rest = intras_length f.reports in omega arith
+
+-- each SSRC under a rate has four bytes
+ssrcs_length : (xs : List ℕ) → length (words xs) ≡ 4 * length xs
+ssrcs_length [] = refl
+ssrcs_length (x ∷ xs) =
+    let rest = ssrcs_length xs in
+    length-append (to_be_bytes w32 x) (words xs) ∙ (omega arith)
+
+rate_length : (r : Rate) → length (text_of (Remb r)) ≡ 20 + 4 * length r.ssrcs
+unfolding text_of remb_body
+rate_length r = let rest = ssrcs_length r.ssrcs in omega arith
 
 -- a reception block has 24 bytes
 blocks_length : (rs : List ReceptionReport) → length (flat_map report_text rs) ≡ 24 * length rs
@@ -182,11 +216,29 @@ brief_fits (ReceiverReport r) fits short =
     }
 brief_fits (SourceDescription d) fits brief = subst (λ (n : Descriptions). FitsAlone (SourceDescription n)) (sym brief.3) (name_fits brief.0 brief.1 fits brief.2)
 brief_fits (ExtendedReport x) fits brief = extended_fits x.ssrc x.blocks fits brief
+brief_fits (Pli p) fits short =
+    let long = lost_length p in
+    record {
+      writable = fits (Pli p) tt;
+      long = omega arith;
+      few = omega arith;
+    }
+brief_fits (Fir f) fits short =
+    let long = intra_length f in
+    record {
+      writable = fits (Fir f) (omega arith);
+      long = omega arith;
+      few = omega arith;
+    }
+brief_fits (Remb r) fits short =
+    let long = rate_length r in
+    record {
+      writable = fits (Remb r) (omega arith);
+      long = omega arith;
+      few = omega arith;
+    }
 brief_fits (Goodbye g) fits short = absurd short
-brief_fits (Pli p) fits short = absurd short
-brief_fits (Fir f) fits short = absurd short
 brief_fits (Twcc t) fits short = absurd short
-brief_fits (Remb r) fits short = absurd short
 brief_fits (AppSpecificFeedback f) fits short = absurd short
 
 -- several of them

@@ -49,11 +49,6 @@ upto_step f zero (e ∷ es) = refl
 upto_step f (suc i) [] = refl
 upto_step f (suc i) (e ∷ es) = ap (λ l. (e.0, f e.1) ∷ l) (upto_step f i es)
 
-pub upto_at : {X : Type 0} (f : X → X) (i : ℕ) (es : List (ℕ × X)) → slice_get (values_of (upto f i es)) i ≡ slice_get (values_of es) i
-upto_at f zero es = refl
-upto_at f (suc i) [] = refl
-upto_at f (suc i) (e ∷ es) = upto_at f i es
-
 pub upto_length : {X : Type 0} (f : X → X) (i : ℕ) (es : List (ℕ × X)) → length (upto f i es) ≡ length es
 upto_length f zero es = refl
 upto_length f (suc i) [] = refl

@@ -1,5 +1,6 @@
 -- What a session tells, event by event.
 use Rattle.std.proofs.Common.{◌≡◌, ℕ, zero, suc, Bool, true, false, List, [], ◌∷◌, ◌++◌, Option, Some, None, slice_get, refl, sym, ap, subst, ◌∙◌}
+use Rattle.std.proofs.lemmas.List.{append_assoc}
 use Rattle.std.specs.Prelude.{◌||◌, is_none, is_some, if◌then◌else◌, map, option_and_then}
 use Rattle.std.specs.Map.{values_of}
 use Rattle.std.specs.Option.{option_map, option_map_or, option_to_list}
@@ -153,7 +154,7 @@ module _ (r : SessionRecord) where
         after_keyed after is ∙ sym (after_keyed r is),
       )
 
-  nothing_next : lacks_keys r.state ≡ false → r.state.application ≡ None → next_pause r.rx ≡ None → r.state.packet ≡ None
+  pub nothing_next : lacks_keys r.state ≡ false → r.state.application ≡ None → next_pause r.rx ≡ None → r.state.packet ≡ None
       → Polled r None (record r { state = record r.state { packet = None } })
   nothing_next is a n w =
       let k = pauses_quiet r.rx n in (
@@ -177,6 +178,25 @@ module _ (r : SessionRecord) where
   pub polls : Polled r (next_event r) (after_event r)
   polls = by (lacks_keys r.state) refl r.state.application refl (next_pause r.rx) refl r.state.packet refl
 
+-- a packet is told last
+module _ (r : SessionRecord) where
+  pub packet_last : lacks_keys r.state ≡ false → r.state.application ≡ None → next_pause r.rx ≡ None → (q : RtpPacket) → r.state.packet ≡ Some q
+      → (told r ≡ event.RtpPacket q ∷ []) × (record r { state = record r.state { packet = None } } ≡ after_events r)
+  packet_last is a n q w =
+      let after : SessionRecord = record r { state = record r.state { packet = None } } in
+      let first : Polled r (Some (event.RtpPacket q)) after = packet_next r is a n q w in
+      let rest : Polled after None after = nothing_next after is a n refl in (
+        first.0 ∙ ap (λ l. event.RtpPacket q ∷ l) rest.0,
+        rest.1 ∙ first.1,
+      )
+
+-- an event that was taken stands in front of what is left
+pub taken_one : (sofar now : List Event) (e : Event) (r after : SessionRecord) → told r ≡ e ∷ told after → now ≡ sofar ++ e ∷ [] → sofar ++ told r ≡ now ++ told after
+taken_one sofar now e r after first is =
+    ap (λ (l : List Event). sofar ++ l) first
+    ∙ sym (append_assoc sofar (e ∷ []) (told after))
+    ∙ ap (λ (l : List Event). l ++ told after) (sym is)
+
 -- what a poll answers and leaves, by what waits
 module _ (r : SessionRecord) (keys : lacks_keys r.state ≡ false) (a : Option AppSpecificFeedback) (p : Option StreamPaused) (q : Option RtpPacket)
     (x : r.state.application ≡ a) (y : next_pause r.rx ≡ p) (z : r.state.packet ≡ q) where
@@ -191,6 +211,10 @@ pub has_keys : (sealing opening : Option SrtpState) → is_some sealing ≡ true
 has_keys None opening h k = absurd cc
 has_keys (Some s) None h k = absurd cc
 has_keys (Some s) (Some t) h k = refl
+
+-- the state where the feedback of an application was taken
+pub state_heard : (s r : SessionState) (a : Option AppSpecificFeedback) → s ≡ r → a ≡ None → record s { application = a } ≡ record r { application = None }
+state_heard s r a same ea = (λ j. record s { application = ea j }) ∙ ap {A = SessionState} {B = SessionState} (λ x. record x { application = None }) same
 
 -- the state where nothing but the streams was touched, and where the packet was taken too
 pub state_polled : (s r : SessionState) (t : ℕ) (tx : List (ℕ × TxRecord)) (a : Option AppSpecificFeedback) → s ≡ r → t ≡ s.pause_threshold → tx ≡ s.tx → a ≡ s.application

@@ -1,5 +1,5 @@
 -- Each item that a tick queues is brief.
-use Rattle.std.proofs.Common.{◌≡◌, ◌≤◌, ℕ, refl, Bool, true, false, List, [], ◌∷◌, length, take, Option, Some, None, arith}
+use Rattle.std.proofs.Common.{◌≡◌, ◌≤◌, ℕ, refl, Bool, true, false, List, [], ◌∷◌, ◌++◌, length, take, Option, Some, None, arith}
 use Rattle.std.specs.Prelude.{nat_le, nat_lt, ◌&&◌, if◌then◌else◌, map}
 use Rattle.std.specs.List.{AllByRecursion}
 use Rattle.std.specs.Option.{option_to_list}
@@ -14,11 +14,14 @@ use Rattle.report_core.specs.declared.moments.ReceiverMoment.{ReceiverMoment}
 use Rattle.report_core.specs.Moments.{item_of}
 use Rattle.report_core.specs.Sender.{name_of}
 use Rattle.stream_core.specs.Missing.{nack_of}
-use Rattle.stream_core.specs.Reporting.{IsBrief, is_among, block_at, report_items, after_report, rx_items, items_with, sender_info_at}
+use Rattle.stream_core.specs.Reporting.{IsBrief, is_among, block_at, report_items, front_items, after_front, rx_items, items_with, sender_info_at}
+use Rattle.stream_core.specs.Requests.{keyframe_with, bitrate_with}
 use Rattle.stream_core.specs.RxRecord.{RxRecord}
 use Rattle.stream_core.specs.TxRecord.{TxRecord}
 use Rattle.stream_core.specs.declared.payload_types.TypeRow.{TypeRow}
 use Rattle.stream_core.specs.declared.reports.Tick.{Tick}
+use Rattle.stream_core.specs.declared.requests.KeyframeRequestKind.{KeyframeRequestKind}
+use Rattle.stream_core.specs.declared.requests.KeyframeRequestKind.TheVariants.{Pli, Fir}
 use Rattle.session_core.specs.Reports.{description_items, sender_report_items, reports_in, items_under, sender_items_with, answers}
 use Rattle.session_core.specs.SessionRecord.{MediaRecord}
 use Rattle.session_core.proofs.Fitting.{all_append}
@@ -32,19 +35,36 @@ few_blocks (Some b) = omega arith
 reports_brief : (t : Tick) (r : RxRecord) → AllByRecursion IsBrief (report_items t r)
 reports_brief t r = (few_blocks (block_at t.now r), (tt, tt))
 
+-- what a stream asks its sender for
+keyframe_brief : (sender ssrc fir_number : ℕ) (kind : Option KeyframeRequestKind) → AllByRecursion IsBrief (keyframe_with sender ssrc fir_number kind)
+keyframe_brief sender ssrc fir_number None = tt
+keyframe_brief sender ssrc fir_number (Some Pli) = (tt, tt)
+keyframe_brief sender ssrc fir_number (Some Fir) = (omega arith, tt)
+
+bitrate_brief : (sender ssrc : ℕ) (rate : Option ℕ) → AllByRecursion IsBrief (bitrate_with sender ssrc rate)
+bitrate_brief sender ssrc None = tt
+bitrate_brief sender ssrc (Some rate) = (omega arith, tt)
+
+front_brief : (t : Tick) (reports : Bool) (r : RxRecord) → AllByRecursion IsBrief (front_items t reports r)
+front_brief t reports r =
+    all_append IsBrief (keyframe_with t.sender_ssrc r.state.ssrc r.state.requests.fir_number r.state.requests.keyframe ++ bitrate_with t.sender_ssrc r.state.ssrc r.state.requests.bitrate) (if reports then report_items t r else [])
+    (all_append IsBrief (keyframe_with t.sender_ssrc r.state.ssrc r.state.requests.fir_number r.state.requests.keyframe) (bitrate_with t.sender_ssrc r.state.ssrc r.state.requests.bitrate)
+    (keyframe_brief t.sender_ssrc r.state.ssrc r.state.requests.fir_number r.state.requests.keyframe) (bitrate_brief t.sender_ssrc r.state.ssrc r.state.requests.bitrate))
+    (by reports)
+  where
+    by : (b : Bool) → AllByRecursion IsBrief (if b then report_items t r else [])
+    by true = reports_brief t r
+    by false = tt
+
 rx_brief : (t : Tick) (reports : Bool) (e : ℕ × RxRecord) → AllByRecursion IsBrief (rx_items t reports e)
-rx_brief t reports e = all_append IsBrief (if reports then report_items t e.1 else []) (if t.is_round then asked else []) (first reports) (second t.is_round)
+rx_brief t reports e = all_append IsBrief (front_items t reports e.1) (if t.is_round then asked else []) (front_brief t reports e.1) (by t.is_round)
   where
     asked : List Rtcp
-    asked = nack_of t.sender_ssrc t.now (e.0, after_report t reports e.1)
+    asked = nack_of t.sender_ssrc t.now (e.0, after_front t reports e.1)
 
-    first : (b : Bool) → AllByRecursion IsBrief (if b then report_items t e.1 else [])
-    first true = reports_brief t e.1
-    first false = tt
-
-    second : (b : Bool) → AllByRecursion IsBrief (if b then asked else [])
-    second true = nack_brief t.sender_ssrc t.now (e.0, after_report t reports e.1)
-    second false = tt
+    by : (b : Bool) → AllByRecursion IsBrief (if b then asked else [])
+    by true = nack_brief t.sender_ssrc t.now (e.0, after_front t reports e.1)
+    by false = tt
 
 -- what incoming streams say
 pub incoming_brief : (t : Tick) (mids : List (List ℕ)) (rs : List (ℕ × RxRecord)) → AllByRecursion IsBrief (items_with t mids rs)
@@ -53,7 +73,7 @@ incoming_brief t mids (e ∷ rs) =
     all_append IsBrief (rx_items t (is_among e.1.state.mid mids) e) (items_with t mids rs) (rx_brief t (is_among e.1.state.mid mids) e) (incoming_brief t mids rs)
 
 -- the description of a source
-pub description_brief : (ssrc : ℕ) (cname : List ℕ) → AllByRecursion IsBrief (description_items ssrc cname)
+description_brief : (ssrc : ℕ) (cname : List ℕ) → AllByRecursion IsBrief (description_items ssrc cname)
 description_brief ssrc cname = by (nat_lt 0 (length cname)) (nat_le (length cname) 255) (λ e. leb-true (length cname) 255 e)
   where
     by : (a b : Bool) → (b ≡ true → length cname ≤ 255) → AllByRecursion IsBrief (if a && b then SourceDescription (name_of ssrc cname) ∷ [] else [])
@@ -61,7 +81,7 @@ description_brief ssrc cname = by (nat_lt 0 (length cname)) (nat_le (length cnam
     by true false short = tt
     by false b short = tt
 
-pub sender_report_brief : (info : SenderInfo) (cname : List ℕ) → AllByRecursion IsBrief (sender_report_items info cname)
+sender_report_brief : (info : SenderInfo) (cname : List ℕ) → AllByRecursion IsBrief (sender_report_items info cname)
 sender_report_brief info cname = (refl, description_brief info.ssrc cname)
 
 under_brief : (types : List (ℕ × TypeRow)) (beginning : Beginning) (now : ℕ) (x : TxRecord) (o : Option MediaRecord) → AllByRecursion IsBrief (items_under types beginning now x o)

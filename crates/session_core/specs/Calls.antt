@@ -18,7 +18,7 @@ use Rattle.session_core.specs.declared.datagram.Event.{Event}
 use Rattle.session_core.specs.declared.datagram.Event.TheVariants as event
 use Rattle.session_core.specs.SessionRecord.{SessionState, SessionView, SessionRecord}
 use Rattle.session_core.specs.Reports.{reports_at}
-use Rattle.session_core.specs.Rounds.{round_at, send_at}
+use Rattle.session_core.specs.Rounds.{requests_at, round_at, send_at}
 use Rattle.session_core.specs.Sending.{has_mid}
 
 -- the mid of the stream on which probes come: the text 0
@@ -118,10 +118,12 @@ Polled r (Some e) after = (told r ≡ e ∷ told after) × (after_events after �
 abbrev pub with_feedback : Rtcp → SessionState → SessionState
 with_feedback x s = record s { feedback = s.feedback ++ x ∷ [] }
 
--- when a tick is wanted: for reports, for a round, to pause a stream, and at once where some packet was written since the last
--- one
+-- when a tick is wanted: for reports, for requests of streams to their senders, for a round, to pause a stream, and at once where
+-- some packet was written since the last one
 abbrev pub wake_of : SessionRecord → Option ℕ
-wake_of r = sooner (reports_at r) (sooner (round_at r) (sooner (sooner (first_pause r.rx) r.probes.state.pause_at) (send_at r.state)))
+wake_of r =
+    sooner (sooner (reports_at r) (requests_at r))
+    (sooner (round_at r) (sooner (sooner (first_pause r.rx) r.probes.state.pause_at) (send_at r.state)))
 
 abbrev pub is_app : List ℕ → Option (List ℕ × ℕ) → Bool
 is_app mid None = false

@@ -1,7 +1,8 @@
 -- What a datagram opens to, and what a session makes of it.
-use Rattle.std.specs.Prelude.{◌≡◌, ◌==◌, ◌||◌, ℕ, Bool, true, false, IsTrue, IsSome, is_some, unwrap_or, if◌then◌else◌, List, ◌++◌, take, drop, option_and_then, Option, Some, None}
+use Rattle.std.specs.Prelude.{◌≡◌, ◌==◌, ◌<◌, ◌||◌, ℕ, Bool, true, false, IsTrue, IsSome, is_some, unwrap_or, if◌then◌else◌, List, ◌++◌, take, drop, slice_index, option_and_then, Option, Some, None}
 use Rattle.std.specs.Option.{option_map_or}
 use Rattle.rtp_base.specs.declared.kind.Kind.TheVariants.{Rtp}
+use Rattle.rtp_wire.specs.declared.extension.ExtensionMap.{ExtensionMap}
 use Rattle.rtp_wire.specs.declared.header.RtpHeader.{RtpHeader}
 use Rattle.rtp_wire.specs.Header.{header_of}
 use Rattle.rtp_wire.specs.Padding.{unpadded}
@@ -160,3 +161,7 @@ module _ (cipher : CipherMeaning) (r : SessionRecord) (bytes : List ℕ) where
         → Receives now (after_repaired now h original n payload r) (Some (opening_of bytes h n payload))
     stays : ((h : RtpHeader) (n : ℕ) (payload : List ℕ) → Opens h n payload → ⊥)
         → ((h : RtpHeader) (original n : ℕ) (payload : List ℕ) → OpensRepair h original n payload → ⊥) → Receives now r None
+
+-- the number that the header of a datagram states has 16 bits
+abbrev pub HeaderNumbersFit : Type 0
+HeaderNumbersFit = (exts : ExtensionMap) (bytes : List ℕ) (h : RtpHeader) → ((i : ℕ) → slice_index bytes i < 256) → header_of exts bytes ≡ Some h → h.sequence_number < 65536

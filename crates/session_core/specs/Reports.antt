@@ -93,6 +93,12 @@ after_answers now reports s = if reports then record s {
   moments = unanswered s.moments;
 } else s
 
+-- all that outgoing streams have said in a tick: their reports, and the answers behind them where some stream reports
+abbrev pub sender_and_answers : ℕ → SessionState → List Rtcp
+sender_and_answers now s =
+    sender_items now s
+    ++ (if some_reports s.medias (due_senders now s) s.tx then answers now (sender_ssrc s) s.moments else [])
+
 -- the reports of a tick of outgoing streams, and the answers behind them
 abbrev pub after_sender_reports : ℕ → SessionState → SessionState
 after_sender_reports now s = after_answers now (some_reports s.medias (due_senders now s) s.tx) (after_senders now s)

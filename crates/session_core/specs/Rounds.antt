@@ -2,7 +2,7 @@
 use Rattle.std.specs.Prelude.{ℕ, ◌+◌, ◌-◌, ◌^◌, ◌&&◌, ◌||◌, ◌++◌, Bool, true, false, nat_le, min, if◌then◌else◌, List, [], ◌∷◌, Option, Some, None}
 use Rattle.stream_core.specs.Missing.{any_enabled}
 use Rattle.stream_core.specs.Pauses.{checked, on_record}
-use Rattle.stream_core.specs.Reporting.{due_mids, incoming_items, incoming_after}
+use Rattle.stream_core.specs.Reporting.{any_request, due_mids, incoming_items, incoming_after}
 use Rattle.stream_core.specs.Tables.{each}
 use Rattle.stream_core.specs.TxRecord.{any_waits, after_timeout as stream_after_timeout}
 use Rattle.stream_core.specs.declared.reports.Tick.{Tick}
@@ -21,7 +21,7 @@ is_round now r = nat_le round_interval (now - r.state.last_round) && any_enabled
 abbrev pub tick_of : ℕ → SessionRecord → Tick
 tick_of now r = tick_at now (is_round now r) r.state
 
--- incoming streams report, and in a round ask for what is missing, each in order
+-- incoming streams ask their senders for what waits, report, and in a round ask for what is missing, each in order
 abbrev pub after_incoming : ℕ → SessionRecord → SessionRecord
 after_incoming now r = record r {
   state = record r.state {
@@ -51,13 +51,18 @@ after_checks now r = record {
 abbrev pub after_timeout : ℕ → SessionRecord → SessionRecord
 after_timeout now r = after_checks now (after_outgoing now (after_incoming now r))
 
--- something is said in a tick: it is a round, or the report of some stream is due
+-- something is said in a tick: it is a round, the report of some stream is due, or some stream asks its sender for something
 abbrev pub is_one : List (List ℕ) → Bool
 is_one [] = false
 is_one (m ∷ ms) = true
 
 abbrev pub is_spoken : ℕ → SessionRecord → Bool
-is_spoken now r = is_round now r || (is_one (due_mids r.state.intervals now r.rx) || is_one (due_senders now r.state))
+is_spoken now r =
+    is_round now r || (any_request r.rx || (is_one (due_mids r.state.intervals now r.rx) || is_one (due_senders now r.state)))
+
+-- at once, where some stream asks its sender for something
+abbrev pub requests_at : SessionRecord → Option ℕ
+requests_at r = if any_request r.rx then Some 0 else None
 
 -- when the next round is, where some stream asks for what is missing
 abbrev pub round_at : SessionRecord → Option ℕ

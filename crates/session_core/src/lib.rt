@@ -18,6 +18,7 @@ pub use config::{DATAGRAM_MTU, DATAGRAM_MTU_WARN, Mtu, SessionConfig};
 pub use datagram::{Datagram, DrainFault, Drained, Event, Opened};
 pub use error::{AppError, RtcError};
 pub use media::{Media, MediaKind};
+pub use receiving::header_numbers_fit;
 pub use report_core::ReportIntervals;
 pub use reporting::tick_items_fit;
 pub use session::Session;

@@ -4,7 +4,7 @@ ghost use Rattle.srtp_core.specs.Seals.{OpensTo};
 ghost use Rattle.stream_core.specs.RxRecord.{RxRecord, StandsFor};
 ghost use Rattle.stream_core.specs.StreamsRecord.{StreamsRecord, StandsFor as StreamsStand};
 ghost use Rattle.stream_core.specs.Tables.{place_of};
-ghost use Rattle.session_core.specs.Receiving.{Unpads, OpensIn, IsOpening, cut, number_of, rx_opened, probes_opened, is_claimed, packet_from, packet_after, arrival_of};
+ghost use Rattle.session_core.specs.Receiving.{Unpads, OpensIn, IsOpening, cut, number_of, rx_opened, probes_opened, is_claimed, packet_from, packet_after, arrival_of, HeaderNumbersFit};
 ghost use Rattle.session_core.specs.Repairs.{original_number};
 
 use media_base::{Bytes, Instant};
@@ -28,6 +28,11 @@ pub struct Opening {
     /// The payload without its padding; of a repair what stands behind that number.
     pub payload: Payload,
 }
+
+/// The number that the header of a datagram states has 16 bits.
+pub fn header_numbers_fit()
+    ensures { HeaderNumbersFit }
+{}
 
 /// Whether a datagram with this header may be taken: on SSRC 0 each, on another one those of the types
 /// that both ends know.

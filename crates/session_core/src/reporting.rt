@@ -1,9 +1,10 @@
 //! What a session reports of the streams that it sends (RFC 3550 section 6.4.1), and what it hears of
 //! reports.
-ghost use Rattle.std.specs.Prelude.{◌≡◌, ◌++◌, ◌<◌, ℕ, List, [], is_some, length, slice_get, Some, IfOk, OnOk, OnErr};
+ghost use Rattle.std.specs.Prelude.{◌≡◌, ◌++◌, ◌<◌, ℕ, List, [], is_some, if◌then◌else◌, length, slice_get, Some, IfOk, OnOk, OnErr};
 ghost use Rattle.std.specs.List.{AllByRecursion};
 ghost use Rattle.std.specs.Map.{values_of};
 ghost use Rattle.std.specs.Option.{option_copied, option_map};
+ghost use Rattle.report_core.specs.Moments.{unanswered};
 ghost use Rattle.rtcp_wire.specs.declared.packet.Rtcp.{Rtcp as Item};
 ghost use Rattle.stream_core.specs.StreamsRecord.{StreamsRecord, StandsFor};
 ghost use Rattle.stream_core.specs.Tables.{each, change_place};
@@ -99,60 +100,105 @@ fn push_sender_report(
     push_description(alloc, ssrc, cname, feedback)
 }
 
-/// Has the outgoing stream at a place report, where the report of some stream of its media section is due,
-/// and tells whether it did.
-fn report_at<W: GapWindow, S: ResendStore<Sent>>(
+/// What outgoing streams report in a tick.
+#[derive(Debug, Drop)]
+pub struct SenderItems {
+    /// The items, in order.
+    pub items: VecDeque<Rtcp>,
+    /// Whether some stream reports.
+    pub some: bool,
+}
+
+/// Puts what the outgoing stream at a place reports in a tick behind the other items, where the report of
+/// some stream of its media section is due, and tells whether it reports.
+fn push_items_of<W: GapWindow, S: ResendStore<Sent>>(
     alloc: Global,
-    streams: &mut Streams<W, S>,
+    streams: &Streams<W, S>,
     place: usize,
     medias: &[Media],
     mids: &[Mid],
     time: &ReportTime<'_>,
-    feedback: &mut VecDeque<Rtcp>,
+    items: &mut VecDeque<Rtcp>,
 ) -> Result<bool, AllocError>
-    requires { place < length streams.old.tx }
-    ensures some { IfOk result (λ some. option_map (λ x. is_some (reports_in mids.now medias.now x)) (slice_get (values_of streams.old.tx) place) ≡ Some some) }
-    ensures said { OnOk result ((x : TxRecord) → slice_get (values_of streams.old.tx) place ≡ Some x
-        → feedback.new.items ≡ feedback.old.items ++ items_under time.now.types.now time.now.beginning.now time.now.moment x (reports_in mids.now medias.now x)) }
-    ensures after { OnOk result (streams.new ≡ record streams.old { tx = change_place (sender_after medias.now time.now.moment mids.now) streams.old.tx place }) }
-    ensures others { streams.new ≡ record streams.old { tx = streams.new.tx } }
+    requires { place < length streams.now.tx }
+    ensures some { IfOk result (λ some. option_map (λ x. is_some (reports_in mids.now medias.now x)) (slice_get (values_of streams.now.tx) place) ≡ Some some) }
+    ensures said { OnOk result ((x : TxRecord) → slice_get (values_of streams.now.tx) place ≡ Some x
+        → items.new.items ≡ items.old.items ++ items_under time.now.types.now time.now.beginning.now time.now.moment x (reports_in mids.now medias.now x)) }
     ensures cause { OnErr result (mids.now ≡ [] → ⊥) }
-    ensures fit { (more : List Item) × (feedback.new.items ≡ feedback.old.items ++ more) × AllByRecursion FitsAlone more }
+    ensures fit { (more : List Item) × (items.new.items ≡ items.old.items ++ more) × AllByRecursion FitsAlone more }
 {
     let stream = streams.tx(place);
     let Some(media) = reports_in(mids, medias, stream.mid()) else {
         return Ok(false);
     };
     let info = stream.sender_info(time.types, time.moment, time.beginning);
-    push_sender_report(alloc, info, media.cname(), feedback)?;
-    streams.tx_at(place).reported(time.moment);
+    push_sender_report(alloc, info, media.cname(), items)?;
     Ok(true)
 }
 
-/// The reports of outgoing streams in a tick, in order, behind the other items: of each of these media
-/// sections the report of some stream is due. Tells whether some stream reported. The time grows with the
-/// number of streams, and with that of the media sections and of those named for each.
-pub fn report_all<W: GapWindow, S: ResendStore<Sent>>(
+/// What outgoing streams report in a tick, in order: of each of these media sections the report of some
+/// stream is due. Tells whether some stream reports. The time grows with the number of streams, and with
+/// that of the media sections and of those named for each.
+pub fn sender_items<W: GapWindow, S: ResendStore<Sent>>(
     alloc: Global,
-    streams: &mut Streams<W, S>,
+    streams: &Streams<W, S>,
     medias: &[Media],
     mids: &[Mid],
     time: &ReportTime<'_>,
-    feedback: &mut VecDeque<Rtcp>,
-) -> Result<bool, AllocError>
-    ensures some { IfOk result (λ some. some ≡ some_reports medias.now mids.now streams.old.tx) }
-    ensures said { OnOk result (feedback.new.items ≡ feedback.old.items ++ sender_items_with time.now.types.now time.now.beginning.now medias.now time.now.moment mids.now streams.old.tx) }
-    ensures after { OnOk result (streams.new ≡ record streams.old { tx = each (sender_after medias.now time.now.moment mids.now) streams.old.tx }) }
-    ensures others { streams.new ≡ record streams.old { tx = streams.new.tx } }
+) -> Result<SenderItems, AllocError>
+    ensures some { IfOk result (λ made. made.some ≡ some_reports medias.now mids.now streams.now.tx) }
+    ensures said { IfOk result (λ made. made.items.items ≡ sender_items_with time.now.types.now time.now.beginning.now medias.now time.now.moment mids.now streams.now.tx) }
+    ensures fit { IfOk result (λ made. AllByRecursion FitsAlone made.items.items) }
     ensures cause { OnErr result (mids.now ≡ [] → ⊥) }
-    ensures fit { (more : List Item) × (feedback.new.items ≡ feedback.old.items ++ more) × AllByRecursion FitsAlone more }
 {
+    let mut items = VecDeque::new(alloc);
     let mut some = false;
     for place in 0..streams.tx_len() {
-        let said = report_at(alloc, streams, place, medias, mids, time, feedback)?;
+        let said = push_items_of(alloc, streams, place, medias, mids, time, &mut items)?;
         some |= said;
     }
-    Ok(some)
+    Ok(SenderItems { items, some })
+}
+
+/// The outgoing stream at a place reported, where the report of some stream of its media section was due.
+fn report_at<W: GapWindow, S: ResendStore<Sent>>(
+    streams: &mut Streams<W, S>,
+    place: usize,
+    medias: &[Media],
+    mids: &[Mid],
+    moment: Instant,
+)
+    requires { place < length streams.old.tx }
+    ensures { streams.new ≡ record streams.old { tx = change_place (sender_after medias.now moment mids.now) streams.old.tx place } }
+{
+    if reports_in(mids, medias, streams.tx(place).mid()).is_none() {
+        return;
+    }
+    streams.tx_at(place).reported(moment);
+}
+
+/// The outgoing streams reported of whose media section the report of some stream was due. The time grows
+/// as that of `sender_items`.
+pub fn report_all<W: GapWindow, S: ResendStore<Sent>>(
+    streams: &mut Streams<W, S>,
+    medias: &[Media],
+    mids: &[Mid],
+    moment: Instant,
+)
+    ensures { streams.new ≡ record streams.old { tx = each (sender_after medias.now moment mids.now) streams.old.tx } }
+{
+    for place in 0..streams.tx_len() {
+        report_at(streams, place, medias, mids, moment);
+    }
+}
+
+/// The moments of receivers that waited first were answered, where some outgoing stream reported.
+pub fn answered_where(some: bool, moments: &mut ReceiverMoments)
+    ensures { moments.new ≡ (if some then unanswered moments.old else moments.old) }
+{
+    if some {
+        moments.answered();
+    }
 }
 
 /// Tells the outgoing stream at a place its kind, where it was not told and has a media section.

@@ -1,8 +1,10 @@
-//! Reports (RFC 3550 section 6.4, RFC 3611 sections 4.4 and 4.5): when they leave, and what they tell.
+//! Reports (RFC 3550 section 6.4, RFC 3611 sections 4.4 and 4.5) and requests to senders: when they leave,
+//! and what they tell.
 mod counted;
 mod due;
 mod many;
 mod names;
+mod requests;
 mod steps;
 mod told;
 
@@ -12,7 +14,8 @@ use crate::reports::counted::COUNTED;
 use crate::reports::due::DUE;
 use crate::reports::many::{Receivers, answers_all, reports_of_64};
 use crate::reports::names::names_itself;
-use crate::reports::steps::{Step, goes};
+use crate::reports::requests::{REQUESTS, numbers_requests};
+use crate::reports::steps::{Step, expect, goes};
 use crate::reports::told::TOLD;
 use media_base::Duration;
 use session_core::ReportIntervals;
@@ -30,6 +33,8 @@ enum Asked {
     Moments(Receivers),
     /// It names its source, by so many bytes.
     Named(usize),
+    /// It numbers its full intra requests.
+    Numbers,
 }
 
 fn goes_through(alloc: Global, end: &mut End, steps: &[Step]) -> Result<bool, Fail> {
@@ -48,6 +53,10 @@ fn holds(alloc: Global, end: &mut End, asked: Asked) -> Result<bool, Fail> {
         Asked::Many => reports_of_64(alloc, end),
         Asked::Moments(receivers) => answers_all(alloc, end, receivers),
         Asked::Named(len) => names_itself(alloc, end, len),
+        Asked::Numbers => {
+            expect(end, (42, 0, b'v'), true)?;
+            numbers_requests(end)
+        }
     }
 }
 
@@ -65,7 +74,12 @@ fn play(alloc: Global, asked: Asked) -> Result<bool, Fail> {
 
 #[test]
 fn reports_hold(rt: HostRuntime) -> Result<(), Fail> {
-    for (name, steps) in TOLD.iter().chain(COUNTED.iter()).chain(DUE.iter()) {
+    for (name, steps) in TOLD
+        .iter()
+        .chain(COUNTED.iter())
+        .chain(DUE.iter())
+        .chain(REQUESTS.iter())
+    {
         let held = play(rt.alloc(), Asked::Steps(steps))?;
         assert!(rt; held, "{name}");
     }
@@ -98,6 +112,13 @@ fn sources_are_named(rt: HostRuntime) -> Result<(), Fail> {
         let held = play(rt.alloc(), Asked::Named(len))?;
         assert!(rt; held, "{len}");
     }
+    Ok(())
+}
+
+#[test]
+fn full_intra_requests_are_numbered(rt: HostRuntime) -> Result<(), Fail> {
+    let held = play(rt.alloc(), Asked::Numbers)?;
+    assert!(rt; held);
     Ok(())
 }
 

@@ -13,6 +13,7 @@ pub mod Stamps
 pub mod SeenSteps
 pub mod StreamsSteps
 pub mod TableSteps
+pub mod TickSteps
 pub mod Totals
 pub mod TxSteps
 pub mod Untold

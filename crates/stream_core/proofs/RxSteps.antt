@@ -1,12 +1,12 @@
 -- All incoming streams change, or one after the other.
 use Rattle.std.proofs.Common.{◌≡◌, ℕ, zero, suc, ◌+◌, ◌<◌, ◌≤◌, Bool, true, false, List, [], ◌∷◌, ◌++◌, Option, Some, None, length, take, drop, slice_get, refl, sym, ap, subst, ◌∙◌, add-one, arith}
-use Rattle.std.proofs.lemmas.List.{take_all, append-nil, append_assoc}
+use Rattle.std.proofs.lemmas.List.{take_all, append-nil}
 use Rattle.std.specs.List.{AllByRecursion}
 use Rattle.std.specs.Prelude.{if◌then◌else◌, option_and_then, IfSome, IfNone}
 use Rattle.rtcp_wire.specs.declared.packet.Rtcp.{Rtcp}
 use Rattle.report_core.specs.declared.clock.ReportIntervals.{ReportIntervals}
 use Rattle.stream_core.specs.declared.reports.Tick.{Tick}
-use Rattle.stream_core.specs.Reporting.{is_among, report_at, is_report_due, due_mids, report_before, rx_items, rx_after, items_with, after_with}
+use Rattle.stream_core.specs.Reporting.{is_among, report_at, is_report_due, due_mids, report_before, items_with}
 use Rattle.std.specs.Map.{values_of}
 use Rattle.std.specs.Option.{option_map, option_map_or}
 use Rattle.indexmap.specs.IndexMap.{set_value_at}
@@ -14,7 +14,7 @@ use Rattle.repair_core.specs.Rounds.{Heard}
 use Rattle.stream_core.specs.Pauses.{on_view, on_record, told_of, told, first_where, view_untold, is_untold, next_pause, after_pause, untold_in, pause_before, sooner}
 use Rattle.stream_core.specs.RxRecord.{RxState, RxView, RxRecord, StandsFor}
 use Rattle.stream_core.specs.Tables.{each, change_place, Along}
-use Rattle.stream_core.proofs.Alongside.{change_along, value_along, each_along}
+use Rattle.stream_core.proofs.Alongside.{change_along, value_along}
 
 pub pause_more : (first : Option ℕ) (rs : List (ℕ × RxRecord)) (i : ℕ) (r : RxRecord) → slice_get (values_of rs) i ≡ Some r
     → pause_before (sooner first r.state.pause_at) (drop (i + 1) rs) ≡ pause_before first (drop i rs)
@@ -182,44 +182,6 @@ module _ (intervals : ReportIntervals) (now : ℕ) where
 -- among no media sections there is none
 pub among_some : (mid : List ℕ) (mids : List (List ℕ)) → is_among mid mids ≡ true → mids ≡ [] → ⊥
 among_some mid mids is none = let not : is_among mid mids ≡ false = ap (is_among mid) none in absurd cc
-
-module _ {W : Type 0} (remembers : W → Heard → Type 0) (tick : Tick) (mids : List (List ℕ)) where
-  -- one more stream says what it says
-  pub says_more : (xs : List (ℕ × RxView W)) (rs : List (ℕ × RxRecord)) (i : ℕ) (x new : RxView W) (reports : Bool) (before sofar after : List Rtcp)
-      → Along (StandsFor remembers) xs (after_with tick mids (take i rs) ++ drop i rs) → slice_get (values_of xs) i ≡ Some x → reports ≡ is_among x.state.mid mids
-      → ((key : ℕ) (r : RxRecord) → StandsFor remembers x r → StandsFor remembers new (rx_after tick reports r) × (after ≡ sofar ++ rx_items tick reports (key, r)))
-      → sofar ≡ before ++ items_with tick mids (take i rs)
-      → Along (StandsFor remembers) (set_value_at xs i new) (after_with tick mids (take (i + 1) rs) ++ drop (i + 1) rs) × (after ≡ before ++ items_with tick mids (take (i + 1) rs))
-  says_more xs rs i x new reports before sofar after h at which said is =
-      let y = value_along (StandsFor remembers) xs (after_with tick mids (take i rs) ++ drop i rs) i x h at in
-      let there = not_yet rs i y.0 y.1 in (
-        each_along (StandsFor remembers) xs rs i x new (λ r. rx_after tick (is_among r.state.mid mids) r) h at
-            (λ r k. subst (λ b. StandsFor remembers new (rx_after tick b r)) (same r k) (said 0 r k).0),
-        (said 0 y.0 y.2).1
-            ∙ ap (λ b. sofar ++ rx_items tick b (0, y.0)) (same y.0 y.2)
-            ∙ ap (λ l. l ++ rx_items tick (is_among y.0.state.mid mids) (0, y.0)) is
-            ∙ append_assoc before (items_with tick mids (take i rs)) (rx_items tick (is_among y.0.state.mid mids) (0, y.0))
-            ∙ ap (λ l. before ++ l) (one_more rs i y.0 there ∙ ap (λ n. items_with tick mids (take n rs)) (sym (add-one i))),
-      )
-    where
-      same : (r : RxRecord) → StandsFor remembers x r → reports ≡ is_among r.state.mid mids
-      same r k = which ∙ ap (λ (s : RxState). is_among s.mid mids) k.state
-
-      not_yet : (rs : List (ℕ × RxRecord)) (i : ℕ) (r : RxRecord) → slice_get (values_of (after_with tick mids (take i rs) ++ drop i rs)) i ≡ Some r → slice_get (values_of rs) i ≡ Some r
-      not_yet [] zero r at = at
-      not_yet [] (suc i) r at = at
-      not_yet (e ∷ es) zero r at = at
-      not_yet (e ∷ es) (suc i) r at = not_yet es i r at
-
-      one_more : (rs : List (ℕ × RxRecord)) (i : ℕ) (r : RxRecord) → slice_get (values_of rs) i ≡ Some r
-          → items_with tick mids (take i rs) ++ rx_items tick (is_among r.state.mid mids) (0, r) ≡ items_with tick mids (take (suc i) rs)
-      one_more [] i r at = absurd cc
-      one_more (e ∷ es) zero r at =
-          let same : r ≡ e.1 = cc in
-          ap (λ (x : RxRecord). rx_items tick (is_among x.state.mid mids) (0, x)) same ∙ sym (append-nil (rx_items tick (is_among e.1.state.mid mids) e))
-      one_more (e ∷ es) (suc i) r at =
-          append_assoc (rx_items tick (is_among e.1.state.mid mids) e) (items_with tick mids (take i es)) (rx_items tick (is_among r.state.mid mids) (0, r))
-          ∙ ap (λ l. rx_items tick (is_among e.1.state.mid mids) e ++ l) (one_more es i r at)
 
 -- at the end all have said it
 pub said_all : (tick : Tick) (mids : List (List ℕ)) (rs : List (ℕ × RxRecord)) (i : ℕ) → length rs ≤ i → items_with tick mids (take i rs) ≡ items_with tick mids rs

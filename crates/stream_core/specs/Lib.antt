@@ -6,6 +6,7 @@ pub mod Pauses
 pub mod Queue
 pub mod Repairing
 pub mod Reporting
+pub mod Requests
 pub mod RxRecord
 pub mod RxRepairs
 pub mod Sealing

@@ -1,5 +1,5 @@
 -- What streams keep for their reports, and what they say in a tick (RFC 3550 section 6.4).
-use Rattle.std.specs.Prelude.{◌≡◌, ℕ, ◌==◌, ◌≤◌, Bool, is_some, nat_le, if◌then◌else◌, List, [], ◌∷◌, ◌++◌, length, Option, Some, None, option_and_then}
+use Rattle.std.specs.Prelude.{◌≡◌, ℕ, ◌+◌, ◌==◌, ◌≤◌, Bool, is_some, nat_le, if◌then◌else◌, List, [], ◌∷◌, ◌++◌, length, Option, Some, None, option_and_then}
 use Rattle.std.specs.List.{flat_map, list_any}
 use Rattle.std.specs.Option.{option_map}
 use Rattle.std.specs.Cmp.Lexicographic.{pointwise}
@@ -9,7 +9,7 @@ use Rattle.repair_core.specs.Counts.{counts_report, counts_after}
 use Rattle.repair_core.specs.Fresh.{greatest_of}
 use Rattle.repair_core.specs.Rounds.{Heard, taken}
 use Rattle.rtcp_wire.specs.declared.packet.Rtcp.{Rtcp}
-use Rattle.rtcp_wire.specs.declared.packet.Rtcp.TheVariants.{SenderReport, ReceiverReport, SourceDescription, ExtendedReport, Nack}
+use Rattle.rtcp_wire.specs.declared.packet.Rtcp.TheVariants.{SenderReport, ReceiverReport, SourceDescription, ExtendedReport, Nack, Pli, Fir, Remb}
 use Rattle.rtcp_wire.specs.declared.extended.ReportBlock.{ReportBlock}
 use Rattle.rtcp_wire.specs.declared.extended.ReportBlock.TheVariants.{Rrtr, Dlrr}
 use Rattle.rtcp_wire.specs.declared.report.SenderInfo.{SenderInfo}
@@ -22,8 +22,9 @@ use Rattle.report_core.specs.Sender.{info_of, name_of}
 use Rattle.stream_core.specs.declared.payload_types.TypeRow.{TypeRow}
 use Rattle.stream_core.specs.declared.reports.Tick.{Tick}
 use Rattle.stream_core.specs.Missing.{nack_of, after_round}
-use Rattle.stream_core.specs.Pauses.{sooner}
-use Rattle.stream_core.specs.RxRecord.{RxState, RxRecord}
+use Rattle.stream_core.specs.Pauses.{on_record, sooner}
+use Rattle.stream_core.specs.Requests.{is_request, request_count, request_items, told_requests}
+use Rattle.stream_core.specs.RxRecord.{RxState, RxView, RxRecord}
 use Rattle.stream_core.specs.Tables.{each, value_under}
 use Rattle.stream_core.specs.TxRecord.{TxRecord}
 
@@ -71,22 +72,38 @@ report_items t r =
     ReceiverReport (receiver_report_of t.sender_ssrc (block_at t.now r))
     ∷ ExtendedReport (moment_report_of t.sender_ssrc t.now t.beginning) ∷ []
 
--- the stream after it reported in a tick, where it does, and after it asked, where the tick is a round
+-- what an incoming stream says in a tick before it asks for packets: what it asks its sender for, and then its reports, where
+-- the report of some stream of its media section is due
+abbrev pub front_items : Tick → Bool → RxRecord → List Rtcp
+front_items t reports r =
+    request_items t.sender_ssrc r.state.ssrc r.state.requests ++ (if reports then report_items t r else [])
+
+-- how many items these are
+abbrev pub front_count : Bool → RxState → ℕ
+front_count reports s = request_count s.requests + (if reports then 2 else 0)
+
+-- the stream after what it asked its sender for was told; after it reported in a tick, where it does; and after it asked for
+-- packets, where the tick is a round
+abbrev pub with_told : RxState → RxState
+with_told s = record s { requests = told_requests s.requests }
+
 abbrev pub after_report : Tick → Bool → RxRecord → RxRecord
 after_report t reports r = if reports then reported t.now r else r
+
+abbrev pub after_front : Tick → Bool → RxRecord → RxRecord
+after_front t reports r = after_report t reports (on_record with_told r)
 
 abbrev pub after_asking : Tick → RxRecord → RxRecord
 after_asking t r = if t.is_round then after_round t.now r else r
 
--- what an incoming stream says in a tick: its reports, where the report of some stream of its media section is due, and then
--- what it asks for, where the tick is a round
+-- all that it says in a tick, and the stream after that
 abbrev pub rx_items : Tick → Bool → ℕ × RxRecord → List Rtcp
 rx_items t reports e =
-    (if reports then report_items t e.1 else [])
-    ++ (if t.is_round then nack_of t.sender_ssrc t.now (e.0, after_report t reports e.1) else [])
+    front_items t reports e.1
+    ++ (if t.is_round then nack_of t.sender_ssrc t.now (e.0, after_front t reports e.1) else [])
 
 abbrev pub rx_after : Tick → Bool → RxRecord → RxRecord
-rx_after t reports r = after_asking t (after_report t reports r)
+rx_after t reports r = after_asking t (after_front t reports r)
 
 -- what all say, in order, and all after that; of these media sections the report of some stream is due
 abbrev pub items_with : Tick → List (List ℕ) → List (ℕ × RxRecord) → List Rtcp
@@ -95,14 +112,30 @@ items_with t mids rs = flat_map (λ e. rx_items t (is_among e.1.state.mid mids) 
 abbrev pub after_with : Tick → List (List ℕ) → List (ℕ × RxRecord) → List (ℕ × RxRecord)
 after_with t mids rs = each (λ r. rx_after t (is_among r.state.mid mids) r) rs
 
+-- what all say before they ask for packets, in order, and how many items these are
+abbrev pub fronts_with : Tick → List (List ℕ) → List (ℕ × RxRecord) → List Rtcp
+fronts_with t mids rs = flat_map (λ e. front_items t (is_among e.1.state.mid mids) e.1) rs
+
+abbrev pub fronts_count : {W : Type 0} → List (List ℕ) → List (ℕ × RxView W) → ℕ
+fronts_count mids [] = 0
+fronts_count mids (e ∷ es) = front_count (is_among e.1.state.mid mids) e.1.state + fronts_count mids es
+
 abbrev pub incoming_items : Tick → List (ℕ × RxRecord) → List Rtcp
 incoming_items t rs = items_with t (due_mids t.intervals t.now rs) rs
 
 abbrev pub incoming_after : Tick → List (ℕ × RxRecord) → List (ℕ × RxRecord)
 incoming_after t rs = after_with t (due_mids t.intervals t.now rs) rs
 
--- an item that is short: it asks with at most six entries; it reports of one source at most, or of a sender alone; it holds one
--- block, the moment of a receiver or at most 50 answers to such; or it names one source, with 1 to 255 bytes
+-- some incoming stream asks its sender for something
+abbrev pub asks_sender : RxRecord → Bool
+asks_sender r = is_request r.state.requests
+
+abbrev pub any_request : List (ℕ × RxRecord) → Bool
+any_request rs = list_any (λ e. asks_sender e.1) rs
+
+-- an item that is short: it asks for packets with at most six entries, or one source for a key frame or a rate; it reports of
+-- one source at most, or of a sender alone; it holds one block, the moment of a receiver or at most 50 answers to such; or it
+-- names one source, with 1 to 255 bytes
 abbrev pub IsBriefBlock : ReportBlock → Type 0
 IsBriefBlock (Rrtr m) = Unit {0}
 IsBriefBlock (Dlrr d) = length d.items ≤ 50
@@ -114,6 +147,9 @@ AreBriefBlocks (b ∷ c ∷ rest) = ⊥
 
 abbrev pub IsBrief : Rtcp → Type 0
 IsBrief (Nack n) = length n.reports ≤ 6
+IsBrief (Pli p) = Unit {0}
+IsBrief (Fir f) = length f.reports ≤ 1
+IsBrief (Remb m) = length m.ssrcs ≤ 1
 IsBrief (ReceiverReport r) = length r.reports ≤ 1
 IsBrief (SenderReport r) = r.reports ≡ []
 IsBrief (ExtendedReport x) = AreBriefBlocks x.blocks

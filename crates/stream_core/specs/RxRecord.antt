@@ -7,13 +7,15 @@ use Rattle.repair_core.specs.Rounds.{Heard, started_at, came, taken}
 use Rattle.rtx_core.specs.Repairs.{RepairPast, Remembers as RepairsRemember}
 use Rattle.stream_core.specs.declared.reports.Arrival.{Arrival}
 use Rattle.stream_core.specs.declared.reports.RxReports.{RxReports}
+use Rattle.stream_core.specs.declared.requests.RxRequests.{RxRequests}
 use Rattle.stream_core.specs.Arrivals.{no_rx_reports, with_arrival, forgotten}
+use Rattle.stream_core.specs.Requests.{no_requests}
 
 -- all of an incoming stream but its window: its SSRC and that of its repairs, the media section and the stream in it; the
 -- rollover count that the next datagram is taken to have, if one was set; whether it asks for nothing that is missing; how
 -- long nothing comes on it until it is paused; from which moment on it is paused unless something comes, None while it is
--- paused; whether it was paused or unpaused since that was told; the round trip to its sender, where one is known; and what it
--- keeps for its reports
+-- paused; whether it was paused or unpaused since that was told; the round trip to its sender, where one is known; what it
+-- keeps for its reports; and what it asks of its sender at the next tick
 pub record RxState : Type 0 where
   pub ssrc : ℕ
   pub rtx : Option ℕ
@@ -26,6 +28,7 @@ pub record RxState : Type 0 where
   pub untold : Bool
   pub trip : Option ℕ
   pub reports : RxReports
+  pub requests : RxRequests
 
 -- an incoming stream as its callers see it: the windows of its packets and of its repairs
 pub record RxView (W : Type 0) : Type 0 where
@@ -55,6 +58,7 @@ expected ssrc rtx mid rid suppressed threshold = record {
     untold = false;
     trip = None;
     reports = no_rx_reports;
+    requests = no_requests;
   };
   numbers = None;
   repairs = None;

@@ -1,24 +1,29 @@
-ghost use Rattle.std.specs.Prelude.{◌≡◌, ◌<◌, ◌≤◌, ◌^◌, ◌%◌, None, length, is_none, IfOk, IfSome, OnOk, OnErr};
+ghost use Rattle.std.specs.Prelude.{◌≡◌, ◌<◌, ◌≤◌, ◌+◌, ◌^◌, ◌%◌, ◌++◌, None, Some, length, is_none, IfOk, IfSome, OnOk, OnErr};
 ghost use Rattle.std.specs.Option.{ForSome};
+ghost use Rattle.std.specs.VecDeque.{deque_len};
 ghost use Rattle.repair_core.specs.Fresh.{is_fresh, started_from, greatest_of};
 ghost use Rattle.repair_core.specs.Entries.{packed};
 ghost use Rattle.repair_core.specs.Rounds.{came, started_at};
 ghost use Rattle.stream_core.specs.Missing.{is_enabled, due_of, after_round};
 ghost use Rattle.stream_core.specs.Pauses.{checked, told_of, told};
 ghost use Rattle.report_core.specs.Receiver.{receiver_report_of};
-ghost use Rattle.stream_core.specs.Reporting.{report_at, is_report_due, block_at, reported, with_news};
+ghost use Rattle.stream_core.specs.Reporting.{report_at, is_report_due, block_at, greatest_in, reported, with_told, front_count, with_news};
+ghost use Rattle.stream_core.specs.Requests.{is_request, request_count, request_items, with_keyframe, with_bitrate};
+ghost use Rattle.repair_core.specs.Counts.{counts_report, counts_after};
 ghost use Rattle.stream_core.specs.RxRecord.{RxRecord, StandsFor, expected, taken_of, number_for, fresh_number, unpaused, came_at, opened_as, restarted};
 ghost use Rattle.stream_core.specs.RxRepairs.{own_number, fresh_repair, repair_came, restored_for, restored, with_number, after_restored};
 
 use crate::reports::{Arrival, RxReports};
+use crate::requests::{KeyframeRequestKind, RxRequests};
 use crate::stream_paused::StreamPaused;
-use media_base::{Duration, Instant};
-use repair_core::GapWindow;
+use media_base::{Bitrate, Duration, Instant};
+use repair_core::{GapWindow, ReceptionCounts};
 use report_core::{LastSenderReport, ReportIntervals, receiver_report};
-use rtcp_wire::{ReceiverReport, SenderInfo};
-use rtp_base::{Mid, MidRid, NackEntry, ReportList, Rid, SeqNo, Ssrc, widen16};
+use rtcp_wire::{ReceiverReport, Rtcp, SenderInfo};
+use rtp_base::{Mid, MidRid, NackEntry, ReceptionReport, ReportList, Rid, SeqNo, Ssrc, widen16};
 use rtx_core::RepairWindow;
 use std::alloc::{AllocError, Global};
+use std::collections::VecDeque;
 use std::marker::Model;
 
 /// A stream that a session receives (RFC 3550 section 3). Its window is made when the first number is
@@ -43,6 +48,8 @@ pub struct StreamRx<W: GapWindow> {
     // The round trip to its sender.
     trip: Option<Duration>,
     reports: RxReports,
+    // What it asks of its sender at the next tick.
+    requests: RxRequests,
     window: Option<W>,
     repairs: RepairWindow,
 }
@@ -65,6 +72,7 @@ impl<W: GapWindow> Model for StreamRx<W> {
         untold = s.untold;
         trip = s.trip;
         reports = s.reports;
+        requests = s.requests;
       };
       window = s.window;
       repairs = s.repairs;
@@ -132,6 +140,7 @@ impl<W: GapWindow> StreamRx<W> {
             untold: false,
             trip: None,
             reports: RxReports::new(),
+            requests: RxRequests::new(),
             window: None,
             repairs: RepairWindow::new(),
         }
@@ -483,34 +492,97 @@ impl<W: GapWindow> StreamRx<W> {
             .is_due(intervals, self.rtx.is_some(), now)
     }
 
-    /// Its report at a moment (RFC 3550 section 6.4.2): how it is received, or nothing of it where no
-    /// packet came on it. The fraction lost is that since the report before. Without memory nothing
-    /// changes.
-    pub fn create_report(
-        &mut self,
-        alloc: Global,
-        sender_ssrc: Ssrc,
-        now: Instant,
-    ) -> Result<ReceiverReport, AllocError>
-        ensures report { IfOk result (λ x. (r : RxRecord) → StandsFor W.remembers self.old r → x ≡ receiver_report_of sender_ssrc (block_at now r)) }
-        ensures after { OnOk result ((r : RxRecord) → StandsFor W.remembers self.old r → StandsFor W.remembers self.new (reported now r)) }
-        ensures state { self.new.state ≡ record self.old.state { reports = self.new.state.reports } }
-        ensures short { IfOk result (λ x. length x.reports ≤ 1) }
-        ensures err { OnErr result (self.new ≡ self.old) }
+    /// What is counted of its packets, with the greatest number that was taken.
+    fn counted(&self) -> (ReceptionCounts, Option<ReceptionReport>)
+        ensures counts { (r : RxRecord) → StandsFor W.remembers self.now r → result.0 ≡ counts_after (greatest_in r.numbers) r.state.reports.counts }
+        ensures report { (r : RxRecord) → StandsFor W.remembers self.now r → result.1 ≡ counts_report (greatest_in r.numbers) r.state.reports.counts }
     {
         let greatest = match &self.window {
             Some(window) => window.max_seq(),
             None => None,
         };
         let mut counts = self.reports.counts;
-        let block = match counts.report(greatest) {
+        let report = counts.report(greatest);
+        (counts, report)
+    }
+
+    /// Its report at a moment (RFC 3550 section 6.4.2): how it is received, or nothing of it where no
+    /// packet came on it. The fraction lost is that since the report before.
+    pub fn create_report(
+        &self,
+        alloc: Global,
+        sender_ssrc: Ssrc,
+        now: Instant,
+    ) -> Result<ReceiverReport, AllocError>
+        ensures report { IfOk result (λ x. (r : RxRecord) → StandsFor W.remembers self.now r → x ≡ receiver_report_of sender_ssrc (block_at now r)) }
+        ensures short { IfOk result (λ x. length x.reports ≤ 1) }
+    {
+        let block = match self.counted().1 {
             Some(counted) => Some(self.reports.news.block(self.ssrc, &counted, now)),
             None => None,
         };
-        let report = receiver_report(alloc, sender_ssrc, block)?;
-        self.reports.counts = counts;
+        receiver_report(alloc, sender_ssrc, block)
+    }
+
+    /// It reported at a moment: the next fraction lost is that from now on, and the next report is due an
+    /// interval later.
+    pub fn reported(&mut self, now: Instant)
+        ensures after { (r : RxRecord) → StandsFor W.remembers self.old r → StandsFor W.remembers self.new (reported now r) }
+        ensures state { self.new.state ≡ record self.old.state { reports = self.new.state.reports } }
+    {
+        self.reports.counts = self.counted().0;
         self.reports.clock.report(now);
-        Ok(report)
+    }
+
+    /// Asks the sender for a key frame at the next tick. A request that waits is replaced.
+    pub fn request_keyframe(&mut self, kind: KeyframeRequestKind)
+        ensures { self.new ≡ record self.old { state = record self.old.state { requests = with_keyframe kind self.old.state.requests } } }
+    {
+        self.requests.keyframe = Some(kind);
+    }
+
+    /// Tells the sender at the next tick the greatest rate at which it is to send (REMB). A rate that waits
+    /// is replaced.
+    pub fn request_remb(&mut self, bitrate: Bitrate)
+        ensures { self.new ≡ record self.old { state = record self.old.state { requests = with_bitrate bitrate self.old.state.requests } } }
+    {
+        self.requests.bitrate = Some(bitrate);
+    }
+
+    /// Whether it asks its sender for something at the next tick.
+    pub fn has_pending_request(&self) -> bool
+        ensures { result ≡ is_request self.now.state.requests }
+    {
+        self.requests.is_some()
+    }
+
+    /// Puts the items that ask its sender behind the others.
+    pub(crate) fn push_requests(
+        &self,
+        alloc: Global,
+        sender_ssrc: Ssrc,
+        items: &mut VecDeque<Rtcp>,
+    ) -> Result<(), AllocError>
+        ensures items { OnOk result (items.new.items ≡ items.old.items ++ request_items sender_ssrc self.now.state.ssrc self.now.state.requests) }
+        ensures len { OnOk result (deque_len items.new ≡ deque_len items.old + request_count self.now.state.requests) }
+        ensures cause { OnErr result (0 < request_count self.now.state.requests) }
+    {
+        self.requests
+            .push_items(alloc, sender_ssrc, self.ssrc, items)
+    }
+
+    /// What it asked its sender was told.
+    pub(crate) fn told_requests(&mut self)
+        ensures { self.new ≡ record self.old { state = with_told self.old.state } }
+    {
+        self.requests.told();
+    }
+
+    /// How many items it says in a tick before it asks for packets.
+    pub(crate) fn front_len(&self, reports: bool) -> usize
+        ensures { result ≡ front_count reports self.now.state }
+    {
+        self.requests.len() + if reports { 2 } else { 0 }
     }
 
     /// Its sender reported, and that came at a moment (RFC 3550 section 6.4.1).

@@ -1,13 +1,9 @@
 ghost use Rattle.std.specs.Prelude.{◌≡◌, ◌<◌, ◌≤◌, ◌^◌, ◌%◌, ◌+◌, ◌++◌, ◌∷◌, ◌⊎◌, ℕ, List, [], None, Some, true, if◌then◌else◌, length, take, slice_get, IfOk, IfSome, IfNone, OnOk, OnErr, IsErrOf, is_some};
-ghost use Rattle.std.specs.List.{AllByRecursion};
 ghost use Rattle.std.specs.Map.{keys_of, values_of};
 ghost use Rattle.std.specs.Option.{ForSome, option_map};
-ghost use Rattle.rtcp_wire.specs.declared.packet.Rtcp.{Rtcp as Item};
-ghost use Rattle.std.specs.VecDeque.{deque_len, deque_capacity};
-ghost use Rattle.stream_core.specs.Missing.{any_enabled, nack_with};
+ghost use Rattle.stream_core.specs.Missing.{any_enabled};
 ghost use Rattle.stream_core.specs.Pauses.{checked, on_view, on_record, first_where, view_untold, next_pause, after_pause, untold_in, first_pause, sooner, with_trip};
 ghost use Rattle.stream_core.specs.RxRecord.{RxRecord, StandsFor as RxStandsFor, opened_as};
-ghost use Rattle.stream_core.specs.Reporting.{due_mids, due_tx_mids, is_among, report_before, reported, report_items, tx_report_before, rx_items, rx_after, items_with, after_with, incoming_items, incoming_after, with_news, IsBrief};
 ghost use Rattle.stream_core.specs.RxRepairs.{repair_came, after_restored};
 ghost use Rattle.rtx_core.specs.Resends.{recached};
 ghost use Rattle.rtp_wire.specs.HeaderLaws.{IsReadAgain};
@@ -17,23 +13,23 @@ ghost use Rattle.stream_core.specs.StreamsRecord.{StreamsRecord, StandsFor, no_s
 ghost use Rattle.stream_core.specs.Tables.{Along, place_of, value_under, with_new, without_key, each, change_at};
 ghost use Rattle.stream_core.specs.TxRecord.{TxRecord, declared, after_timeout, any_waits, IsSealable};
 
+mod feedback;
+
 use crate::payload_types::PayloadTypes;
 use crate::repairing::{Sent, poll_alone, poll_both};
-use crate::reports::{Arrival, Tick};
+use crate::reports::Arrival;
 use crate::ssrc_table::SsrcTable;
 use crate::stream_paused::StreamPaused;
 use crate::stream_rx::StreamRx;
 use crate::stream_tx::{PacketReceipt, StreamTx};
 use crate::transport::Transport;
+pub use feedback::is_among;
 use media_base::{Duration, Instant};
 use repair_core::GapWindow;
-use report_core::{ReportIntervals, moment_report};
 use resend_core::ResendStore;
-use rtcp_wire::{Nack, Rtcp, SenderInfo};
-use rtp_base::{Mid, MidRid, NackEntry, ReportList, SeqNo, Ssrc};
+use rtp_base::{MidRid, NackEntry, SeqNo, Ssrc};
 use rtx_core::{ResendError, ResendQueue};
 use std::alloc::{AllocError, Global};
-use std::collections::VecDeque;
 use std::marker::Model;
 
 /// The streams that a session sends and receives, each under its SSRC, in order of declaration.
@@ -87,123 +83,6 @@ fn set_trips<W: GapWindow>(streams: &mut SsrcTable<StreamRx<W>>, trip: &Option<D
     for place in 0..streams.len() {
         streams.at_mut(place).set_trip(*trip);
     }
-}
-
-/// Puts the item that asks for what these entries name, if there are some, behind the others. Without
-/// memory nothing changes.
-fn push_nack(
-    sender_ssrc: Ssrc,
-    ssrc: Ssrc,
-    reports: ReportList<NackEntry>,
-    feedback: &mut VecDeque<Rtcp>,
-) -> Result<(), AllocError>
-    requires few { length reports ≤ 6 }
-    ensures items { OnOk result (feedback.new.items ≡ feedback.old.items ++ nack_with sender_ssrc ssrc reports) }
-    ensures brief { (more : List Item) × (feedback.new.items ≡ feedback.old.items ++ more) × AllByRecursion IsBrief more }
-{
-    if reports.is_empty() {
-        return Ok(());
-    }
-    feedback.push_back(Rtcp::Nack(Nack {
-        sender_ssrc,
-        ssrc,
-        reports,
-    }))?;
-    Ok(())
-}
-
-/// Puts the report of an incoming stream behind the other items, and the moment of the receiver behind
-/// that.
-fn push_report<W: GapWindow>(
-    alloc: Global,
-    stream: &mut StreamRx<W>,
-    tick: &Tick,
-    feedback: &mut VecDeque<Rtcp>,
-) -> Result<(), AllocError>
-    ensures reported { OnOk result ((r : RxRecord) → RxStandsFor W.remembers stream.old r → RxStandsFor W.remembers stream.new (reported tick.entry.now.now r)
-        × (feedback.new.items ≡ feedback.old.items ++ report_items tick.entry.now r)) }
-    ensures brief { (more : List Item) × (feedback.new.items ≡ feedback.old.items ++ more) × AllByRecursion IsBrief more }
-{
-    let moment = moment_report(alloc, tick.sender_ssrc, tick.now, &tick.beginning)?;
-    let report = stream.create_report(alloc, tick.sender_ssrc, tick.now)?;
-    feedback.push_back(Rtcp::ReceiverReport(report))?;
-    feedback.push_back(Rtcp::ExtendedReport(moment))?;
-    Ok(())
-}
-
-/// What an incoming stream says in a tick, behind the other items: its report, where it makes one, then
-/// what it asks for, where the tick is a round.
-fn say<W: GapWindow>(
-    alloc: Global,
-    stream: &mut StreamRx<W>,
-    tick: &Tick,
-    reports: bool,
-    feedback: &mut VecDeque<Rtcp>,
-) -> Result<(), AllocError>
-    ensures said { OnOk result ((key : ℕ) (r : RxRecord) → RxStandsFor W.remembers stream.old r → RxStandsFor W.remembers stream.new (rx_after tick.entry.now reports r)
-        × (feedback.new.items ≡ feedback.old.items ++ rx_items tick.entry.now reports (key, r))) }
-    ensures brief { (more : List Item) × (feedback.new.items ≡ feedback.old.items ++ more) × AllByRecursion IsBrief more }
-    ensures cause { OnErr result ((tick.entry.now.is_round ≡ true) ⊎ (reports ≡ true)) }
-{
-    if reports {
-        push_report(alloc, stream, tick, feedback)?;
-    }
-    if tick.is_round {
-        let ssrc = stream.ssrc();
-        let entries = stream.nack_report(tick.now);
-        push_nack(tick.sender_ssrc, ssrc, entries, feedback)?;
-    }
-    Ok(())
-}
-
-/// What each incoming stream says in a tick, in order, behind the other items: of these media sections the
-/// report of some stream is due.
-fn say_all<W: GapWindow>(
-    alloc: Global,
-    streams: &mut SsrcTable<StreamRx<W>>,
-    tick: &Tick,
-    mids: &[Mid],
-    feedback: &mut VecDeque<Rtcp>,
-) -> Result<(), AllocError>
-    ensures said { OnOk result ((rs : List (ℕ × RxRecord)) → Along (RxStandsFor W.remembers) streams.old rs
-        → Along (RxStandsFor W.remembers) streams.new (after_with tick.entry.now mids.now rs)
-        × (feedback.new.items ≡ feedback.old.items ++ items_with tick.entry.now mids.now rs)) }
-    ensures brief { (more : List Item) × (feedback.new.items ≡ feedback.old.items ++ more) × AllByRecursion IsBrief more }
-    ensures cause { OnErr result ((tick.entry.now.is_round ≡ true) ⊎ (mids.now ≡ [] → ⊥)) }
-{
-    for place in 0..streams.len() {
-        let stream = streams.at_mut(place);
-        let reports = is_among(stream.mid(), mids);
-        say(alloc, stream, tick, reports, feedback)?;
-    }
-    Ok(())
-}
-
-/// Whether a media section is among these.
-pub fn is_among(mid: Mid, mids: &[Mid]) -> bool
-    ensures { result ≡ is_among mid mids.now }
-{
-    mids.iter().any(|other| *other == mid)
-}
-
-/// The media sections of the incoming streams whose reports are due at a moment, in order.
-fn due_mids<W: GapWindow>(
-    alloc: Global,
-    streams: &SsrcTable<StreamRx<W>>,
-    intervals: &ReportIntervals,
-    now: Instant,
-) -> Result<Vec<Mid>, AllocError>
-    ensures mids { IfOk result (λ v. (rs : List (ℕ × RxRecord)) → Along (RxStandsFor W.remembers) streams.now rs → v.items ≡ due_mids intervals.now now rs) }
-    ensures cause { OnErr result ((rs : List (ℕ × RxRecord)) → Along (RxStandsFor W.remembers) streams.now rs → due_mids intervals.now now rs ≡ [] → ⊥) }
-{
-    let mut mids = Vec::new(alloc);
-    for place in 0..streams.len() {
-        let stream = streams.at(place);
-        if stream.needs_report(intervals, now) {
-            mids.push(stream.mid())?;
-        }
-    }
-    Ok(mids)
 }
 
 /// The earlier of two moments, where there are some.
@@ -627,92 +506,6 @@ impl<W: GapWindow, S: ResendStore<Sent>> Streams<W, S> {
             }
         }
         false
-    }
-
-    /// What each incoming stream says in a tick, in order, behind the items that wait: where the report of
-    /// some stream of its media section is due, its own (RFC 3550 section 6.4.2) and the moment of the
-    /// receiver (RFC 3611 section 4.4); where the tick is a round and it asks for what is missing, an item
-    /// that asks for what is due (RFC 4585 section 6.2.1). Without memory some of them may have been said.
-    /// The time grows with the number of streams, and with its square where reports are due.
-    pub fn create_feedback(
-        &mut self,
-        tick: &Tick,
-        feedback: &mut VecDeque<Rtcp>,
-    ) -> Result<(), AllocError>
-        ensures said { OnOk result ((r : StreamsRecord) → StandsFor W.remembers S.stands_for self.old r
-            → StandsFor W.remembers S.stands_for self.new (record r { rx = incoming_after tick.entry.now r.rx })
-            × (feedback.new.items ≡ feedback.old.items ++ incoming_items tick.entry.now r.rx)) }
-        ensures brief { (more : List Item) × (feedback.new.items ≡ feedback.old.items ++ more) × AllByRecursion IsBrief more }
-        ensures cause { OnErr result ((r : StreamsRecord) → StandsFor W.remembers S.stands_for self.old r
-            → (tick.entry.now.is_round ≡ true) ⊎ (due_mids tick.entry.now.intervals tick.entry.now.now r.rx ≡ [] → ⊥)) }
-        ensures tx { self.new.tx ≡ self.old.tx }
-        ensures repairs { self.new.repairs ≡ self.old.repairs }
-        ensures threshold { self.new.threshold ≡ self.old.threshold }
-        ensures originals { self.new.originals ≡ self.old.originals }
-    {
-        let mids = due_mids(self.alloc, &self.rx, &tick.intervals, tick.now)?;
-        self.next_untold = 0;
-        say_all(self.alloc, &mut self.rx, tick, mids.as_slice(), feedback)
-    }
-
-    /// The first moment at which the report of an incoming stream is due, None where there is none. The
-    /// time grows with the number of streams.
-    pub fn receiver_reports_at(&self, intervals: &ReportIntervals) -> Option<Instant>
-        ensures { (r : StreamsRecord) → StandsFor W.remembers S.stands_for self.now r → result ≡ report_before intervals.now None r.rx }
-    {
-        let mut first = None;
-        for place in 0..self.rx.len() {
-            let at = self.rx.at(place).receiver_report_at(intervals);
-            first = sooner(first, Some(at));
-        }
-        first
-    }
-
-    /// The same of outgoing streams: before the kind of one was told its moment is one that never comes.
-    pub fn sender_reports_at(&self, intervals: &ReportIntervals) -> Option<Instant>
-        ensures { result ≡ tx_report_before intervals.now None self.now.tx }
-    {
-        let mut first = None;
-        for place in 0..self.tx.len() {
-            let at = self.tx.at(place).sender_report_at(intervals);
-            first = sooner(first, Some(at));
-        }
-        first
-    }
-
-    /// The media sections of the outgoing streams whose reports are due at a moment, in order. The time
-    /// grows with the number of streams.
-    pub fn due_sender_mids(
-        &self,
-        intervals: &ReportIntervals,
-        now: Instant,
-    ) -> Result<Vec<Mid>, AllocError>
-        ensures mids { IfOk result (λ v. v.items ≡ due_tx_mids intervals.now now self.now.tx) }
-        ensures cause { OnErr result (due_tx_mids intervals.now now self.now.tx ≡ [] → ⊥) }
-    {
-        let mut mids = Vec::new(self.alloc);
-        for place in 0..self.tx.len() {
-            let stream = self.tx.at(place);
-            if stream.needs_report(intervals, now) {
-                mids.push(stream.mid())?;
-            }
-        }
-        Ok(mids)
-    }
-
-    /// The sender of an incoming stream reported, and that came at a moment: one look-up in a hash table.
-    #[tactic(auto, using(crate::proofs::Alongside::set_same))]
-    pub fn handle_sender_info(&mut self, info: &SenderInfo, now: Instant)
-        ensures heard { (r : StreamsRecord) → StandsFor W.remembers S.stands_for self.old r
-            → StandsFor W.remembers S.stands_for self.new (record r { rx = change_at info.now.ssrc (on_record (with_news info.now now)) r.rx }) }
-        ensures tx { self.new.tx ≡ self.old.tx }
-        ensures repairs { self.new.repairs ≡ self.old.repairs }
-        ensures threshold { self.new.threshold ≡ self.old.threshold }
-        ensures originals { self.new.originals ≡ self.old.originals }
-    {
-        if let Some(place) = self.rx.place(info.ssrc) {
-            self.rx.at_mut(place).handle_sender_info(info, now);
-        }
     }
 
     /// Sets the round trip of each stream. The time grows with the number of streams.

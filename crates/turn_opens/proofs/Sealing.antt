@@ -1,13 +1,11 @@
 -- What opens in a session is a seal of the plain datagram that it opens to, and a seal opens.
-use Rattle.std.proofs.Common.{◌≡◌, ℕ, zero, suc, ◌%◌, ◌<◌, ◌≤◌, List, [], ◌∷◌, ◌++◌, length, take, drop, get_or, Option, Some, None, refl, sym, ap, ◌∙◌, subst, append_assoc, arith}
-use Rattle.std.specs.Prelude.{slice_index, unwrap_or}
-use Rattle.std.specs.Int.{w16, from_be_bytes}
+use Rattle.std.proofs.Common.{◌≡◌, ℕ, ◌%◌, ◌≤◌, List, [], ◌++◌, length, take, drop, Option, Some, None, refl, sym, ap, ◌∙◌, append_assoc}
+use Rattle.std.specs.Prelude.{unwrap_or}
 use Rattle.std.specs.Option.{option_map}
 use Rattle.std.proofs.lemmas.List.{take-append-drop, length-take-le, take_at, drop_at}
-use Rattle.std.proofs.lemmas.Option.{cond_some}
 use Rattle.rtp_wire.specs.declared.extension.ExtensionMap.{ExtensionMap}
 use Rattle.rtp_wire.specs.declared.header.RtpHeader.{RtpHeader}
-use Rattle.rtp_wire.specs.Header.{has_header, fields_of, header_of, csrc_of}
+use Rattle.rtp_wire.specs.Header.{header_of, csrc_of}
 use Rattle.rtp_wire.specs.HeaderLaws.{ReadsOwnBytes}
 use Rattle.srtp_core.specs.Cipher.{CipherMeaning}
 use Rattle.srtp_core.specs.Contexts.{SrtpState}
@@ -18,21 +16,6 @@ use Rattle.srtp_core.specs.declared.profile.SrtpProfile.TheVariants.{Aes128CmSha
 use Rattle.run_model.specs.Events.{Plain}
 use Rattle.run_model.specs.Seals.{IsSeal}
 use Rattle.session_turns.specs.Reading.{plain_of, read_of, len_in, plain_in, no_plain, sealing_of}
-
--- the number that a header states, of bytes, has 16 bits
-two_bytes : (l : List ℕ) → ((i : ℕ) → slice_index l i < 256) → from_be_bytes w16 l < 65536
-two_bytes l h = omega (arith, h 0, h 1)
-
-left_bytes : (n : ℕ) (l : List ℕ) → ((i : ℕ) → get_or l i 0 < 256) → (i : ℕ) → get_or (drop n l) i 0 < 256
-left_bytes zero l h i = h i
-left_bytes (suc n) [] h i = omega arith
-left_bytes (suc n) (x ∷ l) h i = left_bytes n l (λ j. h (suc j)) i
-
-pub low_fits : (exts : ExtensionMap) (bytes : List ℕ) (h : RtpHeader) → ((i : ℕ) → slice_index bytes i < 256) → header_of exts bytes ≡ Some h → h.sequence_number < 65536
-unfolding header_of
-low_fits exts bytes h are e =
-    let is : fields_of exts bytes ≡ h = (cond_some (has_header bytes) (fields_of exts bytes) h e).1 in
-    subst (λ (g : RtpHeader). g.sequence_number < 65536) is (two_bytes (drop 2 bytes) (left_bytes 2 bytes are))
 
 -- a seal begins with the header
 pub record BeginsWith (front bytes : List ℕ) : Type 0 where

@@ -20,7 +20,7 @@ use Rattle.stream_core.specs.StreamsRecord.{restored_on, restored_number_on}
 use Rattle.stream_core.specs.Tables.{value_under, place_of, change_place, change_at}
 use Rattle.session_core.specs.declared.datagram.Opened.{Opened as Opening}
 use Rattle.session_core.specs.Calls.{after_events}
-use Rattle.session_core.specs.Receiving.{packet_from, packet_after, packet_restored, rx_opened as real_opened, probes_opened, arrival_of, cut as cut_here, after_opened, after_repair, after_restoring, after_repaired, opening_of, Opens as OpensHere, OpensRepair as OpensRepairHere, Receives, opened as opened_so, repaired as repaired_so, stays as stays_so}
+use Rattle.session_core.specs.Receiving.{packet_from, packet_after, packet_restored, rx_opened as real_opened, probes_opened, arrival_of, cut as cut_here, after_opened, after_repair, after_restoring, after_repaired, opening_of, Opens as OpensHere, OpensRepair as OpensRepairHere, Receives, HeaderNumbersFit, opened as opened_so, repaired as repaired_so, stays as stays_so}
 use Rattle.session_core.specs.Repairs.{is_known, repair_accepted, original_number, restored_header}
 use Rattle.session_core.specs.SessionRecord.{SessionRecord}
 use Rattle.media_model.specs.declared.entry.Side.{Side}
@@ -39,7 +39,7 @@ use Rattle.turn_opens.proofs.Records.{low_again, where_fresh, fresh_where}
 use Rattle.turn_opens.proofs.Keyed.{place_changed, changed_again, value_changed}
 use Rattle.turn_opens.proofs.Changes.{restored_at, own_at, is_own_fresh, number_is, restored_is, restored_where, accepted_is, others_same, first_opened, repair_opened_as, original_opened, same_state}
 use Rattle.turn_opens.proofs.Later.{keys_there, told_all, tx_later, zip_weaker}
-use Rattle.turn_opens.proofs.Sealing.{low_fits, plain_by}
+use Rattle.turn_opens.proofs.Sealing.{plain_by}
 use Rattle.turn_opens.proofs.Session.{RxParts, repair_main, repair_rtx, repair_probes, zero_repaired, zero_number, main_repaired, main_number, rtx_repaired, rtx_number, away_repaired, away_number}
 use Rattle.turn_opens.proofs.Opening.{parts, fits, no_zero, originals, Comes, first_opens, repair_opens, opened_to, in_none, none_some, nothing_opens}
 use Rattle.turn_opens.proofs.Turning.{made, moves, Made, turn_from, moved_to, streams_at, streams_first, rx_told}
@@ -58,7 +58,7 @@ behind_same (a ∷ []) = refl
 behind_same (a ∷ b ∷ rest) = refl
 
 module _ (cipher : CipherMeaning) (C : Config) (side : Side) (r : SessionRecord) (a : Session) (fit : IsFit C) (mirrors : Mirrors cipher C side r a) (own : ReadsOwnBytes) (bytes : List ℕ)
-    (time : ℕ) (le : a.rx.now ≤ time) (early : time ≤ 10 ^ 16) (are : (i : ℕ) → slice_index bytes i < 256) where
+    (time : ℕ) (le : a.rx.now ≤ time) (early : time ≤ 10 ^ 16) (are : (i : ℕ) → slice_index bytes i < 256) (small : HeaderNumbersFit) where
   abbrev p : RxParts C.threshold a.rx.trip r a.rx.table
   p = parts cipher C side r a fit mirrors own bytes
 
@@ -80,7 +80,7 @@ module _ (cipher : CipherMeaning) (C : Config) (side : Side) (r : SessionRecord)
   Turn after h n payload = TurnsTo cipher C side r a (after_events after) (got time Rtp bytes ∷ events_opened r.state.transport.exts (Some (opening_of bytes h n payload)) after.state.packet)
 
   widened_low : (h : RtpHeader) (n : ℕ) (o : Option ℕ) → header_of r.state.transport.exts bytes ≡ Some h → n ≡ widen16 o h.sequence_number → h.sequence_number ≡ n % 65536
-  widened_low h n o reads is = sym (ap (λ (m : ℕ). m % 65536) is ∙ low_again o h.sequence_number (low_fits r.state.transport.exts bytes h are reads))
+  widened_low h n o reads is = sym (ap (λ (m : ℕ). m % 65536) is ∙ low_again o h.sequence_number (small r.state.transport.exts bytes h are reads))
 
   -- no stream but that of the probes has the SSRC 0
   probe_away : (s : Plain) → IsIn s p.rest → (k : ℕ) → concerns s.0 k ≡ true → concerns probes k ≡ false
@@ -555,5 +555,5 @@ module _ (cipher : CipherMeaning) (C : Config) (side : Side) (r : SessionRecord)
   turns_so _ _ (repaired_so h original n payload o) = repaired_turn h original n payload o
   turns_so _ _ (stays_so no_first no_repair) = stays_turn no_first no_repair
 
-pub opens_turn : ReadsOwnBytes → OpensTurn
-opens_turn own cipher C side r after a time bytes o fit h le early are receives = turns_so cipher C side r a fit h own bytes time le early are after o receives
+pub opens_turn : ReadsOwnBytes → HeaderNumbersFit → OpensTurn
+opens_turn own small cipher C side r after a time bytes o fit h le early are receives = turns_so cipher C side r a fit h own bytes time le early are small after o receives

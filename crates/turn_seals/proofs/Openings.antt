@@ -1,15 +1,13 @@
 -- What a session opens is a seal of the plain datagram that it tells of.
-use Rattle.std.proofs.Common.{◌≡◌, inl, inr, ℕ, zero, suc, ◌+◌, ◌*◌, ◌/◌, ◌%◌, ◌<◌, Bool, true, false, List, [], ◌∷◌, ◌++◌, take, drop, slice_get, get_or, Option, Some, None, refl, sym, ap, ◌∙◌, subst, arith}
-use Rattle.std.specs.Prelude.{◌==◌, if◌then◌else◌, slice_index, unwrap_or}
+use Rattle.std.proofs.Common.{◌≡◌, inl, inr, ℕ, zero, suc, ◌+◌, ◌*◌, ◌/◌, ◌%◌, ◌<◌, Bool, true, false, List, [], ◌∷◌, ◌++◌, take, slice_get, get_or, Option, Some, None, refl, sym, ap, ◌∙◌, subst, arith}
+use Rattle.std.specs.Prelude.{◌==◌, if◌then◌else◌, unwrap_or}
 use Rattle.std.specs.List.{AllByRecursion, AllZip}
 use Rattle.std.specs.Map.{values_of}
-use Rattle.std.specs.Int.{w16, from_be_bytes}
 use Rattle.std.specs.Option.{option_map}
-use Rattle.std.proofs.lemmas.Option.{cond_some}
 use Rattle.rtp_base.specs.Widen.{widen16, rollover}
 use Rattle.rtp_wire.specs.declared.extension.ExtensionMap.{ExtensionMap}
 use Rattle.rtp_wire.specs.declared.header.RtpHeader.{RtpHeader}
-use Rattle.rtp_wire.specs.Header.{has_header, fields_of, header_of}
+use Rattle.rtp_wire.specs.Header.{header_of}
 use Rattle.rtp_wire.specs.HeaderLaws.{ReadsOwnBytes}
 use Rattle.repair_core.specs.Fresh.{greatest_of, is_fresh}
 use Rattle.rtx_core.specs.Repairs.{repair_near, is_fresh_repair}
@@ -25,7 +23,7 @@ use Rattle.stream_core.specs.Tables.{value_under, place_of}
 use Rattle.session_core.specs.declared.datagram.Opened.{Opened as Opening}
 use Rattle.session_core.specs.Hearing.{ReceivesRtcp, RtcpOpensIn, opened as heard, stays as ignored, rtcp_opening_of}
 use Rattle.session_core.specs.Repairs.{padded_accepted, repair_accepted}
-use Rattle.session_core.specs.Receiving.{number_of, OpensIn, Receives, opened, repaired, stays, opening_of}
+use Rattle.session_core.specs.Receiving.{number_of, OpensIn, Receives, HeaderNumbersFit, opened, repaired, stays, opening_of}
 use Rattle.session_core.specs.SessionRecord.{SessionRecord}
 use Rattle.run_model.specs.Events.{Incoming}
 use Rattle.run_model.specs.RxPlay.{RxRecord as PlainRx}
@@ -33,21 +31,6 @@ use Rattle.session_turns.specs.Reading.{len_in}
 use Rattle.session_turns.specs.Mirrors.{RxStands, RxMirror, rx_mirror}
 use Rattle.session_turns.specs.Rights.{IsRightOpening, OpeningsAreRight, IsRightRtcpOpening, RtcpOpeningsAreRight}
 use Rattle.turn_seals.proofs.Tests.{some_and_then, tested}
-
--- the number that a header states, of bytes, has 16 bits
-two_bytes : (l : List ℕ) → ((i : ℕ) → slice_index l i < 256) → from_be_bytes w16 l < 65536
-two_bytes l h = omega (arith, h 0, h 1)
-
-left_bytes : (n : ℕ) (l : List ℕ) → ((i : ℕ) → get_or l i 0 < 256) → (i : ℕ) → get_or (drop n l) i 0 < 256
-left_bytes zero l h i = h i
-left_bytes (suc n) [] h i = omega arith
-left_bytes (suc n) (x ∷ l) h i = left_bytes n l (λ j. h (suc j)) i
-
-pub low_fits : (exts : ExtensionMap) (bytes : List ℕ) (h : RtpHeader) → ((i : ℕ) → slice_index bytes i < 256) → header_of exts bytes ≡ Some h → h.sequence_number < 65536
-unfolding header_of
-low_fits exts bytes h are e =
-    let is : fields_of exts bytes ≡ h = (cond_some (has_header bytes) (fields_of exts bytes) h e).1 in
-    subst (λ (g : RtpHeader). g.sequence_number < 65536) is (two_bytes (drop 2 bytes) (left_bytes 2 bytes are))
 
 -- a number is as its low 16 bits say
 low_of : (r q : ℕ) → q < 65536 → (r * 65536 + q) % 65536 ≡ q
@@ -143,20 +126,20 @@ opens_with : (cipher : CipherMeaning) (o : Option SrtpState) (other : SrtpState)
     → OpensTo cipher other.profile other.keys h.ssrc n h.header_len bytes payload
 opens_with cipher o other h n bytes payload e opens = subst (λ (k : Option SrtpState). OpensIn cipher k h n bytes payload) e opens
 
-module _ (cipher : CipherMeaning) (r : SessionRecord) (other : SrtpState) (time : ℕ) (bytes : List ℕ) (own : ReadsOwnBytes)
+module _ (cipher : CipherMeaning) (r : SessionRecord) (other : SrtpState) (time : ℕ) (bytes : List ℕ) (own : ReadsOwnBytes) (fit : HeaderNumbersFit)
     (counts : AllByRecursion HasNoCount r.rx) (none : r.probes.state.roc ≡ None) (are : (i : ℕ) → get_or bytes i 0 < 256) (key : r.state.opening ≡ Some other) where
   opened_right : (after : SessionRecord) (o : Option Opening) (p : Opening) → o ≡ Some p → Receives cipher r bytes time after o
       → IsRightOpening cipher r.state.transport.exts other bytes p
   opened_right _ _ p e (opened h n payload opens) =
       let same : opening_of bytes h n payload ≡ p = cc in
-      let lt : h.sequence_number < 65536 = low_fits r.state.transport.exts bytes h are opens.reads in
+      let lt : h.sequence_number < 65536 = fit r.state.transport.exts bytes h are opens.reads in
       let low : h.sequence_number ≡ n % 65536 = number_low (seen_of h.ssrc r.seen) r.rx r.probes h.ssrc h.sequence_number n counts none lt opens.accepts in
       subst (IsRightOpening cipher r.state.transport.exts other bytes) same
       (right_as cipher r.state.transport.exts other bytes h n payload own opens.reads low
       (opens_with cipher r.state.opening other h n bytes payload key opens.opens))
   opened_right _ _ p e (repaired h original n payload opens) =
       let same : opening_of bytes h n payload ≡ p = cc in
-      let lt : h.sequence_number < 65536 = low_fits r.state.transport.exts bytes h are opens.reads in
+      let lt : h.sequence_number < 65536 = fit r.state.transport.exts bytes h are opens.reads in
       let at = some_and_then (repair_accepted r.seen h) (value_under original r.rx) n opens.accepts in
       let low : h.sequence_number ≡ n % 65536 = repair_low r.seen h at.0 n lt at.2 in
       subst (IsRightOpening cipher r.state.transport.exts other bytes) same
@@ -168,10 +151,10 @@ mirror_counts : (threshold : ℕ) (trip : Option ℕ) (r : SessionRecord) (ss : 
     → (r.probes.state.roc ≡ None) × AllByRecursion HasNoCount r.rx
 mirror_counts threshold trip r _ (rx_mirror s rest is probes stands) = (probes.roc, no_counts threshold trip r.seen r.rx rest stands)
 
-pub openings_are_right : ReadsOwnBytes → OpeningsAreRight
-openings_are_right own cipher C side r after a other time bytes o mirrors key are receives =
+pub openings_are_right : ReadsOwnBytes → HeaderNumbersFit → OpeningsAreRight
+openings_are_right own fit cipher C side r after a other time bytes o mirrors key are receives =
     let counts = mirror_counts C.threshold a.rx.trip r a.rx.table mirrors.rx in
-    opened_right cipher r other time bytes own counts.1 counts.0 are key after (Some o) o refl receives
+    opened_right cipher r other time bytes own fit counts.1 counts.0 are key after (Some o) o refl receives
 
 -- RTCP
 rtcp_right : (cipher : CipherMeaning) (opening : Option SrtpState) (other : SrtpState) (bytes plain : List ℕ) → opening ≡ Some other → RtcpOpensIn cipher opening bytes plain

@@ -10,7 +10,7 @@ use Rattle.rtcp_wire.specs.Laws.{ItemsReadBack, ItemsFitByLengths}
 use Rattle.repair_core.specs.Rounds.{Heard, wait_of}
 use Rattle.repair_core.specs.Entries.{packed, names, RoundsNameTheDue}
 use Rattle.stream_core.specs.Missing.{is_enabled, due_in, due_of, nack_with, nack_of}
-use Rattle.stream_core.specs.Reporting.{is_among, report_items, after_report, rx_items, items_with}
+use Rattle.stream_core.specs.Reporting.{is_among, front_items, after_front, rx_items, items_with}
 use Rattle.stream_core.specs.RxRecord.{RxRecord as StreamRx}
 use Rattle.stream_core.specs.declared.reports.Tick.{Tick}
 use Rattle.session_core.specs.SessionRecord.{SessionRecord}
@@ -22,8 +22,8 @@ use Rattle.session_turns.specs.Mirrors.{IsWide, RxStands, RxMirror, rx_mirror}
 use Rattle.turn_ticks.proofs.Lists.{and_false, flat_map_append, all_append}
 use Rattle.turn_ticks.proofs.Entries.{AreFew, due_few}
 use Rattle.turn_ticks.proofs.Items.{IsRead, told_of, nack_is_read, nack_told}
-use Rattle.turn_ticks.proofs.Others.{asides_read, asides_told, report_asides}
-use Rattle.turn_ticks.proofs.IncomingStreams.{enabled_same, probes_rest, report_stands}
+use Rattle.turn_ticks.proofs.Others.{asides_read, asides_told, front_asides}
+use Rattle.turn_ticks.proofs.IncomingStreams.{enabled_same, probes_rest, front_stands}
 
 due_same : (now : ℕ) (trip : Option ℕ) (o : Option Heard) → due_in now trip o ≡ plain_due_in o now (wait_of trip)
 due_same now trip None = refl
@@ -57,12 +57,7 @@ abbrev HasWord : Incoming × RxRecord → Type 0
 HasWord s = s.0.ssrc < 2 ^ 32
 
 module _ (threshold : ℕ) (trip : Option ℕ) (seen : List (ℕ × List ℕ)) (law : ItemsFitByLengths) (t : Tick) where
-  -- a stream that reports, or not
-  reports_read : (reports : Bool) (x : StreamRx) → AllByRecursion IsRead (if reports then report_items t x else [])
-  reports_read true x = asides_read (report_items t x) (report_asides law t x)
-  reports_read false x = tt
-
-  -- and that asks, where the tick is a round
+  -- a stream that asks for packets, where the tick is a round
   asks_read : (b : Bool) (e : ℕ × StreamRx) (s : Incoming × RxRecord) → RxStands threshold trip seen e s → HasWord s
       → AllByRecursion IsRead (if b then nack_of t.sender_ssrc t.now e else [])
   asks_read true e s h w =
@@ -72,8 +67,8 @@ module _ (threshold : ℕ) (trip : Option ℕ) (seen : List (ℕ × List ℕ)) (
 
   one_read : (reports : Bool) (e : ℕ × StreamRx) (s : Incoming × RxRecord) → RxStands threshold trip seen e s → HasWord s → AllByRecursion IsRead (rx_items t reports e)
   one_read reports e s h w =
-      all_append IsRead (if reports then report_items t e.1 else []) (if t.is_round then nack_of t.sender_ssrc t.now (e.0, after_report t reports e.1) else [])
-      (reports_read reports e.1) (asks_read t.is_round (e.0, after_report t reports e.1) s (report_stands threshold seen t trip reports e s h) w)
+      all_append IsRead (front_items t reports e.1) (if t.is_round then nack_of t.sender_ssrc t.now (e.0, after_front t reports e.1) else [])
+      (asides_read (front_items t reports e.1) (front_asides law t reports e.1)) (asks_read t.is_round (e.0, after_front t reports e.1) s (front_stands threshold seen t trip reports e s h) w)
 
   all_read : (mids : List (List ℕ)) (rx : List (ℕ × StreamRx)) (table : List (Incoming × RxRecord)) → AllZip (RxStands threshold trip seen) rx table → AllByRecursion HasWord table
       → AllByRecursion IsRead (items_with t mids rx)
@@ -141,33 +136,29 @@ module _ (side : RxSide) (time : ℕ) where
       asks_told sender false round e s table items h w rest = rests_in s table items round rest
 
 -- what streams say, told one after another
-told_grouped : (reports asking rest : List Rtcp) (behind : List RtcpFb)
-    → flat_map told_of ((reports ++ asking) ++ rest) ++ behind ≡ flat_map told_of reports ++ (flat_map told_of asking ++ (flat_map told_of rest ++ behind))
-told_grouped reports asking rest behind =
-    ap (λ (l : List RtcpFb). l ++ behind) (flat_map_append told_of (reports ++ asking) rest)
-    ∙ append_assoc (flat_map told_of (reports ++ asking)) (flat_map told_of rest) behind
-    ∙ ap (λ (l : List RtcpFb). l ++ (flat_map told_of rest ++ behind)) (flat_map_append told_of reports asking)
-    ∙ append_assoc (flat_map told_of reports) (flat_map told_of asking) (flat_map told_of rest ++ behind)
+told_grouped : (front asking rest : List Rtcp) (behind : List RtcpFb)
+    → flat_map told_of ((front ++ asking) ++ rest) ++ behind ≡ flat_map told_of front ++ (flat_map told_of asking ++ (flat_map told_of rest ++ behind))
+told_grouped front asking rest behind =
+    ap (λ (l : List RtcpFb). l ++ behind) (flat_map_append told_of (front ++ asking) rest)
+    ∙ append_assoc (flat_map told_of (front ++ asking)) (flat_map told_of rest) behind
+    ∙ ap (λ (l : List RtcpFb). l ++ (flat_map told_of rest ++ behind)) (flat_map_append told_of front asking)
+    ∙ append_assoc (flat_map told_of front) (flat_map told_of asking) (flat_map told_of rest ++ behind)
 
 module _ (side : RxSide) (t : Tick) (back : ItemsReadBack) (lengths : ItemsFitByLengths) (law : RoundsNameTheDue) (threshold : ℕ) (round : is_round side t.now ≡ t.is_round)
     (behind : List RtcpFb) (others : AllByRecursion IsOther behind) where
   abbrev Told : List (Incoming × RxRecord) → List Rtcp → Type 0
   Told table items = Feedback side t.now table (flat_map told_of items ++ behind)
 
-  reports_told : (reports : Bool) (x : StreamRx) → AllByRecursion IsOther (flat_map told_of (if reports then report_items t x else []))
-  reports_told true x = asides_told back (report_items t x) (report_asides lengths t x)
-  reports_told false x = tt
-
   module _ (seen : List (ℕ × List ℕ)) (mids : List (List ℕ)) where
     one_told : (reports : Bool) (e : ℕ × StreamRx) (s : Incoming × RxRecord) (table : List (Incoming × RxRecord)) (items : List Rtcp) → RxStands threshold side.trip seen e s → HasWord s
         → Told table items → Told (s ∷ table) (rx_items t reports e ++ items)
     one_told reports e s table items h w rest =
-        let first : List Rtcp = if reports then report_items t e.1 else [] in
-        let second : List Rtcp = if t.is_round then nack_of t.sender_ssrc t.now (e.0, after_report t reports e.1) else [] in
+        let first : List Rtcp = front_items t reports e.1 in
+        let second : List Rtcp = if t.is_round then nack_of t.sender_ssrc t.now (e.0, after_front t reports e.1) else [] in
         subst (λ (l : List RtcpFb). Feedback side t.now (s ∷ table) l) (sym (told_grouped first second items behind))
-        (others_first side t.now (s ∷ table) (flat_map told_of first) (flat_map told_of second ++ (flat_map told_of items ++ behind)) (reports_told reports e.1)
-        (asks_told side t.now back lengths law threshold seen t.sender_ssrc t.is_round round (e.0, after_report t reports e.1) s table (flat_map told_of items ++ behind)
-        (report_stands threshold seen t side.trip reports e s h) w rest))
+        (others_first side t.now (s ∷ table) (flat_map told_of first) (flat_map told_of second ++ (flat_map told_of items ++ behind)) (asides_told back first (front_asides lengths t reports e.1))
+        (asks_told side t.now back lengths law threshold seen t.sender_ssrc t.is_round round (e.0, after_front t reports e.1) s table (flat_map told_of items ++ behind)
+        (front_stands threshold seen t side.trip reports e s h) w rest))
 
     all_told : (rx : List (ℕ × StreamRx)) (table : List (Incoming × RxRecord)) → AllZip (RxStands threshold side.trip seen) rx table → AllByRecursion HasWord table → Told table (items_with t mids rx)
     all_told [] [] h w = only_others side t.now behind others

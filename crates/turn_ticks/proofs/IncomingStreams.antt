@@ -5,7 +5,7 @@ use Rattle.std.specs.List.{AllZip}
 use Rattle.repair_core.specs.Rounds.{Heard, wait_of}
 use Rattle.stream_core.specs.Missing.{pending_in, is_enabled, any_enabled, asked_in}
 use Rattle.stream_core.specs.Pauses.{is_over, checked, on_record, told as stream_told}
-use Rattle.stream_core.specs.Reporting.{is_among, after_report, rx_after, after_with}
+use Rattle.stream_core.specs.Reporting.{is_among, with_told, after_report, after_front, rx_after, after_with}
 use Rattle.stream_core.specs.RxRecord.{RxState, RxRecord as StreamRx}
 use Rattle.stream_core.specs.Tables.{each}
 use Rattle.stream_core.specs.declared.reports.Tick.{Tick}
@@ -146,12 +146,27 @@ module _ (threshold : ℕ) (seen : List (ℕ × List ℕ)) where
   report_trip t true x = refl
   report_trip t false x = refl
 
-  pub report_stands : (t : Tick) (trip : Option ℕ) (reports : Bool) (e : ℕ × StreamRx) (s : Incoming × RxRecord) → RxStands threshold trip seen e s
-      → RxStands threshold trip seen (e.0, after_report t reports e.1) s
-  report_stands t trip reports e s h = record {
+  -- what it asks its sender for does not stand in it
+  requests_mirror : (x : StreamRx) (s : Incoming × RxRecord) → RxMirrors threshold seen x s → RxMirrors threshold seen (on_record with_told x) s
+  requests_mirror x s m = record {
+    ssrc = m.ssrc;
+    roc = m.roc;
+    suppressed = m.suppressed;
+    threshold_is = m.threshold_is;
+    pause = m.pause;
+    numbers = m.numbers;
+    begun = m.begun;
+    repairs = m.repairs;
+    seen_main = m.seen_main;
+    seen_rtx = m.seen_rtx;
+  }
+
+  pub front_stands : (t : Tick) (trip : Option ℕ) (reports : Bool) (e : ℕ × StreamRx) (s : Incoming × RxRecord) → RxStands threshold trip seen e s
+      → RxStands threshold trip seen (e.0, after_front t reports e.1) s
+  front_stands t trip reports e s h = record {
     key = h.key;
-    trip_is = report_trip t reports e.1 ∙ h.trip_is;
-    mirrors = report_mirror t reports e.1 s h.mirrors;
+    trip_is = report_trip t reports (on_record with_told e.1) ∙ h.trip_is;
+    mirrors = report_mirror t reports (on_record with_told e.1) s (requests_mirror e.1 s h.mirrors);
   }
 
   ask_stands : (now : ℕ) (trip : Option ℕ) (b : Bool) (e : ℕ × StreamRx) (s : Incoming × RxRecord) → RxStands threshold trip seen e s
@@ -164,7 +179,7 @@ module _ (threshold : ℕ) (seen : List (ℕ × List ℕ)) where
 
   tick_stands : (t : Tick) (trip : Option ℕ) (reports : Bool) (e : ℕ × StreamRx) (s : Incoming × RxRecord) → RxStands threshold trip seen e s
       → RxStands threshold trip seen (e.0, on_record stream_told (on_record (checked t.now) (rx_after t reports e.1))) (ticked_in t.now t.is_round (wait_of trip) s)
-  tick_stands t trip reports e s h = ask_stands t.now trip t.is_round (e.0, after_report t reports e.1) s (report_stands t trip reports e s h)
+  tick_stands t trip reports e s h = ask_stands t.now trip t.is_round (e.0, after_front t reports e.1) s (front_stands t trip reports e s h)
 
   -- the incoming streams after a tick, in which those of these media sections report, and after all was told
   abbrev pub ticked_rx : Tick → List (List ℕ) → List (ℕ × StreamRx) → List (ℕ × StreamRx)

@@ -1,5 +1,5 @@
 -- The items of a tick that ask for nothing: each is read back, its fields as the wire holds them, and tells nothing that asks.
-use Rattle.std.proofs.Common.{◌≡◌, ℕ, zero, suc, ◌+◌, ◌-◌, ◌*◌, ◌/◌, ◌%◌, ◌<◌, ◌≤◌, Bool, true, false, List, [], ◌∷◌, ◌++◌, length, take, map, Option, Some, None, refl, sym, ap, ◌∙◌, subst, arith}
+use Rattle.std.proofs.Common.{◌≡◌, ℕ, zero, suc, ◌+◌, ◌-◌, ◌*◌, ◌/◌, ◌%◌, ◌^◌, ◌<◌, ◌≤◌, Bool, true, false, List, [], ◌∷◌, ◌++◌, length, take, map, Option, Some, None, refl, sym, ap, ◌∙◌, subst, arith}
 use Rattle.std.specs.Prelude.{◌&&◌, nat_le, nat_lt, min, pos, ◌-ℤ◌, if◌then◌else◌}
 use Rattle.std.specs.List.{AllByRecursion, flat_map}
 use Rattle.std.specs.Int.{w16, w32, w64, to_be_bytes}
@@ -14,16 +14,18 @@ use Rattle.rtp_base.specs.declared.reception_report.ReceptionReport.{ReceptionRe
 use Rattle.repair_core.specs.Counts.{Counts, lost_of, report_with}
 use Rattle.rtcp_wire.specs.Descriptions.{ended, sdes_item_text, sdes_text, descriptions_body}
 use Rattle.rtcp_wire.specs.Extended.{block_content, block_text, dlrr_item_text, extended_report_body}
+use Rattle.rtcp_wire.specs.Feedback.{pli_body, fir_body}
 use Rattle.rtcp_wire.specs.Laws.{held, IsReport, IsDlrrItem, ItemsReadBack, ItemsFitByLengths}
+use Rattle.rtcp_wire.specs.Remb.{remb_name, exponent_of, mantissa_of, remb_body}
 use Rattle.rtcp_wire.specs.Reports.{receiver_report_body, sender_info_text, sender_report_body}
-use Rattle.rtcp_wire.specs.Rows.{report_text}
+use Rattle.rtcp_wire.specs.Rows.{report_text, fir_entry_text}
 use Rattle.rtcp_wire.specs.Streams.{feedback_of}
 use Rattle.rtcp_wire.specs.Texts.{text_of, framed}
 use Rattle.rtcp_wire.specs.declared.extended.DlrrItem.{DlrrItem}
 use Rattle.rtcp_wire.specs.declared.extended.ReportBlock.{ReportBlock}
 use Rattle.rtcp_wire.specs.declared.extended.ReportBlock.TheVariants.{Rrtr, Dlrr}
 use Rattle.rtcp_wire.specs.declared.packet.Rtcp.{Rtcp}
-use Rattle.rtcp_wire.specs.declared.packet.Rtcp.TheVariants.{SenderReport, ReceiverReport, SourceDescription, ExtendedReport}
+use Rattle.rtcp_wire.specs.declared.packet.Rtcp.TheVariants.{SenderReport, ReceiverReport, SourceDescription, ExtendedReport, Pli, Fir, Remb}
 use Rattle.rtcp_wire.specs.declared.report.SenderInfo.{SenderInfo}
 use Rattle.rtcp_wire.specs.declared.rtcp_fb.RtcpFb.TheVariants as told
 use Rattle.rtcp_wire.specs.declared.source.SdesType.TheVariants.{CNAME}
@@ -32,11 +34,15 @@ use Rattle.report_core.specs.Moments.{item_of, items_of}
 use Rattle.report_core.specs.Receiver.{receiver_report_of}
 use Rattle.report_core.specs.Sender.{report_of, name_of}
 use Rattle.report_core.specs.declared.moments.ReceiverMoment.{ReceiverMoment}
-use Rattle.stream_core.specs.Reporting.{block_at, greatest_in, report_items, sender_info_at}
+use Rattle.stream_core.specs.Reporting.{block_at, greatest_in, report_items, front_items, sender_info_at}
+use Rattle.stream_core.specs.Requests.{keyframe_with, bitrate_with, request_items}
 use Rattle.stream_core.specs.RxRecord.{RxRecord as StreamRx}
 use Rattle.stream_core.specs.TxRecord.{TxRecord as StreamTx}
 use Rattle.stream_core.specs.declared.payload_types.TypeRow.{TypeRow}
 use Rattle.stream_core.specs.declared.reports.Tick.{Tick}
+use Rattle.stream_core.specs.declared.requests.KeyframeRequestKind.{KeyframeRequestKind}
+use Rattle.stream_core.specs.declared.requests.KeyframeRequestKind.TheVariants as kind
+use Rattle.stream_core.specs.declared.requests.RxRequests.{RxRequests}
 use Rattle.session_core.specs.Reports.{description_items, reports_in, items_under, sender_items_with, sender_items, due_senders, answers}
 use Rattle.session_core.specs.SessionRecord.{MediaRecord, SessionState}
 use Rattle.run_model.specs.Asking.{IsOther}
@@ -271,13 +277,86 @@ name_aside ssrc cname short lengths =
       others = (refl, tt);
     }
 
--- what an incoming stream reports, what outgoing ones do, and the answers
+-- requests for a key frame, and a rate, which has 64 bits
+picture_aside : (sender ssrc : ℕ) → ItemsFitByLengths → IsAside (Pli (record { sender_ssrc = sender; ssrc = ssrc }))
+unfolding text_of pli_body
+picture_aside sender ssrc lengths =
+    let own = same_word sender in
+    let media = same_word ssrc in
+    record {
+      reads = record {
+        read = Pli (record { sender_ssrc = low sender; ssrc = low ssrc });
+        text = λ i. framed 1 206 (own i ++ (media i ++ []));
+        held_is = record { writable = lengths (Pli (record { sender_ssrc = low sender; ssrc = low ssrc })) tt; fields = (is_low sender, is_low ssrc) };
+      };
+      others = (refl, tt);
+    }
+
+intra_aside : (sender ssrc number : ℕ) → ItemsFitByLengths → IsAside (Fir (record { sender_ssrc = sender; reports = record { ssrc = ssrc; seq_no = number } ∷ [] }))
+unfolding text_of fir_body fir_entry_text
+intra_aside sender ssrc number lengths =
+    let own = same_word sender in
+    let media = same_word ssrc in
+    record {
+      reads = record {
+        read = Fir (record { sender_ssrc = low sender; reports = record { ssrc = low ssrc; seq_no = number } ∷ [] });
+        text = λ i. framed 4 206 ((own i ++ (to_be_bytes w32 0 ++ [])) ++ ((media i ++ (number ∷ 0 ∷ 0 ∷ 0 ∷ [])) ++ []));
+        held_is = record {
+          writable = lengths (Fir (record { sender_ssrc = low sender; reports = record { ssrc = low ssrc; seq_no = number } ∷ [] })) (omega arith);
+          fields = (is_low sender, omega arith, (is_low ssrc, tt));
+        };
+      };
+      others = (refl, tt);
+    }
+
+rate_aside : (sender ssrc rate : ℕ) → rate < 2 ^ 64 → ItemsFitByLengths → IsAside (Remb (record { sender_ssrc = sender; bitrate = rate; ssrcs = ssrc ∷ [] }))
+unfolding text_of remb_body
+rate_aside sender ssrc rate small lengths =
+    let own = same_word sender in
+    let media = same_word ssrc in
+    let parts : ℕ = 1 * 16777216 + exponent_of rate * 262144 + mantissa_of rate in
+    record {
+      reads = record {
+        read = Remb (record { sender_ssrc = low sender; bitrate = rate; ssrcs = low ssrc ∷ [] });
+        text = λ i. framed 15 206 ((own i ++ (to_be_bytes w32 0 ++ (to_be_bytes w32 remb_name ++ (to_be_bytes w32 parts ++ [])))) ++ (media i ++ []));
+        held_is = record {
+          writable = lengths (Remb (record { sender_ssrc = low sender; bitrate = rate; ssrcs = low ssrc ∷ [] })) (omega arith);
+          fields = (is_low sender, small, (is_low ssrc, tt));
+        };
+      };
+      others = (refl, tt);
+    }
+
+-- what an incoming stream asks its sender for and reports, what outgoing ones report, and the answers
 module _ (lengths : ItemsFitByLengths) where
-  pub report_asides : (t : Tick) (x : StreamRx) → AllByRecursion IsAside (report_items t x)
+  keyframe_asides : (sender ssrc number : ℕ) (o : Option KeyframeRequestKind) → AllByRecursion IsAside (keyframe_with sender ssrc number o)
+  keyframe_asides sender ssrc number None = tt
+  keyframe_asides sender ssrc number (Some kind.Pli) = (picture_aside sender ssrc lengths, tt)
+  keyframe_asides sender ssrc number (Some kind.Fir) = (intra_aside sender ssrc number lengths, tt)
+
+  bitrate_asides : (sender ssrc : ℕ) (o : Option ℕ) → AllByRecursion IsAside (bitrate_with sender ssrc o)
+  bitrate_asides sender ssrc None = tt
+  bitrate_asides sender ssrc (Some rate) = (rate_aside sender ssrc (min rate 10000000000) (omega arith) lengths, tt)
+
+  request_asides : (sender ssrc : ℕ) (q : RxRequests) → AllByRecursion IsAside (request_items sender ssrc q)
+  request_asides sender ssrc q =
+      all_append IsAside (keyframe_with sender ssrc q.fir_number q.keyframe) (bitrate_with sender ssrc q.bitrate)
+      (keyframe_asides sender ssrc q.fir_number q.keyframe) (bitrate_asides sender ssrc q.bitrate)
+
+  report_asides : (t : Tick) (x : StreamRx) → AllByRecursion IsAside (report_items t x)
   report_asides t x = (
     received_with t.sender_ssrc (block_at t.now x) (counted_signed x t.now x.state.reports.counts.first (greatest_in x.numbers) x.state.reports.counts) lengths,
     (moment_aside t.sender_ssrc (unix_nanos t.beginning.unix_secs t.now) lengths, tt),
   )
+
+  reports_aside : (t : Tick) (reports : Bool) (x : StreamRx) → AllByRecursion IsAside (if reports then report_items t x else [])
+  reports_aside t true x = report_asides t x
+  reports_aside t false x = tt
+
+  pub front_asides : (t : Tick) (reports : Bool) (x : StreamRx) → AllByRecursion IsAside (front_items t reports x)
+  front_asides t reports x =
+      all_append IsAside (request_items t.sender_ssrc x.state.ssrc x.state.requests) (if reports then report_items t x else [])
+      (request_asides t.sender_ssrc x.state.ssrc x.state.requests) (reports_aside t reports x)
 
   description_asides : (ssrc : ℕ) (cname : List ℕ) → AllByRecursion IsAside (description_items ssrc cname)
   description_asides ssrc cname = by (nat_lt 0 (length cname)) (nat_le (length cname) 255) (leb-true (length cname) 255) where

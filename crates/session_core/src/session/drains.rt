@@ -32,7 +32,7 @@ fn cut_off(error: RtcError, events: Vec<Event>, datagrams: Vec<Datagram>) -> Dra
 }
 
 impl<C: SrtpCipher, W: GapWindow, S: ResendStore<Sent>> Session<C, W, S> {
-    /// Takes all that the session tells, behind what was taken before. Room is reserved before each poll.
+    /// Takes all that the session tells, behind what was taken before. Room is reserved before each event.
     fn take_events(&mut self, sofar: &mut Vec<Event>) -> Result<(), AllocError>
         requires none { sofar.old.items ≡ [] }
         ensures taken { OnOk result ((r : SessionRecord) → StandsFor W.remembers S.stands_for self.old r
@@ -42,13 +42,12 @@ impl<C: SrtpCipher, W: GapWindow, S: ResendStore<Sent>> Session<C, W, S> {
             × (told r ≡ sofar.new.items ++ told between) × (after_events between ≡ after_events r)) }
         ensures runs { self.new.state.stopped ≡ self.old.state.stopped }
     {
-        // Mostly a packet comes alone: room for it, and for what the next poll might tell.
-        sofar.reserve_exact(2)?;
+        // Mostly a packet comes alone.
+        sofar.reserve_exact(1)?;
         loop {
             sofar.reserve(1)?;
-            match self.poll_event() {
-                Some(event) => sofar.push_reserved(event),
-                None => return Ok(()),
+            if !self.take_event(sofar) {
+                return Ok(());
             }
         }
     }

@@ -1,7 +1,9 @@
 //! What a session tells, one event a poll.
-ghost use Rattle.std.specs.Prelude.{◌≡◌, ◌↔◌, ◌<◌, None, IsTrue, IfOk, IfErr, IfSome, IsErrOf};
+ghost use Rattle.std.specs.Prelude.{◌≡◌, ◌↔◌, ◌<◌, ◌++◌, None, IsTrue, IfOk, IfErr, IfSome, IsErrOf};
+ghost use Rattle.std.specs.Bool.{OnTrue, OnFalse};
+ghost use Rattle.std.specs.Vec.{vec_len, vec_capacity};
 ghost use Rattle.session_core.specs.SessionRecord.{SessionRecord, StandsFor};
-ghost use Rattle.session_core.specs.Calls.{after_event, next_event, events_in, Polled};
+ghost use Rattle.session_core.specs.Calls.{after_event, after_events, next_event, events_in, told, Polled};
 ghost use Rattle.session_core.specs.declared.error.RtcError.TheVariants.{Stopped};
 
 use super::Session;
@@ -34,6 +36,36 @@ impl<C: SrtpCipher, W: GapWindow, S: ResendStore<Sent>> Session<C, W, S> {
         }
         let packet = self.packet.take()?;
         Some(Event::RtpPacket(packet))
+    }
+
+    /// Takes what `poll_event` tells next, behind what was taken before, and answers whether more may wait: a
+    /// packet is told last.
+    pub(super) fn take_event(&mut self, sofar: &mut Vec<Event>) -> bool
+        requires room { vec_len sofar.old < vec_capacity sofar.old }
+        ensures more { OnTrue result ((r : SessionRecord) → StandsFor W.remembers S.stands_for self.old r
+            → (after : SessionRecord) × StandsFor W.remembers S.stands_for self.new after
+            × (sofar.old.items ++ told r ≡ sofar.new.items ++ told after) × (after_events after ≡ after_events r)) }
+        ensures last { OnFalse result ((r : SessionRecord) → StandsFor W.remembers S.stands_for self.old r
+            → (sofar.old.items ++ told r ≡ sofar.new.items) × StandsFor W.remembers S.stands_for self.new (after_events r)) }
+        ensures fewer { OnTrue result (events_in self.new < events_in self.old) }
+        ensures runs { self.new.state.stopped ≡ self.old.state.stopped }
+    {
+        if self.sealing.is_none() || self.opening.is_none() {
+            return false;
+        }
+        if let Some(feedback) = self.application.take() {
+            sofar.push_reserved(Event::AppSpecificFeedback(feedback));
+            return true;
+        }
+        if let Some(paused) = self.streams.poll_stream_paused() {
+            sofar.push_reserved(Event::StreamPaused(paused));
+            return true;
+        }
+        let Some(packet) = self.packet.take() else {
+            return false;
+        };
+        sofar.push_reserved(Event::RtpPacket(packet));
+        false
     }
 
     /// What the session tells next of what may want memory: nothing yet.

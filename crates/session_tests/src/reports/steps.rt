@@ -1,12 +1,12 @@
 //! What is done with an end that reports.
 use crate::ends::{End, mid};
 use crate::packets::{seal_numbered, seal_report};
-use media_base::{Bytes, Instant};
+use media_base::{Bitrate, Bytes, Instant};
 use rtp_base::{Kind, Mid, MidRid, Pt, SeqNo, Ssrc};
 use session_core::{Media, MediaKind};
 use std::alloc::Global;
 use std::test::Fail;
-use stream_core::{Payload, RtpWrite};
+use stream_core::{KeyframeRequestKind, Payload, RtpWrite};
 
 /// What is done with an end, or asked of it. Moments are in nanoseconds; a mid is one letter; an SSRC of
 /// repairs is 0 where there are none.
@@ -27,10 +27,16 @@ pub enum Step {
     Comes(u64, u8, u64, u32),
     /// The first repair on an SSRC comes at a moment, of the packet of this number, at RTP time 0. It opens.
     Repaired(u64, u8, u8),
+    /// Its stream of an SSRC asks for a key frame.
+    Frames(u8, KeyframeRequestKind),
+    /// Its stream of an SSRC tells the greatest rate, in bits a second.
+    Rates(u8, u64),
     /// Reports come at a moment, and open.
     Hears(u64, &'static [u8]),
     /// A tick at a moment. One compound leaves, none where there are no bytes; packets may leave behind it.
     Tick(u64, &'static [u8]),
+    /// A tick at a moment. This datagram leaves next.
+    Seals(u64, &'static [u8]),
     /// It wants a tick at this moment next.
     Wakes(Option<u64>),
 }
@@ -71,7 +77,8 @@ pub fn add(
     Ok(())
 }
 
-fn expect(end: &mut End, way: (u8, u8, u8), suppress: bool) -> Result<(), Fail> {
+/// Has an end receive on an SSRC, with repairs on another, of a mid.
+pub fn expect(end: &mut End, way: (u8, u8, u8), suppress: bool) -> Result<(), Fail> {
     let mid_rid = MidRid(mid_of(way.2), None);
     end.streams()
         .expect_stream_rx(ssrc(way.0), rtx_of(way.1), mid_rid, suppress)?;
@@ -98,6 +105,21 @@ fn write(alloc: Global, end: &mut End, low: u8, time: u32, moment: u64) -> Resul
         streams.tx_at(place).write_rtp(write)?;
     }
     Ok(())
+}
+
+/// Has the stream that receives on an SSRC ask for a key frame.
+pub fn ask_frame(end: &mut End, low: u8, kind: KeyframeRequestKind) {
+    let streams = end.streams();
+    if let Some(place) = streams.rx_place(ssrc(low)) {
+        streams.rx_at(place).request_keyframe(kind);
+    }
+}
+
+fn tell_rate(end: &mut End, low: u8, rate: u64) {
+    let streams = end.streams();
+    if let Some(place) = streams.rx_place(ssrc(low)) {
+        streams.rx_at(place).request_remb(Bitrate::bps(rate));
+    }
 }
 
 // Whether a packet of this type, SSRC, number, RTP time and payload opens (RFC 3550 section 5.1).
@@ -150,7 +172,16 @@ pub fn leaves(end: &mut End, now: Instant, plain: &[u8]) -> Result<bool, Fail> {
     Ok(false)
 }
 
-fn ticks(end: &mut End, now: Instant, plain: &[u8]) -> Result<bool, Fail> {
+fn seals(end: &mut End, now: Instant, bytes: &[u8]) -> Result<bool, Fail> {
+    end.handle_timeout(now)?;
+    match end.poll_datagram(now)? {
+        Some(sent) => Ok(sent.bytes.as_slice() == bytes),
+        None => Ok(false),
+    }
+}
+
+/// Whether this compound leaves at a tick, as `leaves` says.
+pub fn ticks(end: &mut End, now: Instant, plain: &[u8]) -> Result<bool, Fail> {
     end.handle_timeout(now)?;
     leaves(end, now, plain)
 }
@@ -177,6 +208,9 @@ pub fn goes(alloc: Global, end: &mut End, step: Step) -> Result<bool, Fail> {
             return opens(alloc, end, at(now), (97, low, 1, 0), &[0, number, 1, 2]);
         }
         Step::Hears(now, plain) => return hears(alloc, end, at(now), plain),
+        Step::Frames(low, kind) => ask_frame(end, low, kind),
+        Step::Rates(low, rate) => tell_rate(end, low, rate),
+        Step::Seals(now, bytes) => return seals(end, at(now), bytes),
         Step::Tick(now, plain) => return ticks(end, at(now), plain),
         Step::Wakes(moment) => return Ok(wakes(end, moment)),
     }

@@ -1,7 +1,8 @@
 use Rattle.std.proofs.Common.{◌≡◌, sym, ap, subst, ◌∙◌}
 use Rattle.stream_core.specs.Pauses.{first_pause, sooner}
 use Rattle.stream_core.specs.RxRecord.{RxState}
-use Rattle.session_core.specs.Rounds.{round_at, send_at}
+use Rattle.session_core.specs.Reports.{reports_at}
+use Rattle.session_core.specs.Rounds.{requests_at, round_at, send_at}
 use Rattle.session_core.specs.SessionRecord.{streams_in, SessionState, StandsFor}
 use Rattle.session_core.proofs.StreamsIn.{streams_stand}
 use Rattle.session_core.proofs.session.Session.poll_timeout.Goals as goal
@@ -16,4 +17,5 @@ returns g c = λ r h.
     let send = c.send_at.ensures ∙ ap (λ (s : SessionState). send_at s) h.state in
     let others : c.sooner-others_at.result ≡ sooner (round_at r) (sooner (sooner (first_pause r.rx) r.probes.state.pause_at) (send_at r.state)) =
     c.sooner-others_at.ensures ∙ (λ j. sooner (c.round_at.ensures r h j) ((c.sooner.ensures ∙ (λ i. sooner (paused i) (send i))) j)) in
-    c.sooner-2.ensures ∙ (λ j. sooner (c.reports_at.ensures r h j) (others j))
+    let first : c.sooner-feedback_at.result ≡ sooner (reports_at r) (requests_at r) = c.sooner-feedback_at.ensures ∙ (λ j. sooner (c.reports_at.ensures r h j) (c.requests_at.ensures r h j)) in
+    c.sooner-2.ensures ∙ (λ j. sooner (first j) (others j))

@@ -5,8 +5,8 @@ use Rattle.stream_core.specs.RxRecord.{RxState, StandsFor}
 use Rattle.stream_core.proofs.Alongside.{value_along, length_along}
 use Rattle.stream_core.proofs.RepairSteps.{on_err}
 use Rattle.stream_core.proofs.RxSteps.{mids_more, mids_same, mids_all, mids_some}
-use Rattle.stream_core.proofs.streams.due_mids.Goals as goal
-use Rattle.stream_core.proofs.streams.due_mids.Goals.{then-needs_report+in_ok-push, else-needs_report}
+use Rattle.stream_core.proofs.streams.feedback.due_mids.Goals as goal
+use Rattle.stream_core.proofs.streams.feedback.due_mids.Goals.{then-needs_report+in_ok-push, else-needs_report}
 
 pub returns-in_err-push-clause-cause : goal.returns-in_err-push-clause-cause
 returns-in_err-push-clause-cause g c = on_err c.from_residual.result _ (λ rs h.
