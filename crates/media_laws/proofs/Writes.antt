@@ -21,7 +21,7 @@ use Rattle.run_model.specs.Whole.{Session}
 use Rattle.media_laws.proofs.Lists.{IsIn-left, IsIn-right, IsIn-append, any-from_in, in-from_any, tested}
 use Rattle.media_laws.specs.declared.fault.StepFault.TheVariants.{UnknownStream, UnknownType, NumberTooBig, NumberUsed, PayloadTooLong}
 use Rattle.media_laws.specs.Opening.{Sealing}
-use Rattle.media_laws.specs.Play.{AreEntriesOf, wrote, ticked, called, got, Plays}
+use Rattle.media_laws.specs.Play.{AreEntriesOf, wrote, ticked, called, requested, got, Plays}
 use Rattle.media_laws.specs.Rules.{has, or_else, time_fault, write_fault, step_fault}
 use Rattle.media_laws.proofs.Playing.{NoSteps, seals_only, brought_only, each_taken}
 use Rattle.media_laws.proofs.Soundness.{NoRepeat-right, type_in, apart_ends}
@@ -95,6 +95,7 @@ writes_fit {seal} {setup} h =
         ]
     of_new (ticked s time sealed all) valid side r w i = absurd (subst (IsIn w) (no_writes side r sealed (seals_only seal setup sealed all)) i)
     of_new (called s time sender media payload x is) valid side r w i = absurd i
+    of_new (requested s time c by quiet) valid side r w i = absurd i
     of_new (got came brought at all) valid side r w i = absurd (subst (IsIn w) (no_writes side r brought (brought_only seal setup came brought all)) i)
 
 -- its type is claimed, and is no RTX type

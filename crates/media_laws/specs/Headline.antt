@@ -40,7 +40,7 @@ use Rattle.media_laws.specs.Feedback.{SendsFeedback}
 use Rattle.media_laws.specs.Listing.{IsIn, NoRepeat, Each, EachStep}
 use Rattle.media_laws.specs.Opening.{Sealing}
 use Rattle.media_laws.specs.Plain.{extensions_of, read_header, Carries, as_packet}
-use Rattle.media_laws.specs.Play.{Brings, IsBroughtBy}
+use Rattle.media_laws.specs.Play.{Brings, IsBroughtBy, IsCallBy}
 use Rattle.media_laws.specs.Right.{IsRight, IsRightSeal}
 
 -- what happened on a side among these entries, as it is read
@@ -137,12 +137,18 @@ pub record Arrives (seal : Sealing) (setup : Setup) (past : List Entry) (came : 
   pub read : happenings setup chunk ≡ on_side came.side new
   pub receives : Receives seal setup past came new
 
--- a write brings nothing; a tick seals what it has to, and nothing else; a call seals its feedback, and nothing else; a datagram
--- that comes is opened, and its packet yielded, exactly where it opens
+-- a call seals its feedback, and nothing else; one that asks for what leaves in a later tick brings nothing
+abbrev pub AnswersCall : Sealing → Setup → Side → List Entry → Call → List Entry → Type 0
+AnswersCall seal setup side past call.Application chunk = SendsFeedback seal setup side past chunk
+AnswersCall seal setup side past call.Ask chunk = chunk ≡ []
+AnswersCall seal setup side past call.Remb chunk = chunk ≡ []
+
+-- a write brings nothing; a tick seals what it has to, and nothing else; a call what it has to; a datagram that comes is opened,
+-- and its packet yielded, exactly where it opens
 abbrev pub Answers : Sealing → Setup → List Entry → Entry → List Entry → Type 0
 Answers seal setup past (Wrote side time write) chunk = chunk ≡ []
 Answers seal setup past (Ticked side time) chunk = TickAnswers seal setup side past time chunk
-Answers seal setup past (Called side time call) chunk = SendsFeedback seal setup side past chunk
+Answers seal setup past (Called side time c) chunk = AnswersCall seal setup side past c chunk
 Answers seal setup past (Got got) chunk = Arrives seal setup past got chunk
 Answers seal setup past _ chunk = Unit {0}
 
@@ -196,11 +202,6 @@ YieldsExactly setup past _ chunk = Unit {0}
 
 abbrev pub FirstSendingsAreYielded : Setup → List Entry → Type 0
 FirstSendingsAreYielded setup entries = EachStep (YieldsExactly setup) entries
-
--- a step has a side's application make this call
-abbrev pub IsCallBy : Side → ℕ → Call → Step → Type 0
-IsCallBy side time call.Application (Application s t sender media payload) = (s ≡ side) × (t ≡ time)
-IsCallBy side time call step = ⊥
 
 -- the steps among these entries are those of the script, in order: bytes that come are those that
 -- the step brings

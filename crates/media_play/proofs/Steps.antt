@@ -22,7 +22,7 @@ use Rattle.media_model.specs.Sides.{same_side}
 use Rattle.run_model.specs.Events.{Event, wrote, ticked, called, got}
 use Rattle.run_model.specs.Runs.{Happening, on_side}
 use Rattle.run_model.specs.Transcripts.{happenings}
-use Rattle.run_model.specs.Whole.{Config, Session, Turns, writes, ticks, calls, opens, hears, stays}
+use Rattle.run_model.specs.Whole.{Config, Session, Turns, writes, ticks, calls, requests, opens, hears, stays}
 use Rattle.setup_rules.specs.SetupRules.{first_fault}
 use Rattle.media_laws.specs.declared.fault.StepFault.{StepFault}
 use Rattle.media_laws.specs.declared.fault.StepFault.TheVariants.{TimeZero, TimeBack, TimeBeyond}
@@ -55,6 +55,7 @@ now_is : {C : Config} {side : Side} {a c : Session} {events : List Event} → Tu
 now_is (writes time w late unused) = refl
 now_is (ticks time new next late drains feedback counts) = refl
 now_is (calls time items late others) = refl
+now_is (requests time late) = refl
 now_is (opens time bytes ssrc n p s late there o) = refl
 now_is (hears time bytes index items late report h) = refl
 now_is (stays time kind bytes late no_rtp no_rtcp) = refl

@@ -34,8 +34,10 @@ use Rattle.media_model.specs.Application.{AreFew, are_few, data_of}
 use Rattle.rtp_wire.specs.Bytes.{words_of as numbers_in}
 use Rattle.rtp_wire.specs.declared.extension.Extension.{Extension}
 use Rattle.rtp_wire.specs.declared.extension.Extension.TheVariants.{AudioLevel, AbsoluteSendTime, TransportSequenceNumber, RtpMid, RtpStreamId, RepairedRtpStreamId, VideoOrientation, AbsoluteCaptureTime, PlayoutDelay}
-use Rattle.media_script.specs.Words.{◌>>=◌, below, plain_front, is_number, number_of, narrow_of, millis_of, has_ms, time_of, side_of, flag_of, hex_of, app_data_of, kinds, kind_of, at_most, key_of, one_of, ciphers, cipher_of, profiles, profile_of, codecs, codec_of, media_kind_of, rate_of, is_name, name_of, extensions, extension_of, numbers_of, has_c, sources_of, has_rtx, repair_type_of, optional}
-use Rattle.media_script.specs.Names.{side_text, flag_text, kind_text, cipher_text, profile_text, codec_text, media_kind_text, extension_text}
+use Rattle.rtp_base.specs.declared.keyframe_request.KeyframeRequestKind.{KeyframeRequestKind}
+use Rattle.rtp_base.specs.declared.keyframe_request.KeyframeRequestKind.TheVariants.{Pli, Fir}
+use Rattle.media_script.specs.Words.{◌>>=◌, below, plain_front, is_number, number_of, narrow_of, millis_of, has_ms, time_of, side_of, flag_of, hex_of, app_data_of, kinds, kind_of, keyframe_of, at_most, key_of, one_of, ciphers, cipher_of, profiles, profile_of, codecs, codec_of, media_kind_of, rate_of, is_name, name_of, extensions, extension_of, numbers_of, has_c, sources_of, has_rtx, repair_type_of, optional}
+use Rattle.media_script.specs.Names.{side_text, flag_text, kind_text, keyframe_text, cipher_text, profile_text, codec_text, media_kind_text, extension_text}
 use Rattle.media_script.specs.Spelling.{IsTime, IsHex, IsName, IsKey, IsOptional, IsBelow, IsNamed, IsSources}
 
 own : IsNumeralModel (λ ds. all_ascii_digits ds ≡ true) (digits_value 10)
@@ -274,6 +276,15 @@ pub kind_again : (kind : Kind) → kind_of (kind_text kind) ≡ Some kind
 unfolding kind_of
 kind_again Rtp = refl
 kind_again Rtcp = refl
+
+pub keyframe_spelled : (word : List ℕ) (kind : KeyframeRequestKind) → keyframe_of word ≡ Some kind → word ≡ keyframe_text kind
+unfolding keyframe_of
+keyframe_spelled word kind e = one_spelled keyframe_text (Pli ∷ Fir ∷ []) word kind e
+
+pub keyframe_again : (kind : KeyframeRequestKind) → keyframe_of (keyframe_text kind) ≡ Some kind
+unfolding keyframe_of
+keyframe_again Pli = refl
+keyframe_again Fir = refl
 
 pub cipher_spelled : (word : List ℕ) (cipher : CipherName) → cipher_of word ≡ Some cipher → word ≡ cipher_text cipher
 unfolding cipher_of

@@ -1,5 +1,5 @@
 -- The grammar of scripts: which bytes spell which setup and steps.
-use Rattle.std.specs.Prelude.{◌≡◌, ◌≢◌, ◌⊎◌, ℕ, ◌*◌, ◌^◌, ◌<◌, ◌≤◌, List, [], ◌∷◌, ◌++◌, length, slice_index, Bool, not, ◌==◌, ◌||◌, filter, Option, Some, None, Ok, codes, All}
+use Rattle.std.specs.Prelude.{◌≡◌, ◌≢◌, ◌⊎◌, ℕ, min, ◌*◌, ◌^◌, ◌<◌, ◌≤◌, List, [], ◌∷◌, ◌++◌, length, slice_index, Bool, not, ◌==◌, ◌||◌, filter, Option, Some, None, Ok, codes, All}
 use Rattle.std.specs.Char.{is_ascii_alphanumeric}
 use Rattle.std.specs.Fmt.{decimal}
 use Rattle.std.specs.List.{slice_split, flat_map, AllByRecursion, AllPass}
@@ -14,7 +14,7 @@ use Rattle.media_script.specs.declared.setup_line.SetupLine.TheVariants as line
 use Rattle.media_model.specs.declared.step.Step.{Step}
 use Rattle.media_model.specs.declared.step.Step.TheVariants as step
 use Rattle.rtp_wire.specs.Bytes.{words_of as numbers_in}
-use Rattle.media_script.specs.Names.{side_text, kind_text, flag_text, cipher_text, profile_text, codec_text, media_kind_text, extension_text}
+use Rattle.media_script.specs.Names.{side_text, kind_text, keyframe_text, flag_text, cipher_text, profile_text, codec_text, media_kind_text, extension_text}
 use Rattle.media_script.specs.Draft.{setup_of}
 use Rattle.media_script.specs.Order.{AreInOrder, said_by}
 
@@ -136,6 +136,13 @@ IsStep words (step.Foreign side time kind bytes) =
 IsStep words (step.Application side time sender media payload) =
     (t : List ℕ) × (h : List ℕ) × IsTime t time × (sender < 2 ^ 32) × (media < 2 ^ 32) × IsHex h payload × AreFew payload
     × (words ≡ codes "app" ∷ side_text side ∷ t ∷ decimal sender ∷ decimal media ∷ h ∷ [])
+-- a request for a key frame of the stream of an SSRC
+IsStep words (step.Ask side time ssrc kind) =
+    (t : List ℕ) × IsTime t time × (ssrc < 2 ^ 32) × (words ≡ codes "ask" ∷ side_text side ∷ t ∷ decimal ssrc ∷ keyframe_text kind ∷ [])
+-- the greatest rate of the stream of an SSRC, in bits a second: above 10 Gbit/s it is 10 Gbit/s
+IsStep words (step.Remb side time ssrc rate) =
+    (t : List ℕ) × (n : ℕ) × IsTime t time × (ssrc < 2 ^ 32) × (n < 2 ^ 64) × (rate ≡ min n 10000000000)
+    × (words ≡ codes "remb" ∷ side_text side ∷ t ∷ decimal ssrc ∷ decimal n ∷ [])
 
 -- one space stands between two words
 abbrev pub words_of : List ℕ → List (List ℕ)

@@ -24,7 +24,9 @@ use Rattle.media_model.specs.Application.{data_of}
 use Rattle.rtp_wire.specs.Bytes.{words_of as numbers_in}
 use Rattle.rtp_wire.specs.declared.extension.Extension.{Extension}
 use Rattle.rtp_wire.specs.declared.extension.Extension.TheVariants.{AudioLevel, AbsoluteSendTime, TransportSequenceNumber, RtpMid, RtpStreamId, RepairedRtpStreamId, VideoOrientation, AbsoluteCaptureTime, PlayoutDelay}
-use Rattle.media_script.specs.Names.{kind_text, cipher_text, profile_text, codec_text, media_kind_text, extension_text}
+use Rattle.rtp_base.specs.declared.keyframe_request.KeyframeRequestKind.{KeyframeRequestKind}
+use Rattle.rtp_base.specs.declared.keyframe_request.KeyframeRequestKind.TheVariants.{Pli, Fir}
+use Rattle.media_script.specs.Names.{kind_text, keyframe_text, cipher_text, profile_text, codec_text, media_kind_text, extension_text}
 
 infixl 10 ◌>>=◌
 abbrev pub ◌>>=◌ : {A B : Type 0} → Option A → (A → Option B) → Option B
@@ -108,6 +110,9 @@ kinds = Rtp ∷ Rtcp ∷ []
 
 unfoldable pub kind_of : List ℕ → Option Kind
 kind_of word = one_of kind_text kinds word
+
+unfoldable pub keyframe_of : List ℕ → Option KeyframeRequestKind
+keyframe_of word = one_of keyframe_text (Pli ∷ Fir ∷ []) word
 
 abbrev pub ciphers : List CipherName
 ciphers = Toy ∷ Sha ∷ []

@@ -3,7 +3,7 @@ ghost use Rattle.std.specs.Prelude.{◌≡◌, ◌^◌, IsTrue, IfOk, codes};
 ghost use Rattle.std.specs.Option.{ForSome, option_copied};
 ghost use Rattle.std.specs.Char.{is_ascii_alphanumeric};
 ghost use Rattle.std.specs.List.{list_all};
-ghost use Rattle.media_script.specs.Words.{plain_front, number_of, narrow_of, millis_of, time_of, side_of, flag_of, hex_of, app_data_of, kind_of, at_most, cipher_of, profile_of, key_of, codec_of, media_kind_of, rate_of, is_name, name_of, extension_of, numbers_of, sources_of, repair_type_of, optional};
+ghost use Rattle.media_script.specs.Words.{plain_front, number_of, narrow_of, millis_of, time_of, side_of, flag_of, hex_of, app_data_of, kind_of, keyframe_of, at_most, cipher_of, profile_of, key_of, codec_of, media_kind_of, rate_of, is_name, name_of, extension_of, numbers_of, sources_of, repair_type_of, optional};
 ghost use Rattle.media_script.specs.Gives.{Gives};
 
 use crate::error::LineError;
@@ -12,6 +12,7 @@ use media_base::Bytes;
 use media_model::{
     ApplicationData, CipherName, Codec, FirstNumber, Key, Kind, MediaKind, Side, SrtcpIndex,
 };
+use rtp_base::KeyframeRequestKind;
 use rtp_wire::{Extension, Mid, Rid};
 use srtp_core::SrtpProfile;
 use std::alloc::Global;
@@ -180,6 +181,19 @@ pub fn kind(word: &[u8]) -> Result<Kind, LineError>
         Ok(Kind::Rtp)
     } else if word == b"rtcp".as_slice() {
         Ok(Kind::Rtcp)
+    } else {
+        Err(LineError::Outside)
+    }
+}
+
+#[tactic(auto, unfolding(crate::specs::Words::keyframe_of))]
+pub fn keyframe(word: &[u8]) -> Result<KeyframeRequestKind, LineError>
+    ensures { Gives (λ k. k) result (keyframe_of word.now) }
+{
+    if word == b"pli".as_slice() {
+        Ok(KeyframeRequestKind::Pli)
+    } else if word == b"fir".as_slice() {
+        Ok(KeyframeRequestKind::Fir)
     } else {
         Err(LineError::Outside)
     }

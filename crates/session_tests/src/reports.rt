@@ -4,6 +4,7 @@ mod counted;
 mod due;
 mod many;
 mod names;
+mod news;
 mod requests;
 mod steps;
 mod told;
@@ -14,6 +15,7 @@ use crate::reports::counted::COUNTED;
 use crate::reports::due::DUE;
 use crate::reports::many::{Receivers, answers_all, reports_of_64};
 use crate::reports::names::names_itself;
+use crate::reports::news::NEWS;
 use crate::reports::requests::{REQUESTS, numbers_requests};
 use crate::reports::steps::{Step, expect, goes};
 use crate::reports::told::TOLD;
@@ -78,6 +80,7 @@ fn reports_hold(rt: HostRuntime) -> Result<(), Fail> {
         .iter()
         .chain(COUNTED.iter())
         .chain(DUE.iter())
+        .chain(NEWS.iter())
         .chain(REQUESTS.iter())
     {
         let held = play(rt.alloc(), Asked::Steps(steps))?;
