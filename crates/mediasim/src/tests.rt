@@ -353,7 +353,7 @@ fn reports(rt: HostRuntime) -> Result<(), Fail> {
 
 // Steps, and which of them is the first to break a rule, with the first rule that it breaks: each
 // rule alone. LONG is read by `with_payloads`.
-const STEP_FAULTS: [(&str, &str); 13] = [
+const STEP_FAULTS: [(&str, &str); 15] = [
     ("tick A 0\n", "1 TimeZero"),
     ("tick A 2\ntick B 2\ntick B 1\n", "3 TimeBack"),
     (
@@ -365,6 +365,8 @@ const STEP_FAULTS: [(&str, &str); 13] = [
         "write A 1 42 1 96 0 0 0 01\nwrite B 1 42 1 96 0 0 0 02\n",
         "2 UnknownStream",
     ),
+    ("ask A 1 42 pli\n", "1 UnknownStream"),
+    ("remb B 1 41 1\n", "1 UnknownStream"),
     ("deliver B 1 0\n", "1 UnknownDatagram"),
     (
         "write A 1 42 1 96 0 0 0 01\ntick A 1\ndeliver B 1 2\n",

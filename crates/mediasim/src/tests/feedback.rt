@@ -11,7 +11,7 @@ const SEALED_FEEDBACK: &str =
     "8fce0003000000010000002a010303028ecc030700010007800000000000002b80000000";
 
 // Setup lines and steps with feedback of an application, and the text of the run.
-const RTCP_RUNS: [(&str, &str, &str); 4] = [
+const RTCP_RUNS: [(&str, &str, &str); 6] = [
     (
         "",
         "app A 1 1 42 01020304\ndeliver B 1 1\n",
@@ -34,6 +34,18 @@ const RTCP_RUNS: [(&str, &str, &str); 4] = [
         "",
         "foreign B 1 rtcp 80c900010000000180c9000100010007000000000000000100000000\nforeign B 1 rtcp 80c900010000000180c9000100010007000000000000000200000000\nforeign B 1 rtcp -\n",
         "got B rtcp 28\nopened B rtcp 1 0\ngot B rtcp 28\ngot B rtcp 0\nend genuine=no repairs=yes\n",
+    ),
+    // A key frame is asked for: a PLI of SSRC 2 on 42 leaves in the next tick.
+    (
+        "",
+        "ask B 1 42 pli\ntick B 1\n",
+        "called B ask\nticked B 1\nsealed B rtcp 2 0 81ce0002000000020000002a81ce000200020004800000000000002b80000000\nend genuine=yes repairs=yes\n",
+    ),
+    // It comes, and a rate that is told; nothing leaves before a tick.
+    (
+        "",
+        "ask B 1 42 pli\nremb B 1 42 10000000000000\nask B 2 42 fir\nask B 2 42 pli\n",
+        "called B ask\ncalled B remb\ncalled B ask\ncalled B ask\nend genuine=yes repairs=yes\n",
     ),
 ];
 
