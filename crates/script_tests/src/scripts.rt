@@ -68,107 +68,126 @@ fn syntax(alloc: Global, text: &[u8]) -> Option<ScriptError> {
     read_script(alloc, text).err()
 }
 
+// What is said of a script, and whether it holds.
+type Fact = (&'static str, bool);
+
+// Tells the first fact that does not hold.
+fn all_hold(facts: &[Fact]) -> Result<(), Fail> {
+    for (what, holds) in facts {
+        if !*holds {
+            None::<()>.ok_or(*what)?;
+        }
+    }
+    Ok(())
+}
+
+fn are_types(types: &[PayloadType]) -> bool {
+    let others = [
+        PayloadType {
+            pt: Pt::from(255),
+            codec: Codec::Telephone,
+            rate: 4_294_967_295,
+            rtx: None,
+        },
+        PayloadType {
+            pt: Pt::from(97),
+            codec: Codec::Vp9,
+            rate: 90_000,
+            rtx: Some(Pt::from(255)),
+        },
+    ];
+    types.len() == 3 && types.get(1..) == Some(others.as_slice())
+}
+
+fn is_video(media: &Media) -> bool {
+    media.mid.as_slice() == b"v".as_slice()
+        && media.kind == MediaKind::Video
+        && media.cname.as_slice() == b"cam".as_slice()
+        && media.streams.as_slice().len() == 2
+}
+
+fn is_layer(stream: &Stream) -> bool {
+    stream.side == Side::B
+        && stream.ssrc == Ssrc::from(u32::MAX)
+        && stream.rtx == Some(Ssrc::from(0))
+        && match &stream.rid {
+            Some(rid) => rid.as_slice() == b"hi".as_slice(),
+            None => false,
+        }
+}
+
+fn are_media(media: &[Media]) -> bool {
+    match media {
+        [video, audio] => match audio.streams.as_slice().first() {
+            Some(stream) => is_video(video) && is_layer(stream),
+            None => false,
+        },
+        _ => false,
+    }
+}
+
 #[test]
 fn each_line_is_read(rt: HostRuntime) -> Result<(), Fail> {
     let alloc = rt.alloc();
-    let (setup, steps) = read_script(alloc, EVERY_LINE).ok().ok_or("a script")?;
-    assert_eq!(rt; setup.cipher, CipherName::Toy);
-    assert_eq!(rt; setup.profile, SrtpProfile::AeadAes128Gcm);
-    assert_eq!(rt; setup.key, Key::Given(Bytes::from_slice(alloc, &[0, 255])?));
-    assert_eq!(rt; setup.types.as_slice().len(), 3);
-    assert_eq!(rt;
-        setup.types.as_slice().get(1..),
-        Some([
-            PayloadType {
-                pt: Pt::from(255),
-                codec: Codec::Telephone,
-                rate: 4_294_967_295,
-                rtx: None,
-            },
-            PayloadType {
-                pt: Pt::from(97),
-                codec: Codec::Vp9,
-                rate: 90_000,
-                rtx: Some(Pt::from(255)),
-            },
-        ]
-        .as_slice())
-    );
-    assert_eq!(rt; setup.media.as_slice().len(), 2);
-    let video = setup.media.as_slice().first().ok_or("a media")?;
-    assert_eq!(rt; video.mid.as_slice(), b"v".as_slice());
-    assert_eq!(rt; video.kind, MediaKind::Video);
-    assert_eq!(rt; video.cname.as_slice(), b"cam".as_slice());
-    assert_eq!(rt; video.streams.as_slice().len(), 2);
-    let audio = setup.media.as_slice().last().ok_or("a media")?;
-    let stream = audio.streams.as_slice().first().ok_or("a stream")?;
-    assert_eq!(rt; stream.side, Side::B);
-    assert_eq!(rt; stream.ssrc, Ssrc::from(4_294_967_295));
-    assert_eq!(rt; stream.rtx, Some(Ssrc::from(0)));
-    let layer = stream.rid.ok_or("a layer")?;
-    assert_eq!(rt; layer.as_slice(), b"hi".as_slice());
-    assert_eq!(rt;
-        setup.mtu,
-        Mtu {
-            target: 900,
-            warn: 1500
-        }
-    );
-    assert_eq!(rt; setup.pause_threshold, Duration::from_nanos(250_000_000));
-    assert_eq!(rt;
-        setup.intervals,
-        intervals(4_000_000_000, 18_446_744_073_709_000_000)
-    );
-    assert_eq!(rt; setup.a, local(u32::MAX, SrtcpIndex::FIRST));
+    let key = Key::Given(Bytes::from_slice(alloc, &[0, 255])?);
     let last = SrtcpIndex::new(2_147_483_648).ok_or("an index")?;
-    assert_eq!(rt; setup.b, local(2, last));
-    assert_eq!(rt; steps.len(), 6);
-    assert_eq!(rt;
-        steps.last(),
-        Some(&Step::Foreign {
-            side: Side::B,
-            time: Instant::from_nanos(1),
-            kind: Kind::Rtp,
-            bytes: Bytes::from_slice(alloc, &[0x80])?,
-        })
-    );
-    Ok(())
+    let (setup, _) = read_script(alloc, EVERY_LINE).ok().ok_or("a script")?;
+    let mtu = Mtu {
+        target: 900,
+        warn: 1500,
+    };
+    all_hold(&[
+        ("its cipher", setup.cipher == CipherName::Toy),
+        ("its profile", setup.profile == SrtpProfile::AeadAes128Gcm),
+        ("its key", setup.key == key),
+        ("its types", are_types(setup.types.as_slice())),
+        ("its media", are_media(setup.media.as_slice())),
+        ("its mtu", setup.mtu == mtu),
+        (
+            "its threshold",
+            setup.pause_threshold == Duration::from_nanos(250_000_000),
+        ),
+        (
+            "its intervals",
+            setup.intervals == intervals(4_000_000_000, 18_446_744_073_709_000_000),
+        ),
+        ("A", setup.a == local(u32::MAX, SrtcpIndex::FIRST)),
+        ("B", setup.b == local(2, last)),
+    ])
+}
+
+fn cache(packets: u64, nanos: u64, cap: Option<u32>) -> Cache {
+    Cache {
+        packets,
+        age: Duration::from_nanos(nanos),
+        cap,
+    }
 }
 
 #[test]
 fn what_streams_keep_is_read(rt: HostRuntime) -> Result<(), Fail> {
     let alloc = rt.alloc();
-    let (setup, _) = read_script(alloc, EVERY_LINE).ok().ok_or("a script")?;
     let last = FirstNumber::new(281_474_976_710_656).ok_or("a number")?;
-    assert_eq!(rt; setup.starts.len(), 1);
-    assert_eq!(rt; setup.start(Ssrc::from(u32::MAX)), last);
-    assert_eq!(rt; setup.start(Ssrc::from(7)), FirstNumber::ZERO);
-    assert_eq!(rt; setup.caches.len(), 2);
-    assert_eq!(rt;
-        setup.cache(Ssrc::from(7)),
-        Cache {
-            packets: 0,
-            age: Duration::from_nanos(18_446_744_073_709_000_000),
-            cap: Some(u32::MAX),
-        }
-    );
-    assert_eq!(rt;
-        setup.cache(Ssrc::from(42)),
-        Cache {
-            packets: u64::MAX,
-            age: Duration::from_nanos(0),
-            cap: None,
-        }
-    );
-    assert_eq!(rt;
-        setup.cache(Ssrc::from(u32::MAX)),
-        Cache {
-            packets: 2_000,
-            age: Duration::from_nanos(3_000_000_000),
-            cap: Some(15),
-        }
-    );
-    Ok(())
+    let (setup, _) = read_script(alloc, EVERY_LINE).ok().ok_or("a script")?;
+    let most = Ssrc::from(u32::MAX);
+    all_hold(&[
+        ("one start", setup.starts.len() == 1),
+        ("its number", setup.start(most) == last),
+        ("no other", setup.start(Ssrc::from(7)) == FirstNumber::ZERO),
+        ("two caches", setup.caches.len() == 2),
+        (
+            "with a cap",
+            setup.cache(Ssrc::from(7)) == cache(0, 18_446_744_073_709_000_000, Some(u32::MAX)),
+        ),
+        (
+            "without one",
+            setup.cache(Ssrc::from(42)) == cache(u64::MAX, 0, None),
+        ),
+        (
+            "the usual one",
+            setup.cache(most) == cache(2_000, 3_000_000_000, Some(15)),
+        ),
+    ])
 }
 
 // What a side alone brings.
@@ -190,7 +209,6 @@ fn intervals(audio: u64, video: u64) -> ReportTimes {
 #[test]
 fn each_step_is_read(rt: HostRuntime) -> Result<(), Fail> {
     let alloc = rt.alloc();
-    let (_, steps) = read_script(alloc, EVERY_LINE).ok().ok_or("a script")?;
     let payload = Bytes::from_slice(alloc, &[1, 2, 255, 255])?;
     let handed = [
         Step::Deliver {
@@ -211,9 +229,18 @@ fn each_step_is_read(rt: HostRuntime) -> Result<(), Fail> {
             media: Ssrc::from(0),
             payload: ApplicationData::new(payload).ok_or("a payload")?,
         },
+        Step::Foreign {
+            side: Side::B,
+            time: Instant::from_nanos(1),
+            kind: Kind::Rtp,
+            bytes: Bytes::from_slice(alloc, &[0x80])?,
+        },
     ];
-    assert_eq!(rt; steps.get(2..5), Some(handed.as_slice()));
-    Ok(())
+    let (_, steps) = read_script(alloc, EVERY_LINE).ok().ok_or("a script")?;
+    all_hold(&[
+        ("six steps", steps.len() == 6),
+        ("but for two", steps.get(2..) == Some(handed.as_slice())),
+    ])
 }
 
 // Setup lines, the two lengths of the MTU, and the index of the first SRTCP datagram of A and of B.
@@ -233,9 +260,10 @@ fn what_each_side_brings_is_read(rt: HostRuntime) -> Result<(), Fail> {
         let b = SrtcpIndex::new(b).ok_or("an index")?;
         let text = format!(in alloc; "str0m-media 1\n{lines}key zero\nbegin\nend\n")?;
         let (setup, _) = read_script(alloc, text.as_bytes()).ok().ok_or("a script")?;
-        assert_eq!(rt; setup.mtu, Mtu { target, warn }, "at {lines}");
-        assert_eq!(rt; setup.a, local(1, a), "at {lines}");
-        assert_eq!(rt; setup.b, local(2, b), "at {lines}");
+        let right = setup.mtu == Mtu { target, warn }
+            && setup.a == local(1, a)
+            && setup.b == local(2, b);
+        assert!(rt; right, "at {lines}");
     }
     Ok(())
 }
@@ -245,9 +273,13 @@ fn own_ssrcs_are_read(rt: HostRuntime) -> Result<(), Fail> {
     let alloc = rt.alloc();
     let text = b"str0m-media 1\nlocal B 0\nkey zero\nlocal A 4294967295\nbegin\nend\n";
     let (setup, _) = read_script(alloc, text.as_slice()).ok().ok_or("a script")?;
-    assert_eq!(rt; setup.local(Side::A), local(u32::MAX, SrtcpIndex::FIRST));
-    assert_eq!(rt; setup.local(Side::B), local(0, SrtcpIndex::FIRST));
-    Ok(())
+    all_hold(&[
+        (
+            "of A",
+            setup.local(Side::A) == local(u32::MAX, SrtcpIndex::FIRST),
+        ),
+        ("of B", setup.local(Side::B) == local(0, SrtcpIndex::FIRST)),
+    ])
 }
 
 // A script whose one step is feedback of so many bytes.
@@ -293,9 +325,10 @@ fn each_cipher_and_profile_is_read(rt: HostRuntime) -> Result<(), Fail> {
     for (lines, cipher, profile, material) in CIPHERS {
         let text = format!(in alloc; "str0m-media 1\n{lines}key zero\nbegin\nend\n")?;
         let (setup, _) = read_script(alloc, text.as_bytes()).ok().ok_or("a script")?;
-        assert_eq!(rt; setup.cipher, cipher, "at {lines}");
-        assert_eq!(rt; setup.profile, profile, "at {lines}");
-        assert_eq!(rt; setup.material(alloc)?.len(), material, "at {lines}");
+        let right = setup.cipher == cipher
+            && setup.profile == profile
+            && setup.material(alloc)?.len() == material;
+        assert!(rt; right, "at {lines}");
     }
     Ok(())
 }
@@ -306,11 +339,10 @@ fn each_extension_is_read(rt: HostRuntime) -> Result<(), Fail> {
     for (name, extension) in EXTENSIONS {
         let text = format!(in alloc; "str0m-media 1\nkey zero\next 14 {name}\nbegin\nend\n")?;
         let (setup, _) = read_script(alloc, text.as_bytes()).ok().ok_or("a script")?;
-        assert_eq!(rt;
-            setup.exts.as_slice(),
-            [NamedExtension { id: 14, extension }].as_slice()
-        );
-        assert_eq!(rt; setup.extension_map().id_of(extension), Some(14));
+        let named = [NamedExtension { id: 14, extension }];
+        let right = setup.exts.as_slice() == named.as_slice()
+            && setup.extension_map().id_of(extension) == Some(14);
+        assert!(rt; right, "at {name}");
     }
     Ok(())
 }
@@ -384,14 +416,21 @@ fn ids_of_extensions(rt: HostRuntime) -> Result<(), Fail> {
     let text = b"str0m-media 1\nkey zero\next 0 mid\next 1 twcc\next 15 rid\next 3 abs\n\
 ext 3 level\next 2 twcc\nbegin\nend\n";
     let (setup, _) = read_script(alloc, text.as_slice()).ok().ok_or("a script")?;
-    assert_eq!(rt; setup.exts.as_slice().len(), 6);
     let exts = setup.extension_map();
-    assert_eq!(rt; exts.id_of(Extension::RtpMid), None);
-    assert_eq!(rt; exts.id_of(Extension::RtpStreamId), None);
-    assert_eq!(rt; exts.id_of(Extension::AbsoluteSendTime), None);
-    assert_eq!(rt; exts.id_of(Extension::AudioLevel), Some(3));
-    assert_eq!(rt; exts.id_of(Extension::TransportSequenceNumber), Some(2));
-    Ok(())
+    all_hold(&[
+        ("six lines", setup.exts.as_slice().len() == 6),
+        ("0", exts.id_of(Extension::RtpMid).is_none()),
+        ("15", exts.id_of(Extension::RtpStreamId).is_none()),
+        (
+            "3, at first",
+            exts.id_of(Extension::AbsoluteSendTime).is_none(),
+        ),
+        ("3", exts.id_of(Extension::AudioLevel) == Some(3)),
+        (
+            "2",
+            exts.id_of(Extension::TransportSequenceNumber) == Some(2),
+        ),
+    ])
 }
 
 // A script of one write, whose last words these are.
@@ -629,26 +668,33 @@ fn many(alloc: Global, media: u32, streams: u32) -> Result<Vec<u8>, Fail> {
     Ok(text)
 }
 
+// Whether a script has 64 media, the first with 256 streams, and no steps.
+fn has_many(alloc: Global, text: &[u8]) -> Result<bool, Fail> {
+    let (setup, steps) = read_script(alloc, text).ok().ok_or("a script")?;
+    let streams = match setup.media.as_slice().first() {
+        Some(first) => first.streams.as_slice().len(),
+        None => 0,
+    };
+    Ok(setup.media.as_slice().len() == 64 && streams == 256 && steps.is_empty())
+}
+
 #[test]
 fn limits_of_media_and_streams(rt: HostRuntime) -> Result<(), Fail> {
     let alloc = rt.alloc();
     let full = many(alloc, 64, 256)?;
-    let (setup, steps) = read_script(alloc, full.as_slice()).ok().ok_or("a script")?;
-    assert_eq!(rt; setup.media.as_slice().len(), 64);
-    let first = setup.media.as_slice().first().ok_or("a media")?;
-    assert_eq!(rt; first.streams.as_slice().len(), 256);
-    assert!(rt; steps.is_empty());
     let media = many(alloc, 65, 0)?;
-    assert_eq!(rt;
-        syntax(alloc, media.as_slice()),
-        Some(ScriptError::Syntax(67))
-    );
     let streams = many(alloc, 1, 257)?;
-    assert_eq!(rt;
-        syntax(alloc, streams.as_slice()),
-        Some(ScriptError::Syntax(260))
-    );
-    Ok(())
+    all_hold(&[
+        ("all of both", has_many(alloc, full.as_slice())?),
+        (
+            "a media too many",
+            syntax(alloc, media.as_slice()) == Some(ScriptError::Syntax(67)),
+        ),
+        (
+            "a stream too many",
+            syntax(alloc, streams.as_slice()) == Some(ScriptError::Syntax(260)),
+        ),
+    ])
 }
 
 // One packet sealed by A, opened and yielded by B.
@@ -691,35 +737,44 @@ fn one_opened(alloc: Global) -> Result<Transcript, Fail> {
     Ok(transcript)
 }
 
+const LINES: &str =
+    "called A app\nsealed A rtp 42 1 0102\ngot B rtp 2\nopened B rtp 42 1\nyielded B 42 1 96 0 0 01\n";
+
+// Whether the text of that is this, with and without its last line.
+fn is_text(alloc: Global, transcript: &Transcript) -> Result<bool, Fail> {
+    let text = entries_text(alloc, transcript.entries())?;
+    let whole = write_transcript(alloc, true, transcript)?;
+    let last = end_line(alloc, false, transcript)?;
+    Ok(
+        text.as_str() == LINES
+            && whole.as_str().strip_prefix(LINES) == Some("end genuine=yes repairs=yes\n")
+            && last.as_str() == "end genuine=yes repairs=no\n",
+    )
+}
+
 #[test]
 fn surface_ample(rt: HostRuntime) -> Result<(), Fail> {
     let alloc = rt.alloc();
     let (setup, _) = read_script(alloc, EVERY_LINE).ok().ok_or("a script")?;
-    assert_eq!(rt; setup.material(alloc)?.as_slice(), [0, 255].as_slice());
-    assert_eq!(rt;
-        setup.streams(alloc, Side::B)?.as_slice(),
-        [Ssrc::from(7), Ssrc::from(4_294_967_295)].as_slice()
-    );
-    assert_eq!(rt;
-        setup.types(alloc)?.as_slice(),
-        [Pt::from(96), Pt::from(255), Pt::from(97)].as_slice()
-    );
-    assert_eq!(rt;
-        setup.claimed_types(alloc)?.as_slice(),
-        [Pt::from(96), Pt::from(255), Pt::from(97), Pt::from(255)].as_slice()
-    );
     let transcript = one_opened(alloc)?;
-    assert!(rt; transcript.genuine(alloc)?);
-    let lines =
-        "called A app\nsealed A rtp 42 1 0102\ngot B rtp 2\nopened B rtp 42 1\nyielded B 42 1 96 0 0 01\n";
-    let text = entries_text(alloc, transcript.entries())?;
-    assert_eq!(rt; text.as_str(), lines);
-    let whole = write_transcript(alloc, true, &transcript)?;
-    assert_eq!(rt;
-        whole.as_str().strip_prefix(lines),
-        Some("end genuine=yes repairs=yes\n")
-    );
-    let last = end_line(alloc, false, &transcript)?;
-    assert_eq!(rt; last.as_str(), "end genuine=yes repairs=no\n");
-    Ok(())
+    let streams = [Ssrc::from(7), Ssrc::from(u32::MAX)];
+    let types = [Pt::from(96), Pt::from(255), Pt::from(97)];
+    let claimed = [Pt::from(96), Pt::from(255), Pt::from(97), Pt::from(255)];
+    all_hold(&[
+        (
+            "material",
+            setup.material(alloc)?.as_slice() == [0, 255].as_slice(),
+        ),
+        (
+            "streams",
+            setup.streams(alloc, Side::B)?.as_slice() == streams.as_slice(),
+        ),
+        ("types", setup.types(alloc)?.as_slice() == types.as_slice()),
+        (
+            "claimed types",
+            setup.claimed_types(alloc)?.as_slice() == claimed.as_slice(),
+        ),
+        ("genuine", transcript.genuine(alloc)?),
+        ("text", is_text(alloc, &transcript)?),
+    ])
 }
