@@ -1,5 +1,5 @@
 -- The grammar of scripts: which bytes spell which setup and steps.
-use Rattle.std.specs.Prelude.{◌≡◌, ◌≢◌, ◌⊎◌, ℕ, min, ◌*◌, ◌^◌, ◌<◌, ◌≤◌, List, [], ◌∷◌, ◌++◌, length, slice_index, Bool, not, ◌==◌, ◌||◌, filter, Option, Some, None, Ok, codes, All}
+use Rattle.std.specs.Prelude.{◌≡◌, ◌≢◌, ◌⊎◌, ℕ, min, ◌*◌, ◌^◌, ◌<◌, ◌≤◌, List, [], ◌∷◌, ◌++◌, length, slice_index, Bool, true, false, not, ◌==◌, ◌||◌, filter, Option, Some, None, Ok, codes, All}
 use Rattle.std.specs.Char.{is_ascii_alphanumeric}
 use Rattle.std.specs.Fmt.{decimal}
 use Rattle.std.specs.List.{slice_split, flat_map, AllByRecursion, AllPass}
@@ -49,10 +49,15 @@ IsBelow limit word n = (word ≡ decimal n) × (n < limit)
 abbrev pub IsNamed : List ℕ → List ℕ → Type 0
 IsNamed word rid = (word ≡ rid) × IsName 16 rid
 
--- no word where a type has no repairs, or one word that says their type
-abbrev pub IsRepairType : List (List ℕ) → Option ℕ → Type 0
-IsRepairType words None = words ≡ []
-IsRepairType words (Some pt) = (words ≡ (codes "rtx=" ++ decimal pt) ∷ []) × (pt < 2 ^ 8)
+-- no word where there is no such type, or one word that says it behind this name
+abbrev pub IsNamedType : List ℕ → List (List ℕ) → Option ℕ → Type 0
+IsNamedType name words None = words ≡ []
+IsNamedType name words (Some pt) = (words ≡ (name ++ decimal pt) ∷ []) × (pt < 2 ^ 8)
+
+-- this word, or none
+abbrev pub flag_words : List ℕ → Bool → List (List ℕ)
+flag_words name false = []
+flag_words name true = name ∷ []
 
 -- the words of a setup line
 abbrev pub IsSetupLine : List (List ℕ) → SetupLine → Type 0
@@ -79,10 +84,12 @@ IsSetupLine words (line.Local side ssrc) = (ssrc < 2 ^ 32) × (words ≡ codes "
 -- an id and the header extension that it names
 IsSetupLine words (line.Ext named) =
     (named.id < 2 ^ 8) × (words ≡ codes "ext" ∷ decimal named.id ∷ extension_text named.extension ∷ [])
--- a payload type, its clock rate, and the type of its repairs
+-- a payload type, its clock rate, the type of its repairs, that of its redundant data, and how a key frame of it may be asked for
 IsSetupLine words (line.Type t) =
-    (r : List (List ℕ)) × IsRepairType r t.rtx × (t.pt < 2 ^ 8) × (0 < t.rate) × (t.rate < 2 ^ 32)
-    × (words ≡ codes "type" ∷ decimal t.pt ∷ codec_text t.codec ∷ decimal t.rate ∷ r)
+    (rtx : List (List ℕ)) × (red : List (List ℕ)) × IsNamedType (codes "rtx=") rtx t.rtx × IsNamedType (codes "red=") red t.red
+    × (t.pt < 2 ^ 8) × (0 < t.rate) × (t.rate < 2 ^ 32)
+    × (words ≡ codes "type" ∷ decimal t.pt ∷ codec_text t.codec ∷ decimal t.rate
+        ∷ (rtx ++ (red ++ (flag_words (codes "pli") t.pli ++ flag_words (codes "fir") t.fir))))
 IsSetupLine words (line.Media mid kind cname) =
     IsName 16 mid × IsName 255 cname × (words ≡ codes "media" ∷ mid ∷ media_kind_text kind ∷ cname ∷ [])
 IsSetupLine words (line.Stream mid stream) =

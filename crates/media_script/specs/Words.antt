@@ -162,12 +162,10 @@ has_c word = starts_with nat_eq word (codes "c=")
 unfoldable pub sources_of : List ℕ → Option (List ℕ)
 sources_of word = if has_c word then (hex_of (drop 2 word) >>= λ bytes. numbers_of bytes) else None
 
-abbrev pub has_rtx : List ℕ → Bool
-has_rtx word = starts_with nat_eq word (codes "rtx=")
-
--- rtx= and a payload type
-unfoldable pub repair_type_of : List ℕ → Option ℕ
-repair_type_of word = if has_rtx word then narrow_of (2 ^ 8) (drop 4 word) else None
+-- the payload type behind a name, where the word has that
+unfoldable pub type_behind : List ℕ → List ℕ → Option (Option ℕ)
+type_behind name word =
+    if starts_with nat_eq word name then (narrow_of (2 ^ 8) (drop (length name) word) >>= λ pt. Some (Some pt)) else Some None
 
 -- units of RTP time in a second
 unfoldable pub rate_of : List ℕ → Option ℕ

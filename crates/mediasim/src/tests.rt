@@ -107,9 +107,9 @@ fn one_write(rt: HostRuntime) -> Result<(), Fail> {
 
 // Setup lines and steps, and the text of the run: AEAD_AES_256_GCM, whose session key ends with the
 // number of the second round; AES_CM_128_HMAC_SHA1_80, whose tag is HMAC-SHA1 (RFC 2104) under the
-// key 0000000000000001000000000000000000000001; and the mid v under the id 1 (RFC 8285 section 4.2),
-// with a datagram of an SSRC that no stream has.
-const BY_SETUP: [(&str, &str, &str); 3] = [
+// key 0000000000000001000000000000000000000001; the mid v under the id 1 (RFC 8285 section 4.2), with a
+// datagram of an SSRC that no stream has; and the type of redundant data (RFC 2198) of another type.
+const BY_SETUP: [(&str, &str, &str); 4] = [
     (
         "profile gcm256\n",
         ONE_WRITE,
@@ -124,6 +124,11 @@ const BY_SETUP: [(&str, &str, &str); 3] = [
         "ext 1 mid\n",
         "write A 1 42 1 96 0 0 0 0102\ntick A 1\ndeliver B 1 1\nforeign B 1 rtp 906000010000000000000063bede000110760000010280160001012800020000002bbede0000\n",
         "wrote A 42 1\nticked A 1\nsealed A rtp 42 1 90600001000000000000002abede000110760000010280160001012800020000002bbede0000\ngot B rtp 38\nopened B rtp 42 1\nyielded B 42 1 96 0 0 0102\ngot B rtp 38\nend genuine=yes repairs=yes\n",
+    ),
+    (
+        "type 98 opus 48000 rtx=99 red=97 pli fir\n",
+        "write A 1 42 1 97 0 0 0 0102\ntick A 1\ndeliver B 1 1\n",
+        "wrote A 42 1\nticked A 1\nsealed A rtp 42 1 80610001000000000000002a010280610001002a00020000002b01020001\ngot B rtp 30\nopened B rtp 42 1\nyielded B 42 1 97 0 0 0102\nend genuine=yes repairs=yes\n",
     ),
 ];
 

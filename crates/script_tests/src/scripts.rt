@@ -10,7 +10,7 @@ use std::test::Fail;
 const EVERY_LINE: &[u8] = b"# all of it\n\nstr0m-media 1\ntype 96 vp8 90000\nmedia v video cam\n\
 media a audio mic2\nstream A v 42 - -\next 14 delay\ncipher toy\nunix 5\next 0 mid\ntype 255 telephone 4294967295\n\
 stream B a 4294967295 0 hi\nkey 00Ff\nprofile gcm128\nstream B v 7 - lo\nrtcp B 2147483648\nmtu 900 1500\n\
-type 97 vp9 90000 rtx=255\nstart 4294967295 281474976710656\ncache 7 0 18446744073709 4294967295\n\
+type 97 vp9 90000 rtx=255 red=9 pli fir\nstart 4294967295 281474976710656\ncache 7 0 18446744073709 4294967295\n\
 cache 42 18446744073709551615 0 none\n\
 pause 250\nreports 4000 18446744073709\nlocal A 4294967295\nbegin\n\
 write A 5ms 42 18446744073709551615 96 4294967295 1 0 8060Ff c=0000002AffFFffff\ntick B 1000\ndeliver A 0 3\n\
@@ -88,12 +88,18 @@ fn are_types(types: &[PayloadType]) -> bool {
             codec: Codec::Telephone,
             rate: 4_294_967_295,
             rtx: None,
+            red: None,
+            pli: false,
+            fir: false,
         },
         PayloadType {
             pt: Pt::from(97),
             codec: Codec::Vp9,
             rate: 90_000,
             rtx: Some(Pt::from(255)),
+            red: Some(Pt::from(9)),
+            pli: true,
+            fir: true,
         },
     ];
     types.len() == 3 && types.get(1..) == Some(others.as_slice())
@@ -525,11 +531,16 @@ fn first_line_outside_is_told(rt: HostRuntime) {
         ("str0m-media 1\ntype 96 vp8 0\n", 2),
         ("str0m-media 1\ntype 96 vp8 4294967296\n", 2),
         ("str0m-media 1\ntype 96 vp10 90000\n", 2),
-        ("str0m-media 1\ntype 96 vp8 90000 pli\n", 2),
+        ("str0m-media 1\ntype 96 vp8 90000 fir pli\n", 2),
+        ("str0m-media 1\ntype 96 vp8 90000 pli pli\n", 2),
+        ("str0m-media 1\ntype 96 vp8 90000 pli red=97\n", 2),
+        ("str0m-media 1\ntype 96 vp8 90000 tcc\n", 2),
         ("str0m-media 1\ntype 96 vp8 90000 rtx=\n", 2),
         ("str0m-media 1\ntype 96 vp8 90000 rtx=256\n", 2),
         ("str0m-media 1\ntype 96 vp8 90000 rtx=-\n", 2),
-        ("str0m-media 1\ntype 96 vp8 90000 red=97\n", 2),
+        ("str0m-media 1\ntype 96 vp8 90000 red=\n", 2),
+        ("str0m-media 1\ntype 96 vp8 90000 red=256\n", 2),
+        ("str0m-media 1\ntype 96 vp8 90000 red=97 rtx=98\n", 2),
         ("str0m-media 1\ntype 96 vp8 90000 rtx=97 rtx=98\n", 2),
         ("str0m-media 1\ntype 96 vp8 rtx=97\n", 2),
         ("str0m-media 1\nmedia 12345678901234567 video cam\n", 2),

@@ -15,7 +15,7 @@ fn setup_script(alloc: Global, lines: &str) -> Result<Vec<u8>, Fail> {
 }
 
 // Setup lines, and the first rule that they break: each rule alone.
-const SETUP_FAULTS: [(&str, &str); 38] = [
+const SETUP_FAULTS: [(&str, &str); 41] = [
     (SHORT_KEY, "KeyLength"),
     ("key 00\nmtu 899 1280\n", "KeyLength"),
     ("key zero\nmtu 899 1280\nunix 2075000001\n", "Mtu"),
@@ -88,6 +88,12 @@ const SETUP_FAULTS: [(&str, &str); 38] = [
         "TypeTwice",
     ),
     ("key zero\ntype 96 vp8 90000 rtx=128\n", "TypeTwice"),
+    ("key zero\ntype 96 vp8 90000 red=96\n", "TypeTwice"),
+    (
+        "key zero\ntype 96 vp8 90000 rtx=97 red=97\n",
+        "TypeTwice",
+    ),
+    ("key zero\ntype 96 vp8 90000 red=128\n", "TypeTwice"),
     (
         "key zero\nmedia v video cam\nstream A v 42 0 -\ncache 42 0 1 1\n",
         "SsrcZero",
@@ -111,10 +117,11 @@ const SETUP_FAULTS: [(&str, &str); 38] = [
 ];
 
 // Setup lines of streams and types with repairs that break no rule.
-const REPAIR_SETUPS: [&str; 4] = [
+const REPAIR_SETUPS: [&str; 5] = [
     "key zero\nmedia v video cam\nstream A v 42 43 -\n",
     "key zero\nmedia v video cam\nstream A v 42 43 -\nstart 42 281474976710656\ncache 42 32000 1 1\n",
     "key zero\ntype 96 vp8 90000 rtx=127\n",
+    "key zero\ntype 96 vp8 90000 red=127 fir\n",
     "key zero\ntype 96 vp8 90000 rtx=97\nmedia v video cam\nstream A v 42 - -\nstart 42 5\ncache 42 2000 3000 none\n",
 ];
 
