@@ -251,17 +251,17 @@ module _ {seal : Sealing} {setup : Setup} (sound : IsSound (config_of seal setup
         asks = runs_ask_the_due (config_of seal setup) t.a t.b t.c (happenings setup past) side time h.new sound (as_run t.plays) turn;
       }
 
-  brings_nothing : {side : Side} {past : List Entry} (c : Call) → is_request c ≡ true → AnswersCall seal setup side past c []
-  brings_nothing call.Application quiet = absurd cc
-  brings_nothing call.Ask quiet = refl
-  brings_nothing call.Remb quiet = refl
+  brings_nothing : (side : Side) (past : List Entry) (c : Call) → is_request c ≡ true → AnswersCall seal setup side past c []
+  brings_nothing side past call.Application quiet = absurd cc
+  brings_nothing side past call.Ask quiet = refl
+  brings_nothing side past call.Remb quiet = refl
 
   answers : {past : List Entry} {side : Side} {step : Step} {first : Entry} {rest : List Entry} → AreEntriesOf seal setup past side step (first ∷ rest)
       → Taken seal setup past side step (first ∷ rest) → Answers seal setup past first rest
   answers (wrote side time w a b c) t = refl
   answers (ticked side time sealed all) t = tick_answers all t
   answers (called side time sender media payload s is) t = sends sender media payload s is
-  answers (requested side time c by quiet) t = brings_nothing c quiet
+  answers {past} (requested side time c by quiet) t = brings_nothing side past c quiet
   answers {past} (got came brought at all) t =
       let o = t.outcome in
       let h = heads (came.side, event_got came.time came.kind came.bytes) (happenings setup brought) came.side o.events o.read in

@@ -16,7 +16,7 @@ use Rattle.media_model.specs.declared.entry.Sealed.{Sealed as SealedEntry}
 use Rattle.media_model.specs.declared.entry.Entry.{Entry}
 use Rattle.media_model.specs.declared.entry.Entry.TheVariants.{Wrote, Ticked, Called, Got, Sealed, Yielded}
 use Rattle.media_model.specs.declared.step.Step.{Step}
-use Rattle.media_model.specs.declared.step.Step.TheVariants.{Write, Tick, Application}
+use Rattle.media_model.specs.declared.step.Step.TheVariants.{Write, Tick}
 use Rattle.media_model.specs.declared.setup.Setup.{Setup}
 use Rattle.media_model.specs.Genuine.{IsGenuine}
 use Rattle.media_model.specs.Sides.{peer_of}
@@ -155,9 +155,9 @@ Answers seal setup past _ chunk = Unit {0}
 abbrev pub StepsAreAnswered : Sealing → Setup → List Entry → Type 0
 StepsAreAnswered seal setup entries = EachStep (Answers seal setup) entries
 
--- the last step, which finds a key used up: a call brings nothing, a tick what it seals until then
+-- the last step, which finds a key used up: a call that sends feedback brings nothing, a tick what it seals until then
 abbrev pub AnswersAtKey : Sealing → Setup → List Entry → List Entry → Type 0
-AnswersAtKey seal setup past (Called side time call ∷ chunk) = chunk ≡ []
+AnswersAtKey seal setup past (Called side time call.Application ∷ chunk) = chunk ≡ []
 AnswersAtKey seal setup past (Ticked side time ∷ chunk) = TickAnswersPartly seal setup side past chunk
 AnswersAtKey seal setup past told = ⊥
 

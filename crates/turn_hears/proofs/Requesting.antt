@@ -1,5 +1,5 @@
 -- A request to the sender of a stream is a turn.
-use Rattle.std.proofs.Common.{◌≡◌, ℕ, zero, suc, ◌≤◌, List, [], ◌∷◌, Option, None, refl}
+use Rattle.std.proofs.Common.{ℕ, zero, suc, ◌≤◌, List, [], ◌∷◌, Option, None, refl}
 use Rattle.std.specs.List.{AllZip}
 use Rattle.srtp_core.specs.Cipher.{CipherMeaning}
 use Rattle.stream_core.specs.declared.requests.RxRequests.{RxRequests}
