@@ -64,8 +64,27 @@ const EXTENSIONS: [(&str, Extension); 9] = [
     ("delay", Extension::PlayoutDelay),
 ];
 
-fn syntax(alloc: Global, text: &[u8]) -> Option<ScriptError> {
-    read_script(alloc, text).err()
+// Whether this line of a text is the first outside the grammar.
+fn is_outside(alloc: Global, text: &[u8], line: u64) -> bool {
+    read_script(alloc, text).err() == Some(ScriptError::Syntax(line))
+}
+
+// The setup of a script.
+fn setup_of(alloc: Global, text: &[u8]) -> Result<Setup, Fail> {
+    let (setup, _) = read_script(alloc, text).ok().ok_or("a script")?;
+    Ok(setup)
+}
+
+// The setup of a script without steps, with these lines before its key and behind it.
+fn setup_with(alloc: Global, before: &str, after: &str) -> Result<Setup, Fail> {
+    let text = format!(in alloc; "str0m-media 1\n{before}key zero\n{after}begin\nend\n")?;
+    setup_of(alloc, text.as_bytes())
+}
+
+// The steps of a script.
+fn steps_of(alloc: Global, text: &[u8]) -> Result<Vec<Step>, Fail> {
+    let (_, steps) = read_script(alloc, text).ok().ok_or("a script")?;
+    Ok(steps)
 }
 
 // What is said of a script, and whether it holds.
@@ -137,7 +156,7 @@ fn each_line_is_read(rt: HostRuntime) -> Result<(), Fail> {
     let alloc = rt.alloc();
     let key = Key::Given(Bytes::from_slice(alloc, &[0, 255])?);
     let last = SrtcpIndex::new(2_147_483_648).ok_or("an index")?;
-    let (setup, _) = read_script(alloc, EVERY_LINE).ok().ok_or("a script")?;
+    let setup = setup_of(alloc, EVERY_LINE)?;
     let mtu = Mtu {
         target: 900,
         warn: 1500,
@@ -174,7 +193,7 @@ fn cache(packets: u64, nanos: u64, cap: Option<u32>) -> Cache {
 fn what_streams_keep_is_read(rt: HostRuntime) -> Result<(), Fail> {
     let alloc = rt.alloc();
     let last = FirstNumber::new(281_474_976_710_656).ok_or("a number")?;
-    let (setup, _) = read_script(alloc, EVERY_LINE).ok().ok_or("a script")?;
+    let setup = setup_of(alloc, EVERY_LINE)?;
     let most = Ssrc::from(u32::MAX);
     all_hold(&[
         ("one start", setup.starts.len() == 1),
@@ -242,7 +261,7 @@ fn each_step_is_read(rt: HostRuntime) -> Result<(), Fail> {
             bytes: Bytes::from_slice(alloc, &[0x80])?,
         },
     ];
-    let (_, steps) = read_script(alloc, EVERY_LINE).ok().ok_or("a script")?;
+    let steps = steps_of(alloc, EVERY_LINE)?;
     all_hold(&[
         ("six steps", steps.len() == 6),
         ("but for two", steps.get(2..) == Some(handed.as_slice())),
@@ -258,18 +277,20 @@ const LOCALS: [(&str, u64, u64, u64, u64); 5] = [
     ("mtu 0 18446744073709551615\n", 0, u64::MAX, 0, 0),
 ];
 
+fn brings(alloc: Global, row: &(&str, u64, u64, u64, u64)) -> Result<bool, Fail> {
+    let (lines, target, warn, a, b) = *row;
+    let a = SrtcpIndex::new(a).ok_or("an index")?;
+    let b = SrtcpIndex::new(b).ok_or("an index")?;
+    let setup = setup_with(alloc, lines, "")?;
+    let right = setup.a == local(1, a) && setup.b == local(2, b);
+    Ok(right && setup.mtu == Mtu { target, warn })
+}
+
 #[test]
 fn what_each_side_brings_is_read(rt: HostRuntime) -> Result<(), Fail> {
-    let alloc = rt.alloc();
-    for (lines, target, warn, a, b) in LOCALS {
-        let a = SrtcpIndex::new(a).ok_or("an index")?;
-        let b = SrtcpIndex::new(b).ok_or("an index")?;
-        let text = format!(in alloc; "str0m-media 1\n{lines}key zero\nbegin\nend\n")?;
-        let (setup, _) = read_script(alloc, text.as_bytes()).ok().ok_or("a script")?;
-        let right = setup.mtu == Mtu { target, warn }
-            && setup.a == local(1, a)
-            && setup.b == local(2, b);
-        assert!(rt; right, "at {lines}");
+    for row in &LOCALS {
+        let right = brings(rt.alloc(), row)?;
+        assert!(rt; right, "at {}", row.0);
     }
     Ok(())
 }
@@ -278,7 +299,7 @@ fn what_each_side_brings_is_read(rt: HostRuntime) -> Result<(), Fail> {
 fn own_ssrcs_are_read(rt: HostRuntime) -> Result<(), Fail> {
     let alloc = rt.alloc();
     let text = b"str0m-media 1\nlocal B 0\nkey zero\nlocal A 4294967295\nbegin\nend\n";
-    let (setup, _) = read_script(alloc, text.as_slice()).ok().ok_or("a script")?;
+    let setup = setup_of(alloc, text.as_slice())?;
     all_hold(&[
         (
             "of A",
@@ -302,116 +323,122 @@ fn one_app(alloc: Global, bytes: usize) -> Result<String, Fail> {
     Ok(text)
 }
 
+// How many bytes the feedback of a script has whose one step it is.
+fn app_len(alloc: Global, text: &[u8]) -> Result<Option<usize>, Fail> {
+    let steps = steps_of(alloc, text)?;
+    Ok(match steps.first() {
+        Some(Step::Application { payload, .. }) => Some(payload.as_slice().len()),
+        _ => None,
+    })
+}
+
+const WHOLE_WORDS: [usize; 3] = [0, 4, 800];
+
+const OTHER_LENGTHS: [usize; 4] = [1, 3, 5, 804];
+
 #[test]
 fn feedback_of_few_whole_words_is_read(rt: HostRuntime) -> Result<(), Fail> {
-    let alloc = rt.alloc();
-    for len in [0, 4, 800] {
-        let text = one_app(alloc, len)?;
-        let (_, steps) = read_script(alloc, text.as_bytes()).ok().ok_or("a script")?;
-        let found = match steps.first() {
-            Some(Step::Application { payload, .. }) => payload.as_slice().len(),
-            _ => 1,
-        };
-        assert_eq!(rt; found, len);
+    for len in &WHOLE_WORDS {
+        let text = one_app(rt.alloc(), *len)?;
+        let found = app_len(rt.alloc(), text.as_bytes())?;
+        assert!(rt; found == Some(*len), "at {len}");
     }
-    for len in [1, 3, 5, 804] {
-        let text = one_app(alloc, len)?;
-        assert_eq!(rt;
-            syntax(alloc, text.as_bytes()),
-            Some(ScriptError::Syntax(4)),
-            "at {len}"
-        );
+    for len in &OTHER_LENGTHS {
+        let text = one_app(rt.alloc(), *len)?;
+        assert!(rt; is_outside(rt.alloc(), text.as_bytes(), 4), "at {len}");
     }
     Ok(())
+}
+
+fn ciphers(alloc: Global, row: &(&str, CipherName, SrtpProfile, usize)) -> Result<bool, Fail> {
+    let (lines, cipher, profile, len) = *row;
+    let setup = setup_with(alloc, lines, "")?;
+    let material = setup.material(alloc)?;
+    Ok(setup.cipher == cipher && setup.profile == profile && material.len() == len)
 }
 
 #[test]
 fn each_cipher_and_profile_is_read(rt: HostRuntime) -> Result<(), Fail> {
-    let alloc = rt.alloc();
-    for (lines, cipher, profile, material) in CIPHERS {
-        let text = format!(in alloc; "str0m-media 1\n{lines}key zero\nbegin\nend\n")?;
-        let (setup, _) = read_script(alloc, text.as_bytes()).ok().ok_or("a script")?;
-        let right = setup.cipher == cipher
-            && setup.profile == profile
-            && setup.material(alloc)?.len() == material;
-        assert!(rt; right, "at {lines}");
+    for row in &CIPHERS {
+        let right = ciphers(rt.alloc(), row)?;
+        assert!(rt; right, "at {}", row.0);
     }
     Ok(())
 }
 
+fn names_extension(alloc: Global, name: &str, extension: Extension) -> Result<bool, Fail> {
+    let line = format!(in alloc; "ext 14 {name}\n")?;
+    let setup = setup_with(alloc, "", line.as_str())?;
+    let named = [NamedExtension { id: 14, extension }];
+    let mapped = setup.extension_map().id_of(extension) == Some(14);
+    Ok(setup.exts.as_slice() == named.as_slice() && mapped)
+}
+
 #[test]
 fn each_extension_is_read(rt: HostRuntime) -> Result<(), Fail> {
-    let alloc = rt.alloc();
-    for (name, extension) in EXTENSIONS {
-        let text = format!(in alloc; "str0m-media 1\nkey zero\next 14 {name}\nbegin\nend\n")?;
-        let (setup, _) = read_script(alloc, text.as_bytes()).ok().ok_or("a script")?;
-        let named = [NamedExtension { id: 14, extension }];
-        let right = setup.exts.as_slice() == named.as_slice()
-            && setup.extension_map().id_of(extension) == Some(14);
+    for (name, extension) in &EXTENSIONS {
+        let right = names_extension(rt.alloc(), name, *extension)?;
         assert!(rt; right, "at {name}");
     }
     Ok(())
 }
 
+// Setup lines, and the Unix time that they say.
+const BEGINNINGS: [(&str, u64); 3] = [
+    ("", 1_700_000_000),
+    ("unix 0\n", 0),
+    ("unix 18446744073709551615\n", u64::MAX),
+];
+
 #[test]
 fn beginning_is_read(rt: HostRuntime) -> Result<(), Fail> {
-    let alloc = rt.alloc();
-    for (line, unix_secs) in [
-        ("", 1_700_000_000),
-        ("unix 0\n", 0),
-        ("unix 18446744073709551615\n", u64::MAX),
-    ] {
-        let text = format!(in alloc; "str0m-media 1\n{line}key zero\nbegin\nend\n")?;
-        let (setup, _) = read_script(alloc, text.as_bytes()).ok().ok_or("a script")?;
-        assert_eq!(rt; setup.beginning.unix_secs, unix_secs, "at {line}");
+    for (line, unix_secs) in &BEGINNINGS {
+        let setup = setup_with(rt.alloc(), line, "")?;
+        assert!(rt; setup.beginning.unix_secs == *unix_secs, "at {line}");
     }
     Ok(())
 }
+
+// Lines before the key and behind it, and the threshold that they say.
+const THRESHOLDS: [(&str, &str, u64); 6] = [
+    ("", "", 1_500_000_000),
+    ("pause 1500\n", "", 1_500_000_000),
+    ("pause 0\n", "", 0),
+    ("", "pause 7\n", 7_000_000),
+    ("pause 10000000001\n", "", 10_000_000_001_000_000),
+    ("pause 18446744073709\n", "", 18_446_744_073_709_000_000),
+];
 
 #[test]
 fn pause_threshold_is_read(rt: HostRuntime) -> Result<(), Fail> {
-    let alloc = rt.alloc();
-    for (before, after, nanos) in [
-        ("", "", 1_500_000_000),
-        ("pause 1500\n", "", 1_500_000_000),
-        ("pause 0\n", "", 0),
-        ("", "pause 7\n", 7_000_000),
-        ("pause 10000000001\n", "", 10_000_000_001_000_000),
-        ("pause 18446744073709\n", "", 18_446_744_073_709_000_000),
-    ] {
-        let text = format!(in alloc; "str0m-media 1\n{before}key zero\n{after}begin\nend\n")?;
-        let (setup, _) = read_script(alloc, text.as_bytes()).ok().ok_or("a script")?;
-        assert_eq!(rt;
-            setup.pause_threshold,
-            Duration::from_nanos(nanos),
-            "at {before}{after}"
-        );
+    for (before, after, nanos) in &THRESHOLDS {
+        let setup = setup_with(rt.alloc(), before, after)?;
+        let right = setup.pause_threshold == Duration::from_nanos(*nanos);
+        assert!(rt; right, "at {before}{after}");
     }
     Ok(())
 }
 
+// The same of the intervals of reports.
+const INTERVALS: [(&str, &str, u64, u64); 5] = [
+    ("", "", 5_000_000_000, 1_000_000_000),
+    ("reports 5000 1000\n", "", 5_000_000_000, 1_000_000_000),
+    ("reports 0 0\n", "", 0, 0),
+    ("", "reports 7 250\n", 7_000_000, 250_000_000),
+    (
+        "reports 10000000001 18446744073709\n",
+        "",
+        10_000_000_001_000_000,
+        18_446_744_073_709_000_000,
+    ),
+];
+
 #[test]
 fn intervals_of_reports_are_read(rt: HostRuntime) -> Result<(), Fail> {
-    let alloc = rt.alloc();
-    for (before, after, audio, video) in [
-        ("", "", 5_000_000_000, 1_000_000_000),
-        ("reports 5000 1000\n", "", 5_000_000_000, 1_000_000_000),
-        ("reports 0 0\n", "", 0, 0),
-        ("", "reports 7 250\n", 7_000_000, 250_000_000),
-        (
-            "reports 10000000001 18446744073709\n",
-            "",
-            10_000_000_001_000_000,
-            18_446_744_073_709_000_000,
-        ),
-    ] {
-        let text = format!(in alloc; "str0m-media 1\n{before}key zero\n{after}begin\nend\n")?;
-        let (setup, _) = read_script(alloc, text.as_bytes()).ok().ok_or("a script")?;
-        assert_eq!(rt;
-            setup.intervals,
-            intervals(audio, video),
-            "at {before}{after}"
-        );
+    for (before, after, audio, video) in &INTERVALS {
+        let setup = setup_with(rt.alloc(), before, after)?;
+        let right = setup.intervals == intervals(*audio, *video);
+        assert!(rt; right, "at {before}{after}");
     }
     Ok(())
 }
@@ -421,7 +448,7 @@ fn ids_of_extensions(rt: HostRuntime) -> Result<(), Fail> {
     let alloc = rt.alloc();
     let text = b"str0m-media 1\nkey zero\next 0 mid\next 1 twcc\next 15 rid\next 3 abs\n\
 ext 3 level\next 2 twcc\nbegin\nend\n";
-    let (setup, _) = read_script(alloc, text.as_slice()).ok().ok_or("a script")?;
+    let setup = setup_of(alloc, text.as_slice())?;
     let exts = setup.extension_map();
     all_hold(&[
         ("six lines", setup.exts.as_slice().len() == 6),
@@ -447,7 +474,7 @@ fn one_write(alloc: Global, words: &str) -> Result<String, Fail> {
 // Whether a write with these last words has these sources.
 fn has_sources(alloc: Global, words: &str, csrc: &[u32]) -> Result<bool, Fail> {
     let text = one_write(alloc, words)?;
-    let (_, steps) = read_script(alloc, text.as_bytes()).ok().ok_or("a script")?;
+    let steps = steps_of(alloc, text.as_bytes())?;
     match steps.first() {
         Some(Step::Write { write, .. }) => Ok(write.csrc.as_slice() == csrc),
         _ => Ok(false),
@@ -475,136 +502,135 @@ fn sources_are_read(rt: HostRuntime) -> Result<(), Fail> {
     Ok(())
 }
 
+fn is_no_write(alloc: Global, words: &str) -> Result<bool, Fail> {
+    let text = one_write(alloc, words)?;
+    Ok(is_outside(alloc, text.as_bytes(), 4))
+}
+
+const NO_SOURCES: [&str; 4] = ["01 c=", "01 c=000000", "01 00000007", "c=00000007"];
+
 #[test]
 fn sources_outside_are_told(rt: HostRuntime) -> Result<(), Fail> {
-    let alloc = rt.alloc();
-    let sixteen = many_sources(alloc, 16)?;
-    for words in [
-        sixteen.as_str(),
-        "01 c=",
-        "01 c=000000",
-        "01 00000007",
-        "c=00000007",
-    ] {
-        let text = one_write(alloc, words)?;
-        assert_eq!(rt;
-            syntax(alloc, text.as_bytes()),
-            Some(ScriptError::Syntax(4)),
-            "at {words}"
-        );
+    let sixteen = many_sources(rt.alloc(), 16)?;
+    let told = is_no_write(rt.alloc(), sixteen.as_str())?;
+    assert!(rt; told, "at 16");
+    for words in &NO_SOURCES {
+        let told = is_no_write(rt.alloc(), words)?;
+        assert!(rt; told, "at {words}");
     }
     Ok(())
 }
 
+// Scripts, and the first line of each that is outside the grammar.
+const OUTSIDE: [(&str, u64); 80] = [
+    ("", 1),
+    ("key zero\n", 1),
+    ("str0m-media 1", 1),
+    ("str0m-media 1\n", 2),
+    ("str0m-media 1\r\n", 1),
+    ("\n# \u{ff}\nstr0m-media 2\n", 3),
+    ("str0m-media 1\nkey zero\nkey zero\n", 3),
+    ("str0m-media 1\nkey -\nbegin\nend\nend\n", 5),
+    ("str0m-media 1\nbegin\nend\n", 4),
+    ("str0m-media 1\nbegin\ntick A 1\ntick A\nend\n", 4),
+    ("str0m-media 1\nkey zero\nbegin\nend", 4),
+    ("str0m-media 1\nkey zero\nbegin\ntick A 1\n", 5),
+    ("str0m-media 1\nkey zero\ntick A 1\nbegin\nend\n", 3),
+    (
+        "str0m-media 1\nkey zero\nbegin\ntype 96 vp8 90000\nend\n",
+        4,
+    ),
+    ("str0m-media 1\ncipher aes\n", 2),
+    ("str0m-media 1\nprofile gcm192\n", 2),
+    ("str0m-media 1\nprofile gcm128\nprofile gcm128\n", 3),
+    ("str0m-media 1\nunix 1\nunix 1\n", 3),
+    ("str0m-media 1\nunix 1ms\n", 2),
+    ("str0m-media 1\nunix 18446744073709551616\n", 2),
+    ("str0m-media 1\next 256 mid\n", 2),
+    ("str0m-media 1\next 1 csrc\n", 2),
+    ("str0m-media 1\next 1\n", 2),
+    ("str0m-media 1\next mid 1\n", 2),
+    ("str0m-media 1\ntype 256 vp8 90000\n", 2),
+    ("str0m-media 1\ntype 96 vp8 0\n", 2),
+    ("str0m-media 1\ntype 96 vp8 4294967296\n", 2),
+    ("str0m-media 1\ntype 96 vp10 90000\n", 2),
+    ("str0m-media 1\ntype 96 vp8 90000 fir pli\n", 2),
+    ("str0m-media 1\ntype 96 vp8 90000 pli pli\n", 2),
+    ("str0m-media 1\ntype 96 vp8 90000 pli red=97\n", 2),
+    ("str0m-media 1\ntype 96 vp8 90000 tcc\n", 2),
+    ("str0m-media 1\ntype 96 vp8 90000 rtx=\n", 2),
+    ("str0m-media 1\ntype 96 vp8 90000 rtx=256\n", 2),
+    ("str0m-media 1\ntype 96 vp8 90000 rtx=-\n", 2),
+    ("str0m-media 1\ntype 96 vp8 90000 red=\n", 2),
+    ("str0m-media 1\ntype 96 vp8 90000 red=256\n", 2),
+    ("str0m-media 1\ntype 96 vp8 90000 red=97 rtx=98\n", 2),
+    ("str0m-media 1\ntype 96 vp8 90000 rtx=97 rtx=98\n", 2),
+    ("str0m-media 1\ntype 96 vp8 rtx=97\n", 2),
+    ("str0m-media 1\nmedia 12345678901234567 video cam\n", 2),
+    ("str0m-media 1\nmedia v-1 video cam\n", 2),
+    ("str0m-media 1\nstream A v 42 - -\nmedia v video cam\n", 2),
+    ("str0m-media 1\nmedia v video cam\nstream A w 42 - -\n", 3),
+    ("str0m-media 1\nmedia v video cam\nstream A v 42  -\n", 3),
+    (
+        "str0m-media 1\nkey zero\nbegin\nforeign A 1 srtcp 80\nend\n",
+        4,
+    ),
+    ("str0m-media 1\nkey zero\nbegin\napp A 1 1 42\nend\n", 4),
+    ("str0m-media 1\nkey zero\nbegin\napp A 1 1 42 - -\nend\n", 4),
+    (
+        "str0m-media 1\nkey zero\nbegin\napp A 1 4294967296 42 -\nend\n",
+        4,
+    ),
+    (
+        "str0m-media 1\nkey zero\nbegin\napp A 1 1 4294967296 -\nend\n",
+        4,
+    ),
+    ("str0m-media 1\nmtu 1200\n", 2),
+    ("str0m-media 1\nmtu 1150 18446744073709551616\n", 2),
+    ("str0m-media 1\nmtu 1150 1280\nmtu 1150 1280\n", 3),
+    ("str0m-media 1\npause\n", 2),
+    ("str0m-media 1\npause 5ms\n", 2),
+    ("str0m-media 1\npause -\n", 2),
+    ("str0m-media 1\npause 1 2\n", 2),
+    ("str0m-media 1\npause 18446744073710\n", 2),
+    ("str0m-media 1\npause 18446744073709551616\n", 2),
+    ("str0m-media 1\npause 1500\npause 1500\n", 3),
+    ("str0m-media 1\nkey zero\nbegin\npause 1500\nend\n", 4),
+    ("str0m-media 1\nreports\n", 2),
+    ("str0m-media 1\nreports 5000\n", 2),
+    ("str0m-media 1\nreports 1 2 3\n", 2),
+    ("str0m-media 1\nreports 5ms 1000\n", 2),
+    ("str0m-media 1\nreports 5000 -\n", 2),
+    ("str0m-media 1\nreports 05 1000\n", 2),
+    ("str0m-media 1\nreports 5000  1000\n", 2),
+    ("str0m-media 1\nreports 18446744073710 1000\n", 2),
+    ("str0m-media 1\nreports 5000 18446744073710\n", 2),
+    ("str0m-media 1\nreports 5000 1000\nreports 5000 1000\n", 3),
+    (
+        "str0m-media 1\nkey zero\nbegin\nreports 5000 1000\nend\n",
+        4,
+    ),
+    ("str0m-media 1\nrtcp A 2147483649\n", 2),
+    ("str0m-media 1\nrtcp 5\n", 2),
+    ("str0m-media 1\nrtcp A 1\nrtcp B 1\nrtcp A 1\n", 4),
+    ("str0m-media 1\nlocal A 4294967296\n", 2),
+    ("str0m-media 1\nlocal B 1\nlocal A 2\nlocal B 3\n", 4),
+    (
+        "str0m-media 1\nkey zero\nbegin\nwrite A 1 42 1 96 0 0 0 01 c=- c=-\nend\n",
+        4,
+    ),
+    ("str0m-media 1\nkey zero\nbegin\ndeliver A 1ms\nend\n", 4),
+    (
+        "str0m-media 1\nkey zero\nbegin\ntick A 18446744073710ms\nend\n",
+        4,
+    ),
+];
+
 #[test]
 fn first_line_outside_is_told(rt: HostRuntime) {
-    let alloc = rt.alloc();
-    for (text, line) in [
-        ("", 1),
-        ("key zero\n", 1),
-        ("str0m-media 1", 1),
-        ("str0m-media 1\n", 2),
-        ("str0m-media 1\r\n", 1),
-        ("\n# \u{ff}\nstr0m-media 2\n", 3),
-        ("str0m-media 1\nkey zero\nkey zero\n", 3),
-        ("str0m-media 1\nkey -\nbegin\nend\nend\n", 5),
-        ("str0m-media 1\nbegin\nend\n", 4),
-        ("str0m-media 1\nbegin\ntick A 1\ntick A\nend\n", 4),
-        ("str0m-media 1\nkey zero\nbegin\nend", 4),
-        ("str0m-media 1\nkey zero\nbegin\ntick A 1\n", 5),
-        ("str0m-media 1\nkey zero\ntick A 1\nbegin\nend\n", 3),
-        (
-            "str0m-media 1\nkey zero\nbegin\ntype 96 vp8 90000\nend\n",
-            4,
-        ),
-        ("str0m-media 1\ncipher aes\n", 2),
-        ("str0m-media 1\nprofile gcm192\n", 2),
-        ("str0m-media 1\nprofile gcm128\nprofile gcm128\n", 3),
-        ("str0m-media 1\nunix 1\nunix 1\n", 3),
-        ("str0m-media 1\nunix 1ms\n", 2),
-        ("str0m-media 1\nunix 18446744073709551616\n", 2),
-        ("str0m-media 1\next 256 mid\n", 2),
-        ("str0m-media 1\next 1 csrc\n", 2),
-        ("str0m-media 1\next 1\n", 2),
-        ("str0m-media 1\next mid 1\n", 2),
-        ("str0m-media 1\ntype 256 vp8 90000\n", 2),
-        ("str0m-media 1\ntype 96 vp8 0\n", 2),
-        ("str0m-media 1\ntype 96 vp8 4294967296\n", 2),
-        ("str0m-media 1\ntype 96 vp10 90000\n", 2),
-        ("str0m-media 1\ntype 96 vp8 90000 fir pli\n", 2),
-        ("str0m-media 1\ntype 96 vp8 90000 pli pli\n", 2),
-        ("str0m-media 1\ntype 96 vp8 90000 pli red=97\n", 2),
-        ("str0m-media 1\ntype 96 vp8 90000 tcc\n", 2),
-        ("str0m-media 1\ntype 96 vp8 90000 rtx=\n", 2),
-        ("str0m-media 1\ntype 96 vp8 90000 rtx=256\n", 2),
-        ("str0m-media 1\ntype 96 vp8 90000 rtx=-\n", 2),
-        ("str0m-media 1\ntype 96 vp8 90000 red=\n", 2),
-        ("str0m-media 1\ntype 96 vp8 90000 red=256\n", 2),
-        ("str0m-media 1\ntype 96 vp8 90000 red=97 rtx=98\n", 2),
-        ("str0m-media 1\ntype 96 vp8 90000 rtx=97 rtx=98\n", 2),
-        ("str0m-media 1\ntype 96 vp8 rtx=97\n", 2),
-        ("str0m-media 1\nmedia 12345678901234567 video cam\n", 2),
-        ("str0m-media 1\nmedia v-1 video cam\n", 2),
-        ("str0m-media 1\nstream A v 42 - -\nmedia v video cam\n", 2),
-        ("str0m-media 1\nmedia v video cam\nstream A w 42 - -\n", 3),
-        ("str0m-media 1\nmedia v video cam\nstream A v 42  -\n", 3),
-        (
-            "str0m-media 1\nkey zero\nbegin\nforeign A 1 srtcp 80\nend\n",
-            4,
-        ),
-        ("str0m-media 1\nkey zero\nbegin\napp A 1 1 42\nend\n", 4),
-        ("str0m-media 1\nkey zero\nbegin\napp A 1 1 42 - -\nend\n", 4),
-        (
-            "str0m-media 1\nkey zero\nbegin\napp A 1 4294967296 42 -\nend\n",
-            4,
-        ),
-        (
-            "str0m-media 1\nkey zero\nbegin\napp A 1 1 4294967296 -\nend\n",
-            4,
-        ),
-        ("str0m-media 1\nmtu 1200\n", 2),
-        ("str0m-media 1\nmtu 1150 18446744073709551616\n", 2),
-        ("str0m-media 1\nmtu 1150 1280\nmtu 1150 1280\n", 3),
-        ("str0m-media 1\npause\n", 2),
-        ("str0m-media 1\npause 5ms\n", 2),
-        ("str0m-media 1\npause -\n", 2),
-        ("str0m-media 1\npause 1 2\n", 2),
-        ("str0m-media 1\npause 18446744073710\n", 2),
-        ("str0m-media 1\npause 18446744073709551616\n", 2),
-        ("str0m-media 1\npause 1500\npause 1500\n", 3),
-        ("str0m-media 1\nkey zero\nbegin\npause 1500\nend\n", 4),
-        ("str0m-media 1\nreports\n", 2),
-        ("str0m-media 1\nreports 5000\n", 2),
-        ("str0m-media 1\nreports 1 2 3\n", 2),
-        ("str0m-media 1\nreports 5ms 1000\n", 2),
-        ("str0m-media 1\nreports 5000 -\n", 2),
-        ("str0m-media 1\nreports 05 1000\n", 2),
-        ("str0m-media 1\nreports 5000  1000\n", 2),
-        ("str0m-media 1\nreports 18446744073710 1000\n", 2),
-        ("str0m-media 1\nreports 5000 18446744073710\n", 2),
-        ("str0m-media 1\nreports 5000 1000\nreports 5000 1000\n", 3),
-        (
-            "str0m-media 1\nkey zero\nbegin\nreports 5000 1000\nend\n",
-            4,
-        ),
-        ("str0m-media 1\nrtcp A 2147483649\n", 2),
-        ("str0m-media 1\nrtcp 5\n", 2),
-        ("str0m-media 1\nrtcp A 1\nrtcp B 1\nrtcp A 1\n", 4),
-        ("str0m-media 1\nlocal A 4294967296\n", 2),
-        ("str0m-media 1\nlocal B 1\nlocal A 2\nlocal B 3\n", 4),
-        (
-            "str0m-media 1\nkey zero\nbegin\nwrite A 1 42 1 96 0 0 0 01 c=- c=-\nend\n",
-            4,
-        ),
-        ("str0m-media 1\nkey zero\nbegin\ndeliver A 1ms\nend\n", 4),
-        (
-            "str0m-media 1\nkey zero\nbegin\ntick A 18446744073710ms\nend\n",
-            4,
-        ),
-    ] {
-        assert_eq!(rt;
-            syntax(alloc, text.as_bytes()),
-            Some(ScriptError::Syntax(line)),
+    for (text, line) in &OUTSIDE {
+        assert!(rt;
+            is_outside(rt.alloc(), text.as_bytes(), *line),
             "at {text:?}"
         );
     }
@@ -631,36 +657,31 @@ const OUTSIDE_OF_A_STREAM: [&str; 17] = [
     "cache - 2000 3000 15\n",
 ];
 
+// The same, and the line of the script that is the first outside.
+const OUTSIDE_LATER: [(&str, u64); 4] = [
+    ("start 42 1\nstart 42 1\n", 5),
+    ("cache 42 1 1 1\nstart 42 1\ncache 42 1 1 1\n", 6),
+    ("start 42 1\nstart 50 1\nstream B v 50 - -\n", 5),
+    (
+        "cache 42 1 1 1\nstream B v 50 - -\ncache 50 1 1 1\nbegin\nstart 50 1\n",
+        8,
+    ),
+];
+
+fn is_outside_behind_stream(alloc: Global, lines: &str, line: u64) -> Result<bool, Fail> {
+    let text = format!(in alloc; "str0m-media 1\nmedia v video cam\nstream A v 42 43 -\n{lines}")?;
+    Ok(is_outside(alloc, text.as_bytes(), line))
+}
+
 #[test]
 fn lines_of_streams_outside_are_told(rt: HostRuntime) -> Result<(), Fail> {
-    let alloc = rt.alloc();
-    for line in OUTSIDE_OF_A_STREAM {
-        let text = format!(in alloc;
-            "str0m-media 1\nmedia v video cam\nstream A v 42 43 -\n{line}"
-        )?;
-        assert_eq!(rt;
-            syntax(alloc, text.as_bytes()),
-            Some(ScriptError::Syntax(4)),
-            "at {line}"
-        );
+    for lines in &OUTSIDE_OF_A_STREAM {
+        let told = is_outside_behind_stream(rt.alloc(), lines, 4)?;
+        assert!(rt; told, "at {lines}");
     }
-    for (lines, line) in [
-        ("start 42 1\nstart 42 1\n", 5),
-        ("cache 42 1 1 1\nstart 42 1\ncache 42 1 1 1\n", 6),
-        ("start 42 1\nstart 50 1\nstream B v 50 - -\n", 5),
-        (
-            "cache 42 1 1 1\nstream B v 50 - -\ncache 50 1 1 1\nbegin\nstart 50 1\n",
-            8,
-        ),
-    ] {
-        let text = format!(in alloc;
-            "str0m-media 1\nmedia v video cam\nstream A v 42 43 -\n{lines}"
-        )?;
-        assert_eq!(rt;
-            syntax(alloc, text.as_bytes()),
-            Some(ScriptError::Syntax(line)),
-            "at {lines}"
-        );
+    for (lines, line) in &OUTSIDE_LATER {
+        let told = is_outside_behind_stream(rt.alloc(), lines, *line)?;
+        assert!(rt; told, "at {lines}");
     }
     Ok(())
 }
@@ -697,13 +718,10 @@ fn limits_of_media_and_streams(rt: HostRuntime) -> Result<(), Fail> {
     let streams = many(alloc, 1, 257)?;
     all_hold(&[
         ("all of both", has_many(alloc, full.as_slice())?),
-        (
-            "a media too many",
-            syntax(alloc, media.as_slice()) == Some(ScriptError::Syntax(67)),
-        ),
+        ("a media too many", is_outside(alloc, media.as_slice(), 67)),
         (
             "a stream too many",
-            syntax(alloc, streams.as_slice()) == Some(ScriptError::Syntax(260)),
+            is_outside(alloc, streams.as_slice(), 260),
         ),
     ])
 }
@@ -766,11 +784,17 @@ fn is_text(alloc: Global, transcript: &Transcript) -> Result<bool, Fail> {
 #[test]
 fn surface_ample(rt: HostRuntime) -> Result<(), Fail> {
     let alloc = rt.alloc();
-    let (setup, _) = read_script(alloc, EVERY_LINE).ok().ok_or("a script")?;
+    let setup = setup_of(alloc, EVERY_LINE)?;
     let transcript = one_opened(alloc)?;
     let streams = [Ssrc::from(7), Ssrc::from(u32::MAX)];
-    let types = [Pt::from(96), Pt::from(255), Pt::from(97)];
-    let claimed = [Pt::from(96), Pt::from(255), Pt::from(97), Pt::from(255)];
+    let types = [Pt::from(96), Pt::from(255), Pt::from(97), Pt::from(9)];
+    let claimed = [
+        Pt::from(96),
+        Pt::from(255),
+        Pt::from(97),
+        Pt::from(255),
+        Pt::from(9),
+    ];
     all_hold(&[
         (
             "material",

@@ -16,7 +16,7 @@ use Rattle.session_core.specs.declared.datagram.Event.{Event}
 use Rattle.session_core.specs.declared.datagram.Event.TheVariants as event
 use Rattle.session_core.specs.SessionRecord.{SessionState, SessionRecord}
 use Rattle.session_core.specs.Calls.{lacks_keys, next_of, next_event, after_next, after_event, told, silenced, after_events, Polled}
-use Rattle.session_core.specs.News.{NewsRecord, no_news, news_told, next_news, after_news, first_of, rest_of, keyframe_event, sender_event, rate_event}
+use Rattle.session_core.specs.News.{NewsRecord, no_news, news_told, next_news, after_news, first_of, rest_of}
 use Rattle.session_core.specs.declared.news.KeyframeRequest.{KeyframeRequest}
 use Rattle.session_core.specs.declared.news.RembRequest.{RembRequest}
 use Rattle.session_core.specs.declared.news.SenderFeedback.{SenderFeedback}
@@ -115,10 +115,10 @@ waits r = told_with r.state.application (pauses r.rx) r.state.packet r.state.new
 abbrev silent : SessionRecord → SessionRecord
 silent r = record r { state = silenced r.state; rx = each (on_record stream_told) r.rx }
 
-abbrev emptied : SessionRecord → SessionRecord
+abbrev pub emptied : SessionRecord → SessionRecord
 emptied r = record r { state = record r.state { packet = None } }
 
-abbrev newer : SessionRecord → SessionRecord
+abbrev pub newer : SessionRecord → SessionRecord
 newer r = record r { state = record r.state { news = after_news r.state.news } }
 
 module _ (r : SessionRecord) where
@@ -218,7 +218,7 @@ module _ (r : SessionRecord) where
   pub polls : Polled r (next_event r) (after_event r)
   polls = by (lacks_keys r.state) refl r.state.application refl (next_pause r.rx) refl r.state.packet refl
 
--- where nothing came of streams, a packet is told last; and nothing is told where none came either
+-- where nothing came of streams, a packet is told last
 module _ (r : SessionRecord) (keyed : lacks_keys r.state ≡ false) (a : r.state.application ≡ None) (n : next_pause r.rx ≡ None) where
   pub packet_last : (q : RtpPacket) → r.state.packet ≡ Some q → next_news r.state.news ≡ None → (told r ≡ event.RtpPacket q ∷ []) × (emptied r ≡ after_events r)
   packet_last q w e =
@@ -228,15 +228,6 @@ module _ (r : SessionRecord) (keyed : lacks_keys r.state ≡ false) (a : r.state
       let rest : Polled (emptied r) None (newer (emptied r)) = news_next (emptied r) keyed a n refl None e in (
         first.0 ∙ ap (λ l. event.RtpPacket q ∷ l) rest.0,
         (λ j. record r { state = record r.state { packet = None; news = (s.1 ∙ sym s.2) j } }) ∙ rest.1 ∙ first.1,
-      )
-
-  pub nothing_left : r.state.packet ≡ None → next_news r.state.news ≡ None → (told r ≡ []) × (r ≡ after_events r)
-  nothing_left w e =
-      let s : Splits r.state.news None (after_news r.state.news) =
-      subst (λ (o : Option Event). Splits r.state.news o (after_news r.state.news)) e (news_splits r.state.news.keyframes r.state.news.senders r.state.news.rates) in
-      let rest : Polled r None (newer r) = news_next r keyed a n w None e in (
-        rest.0,
-        (λ j. record r { state = record r.state { news = (s.1 ∙ sym s.2) j } }) ∙ rest.1,
       )
 
 -- an event that was taken stands in front of what is left

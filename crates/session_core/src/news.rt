@@ -1,5 +1,5 @@
 //! What the peer asks and tells of streams, as it waits to be told to the application.
-ghost use Rattle.std.specs.Prelude.{◌≡◌, ◌==◌, ◌+◌, ◌<◌, ◌∷◌, ◌++◌, ℕ, [], position, take, IfSome, OnOk, OnErr};
+ghost use Rattle.std.specs.Prelude.{◌≡◌, ◌==◌, ◌+◌, ◌<◌, ◌∷◌, ◌++◌, ℕ, [], length, position, take, IfSome, OnOk, OnErr};
 ghost use Rattle.std.specs.Option.{option_map};
 ghost use Rattle.stream_core.specs.StreamsRecord.{StreamsRecord, StandsFor};
 ghost use Rattle.stream_core.specs.Tables.{value_under};
@@ -68,12 +68,20 @@ impl Model for News {
     ghost view = { λ n. record { keyframes = n.keyframes.items; senders = n.senders.items; rates = n.rates.items } };
 }
 
+/// The place of what waits of an SSRC.
+fn place_of<E: Copy>(waiting: &VecDeque<(Ssrc, E)>, ssrc: Ssrc) -> Option<usize>
+    ensures place { result ≡ position (λ one. one.0 == ssrc) waiting.now.items }
+    ensures within { IfSome result (λ i. i < length waiting.now.items) }
+{
+    waiting.iter().position(|one| one.0 == ssrc)
+}
+
 /// Puts what came of an SSRC in place of what waits of it, or behind the others.
 fn put<E: Copy>(waiting: &mut VecDeque<(Ssrc, E)>, ssrc: Ssrc, news: E) -> Result<(), AllocError>
     ensures ok { OnOk result (waiting.new.items ≡ put ssrc news waiting.old.items) }
-    ensures err { OnErr result (waiting.new ≡ waiting.old) }
+    ensures err { OnErr result (waiting.new.items ≡ waiting.old.items) }
 {
-    match waiting.iter().position(|one| one.0 == ssrc) {
+    match place_of(waiting, ssrc) {
         Some(place) => {
             waiting[place] = (ssrc, news);
             Ok(())

@@ -276,7 +276,7 @@ fn holds(alloc: Global, steps: &[(Came, Brings)]) -> Result<bool, Fail> {
 
 #[test]
 fn repairs_restore_packets(rt: HostRuntime) -> Result<(), Fail> {
-    for (name, steps) in ROWS {
+    for (name, steps) in &ROWS {
         let held = holds(rt.alloc(), steps)?;
         assert!(rt; held, "{name}");
     }
