@@ -77,8 +77,7 @@ types_once [] h = tt
 types_once (t ∷ ts) h =
     let rtx = option_to_list t.rtx in
     let red = option_to_list t.red in
-    let rest = flat_map claimed_in ts in
-    (
+    let rest = flat_map claimed_in ts in (
       λ i. h.0 (elim (IsIn-append t.pt red (flat_map written_in ts) i) [
         | inl own ↦ IsIn-left t.pt (rtx ++ red) rest (IsIn-right t.pt rtx red own)
         | inr j ↦ IsIn-right t.pt (rtx ++ red) rest (types_claimed ts t.pt j)
@@ -276,9 +275,9 @@ module _ (pt : ℕ) where
       ∙ sorted a b r c d
       ∙ ap (λ x. a || (b || (r || x))) (claims ts)
       ∙ sym (ap (λ x. a || x) (
-        ap (list_any (λ n. n == pt)) (append_assoc (option_to_list t.rtx) (option_to_list t.red) rest)
-        ∙ any_given t.rtx (option_to_list t.red ++ rest)
-        ∙ ap (λ x. b || x) (any_given t.red rest)
+      ap (list_any (λ n. n == pt)) (append_assoc (option_to_list t.rtx) (option_to_list t.red) rest)
+      ∙ any_given t.rtx (option_to_list t.red ++ rest)
+      ∙ ap (λ x. b || x) (any_given t.red rest)
       ))
 
   pub type_places : (es : List (ℕ × TypeRow)) (ts : List PayloadType) → AllZip IsRow es (rows_of ts) → is_some (place_of pt es) ≡ has (flat_map written_in ts) pt

@@ -68,7 +68,7 @@ type_tells =
     named_type_tells (codes "rtx=") (λ r rtx again. named_type_tells (codes "red=") (λ d red twice.
     flag_tells (codes "pli") (λ pli. flag_tells (codes "fir") (λ fir.
     done_tells {l = type_with pt codec rate rtx red pli fir}
-        (r, d, again, twice, is.1, goes.1, goes.2, λ i. codes "type" ∷ is.0 i ∷ has i ∷ goes.0 i ∷ spelled r d pli fir i))))))))
+    (r, d, again, twice, is.1, goes.1, goes.2, λ i. codes "type" ∷ is.0 i ∷ has i ∷ goes.0 i ∷ spelled r d pli fir i))))))))
   where
     spelled : (r d : List (List ℕ)) (pli fir : Bool) → r ++ (d ++ (flag_words (codes "pli") pli ++ (flag_words (codes "fir") fir ++ [])))
         ≡ r ++ (d ++ (flag_words (codes "pli") pli ++ flag_words (codes "fir") fir))
@@ -183,11 +183,11 @@ type_again t r d again twice small some fits =
       codec_again t.codec,
       rate_again t.rate some fits,
     ) (
-      type_read (codes "rtx=") r t.rtx (d ++ flags t.pli t.fir) again (no_rtx d t.red t.pli t.fir twice)
-      (λ rtx. with_type (codes "red=") (λ red. with_flag (codes "pli") (λ pli. with_flag (codes "fir") (λ fir. done (made rtx red pli fir)))))
-      ∙ type_read (codes "red=") d t.red (flags t.pli t.fir) twice (no_red t.pli t.fir)
-      (λ red. with_flag (codes "pli") (λ pli. with_flag (codes "fir") (λ fir. done (made t.rtx red pli fir))))
-      ∙ flags_again t.pli t.fir SetupLine (λ pli fir. done (made t.rtx t.red pli fir))
+    type_read (codes "rtx=") r t.rtx (d ++ flags t.pli t.fir) again (no_rtx d t.red t.pli t.fir twice)
+    (λ rtx. with_type (codes "red=") (λ red. with_flag (codes "pli") (λ pli. with_flag (codes "fir") (λ fir. done (made rtx red pli fir)))))
+    ∙ type_read (codes "red=") d t.red (flags t.pli t.fir) twice (no_red t.pli t.fir)
+    (λ red. with_flag (codes "pli") (λ pli. with_flag (codes "fir") (λ fir. done (made t.rtx red pli fir))))
+    ∙ flags_again t.pli t.fir SetupLine (λ pli fir. done (made t.rtx t.red pli fir))
     )
   where
     made : Option ℕ → Option ℕ → Bool → Bool → SetupLine

@@ -89,7 +89,7 @@ IsSetupLine words (line.Type t) =
     (rtx : List (List ℕ)) × (red : List (List ℕ)) × IsNamedType (codes "rtx=") rtx t.rtx × IsNamedType (codes "red=") red t.red
     × (t.pt < 2 ^ 8) × (0 < t.rate) × (t.rate < 2 ^ 32)
     × (words ≡ codes "type" ∷ decimal t.pt ∷ codec_text t.codec ∷ decimal t.rate
-        ∷ (rtx ++ (red ++ (flag_words (codes "pli") t.pli ++ flag_words (codes "fir") t.fir))))
+    ∷ (rtx ++ (red ++ (flag_words (codes "pli") t.pli ++ flag_words (codes "fir") t.fir))))
 IsSetupLine words (line.Media mid kind cname) =
     IsName 16 mid × IsName 255 cname × (words ≡ codes "media" ∷ mid ∷ media_kind_text kind ∷ cname ∷ [])
 IsSetupLine words (line.Stream mid stream) =

@@ -89,10 +89,7 @@ const SETUP_FAULTS: [(&str, &str); 41] = [
     ),
     ("key zero\ntype 96 vp8 90000 rtx=128\n", "TypeTwice"),
     ("key zero\ntype 96 vp8 90000 red=96\n", "TypeTwice"),
-    (
-        "key zero\ntype 96 vp8 90000 rtx=97 red=97\n",
-        "TypeTwice",
-    ),
+    ("key zero\ntype 96 vp8 90000 rtx=97 red=97\n", "TypeTwice"),
     ("key zero\ntype 96 vp8 90000 red=128\n", "TypeTwice"),
     (
         "key zero\nmedia v video cam\nstream A v 42 0 -\ncache 42 0 1 1\n",
