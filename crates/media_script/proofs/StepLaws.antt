@@ -1,6 +1,6 @@
 -- What the line of a step says is how it is spelled, and the other way round.
 use Rattle.std.proofs.Common.{◌≡◌, ℕ, ◌^◌, lit≤, inl, inr, List, [], ◌∷◌, Some, refl, sym, ap, ◌∙◌}
-use Rattle.std.specs.Prelude.{codes, min}
+use Rattle.std.specs.Prelude.{codes}
 use Rattle.std.specs.Fmt.{decimal}
 use Rattle.media_model.specs.declared.entry.Side.{Side}
 use Rattle.media_model.specs.declared.entry.Write.{Write}
