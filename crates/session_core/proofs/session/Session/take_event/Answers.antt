@@ -7,7 +7,7 @@ use Rattle.stream_core.specs.Pauses.{next_pause, untold_in}
 use Rattle.stream_core.specs.RxRecord.{StandsFor as RxStandsFor}
 use Rattle.stream_core.specs.StreamsRecord.{StreamsView}
 use Rattle.stream_core.specs.Tables.{Along}
-use Rattle.session_core.specs.Calls.{lacks_keys, after_event, Polled, one_in, events_in, told}
+use Rattle.session_core.specs.Calls.{lacks_keys, after_event, Polled, one_in, events_in}
 use Rattle.session_core.specs.News.{news_count, next_news, after_news}
 use Rattle.session_core.specs.SessionRecord.{streams_in, SessionState, SessionView, StandsFor}
 use Rattle.session_core.proofs.StreamsIn.{streams_stand, moved}
