@@ -7,7 +7,7 @@ use Rattle.stream_core.specs.Pauses.{next_pause, untold_in}
 use Rattle.stream_core.specs.RxRecord.{StandsFor as RxStandsFor}
 use Rattle.stream_core.specs.StreamsRecord.{StreamsView}
 use Rattle.stream_core.specs.Tables.{Along}
-use Rattle.session_core.specs.Calls.{lacks_keys, after_event, Polled, one_in, events_in, told}
+use Rattle.session_core.specs.Calls.{lacks_keys, after_event, Polled, one_in, events_in}
 use Rattle.session_core.specs.News.{news_count, next_news, after_news}
 use Rattle.session_core.specs.SessionRecord.{streams_in, SessionState, SessionView, StandsFor}
 use Rattle.session_core.proofs.StreamsIn.{streams_stand, moved}
@@ -63,8 +63,8 @@ returns-in-Some-poll_stream_paused-clause-more g c = λ r h.
 
 pub returns-in-Some-take-clause-more : goal.returns-in-Some-take-clause-more
 returns-in-Some-take-clause-more g c = elim (is_either c.is_empty.result) [
-  | inl yes ↦ rw yes tt
-  | inr no ↦ rw no (λ r h.
+  | inl holds ↦ rw holds tt
+  | inr fails ↦ rw fails (λ r h.
       let m = g.W.GapWindow.remembers in
       let mine = subst (λ s. StandsFor m g.S.ResendStore.stands_for s r) (sym c.self.view_is) h in
       let keyed : lacks_keys r.state ≡ false = sym (ap lacks_keys mine.state) ∙ has_keys c.self.inside.sealing c.self.inside.opening c.if-is_none.ensures c.if-is_none-2.ensures in
@@ -89,15 +89,15 @@ returns-in-Some-take-clause-more g c = elim (is_either c.is_empty.result) [
 
 pub returns-in-Some-take-clause-last : goal.returns-in-Some-take-clause-last
 returns-in-Some-take-clause-last g c = elim (is_either c.is_empty.result) [
-  | inr no ↦ rw no tt
-  | inl yes ↦ rw yes (λ r h.
+  | inr fails ↦ rw fails tt
+  | inl holds ↦ rw holds (λ r h.
       let m = g.W.GapWindow.remembers in
       let mine = subst (λ s. StandsFor m g.S.ResendStore.stands_for s r) (sym c.self.view_is) h in
       let keyed : lacks_keys r.state ≡ false = sym (ap lacks_keys mine.state) ∙ has_keys c.self.inside.sealing c.self.inside.opening c.if-is_none.ensures c.if-is_none-2.ensures in
       let none : r.state.application ≡ None = sym (ap (λ (s : SessionState). s.application) mine.state) ∙ sym c.take.ensures.value ∙ c.in_default.is in
       let quiet : next_pause r.rx ≡ None = sym (c.poll_stream_paused.ensures.event (streams_in r) (streams_stand m g.S.ResendStore.stands_for _ r mine)) ∙ c.in_default-poll_stream_paused.is in
       let full : r.state.packet ≡ Some c.in-Some-take.packet = sym (ap (λ (s : SessionState). s.packet) mine.state) ∙ sym c.take-2.ensures.value ∙ c.in-Some-take.is in
-      let last : next_news r.state.news ≡ None = sym (ap (λ (s : SessionState). next_news s.news) mine.state) ∙ none_next c.self.inside.news (eqb-true (news_count c.self.inside.news) 0 (sym c.is_empty.ensures ∙ yes)) in
+      let last : next_news r.state.news ≡ None = sym (ap (λ (s : SessionState). next_news s.news) mine.state) ∙ none_next c.self.inside.news (eqb-true (news_count c.self.inside.news) 0 (sym c.is_empty.ensures ∙ holds)) in
       let rest = packet_last r keyed none quiet c.in-Some-take.packet full last in (
         ap (λ (l : List Event). c.args.sofar.now.items ++ l) rest.0 ∙ sym c.push_reserved-in-Some-take.ensures.items,
         moved m g.S.ResendStore.stands_for _ _ _ rest.1
@@ -120,7 +120,7 @@ returns-in-Some-take-clause-fewer g c =
     let had = ap one_in (sym c.take-2.ensures.value ∙ c.in-Some-take.is) in
     let nothing = ap one_in c.take.ensures.after in
     let told = ap (λ (v : StreamsView g.row.W.Denot g.row.S.Denot). untold_in v.rx) c.in_default-poll_stream_paused.ensures.none in
-    elim (is_either c.is_empty.result) [ inl yes ↦ rw yes tt | inr no ↦ rw no (omega arith) ]
+    elim (is_either c.is_empty.result) [ inl holds ↦ rw holds tt | inr fails ↦ rw fails (omega arith) ]
 
 pub returns-in_default-next-clause-last : goal.returns-in_default-next-clause-last
 returns-in_default-next-clause-last g c = λ r h.
