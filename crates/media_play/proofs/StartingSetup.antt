@@ -222,29 +222,30 @@ module _ (pt : ℕ) where
       none (Some red) = refl
 
   found_none : (ts : List PayloadType) → (IsIn pt (flat_map written_in ts) → ⊥) → find (has_type pt) ts ≡ None
-  found_none [] no = refl
-  found_none (t ∷ ts) no = elim (tested (t.pt == pt)) [
-    | inl k ↦ absurd (no (IsIn-left pt (written_in t) (flat_map written_in ts) (inl (sym (eqb-true t.pt pt k)))))
-    | inr k ↦ rw k (found_none ts (λ i. no (IsIn-right pt (written_in t) (flat_map written_in ts) i)))
+  found_none [] absent = refl
+  found_none (t ∷ ts) absent = elim (tested (t.pt == pt)) [
+    | inl k ↦ absurd (absent (IsIn-left pt (written_in t) (flat_map written_in ts) (inl (sym (eqb-true t.pt pt k)))))
+    | inr k ↦ rw k (found_none ts (λ i. absent (IsIn-right pt (written_in t) (flat_map written_in ts) i)))
   ]
 
   abbrev rtx_found : List PayloadType → Option ℕ
   rtx_found ts = option_and_then (λ (t : PayloadType). t.rtx) (find (has_type pt) ts)
 
+  red_found : (t : PayloadType) (ts : List PayloadType) (o : Option ℕ) → NoRepeat (option_to_list o ++ flat_map written_in ts)
+      → (NoRepeat (flat_map written_in ts) → rtx_found (rows_of ts) ≡ rtx_found ts) → rtx_found (red_rows t o ++ rows_of ts) ≡ rtx_found ts
+  red_found t ts None once rest = rest once
+  red_found t ts (Some red) once rest = elim (tested (red == pt)) [
+    | inl k ↦ rw k (sym (ap (option_and_then (λ (u : PayloadType). u.rtx))
+      (found_none ts (λ i. once.0 (subst (λ n. IsIn n (flat_map written_in ts)) (sym (eqb-true red pt k)) i)))))
+    | inr k ↦ rw k (rest once.1)
+  ]
+
   rows_rtx : (ts : List PayloadType) → NoRepeat (flat_map written_in ts) → rtx_found (rows_of ts) ≡ rtx_found ts
   rows_rtx [] h = refl
   rows_rtx (t ∷ ts) h = elim (tested (t.pt == pt)) [
     | inl k ↦ rw k refl
-    | inr k ↦ rw k (next t.red h.1)
+    | inr k ↦ rw k (red_found t ts t.red h.1 (rows_rtx ts))
   ]
-    where
-      next : (o : Option ℕ) → NoRepeat (option_to_list o ++ flat_map written_in ts) → rtx_found (red_rows t o ++ rows_of ts) ≡ rtx_found ts
-      next None once = rows_rtx ts once
-      next (Some red) once = elim (tested (red == pt)) [
-        | inl k ↦ rw k (sym (ap (option_and_then (λ (u : PayloadType). u.rtx))
-            (found_none ts (λ i. once.0 (subst (λ n. IsIn n (flat_map written_in ts)) (sym (eqb-true red pt k)) i)))))
-        | inr k ↦ rw k (rows_rtx ts once.1)
-      ]
 
   any_given : (o : Option ℕ) (ns : List ℕ) → list_any (λ n. n == pt) (option_to_list o ++ ns) ≡ (is_type pt o || list_any (λ n. n == pt) ns)
   any_given None ns = refl

@@ -6,7 +6,9 @@ use Rattle.media_play.proofs.StartingSetup.{rows_apart, rows_more}
 use Rattle.media_play.proofs.starting.payload_types.Goals as goal
 
 pub add_type-requires : goal.add_type-requires
-add_type-requires c = rows_apart c.loop-row.types c.args.setup.now.types c.as_slice-row-items.result.now c.loop-row.row-index c.row-item.result c.as_slice-row-items.ensures c.requires c.loop-row-test.true c.row-item.is c.loop-row.invariant
+add_type-requires c = record {
+  apart = rows_apart c.loop-row.types c.args.setup.now.types c.as_slice-row-items.result.now c.loop-row.row-index c.row-item.result c.as_slice-row-items.ensures c.requires c.loop-row-test.true c.row-item.is c.loop-row.invariant;
+}
 
 pub loop-row-preserved : goal.loop-row-preserved
 loop-row-preserved c =
