@@ -494,8 +494,9 @@ fn request_step<C: SrtpCipher>(
     ensures longer { OnlyAdds log.old log.new }
 {
     let place = end.check_request(ssrc)?;
+    let call = request.call();
     end.request(place, request);
-    log.push(Entry::Called(side, time, request.call()))?;
+    log.push(Entry::Called(side, time, call))?;
     Ok(())
 }
 

@@ -16,8 +16,8 @@ pub enum Request {
 
 impl Request {
     /// The call that makes it.
-    pub fn call(self) -> Call
-        ensures { result ≡ call_for self }
+    pub fn call(&self) -> Call
+        ensures { result ≡ call_for self.now }
     {
         match self {
             Request::Keyframe(_) => Call::Ask,
