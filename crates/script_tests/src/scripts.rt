@@ -231,41 +231,68 @@ fn intervals(audio: u64, video: u64) -> ReportTimes {
     }
 }
 
+fn is_delivery(step: &Step) -> bool {
+    match step {
+        Step::Deliver {
+            side,
+            time,
+            datagram,
+        } => *side == Side::A && *time == Instant::from_nanos(0) && *datagram == 3,
+        _ => false,
+    }
+}
+
+// Whether a step is a datagram of anybody at the moment 1.
+fn is_foreign(step: &Step, to: Side, as_kind: Kind, wanted: &[u8]) -> bool {
+    match step {
+        Step::Foreign {
+            side,
+            time,
+            kind,
+            bytes,
+        } => {
+            let comes = *side == to && *time == Instant::from_nanos(1);
+            comes && *kind == as_kind && bytes.as_slice() == wanted
+        }
+        _ => false,
+    }
+}
+
+fn is_feedback(step: &Step) -> bool {
+    match step {
+        Step::Application {
+            side,
+            time,
+            sender,
+            media,
+            payload,
+        } => {
+            let called = *side == Side::B && *time == Instant::from_nanos(2_000_000);
+            let ends = *sender == Ssrc::from(u32::MAX) && *media == Ssrc::from(0);
+            called && ends && payload.as_slice() == [1, 2, 255, 255].as_slice()
+        }
+        _ => false,
+    }
+}
+
+// Whether the steps are two, and then these.
+fn are_steps(steps: &[Step]) -> bool {
+    match steps {
+        [_, _, delivery, rtcp, feedback, rtp] => {
+            is_delivery(delivery)
+                && is_foreign(rtcp, Side::A, Kind::Rtcp, &[])
+                && is_feedback(feedback)
+                && is_foreign(rtp, Side::B, Kind::Rtp, &[0x80])
+        }
+        _ => false,
+    }
+}
+
 #[test]
 fn each_step_is_read(rt: HostRuntime) -> Result<(), Fail> {
-    let alloc = rt.alloc();
-    let payload = Bytes::from_slice(alloc, &[1, 2, 255, 255])?;
-    let handed = [
-        Step::Deliver {
-            side: Side::A,
-            time: Instant::from_nanos(0),
-            datagram: 3,
-        },
-        Step::Foreign {
-            side: Side::A,
-            time: Instant::from_nanos(1),
-            kind: Kind::Rtcp,
-            bytes: Bytes::from_slice(alloc, &[])?,
-        },
-        Step::Application {
-            side: Side::B,
-            time: Instant::from_nanos(2_000_000),
-            sender: Ssrc::from(u32::MAX),
-            media: Ssrc::from(0),
-            payload: ApplicationData::new(payload).ok_or("a payload")?,
-        },
-        Step::Foreign {
-            side: Side::B,
-            time: Instant::from_nanos(1),
-            kind: Kind::Rtp,
-            bytes: Bytes::from_slice(alloc, &[0x80])?,
-        },
-    ];
-    let steps = steps_of(alloc, EVERY_LINE)?;
-    all_hold(&[
-        ("six steps", steps.len() == 6),
-        ("but for two", steps.get(2..) == Some(handed.as_slice())),
-    ])
+    let steps = steps_of(rt.alloc(), EVERY_LINE)?;
+    assert!(rt; are_steps(steps.as_slice()));
+    Ok(())
 }
 
 // Setup lines, the two lengths of the MTU, and the index of the first SRTCP datagram of A and of B.
@@ -726,32 +753,43 @@ fn limits_of_media_and_streams(rt: HostRuntime) -> Result<(), Fail> {
     ])
 }
 
-// One packet sealed by A, opened and yielded by B.
-fn one_opened(alloc: Global) -> Result<Transcript, Fail> {
-    let mut transcript = Transcript::new(alloc);
-    transcript.push(Entry::Called(Side::A, Instant::from_nanos(1), Call::Application))?;
-    transcript.push(Entry::Sealed(Sealed {
+// One packet sealed by A.
+fn one_sealed(alloc: Global) -> Result<Entry, Fail> {
+    let plain = Bytes::from_slice(alloc, &[1])?;
+    Ok(Entry::Sealed(Sealed {
         side: Side::A,
         kind: Kind::Rtp,
         ssrc: Ssrc::from(42),
         index: SeqNo::from(1),
-        plain: Bytes::from_slice(alloc, &[1])?,
+        plain,
         bytes: Bytes::from_slice(alloc, &[1, 2])?,
-    }))?;
-    transcript.push(Entry::Got(Got {
+    }))
+}
+
+// It comes to B.
+fn one_got(alloc: Global) -> Result<Entry, Fail> {
+    Ok(Entry::Got(Got {
         side: Side::B,
         time: Instant::from_nanos(1),
         kind: Kind::Rtp,
         bytes: Bytes::from_slice(alloc, &[1, 2])?,
-    }))?;
-    transcript.push(Entry::Opened(Opened {
+    }))
+}
+
+// B opens it.
+fn one_opened(alloc: Global) -> Result<Entry, Fail> {
+    Ok(Entry::Opened(Opened {
         side: Side::B,
         kind: Kind::Rtp,
         ssrc: Ssrc::from(42),
         index: SeqNo::from(1),
         plain: Bytes::from_slice(alloc, &[1])?,
-    }))?;
-    transcript.push(Entry::Yielded(
+    }))
+}
+
+// And yields its packet.
+fn one_yielded(alloc: Global) -> Result<Entry, Fail> {
+    Ok(Entry::Yielded(
         Side::B,
         Packet {
             ssrc: Ssrc::from(42),
@@ -762,54 +800,93 @@ fn one_opened(alloc: Global) -> Result<Transcript, Fail> {
             csrc: Sources::none(),
             payload: Bytes::from_slice(alloc, &[1])?,
         },
-    ))?;
-    Ok(transcript)
+    ))
+}
+
+// A call of A, and one packet sealed by it, opened and yielded by B.
+fn push_entries(alloc: Global, transcript: &mut Transcript) -> Result<(), Fail> {
+    transcript.push(Entry::Called(Side::A, Instant::from_nanos(1), Call::Application))?;
+    transcript.push(one_sealed(alloc)?)?;
+    transcript.push(one_got(alloc)?)?;
+    transcript.push(one_opened(alloc)?)?;
+    transcript.push(one_yielded(alloc)?)?;
+    Ok(())
 }
 
 const LINES: &str =
     "called A app\nsealed A rtp 42 1 0102\ngot B rtp 2\nopened B rtp 42 1\nyielded B 42 1 96 0 0 01\n";
 
-// Whether the text of that is this, with and without its last line.
-fn is_text(alloc: Global, transcript: &Transcript) -> Result<bool, Fail> {
+// Whether the entries are written so.
+fn has_lines(alloc: Global, transcript: &Transcript) -> Result<bool, Fail> {
     let text = entries_text(alloc, transcript.entries())?;
+    Ok(text.as_str() == LINES)
+}
+
+// Whether the whole is written so, where it holds, and the last line where the repairs do not.
+fn has_ends(alloc: Global, transcript: &Transcript) -> Result<bool, Fail> {
     let whole = write_transcript(alloc, true, transcript)?;
     let last = end_line(alloc, false, transcript)?;
+    let end = whole.as_str().strip_prefix(LINES);
     Ok(
-        text.as_str() == LINES
-            && whole.as_str().strip_prefix(LINES) == Some("end genuine=yes repairs=yes\n")
+        end == Some("end genuine=yes repairs=yes\n")
             && last.as_str() == "end genuine=yes repairs=no\n",
     )
 }
 
+fn is_written(alloc: Global, transcript: &mut Transcript) -> Result<bool, Fail> {
+    push_entries(alloc, transcript)?;
+    let lines = has_lines(alloc, transcript)?;
+    let ends = has_ends(alloc, transcript)?;
+    Ok(lines && ends && transcript.genuine(alloc)?)
+}
+
 #[test]
-fn surface_ample(rt: HostRuntime) -> Result<(), Fail> {
-    let alloc = rt.alloc();
-    let setup = setup_of(alloc, EVERY_LINE)?;
-    let transcript = one_opened(alloc)?;
-    let streams = [Ssrc::from(7), Ssrc::from(u32::MAX)];
-    let types = [Pt::from(96), Pt::from(255), Pt::from(97), Pt::from(9)];
-    let claimed = [
+fn transcripts_are_written(rt: HostRuntime) -> Result<(), Fail> {
+    let mut transcript = Transcript::new(rt.alloc());
+    let written = is_written(rt.alloc(), &mut transcript)?;
+    assert!(rt; written);
+    Ok(())
+}
+
+fn gives_material(alloc: Global, setup: &Setup) -> Result<bool, Fail> {
+    let material = setup.material(alloc)?;
+    Ok(material.as_slice() == [0, 255].as_slice())
+}
+
+fn gives_streams(alloc: Global, setup: &Setup) -> Result<bool, Fail> {
+    let wanted = [Ssrc::from(7), Ssrc::from(u32::MAX)];
+    let streams = setup.streams(alloc, Side::B)?;
+    Ok(streams.as_slice() == wanted.as_slice())
+}
+
+fn gives_types(alloc: Global, setup: &Setup) -> Result<bool, Fail> {
+    let wanted = [Pt::from(96), Pt::from(255), Pt::from(97), Pt::from(9)];
+    let types = setup.types(alloc)?;
+    Ok(types.as_slice() == wanted.as_slice())
+}
+
+fn gives_claimed_types(alloc: Global, setup: &Setup) -> Result<bool, Fail> {
+    let wanted = [
         Pt::from(96),
         Pt::from(255),
         Pt::from(97),
         Pt::from(255),
         Pt::from(9),
     ];
-    all_hold(&[
-        (
-            "material",
-            setup.material(alloc)?.as_slice() == [0, 255].as_slice(),
-        ),
-        (
-            "streams",
-            setup.streams(alloc, Side::B)?.as_slice() == streams.as_slice(),
-        ),
-        ("types", setup.types(alloc)?.as_slice() == types.as_slice()),
-        (
-            "claimed types",
-            setup.claimed_types(alloc)?.as_slice() == claimed.as_slice(),
-        ),
-        ("genuine", transcript.genuine(alloc)?),
-        ("text", is_text(alloc, &transcript)?),
-    ])
+    let claimed = setup.claimed_types(alloc)?;
+    Ok(claimed.as_slice() == wanted.as_slice())
+}
+
+fn gives_all(alloc: Global, setup: &Setup) -> Result<bool, Fail> {
+    let streams = gives_material(alloc, setup)? && gives_streams(alloc, setup)?;
+    let types = gives_types(alloc, setup)? && gives_claimed_types(alloc, setup)?;
+    Ok(streams && types)
+}
+
+#[test]
+fn surface_ample(rt: HostRuntime) -> Result<(), Fail> {
+    let setup = setup_of(rt.alloc(), EVERY_LINE)?;
+    let given = gives_all(rt.alloc(), &setup)?;
+    assert!(rt; given);
+    Ok(())
 }

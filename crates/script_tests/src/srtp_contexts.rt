@@ -1,4 +1,4 @@
-ghost use Rattle.std.specs.Prelude.{◌<◌, length};
+ghost use Rattle.std.specs.Prelude.{◌<◌, ◌≤◌, length};
 
 use rtp_wire::{ExtensionMap, RtpHeader};
 use sha1::Sha1;
@@ -17,6 +17,9 @@ const PACKET: [u8; 14] = [0x80, 0x60, 0, 1, 0, 0, 0, 0, 0, 0, 0, 42, 1, 2];
 const ZEROS: [u8; 20] = [
     0x80, 0x60, 0, 1, 0, 0, 0, 0, 0, 0, 0, 42, 0, 0, 0, 0, 0, 0, 0, 0,
 ];
+
+// The first bytes of the next, of which an AEAD makes 30.
+const SHORT_FEEDBACK: [u8; 10] = [0x8f, 0xce, 0, 3, 0, 0, 0, 1, 0, 0];
 
 // Application feedback of source 1.
 const FEEDBACK: [u8; 16] = [0x8f, 0xce, 0, 3, 0, 0, 0, 1, 0, 0, 0, 42, 1, 2, 3, 4];
@@ -210,22 +213,39 @@ const UNDER_ZERO: [(SrtpProfile, &[u8], &str); 3] = [
     ),
 ];
 
+// A packet that the toy cipher seals under a zero master key.
+fn sealed_under_zero(
+    rt: &(impl AllocGlobal + Abort),
+    profile: SrtpProfile,
+    packet: &[u8],
+) -> Result<Vec<u8>, Fail> {
+    let mut context = zero_key(rt, ToyCipher, profile)?;
+    seal(rt, &mut context, packet, 0)
+}
+
 #[test]
 fn packets_under_a_zero_key(rt: HostRuntime) -> Result<(), Fail> {
     for (profile, packet, text) in &UNDER_ZERO {
-        let mut context = zero_key(&rt, ToyCipher, *profile)?;
-        let sealed = seal(&rt, &mut context, packet, 0)?;
+        let sealed = sealed_under_zero(&rt, *profile, packet)?;
         assert!(rt; reads(&sealed, text), "{text}");
     }
     Ok(())
+}
+
+// The feedback, sealed behind a packet.
+fn seal_behind_packet(
+    rt: &(impl AllocGlobal + Abort),
+    context: &mut SrtpContext<ToyCipher>,
+) -> Result<Vec<u8>, Fail> {
+    seal(rt, context, &PACKET, 0)?;
+    Ok(context.protect_rtcp(&FEEDBACK)?)
 }
 
 #[test]
 fn feedback_under_a_zero_key(rt: HostRuntime) -> Result<(), Fail> {
     let text = "8fce0003000000010000002a010303028ecc030700010007800000000000002b80000000";
     let mut context = zero_key(&rt, ToyCipher, SrtpProfile::AeadAes128Gcm)?;
-    seal(&rt, &mut context, &PACKET, 0)?;
-    let sealed = context.protect_rtcp(&FEEDBACK)?;
+    let sealed = seal_behind_packet(&rt, &mut context)?;
     assert!(rt; reads(&sealed, text));
     Ok(())
 }
@@ -241,25 +261,45 @@ fn opens_to_feedback(
     }
 }
 
-// Whether the right side gives these texts of a packet under rollover count 2 and of feedback under index
-// 7, which opens with the E bit set and clear.
-fn right_side_gives(
+// Whether a packet is sealed under rollover count 2 to this text.
+fn gives_packet(
     rt: &(impl AllocGlobal + Abort),
-    profile: SrtpProfile,
-    rtp: &str,
-    rtcp: &str,
-    clear: &[u8],
+    context: &mut SrtpContext<ShaCipher>,
+    text: &str,
 ) -> Result<bool, Fail> {
-    let mut context = right_side(rt, profile)?;
-    let packet = seal(rt, &mut context, &PACKET, 2)?;
+    let packet = seal(rt, context, &PACKET, 2)?;
+    Ok(reads(&packet, text))
+}
+
+// Whether the feedback is sealed to this text, and opens again.
+fn gives_feedback(context: &mut SrtpContext<ShaCipher>, text: &str) -> Result<bool, Fail> {
     let sealed = context.protect_rtcp(&FEEDBACK)?;
-    let opened = opens_to_feedback(&mut context, &sealed)?;
-    let opened_clear = opens_to_feedback(&mut context, clear)?;
-    Ok(reads(&packet, rtp) && reads(&sealed, rtcp) && opened && opened_clear)
+    let opened = opens_to_feedback(context, &sealed)?;
+    Ok(reads(&sealed, text) && opened)
+}
+
+// What the right side of a profile gives: the texts of a packet under rollover count 2 and of feedback
+// under index 7, and that feedback with the E bit clear.
+type Given = (SrtpProfile, &'static str, &'static str, &'static [u8]);
+
+fn gives(
+    rt: &(impl AllocGlobal + Abort),
+    context: &mut SrtpContext<ShaCipher>,
+    given: &Given,
+) -> Result<bool, Fail> {
+    let packet = gives_packet(rt, context, given.1)?;
+    let feedback = gives_feedback(context, given.2)?;
+    let clear = opens_to_feedback(context, given.3)?;
+    Ok(packet && feedback && clear)
+}
+
+fn right_side_gives(rt: &(impl AllocGlobal + Abort), given: &Given) -> Result<bool, Fail> {
+    let mut context = right_side(rt, given.0)?;
+    gives(rt, &mut context, given)
 }
 
 // Computed apart from this crate, of the formulas of RFC 3711 and RFC 7714 with SHA-1 for the cipher.
-const RIGHT_SIDE: [(SrtpProfile, &str, &str, &[u8]); 3] = [
+const RIGHT_SIDE: [Given; 3] = [
     (
         SrtpProfile::Aes128CmSha1_80,
         "80600001000000000000002a5f2e9d19ef840ba2465f3b44",
@@ -282,9 +322,9 @@ const RIGHT_SIDE: [(SrtpProfile, &str, &str, &[u8]); 3] = [
 
 #[test]
 fn datagrams_of_the_right_side(rt: HostRuntime) -> Result<(), Fail> {
-    for (profile, rtp, rtcp, clear) in &RIGHT_SIDE {
-        let given = right_side_gives(&rt, *profile, rtp, rtcp, clear)?;
-        assert!(rt; given, "{rtp}");
+    for given in &RIGHT_SIDE {
+        let right = right_side_gives(&rt, given)?;
+        assert!(rt; right, "{}", given.0);
     }
     Ok(())
 }
@@ -324,6 +364,34 @@ fn changes<C: SrtpCipher>(
     Ok(count)
 }
 
+// How many changes of one bit a datagram of 30 bytes that opens opens with.
+fn changes_of_sealed<C: SrtpCipher>(
+    rt: &(impl AllocGlobal + Abort),
+    context: &mut SrtpContext<C>,
+    kind: Kind,
+    bytes: &mut [u8],
+) -> Result<usize, Fail> {
+    assert!(rt; bytes.len() == 30);
+    assert!(rt; opens(context, kind, bytes)?);
+    Ok(changes(context, kind, bytes)?)
+}
+
+// The same of a packet and of feedback that are sealed.
+fn changes_of_both<C: SrtpCipher>(
+    rt: &(impl AllocGlobal + Abort),
+    context: &mut SrtpContext<C>,
+    packet: &[u8],
+    feedback: &[u8],
+) -> Result<(usize, usize), Fail>
+    requires { 8 ≤ length feedback.now }
+{
+    let mut rtp = seal(rt, context, packet, 0)?;
+    let of_packet = changes_of_sealed(rt, context, Kind::Rtp, rtp.as_mut_slice())?;
+    let mut rtcp = context.protect_rtcp(feedback)?;
+    let of_feedback = changes_of_sealed(rt, context, Kind::Rtcp, rtcp.as_mut_slice())?;
+    Ok((of_packet, of_feedback))
+}
+
 // Sealed datagrams of 30 bytes, an RTP and an RTCP one: how many changes of one bit each opens with.
 fn changes_that_open<C: SrtpCipher>(
     rt: &(impl AllocGlobal + Abort),
@@ -331,20 +399,10 @@ fn changes_that_open<C: SrtpCipher>(
     profile: SrtpProfile,
 ) -> Result<(usize, usize), Fail> {
     let mut context = zero_key(rt, cipher, profile)?;
-    let (packet, feedback) = match profile {
-        SrtpProfile::Aes128CmSha1_80 => (ZEROS.as_slice(), FEEDBACK.as_slice()),
-        _ => (PACKET.as_slice(), &FEEDBACK[..10]),
-    };
-    let mut rtp = seal(rt, &mut context, packet, 0)?;
-    let mut rtcp = context.protect_rtcp(feedback)?;
-    assert!(rt; rtp.len() == 30 && rtcp.len() == 30);
-    let rtp_opens = opens(&mut context, Kind::Rtp, &rtp)?;
-    let rtcp_opens = opens(&mut context, Kind::Rtcp, &rtcp)?;
-    assert!(rt; rtp_opens && rtcp_opens);
-    Ok((
-        changes(&mut context, Kind::Rtp, rtp.as_mut_slice())?,
-        changes(&mut context, Kind::Rtcp, rtcp.as_mut_slice())?,
-    ))
+    match profile {
+        SrtpProfile::Aes128CmSha1_80 => changes_of_both(rt, &mut context, &ZEROS, &FEEDBACK),
+        _ => changes_of_both(rt, &mut context, &PACKET, &SHORT_FEEDBACK),
+    }
 }
 
 // Profiles, and how many changes of the feedback open under the toy cipher: each of the 31 bits of the
@@ -366,15 +424,10 @@ fn changed_datagrams_do_not_open(rt: HostRuntime) -> Result<(), Fail> {
     Ok(())
 }
 
-fn short_ones_open<C: SrtpCipher>(
-    rt: &(impl AllocGlobal + Abort),
-    cipher: C,
-    profile: SrtpProfile,
-) -> Result<bool, Fail> {
+fn some_short_one_opens<C: SrtpCipher>(context: &mut SrtpContext<C>) -> Result<bool, Fail> {
     let bytes = [0x80; 40];
     let header = RtpHeader::parse(&bytes, &ExtensionMap::empty()).ok_or("no header")?;
     let index = u64::from(header.sequence_number);
-    let mut context = zero_key(rt, cipher, profile)?;
     for len in 0..41 {
         let rtp = context
             .unprotect_rtp(&bytes[..len], &header, index)
@@ -384,6 +437,15 @@ fn short_ones_open<C: SrtpCipher>(
         }
     }
     Ok(false)
+}
+
+fn short_ones_open<C: SrtpCipher>(
+    rt: &(impl AllocGlobal + Abort),
+    cipher: C,
+    profile: SrtpProfile,
+) -> Result<bool, Fail> {
+    let mut context = zero_key(rt, cipher, profile)?;
+    some_short_one_opens(&mut context)
 }
 
 // 0 to 40 bytes that nobody sealed.
@@ -401,6 +463,12 @@ fn is_exhausted(context: &mut SrtpContext<ToyCipher>) -> bool {
     context.protect_rtcp(&FEEDBACK).err() == Some(SrtpError::KeyExhausted)
 }
 
+// Whether one datagram more is sealed, under the last index, and no further one.
+fn seals_one(context: &mut SrtpContext<ToyCipher>) -> Result<bool, Fail> {
+    let sealed = context.protect_rtcp(&FEEDBACK)?;
+    Ok(sealed.ends_with(&[0xff; 4]) && is_exhausted(context) && is_exhausted(context))
+}
+
 // The last of the 2^31 indices, and no further one.
 #[test]
 fn indices_end(rt: HostRuntime) -> Result<(), Fail> {
@@ -413,10 +481,8 @@ fn indices_end(rt: HostRuntime) -> Result<(), Fail> {
         true,
         0x7fff_ffff,
     )?;
-    let sealed = context.protect_rtcp(&FEEDBACK)?;
-    assert!(rt; sealed.ends_with(&[0xff; 4]));
-    assert!(rt; is_exhausted(&mut context));
-    assert!(rt; is_exhausted(&mut context));
+    let sealed = seals_one(&mut context)?;
+    assert!(rt; sealed);
     Ok(())
 }
 
@@ -452,6 +518,15 @@ fn opens_fifth(
     Ok(sealed.ends_with(&[0x80, 0, 0, 5]) && opened.as_slice() == FEEDBACK.as_slice())
 }
 
+fn open_each_other(
+    left: &mut SrtpContext<ToyCipher>,
+    peer: &mut SrtpContext<ToyCipher>,
+) -> Result<bool, Fail> {
+    let packet = opens_of(left, peer)?;
+    let feedback = opens_fifth(peer, left)?;
+    Ok(packet && feedback)
+}
+
 #[test]
 fn surface_ample(rt: HostRuntime) -> Result<(), Fail> {
     let material = KeyingMaterial::new(rt.alloc(), &[0; 56])?;
@@ -459,9 +534,8 @@ fn surface_ample(rt: HostRuntime) -> Result<(), Fail> {
     let profile = SrtpProfile::AeadAes128Gcm;
     let mut left = SrtpContext::new(rt.alloc(), ToyCipher, profile, &material, true)?;
     let mut peer = SrtpContext::new_at(rt.alloc(), ToyCipher, profile, &material, true, 5)?;
-    let packet = opens_of(&mut left, &mut peer)?;
-    let feedback = opens_fifth(&mut peer, &mut left)?;
-    assert!(rt; packet && feedback);
+    let opened = open_each_other(&mut left, &mut peer)?;
+    assert!(rt; opened);
     Ok(())
 }
 
