@@ -209,16 +209,16 @@ const WRITES: [Run; 8] = [
                 "wrote A 42 1\nticked A 1\nsealed A rtp 42 1 90600001000000000000002abede000110760000010280160001012800020000002bbede0000\ngot B rtp 38\nopened B rtp 42 1\nyielded B 42 1 96 0 0 0102\ngot B rtp 38\nend genuine=yes repairs=yes\n",
             )],
         ),
-        (
-            "type 98 opus 48000 rtx=99 red=97 pli fir\n",
-            "write A 1 42 1 97 0 0 0 0102\ntick A 1\ndeliver B 1 1\n",
-            Wanted(
-                0,
-                Done,
-                &[Is(
-                    "wrote A 42 1\nticked A 1\nsealed A rtp 42 1 80610001000000000000002a010280610001002a00020000002b01020001\ngot B rtp 30\nopened B rtp 42 1\nyielded B 42 1 97 0 0 0102\nend genuine=yes repairs=yes\n",
-                )],
-            ),
+    ),
+    (
+        "type 98 opus 48000 rtx=99 red=97 pli fir\n",
+        "write A 1 42 1 97 0 0 0 0102\ntick A 1\ndeliver B 1 1\n",
+        Wanted(
+            0,
+            Done,
+            &[Is(
+                "wrote A 42 1\nticked A 1\nsealed A rtp 42 1 80610001000000000000002a010280610001002a00020000002b01020001\ngot B rtp 30\nopened B rtp 42 1\nyielded B 42 1 97 0 0 0102\nend genuine=yes repairs=yes\n",
+            )],
         ),
     ),
     (
