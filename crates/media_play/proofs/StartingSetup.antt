@@ -236,7 +236,7 @@ module _ (pt : ℕ) where
   red_found t ts None once rest = rest once
   red_found t ts (Some red) once rest = elim (tested (red == pt)) [
     | inl k ↦ rw k (sym (ap (option_and_then (λ (u : PayloadType). u.rtx))
-      (found_none ts (λ i. once.0 (subst (λ n. IsIn n (flat_map written_in ts)) (sym (eqb-true red pt k)) i)))))
+        (found_none ts (λ i. once.0 (subst (λ n. IsIn n (flat_map written_in ts)) (sym (eqb-true red pt k)) i)))))
     | inr k ↦ rw k (rest once.1)
   ]
 
