@@ -10,7 +10,7 @@ use Rattle.media_model.specs.declared.entry.Entry.TheVariants.{Wrote, Ticked, Ca
 use Rattle.media_model.specs.declared.entry.Side.{Side}
 use Rattle.media_model.specs.declared.setup.Setup.{Setup}
 use Rattle.media_model.specs.declared.step.Step.{Step}
-use Rattle.media_model.specs.declared.step.Step.TheVariants.{Write, Tick, Deliver, Foreign, Application}
+use Rattle.media_model.specs.declared.step.Step.TheVariants.{Write, Tick, Deliver, Foreign, Application, Ask, Remb}
 use Rattle.media_model.specs.Entries.{srtcp_index_by, srtcp_indices, nonce_by, nonces, packet_by, packets, sealed_numbers}
 use Rattle.media_model.specs.Setup.{local_of}
 use Rattle.run_model.specs.Events.{ticked, Outgoing}
@@ -179,6 +179,8 @@ holds_to_key {seal} {setup} wire fine steps past (Tick by time) side counter tol
 holds_to_key wire fine steps past (Write by time write) side counter told played e = absurd e
 holds_to_key wire fine steps past (Deliver by time k) side counter told played e = absurd e
 holds_to_key wire fine steps past (Foreign by time kind bytes) side counter told played e = absurd e
+holds_to_key wire fine steps past (Ask by time ssrc kind) side counter told played e = absurd e
+holds_to_key wire fine steps past (Remb by time ssrc rate) side counter told played e = absurd e
 
 -- the step that finds a key used up is one of the script
 pub plays_to_key : {seal : Sealing} {setup : Setup} (steps : List Step) (past : List Entry) (step : Step) (side : Side) (counter : Counter) (told : List Entry) → Played seal setup steps past
@@ -195,3 +197,5 @@ plays_to_key {seal} {setup} steps past (Tick by time) side counter told played e
 plays_to_key steps past (Write by time write) side counter told played e = absurd e
 plays_to_key steps past (Deliver by time k) side counter told played e = absurd e
 plays_to_key steps past (Foreign by time kind bytes) side counter told played e = absurd e
+plays_to_key steps past (Ask by time ssrc kind) side counter told played e = absurd e
+plays_to_key steps past (Remb by time ssrc rate) side counter told played e = absurd e

@@ -33,7 +33,7 @@ use Rattle.media_laws.specs.Config.{config_of, rtp_sealing}
 use Rattle.media_laws.specs.Headline.{past_of, taken, YieldsExactly, FirstSendingsAreYielded}
 use Rattle.media_laws.specs.Opening.{Sealing}
 use Rattle.media_laws.specs.Plain.{extensions_of, Carries, as_packet}
-use Rattle.media_laws.specs.Play.{AreEntriesOf, wrote, ticked, called, got, Plays}
+use Rattle.media_laws.specs.Play.{AreEntriesOf, wrote, ticked, called, requested, got, Plays}
 use Rattle.media_laws.specs.Right.{IsSealOf}
 use Rattle.media_laws.specs.WireLaws.{WireLaws}
 use Rattle.media_laws.proofs.Playing.{as_run, Taken, each_step, heads}
@@ -150,6 +150,7 @@ module _ {seal : Sealing} {setup : Setup} (wire : WireLaws seal setup) (fine : s
   exactly (wrote side time w a b c) t = tt
   exactly (ticked side time all right) t = tt
   exactly (called side time sender media payload s is) t = tt
+  exactly (requested side time c by quiet) t = tt
   exactly (got came brought at all) t = of_got came brought t
 
   pub first_sendings_are_yielded : {a b : Session} {steps : List Step} {entries : List Entry} → Plays seal setup a b steps entries → FirstSendingsAreYielded setup entries

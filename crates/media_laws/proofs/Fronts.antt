@@ -19,7 +19,7 @@ use Rattle.run_model.specs.Runs.{Happening, on_side, WidensAt, EachFrom as EachH
 use Rattle.run_model.specs.RxPlay.{lists_in}
 use Rattle.run_model.specs.Transcripts.{happening_of, happenings, types_of}
 use Rattle.run_model.specs.TxPlay.{is_sealing}
-use Rattle.run_model.specs.Whole.{Config, IsSound, incoming_of, Session, Turns, writes, ticks, calls, opens, hears, stays}
+use Rattle.run_model.specs.Whole.{Config, IsSound, incoming_of, Session, Turns, writes, ticks, calls, requests, opens, hears, stays}
 use Rattle.media_laws.proofs.Lists.{IsIn-left, IsIn-map}
 use Rattle.media_laws.proofs.RxYields.{yields_new}
 use Rattle.media_laws.proofs.Tables.{serve_seals}
@@ -70,6 +70,7 @@ only_last xs e ys packet (ticks time new next late d f count) is i =
     elim (subst (IsIn (yielded packet)) (sym is) (IsIn-left (yielded packet) xs (e ∷ ys) i)) [ inl j ↦ cc j | inr j ↦ (let k = all_in is_sealing new (yielded packet) (serve_seals d.serves) j in cc k) ]
 only_last xs e ys packet (calls time items late others) is i =
     elim (subst (IsIn (yielded packet)) (sym is) (IsIn-left (yielded packet) xs (e ∷ ys) i)) [ inl j ↦ cc j | inr j ↦ elim j [ inl k ↦ cc k | inr k ↦ k ] ]
+only_last xs e ys packet (requests time late) is i = elim (subst (IsIn (yielded packet)) (sym is) (IsIn-left (yielded packet) xs (e ∷ ys) i)) [ inl j ↦ cc j | inr j ↦ j ]
 only_last xs e ys packet (hears time bytes index items late report h) is i =
     elim (subst (IsIn (yielded packet)) (sym is) (IsIn-left (yielded packet) xs (e ∷ ys) i)) [ inl j ↦ cc j | inr j ↦ elim j [ inl k ↦ cc k | inr k ↦ k ] ]
 only_last xs e ys packet (stays time kind bytes late out unread) is i = elim (subst (IsIn (yielded packet)) (sym is) (IsIn-left (yielded packet) xs (e ∷ ys) i)) [ inl j ↦ cc j | inr j ↦ j ]

@@ -12,7 +12,7 @@ use Rattle.media_model.specs.declared.entry.Side.TheVariants.{A, B}
 use Rattle.media_model.specs.Sides.{same_side}
 use Rattle.run_model.specs.Runs.{Happening, events_of, on_side}
 use Rattle.run_model.specs.Tables.{Table}
-use Rattle.run_model.specs.Whole.{Config, Session, index_of, indices, Counts, Turns, writes, ticks, calls, opens, hears, stays, Played, begun, of_a, of_b, session_of, CutsOff, at_step, in_tick, RunsRepeatNoIndex}
+use Rattle.run_model.specs.Whole.{Config, Session, index_of, indices, Counts, Turns, writes, ticks, calls, requests, opens, hears, stays, Played, begun, of_a, of_b, session_of, CutsOff, at_step, in_tick, RunsRepeatNoIndex}
 use Rattle.media_laws.proofs.RunYields.{events_more, events_same}
 
 -- numbers that count up are not less than the first, and none stands twice
@@ -51,6 +51,7 @@ turn_counts (writes time w late unused) = refl
 turn_counts (ticks time new next late d f count) = count
 turn_counts {C} {a = a} (opens time bytes ssrc n p s late i o) = subst (λ is. Counts a.rtcp is a.rtcp) (sym (no_indices (yields C.types s.0 (lists_in s.1) ssrc n p))) refl
 turn_counts (calls time items late others) = (refl, refl)
+turn_counts (requests time late) = refl
 turn_counts (hears time bytes index items late report h) = refl
 turn_counts (stays time kind bytes late out unread) = refl
 

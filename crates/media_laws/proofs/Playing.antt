@@ -21,14 +21,16 @@ use Rattle.run_model.specs.Runs.{Happening, on_side}
 use Rattle.run_model.specs.RxPlay.{lists_in}
 use Rattle.run_model.specs.Seals.{IsReport}
 use Rattle.run_model.specs.Transcripts.{happenings, types_of}
-use Rattle.run_model.specs.Whole.{Session, session_of, IsSound, Turns, writes, ticks, calls, opens, hears, stays, Played as RunPlayed, begun, of_a, of_b}
+use Rattle.run_model.specs.Whole.{Session, session_of, IsSound, Turns, writes, ticks, calls, requests, opens, hears, stays, Played as RunPlayed, begun, of_a, of_b}
 use Rattle.media_laws.proofs.Whole.{runs_answer, runs_ask_the_due}
 use Rattle.media_laws.specs.Config.{config_of, rtp_sealing, reporting}
 use Rattle.media_laws.specs.Feedback.{IsSealOfPacket, sends}
-use Rattle.media_laws.specs.Headline.{past_of, IsRightIfSealed, SealsAreRight, TickAnswers, Receives, opens as opens_rtp, opens_rtcp, stays as stays_shut, Answers, StepsAreAnswered, PlaysFrom, PlaysSteps}
+use Rattle.media_laws.specs.Headline.{past_of, IsRightIfSealed, SealsAreRight, TickAnswers, Receives, opens as opens_rtp, opens_rtcp, stays as stays_shut, Answers, AnswersCall, StepsAreAnswered, PlaysFrom, PlaysSteps}
 use Rattle.media_laws.specs.Listing.{EachFrom, brought, StepsFrom, EachStep}
 use Rattle.media_laws.specs.Opening.{Sealing}
-use Rattle.media_laws.specs.Play.{IsBroughtBy, AreEntriesOf, wrote, ticked, called, got, Outcome, Plays, begins, by_a, by_b}
+use Rattle.media_model.specs.declared.entry.Call.{Call}
+use Rattle.media_model.specs.declared.entry.Call.TheVariants as call
+use Rattle.media_laws.specs.Play.{IsBroughtBy, is_request, AreEntriesOf, wrote, ticked, called, requested, got, Outcome, Plays, begins, by_a, by_b}
 use Rattle.media_laws.specs.Right.{IsRight, right_rtcp, IsRightSeal}
 use Rattle.media_laws.proofs.Streams.{HoldsLists, hold_lists}
 
@@ -115,6 +117,7 @@ pub cut_new : {seal : Sealing} {setup : Setup} {entries : List Entry} {side : Si
 cut_new (wrote side time w a b c) = record { first = Wrote side time w; rest = []; is = refl; starts = refl; none = tt }
 cut_new {seal} {setup} (ticked side time sealed all) = record { first = Ticked side time; rest = sealed; is = refl; starts = refl; none = seals_only seal setup sealed all }
 cut_new (called side time sender media payload s is) = record { first = _; rest = Sealed s ∷ []; is = refl; starts = refl; none = (refl, tt) }
+cut_new (requested side time c by quiet) = record { first = Called side time c; rest = []; is = refl; starts = refl; none = tt }
 cut_new {seal} {setup} (got came brought at all) = record { first = Got came; rest = brought; is = refl; starts = refl; none = brought_only seal setup came brought all }
 
 -- a run as it is read
@@ -184,6 +187,7 @@ pub receives_of : {seal : Sealing} {setup : Setup} (entries : List Entry) (came 
 receives_of entries came new all e l (writes time w late unused) = absurd cc
 receives_of entries came new all e l (ticks time more next late d f count) = absurd cc
 receives_of entries came new all e l (calls time items late others) = absurd cc
+receives_of entries came new all e l (requests time late) = absurd cc
 receives_of {seal} {setup} entries came new all e l (opens time bytes ssrc n p s late i o) =
     subst (Receives seal setup entries came) news
     (subst (λ ls. Receives seal setup entries came (opened ssrc n p ∷ map yielded (yields (types_of setup) s.0 ls ssrc n p))) (l.same s i)
@@ -247,11 +251,17 @@ module _ {seal : Sealing} {setup : Setup} (sound : IsSound (config_of seal setup
         asks = runs_ask_the_due (config_of seal setup) t.a t.b t.c (happenings setup past) side time h.new sound (as_run t.plays) turn;
       }
 
+  brings_nothing : (side : Side) (past : List Entry) (c : Call) → is_request c ≡ true → AnswersCall seal setup side past c []
+  brings_nothing side past call.Application quiet = absurd cc
+  brings_nothing side past call.Ask quiet = refl
+  brings_nothing side past call.Remb quiet = refl
+
   answers : {past : List Entry} {side : Side} {step : Step} {first : Entry} {rest : List Entry} → AreEntriesOf seal setup past side step (first ∷ rest)
       → Taken seal setup past side step (first ∷ rest) → Answers seal setup past first rest
   answers (wrote side time w a b c) t = refl
   answers (ticked side time sealed all) t = tick_answers all t
   answers (called side time sender media payload s is) t = sends sender media payload s is
+  answers {past} (requested side time c by quiet) t = brings_nothing side past c quiet
   answers {past} (got came brought at all) t =
       let o = t.outcome in
       let h = heads (came.side, event_got came.time came.kind came.bytes) (happenings setup brought) came.side o.events o.read in
@@ -302,6 +312,7 @@ right_new : {seal : Sealing} {setup : Setup} {past : List Entry} {side : Side} {
 right_new (wrote side time w a b c) = (tt, tt)
 right_new {seal} {setup} {past = past} (ticked side time sealed all) = (tt, right_seals seal setup (past ++ Ticked side time ∷ []) sealed all)
 right_new (called side time sender media payload s is) = (tt, (packet_right is, tt))
+right_new (requested side time c by quiet) = (tt, tt)
 right_new {seal} {setup} {past = past} (got came brought at all) = (tt, no_seals seal setup came (past ++ Got came ∷ []) brought all)
 
 pub seals_are_right : {seal : Sealing} {setup : Setup} {a b : Session} {steps : List Step} {entries : List Entry} → Plays seal setup a b steps entries → SealsAreRight seal setup entries
@@ -361,6 +372,7 @@ one_step : {seal : Sealing} {setup : Setup} {past : List Entry} {side : Side} {s
 one_step (wrote side time w a b c) = ([], refl, refl)
 one_step {seal} {setup} {past = past} (ticked side time sealed all) = ([], refl, plays_none (past ++ Ticked side time ∷ []) sealed (seals_only seal setup sealed all))
 one_step (called side time sender media payload s is) = (Application side time sender media payload, [], refl, (refl, refl), refl)
+one_step {step = step} (requested side time c by quiet) = (step, [], refl, by, refl)
 one_step {seal} {setup} {past = past} {step = step} (got came brought at all) = (step, [], refl, at, plays_none (past ++ Got came ∷ []) brought (brought_only seal setup came brought all))
 
 pub plays_steps : {seal : Sealing} {setup : Setup} {a b : Session} {steps : List Step} {entries : List Entry} → Plays seal setup a b steps entries → PlaysSteps steps entries

@@ -19,7 +19,7 @@ use Rattle.media_model.specs.declared.entry.Side.{Side}
 use Rattle.media_model.specs.declared.entry.Side.TheVariants.{A, B}
 use Rattle.media_model.specs.Sides.{peer_of}
 use Rattle.run_model.specs.Runs.{Happening, events_of, Runs, SealsApart}
-use Rattle.run_model.specs.Whole.{Config, incoming_of, Session, Turns, writes, ticks, calls, opens, hears, stays, Played, session_of, IsSound, HeadsApart, RunsYieldExactly}
+use Rattle.run_model.specs.Whole.{Config, incoming_of, Session, Turns, writes, ticks, calls, requests, opens, hears, stays, Played, session_of, IsSound, HeadsApart, RunsYieldExactly}
 use Rattle.media_laws.proofs.Lists.{IsIn-map, IsIn-from_map}
 use Rattle.media_laws.proofs.Nonces.{apart_in}
 use Rattle.media_laws.proofs.RxTracks.{rx_tracks}
@@ -173,6 +173,7 @@ runs_yield_exactly C a b c entries side time bytes new sound heads h turn M i y 
         let rest : opened ssrc n p ∷ map yielded (yields C.types s.0 (lists_in s.1) ssrc n p) ≡ new = cc in
         so_opens ssrc n p s k (subst (λ z. Opens C.types s.0 (C.seals (peer_of side)) (lists_in s.1) z ssrc n p) there o) (subst (IsIn (yielded (as_packet y.1))) (sym rest) j)
     so all e (calls t items late others) j = absurd cc
+    so all e (requests t late) j = absurd cc
     so all e (hears t bs index items late report k) j = absurd cc
     so all e (stays t kind bs late out unread) j = absurd (let rest : new ≡ [] = cc in subst (IsIn (yielded (as_packet y.1))) rest j)
 
@@ -185,6 +186,7 @@ runs_yield_exactly C a b c entries side time bytes new sound heads h turn M i y 
         let rest : opened ssrc n p ∷ map yielded (yields C.types s.0 (lists_in s.1) ssrc n p) ≡ new = cc in
         subst (IsIn (yielded (as_packet y.1))) rest (yes_opens ssrc n p s k (subst (λ z. Opens C.types s.0 (C.seals (peer_of side)) (lists_in s.1) z ssrc n p) there o) widens)
     yes all e (calls t items late others) widens fresh = absurd cc
+    yes all e (requests t late) widens fresh = absurd cc
     yes all e (hears t bs index items late report k) widens fresh = absurd cc
     yes all e (stays t kind bs late out unread) widens fresh =
         let there : bs ≡ bytes = cc in

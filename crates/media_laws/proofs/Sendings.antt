@@ -40,7 +40,7 @@ use Rattle.media_laws.specs.Config.{config_of}
 use Rattle.media_laws.specs.Headline.{past_of, NoNonceTwice, IsSending, IsRepair, IsSentWrite, SendsWrites, TickAnswers, TickAnswersPartly}
 use Rattle.media_laws.specs.Opening.{Sealing}
 use Rattle.media_laws.specs.Plain.{extensions_of, Carries}
-use Rattle.media_laws.specs.Play.{IsBroughtBy, AreEntriesOf, wrote, ticked, called, got, Plays}
+use Rattle.media_laws.specs.Play.{IsBroughtBy, AreEntriesOf, wrote, ticked, called, requested, got, Plays}
 use Rattle.media_laws.specs.Right.{IsSealOf, IsRight, right_rtp, right_rtcp, IsRightSeal}
 use Rattle.media_laws.proofs.Playing.{packet_right, EachFrom-append, EachFrom-places, as_run, Taken, plays_more, each_taken, tick_answers}
 use Rattle.media_laws.proofs.Readings.{is_same, sealed_from, sealed_happens, writes_read, number_in, number_nonce, nonces_once}
@@ -132,6 +132,7 @@ all_right {seal} {setup} h = each_taken (AllRight seal setup) (λ s i. absurd i)
     right_new (called side time sender media payload x is) s (inl e) = absurd (cc e)
     right_new (called side time sender media payload x is) s (inr (inl e)) = let same : s ≡ x = cc e in subst (IsRight seal setup) (sym same) (packet_right is)
     right_new (called side time sender media payload x is) s (inr (inr i)) = absurd i
+    right_new (requested side time c by quiet) s i = absurd (elim i [ inl e ↦ cc e | inr j ↦ j ])
     right_new (got came brought at h) s (inl e) = absurd (cc e)
     right_new (got came brought at h) s (inr i) = absurd (brings_no_seal seal setup came brought s h i)
 
@@ -397,6 +398,7 @@ module _ {seal : Sealing} {setup : Setup} (sound : IsSound (config_of seal setup
     | inl e ↦ cc e
     | inr j ↦ elim j [ inl e ↦ let same : s ≡ x = cc e in not_both (sym rtp ∙ ap (λ (y : SealedEntry). y.kind) same ∙ seals.kind) | inr k ↦ k ]
   ])
+  of_step (requested side time c by quiet) t is = absurd (elim (there_in _ is) [ inl e ↦ cc e | inr j ↦ j ])
   of_step (got came brought at all) t is = absurd (elim (there_in _ is) [ inl e ↦ cc e | inr j ↦ brings_no_seal seal setup came brought s all j ])
 
 pub sends_writes : {seal : Sealing} {setup : Setup} {a b : Session} {steps : List Step} {entries : List Entry} → IsSound (config_of seal setup) → Plays seal setup a b steps entries → SendsWrites setup entries

@@ -156,6 +156,9 @@ type_in t rtx e = go t.rtx e
     go None h = absurd (false≢true h)
     go (Some x) h = inl (sym (eqb-true x rtx h))
 
+pub repairs_claimed : (t : PayloadType) (rtx : ℕ) → is_type rtx t.rtx ≡ true → IsIn rtx (claimed_in t)
+repairs_claimed t rtx e = inr (IsIn-left rtx (option_to_list t.rtx) (option_to_list t.red) (type_in t rtx e))
+
 module _ (pt rtx : ℕ) where
   found_type : (ts : List PayloadType) → option_and_then (λ (t : PayloadType). t.rtx) (find (has_type pt) ts) ≡ Some rtx → NoRepeat (flat_map claimed_in ts)
       → IsIn rtx (flat_map claimed_in ts) × (option_map (λ (t : PayloadType). t.pt) (find (repairs_as rtx) ts) ≡ Some pt)
@@ -165,12 +168,12 @@ module _ (pt rtx : ℕ) where
         | inl is ↦
             let own : t.rtx ≡ Some rtx = rw is at e in
             let repairs : repairs_as rtx t ≡ true = ap (is_type rtx) own ∙ eq-eqb rtx rtx refl in
-            (IsIn-left rtx (claimed_in t) (flat_map claimed_in ts) (inr (type_in t rtx repairs)), rw repairs (ap (λ n. Some n) (eqb-true t.pt pt is)))
+            (IsIn-left rtx (claimed_in t) (flat_map claimed_in ts) (repairs_claimed t rtx repairs), rw repairs (ap (λ n. Some n) (eqb-true t.pt pt is)))
         | inr is ↦
             let r = found_type ts (rw is at e) (NoRepeat-right (claimed_in t) (flat_map claimed_in ts) h) in (
               IsIn-right rtx (claimed_in t) (flat_map claimed_in ts) r.0,
               elim (tested (repairs_as rtx t)) [
-                | inl k ↦ absurd (apart_ends (claimed_in t) (flat_map claimed_in ts) rtx h (inr (type_in t rtx k)) r.0)
+                | inl k ↦ absurd (apart_ends (claimed_in t) (flat_map claimed_in ts) rtx h (repairs_claimed t rtx k) r.0)
                 | inr k ↦ rw k r.1
               ],
             )

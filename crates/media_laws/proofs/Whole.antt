@@ -19,7 +19,7 @@ use Rattle.media_model.specs.declared.entry.Side.{Side}
 use Rattle.media_model.specs.declared.entry.Side.TheVariants.{A, B}
 use Rattle.media_model.specs.Sides.{peer_of, same_side}
 use Rattle.run_model.specs.Runs.{Happening, events_of, on_side, Runs, begun as pair_begun, sends, receives}
-use Rattle.run_model.specs.Whole.{Config, incoming_of, probes, setup_of, Session, Turns, writes, ticks, calls, opens, hears, stays, Played, begun, of_a, of_b, session_of, CutsOff, Ends, at_step, in_tick, IsSound, RunsRepeatNoNonce, RunsYieldOnce, RunsYieldWrites, RunsAskTheDue, RunsAnswer, RunsAnswerPartly}
+use Rattle.run_model.specs.Whole.{Config, incoming_of, probes, setup_of, Session, Turns, writes, ticks, calls, requests, opens, hears, stays, Played, begun, of_a, of_b, session_of, CutsOff, Ends, at_step, in_tick, IsSound, RunsRepeatNoNonce, RunsYieldOnce, RunsYieldWrites, RunsAskTheDue, RunsAnswer, RunsAnswerPartly}
 use Rattle.media_laws.proofs.Lists.{IsIn-map, tested}
 use Rattle.media_laws.proofs.Tables.{begun_lines, AllPlay, Shares, and_one, serve_shares, Steps, no_steps, and_step, side_steps, clock_is, own_main, Sides, sides, serve_seals}
 use Rattle.media_laws.proofs.Nonces.{apart_in, no_nonce_twice}
@@ -40,6 +40,7 @@ turn_tx (ticks time new next late d f count) = table_ticks time late d
 turn_tx {C} {side} (opens time bytes ssrc n p s late i o) =
     table_passes (got time Rtp bytes ∷ opened ssrc n p ∷ map yielded (yields C.types s.0 (lists_in s.1) ssrc n p)) (late, (tt, yields_elsewhere time (yields C.types s.0 (lists_in s.1) ssrc n p)))
 turn_tx (calls time items late others) = table_passes (called time ∷ sealed_items _ items ∷ []) (late, (tt, tt))
+turn_tx (requests time late) = table_passes (called time ∷ []) (late, tt)
 turn_tx (hears time bytes index items late report h) = table_hears time bytes index items late h
 turn_tx (stays time kind bytes late out unread) = table_passes (got time kind bytes ∷ []) (late, tt)
 
@@ -48,6 +49,7 @@ turn_rx (writes time w late unused) = side_passes (wrote time w) tt
 turn_rx (ticks time new next late d f count) = side_ticks time new (serve_seals d.serves) f
 turn_rx (opens time bytes ssrc n p s late i o) = side_opens time bytes ssrc n p s i o
 turn_rx (calls time items late others) = side_calls time _ items
+turn_rx (requests time late) = side_passes (called time) tt
 turn_rx (hears time bytes index items late report h) = side_hears time bytes index items
 turn_rx (stays time kind bytes late out unread) = side_passes (got time kind bytes) tt
 
@@ -223,6 +225,7 @@ turn_streams {a = a} (writes time w late unused) apart = pass_streams (wrote tim
 turn_streams {a = a} (ticks time new next late d f count) apart = tick_streams time _ _ new (serve_seals d.serves) a.rx.table
 turn_streams {C} {side} {a} (opens time bytes ssrc n p s late i o) apart = opened_steps (setup_of C side) (C.seals (peer_of side)) time bytes ssrc n p s o a.rx.table i apart
 turn_streams {a = a} (calls time items late others) apart = pass_streams (called time ∷ sealed_items _ items ∷ []) (λ L. (tt, (tt, tt))) a.rx.table
+turn_streams {a = a} (requests time late) apart = pass_streams (called time ∷ []) (λ L. (tt, tt)) a.rx.table
 turn_streams {a = a} (hears time bytes index items late report h) apart = pass_streams (got time Rtcp bytes ∷ opened_items index items ∷ []) (λ L. (tt, (tt, tt))) a.rx.table
 turn_streams {a = a} (stays time kind bytes late out unread) apart = pass_streams (got time kind bytes ∷ []) (λ L. (tt, tt)) a.rx.table
 
@@ -389,6 +392,7 @@ turn_answers {C} {side} {a} events time new all e apart h (ticks t more next lat
 turn_answers events time new all e apart h (writes t w late unused) M i = absurd cc
 turn_answers events time new all e apart h (opens t bytes ssrc n p s late k o) M i = absurd cc
 turn_answers events time new all e apart h (calls t items late others) M i = absurd cc
+turn_answers events time new all e apart h (requests t late) M i = absurd cc
 turn_answers events time new all e apart h (hears t bytes index items late report k) M i = absurd cc
 turn_answers events time new all e apart h (stays t kind bytes late out unread) M i = absurd cc
 

@@ -1,5 +1,5 @@
 -- What the rules of a step say of the writes of a run.
-use Rattle.std.proofs.Common.{◌≡◌, inl, inr, ℕ, ◌≤◌, ◌^◌, Bool, true, false, not, cond, List, [], ◌∷◌, length, map, Option, Some, None, refl, sym, ◌∙◌, subst, arith}
+use Rattle.std.proofs.Common.{◌≡◌, inl, inr, ℕ, ◌≤◌, ◌^◌, Bool, true, false, not, cond, List, [], ◌∷◌, ◌++◌, length, Option, Some, None, refl, sym, ◌∙◌, subst, append_assoc, arith}
 use Rattle.std.specs.Prelude.{◌==◌, nat_lt, nat_le, find, is_some, option_to_list}
 use Rattle.std.specs.List.{flat_map, list_any}
 use Rattle.std.specs.Option.{option_map}
@@ -14,17 +14,17 @@ use Rattle.media_model.specs.declared.setup.Setup.{Setup}
 use Rattle.media_model.specs.declared.step.Step.{Step}
 use Rattle.media_model.specs.declared.step.Step.TheVariants.{Write}
 use Rattle.media_model.specs.Entries.{write_on, writes_on}
-use Rattle.media_model.specs.Setup.{pt_in, types_of as main_types, claimed_in, claimed_of, streams_of}
+use Rattle.media_model.specs.Setup.{written_in, types_of as main_types, claimed_in, claimed_of, streams_of}
 use Rattle.run_model.specs.Listing.{IsIn, NoRepeat}
 use Rattle.run_model.specs.Transcripts.{repairs_as, types_of}
 use Rattle.run_model.specs.Whole.{Session}
 use Rattle.media_laws.proofs.Lists.{IsIn-left, IsIn-right, IsIn-append, any-from_in, in-from_any, tested}
 use Rattle.media_laws.specs.declared.fault.StepFault.TheVariants.{UnknownStream, UnknownType, NumberTooBig, NumberUsed, PayloadTooLong}
 use Rattle.media_laws.specs.Opening.{Sealing}
-use Rattle.media_laws.specs.Play.{AreEntriesOf, wrote, ticked, called, got, Plays}
+use Rattle.media_laws.specs.Play.{AreEntriesOf, wrote, ticked, called, requested, got, Plays}
 use Rattle.media_laws.specs.Rules.{has, or_else, time_fault, write_fault, step_fault}
 use Rattle.media_laws.proofs.Playing.{NoSteps, seals_only, brought_only, each_taken}
-use Rattle.media_laws.proofs.Soundness.{NoRepeat-right, type_in, apart_ends}
+use Rattle.media_laws.proofs.Soundness.{NoRepeat-right, type_in, repairs_claimed, apart_ends}
 
 rule_none : {F : Type 0} (b : Bool) (fault : F) (other : Option F) → cond b (Some fault) other ≡ None → (b ≡ false) × (other ≡ None)
 rule_none true fault other e = absurd cc
@@ -95,34 +95,50 @@ writes_fit {seal} {setup} h =
         ]
     of_new (ticked s time sealed all) valid side r w i = absurd (subst (IsIn w) (no_writes side r sealed (seals_only seal setup sealed all)) i)
     of_new (called s time sender media payload x is) valid side r w i = absurd i
+    of_new (requested s time c by quiet) valid side r w i = absurd i
     of_new (got came brought at all) valid side r w i = absurd (subst (IsIn w) (no_writes side r brought (brought_only seal setup came brought all)) i)
 
 -- its type is claimed, and is no RTX type
 
-mains_claimed : (types : List PayloadType) (pt : ℕ) → IsIn pt (map pt_in types) → IsIn pt (flat_map claimed_in types)
+written_claimed : (t : PayloadType) (pt : ℕ) → IsIn pt (written_in t) → IsIn pt (claimed_in t)
+written_claimed t pt (inl e) = inl e
+written_claimed t pt (inr i) = inr (IsIn-right pt (option_to_list t.rtx) (option_to_list t.red) i)
+
+mains_claimed : (types : List PayloadType) (pt : ℕ) → IsIn pt (flat_map written_in types) → IsIn pt (flat_map claimed_in types)
 mains_claimed [] pt i = i
-mains_claimed (t ∷ types) pt (inl e) = inl e
-mains_claimed (t ∷ types) pt (inr i) = IsIn-right pt (claimed_in t) (flat_map claimed_in types) (mains_claimed types pt i)
+mains_claimed (t ∷ types) pt i = elim (IsIn-append pt (written_in t) (flat_map written_in types) i) [
+  | inl own ↦ IsIn-left pt (claimed_in t) (flat_map claimed_in types) (written_claimed t pt own)
+  | inr j ↦ IsIn-right pt (claimed_in t) (flat_map claimed_in types) (mains_claimed types pt j)
+]
 
 rtx_claimed : (types : List PayloadType) (pt : ℕ) → is_some (find (repairs_as pt) types) ≡ true → IsIn pt (flat_map claimed_in types)
 rtx_claimed [] pt e = absurd (false≢true e)
 rtx_claimed (t ∷ types) pt e =
     elim (tested (repairs_as pt t)) [
-      | inl k ↦ IsIn-left pt (claimed_in t) (flat_map claimed_in types) (inr (type_in t pt k))
+      | inl k ↦ IsIn-left pt (claimed_in t) (flat_map claimed_in types) (repairs_claimed t pt k)
       | inr k ↦ IsIn-right pt (claimed_in t) (flat_map claimed_in types) (rtx_claimed types pt (rw k at e))
     ]
 
-no_rtx : (types : List PayloadType) (pt : ℕ) → IsIn pt (map pt_in types) → NoRepeat (flat_map claimed_in types) → is_some (find (repairs_as pt) types) ≡ false
+-- what is written under a type is no repair under it
+not_both : (t : PayloadType) (ns : List ℕ) (pt : ℕ) → NoRepeat (claimed_in t ++ ns) → IsIn pt (written_in t) → IsIn pt (option_to_list t.rtx) → ⊥
+not_both t ns pt h (inl e) j =
+    h.0 (IsIn-left t.pt (option_to_list t.rtx ++ option_to_list t.red) ns (IsIn-left t.pt (option_to_list t.rtx) (option_to_list t.red) (subst (λ n. IsIn n (option_to_list t.rtx)) e j)))
+not_both t ns pt h (inr i) j =
+    apart_ends (option_to_list t.rtx) (option_to_list t.red ++ ns) pt (subst NoRepeat (append_assoc (option_to_list t.rtx) (option_to_list t.red) ns) h.1) j
+    (IsIn-left pt (option_to_list t.red) ns i)
+
+no_rtx : (types : List PayloadType) (pt : ℕ) → IsIn pt (flat_map written_in types) → NoRepeat (flat_map claimed_in types) → is_some (find (repairs_as pt) types) ≡ false
 no_rtx [] pt i h = absurd i
 no_rtx (t ∷ types) pt i h =
+    let parts = IsIn-append pt (written_in t) (flat_map written_in types) i in
     elim (tested (repairs_as pt t)) [
-      | inl k ↦ absurd (elim i [
-        | inl e ↦ h.0 (IsIn-left t.pt (option_to_list t.rtx) (flat_map claimed_in types) (subst (λ n. IsIn n (option_to_list t.rtx)) e (type_in t pt k)))
-        | inr j ↦ apart_ends (claimed_in t) (flat_map claimed_in types) pt h (inr (type_in t pt k)) (mains_claimed types pt j)
+      | inl k ↦ absurd (elim parts [
+        | inl own ↦ not_both t (flat_map claimed_in types) pt h own (type_in t pt k)
+        | inr j ↦ apart_ends (claimed_in t) (flat_map claimed_in types) pt h (repairs_claimed t pt k) (mains_claimed types pt j)
       ])
-      | inr k ↦ rw k (elim i [
-        | inl e ↦ elim (tested (is_some (find (repairs_as pt) types))) [
-          | inl u ↦ absurd (apart_ends (claimed_in t) (flat_map claimed_in types) pt h (inl e) (rtx_claimed types pt u))
+      | inr k ↦ rw k (elim parts [
+        | inl own ↦ elim (tested (is_some (find (repairs_as pt) types))) [
+          | inl u ↦ absurd (apart_ends (claimed_in t) (flat_map claimed_in types) pt h (written_claimed t pt own) (rtx_claimed types pt u))
           | inr u ↦ u
         ]
         | inr j ↦ no_rtx types pt j (NoRepeat-right (claimed_in t) (flat_map claimed_in types) h)

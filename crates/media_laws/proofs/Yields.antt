@@ -25,7 +25,7 @@ use Rattle.run_model.specs.Runs.{Happening, on_side, EachFrom as EachHappening, 
 use Rattle.run_model.specs.RxPlay.{lists_in}
 use Rattle.run_model.specs.TxPlay.{is_sealing}
 use Rattle.run_model.specs.Transcripts.{plain_in, sealed_event, opened_event, happening_of, happenings}
-use Rattle.run_model.specs.Whole.{Config, incoming_of, probes, IsSound, Session, Turns, writes, ticks, calls, opens, hears, stays}
+use Rattle.run_model.specs.Whole.{Config, incoming_of, probes, IsSound, Session, Turns, writes, ticks, calls, requests, opens, hears, stays}
 use Rattle.media_laws.proofs.Lists.{IsIn-right, IsIn-append, IsIn-map, IsIn-from_map, IsIn-flat_map, IsIn-from_flat_map, IsIn-filter, tested}
 use Rattle.media_laws.proofs.RxYields.{yields_new}
 use Rattle.media_laws.proofs.Tables.{serve_seals}
@@ -61,6 +61,7 @@ turn_yields : {C : Config} {side : Side} {a c : Session} {new : List Event} (pas
 turn_yields past packet l (writes time w late unused) i = absurd (elim i [ inl e ↦ cc e | inr j ↦ j ])
 turn_yields past packet l (ticks time new next late d f count) i = absurd (elim i [ inl e ↦ cc e | inr j ↦ false≢true (all_in is_sealing new (yielded packet) (serve_seals d.serves) j) ])
 turn_yields past packet l (calls time items late others) i = absurd (elim i [ inl e ↦ cc e | inr j ↦ elim j [ inl e ↦ cc e | inr k ↦ k ] ])
+turn_yields past packet l (requests time late) i = absurd (elim i [ inl e ↦ cc e | inr j ↦ j ])
 turn_yields past packet l (hears time bytes index items late report h) i = absurd (elim i [ inl e ↦ cc e | inr j ↦ elim j [ inl e ↦ cc e | inr k ↦ k ] ])
 turn_yields past packet l (stays time kind bytes late out unread) i = absurd (elim i [ inl e ↦ cc e | inr j ↦ j ])
 turn_yields past packet l (opens time bytes ssrc n p s late at o) (inl e) = absurd (cc e)

@@ -16,7 +16,7 @@ use Rattle.media_model.specs.declared.entry.Sealed.{Sealed as SealedEntry}
 use Rattle.media_model.specs.declared.entry.Entry.{Entry}
 use Rattle.media_model.specs.declared.entry.Entry.TheVariants.{Wrote, Ticked, Called, Got, Sealed, Yielded}
 use Rattle.media_model.specs.declared.step.Step.{Step}
-use Rattle.media_model.specs.declared.step.Step.TheVariants.{Write, Tick, Application}
+use Rattle.media_model.specs.declared.step.Step.TheVariants.{Write, Tick}
 use Rattle.media_model.specs.declared.setup.Setup.{Setup}
 use Rattle.media_model.specs.Genuine.{IsGenuine}
 use Rattle.media_model.specs.Sides.{peer_of}
@@ -40,7 +40,7 @@ use Rattle.media_laws.specs.Feedback.{SendsFeedback}
 use Rattle.media_laws.specs.Listing.{IsIn, NoRepeat, Each, EachStep}
 use Rattle.media_laws.specs.Opening.{Sealing}
 use Rattle.media_laws.specs.Plain.{extensions_of, read_header, Carries, as_packet}
-use Rattle.media_laws.specs.Play.{Brings, IsBroughtBy}
+use Rattle.media_laws.specs.Play.{Brings, IsBroughtBy, IsCallBy}
 use Rattle.media_laws.specs.Right.{IsRight, IsRightSeal}
 
 -- what happened on a side among these entries, as it is read
@@ -137,21 +137,27 @@ pub record Arrives (seal : Sealing) (setup : Setup) (past : List Entry) (came : 
   pub read : happenings setup chunk ≡ on_side came.side new
   pub receives : Receives seal setup past came new
 
--- a write brings nothing; a tick seals what it has to, and nothing else; a call seals its feedback, and nothing else; a datagram
--- that comes is opened, and its packet yielded, exactly where it opens
+-- a call seals its feedback, and nothing else; one that asks for what leaves in a later tick brings nothing
+abbrev pub AnswersCall : Sealing → Setup → Side → List Entry → Call → List Entry → Type 0
+AnswersCall seal setup side past call.Application chunk = SendsFeedback seal setup side past chunk
+AnswersCall seal setup side past call.Ask chunk = chunk ≡ []
+AnswersCall seal setup side past call.Remb chunk = chunk ≡ []
+
+-- a write brings nothing; a tick seals what it has to, and nothing else; a call what it has to; a datagram that comes is opened,
+-- and its packet yielded, exactly where it opens
 abbrev pub Answers : Sealing → Setup → List Entry → Entry → List Entry → Type 0
 Answers seal setup past (Wrote side time write) chunk = chunk ≡ []
 Answers seal setup past (Ticked side time) chunk = TickAnswers seal setup side past time chunk
-Answers seal setup past (Called side time call) chunk = SendsFeedback seal setup side past chunk
+Answers seal setup past (Called side time c) chunk = AnswersCall seal setup side past c chunk
 Answers seal setup past (Got got) chunk = Arrives seal setup past got chunk
 Answers seal setup past _ chunk = Unit {0}
 
 abbrev pub StepsAreAnswered : Sealing → Setup → List Entry → Type 0
 StepsAreAnswered seal setup entries = EachStep (Answers seal setup) entries
 
--- the last step, which finds a key used up: a call brings nothing, a tick what it seals until then
+-- the last step, which finds a key used up: a call that sends feedback brings nothing, a tick what it seals until then
 abbrev pub AnswersAtKey : Sealing → Setup → List Entry → List Entry → Type 0
-AnswersAtKey seal setup past (Called side time call ∷ chunk) = chunk ≡ []
+AnswersAtKey seal setup past (Called side time call.Application ∷ chunk) = chunk ≡ []
 AnswersAtKey seal setup past (Ticked side time ∷ chunk) = TickAnswersPartly seal setup side past chunk
 AnswersAtKey seal setup past told = ⊥
 
@@ -196,11 +202,6 @@ YieldsExactly setup past _ chunk = Unit {0}
 
 abbrev pub FirstSendingsAreYielded : Setup → List Entry → Type 0
 FirstSendingsAreYielded setup entries = EachStep (YieldsExactly setup) entries
-
--- a step has a side's application make this call
-abbrev pub IsCallBy : Side → ℕ → Call → Step → Type 0
-IsCallBy side time call.Application (Application s t sender media payload) = (s ≡ side) × (t ≡ time)
-IsCallBy side time call step = ⊥
 
 -- the steps among these entries are those of the script, in order: bytes that come are those that
 -- the step brings

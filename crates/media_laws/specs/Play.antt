@@ -1,5 +1,5 @@
 -- What a run brings, step by step.
-use Rattle.std.specs.Prelude.{◌≡◌, ◌<◌, ◌≤◌, ◌-◌, ◌^◌, ℕ, List, [], ◌∷◌, ◌++◌, slice_get, Some, None}
+use Rattle.std.specs.Prelude.{◌≡◌, ◌<◌, ◌≤◌, ◌-◌, ◌^◌, ℕ, Bool, true, false, List, [], ◌∷◌, ◌++◌, slice_get, Some, None}
 use Rattle.std.specs.List.{AllByRecursion}
 use Rattle.rtp_wire.specs.BytesLaws.{AreWords}
 use Rattle.media_model.specs.declared.entry.Side.{Side}
@@ -10,10 +10,11 @@ use Rattle.media_model.specs.declared.entry.Sealed.{Sealed as SealedEntry}
 use Rattle.media_model.specs.declared.entry.Entry.{Entry}
 use Rattle.media_model.specs.declared.entry.Entry.TheVariants.{Wrote, Ticked, Called, Got, Sealed, Opened, Yielded}
 use Rattle.media_model.specs.declared.step.Step.{Step}
-use Rattle.media_model.specs.declared.step.Step.TheVariants.{Write, Tick, Deliver, Foreign, Application}
+use Rattle.media_model.specs.declared.step.Step.TheVariants.{Write, Tick, Deliver, Foreign, Application, Ask, Remb}
 use Rattle.media_model.specs.declared.setup.Setup.{Setup}
 use Rattle.media_model.specs.Sides.{peer_of}
 use Rattle.media_model.specs.Entries.{datagrams}
+use Rattle.media_model.specs.declared.entry.Call.{Call}
 use Rattle.media_model.specs.declared.entry.Call.TheVariants as call
 use Rattle.run_model.specs.Events.{Event}
 use Rattle.run_model.specs.Runs.{on_side}
@@ -39,6 +40,19 @@ IsBroughtBy seal setup came (Opened o) = IsOpening seal setup came o
 IsBroughtBy seal setup came (Yielded side packet) = Unit {0}
 IsBroughtBy seal setup came _ = ⊥
 
+-- a step has a side's application make this call
+abbrev pub IsCallBy : Side → ℕ → Call → Step → Type 0
+IsCallBy side time call.Application (Application s t sender media payload) = (s ≡ side) × (t ≡ time)
+IsCallBy side time call.Ask (Ask s t ssrc kind) = (s ≡ side) × (t ≡ time)
+IsCallBy side time call.Remb (Remb s t ssrc rate) = (s ≡ side) × (t ≡ time)
+IsCallBy side time call step = ⊥
+
+-- what it asks for leaves in a later tick
+abbrev pub is_request : Call → Bool
+is_request call.Application = false
+is_request call.Ask = true
+is_request call.Remb = true
+
 -- the entries of a step: its own one first, and behind it what it brings
 pub data AreEntriesOf (seal : Sealing) (setup : Setup) (entries : List Entry) : Side → Step → List Entry → Type 0 where
   wrote : (side : Side) (time : ℕ) (w : Writing) → w.ssrc < 2 ^ 32 → w.rtp_time < 2 ^ 32 → AreWords w.csrc
@@ -49,6 +63,8 @@ pub data AreEntriesOf (seal : Sealing) (setup : Setup) (entries : List Entry) : 
       → IsSealOfPacket seal setup side entries (application_packet sender media payload) s
       → AreEntriesOf seal setup entries side (Application side time sender media payload)
       (Called side time call.Application ∷ Sealed s ∷ [])
+  requested : {step : Step} (side : Side) (time : ℕ) (c : Call) → IsCallBy side time c step → is_request c ≡ true
+      → AreEntriesOf seal setup entries side step (Called side time c ∷ [])
   got : {step : Step} (came : GotEntry) (brought : List Entry) → Brings entries came step
       → AllByRecursion (IsBroughtBy seal setup came) brought
       → AreEntriesOf seal setup entries came.side step (Got came ∷ brought)

@@ -45,7 +45,7 @@ setup = record {
   a = record { ssrc = 1; srtcp_index = 0 };
   b = record { ssrc = 2; srtcp_index = 0 };
   exts = [];
-  types = record { pt = 96; codec = Vp8; rate = 90000; rtx = Some 97 } ∷ [];
+  types = record { pt = 96; codec = Vp8; rate = 90000; rtx = Some 97; red = None; pli = true; fir = true } ∷ [];
   media = record {
     mid = 48 ∷ [];
     kind = Video;

@@ -5,7 +5,7 @@ use Rattle.media_model.specs.declared.entry.Side.{Side}
 use Rattle.media_model.specs.declared.entry.Write.{Write as Writing}
 use Rattle.media_model.specs.declared.entry.Entry.{Entry}
 use Rattle.media_model.specs.declared.step.Step.{Step}
-use Rattle.media_model.specs.declared.step.Step.TheVariants.{Write, Tick, Deliver, Foreign, Application}
+use Rattle.media_model.specs.declared.step.Step.TheVariants.{Write, Tick, Deliver, Foreign, Application, Ask, Remb}
 use Rattle.media_model.specs.declared.setup.Setup.{Setup}
 use Rattle.media_model.specs.Sides.{peer_of}
 use Rattle.media_model.specs.Setup.{streams_of, types_of}
@@ -40,6 +40,10 @@ abbrev pub deliver_rules : List Entry → Side → ℕ → List (Bool × StepFau
 deliver_rules entries side k =
     ((k == 0) || nat_lt (length (datagrams (peer_of side) entries)) k, UnknownDatagram) ∷ []
 
+-- the main SSRC of a stream that the side receives
+abbrev pub request_rules : Setup → Side → ℕ → List (Bool × StepFault)
+request_rules setup side ssrc = (not (has (streams_of (peer_of side) setup) ssrc), UnknownStream) ∷ []
+
 -- the first of them that is broken
 abbrev pub time_fault : List Entry → ℕ → Option StepFault
 time_fault entries time = first_fault (time_rules entries time)
@@ -50,6 +54,9 @@ write_fault setup entries side w = first_fault (write_rules setup entries side w
 abbrev pub deliver_fault : List Entry → Side → ℕ → Option StepFault
 deliver_fault entries side k = first_fault (deliver_rules entries side k)
 
+abbrev pub request_fault : Setup → Side → ℕ → Option StepFault
+request_fault setup side ssrc = first_fault (request_rules setup side ssrc)
+
 -- the rules of times stand before all others
 abbrev pub step_fault : Setup → List Entry → Step → Option StepFault
 step_fault setup entries (Write side time write) =
@@ -59,3 +66,5 @@ step_fault setup entries (Deliver side time k) =
     or_else (time_fault entries time) (deliver_fault entries side k)
 step_fault setup entries (Foreign side time kind bytes) = time_fault entries time
 step_fault setup entries (Application side time sender media payload) = time_fault entries time
+step_fault setup entries (Ask side time ssrc kind) = or_else (time_fault entries time) (request_fault setup side ssrc)
+step_fault setup entries (Remb side time ssrc rate) = or_else (time_fault entries time) (request_fault setup side ssrc)

@@ -1,5 +1,5 @@
 -- What a setup gives to a run.
-use Rattle.std.specs.Prelude.{ℕ, Bool, ◌&&◌, ◌==◌, nat_le, List, ◌∷◌, map, find, replicate, option_to_list, Option, Some, None, if◌then◌else◌}
+use Rattle.std.specs.Prelude.{ℕ, Bool, ◌&&◌, ◌==◌, nat_le, List, ◌∷◌, ◌++◌, find, replicate, option_to_list, Option, Some, None, if◌then◌else◌}
 use Rattle.std.specs.List.{flat_map, filter_map, fold}
 use Rattle.std.specs.Option.{option_map_or}
 use Rattle.rtp_wire.specs.declared.extension.ExtensionMap.{ExtensionMap}
@@ -46,16 +46,17 @@ streams_in side media = filter_map (main_in side) media.streams
 abbrev pub streams_of : Side → Setup → List ℕ
 streams_of side setup = flat_map (streams_in side) setup.media
 
-abbrev pub pt_in : PayloadType → ℕ
-pt_in t = t.pt
+-- a type, and that of its redundant data where it has one
+abbrev pub written_in : PayloadType → List ℕ
+written_in t = t.pt ∷ option_to_list t.red
 
 -- the payload types of what is written
 abbrev pub types_of : Setup → List ℕ
-types_of setup = map pt_in setup.types
+types_of setup = flat_map written_in setup.types
 
--- a type, and that of its repairs where it has one
+-- a type, that of its repairs and that of its redundant data where it has them
 abbrev pub claimed_in : PayloadType → List ℕ
-claimed_in t = t.pt ∷ option_to_list t.rtx
+claimed_in t = t.pt ∷ (option_to_list t.rtx ++ option_to_list t.red)
 
 -- the payload types that are claimed
 abbrev pub claimed_of : Setup → List ℕ

@@ -55,6 +55,13 @@ pub struct PayloadType {
     pub rate: u32,
     /// The type of its repairs (RFC 4588 section 8.1), at most 127 in a run.
     pub rtx: Option<Pt>,
+    /// The type of its redundant data (RFC 2198 section 4), at most 127 in a run. What is written under
+    /// it is a packet like any other, without repairs.
+    pub red: Option<Pt>,
+    /// Whether a PLI may ask for a key frame of it (RFC 4585 section 6.3.1). Nothing in a run depends on it.
+    pub pli: bool,
+    /// Whether a FIR may ask for one (RFC 5104 section 4.3.1). Nothing in a run depends on it.
+    pub fir: bool,
 }
 
 /// What a media line carries.
@@ -277,14 +284,23 @@ impl Setup {
         exts
     }
 
-    /// The payload types of what is written, in order.
+    /// The payload types of what is written, in order: each type, and that of its redundant data where it
+    /// has one.
     pub fn types(&self, alloc: Global) -> Result<Vec<Pt>, AllocError>
         ensures { IfOk result (λ v. v.items ≡ types_of self.now) }
     {
-        self.types.as_slice().iter().map(|t| t.pt).collect(alloc)
+        let mut types = Vec::new(alloc);
+        for payload_type in self.types.as_slice() {
+            types.push(payload_type.pt)?;
+            if let Some(red) = payload_type.red {
+                types.push(red)?;
+            }
+        }
+        Ok(types)
     }
 
-    /// The payload types that are claimed, in order: each type, and that of its repairs where it has one.
+    /// The payload types that are claimed, in order: each type, that of its repairs and that of its
+    /// redundant data where it has them.
     pub fn claimed_types(&self, alloc: Global) -> Result<Vec<Pt>, AllocError>
         ensures { IfOk result (λ v. v.items ≡ claimed_of self.now) }
     {
@@ -293,6 +309,9 @@ impl Setup {
             claimed.push(payload_type.pt)?;
             if let Some(rtx) = payload_type.rtx {
                 claimed.push(rtx)?;
+            }
+            if let Some(red) = payload_type.red {
+                claimed.push(red)?;
             }
         }
         Ok(claimed)

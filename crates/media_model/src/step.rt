@@ -1,6 +1,7 @@
 use crate::application::ApplicationData;
 use crate::entry::{Side, Write};
-use media_base::{Bytes, Instant};
+use media_base::{Bitrate, Bytes, Instant};
+use rtp_base::KeyframeRequestKind;
 use rtp_wire::{Kind, Ssrc};
 
 /// What a script has one side do.
@@ -39,5 +40,23 @@ pub enum Step {
         /// The SSRC that it is about.
         media: Ssrc,
         payload: ApplicationData,
+    },
+    /// Its application asks the sender of a stream for a key frame (RFC 4585 section 6.3.1, RFC 5104
+    /// section 4.3.1).
+    Ask {
+        side: Side,
+        time: Instant,
+        /// The main SSRC of the stream.
+        ssrc: Ssrc,
+        kind: KeyframeRequestKind,
+    },
+    /// Its application tells the sender of a stream the greatest rate at which it is to come
+    /// (draft-alvestrand-rmcat-remb).
+    Remb {
+        side: Side,
+        time: Instant,
+        /// The main SSRC of the stream.
+        ssrc: Ssrc,
+        rate: Bitrate,
     },
 }

@@ -15,6 +15,7 @@ use Rattle.session_core.specs.declared.datagram.Opened.{Opened as Opening}
 use Rattle.session_core.specs.declared.error.RtcError.{RtcError}
 use Rattle.session_core.specs.declared.error.RtcError.TheVariants.{Memory, Stopped, KeyExhausted, RepairsExhausted, KeyLength}
 use Rattle.session_core.specs.Calls.{told}
+use Rattle.session_core.specs.News.{NewsRecord, keyframe_event, sender_event, rate_event, news_told}
 use Rattle.session_core.specs.Draining.{IsDrainCut, at_poll, between_polls, IsCutOff, at_event, later}
 use Rattle.rtp_wire.specs.declared.header.RtpHeader.{RtpHeader}
 use Rattle.session_core.specs.Receiving.{Receives, opened, repaired, stays, cut, after_repair, after_restoring}
@@ -35,7 +36,7 @@ use Rattle.media_laws.specs.Exhausting.{IsCutTick}
 use Rattle.media_laws.specs.Keys.{sealing_of}
 use Rattle.media_play.specs.declared.fault.StepError.{StepError}
 use Rattle.media_play.specs.Errors.{cut_as}
-use Rattle.media_play.specs.Packets.{seals_from, packet_in}
+use Rattle.media_play.specs.Packets.{seals_from, packet_after, packet_in}
 use Rattle.media_play.specs.Sessions.{EndState, ReadyAt, IsTickCause}
 use Rattle.media_play.proofs.Rightly.{sent_read, right_seals}
 
@@ -97,15 +98,38 @@ keeps {r = r} {now = now} (repaired h original n payload opens) =
     record { sealing = k.sealing; opening = k.opening; application = k.application }
 keeps (stays main others) = record { sealing = refl; opening = refl; application = refl }
 
-paused_only : (ps : List StreamPaused) (q : Option Packet) → packet_in (map Paused ps ++ option_to_list (option_map RtpPacket q)) None ≡ q
-paused_only [] None = refl
-paused_only [] (Some q) = refl
-paused_only (p ∷ ps) q = paused_only ps q
+packet_in-append : (xs ys : List Event) (q : Option Packet) → packet_in (xs ++ ys) q ≡ packet_in ys (packet_in xs q)
+packet_in-append [] ys q = refl
+packet_in-append (x ∷ xs) ys q = packet_in-append xs ys (packet_after x q)
+
+none_in : {X : Type 0} (event : X → Event) → ((x : X) (q : Option Packet) → packet_after (event x) q ≡ q) → (xs : List X) (q : Option Packet) → packet_in (map event xs) q ≡ q
+none_in event none [] q = refl
+none_in event none (x ∷ xs) q = ap (packet_in (map event xs)) (none x q) ∙ none_in event none xs q
+
+-- what the peer asks and tells of streams is no packet
+none_in_news : (n : NewsRecord) (q : Option Packet) → packet_in (news_told n) q ≡ q
+none_in_news n q =
+    let keyframes = map keyframe_event n.keyframes in
+    let senders = map sender_event n.senders in
+    let rates = map rate_event n.rates in
+    packet_in-append keyframes (senders ++ rates) q
+    ∙ ap (packet_in (senders ++ rates)) (none_in keyframe_event (λ x p. refl) n.keyframes q)
+    ∙ packet_in-append senders rates q
+    ∙ ap (packet_in rates) (none_in sender_event (λ x p. refl) n.senders q)
+    ∙ none_in rate_event (λ x p. refl) n.rates q
+
+abbrev behind_application : SessionRecord → List Event
+behind_application s = map Paused (pauses s.rx) ++ (option_to_list (option_map RtpPacket s.state.packet) ++ news_told s.state.news)
+
+paused_only : (ps : List StreamPaused) (q : Option Packet) (n : NewsRecord) → packet_in (map Paused ps ++ (option_to_list (option_map RtpPacket q) ++ news_told n)) None ≡ q
+paused_only [] None n = none_in_news n None
+paused_only [] (Some q) n = none_in_news n (Some q)
+paused_only (p ∷ ps) q n = paused_only ps q n
 
 -- where there are keys and no feedback of an application waits, the packet that is told is the one that waits
 pub told_packet : (s : SessionRecord) {a b : SrtpState} → s.state.sealing ≡ Some a → s.state.opening ≡ Some b → s.state.application ≡ None → packet_in (told s) None ≡ s.state.packet
 told_packet s seals keyed empty =
-    ap {A = Bool} {B = Option Packet} (λ b. packet_in (cond b [] (option_to_list (option_map Application s.state.application) ++ (map Paused (pauses s.rx) ++ option_to_list (option_map RtpPacket s.state.packet)))) None)
+    ap {A = Bool} {B = Option Packet} (λ b. packet_in (cond b [] (option_to_list (option_map Application s.state.application) ++ behind_application s)) None)
     (ap (λ x. is_none x || is_none s.state.opening) seals ∙ ap is_none keyed)
-    ∙ ap {A = Option AppSpecificFeedback} {B = Option Packet} (λ a. packet_in (option_to_list (option_map Application a) ++ (map Paused (pauses s.rx) ++ option_to_list (option_map RtpPacket s.state.packet))) None) empty
-    ∙ paused_only (pauses s.rx) s.state.packet
+    ∙ ap {A = Option AppSpecificFeedback} {B = Option Packet} (λ a. packet_in (option_to_list (option_map Application a) ++ behind_application s) None) empty
+    ∙ paused_only (pauses s.rx) s.state.packet s.state.news

@@ -23,7 +23,7 @@ use Rattle.run_model.specs.Receiving.{yields}
 use Rattle.run_model.specs.RxPlay.{lists_in}
 use Rattle.run_model.specs.Runs.{Happening, event_of, events_of, on_side}
 use Rattle.run_model.specs.Transcripts.{happening_of, happenings, sealed_event, opened_event}
-use Rattle.run_model.specs.Whole.{Config, Session, Counts, index_of, indices, Turns, writes, ticks, calls, opens, hears, stays}
+use Rattle.run_model.specs.Whole.{Config, Session, Counts, index_of, indices, Turns, writes, ticks, calls, requests, opens, hears, stays}
 use Rattle.media_laws.specs.Feedback.{next_index}
 use Rattle.media_laws.specs.Opening.{Sealing}
 use Rattle.media_laws.specs.Play.{Plays, begins, by_a, by_b}
@@ -42,6 +42,7 @@ turn_counts : {C : Config} {side : Side} {a c : Session} {events : List Event} �
 turn_counts (writes time w late unused) = omega arith
 turn_counts {a = a} (ticks time new next late drains feedback counts) = counted a.rtcp (indices new) next counts
 turn_counts (calls time items late others) = omega arith
+turn_counts (requests time late) = omega arith
 turn_counts {C = C} (opens time bytes ssrc n p s late there o) =
     let none = ap (λ (is : List ℕ). length is) (none_yielded (yields C.types s.0 (lists_in s.1) ssrc n p)) in omega (arith, none)
 turn_counts (hears time bytes index items late report h) = omega arith

@@ -7,6 +7,7 @@ pub mod Turned
 pub mod Rightly
 pub mod Knowings
 pub mod Putting
+pub mod Requesting
 pub mod Cutting
 pub mod Steps
 pub mod Cuts

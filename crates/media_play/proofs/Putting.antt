@@ -1,8 +1,8 @@
 -- A write whose number is not used is a turn of an end.
-use Rattle.std.proofs.Common.{◌≡◌, inl, inr, ℕ, ◌<◌, ◌^◌, Bool, true, false, not, cond, ◌||◌, leb, ltb, List, [], ◌∷◌, ◌++◌, length, map, Some, None, Option, refl, sym, ap, ◌∙◌, subst, arith}
-use Rattle.std.specs.Prelude.{◌==◌, nat_lt, option_to_list}
+use Rattle.std.proofs.Common.{◌≡◌, ℕ, ◌<◌, ◌^◌, Bool, true, false, not, cond, ◌||◌, leb, ltb, List, [], ◌∷◌, ◌++◌, length, Some, None, Option, refl, sym, ap, ◌∙◌, subst}
+use Rattle.std.specs.Prelude.{◌==◌, nat_lt}
 use Rattle.std.specs.List.{list_any, flat_map, AllByRecursion}
-use Rattle.std.proofs.lemmas.Bool.{eqb-true, not-false, leb-false, ltb-false, false≢true}
+use Rattle.std.proofs.lemmas.Bool.{eqb-true, not-false, leb-false, ltb-false}
 use Rattle.srtp_core.specs.Cipher.{CipherMeaning}
 use Rattle.srtp_core.specs.Keys.{material_len}
 use Rattle.stream_core.specs.Tables.{place_of, change_place}
@@ -17,7 +17,7 @@ use Rattle.media_model.specs.declared.entry.Entry.TheVariants.{Wrote}
 use Rattle.media_model.specs.declared.setup.PayloadType.{PayloadType}
 use Rattle.media_model.specs.declared.setup.Setup.{Setup}
 use Rattle.media_model.specs.Entries.{writes_on}
-use Rattle.media_model.specs.Setup.{streams_of, types_of, claimed_in, claimed_of, material_of, pt_in}
+use Rattle.media_model.specs.Setup.{streams_of, types_of, claimed_in, claimed_of, written_in, material_of}
 use Rattle.run_model.specs.Events.{wrote}
 use Rattle.run_model.specs.Tables.{Table}
 use Rattle.run_model.specs.Whole.{Session}
@@ -33,7 +33,10 @@ use Rattle.media_play.specs.Ends.{EndSession, SessionStands}
 use Rattle.media_play.specs.Knowing.{IsNoted, IsWrittenIn}
 use Rattle.media_play.specs.Sessions.{EndState, ReadyAt, TurnsOn}
 use Rattle.media_play.proofs.Knowings.{cond_none, distinct, stream_at, used_after}
-use Rattle.media_play.proofs.Lists.{tested}
+use Rattle.run_model.specs.Listing.{IsIn}
+use Rattle.media_play.proofs.Lists.{in-from_any}
+use Rattle.media_play.proofs.StartingFit.{small_type}
+use Rattle.media_play.proofs.StartingSetup.{types_claimed}
 use Rattle.media_play.proofs.Turned.{turned}
 use Rattle.media_play.proofs.Written.{turn_wrote, wrote_all, unused_all}
 
@@ -56,23 +59,10 @@ types_small setup e =
     let type = fault_none (list_any (nat_lt 127) (claimed_of setup) || repeats (claimed_of setup)) TypeTwice _ ids.1 in
     (neither _ _ type.0).0
 
-none_right : (p : ℕ → Bool) (xs ys : List ℕ) → list_any p (xs ++ ys) ≡ false → list_any p ys ≡ false
-none_right p [] ys e = e
-none_right p (x ∷ xs) ys e = elim (tested (p x)) [ inl t ↦ absurd (false≢true (sym (rw t at e))) | inr t ↦ none_right p xs ys (rw t at e) ]
-
-type_small : (pt : ℕ) (ts : List PayloadType) → list_any (nat_lt 127) (flat_map claimed_in ts) ≡ false → has (map pt_in ts) pt ≡ true → pt < 2 ^ 7
-type_small pt [] e h = absurd (false≢true h)
-type_small pt (t ∷ ts) e h =
-    elim (tested (nat_lt 127 t.pt)) [
-      | inl k ↦ absurd (false≢true (sym (rw k at e)))
-      | inr k ↦ elim (tested (t.pt == pt)) [
-        | inl is ↦
-            let same = eqb-true t.pt pt is in
-            let low = ltb-false 127 t.pt k in
-            omega (arith, same, low)
-        | inr other ↦ type_small pt ts (none_right (nat_lt 127) (option_to_list t.rtx) (flat_map claimed_in ts) (rw k at e)) (rw other at h)
-      ]
-    ]
+type_small : (pt : ℕ) (ts : List PayloadType) → list_any (nat_lt 127) (flat_map claimed_in ts) ≡ false → has (flat_map written_in ts) pt ≡ true → pt < 2 ^ 7
+type_small pt ts e h =
+    let f = in-from_any (λ n. n == pt) (flat_map written_in ts) h in
+    small_type (flat_map claimed_in ts) pt e (types_claimed ts pt (subst (λ n. IsIn n (flat_map written_in ts)) (eqb-true f.0 pt f.2) f.1))
 
 -- what the rules say of a write
 

@@ -22,7 +22,8 @@ use Rattle.session_turns.specs.Reading.{sealing_of as seals_of}
 use Rattle.session_turns.specs.Mirrors.{TxMirrors, MirrorsRepairs, MirrorsCap, RxMirrors, RxStands, rx_mirror, Mirrors}
 use Rattle.media_model.specs.declared.entry.Side.{Side}
 use Rattle.media_model.specs.declared.setup.Setup.{Setup}
-use Rattle.media_model.specs.Setup.{material_of, local_of, streams_of}
+use Rattle.media_model.specs.Setup.{material_of, local_of, streams_of, types_of as type_numbers}
+use Rattle.run_model.specs.Listing.{NoRepeat}
 use Rattle.media_model.specs.Sides.{peer_of}
 use Rattle.run_model.specs.Events.{Outgoing, Incoming}
 use Rattle.run_model.specs.Listing.{IsIn}
@@ -38,7 +39,7 @@ use Rattle.media_play.specs.Ends.{EndSession}
 use Rattle.media_play.specs.Starting.{AreOnce, ssrcs_in, IsIdle, kept_for, kept_in, Begun, Starts, IsStarted}
 use Rattle.media_play.proofs.StartingLists.{zip_keys, zip_map, place_in, value_first, value_next, NoRepeat-right}
 use Rattle.media_play.proofs.StartingFit.{fits}
-use Rattle.media_play.proofs.StartingSetup.{Facts, mains_of, same_types, places}
+use Rattle.media_play.proofs.StartingSetup.{Facts, mains_of, same_types, type_places}
 
 cap_new : (L : Outgoing) (cap : Option ℕ) → L.cap ≡ cap → MirrorsCap 0 L (new_tx L) (recapped cap (Some (uncounted 15)))
 cap_new L None is = is
@@ -113,9 +114,9 @@ module _ (cipher : CipherMeaning) (setup : Setup) (side : Side) where
       ap (λ (n : ℕ). (ssrc == n) || has (streams_of side setup) ssrc) (sym b.local_ssrc)
       ∙ ap (λ (x : Bool). (ssrc == s.state.local_ssrc) || x) (sym (place_in ssrc (keys_of s.state.tx) ∙ ap (λ ns. has ns ssrc) keys))
 
-  begun_mirrors : (s : SessionRecord) → (local_of side setup).srtcp_index ≤ 2 ^ 31 → AreOnce (outgoing_of side setup) → Begun cipher setup side (outgoing_of side setup) (outgoing_of (peer_of side) setup) s
-      → Mirrors cipher (config_of (sealing_of cipher setup) setup) side s (new_session (config_of (sealing_of cipher setup) setup) side)
-  begun_mirrors s bounded once b =
+  begun_mirrors : (s : SessionRecord) → (local_of side setup).srtcp_index ≤ 2 ^ 31 → AreOnce (outgoing_of side setup) → NoRepeat (type_numbers setup)
+      → Begun cipher setup side (outgoing_of side setup) (outgoing_of (peer_of side) setup) s → Mirrors cipher (config_of (sealing_of cipher setup) setup) side s (new_session (config_of (sealing_of cipher setup) setup) side)
+  begun_mirrors s bounded once types b =
       let own = new_state cipher setup.profile (material_of setup) (is_left side) (local_of side setup).srtcp_index in
       let other = new_state cipher setup.profile (material_of setup) (is_left (peer_of side)) 0 in
       let outs = outgoing_of side setup in
@@ -131,7 +132,7 @@ module _ (cipher : CipherMeaning) (setup : Setup) (side : Side) where
         other_reports = refl;
         index = refl;
         bounded = bounded;
-        types = sym (same_types s.state.types setup b.types);
+        types = sym (same_types s.state.types setup types b.types);
         trip = ap {A = Beginning} {B = ℕ → Delay → Option ℕ} (λ at now d. trip_of (ntp_nanos at.unix_secs now) d) (sym b.beginning);
         owns = λ i ssrc. same_owns s b ssrc i;
         outgoing = firsts_of new_tx outs;
@@ -155,8 +156,8 @@ module _ (cipher : CipherMeaning) (setup : Setup) (side : Side) where
   started v f h = record {
     session = h.session;
     stands = h.stands;
-    mirrors = begun_mirrors h.session h.bounded (f.once side) h.begun;
-    types = λ pt. places pt h.session.state.types setup.types h.begun.types;
+    mirrors = begun_mirrors h.session h.bounded (f.once side) f.types h.begun;
+    types = λ pt. type_places pt h.session.state.types setup.types h.begun.types;
     exts = h.begun.exts;
     intervals = h.begun.intervals;
     runs = h.begun.runs;

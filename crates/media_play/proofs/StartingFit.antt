@@ -87,11 +87,11 @@ wide_lines (L ∷ Ls) words h = (
 claimed_type : (pt rtx : ℕ) (ts : List PayloadType) → option_and_then (λ (t : PayloadType). t.rtx) (find (has_type pt) ts) ≡ Some rtx → IsIn rtx (flat_map claimed_in ts)
 claimed_type pt rtx [] e = absurd cc
 claimed_type pt rtx (t ∷ ts) e = elim (tested (has_type pt t)) [
-  | inl is ↦ IsIn-left rtx (claimed_in t) (flat_map claimed_in ts) (inr (given_in rtx t.rtx (rw is at e)))
+  | inl is ↦ IsIn-left rtx (claimed_in t) (flat_map claimed_in ts) (inr (IsIn-left rtx (option_to_list t.rtx) (option_to_list t.red) (given_in rtx t.rtx (rw is at e))))
   | inr is ↦ IsIn-right rtx (claimed_in t) (flat_map claimed_in ts) (claimed_type pt rtx ts (rw is at e))
 ]
 
-small_type : (ns : List ℕ) (n : ℕ) → list_any (nat_lt 127) ns ≡ false → IsIn n ns → n < 2 ^ 7
+pub small_type : (ns : List ℕ) (n : ℕ) → list_any (nat_lt 127) ns ≡ false → IsIn n ns → n < 2 ^ 7
 small_type ns n none i = elim (tested (nat_lt 127 n)) [
   | inl t ↦ absurd (false≢true (sym none ∙ any-from_in (nat_lt 127) n ns i t))
   | inr t ↦ omega (arith, ltb-false 127 n t)

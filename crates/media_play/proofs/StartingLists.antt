@@ -17,7 +17,7 @@ use Rattle.run_model.specs.Events.{Outgoing}
 use Rattle.media_laws.specs.Rules.{has}
 use Rattle.media_play.specs.Starting.{ssrcs_in, AreOnce}
 
-NoRepeat-left : {X : Type 0} (xs ys : List X) → NoRepeat (xs ++ ys) → NoRepeat xs
+pub NoRepeat-left : {X : Type 0} (xs ys : List X) → NoRepeat (xs ++ ys) → NoRepeat xs
 NoRepeat-left [] ys h = tt
 NoRepeat-left (x ∷ xs) ys h = (λ i. h.0 (IsIn-left x xs ys i), NoRepeat-left xs ys h.1)
 

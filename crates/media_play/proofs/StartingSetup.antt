@@ -6,7 +6,8 @@ use Rattle.std.specs.Map.{keys_of}
 use Rattle.std.specs.Option.{option_map}
 use Rattle.std.proofs.lemmas.Bool.{eqb-true, eq-eqb, false≢true, not-false, leb-true, ltb-false, and_parts}
 use Rattle.std.proofs.lemmas.List.Elements.{filter_map-append}
-use Rattle.std.proofs.lemmas.List.{map-append, take_more, take-append-drop}
+use Rattle.std.proofs.lemmas.List.{map-append, take_more, take-append-drop, flat_map_more}
+use Rattle.std.proofs.lemmas.List.Concat.{flat_map-append}
 use Rattle.indexmap.specs.IndexMap.{insert_entry}
 use Rattle.media_model.specs.declared.setup.Mtu.{Mtu}
 use Rattle.stream_core.specs.declared.payload_types.TypeRow.{TypeRow}
@@ -20,7 +21,7 @@ use Rattle.media_model.specs.declared.setup.PayloadType.{PayloadType}
 use Rattle.media_model.specs.declared.setup.Stream.{Stream}
 use Rattle.media_model.specs.declared.setup.Media.{Media}
 use Rattle.media_model.specs.declared.setup.Setup.{Setup}
-use Rattle.media_model.specs.Setup.{material_of, claimed_in, claimed_of, pt_in, main_in, streams_in, streams_of, types_of as type_numbers}
+use Rattle.media_model.specs.Setup.{material_of, claimed_in, claimed_of, written_in, main_in, streams_in, streams_of, types_of as type_numbers}
 use Rattle.media_model.specs.Sides.{same_side}
 use Rattle.setup_rules.specs.declared.fault.SetupFault.{SetupFault}
 use Rattle.setup_rules.specs.declared.fault.SetupFault.TheVariants.{KeyLength, Mtu as MtuRule, Times, ExtId, TypeTwice, SsrcZero, SsrcTwice}
@@ -30,8 +31,8 @@ use Rattle.run_model.specs.Listing.{IsIn, NoRepeat}
 use Rattle.run_model.specs.Transcripts.{types_of, has_type, is_type, repairs_as, outgoing_in, outgoing_of}
 use Rattle.media_play.proofs.Lists.{IsIn-left, IsIn-right, IsIn-append, tested, any-from_in}
 use Rattle.media_laws.specs.Rules.{has}
-use Rattle.media_play.specs.Starting.{ssrcs_in, AreOnce, IsRow}
-use Rattle.media_play.proofs.StartingLists.{NoRepeat-right, apart_ends, insert_new, zip_push, zip_keys, place_in, value_first, value_next, flipped}
+use Rattle.media_play.specs.Starting.{ssrcs_in, AreOnce, IsRow, red_rows, rows_in, rows_of}
+use Rattle.media_play.proofs.StartingLists.{NoRepeat-left, NoRepeat-right, apart_ends, insert_new, zip_push, zip_keys, place_in, value_first, value_next, flipped}
 
 -- the rules
 
@@ -60,17 +61,31 @@ less_once (x ∷ xs) ys zs h g says = (
   less_once xs ys zs h.1 g says,
 )
 
-types_once : (ts : List PayloadType) → NoRepeat (flat_map claimed_in ts) → NoRepeat (map pt_in ts)
+written_claimed : (t : PayloadType) (n : ℕ) → IsIn n (written_in t) → IsIn n (claimed_in t)
+written_claimed t n (inl e) = inl e
+written_claimed t n (inr i) = inr (IsIn-right n (option_to_list t.rtx) (option_to_list t.red) i)
+
+pub types_claimed : (ts : List PayloadType) (n : ℕ) → IsIn n (flat_map written_in ts) → IsIn n (flat_map claimed_in ts)
+types_claimed [] n i = i
+types_claimed (t ∷ ts) n i = elim (IsIn-append n (written_in t) (flat_map written_in ts) i) [
+  | inl own ↦ IsIn-left n (claimed_in t) (flat_map claimed_in ts) (written_claimed t n own)
+  | inr j ↦ IsIn-right n (claimed_in t) (flat_map claimed_in ts) (types_claimed ts n j)
+]
+
+types_once : (ts : List PayloadType) → NoRepeat (flat_map claimed_in ts) → NoRepeat (flat_map written_in ts)
 types_once [] h = tt
-types_once (t ∷ ts) h = (
-  λ i. h.0 (IsIn-right t.pt (option_to_list t.rtx) (flat_map claimed_in ts) (claimed ts t.pt i)),
-  types_once ts (NoRepeat-right (claimed_in t) (flat_map claimed_in ts) h),
-)
-  where
-    claimed : (us : List PayloadType) (n : ℕ) → IsIn n (map pt_in us) → IsIn n (flat_map claimed_in us)
-    claimed [] n i = i
-    claimed (u ∷ us) n (inl e) = inl e
-    claimed (u ∷ us) n (inr i) = IsIn-right n (claimed_in u) (flat_map claimed_in us) (claimed us n i)
+types_once (t ∷ ts) h =
+    let rtx = option_to_list t.rtx in
+    let red = option_to_list t.red in
+    let rest = flat_map claimed_in ts in (
+      λ i. h.0 (elim (IsIn-append t.pt red (flat_map written_in ts) i) [
+        | inl own ↦ IsIn-left t.pt (rtx ++ red) rest (IsIn-right t.pt rtx red own)
+        | inr j ↦ IsIn-right t.pt (rtx ++ red) rest (types_claimed ts t.pt j)
+      ]),
+      less_once red rest (flat_map written_in ts)
+          (NoRepeat-right rtx (red ++ rest) (subst NoRepeat (append_assoc rtx red rest) h.1))
+          (types_once ts (NoRepeat-right (claimed_in t) rest h)) (types_claimed ts),
+    )
 
 module _ (setup : Setup) (side : Side) where
   lines_in : (ss : List Stream) (n : ℕ) → IsIn n (flat_map ssrcs_in (filter_map (outgoing_in setup side) ss)) → IsIn n (flat_map both_of ss)
@@ -151,6 +166,23 @@ facts setup e =
 
 -- types
 
+abbrev pt_in : PayloadType → ℕ
+pt_in t = t.pt
+
+row_numbers : (ts : List PayloadType) → map pt_in (rows_of ts) ≡ flat_map written_in ts
+row_numbers [] = refl
+row_numbers (t ∷ ts) =
+    map-append pt_in (rows_in t) (rows_of ts)
+    ∙ ap (λ ns. map pt_in (rows_in t) ++ ns) (row_numbers ts)
+    ∙ ap (λ ns. (t.pt ∷ ns) ++ flat_map written_in ts) (reds t.red)
+  where
+    reds : (o : Option ℕ) → map pt_in (red_rows t o) ≡ option_to_list o
+    reds None = refl
+    reds (Some red) = refl
+
+row_keys : (es : List (ℕ × TypeRow)) (ts : List PayloadType) → AllZip IsRow es (rows_of ts) → keys_of es ≡ flat_map written_in ts
+row_keys es ts h = zip_keys IsRow pt_in (λ e t r. r.key) es (rows_of ts) h ∙ row_numbers ts
+
 module _ (pt : ℕ) where
   primaries : (es : List (ℕ × TypeRow)) (ts : List PayloadType) → AllZip IsRow es ts → primary_type_of es pt ≡ option_map (λ (t : PayloadType). t.pt) (find (repairs_as pt) ts)
   primaries [] [] h = refl
@@ -176,57 +208,142 @@ module _ (pt : ℕ) where
         | inr k ↦ ap (option_and_then (λ (r : TypeRow). r.rtx)) (value_next pt e es (same ∙ k)) ∙ rest ∙ sym (ap (λ (b : Bool). option_and_then (λ (u : PayloadType). u.rtx) (if b then Some t else find (has_type pt) ts)) k)
       ]
 
+  -- of the rows of a setup
+
+  rows_repair : (ts : List PayloadType) → option_map (λ (t : PayloadType). t.pt) (find (repairs_as pt) (rows_of ts)) ≡ option_map (λ (t : PayloadType). t.pt) (find (repairs_as pt) ts)
+  rows_repair [] = refl
+  rows_repair (t ∷ ts) = elim (tested (repairs_as pt t)) [
+    | inl k ↦ rw k refl
+    | inr k ↦ rw k (none t.red ∙ rows_repair ts)
+  ]
+    where
+      none : (o : Option ℕ) → option_map (λ (u : PayloadType). u.pt) (find (repairs_as pt) (red_rows t o ++ rows_of ts)) ≡ option_map (λ (u : PayloadType). u.pt) (find (repairs_as pt) (rows_of ts))
+      none None = refl
+      none (Some red) = refl
+
+  found_none : (ts : List PayloadType) → (IsIn pt (flat_map written_in ts) → ⊥) → find (has_type pt) ts ≡ None
+  found_none [] absent = refl
+  found_none (t ∷ ts) absent = elim (tested (t.pt == pt)) [
+    | inl k ↦ absurd (absent (IsIn-left pt (written_in t) (flat_map written_in ts) (inl (sym (eqb-true t.pt pt k)))))
+    | inr k ↦ rw k (found_none ts (λ i. absent (IsIn-right pt (written_in t) (flat_map written_in ts) i)))
+  ]
+
+  abbrev rtx_found : List PayloadType → Option ℕ
+  rtx_found ts = option_and_then (λ (t : PayloadType). t.rtx) (find (has_type pt) ts)
+
+  red_found : (t : PayloadType) (ts : List PayloadType) (o : Option ℕ) → NoRepeat (option_to_list o ++ flat_map written_in ts)
+      → (NoRepeat (flat_map written_in ts) → rtx_found (rows_of ts) ≡ rtx_found ts) → rtx_found (red_rows t o ++ rows_of ts) ≡ rtx_found ts
+  red_found t ts None once rest = rest once
+  red_found t ts (Some red) once rest = elim (tested (red == pt)) [
+    | inl k ↦ rw k (sym (ap (option_and_then (λ (u : PayloadType). u.rtx))
+        (found_none ts (λ i. once.0 (subst (λ n. IsIn n (flat_map written_in ts)) (sym (eqb-true red pt k)) i)))))
+    | inr k ↦ rw k (rest once.1)
+  ]
+
+  rows_rtx : (ts : List PayloadType) → NoRepeat (flat_map written_in ts) → rtx_found (rows_of ts) ≡ rtx_found ts
+  rows_rtx [] h = refl
+  rows_rtx (t ∷ ts) h = elim (tested (t.pt == pt)) [
+    | inl k ↦ rw k refl
+    | inr k ↦ rw k (red_found t ts t.red h.1 (rows_rtx ts))
+  ]
+
   any_given : (o : Option ℕ) (ns : List ℕ) → list_any (λ n. n == pt) (option_to_list o ++ ns) ≡ (is_type pt o || list_any (λ n. n == pt) ns)
   any_given None ns = refl
   any_given (Some n) ns = refl
 
-  sorted : (a b c d : Bool) → ((a || c) || (b || d)) ≡ (a || (b || (c || d)))
-  sorted true b c d = refl
-  sorted false true true d = refl
-  sorted false true false d = refl
-  sorted false false c d = refl
+  sorted : (a b r c d : Bool) → ((a || (r || c)) || (b || d)) ≡ (a || (b || (r || (c || d))))
+  sorted true b r c d = refl
+  sorted false true true c d = refl
+  sorted false true false true d = refl
+  sorted false true false false d = refl
+  sorted false false true c d = refl
+  sorted false false false c d = refl
 
   found_next : (t : PayloadType) (ts : List PayloadType) → is_some (option_map (λ (u : PayloadType). u.pt) (find (repairs_as pt) (t ∷ ts))) ≡ (is_type pt t.rtx || is_some (option_map (λ (u : PayloadType). u.pt) (find (repairs_as pt) ts)))
   found_next t ts = elim (tested (is_type pt t.rtx)) [ inl k ↦ rw k refl | inr k ↦ rw k refl ]
 
-  claims : (ts : List PayloadType) → (has (map pt_in ts) pt || is_some (option_map (λ (t : PayloadType). t.pt) (find (repairs_as pt) ts))) ≡ list_any (λ n. n == pt) (flat_map claimed_in ts)
+  claims : (ts : List PayloadType) → (has (flat_map written_in ts) pt || is_some (option_map (λ (t : PayloadType). t.pt) (find (repairs_as pt) ts))) ≡ list_any (λ n. n == pt) (flat_map claimed_in ts)
   claims [] = refl
   claims (t ∷ ts) =
       let a = t.pt == pt in
-      let c = has (map pt_in ts) pt in
+      let b = is_type pt t.rtx in
+      let r = is_type pt t.red in
+      let c = has (flat_map written_in ts) pt in
       let d = is_some (option_map (λ (u : PayloadType). u.pt) (find (repairs_as pt) ts)) in
-      ap (λ b. (a || c) || b) (found_next t ts)
-      ∙ sorted a (is_type pt t.rtx) c d
-      ∙ ap (λ b. a || (is_type pt t.rtx || b)) (claims ts)
-      ∙ sym (ap (λ b. a || b) (any_given t.rtx (flat_map claimed_in ts)))
+      let rest = flat_map claimed_in ts in
+      ap (λ x. (a || has (option_to_list t.red ++ flat_map written_in ts) pt) || x) (found_next t ts)
+      ∙ ap (λ x. (a || x) || (b || d)) (any_given t.red (flat_map written_in ts))
+      ∙ sorted a b r c d
+      ∙ ap (λ x. a || (b || (r || x))) (claims ts)
+      ∙ sym (ap (λ x. a || x) (
+      ap (list_any (λ n. n == pt)) (append_assoc (option_to_list t.rtx) (option_to_list t.red) rest)
+      ∙ any_given t.rtx (option_to_list t.red ++ rest)
+      ∙ ap (λ x. b || x) (any_given t.red rest)
+      ))
 
-  pub places : (es : List (ℕ × TypeRow)) (ts : List PayloadType) → AllZip IsRow es ts → is_some (place_of pt es) ≡ has (map pt_in ts) pt
-  places es ts h = place_in pt (keys_of es) ∙ ap (λ ns. has ns pt) (zip_keys IsRow pt_in (λ e t r. r.key) es ts h)
+  pub type_places : (es : List (ℕ × TypeRow)) (ts : List PayloadType) → AllZip IsRow es (rows_of ts) → is_some (place_of pt es) ≡ has (flat_map written_in ts) pt
+  type_places es ts h = place_in pt (keys_of es) ∙ ap (λ ns. has ns pt) (row_keys es ts h)
 
-  known : (es : List (ℕ × TypeRow)) (ts : List PayloadType) → AllZip IsRow es ts → is_known es pt ≡ list_any (λ n. n == pt) (flat_map claimed_in ts)
-  known es ts h = ap (λ b. b || is_some (primary_type_of es pt)) (places es ts h) ∙ ap (λ o. has (map pt_in ts) pt || is_some o) (primaries es ts h) ∙ claims ts
+  known : (es : List (ℕ × TypeRow)) (ts : List PayloadType) → AllZip IsRow es (rows_of ts) → is_known es pt ≡ list_any (λ n. n == pt) (flat_map claimed_in ts)
+  known es ts h =
+      ap (λ b. b || is_some (primary_type_of es pt)) (type_places es ts h)
+      ∙ ap (λ o. has (flat_map written_in ts) pt || is_some o) (primaries es (rows_of ts) h ∙ rows_repair ts)
+      ∙ claims ts
 
-pub same_types : (es : List (ℕ × TypeRow)) (setup : Setup) → AllZip IsRow es setup.types → types_in es ≡ types_of setup
-same_types es setup h = λ i. record {
+pub same_types : (es : List (ℕ × TypeRow)) (setup : Setup) → NoRepeat (type_numbers setup) → AllZip IsRow es (rows_of setup.types) → types_in es ≡ types_of setup
+same_types es setup once h = λ i. record {
   claims = λ pt. known pt es setup.types h i;
-  primary_of = λ pt. unwrap_or (primaries pt es setup.types h i) pt;
-  is_rtx = λ pt. is_some (primaries pt es setup.types h i);
-  rtx_of = λ pt. rtx_types pt es setup.types h i;
+  primary_of = λ pt. unwrap_or ((primaries pt es (rows_of setup.types) h ∙ rows_repair pt setup.types) i) pt;
+  is_rtx = λ pt. is_some ((primaries pt es (rows_of setup.types) h ∙ rows_repair pt setup.types) i);
+  rtx_of = λ pt. (rtx_types pt es (rows_of setup.types) h ∙ rows_rtx pt setup.types once) i;
 }
 
 pub wide_mtu : (mtu : Mtu) → is_mtu mtu ≡ true → 900 ≤ mtu.target
 wide_mtu mtu e = leb-true 900 mtu.target (and_parts _ _ (and_parts _ _ e).0).0
 
 -- one more type
-pub row_more : (es : List (ℕ × TypeRow)) (ts xs : List PayloadType) (i : ℕ) (t : PayloadType) (row : TypeRow) (new : List (ℕ × TypeRow)) → xs ≡ ts → NoRepeat (map pt_in ts) → i < length xs → t ≡ get_or xs i t
-    → IsRow (t.pt, row) t → new ≡ insert_entry nat_eq es t.pt row → AllZip IsRow es (take i xs) → AllZip IsRow new (take (i + 1) xs)
-row_more es ts xs i t row new same once within read is made h =
+
+type_added : (es new : List (ℕ × TypeRow)) (ts : List PayloadType) (t : PayloadType) (row : TypeRow) → (IsIn t.pt (keys_of es) → ⊥) → IsRow (t.pt, row) t
+    → new ≡ insert_entry nat_eq es t.pt row → AllZip IsRow es ts → AllZip IsRow new (ts ++ t ∷ [])
+type_added es new ts t row none is made h =
+    subst (λ l. AllZip IsRow l (ts ++ t ∷ [])) (sym (made ∙ insert_new t.pt row es none)) (zip_push IsRow es ts (t.pt, row) t h is)
+
+pub alone_added : (es new : List (ℕ × TypeRow)) (ts : List PayloadType) (t : PayloadType) (row : TypeRow) → NoRepeat (keys_of es ++ written_in t) → t.red ≡ None → IsRow (t.pt, row) t
+    → new ≡ insert_entry nat_eq es t.pt row → AllZip IsRow es ts → AllZip IsRow new (ts ++ rows_in t)
+alone_added es new ts t row once none is made h =
+    subst (λ o. AllZip IsRow new (ts ++ t ∷ red_rows t o)) (sym none)
+    (type_added es new ts t row (λ i. apart_ends (keys_of es) (written_in t) t.pt once i (inl refl)) is made h)
+
+pub both_added : (es mid new : List (ℕ × TypeRow)) (ts : List PayloadType) (t : PayloadType) (red : ℕ) (row extra : TypeRow) → NoRepeat (keys_of es ++ written_in t) → t.red ≡ Some red
+    → IsRow (t.pt, row) t → mid ≡ insert_entry nat_eq es t.pt row → (extra.pt ≡ red) × (extra.rtx ≡ None) → new ≡ insert_entry nat_eq mid red extra
+    → AllZip IsRow es ts → AllZip IsRow new (ts ++ rows_in t)
+both_added es mid new ts t red row extra once some is made other more h =
+    let first = type_added es mid ts t row (λ i. apart_ends (keys_of es) (written_in t) t.pt once i (inl refl)) is made h in
+    let keys : keys_of mid ≡ keys_of es ++ t.pt ∷ [] =
+    ap keys_of (made ∙ insert_new t.pt row es (λ i. apart_ends (keys_of es) (written_in t) t.pt once i (inl refl))) ∙ map-append (λ (e : ℕ × TypeRow). e.0) es ((t.pt, row) ∷ []) in
+    let whole : NoRepeat ((keys_of es ++ t.pt ∷ []) ++ red ∷ []) =
+    subst NoRepeat (ap (λ o. keys_of es ++ t.pt ∷ option_to_list o) some ∙ sym (append_assoc (keys_of es) (t.pt ∷ []) (red ∷ []))) once in
+    subst (λ o. AllZip IsRow new (ts ++ t ∷ red_rows t o)) (sym some)
+    (subst (AllZip IsRow new) (append_assoc ts (t ∷ []) (red_rows t (Some red)))
+    (type_added mid new (ts ++ t ∷ []) (record t { pt = red; rtx = None }) extra
+    (λ i. apart_ends (keys_of es ++ t.pt ∷ []) (red ∷ []) red whole (subst (IsIn red) keys i) (inl refl))
+    (record { key = refl; pt = other.0; rtx = other.1 }) more first))
+
+-- what may be added behind the types before it
+pub rows_apart : (es : List (ℕ × TypeRow)) (ts xs : List PayloadType) (i : ℕ) (t : PayloadType) → xs ≡ ts → NoRepeat (flat_map written_in ts) → i < length xs → t ≡ get_or xs i t
+    → AllZip IsRow es (rows_of (take i xs)) → NoRepeat (keys_of es ++ written_in t)
+rows_apart es ts xs i t same once within read h =
     let more : take (i + 1) xs ≡ take i xs ++ t ∷ [] = take_more xs i t within ∙ sym (ap (λ (u : PayloadType). take i xs ++ u ∷ []) read) in
-    let whole : map pt_in ts ≡ map pt_in (take i xs) ++ (t.pt ∷ map pt_in (drop (i + 1) xs)) =
-    ap (map pt_in) (sym same ∙ sym (take-append-drop (i + 1) xs) ∙ ap (λ l. l ++ drop (i + 1) xs) more ∙ append_assoc (take i xs) (t ∷ []) (drop (i + 1) xs))
-    ∙ map-append pt_in (take i xs) (t ∷ drop (i + 1) xs) in
-    let none : IsIn t.pt (keys_of es) → ⊥ =
-    λ j. apart_ends (map pt_in (take i xs)) (t.pt ∷ map pt_in (drop (i + 1) xs)) t.pt (subst NoRepeat whole once) (subst (IsIn t.pt) (zip_keys IsRow pt_in (λ e u r. r.key) es (take i xs) h) j) (inl refl) in
-    subst (AllZip IsRow new) (sym more)
-    (subst (λ l. AllZip IsRow l (take i xs ++ t ∷ [])) (sym (made ∙ insert_new t.pt row es none))
-    (zip_push IsRow es (take i xs) (t.pt, row) t h is))
+    let front : flat_map written_in (take (i + 1) xs) ≡ flat_map written_in (take i xs) ++ written_in t =
+    ap (flat_map written_in) more ∙ sym (flat_map_more written_in [] (take i xs) t) in
+    let whole : flat_map written_in ts ≡ (flat_map written_in (take i xs) ++ written_in t) ++ flat_map written_in (drop (i + 1) xs) =
+    ap (flat_map written_in) (sym same ∙ sym (take-append-drop (i + 1) xs))
+    ∙ flat_map-append written_in (take (i + 1) xs) (drop (i + 1) xs)
+    ∙ ap (λ ns. ns ++ flat_map written_in (drop (i + 1) xs)) front in
+    subst (λ ns. NoRepeat (ns ++ written_in t)) (sym (row_keys es (take i xs) h))
+    (NoRepeat-left (flat_map written_in (take i xs) ++ written_in t) (flat_map written_in (drop (i + 1) xs)) (subst NoRepeat whole once))
+
+pub rows_more : (xs : List PayloadType) (i : ℕ) (t : PayloadType) → i < length xs → t ≡ get_or xs i t → rows_of (take i xs) ++ rows_in t ≡ rows_of (take (i + 1) xs)
+rows_more xs i t within read =
+    let more : take (i + 1) xs ≡ take i xs ++ t ∷ [] = take_more xs i t within ∙ sym (ap (λ (u : PayloadType). take i xs ++ u ∷ []) read) in
+    flat_map_more rows_in [] (take i xs) t ∙ sym (ap rows_of more)

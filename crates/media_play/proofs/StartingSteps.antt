@@ -36,7 +36,7 @@ use Rattle.run_model.specs.Transcripts.{outgoing_as}
 use Rattle.run_model.specs.Whole.{incoming_of}
 use Rattle.media_laws.specs.Keys.{is_left}
 use Rattle.media_laws.specs.Plain.{extensions_of}
-use Rattle.media_play.specs.Starting.{intervals_of, ssrcs_in, AreOnce, HasWords, IsRow, IsIdle, IsUnheard, kept_for, kept_in, with_streams, StreamsChange, Begun, Starts}
+use Rattle.media_play.specs.Starting.{intervals_of, ssrcs_in, AreOnce, HasWords, IsRow, rows_of, IsIdle, IsUnheard, kept_for, kept_in, with_streams, StreamsChange, Begun, Starts}
 use Rattle.media_play.proofs.StartingLists.{all_push, zip_push, zip_weaker, zip_keys, any_left, any_last, new_last, place_absent, change_none, change_last, keys_among, mains_among, strange}
 
 -- the sides
@@ -160,7 +160,7 @@ module _ (cipher : CipherMeaning) (setup : Setup) (side : Side) where
   -- with keys
 
   keyed_begins : (config : SessionConfig) → 900 ≤ config.mtu.target → config.pause_threshold ≡ setup.pause_threshold → config.intervals ≡ intervals_of setup → config.srtcp_index ≡ (local_of side setup).srtcp_index
-      → config.local_ssrc ≡ (local_of side setup).ssrc → config.beginning ≡ setup.beginning → config.exts ≡ extensions_of setup → AllZip IsRow config.types setup.types
+      → config.local_ssrc ≡ (local_of side setup).ssrc → config.beginning ≡ setup.beginning → config.exts ≡ extensions_of setup → AllZip IsRow config.types (rows_of setup.types)
       → Begun cipher setup side [] [] (record (fresh_session config) { state = keyed cipher setup.profile (material_of setup) (is_left side) (fresh_session config).state })
   keyed_begins config target pauses intervals index ssrc beginning exts types =
       record {
@@ -188,7 +188,7 @@ module _ (cipher : CipherMeaning) (setup : Setup) (side : Side) where
       }
 
   pub starts_keyed : (config : SessionConfig) (v new : EndSession) (material : List ℕ) (left : Bool) → 900 ≤ config.mtu.target → config.pause_threshold ≡ setup.pause_threshold → config.intervals ≡ intervals_of setup → config.srtcp_index ≡ (local_of side setup).srtcp_index
-      → config.local_ssrc ≡ (local_of side setup).ssrc → config.beginning ≡ setup.beginning → config.exts ≡ extensions_of setup → AllZip IsRow config.types setup.types
+      → config.local_ssrc ≡ (local_of side setup).ssrc → config.beginning ≡ setup.beginning → config.exts ≡ extensions_of setup → AllZip IsRow config.types (rows_of setup.types)
       → material ≡ material_of setup → left ≡ is_left side → (local_of side setup).srtcp_index ≤ 2 ^ 31 → SessionStands v (fresh_session config)
       → new ≡ record v { state = keyed cipher setup.profile material left v.state } → Starts cipher setup side [] [] new
   starts_keyed config v new material left target pauses intervals index ssrc beginning exts types key l bounded h is =

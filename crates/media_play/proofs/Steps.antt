@@ -22,14 +22,14 @@ use Rattle.media_model.specs.Sides.{same_side}
 use Rattle.run_model.specs.Events.{Event, wrote, ticked, called, got}
 use Rattle.run_model.specs.Runs.{Happening, on_side}
 use Rattle.run_model.specs.Transcripts.{happenings}
-use Rattle.run_model.specs.Whole.{Config, Session, Turns, writes, ticks, calls, opens, hears, stays}
+use Rattle.run_model.specs.Whole.{Config, Session, Turns, writes, ticks, calls, requests, opens, hears, stays}
 use Rattle.setup_rules.specs.SetupRules.{first_fault}
 use Rattle.media_laws.specs.declared.fault.StepFault.{StepFault}
 use Rattle.media_laws.specs.declared.fault.StepFault.TheVariants.{TimeZero, TimeBack, TimeBeyond}
 use Rattle.media_laws.specs.Keys.{sealing_of}
 use Rattle.media_laws.specs.Listing.{OnlyAdds}
 use Rattle.media_laws.specs.Opening.{Sealing}
-use Rattle.media_laws.specs.Play.{AreEntriesOf, IsBroughtBy, Outcome, Plays as PlaysIn, by_a, by_b, wrote as wrote_step, ticked as ticked_step, called as called_step, got as got_step}
+use Rattle.media_laws.specs.Play.{AreEntriesOf, IsBroughtBy, Outcome, Plays as PlaysIn, by_a, by_b, wrote as wrote_step, ticked as ticked_step, called as called_step, requested as requested_step, got as got_step}
 use Rattle.media_laws.specs.Right.{IsRightSeal}
 use Rattle.media_laws.specs.Rules.{or_else, time_fault, step_fault}
 use Rattle.media_play.specs.declared.fault.StepError.{StepError}
@@ -55,6 +55,7 @@ now_is : {C : Config} {side : Side} {a c : Session} {events : List Event} → Tu
 now_is (writes time w late unused) = refl
 now_is (ticks time new next late drains feedback counts) = refl
 now_is (calls time items late others) = refl
+now_is (requests time late) = refl
 now_is (opens time bytes ssrc n p s late there o) = refl
 now_is (hears time bytes index items late report h) = refl
 now_is (stays time kind bytes late no_rtp no_rtcp) = refl
@@ -96,6 +97,7 @@ chunk_of {seal} {setup} (ticked_step side time sealed right) = record {
   others = λ other apart r. none_sealed seal setup (write_on other r) (λ s. refl) sealed right;
 }
 chunk_of {seal} {setup} (called_step side time sender media payload s h) = record { times = refl; others = λ other apart r. refl }
+chunk_of {seal} {setup} (requested_step side time c by quiet) = record { times = refl; others = λ other apart r. refl }
 chunk_of {seal} {setup} (got_step came brought b all) = record {
   times = ap (λ (ts : List ℕ). came.time ∷ ts) (none_brought seal setup came time_of (λ o. refl) (λ s p. refl) brought all);
   others = λ other apart r. none_brought seal setup came (write_on other r) (λ o. refl) (λ s p. refl) brought all;

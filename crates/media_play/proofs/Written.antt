@@ -17,7 +17,7 @@ use Rattle.run_model.specs.Listing.{IsIn}
 use Rattle.run_model.specs.Seals.{Sealing}
 use Rattle.run_model.specs.TxPlay.{TxRecord, Polls, drops, misses, resends, sends}
 use Rattle.run_model.specs.Tables.{Table, PollsOne, here, there, ServesAll, rests, reports, more, begun_at, written_to, IsUnused, Hears, none, one}
-use Rattle.run_model.specs.Whole.{Config, Session, Turns, writes, ticks, calls, opens, hears, stays}
+use Rattle.run_model.specs.Whole.{Config, Session, Turns, writes, ticks, calls, requests, opens, hears, stays}
 use Rattle.rtcp_wire.specs.declared.rtcp_fb.RtcpFb.{RtcpFb}
 use Rattle.media_play.specs.declared.numbers.Numbers.{Numbers}
 use Rattle.media_play.specs.Knowing.{UsedAs, IsWrittenIn}
@@ -73,6 +73,7 @@ pub turn_same : {C : Config} {side : Side} {a c : Session} {events : List Event}
 turn_same (writes time w l u) e = absurd cc
 turn_same {a = a} (ticks {ys = ys} time new next l d f k) e = same_trans a.tx (map (begun_at time) a.tx) ys (begun_same time a.tx) (serves_same d.serves)
 turn_same {a = a} (calls time items l o) e = same_refl a.tx
+turn_same {a = a} (requests time l) e = same_refl a.tx
 turn_same {a = a} (opens time bytes ssrc n p s l i o) e = same_refl a.tx
 turn_same (hears time bytes index items l r h) e = hears_same h
 turn_same {a = a} (stays time kind bytes l no_rtp no_rtcp) e = same_refl a.tx
@@ -82,6 +83,7 @@ pub turn_wrote : {C : Config} {side : Side} {a c : Session} {events : List Event
 turn_wrote {a = a} (writes t v l u) time w e = let is : v ≡ w = cc in ap (λ (x : Write). map (written_to x) a.tx) is
 turn_wrote (ticks t new next l d f k) time w e = absurd cc
 turn_wrote (calls t items l o) time w e = absurd cc
+turn_wrote (requests t l) time w e = absurd cc
 turn_wrote (opens t bytes ssrc n p s l i o) time w e = absurd cc
 turn_wrote (hears t bytes index items l r h) time w e = absurd cc
 turn_wrote (stays t kind bytes l no_rtp no_rtcp) time w e = absurd cc

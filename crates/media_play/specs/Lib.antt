@@ -4,6 +4,7 @@ pub mod UsedNumbers
 pub mod Knowing
 pub mod Sessions
 pub mod Starting
+pub mod Requests
 pub mod Running
 pub mod Ends
 pub mod Errors

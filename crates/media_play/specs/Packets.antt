@@ -7,7 +7,7 @@ use Rattle.stream_core.specs.declared.packet.RtpPacket.{RtpPacket}
 use Rattle.stream_core.specs.Write.{WriteRecord, packet_of}
 use Rattle.session_core.specs.declared.datagram.Datagram.{Datagram}
 use Rattle.session_core.specs.declared.datagram.Event.{Event}
-use Rattle.session_core.specs.declared.datagram.Event.TheVariants.{RtpPacket as Told, AppSpecificFeedback as Application, StreamPaused as Paused}
+use Rattle.session_core.specs.declared.datagram.Event.TheVariants.{RtpPacket as Told}
 use Rattle.media_model.specs.declared.entry.Side.{Side}
 use Rattle.media_model.specs.declared.entry.Packet.{Packet}
 use Rattle.media_model.specs.declared.entry.Write.{Write as Writing}
@@ -70,8 +70,7 @@ packet_told p = record {
 -- the packet of an event, else the one before
 abbrev pub packet_after : Event → Option RtpPacket → Option RtpPacket
 packet_after (Told p) before = Some p
-packet_after (Application f) before = before
-packet_after (Paused p) before = before
+packet_after _ before = before
 
 -- the last packet of events, else the one before
 abbrev pub packet_in : List Event → Option RtpPacket → Option RtpPacket

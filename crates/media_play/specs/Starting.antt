@@ -34,7 +34,18 @@ use Rattle.media_play.specs.Ends.{EndSession, SessionStands}
 use Rattle.media_laws.specs.Plain.{extensions_of}
 use Rattle.media_laws.specs.Keys.{is_left}
 
--- a payload type of a session is one of a setup: its number, and the type of its repairs
+-- the types of a session for one of a setup: itself, and that of its redundant data as one without repairs
+abbrev pub red_rows : PayloadType → Option ℕ → List PayloadType
+red_rows t None = []
+red_rows t (Some red) = record t { pt = red; rtx = None } ∷ []
+
+abbrev pub rows_in : PayloadType → List PayloadType
+rows_in t = t ∷ red_rows t t.red
+
+abbrev pub rows_of : List PayloadType → List PayloadType
+rows_of types = flat_map rows_in types
+
+-- a payload type of a session is one of these: its number, and the type of its repairs
 pub record IsRow (e : ℕ × TypeRow) (t : PayloadType) : Type 0 where
   pub key : e.0 ≡ t.pt
   pub pt : e.1.pt ≡ t.pt
@@ -110,7 +121,7 @@ pub record Begun (cipher : CipherMeaning) (setup : Setup) (side : Side) (sent re
   pub local_ssrc : s.state.local_ssrc ≡ (local_of side setup).ssrc
   pub beginning : s.state.transport.beginning ≡ setup.beginning
   pub seen : s.seen ≡ []
-  pub types : AllZip IsRow s.state.types setup.types
+  pub types : AllZip IsRow s.state.types (rows_of setup.types)
   pub exts : s.state.transport.exts ≡ extensions_of setup
   pub pauses : s.state.pause_threshold ≡ setup.pause_threshold
   pub intervals : s.state.intervals ≡ intervals_of setup

@@ -5,6 +5,9 @@ ghost use Rattle.std.specs.Result.{result_err};
 ghost use Rattle.rtp_wire.specs.Header.{csrc_of};
 ghost use Rattle.stream_core.specs.Tables.{place_of, change_place};
 ghost use Rattle.stream_core.specs.TxRecord.{written};
+ghost use Rattle.stream_core.specs.Pauses.{on_view};
+ghost use Rattle.session_turns.specs.Laws.{requesting};
+ghost use Rattle.media_play.specs.Requests.{requested};
 ghost use Rattle.media_model.specs.declared.entry.Side.{Side as Party};
 ghost use Rattle.media_model.specs.declared.entry.Entry.{Entry};
 ghost use Rattle.media_model.specs.declared.setup.Setup.{Setup as Given};
@@ -21,6 +24,7 @@ ghost use Rattle.media_play.specs.Packets.{write_at, seals_from, packet_told, pa
 use crate::fault::StepError;
 use crate::log::Log;
 use crate::numbers::Numbers;
+use crate::request::Request;
 use crate::starting::{no_numbers, start};
 use mask_register::MaskRegister;
 use media_base::{Bytes, Instant};
@@ -34,7 +38,7 @@ use srtp_core::SrtpCipher;
 use std::alloc::{AllocError, Global};
 use std::marker::Model;
 use stream_core::{Payload, RtpPacket, RtpWrite, Sent};
-use turn_hears::{calls_turn, hears_turn, writes_turn};
+use turn_hears::{calls_turn, hears_turn, requests_turn, writes_turn};
 use turn_opens::opens_turn;
 use turn_seals::{calls_are_right, openings_are_right, rtcp_openings_are_right, seals_are_right};
 use turn_ticks::{ticks_cut, ticks_turn};
@@ -121,6 +125,23 @@ fn put<C: SrtpCipher>(
     }
 }
 
+/// Has the incoming stream at this place ask its sender for something at the next tick.
+fn request<C: SrtpCipher>(
+    session: &mut Session<C, MaskRegister, QueueStore<Sent>>,
+    place: usize,
+    request: Request,
+)
+    requires { place < length session.old.rx }
+    ensures { session.new ≡ record session.old {
+      rx = change_place (on_view (requesting (requested request))) session.old.rx place;
+    } }
+{
+    match request {
+        Request::Keyframe(kind) => session.streams().rx_at(place).request_keyframe(kind),
+        Request::Rate(rate) => session.streams().rx_at(place).request_remb(rate),
+    }
+}
+
 /// The contributing sources of a header.
 fn sources(alloc: Global, header: &RtpHeader) -> Result<Vec<u32>, AllocError>
     ensures { IfOk result (λ v. v.items ≡ csrc_of header.now) }
@@ -165,7 +186,11 @@ fn later_packet(event: Event, before: Option<RtpPacket>) -> Option<RtpPacket>
 {
     match event {
         Event::RtpPacket(told) => Some(told),
-        Event::AppSpecificFeedback(_) | Event::StreamPaused(_) => before,
+        Event::AppSpecificFeedback(_)
+        | Event::StreamPaused(_)
+        | Event::KeyframeRequest(_)
+        | Event::SenderFeedback(_)
+        | Event::Remb(_) => before,
     }
 }
 
@@ -233,7 +258,8 @@ impl<C: SrtpCipher> End<C> {
     ghost use Rattle.media_laws.specs.Feedback.{IsSealOfPacket};
     ghost use Rattle.media_laws.specs.Keys.{sealing_of};
     ghost use Rattle.media_laws.specs.Opening.{got_as};
-    ghost use Rattle.media_laws.specs.Rules.{write_fault};
+    ghost use Rattle.media_laws.specs.Rules.{write_fault, request_fault};
+    ghost use Rattle.media_play.specs.Requests.{call_for};
     ghost use Rattle.media_play.specs.Errors.{is_rule, IsSendingCause};
     ghost use Rattle.media_play.specs.Packets.{sealed_from};
     ghost use Rattle.media_play.specs.Sessions.{Ready, ReadyAt, TurnsOn, TakesIn, TicksOn, IsTickCause};
@@ -323,6 +349,31 @@ impl<C: SrtpCipher> End<C> {
         let packet = rtp_write(alloc, time, write)?;
         self.note(place, write.number)?;
         put(&mut self.session, place, packet)
+    }
+
+    /// The place of the stream that a request is on, or the rule that the request breaks.
+    pub fn check_request(&mut self, ssrc: Ssrc) -> Result<usize, StepFault>
+        ensures within { IfOk result (λ at. at < length self.old.session.rx) }
+        ensures rule { (setup : Given) (side : Party) (a : Plain) (entries : List Entry)
+            → Ready C.meaning setup side self.old a entries
+            → request_fault setup side ssrc ≡ result_err result }
+        ensures same { self.new ≡ self.old }
+    {
+        match self.session.streams().rx_place(ssrc) {
+            Some(place) => Ok(place),
+            None => Err(StepFault::UnknownStream),
+        }
+    }
+
+    /// Has the stream at this place ask its sender for something at the next tick.
+    pub fn request(&mut self, place: usize, what: Request)
+        requires { place < length self.old.session.rx }
+        ensures { (setup : Given) (side : Party) (a : Plain) (entries : List Entry) (time : ℕ)
+            → ReadyAt C.meaning setup side self.old a entries time
+            → TurnsOn C.meaning setup side a self.new entries (Called side time (call_for what) ∷ []) }
+    {
+        requests_turn();
+        request(&mut self.session, place, what);
     }
 
     /// Takes in bytes, and tells what they open to.

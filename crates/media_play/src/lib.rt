@@ -6,6 +6,7 @@ mod fault;
 mod log;
 mod numbers;
 mod pair;
+mod request;
 mod run;
 mod starting;
 

@@ -17,7 +17,8 @@ ghost use Rattle.media_laws.specs.Opening.{got_as};
 ghost use Rattle.media_laws.specs.Keys.{sealing_of};
 ghost use Rattle.media_laws.specs.Play.{Brings};
 ghost use Rattle.media_laws.specs.Feedback.{application_packet, IsSealOfPacket, next_index};
-ghost use Rattle.media_laws.specs.Rules.{write_fault, deliver_fault};
+ghost use Rattle.media_laws.specs.Rules.{write_fault, deliver_fault, request_fault};
+ghost use Rattle.media_play.specs.Requests.{call_for, step_for};
 ghost use Rattle.setup_rules.specs.SetupRules.{setup_fault};
 ghost use Rattle.media_play.specs.Sessions.{Ready, ReadyAt, TurnsOn, TakesIn, TicksOn, IsTickCause, received_entries};
 ghost use Rattle.run_model.specs.Whole.{Session as Plain};
@@ -26,6 +27,7 @@ ghost use Rattle.media_model.specs.declared.entry.Side.{Side as Party};
 use crate::end::{End, Received, log_all};
 use crate::fault::StepError;
 use crate::log::Log;
+use crate::request::Request;
 use media_base::{Bytes, Instant};
 use media_laws::StepFault;
 use media_model::{
@@ -276,6 +278,29 @@ impl<C: SrtpCipher> Pair<C> {
         Ok(())
     }
 
+    /// Has the stream of an SSRC that a side receives ask its sender for something.
+    fn request(
+        &mut self,
+        side: Side,
+        time: Instant,
+        ssrc: Ssrc,
+        request: Request,
+    ) -> Result<(), StepError>
+        ensures played { OnOk result
+            (Plays C.meaning self.old (step_for side time ssrc request) self.new) }
+        ensures refused { IfErr result (λ e.
+            Refuses C.meaning self.old (step_for side time ssrc request) e self.new.log) }
+        ensures longer { OnlyAdds self.old.log self.new.log }
+    {
+        self.check_time(time)?;
+        match side {
+            Side::A => request_step(&mut self.a, &mut self.log, side, time, ssrc, request)?,
+            Side::B => request_step(&mut self.b, &mut self.log, side, time, ssrc, request)?,
+        }
+        self.latest = time;
+        Ok(())
+    }
+
     /// Plays one step. Where it is not played for want of memory, what it brought so far may stand
     /// behind the entries.
     pub fn play(&mut self, alloc: Global, step: &Step) -> Result<(), StepError>
@@ -304,6 +329,18 @@ impl<C: SrtpCipher> Pair<C> {
                 media,
                 payload,
             } => self.send_application(alloc, *side, *time, *sender, *media, payload),
+            Step::Ask {
+                side,
+                time,
+                ssrc,
+                kind,
+            } => self.request(*side, *time, *ssrc, Request::Keyframe(*kind)),
+            Step::Remb {
+                side,
+                time,
+                ssrc,
+                rate,
+            } => self.request(*side, *time, *ssrc, Request::Rate(*rate)),
         }
     }
 }
@@ -431,6 +468,35 @@ fn call_step<C: SrtpCipher>(
         plain: datagram.plain,
         bytes: datagram.bytes,
     })?;
+    Ok(())
+}
+
+/// A request of an application, which leaves in a later tick.
+fn request_step<C: SrtpCipher>(
+    end: &mut End<C>,
+    log: &mut Log,
+    side: Side,
+    time: Instant,
+    ssrc: Ssrc,
+    request: Request,
+) -> Result<(), StepError>
+    ensures ready { OnOk result ((setup : Given) (a : Plain)
+        → ReadyAt C.meaning setup side end.old a log.old time
+        → TurnsOn C.meaning setup side a end.new log.old
+        (Called side time (call_for request) ∷ [])) }
+    ensures valid { OnOk result ((setup : Given) (a : Plain) (entries : List Happening)
+        → Ready C.meaning setup side end.old a entries → request_fault setup side ssrc ≡ None) }
+    ensures refused { IfErr result (λ e. (setup : Given) (a : Plain) (entries : List Happening)
+        → Ready C.meaning setup side end.old a entries
+        → IsCauseAt (request_fault setup side ssrc) e) }
+    ensures called { OnOk result (log.new ≡ log.old ++ Called side time (call_for request) ∷ []) }
+    ensures unchanged { IfErr result (λ e. e ≢ StepError.Memory → log.new ≡ log.old) }
+    ensures longer { OnlyAdds log.old log.new }
+{
+    let place = end.check_request(ssrc)?;
+    let call = request.call();
+    end.request(place, request);
+    log.push(Entry::Called(side, time, call))?;
     Ok(())
 }
 

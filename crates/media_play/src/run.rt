@@ -191,8 +191,9 @@ pub fn media_run<C: SrtpCipher>(
 
     // A write brings nothing. A tick seals of each stream all queued writes, in order, and each
     // kept write asked for, unless the stream is capped; and it asks for exactly the due numbers. A
-    // call seals its feedback. What comes is opened exactly where it opens, and its packet yielded.
-    // A tick that finds a key used up seals, until then, the first of these.
+    // call seals its feedback, and one that makes a request brings nothing. What comes is opened
+    // exactly where it opens, and its packet yielded. A tick that finds a key used up seals, until
+    // then, the first of these.
     ensures steps { Answered (sealing_of C.meaning setup.now) setup.now result }
     // A key is used up where all its numbers were sealed, and one more is due.
     ensures used_up { IfErr result (λ f. UsedUp setup.now f.sofar f.cause) }

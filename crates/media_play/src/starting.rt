@@ -1,6 +1,7 @@
 // The session of a side before any step.
 ghost use Rattle.std.specs.Prelude.{◌≡◌, ◌<◌, ◌^◌, ℕ, ◌++◌, List, [], ◌∷◌, Some, None, true, is_none, length, filter_map, option_to_list, IfOk, OnOk};
 ghost use Rattle.std.specs.List.{AllZip};
+ghost use Rattle.std.specs.Map.{keys_of};
 ghost use Rattle.std.specs.Option.{option_map};
 ghost use Rattle.srtp_core.specs.Cipher.{CipherMeaning};
 ghost use Rattle.srtp_core.specs.Keys.{material_len};
@@ -11,7 +12,8 @@ ghost use Rattle.session_core.specs.Sending.{has_mid};
 ghost use Rattle.media_model.specs.declared.entry.Side.{Side as Party};
 ghost use Rattle.media_model.specs.declared.setup.Cache.{Cache as Kept};
 ghost use Rattle.media_model.specs.declared.setup.Setup.{Setup as Given};
-ghost use Rattle.media_model.specs.Setup.{material_of, streams_of, types_of};
+ghost use Rattle.media_model.specs.declared.setup.PayloadType.{PayloadType as Typed};
+ghost use Rattle.media_model.specs.Setup.{material_of, streams_of, types_of, written_in};
 ghost use Rattle.media_model.specs.Sides.{peer_of};
 ghost use Rattle.run_model.specs.Events.{Outgoing};
 ghost use Rattle.run_model.specs.Listing.{NoRepeat};
@@ -19,12 +21,12 @@ ghost use Rattle.run_model.specs.Transcripts.{outgoing_in};
 ghost use Rattle.media_laws.specs.Keys.{is_left};
 ghost use Rattle.media_play.specs.Knowing.{UsedAs};
 ghost use Rattle.setup_rules.specs.SetupRules.{is_mtu, setup_fault};
-ghost use Rattle.media_play.specs.Starting.{IsRow, AreOnce, outgoing_at, StreamsChange, Starts, IsStarted};
+ghost use Rattle.media_play.specs.Starting.{IsRow, rows_in, rows_of, AreOnce, outgoing_at, StreamsChange, Starts, IsStarted};
 
 use crate::numbers::Numbers;
 use mask_register::MaskRegister;
 use media_base::Bytes;
-use media_model::{Cache, FirstNumber, Media, MediaKind, Setup, Side, Stream};
+use media_model::{Cache, FirstNumber, Media, MediaKind, PayloadType, Setup, Side, Stream};
 use queue_store::QueueStore;
 use rtp_wire::{Frequency, Mid, MidRid, SeqNo, Ssrc};
 use session_core::{
@@ -34,19 +36,36 @@ use srtp_core::{KeyingMaterial, SrtpCipher};
 use std::alloc::{AllocError, Global};
 use stream_core::{PayloadTypes, Sent, TypeRow};
 
-/// The payload types of a setup. The clock of one without a rate has ticks of 1 s.
+/// Adds a type, and that of its redundant data, where it has one. The clock of one without a rate has
+/// ticks of 1 s.
+fn add_type(types: &mut PayloadTypes, row: &PayloadType) -> Result<(), AllocError>
+    requires apart { NoRepeat (keys_of types.old ++ written_in row.now) }
+    ensures { OnOk result ((rows : List Typed) → AllZip IsRow types.old rows → AllZip IsRow types.new (rows ++ rows_in row.now)) }
+{
+    let clock = Frequency::new(row.rate).unwrap_or(Frequency::SECONDS);
+    types.add(TypeRow {
+        pt: row.pt,
+        clock,
+        rtx: row.rtx,
+    })?;
+    if let Some(pt) = row.red {
+        types.add(TypeRow {
+            pt,
+            clock,
+            rtx: None,
+        })?;
+    }
+    Ok(())
+}
+
+/// The payload types of a setup.
 fn payload_types(alloc: Global, setup: &Setup) -> Result<PayloadTypes, AllocError>
     requires { NoRepeat (types_of setup.now) }
-    ensures { IfOk result (λ types. AllZip IsRow types setup.now.types) }
+    ensures { IfOk result (λ types. AllZip IsRow types (rows_of setup.now.types)) }
 {
     let mut types = PayloadTypes::new(alloc);
     for row in setup.types.as_slice() {
-        let clock = Frequency::new(row.rate).unwrap_or(Frequency::SECONDS);
-        types.add(TypeRow {
-            pt: row.pt,
-            clock,
-            rtx: row.rtx,
-        })?;
+        add_type(&mut types, row)?;
     }
     Ok(types)
 }

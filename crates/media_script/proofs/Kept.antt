@@ -8,7 +8,7 @@ use Rattle.media_script.specs.declared.reader.Reader.TheVariants.{InSetup, InSte
 use Rattle.media_script.specs.declared.said.Said.{Said}
 use Rattle.media_script.specs.declared.setup_line.SetupLine.{SetupLine}
 use Rattle.media_model.specs.declared.step.Step.{Step}
-use Rattle.media_script.specs.Grammar.{read_on, is_long, in_few, step_of, setup_line_of, number_line_of, named_line_of, side_line_of}
+use Rattle.media_script.specs.Grammar.{read_on, is_long, in_few, call_of, step_of, setup_line_of, number_line_of, named_line_of, side_line_of}
 use Rattle.media_script.specs.Order.{with_line}
 use Rattle.media_script.specs.Spelling.{words_of, AreLines, IsSetupLine, IsStep}
 use Rattle.media_script.specs.Words.{◌>>=◌}
@@ -29,12 +29,15 @@ kept_on reader [] = Some reader
 kept_on reader (line ∷ lines) = read_on reader line >>= λ more. kept_on more lines
 
 -- a step is no end
+no_step : in_few step_of (words_of (codes "end")) ≡ None
+unfolding step_of call_of
+no_step = refl
+
 no_end : (line : List ℕ) (s : Step) → in_few step_of (words_of line) ≡ Some s → bytes_eq line (codes "end") ≡ false
-unfolding step_of
 no_end line s e = other (bytes_eq line (codes "end")) refl where
   other : (b : Bool) → bytes_eq line (codes "end") ≡ b → b ≡ false
   other false is = refl
-  other true is = let none = ap (λ l. in_few step_of (words_of l)) (equal line (codes "end") is) in absurd (cc (none, e))
+  other true is = let none = ap (λ l. in_few step_of (words_of l)) (equal line (codes "end") is) ∙ no_step in absurd (cc (none, e))
 
 -- steps and the end, that are spelled so, are read
 pub steps_again : (lines : List (List ℕ)) (said : Said) (before steps : List Step) → AreLines IsStep lines steps

@@ -1,10 +1,12 @@
 -- What the words of a line say is how it is spelled.
-use Rattle.std.proofs.Common.{◌≡◌, ℕ, Bool, true, false, cond, List, [], ◌∷◌, Option, Some, refl, sym, subst}
+use Rattle.std.proofs.Common.{◌≡◌, ℕ, Bool, true, false, cond, List, [], ◌∷◌, ◌++◌, Option, Some, refl, sym, subst}
 use Rattle.std.specs.List.{AllByRecursion}
 use Rattle.std.specs.Str.{bytes_eq}
 use Rattle.media_script.specs.Words.{◌>>=◌}
-use Rattle.media_script.specs.Grammar.{and_then, done, look_up, no_other}
-use Rattle.media_script.proofs.WordLaws.{bind_some, equal}
+use Rattle.std.specs.Prelude.{is_some}
+use Rattle.media_script.specs.Grammar.{and_then, done, named_type, behind, with_type, with_flag, look_up, no_other}
+use Rattle.media_script.specs.Spelling.{IsNamedType, flag_words}
+use Rattle.media_script.proofs.WordLaws.{bind_some, equal, named_type_spelled}
 
 -- what these words say is spelled so
 pub record Tells {L : Type 0} (read : List (List ℕ) → Option L) (Is : List (List ℕ) → L → Type 0) : Type 0 where
@@ -35,6 +37,27 @@ module _ {L : Type 0} where
         let p = bind_some (read words) (λ x. Some (f x)) said e in
         let same : f p.0 ≡ said = cc in
         subst (Is words) same (is words p.0 p.1)
+
+  -- a word that may stand there, and what stands behind it
+  pub named_type_tells : (name : List ℕ) {more : Option ℕ → List (List ℕ) → Option L} {Is : List (List ℕ) → L → Type 0}
+      → ((r : List (List ℕ)) (x : Option ℕ) → IsNamedType name r x → Tells (more x) (λ words. Is (r ++ words))) → Tells (with_type name more) Is
+  named_type_tells name {more = more} {Is = Is} rest = record { tells = go } where
+    go : (words : List (List ℕ)) (said : L) → with_type name more words ≡ Some said → Is words said
+    go words said e =
+        let b = bind_some (named_type name words) (λ pt. more pt (behind (is_some pt) words)) said e in
+        let is = named_type_spelled name words b.0 b.1 in
+        subst (λ ws. Is ws said) (sym is.2) ((rest is.0 b.0 is.1).tells (behind (is_some b.0) words) said b.2)
+
+  pub flag_tells : (name : List ℕ) {more : Bool → List (List ℕ) → Option L} {Is : List (List ℕ) → L → Type 0}
+      → ((b : Bool) → Tells (more b) (λ words. Is (flag_words name b ++ words))) → Tells (with_flag name more) Is
+  flag_tells name {more = more} {Is = Is} rest = record { tells = go } where
+    go : (words : List (List ℕ)) (said : L) → with_flag name more words ≡ Some said → Is words said
+    go [] said e = (rest false).tells [] said e
+    go (word ∷ words) said e = flag (bytes_eq word name) refl e
+      where
+        flag : (b : Bool) → bytes_eq word name ≡ b → more b (behind b (word ∷ words)) ≡ Some said → Is (word ∷ words) said
+        flag true t is = subst (λ w. Is (w ∷ words) said) (sym (equal word name t)) ((rest true).tells words said is)
+        flag false f is = (rest false).tells (word ∷ words) said is
 
 module _ {L : Type 0} (Is : List (List ℕ) → L → Type 0) where
   -- the words behind this first word

@@ -1,16 +1,19 @@
 -- What a setup line says is how it is spelled, and the other way round.
-use Rattle.std.proofs.Common.{◌≡◌, ℕ, ◌^◌, ◌<◌, ◌++◌, lit<, lit≤, List, [], ◌∷◌, Option, Some, None, refl, ap, ◌∙◌}
-use Rattle.std.specs.Prelude.{codes}
+use Rattle.std.proofs.Common.{◌≡◌, ℕ, ◌^◌, ◌<◌, ◌≤◌, ◌++◌, lit<, lit≤, Bool, true, false, List, [], ◌∷◌, length, Option, Some, None, refl, ap, ◌∙◌, arith}
+use Rattle.std.specs.Prelude.{codes, is_some}
 use Rattle.std.specs.Fmt.{decimal}
+use Rattle.std.proofs.lemmas.Bool.Decides.{nat_tests}
+use Rattle.std.proofs.lemmas.List.{append-nil, length-append}
 use Rattle.media_model.specs.declared.setup.Codec.{Codec}
+use Rattle.media_model.specs.declared.setup.PayloadType.{PayloadType}
 use Rattle.media_script.specs.declared.setup_line.SetupLine.{SetupLine}
 use Rattle.media_script.specs.declared.setup_line.SetupLine.TheVariants as line
-use Rattle.media_script.specs.Grammar.{cipher_line, profile_line, key_line, unix_line, mtu_line, pause_line, reports_line, rtcp_line, local_line, ext_line, repairs_in, type_line, media_line, stream_line, start_line, cache_line, no_other, side_kinds, side_line_of, named_kinds, named_line_of, number_kinds, number_line_of, setup_kinds, setup_line_of, in_few}
+use Rattle.media_script.specs.Grammar.{cipher_line, profile_line, key_line, unix_line, mtu_line, pause_line, reports_line, rtcp_line, local_line, ext_line, named_type, behind, with_type, with_flag, done, is_long, type_line, media_line, stream_line, start_line, cache_line, no_other, side_kinds, side_line_of, named_kinds, named_line_of, number_kinds, number_line_of, setup_kinds, setup_line_of, in_few}
 use Rattle.media_script.specs.Names.{codec_text}
-use Rattle.media_script.specs.Spelling.{IsRepairType, IsSetupLine}
-use Rattle.media_script.specs.Words.{repair_type_of, ◌>>=◌}
-use Rattle.media_script.proofs.WordLaws.{number_spelled, number_again, millis_spelled, millis_again, at_most_spelled, at_most_again, narrow_spelled, narrow_again, side_spelled, side_again, cipher_spelled, cipher_again, profile_spelled, profile_again, key_spelled, key_again, extension_spelled, extension_again, codec_spelled, codec_again, media_kind_spelled, media_kind_again, rate_spelled, rate_again, repair_type_spelled, repair_type_again, name_spelled, name_again, bind_some, optional_32_spelled, rtx_again, cap_again, rid_spelled, rid_again}
-use Rattle.media_script.proofs.KindLaws.{Tells, done_tells, then_tells, rest_tells, look_up_tells, none_tells}
+use Rattle.media_script.specs.Spelling.{IsNamedType, flag_words, IsSetupLine}
+use Rattle.media_script.specs.Words.{type_behind, ◌>>=◌}
+use Rattle.media_script.proofs.WordLaws.{number_spelled, number_again, millis_spelled, millis_again, at_most_spelled, at_most_again, narrow_spelled, narrow_again, side_spelled, side_again, cipher_spelled, cipher_again, profile_spelled, profile_again, key_spelled, key_again, extension_spelled, extension_again, codec_spelled, codec_again, media_kind_spelled, media_kind_again, rate_spelled, rate_again, named_type_again, name_spelled, name_again, optional_32_spelled, rtx_again, cap_again, rid_spelled, rid_again}
+use Rattle.media_script.proofs.KindLaws.{Tells, done_tells, then_tells, named_type_tells, flag_tells, look_up_tells, none_tells}
 
 -- the words behind this first word
 abbrev Behind : List ℕ → List (List ℕ) → SetupLine → Type 0
@@ -55,23 +58,21 @@ ext_tells =
     then_tells (narrow_spelled (2 ^ 8)) (λ n id is. then_tells extension_spelled (λ e extension has.
     done_tells (is.1, λ i. codes "ext" ∷ is.0 i ∷ has i ∷ [])))
 
--- what stands behind the rate of a type
-repairs_are : (words : List (List ℕ)) (rtx : Option ℕ) → repairs_in words ≡ Some rtx → IsRepairType words rtx
-repairs_are [] None e = refl
-repairs_are [] (Some pt) e = absurd cc
-repairs_are (word ∷ []) rtx e = go rtx (bind_some (repair_type_of word) (λ pt. Some (Some pt)) rtx e) where
-  go : (o : Option ℕ) → (pt : ℕ) × (repair_type_of word ≡ Some pt) × (Some (Some pt) ≡ Some o) → IsRepairType (word ∷ []) o
-  go None p = absurd cc
-  go (Some n) p =
-      let same : p.0 ≡ n = cc in
-      let is = repair_type_spelled word n (p.1 ∙ ap (λ (k : ℕ). Some k) same) in
-      (ap (λ (w : List ℕ). w ∷ []) is.0, is.1)
-repairs_are (word ∷ other ∷ words) rtx e = absurd cc
+-- the line of a type with these options
+abbrev type_with : ℕ → Codec → ℕ → Option ℕ → Option ℕ → Bool → Bool → SetupLine
+type_with pt codec rate rtx red pli fir = line.Type (record { pt = pt; codec = codec; rate = rate; rtx = rtx; red = red; pli = pli; fir = fir })
 
 type_tells : Tells type_line (Behind (codes "type"))
 type_tells =
     then_tells (narrow_spelled (2 ^ 8)) (λ p pt is. then_tells codec_spelled (λ c codec has. then_tells rate_spelled (λ w rate goes.
-    rest_tells _ (λ r rtx e. (r, repairs_are r rtx e, is.1, goes.1, goes.2, λ i. codes "type" ∷ is.0 i ∷ has i ∷ goes.0 i ∷ r)))))
+    named_type_tells (codes "rtx=") (λ r rtx again. named_type_tells (codes "red=") (λ d red twice.
+    flag_tells (codes "pli") (λ pli. flag_tells (codes "fir") (λ fir.
+    done_tells {l = type_with pt codec rate rtx red pli fir}
+    (r, d, again, twice, is.1, goes.1, goes.2, λ i. codes "type" ∷ is.0 i ∷ has i ∷ goes.0 i ∷ spelled r d pli fir i))))))))
+  where
+    spelled : (r d : List (List ℕ)) (pli fir : Bool) → r ++ (d ++ (flag_words (codes "pli") pli ++ (flag_words (codes "fir") fir ++ [])))
+        ≡ r ++ (d ++ (flag_words (codes "pli") pli ++ flag_words (codes "fir") fir))
+    spelled r d pli fir = ap (λ (ws : List (List ℕ)). r ++ (d ++ (flag_words (codes "pli") pli ++ ws))) (append-nil (flag_words (codes "fir") fir))
 
 media_tells : Tells media_line (Behind (codes "media"))
 media_tells =
@@ -112,15 +113,85 @@ pub setup_line_spelled : (words : List (List ℕ)) (said : SetupLine) → setup_
 unfolding setup_line_of
 setup_line_spelled = look_up_tells IsSetupLine number_line_of setup_kinds (cipher_tells, (profile_tells, (key_tells, (ext_tells, (type_tells, tt))))) number_line_spelled
 
-type_again : (pt : ℕ) (codec : Codec) (rate : ℕ) (rtx : Option ℕ) (r : List (List ℕ)) → IsRepairType r rtx → pt < 2 ^ 8 → 0 < rate → rate < 2 ^ 32
-    → in_few setup_line_of (codes "type" ∷ decimal pt ∷ codec_text codec ∷ decimal rate ∷ r) ≡ Some (line.Type (record { pt = pt; codec = codec; rate = rate; rtx = rtx }))
+-- the words behind the rate of a type are read one after the other
+
+abbrev flags : Bool → Bool → List (List ℕ)
+flags pli fir = flag_words (codes "pli") pli ++ flag_words (codes "fir") fir
+
+flags_again : (pli fir : Bool) (L : Type 0) (more : Bool → Bool → List (List ℕ) → Option L)
+    → with_flag (codes "pli") (λ a. with_flag (codes "fir") (more a)) (flags pli fir) ≡ more pli fir []
+flags_again false false L more = refl
+flags_again false true L more = refl
+flags_again true false L more = refl
+flags_again true true L more = refl
+
+no_red : (pli fir : Bool) → named_type (codes "red=") (flags pli fir) ≡ Some None
+unfolding type_behind
+no_red false false = refl
+no_red false true = refl
+no_red true fir = refl
+
+no_rtx : (d : List (List ℕ)) (red : Option ℕ) (pli fir : Bool) → IsNamedType (codes "red=") d red → named_type (codes "rtx=") (d ++ flags pli fir) ≡ Some None
+unfolding type_behind
+no_rtx d None false false is = rw is refl
+no_rtx d None false true is = rw is refl
+no_rtx d None true fir is = rw is refl
+no_rtx d (Some pt) pli fir is = rw is.0 refl
+
+type_read : (name : List ℕ) (r : List (List ℕ)) (o : Option ℕ) (words : List (List ℕ)) → IsNamedType name r o → named_type name words ≡ Some None
+    → {L : Type 0} (more : Option ℕ → List (List ℕ) → Option L) → with_type name more (r ++ words) ≡ more o words
+type_read name r None words is none more =
+    ap (λ (ws : List (List ℕ)). with_type name more (ws ++ words)) is ∙ ap (λ (p : Option (Option ℕ)). p >>= λ pt. more pt (behind (is_some pt) words)) none ∙ unread words
+  where
+    unread : (ws : List (List ℕ)) → more None (behind false ws) ≡ more None ws
+    unread [] = refl
+    unread (w ∷ ws) = refl
+type_read name r (Some pt) words is none more =
+    ap (λ (ws : List (List ℕ)). with_type name more (ws ++ words)) is.0
+    ∙ ap (λ (p : Option (Option ℕ)). p >>= λ n. more n (behind (is_some n) ((name ++ decimal pt) ∷ words))) (named_type_again name pt words is.1)
+
+short : (name : List ℕ) (r : List (List ℕ)) (o : Option ℕ) → IsNamedType name r o → length r ≤ 1
+short name r None is = omega (arith, ap length is)
+short name r (Some pt) is = omega (arith, ap length is.0)
+
+few_flags : (pli fir : Bool) → length (flags pli fir) ≤ 2
+few_flags false false = omega arith
+few_flags false true = omega arith
+few_flags true false = omega arith
+few_flags true true = omega arith
+
+few_words : (a b c e : List ℕ) (r d : List (List ℕ)) (rtx red : Option ℕ) (pli fir : Bool) → IsNamedType (codes "rtx=") r rtx → IsNamedType (codes "red=") d red
+    → is_long (a ∷ b ∷ c ∷ e ∷ (r ++ (d ++ flags pli fir))) ≡ false
+few_words a b c e r d rtx red pli fir again twice =
+    grind (
+      arith,
+      nat_tests,
+      length-append r (d ++ flags pli fir),
+      length-append d (flags pli fir),
+      short (codes "rtx=") r rtx again,
+      short (codes "red=") d red twice,
+      few_flags pli fir,
+    )
+
+type_again : (t : PayloadType) (r d : List (List ℕ)) → IsNamedType (codes "rtx=") r t.rtx → IsNamedType (codes "red=") d t.red → t.pt < 2 ^ 8 → 0 < t.rate → t.rate < 2 ^ 32
+    → in_few setup_line_of (codes "type" ∷ decimal t.pt ∷ codec_text t.codec ∷ decimal t.rate ∷ (r ++ (d ++ flags t.pli t.fir))) ≡ Some (line.Type t)
 unfolding setup_line_of
-type_again pt codec rate None r none small some fits =
-    ap (λ (ws : List (List ℕ)). in_few setup_line_of (codes "type" ∷ decimal pt ∷ codec_text codec ∷ decimal rate ∷ ws)) none
-    ∙ rw (narrow_again (2 ^ 8) pt (lit≤ tt) small, codec_again codec, rate_again rate some fits) refl
-type_again pt codec rate (Some again) r one small some fits =
-    ap (λ (ws : List (List ℕ)). in_few setup_line_of (codes "type" ∷ decimal pt ∷ codec_text codec ∷ decimal rate ∷ ws)) one.0
-    ∙ rw (narrow_again (2 ^ 8) pt (lit≤ tt) small, codec_again codec, rate_again rate some fits, repair_type_again again one.1) refl
+type_again t r d again twice small some fits =
+    rw (
+      few_words (codes "type") (decimal t.pt) (codec_text t.codec) (decimal t.rate) r d t.rtx t.red t.pli t.fir again twice,
+      narrow_again (2 ^ 8) t.pt (lit≤ tt) small,
+      codec_again t.codec,
+      rate_again t.rate some fits,
+    ) (
+    type_read (codes "rtx=") r t.rtx (d ++ flags t.pli t.fir) again (no_rtx d t.red t.pli t.fir twice)
+    (λ rtx. with_type (codes "red=") (λ red. with_flag (codes "pli") (λ pli. with_flag (codes "fir") (λ fir. done (made rtx red pli fir)))))
+    ∙ type_read (codes "red=") d t.red (flags t.pli t.fir) twice (no_red t.pli t.fir)
+    (λ red. with_flag (codes "pli") (λ pli. with_flag (codes "fir") (λ fir. done (made t.rtx red pli fir))))
+    ∙ flags_again t.pli t.fir SetupLine (λ pli fir. done (made t.rtx t.red pli fir))
+    )
+  where
+    made : Option ℕ → Option ℕ → Bool → Bool → SetupLine
+    made = type_with t.pt t.codec t.rate
 
 -- and what is spelled so is read
 pub setup_line_again : (words : List (List ℕ)) (said : SetupLine) → IsSetupLine words said → in_few setup_line_of words ≡ Some said
@@ -140,7 +211,7 @@ setup_line_again words (line.Local side ssrc) is =
 setup_line_again words (line.Ext named) is =
     ap (in_few setup_line_of) is.1 ∙ rw (narrow_again (2 ^ 8) named.id (lit≤ tt) is.0, extension_again named.extension) refl
 setup_line_again words (line.Type t) is =
-    ap (in_few setup_line_of) is.5 ∙ type_again t.pt t.codec t.rate t.rtx is.0 is.1 is.2 is.3 is.4
+    ap (in_few setup_line_of) is.7 ∙ type_again t is.0 is.1 is.2 is.3 is.4 is.5 is.6
 setup_line_again words (line.Media mid kind cname) is =
     ap (in_few setup_line_of) is.2 ∙ rw (name_again 16 mid is.0, media_kind_again kind, name_again 255 cname is.1) refl
 setup_line_again words (line.Stream mid stream) is =

@@ -6,10 +6,10 @@ use Rattle.media_model.specs.declared.entry.Side.{Side}
 use Rattle.media_model.specs.declared.entry.Write.{Write}
 use Rattle.media_model.specs.declared.step.Step.{Step}
 use Rattle.media_model.specs.declared.step.Step.TheVariants as step
-use Rattle.media_script.specs.Grammar.{sources_in, packet_step, write_step, tick_step, deliver_step, foreign_step, app_step, no_other, step_kinds, step_of, in_few}
+use Rattle.media_script.specs.Grammar.{sources_in, packet_step, write_step, tick_step, deliver_step, foreign_step, app_step, ask_step, remb_step, no_other, call_kinds, call_of, step_kinds, step_of, in_few}
 use Rattle.media_script.specs.Spelling.{IsTime, IsHex, AreSources, Fits, IsStep}
 use Rattle.media_script.specs.Names.{side_text, flag_text}
-use Rattle.media_script.proofs.WordLaws.{number_spelled, number_again, narrow_spelled, narrow_again, time_spelled, time_again, side_spelled, side_again, kind_spelled, kind_again, flag_spelled, flag_again, hex_spelled, hex_again, app_data_spelled, app_data_again, sources_spelled, sources_again}
+use Rattle.media_script.proofs.WordLaws.{number_spelled, number_again, narrow_spelled, narrow_again, time_spelled, time_again, side_spelled, side_again, kind_spelled, kind_again, keyframe_spelled, keyframe_again, flag_spelled, flag_again, hex_spelled, hex_again, app_data_spelled, app_data_again, sources_spelled, sources_again}
 use Rattle.media_script.proofs.KindLaws.{Tells, done_tells, then_tells, rest_tells, look_up_tells, none_tells}
 
 -- the words behind this first word
@@ -58,10 +58,24 @@ app_tells =
     then_tells (narrow_spelled (2 ^ 32)) (λ w4 media n4. then_tells app_data_spelled (λ h payload is.
     done_tells (t, h, at, n3.1, n4.1, is.0, is.1, λ i. codes "app" ∷ by i ∷ t ∷ n3.0 i ∷ n4.0 i ∷ h ∷ []))))))
 
+ask_tells : Tells ask_step (Behind (codes "ask"))
+ask_tells =
+    then_tells side_spelled (λ s side by. then_tells time_spelled (λ t time at. then_tells (narrow_spelled (2 ^ 32)) (λ w3 ssrc n3.
+    then_tells keyframe_spelled (λ w4 kind of. done_tells (t, at, n3.1, λ i. codes "ask" ∷ by i ∷ t ∷ n3.0 i ∷ of i ∷ [])))))
+
+remb_tells : Tells remb_step (Behind (codes "remb"))
+remb_tells =
+    then_tells side_spelled (λ s side by. then_tells time_spelled (λ t time at. then_tells (narrow_spelled (2 ^ 32)) (λ w3 ssrc n3.
+    then_tells number_spelled (λ w4 n is. done_tells (t, n, at, n3.1, is.1, refl, λ i. codes "remb" ∷ by i ∷ t ∷ n3.0 i ∷ is.0 i ∷ [])))))
+
+call_spelled : (words : List (List ℕ)) (did : Step) → call_of words ≡ Some did → IsStep words did
+unfolding call_of
+call_spelled = look_up_tells IsStep no_other call_kinds (app_tells, (ask_tells, (remb_tells, tt))) (none_tells IsStep)
+
 -- what a line says is how it is spelled
 pub step_spelled : (words : List (List ℕ)) (did : Step) → step_of words ≡ Some did → IsStep words did
 unfolding step_of
-step_spelled = look_up_tells IsStep no_other step_kinds (write_tells, (tick_tells, (deliver_tells, (foreign_tells, (app_tells, tt))))) (none_tells IsStep)
+step_spelled = look_up_tells IsStep call_of step_kinds (write_tells, (tick_tells, (deliver_tells, (foreign_tells, tt)))) call_spelled
 
 -- the words of a write, with these behind the payload
 abbrev write_words : Side → Write → List ℕ → List ℕ → List (List ℕ) → List (List ℕ)
@@ -102,7 +116,7 @@ write_again side time w t h c at payload (inr one) fits =
 
 -- and what is spelled so is read
 pub step_again : (words : List (List ℕ)) (did : Step) → IsStep words did → in_few step_of words ≡ Some did
-unfolding step_of packet_step
+unfolding step_of call_of packet_step
 step_again words (step.Tick side time) is = ap (in_few step_of) is.2 ∙ rw (side_again side, time_again is.0 time is.1) refl
 step_again words (step.Deliver side time k) is =
     ap (in_few step_of) is.3 ∙ rw (side_again side, time_again is.0 time is.1, number_again k is.2) refl
@@ -119,3 +133,10 @@ step_again words (step.Application side time sender media payload) is =
       narrow_again (2 ^ 32) media (lit≤ tt) is.4,
       app_data_again is.1 payload is.5 is.6,
     ) refl
+step_again words (step.Ask side time ssrc kind) is =
+    ap (in_few step_of) is.3
+    ∙ rw (side_again side, time_again is.0 time is.1, narrow_again (2 ^ 32) ssrc (lit≤ tt) is.2, keyframe_again kind) refl
+step_again words (step.Remb side time ssrc rate) is =
+    ap (in_few step_of) is.6
+    ∙ rw (side_again side, time_again is.0 time is.2, narrow_again (2 ^ 32) ssrc (lit≤ tt) is.3, number_again is.1 is.4)
+    (ap (λ (n : ℕ). Some (step.Remb side time ssrc n)) (sym is.5))

@@ -1,18 +1,18 @@
 -- What a word says is how it is spelled, and the other way round.
 use Rattle.std.proofs.Common.{◌≡◌, ◌⊎◌, lit<, lit≤, inl, inr, ℕ, zero, suc, ◌+◌, ◌-◌, ◌*◌, ◌%◌, ◌^◌, ◌<◌, ◌≤◌, Bool, true, false, cond, not, ◌&&◌, eqb, leb, ltb, List, [], ◌∷◌, ◌++◌, length, take, drop, get_or, Option, Some, None, Result, Ok, Err, refl, sym, ap, ◌∙◌, subst, arith}
-use Rattle.std.specs.Prelude.{codes}
+use Rattle.std.specs.Prelude.{codes, nat_eq, is_some}
 use Rattle.std.specs.Fmt.{decimal}
 use Rattle.std.specs.Str.{all_ascii_digits, bytes_eq}
 use Rattle.std.specs.Str.Parse.{digits_value}
 use Rattle.std.specs.Result.{result_ok}
 use Rattle.std.proofs.lemmas.Bool.{leb-true, ltb-true, lt-ltb, eq-eqb}
 use Rattle.std.proofs.lemmas.Bool.Decides.{nat_tests, Decides-eqb}
-use Rattle.std.proofs.lemmas.List.{get_or_at, length-append, take_at}
+use Rattle.std.proofs.lemmas.List.{get_or_at, length-append, take_at, drop_at}
 use Rattle.std.proofs.lemmas.Slice.Eq.{bytes_eq-Decides, starts_is, ends_is}
 use Rattle.std.proofs.lemmas.Fmt.{decimal-digits_value, digits_decimal, digits_value-decimal, decimal_nonempty, first_decimal, decimal_digit}
 use Rattle.std.proofs.lemmas.Str.Parse.{IsNumeralModel, digit_at, numerals_by_value, tells_all_ascii_digits}
 use Rattle.std.specs.Char.{is_ascii_alphanumeric}
-use Rattle.std.specs.List.{list_all}
+use Rattle.std.specs.List.{list_all, starts_with}
 use Rattle.std.proofs.lemmas.List.Sums.{AllPass-from_list_all, list_all-from_AllPass}
 use Rattle.hex.specs.Hex.{decode_of, decode_pairs}
 use Rattle.srtp_core.specs.declared.profile.SrtpProfile.{SrtpProfile}
@@ -34,9 +34,12 @@ use Rattle.media_model.specs.Application.{AreFew, are_few, data_of}
 use Rattle.rtp_wire.specs.Bytes.{words_of as numbers_in}
 use Rattle.rtp_wire.specs.declared.extension.Extension.{Extension}
 use Rattle.rtp_wire.specs.declared.extension.Extension.TheVariants.{AudioLevel, AbsoluteSendTime, TransportSequenceNumber, RtpMid, RtpStreamId, RepairedRtpStreamId, VideoOrientation, AbsoluteCaptureTime, PlayoutDelay}
-use Rattle.media_script.specs.Words.{◌>>=◌, below, plain_front, is_number, number_of, narrow_of, millis_of, has_ms, time_of, side_of, flag_of, hex_of, app_data_of, kinds, kind_of, at_most, key_of, one_of, ciphers, cipher_of, profiles, profile_of, codecs, codec_of, media_kind_of, rate_of, is_name, name_of, extensions, extension_of, numbers_of, has_c, sources_of, has_rtx, repair_type_of, optional}
-use Rattle.media_script.specs.Names.{side_text, flag_text, kind_text, cipher_text, profile_text, codec_text, media_kind_text, extension_text}
-use Rattle.media_script.specs.Spelling.{IsTime, IsHex, IsName, IsKey, IsOptional, IsBelow, IsNamed, IsSources}
+use Rattle.rtp_base.specs.declared.keyframe_request.KeyframeRequestKind.{KeyframeRequestKind}
+use Rattle.rtp_base.specs.declared.keyframe_request.KeyframeRequestKind.TheVariants.{Pli, Fir}
+use Rattle.media_script.specs.Words.{◌>>=◌, below, plain_front, is_number, number_of, narrow_of, millis_of, has_ms, time_of, side_of, flag_of, hex_of, app_data_of, kinds, kind_of, keyframe_of, at_most, key_of, one_of, ciphers, cipher_of, profiles, profile_of, codecs, codec_of, media_kind_of, rate_of, is_name, name_of, extensions, extension_of, numbers_of, has_c, sources_of, type_behind, optional}
+use Rattle.media_script.specs.Names.{side_text, flag_text, kind_text, keyframe_text, cipher_text, profile_text, codec_text, media_kind_text, extension_text}
+use Rattle.media_script.specs.Grammar.{named_type, behind}
+use Rattle.media_script.specs.Spelling.{IsTime, IsHex, IsName, IsKey, IsOptional, IsBelow, IsNamed, IsNamedType, IsSources}
 
 own : IsNumeralModel (λ ds. all_ascii_digits ds ≡ true) (digits_value 10)
 own = numerals_by_value _ tells_all_ascii_digits
@@ -275,6 +278,15 @@ unfolding kind_of
 kind_again Rtp = refl
 kind_again Rtcp = refl
 
+pub keyframe_spelled : (word : List ℕ) (kind : KeyframeRequestKind) → keyframe_of word ≡ Some kind → word ≡ keyframe_text kind
+unfolding keyframe_of
+keyframe_spelled word kind e = one_spelled keyframe_text (Pli ∷ Fir ∷ []) word kind e
+
+pub keyframe_again : (kind : KeyframeRequestKind) → keyframe_of (keyframe_text kind) ≡ Some kind
+unfolding keyframe_of
+keyframe_again Pli = refl
+keyframe_again Fir = refl
+
 pub cipher_spelled : (word : List ℕ) (cipher : CipherName) → cipher_of word ≡ Some cipher → word ≡ cipher_text cipher
 unfolding cipher_of
 cipher_spelled word cipher e = one_spelled cipher_text ciphers word cipher e
@@ -394,21 +406,40 @@ sources_again word csrc is =
     let small : leb (length is.bytes) 60 ≡ true = grind (arith, nat_tests, is.whole, is.few) in
     rw ((c_is word).1 is.digits is.spelled, behind, hex_again is.digits is.bytes is.hex, rest, small) (ap (λ (ns : List ℕ). Some ns) (sym is.numbers))
 
--- the type of repairs
-rtx_is : (word : List ℕ) → (has_rtx word ≡ true → word ≡ codes "rtx=" ++ drop 4 word) × ((rest : List ℕ) → word ≡ codes "rtx=" ++ rest → has_rtx word ≡ true)
-rtx_is word = starts_is Decides-eqb word (codes "rtx=") (has_rtx word) refl
+-- a payload type behind a name
 
-pub repair_type_spelled : (word : List ℕ) (pt : ℕ) → repair_type_of word ≡ Some pt → (word ≡ codes "rtx=" ++ decimal pt) × (pt < 2 ^ 8)
-unfolding repair_type_of
-repair_type_spelled word pt e =
-    let a = if_then (has_rtx word) (narrow_of (2 ^ 8) (drop 4 word)) pt e in
-    let b = narrow_spelled (2 ^ 8) (drop 4 word) pt a.1 in
-    ((rtx_is word).0 a.0 ∙ ap (λ (digits : List ℕ). codes "rtx=" ++ digits) b.0, b.1)
+name_is : (name word : List ℕ) → (starts_with nat_eq word name ≡ true → word ≡ name ++ drop (length name) word)
+    × ((rest : List ℕ) → word ≡ name ++ rest → starts_with nat_eq word name ≡ true)
+name_is name word = starts_is Decides-eqb word name (starts_with nat_eq word name) refl
 
-pub repair_type_again : (pt : ℕ) → pt < 2 ^ 8 → repair_type_of (codes "rtx=" ++ decimal pt) ≡ Some pt
-unfolding repair_type_of
-repair_type_again pt lt =
-    ap (λ b. cond b (narrow_of (2 ^ 8) (decimal pt)) None) ((rtx_is (codes "rtx=" ++ decimal pt)).1 (decimal pt) refl) ∙ narrow_again (2 ^ 8) pt (lit≤ tt) lt
+pub named_type_spelled : (name : List ℕ) (words : List (List ℕ)) (o : Option ℕ) → named_type name words ≡ Some o
+    → (r : List (List ℕ)) × IsNamedType name r o × (words ≡ r ++ behind (is_some o) words)
+unfolding type_behind
+named_type_spelled name [] None e = ([], refl, refl)
+named_type_spelled name [] (Some pt) e = absurd cc
+named_type_spelled name (word ∷ words) o e = go (starts_with nat_eq word name) refl o e
+  where
+    go : (b : Bool) → starts_with nat_eq word name ≡ b → (o : Option ℕ)
+        → cond b (narrow_of (2 ^ 8) (drop (length name) word) >>= λ pt. Some (Some pt)) (Some None) ≡ Some o
+        → (r : List (List ℕ)) × IsNamedType name r o × (word ∷ words ≡ r ++ behind (is_some o) (word ∷ words))
+    go true t None is = let b = bind_some (narrow_of (2 ^ 8) (drop (length name) word)) (λ pt. Some (Some pt)) None is in let told = b.2 in absurd cc
+    go true t (Some pt) is =
+        let b = bind_some (narrow_of (2 ^ 8) (drop (length name) word)) (λ pt. Some (Some pt)) (Some pt) is in
+        let told = b.2 in
+        let same : b.0 ≡ pt = cc in
+        let fits = narrow_spelled (2 ^ 8) (drop (length name) word) pt (b.1 ∙ ap (λ (n : ℕ). Some n) same) in
+        let spelled : word ≡ name ++ decimal pt = (name_is name word).0 t ∙ ap (λ (digits : List ℕ). name ++ digits) fits.0 in
+        (word ∷ [], (ap (λ (w : List ℕ). w ∷ []) spelled, fits.1), refl)
+    go false f None is = ([], refl, refl)
+    go false f (Some pt) is = absurd cc
+
+pub named_type_again : (name : List ℕ) (pt : ℕ) (words : List (List ℕ)) → pt < 2 ^ 8 → named_type name ((name ++ decimal pt) ∷ words) ≡ Some (Some pt)
+unfolding type_behind
+named_type_again name pt words lt =
+    ap (λ b. cond b (narrow_of (2 ^ 8) (drop (length name) (name ++ decimal pt)) >>= λ n. Some (Some n)) (Some None))
+    ((name_is name (name ++ decimal pt)).1 (decimal pt) refl)
+    ∙ ap (λ (digits : List ℕ). narrow_of (2 ^ 8) digits >>= λ n. Some (Some n)) (drop_at name (decimal pt) (length name) refl)
+    ∙ ap (λ o. o >>= λ n. Some (Some n)) (narrow_again (2 ^ 8) pt (lit≤ tt) lt)
 
 -- names
 pub name_spelled : (most : ℕ) (word name : List ℕ) → name_of most word ≡ Some name → (word ≡ name) × IsName most name

@@ -1,5 +1,5 @@
 -- What is read of a script, and the first line outside the grammar.
-use Rattle.std.specs.Prelude.{ℕ, map, ◌+◌, ◌^◌, List, [], ◌∷◌, ◌++◌, length, Bool, nat_lt, ◌==◌, if◌then◌else◌, Option, Some, None, Result, Ok, Err, codes}
+use Rattle.std.specs.Prelude.{ℕ, map, min, ◌+◌, ◌^◌, List, [], ◌∷◌, ◌++◌, length, Bool, true, false, nat_lt, ◌==◌, if◌then◌else◌, Option, Some, None, is_some, Result, Ok, Err, codes}
 use Rattle.std.specs.Borrow.{Bor}
 use Rattle.std.specs.List.{slice_split}
 use Rattle.std.specs.Str.{bytes_eq}
@@ -14,7 +14,7 @@ use Rattle.media_model.specs.declared.step.Step.TheVariants as step
 use Rattle.media_script.specs.Draft.{setup_of}
 use Rattle.media_script.specs.Order.{none_said, with_line}
 use Rattle.media_script.specs.Spelling.{words_of, is_passed_over}
-use Rattle.media_script.specs.Words.{◌>>=◌, number_of, narrow_of, millis_of, time_of, side_of, flag_of, hex_of, app_data_of, kind_of, at_most, cipher_of, profile_of, key_of, codec_of, media_kind_of, rate_of, name_of, extension_of, sources_of, repair_type_of, optional}
+use Rattle.media_script.specs.Words.{◌>>=◌, number_of, narrow_of, millis_of, time_of, side_of, flag_of, hex_of, app_data_of, kind_of, keyframe_of, at_most, cipher_of, profile_of, key_of, codec_of, media_kind_of, rate_of, name_of, extension_of, sources_of, type_behind, optional}
 
 -- the words without where they lie in memory
 abbrev pub texts : List (Bor (List ℕ)) → List (List ℕ)
@@ -95,18 +95,38 @@ ext_line =
     and_then extension_of (λ extension.
     done (line.Ext (record { id = id; extension = extension }))))
 
--- what the words behind the rate of a type say: no repairs, or the type of them
-abbrev pub repairs_in : List (List ℕ) → Option (Option ℕ)
-repairs_in [] = Some None
-repairs_in (word ∷ []) = repair_type_of word >>= λ pt. Some (Some pt)
-repairs_in words = None
+-- the payload type behind a name, where the first of these words has that
+abbrev pub named_type : List ℕ → List (List ℕ) → Option (Option ℕ)
+named_type name [] = Some None
+named_type name (word ∷ words) = type_behind name word
+
+-- whether the first of these words is this
+abbrev pub is_flagged : List ℕ → List (List ℕ) → Bool
+is_flagged name [] = false
+is_flagged name (word ∷ words) = bytes_eq word name
+
+-- these words, without the first one where that was read
+abbrev pub behind : Bool → List (List ℕ) → List (List ℕ)
+behind true (word ∷ words) = words
+behind was_read words = words
+
+-- what stands behind words that may be missing
+abbrev pub with_type : {X : Type 0} → List ℕ → (Option ℕ → List (List ℕ) → Option X) → List (List ℕ) → Option X
+with_type name more words = named_type name words >>= λ pt. more pt (behind (is_some pt) words)
+
+abbrev pub with_flag : {X : Type 0} → List ℕ → (Bool → List (List ℕ) → Option X) → List (List ℕ) → Option X
+with_flag name more words = more (is_flagged name words) (behind (is_flagged name words) words)
 
 abbrev pub type_line : List (List ℕ) → Option SetupLine
 type_line =
     and_then (narrow_of (2 ^ 8)) (λ pt.
     and_then codec_of (λ codec.
-    and_then rate_of (λ rate words. repairs_in words >>= λ rtx.
-    Some (line.Type (record { pt = pt; codec = codec; rate = rate; rtx = rtx })))))
+    and_then rate_of (λ rate.
+    with_type (codes "rtx=") (λ rtx.
+    with_type (codes "red=") (λ red.
+    with_flag (codes "pli") (λ pli.
+    with_flag (codes "fir") (λ fir.
+    done (line.Type (record { pt = pt; codec = codec; rate = rate; rtx = rtx; red = red; pli = pli; fir = fir })))))))))
 
 abbrev pub media_line : List (List ℕ) → Option SetupLine
 media_line =
@@ -239,18 +259,40 @@ app_step =
     and_then app_data_of (λ payload.
     done (step.Application side time sender media payload))))))
 
+abbrev pub ask_step : List (List ℕ) → Option Step
+ask_step =
+    and_then side_of (λ side.
+    and_then time_of (λ time.
+    and_then (narrow_of (2 ^ 32)) (λ ssrc.
+    and_then keyframe_of (λ kind.
+    done (step.Ask side time ssrc kind)))))
+
+abbrev pub remb_step : List (List ℕ) → Option Step
+remb_step =
+    and_then side_of (λ side.
+    and_then time_of (λ time.
+    and_then (narrow_of (2 ^ 32)) (λ ssrc.
+    and_then number_of (λ rate.
+    done (step.Remb side time ssrc (min rate 10000000000))))))
+
+abbrev pub call_kinds : List (List ℕ × (List (List ℕ) → Option Step))
+call_kinds = (codes "app", app_step) ∷ (codes "ask", ask_step) ∷ (codes "remb", remb_step) ∷ []
+
+-- what an application calls beside writes
+unfoldable pub call_of : List (List ℕ) → Option Step
+call_of words = look_up no_other call_kinds words
+
 abbrev pub step_kinds : List (List ℕ × (List (List ℕ) → Option Step))
 step_kinds =
     (codes "write", write_step)
     ∷ (codes "tick", tick_step)
     ∷ (codes "deliver", deliver_step)
     ∷ (codes "foreign", foreign_step)
-    ∷ (codes "app", app_step)
     ∷ []
 
 -- the step of a line
 unfoldable pub step_of : List (List ℕ) → Option Step
-step_of words = look_up no_other step_kinds words
+step_of words = look_up call_of step_kinds words
 
 -- what was read so far, and one more line that is not passed over
 unfoldable pub read_on : Reader → List ℕ → Option Reader

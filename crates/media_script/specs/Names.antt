@@ -5,7 +5,9 @@ use Rattle.srtp_core.specs.declared.profile.SrtpProfile.TheVariants.{Aes128CmSha
 use Rattle.media_model.specs.declared.entry.Side.{Side}
 use Rattle.media_model.specs.declared.entry.Side.TheVariants.{A, B}
 use Rattle.media_model.specs.declared.entry.Call.{Call}
-use Rattle.media_model.specs.declared.entry.Call.TheVariants.{Application}
+use Rattle.media_model.specs.declared.entry.Call.TheVariants.{Application, Ask, Remb}
+use Rattle.rtp_base.specs.declared.keyframe_request.KeyframeRequestKind.{KeyframeRequestKind}
+use Rattle.rtp_base.specs.declared.keyframe_request.KeyframeRequestKind.TheVariants.{Pli, Fir}
 use Rattle.rtp_base.specs.declared.kind.Kind.{Kind}
 use Rattle.rtp_base.specs.declared.kind.Kind.TheVariants.{Rtp, Rtcp}
 use Rattle.media_model.specs.declared.setup.CipherName.{CipherName}
@@ -28,6 +30,13 @@ kind_text Rtcp = codes "rtcp"
 -- what an application asks of its session
 abbrev pub call_text : Call → List ℕ
 call_text Application = codes "app"
+call_text Ask = codes "ask"
+call_text Remb = codes "remb"
+
+-- how a key frame is asked for
+abbrev pub keyframe_text : KeyframeRequestKind → List ℕ
+keyframe_text Pli = codes "pli"
+keyframe_text Fir = codes "fir"
 
 abbrev pub flag_text : Bool → List ℕ
 flag_text false = codes "0"

@@ -1,5 +1,5 @@
 -- The grammar of scripts: which bytes spell which setup and steps.
-use Rattle.std.specs.Prelude.{◌≡◌, ◌≢◌, ◌⊎◌, ℕ, ◌*◌, ◌^◌, ◌<◌, ◌≤◌, List, [], ◌∷◌, ◌++◌, length, slice_index, Bool, not, ◌==◌, ◌||◌, filter, Option, Some, None, Ok, codes, All}
+use Rattle.std.specs.Prelude.{◌≡◌, ◌≢◌, ◌⊎◌, ℕ, min, ◌*◌, ◌^◌, ◌<◌, ◌≤◌, List, [], ◌∷◌, ◌++◌, length, slice_index, Bool, true, false, not, ◌==◌, ◌||◌, filter, Option, Some, None, Ok, codes, All}
 use Rattle.std.specs.Char.{is_ascii_alphanumeric}
 use Rattle.std.specs.Fmt.{decimal}
 use Rattle.std.specs.List.{slice_split, flat_map, AllByRecursion, AllPass}
@@ -14,7 +14,7 @@ use Rattle.media_script.specs.declared.setup_line.SetupLine.TheVariants as line
 use Rattle.media_model.specs.declared.step.Step.{Step}
 use Rattle.media_model.specs.declared.step.Step.TheVariants as step
 use Rattle.rtp_wire.specs.Bytes.{words_of as numbers_in}
-use Rattle.media_script.specs.Names.{side_text, kind_text, flag_text, cipher_text, profile_text, codec_text, media_kind_text, extension_text}
+use Rattle.media_script.specs.Names.{side_text, kind_text, keyframe_text, flag_text, cipher_text, profile_text, codec_text, media_kind_text, extension_text}
 use Rattle.media_script.specs.Draft.{setup_of}
 use Rattle.media_script.specs.Order.{AreInOrder, said_by}
 
@@ -49,10 +49,15 @@ IsBelow limit word n = (word ≡ decimal n) × (n < limit)
 abbrev pub IsNamed : List ℕ → List ℕ → Type 0
 IsNamed word rid = (word ≡ rid) × IsName 16 rid
 
--- no word where a type has no repairs, or one word that says their type
-abbrev pub IsRepairType : List (List ℕ) → Option ℕ → Type 0
-IsRepairType words None = words ≡ []
-IsRepairType words (Some pt) = (words ≡ (codes "rtx=" ++ decimal pt) ∷ []) × (pt < 2 ^ 8)
+-- no word where there is no such type, or one word that says it behind this name
+abbrev pub IsNamedType : List ℕ → List (List ℕ) → Option ℕ → Type 0
+IsNamedType name words None = words ≡ []
+IsNamedType name words (Some pt) = (words ≡ (name ++ decimal pt) ∷ []) × (pt < 2 ^ 8)
+
+-- this word, or none
+abbrev pub flag_words : List ℕ → Bool → List (List ℕ)
+flag_words name false = []
+flag_words name true = name ∷ []
 
 -- the words of a setup line
 abbrev pub IsSetupLine : List (List ℕ) → SetupLine → Type 0
@@ -79,10 +84,12 @@ IsSetupLine words (line.Local side ssrc) = (ssrc < 2 ^ 32) × (words ≡ codes "
 -- an id and the header extension that it names
 IsSetupLine words (line.Ext named) =
     (named.id < 2 ^ 8) × (words ≡ codes "ext" ∷ decimal named.id ∷ extension_text named.extension ∷ [])
--- a payload type, its clock rate, and the type of its repairs
+-- a payload type, its clock rate, the type of its repairs, that of its redundant data, and how a key frame of it may be asked for
 IsSetupLine words (line.Type t) =
-    (r : List (List ℕ)) × IsRepairType r t.rtx × (t.pt < 2 ^ 8) × (0 < t.rate) × (t.rate < 2 ^ 32)
-    × (words ≡ codes "type" ∷ decimal t.pt ∷ codec_text t.codec ∷ decimal t.rate ∷ r)
+    (rtx : List (List ℕ)) × (red : List (List ℕ)) × IsNamedType (codes "rtx=") rtx t.rtx × IsNamedType (codes "red=") red t.red
+    × (t.pt < 2 ^ 8) × (0 < t.rate) × (t.rate < 2 ^ 32)
+    × (words ≡ codes "type" ∷ decimal t.pt ∷ codec_text t.codec ∷ decimal t.rate
+    ∷ (rtx ++ (red ++ (flag_words (codes "pli") t.pli ++ flag_words (codes "fir") t.fir))))
 IsSetupLine words (line.Media mid kind cname) =
     IsName 16 mid × IsName 255 cname × (words ≡ codes "media" ∷ mid ∷ media_kind_text kind ∷ cname ∷ [])
 IsSetupLine words (line.Stream mid stream) =
@@ -136,6 +143,13 @@ IsStep words (step.Foreign side time kind bytes) =
 IsStep words (step.Application side time sender media payload) =
     (t : List ℕ) × (h : List ℕ) × IsTime t time × (sender < 2 ^ 32) × (media < 2 ^ 32) × IsHex h payload × AreFew payload
     × (words ≡ codes "app" ∷ side_text side ∷ t ∷ decimal sender ∷ decimal media ∷ h ∷ [])
+-- a request for a key frame of the stream of an SSRC
+IsStep words (step.Ask side time ssrc kind) =
+    (t : List ℕ) × IsTime t time × (ssrc < 2 ^ 32) × (words ≡ codes "ask" ∷ side_text side ∷ t ∷ decimal ssrc ∷ keyframe_text kind ∷ [])
+-- the greatest rate of the stream of an SSRC, in bits a second: above 10 Gbit/s it is 10 Gbit/s
+IsStep words (step.Remb side time ssrc rate) =
+    (t : List ℕ) × (n : ℕ) × IsTime t time × (ssrc < 2 ^ 32) × (n < 2 ^ 64) × (rate ≡ min n 10000000000)
+    × (words ≡ codes "remb" ∷ side_text side ∷ t ∷ decimal ssrc ∷ decimal n ∷ [])
 
 -- one space stands between two words
 abbrev pub words_of : List ℕ → List (List ℕ)

@@ -24,7 +24,9 @@ use Rattle.media_model.specs.Application.{data_of}
 use Rattle.rtp_wire.specs.Bytes.{words_of as numbers_in}
 use Rattle.rtp_wire.specs.declared.extension.Extension.{Extension}
 use Rattle.rtp_wire.specs.declared.extension.Extension.TheVariants.{AudioLevel, AbsoluteSendTime, TransportSequenceNumber, RtpMid, RtpStreamId, RepairedRtpStreamId, VideoOrientation, AbsoluteCaptureTime, PlayoutDelay}
-use Rattle.media_script.specs.Names.{kind_text, cipher_text, profile_text, codec_text, media_kind_text, extension_text}
+use Rattle.rtp_base.specs.declared.keyframe_request.KeyframeRequestKind.{KeyframeRequestKind}
+use Rattle.rtp_base.specs.declared.keyframe_request.KeyframeRequestKind.TheVariants.{Pli, Fir}
+use Rattle.media_script.specs.Names.{kind_text, keyframe_text, cipher_text, profile_text, codec_text, media_kind_text, extension_text}
 
 infixl 10 ◌>>=◌
 abbrev pub ◌>>=◌ : {A B : Type 0} → Option A → (A → Option B) → Option B
@@ -109,6 +111,9 @@ kinds = Rtp ∷ Rtcp ∷ []
 unfoldable pub kind_of : List ℕ → Option Kind
 kind_of word = one_of kind_text kinds word
 
+unfoldable pub keyframe_of : List ℕ → Option KeyframeRequestKind
+keyframe_of word = one_of keyframe_text (Pli ∷ Fir ∷ []) word
+
 abbrev pub ciphers : List CipherName
 ciphers = Toy ∷ Sha ∷ []
 
@@ -157,12 +162,10 @@ has_c word = starts_with nat_eq word (codes "c=")
 unfoldable pub sources_of : List ℕ → Option (List ℕ)
 sources_of word = if has_c word then (hex_of (drop 2 word) >>= λ bytes. numbers_of bytes) else None
 
-abbrev pub has_rtx : List ℕ → Bool
-has_rtx word = starts_with nat_eq word (codes "rtx=")
-
--- rtx= and a payload type
-unfoldable pub repair_type_of : List ℕ → Option ℕ
-repair_type_of word = if has_rtx word then narrow_of (2 ^ 8) (drop 4 word) else None
+-- the payload type behind a name, where the word has that
+unfoldable pub type_behind : List ℕ → List ℕ → Option (Option ℕ)
+type_behind name word =
+    if starts_with nat_eq word name then (narrow_of (2 ^ 8) (drop (length name) word) >>= λ pt. Some (Some pt)) else Some None
 
 -- units of RTP time in a second
 unfoldable pub rate_of : List ℕ → Option ℕ

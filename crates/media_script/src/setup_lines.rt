@@ -1,7 +1,7 @@
 // The words of a setup line.
 ghost use Rattle.std.specs.Prelude.{◌≡◌};
 ghost use Rattle.media_script.specs.Gives.{Gives};
-ghost use Rattle.media_script.specs.Grammar.{texts, cipher_line, profile_line, key_line, unix_line, mtu_line, pause_line, reports_line, rtcp_line, local_line, ext_line, repairs_in, type_line, media_line, stream_line, start_line, cache_line, side_line_of, named_line_of, number_line_of, setup_line_of, in_few};
+ghost use Rattle.media_script.specs.Grammar.{texts, cipher_line, profile_line, key_line, unix_line, mtu_line, pause_line, reports_line, rtcp_line, local_line, ext_line, done, named_type, is_flagged, behind, type_line, media_line, stream_line, start_line, cache_line, side_line_of, named_line_of, number_line_of, setup_line_of, in_few};
 ghost use Rattle.media_script.specs.Spelling.{words_of};
 
 use crate::error::LineError;
@@ -10,7 +10,7 @@ use crate::setup_line::SetupLine;
 use crate::words::{
     cipher as cipher_word, codec, extension, first_number, key as key_word, media_kind, mid,
     millis, name, number, number_8, number_32, optional_32, optional_name, profile as profile_word,
-    rate, repair_type, rid, side, srtcp_index,
+    rate, rid, side, srtcp_index, type_behind,
 };
 use media_base::{Beginning, Bytes, Duration};
 use media_model::{
@@ -120,13 +120,42 @@ fn ext(words: &[&[u8]]) -> Result<SetupLine, LineError>
     }
 }
 
-// The type of the repairs of a type, which the words behind its rate say.
-fn repairs(words: &[&[u8]]) -> Result<Option<Pt>, LineError>
-    ensures { Gives (λ o. o) result (repairs_in (texts words.now)) }
+// The payload type behind a name, where the first of these words has that.
+fn named_type(name: &[u8], words: &[&[u8]]) -> Result<Option<Pt>, LineError>
+    ensures { Gives (λ pt. pt) result (named_type name.now (texts words.now)) }
 {
     match words {
+        [word, ..] => type_behind(name, word),
         [] => Ok(None),
-        [word] => Ok(Some(Pt::from(repair_type(word)?))),
+    }
+}
+
+// Whether the first of these words is this.
+fn is_flagged(name: &[u8], words: &[&[u8]]) -> bool
+    ensures { result ≡ is_flagged name.now (texts words.now) }
+{
+    match words {
+        [word, ..] => *word == name,
+        [] => false,
+    }
+}
+
+// These words, without the first one where that was read.
+fn behind<'a, 'w>(was_read: bool, words: &'w [&'a [u8]]) -> &'w [&'a [u8]]
+    ensures { texts result.now ≡ behind was_read (texts words.now) }
+{
+    match words {
+        [_, rest @ ..] if was_read => rest,
+        _ => words,
+    }
+}
+
+// A line behind which no words are left.
+fn alone(line: SetupLine, words: &[&[u8]]) -> Result<SetupLine, LineError>
+    ensures { Gives (λ l. l) result (done line (texts words.now)) }
+{
+    match words {
+        [] => Ok(line),
         _ => Err(LineError::Outside),
     }
 }
@@ -135,12 +164,28 @@ fn payload_type(words: &[&[u8]]) -> Result<SetupLine, LineError>
     ensures { Gives (λ l. l) result (type_line (texts words.now)) }
 {
     match words {
-        [pt, name, per_second, rest @ ..] => Ok(SetupLine::Type(PayloadType {
-            pt: Pt::from(number_8(pt)?),
-            codec: codec(name)?,
-            rate: rate(per_second)?,
-            rtx: repairs(rest)?,
-        })),
+        [pt, name, per_second, options @ ..] => {
+            let pt = Pt::from(number_8(pt)?);
+            let codec = codec(name)?;
+            let rate = rate(per_second)?;
+            let rtx = named_type(b"rtx=".as_slice(), options)?;
+            let options = behind(rtx.is_some(), options);
+            let red = named_type(b"red=".as_slice(), options)?;
+            let options = behind(red.is_some(), options);
+            let pli = is_flagged(b"pli".as_slice(), options);
+            let options = behind(pli, options);
+            let fir = is_flagged(b"fir".as_slice(), options);
+            let line = SetupLine::Type(PayloadType {
+                pt,
+                codec,
+                rate,
+                rtx,
+                red,
+                pli,
+                fir,
+            });
+            alone(line, behind(fir, options))
+        }
         _ => Err(LineError::Outside),
     }
 }

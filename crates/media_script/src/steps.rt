@@ -1,16 +1,16 @@
 // The words of a step.
-ghost use Rattle.std.specs.Prelude.{◌≡◌};
+ghost use Rattle.std.specs.Prelude.{◌≡◌, ◌∷◌};
 ghost use Rattle.media_script.specs.Gives.{Gives};
-ghost use Rattle.media_script.specs.Grammar.{texts, sources_in, packet_step, write_step, tick_step, deliver_step, foreign_step, app_step, step_of, in_few};
+ghost use Rattle.media_script.specs.Grammar.{texts, sources_in, packet_step, write_step, tick_step, deliver_step, foreign_step, app_step, ask_step, remb_step, call_of, step_of, in_few};
 ghost use Rattle.media_script.specs.Spelling.{words_of};
 
 use crate::error::LineError;
 use crate::lines::{is_long, words};
 use crate::words::{
-    application_data, flag, hex, kind as kind_word, number, number_8, number_32, side,
+    application_data, flag, hex, keyframe, kind as kind_word, number, number_8, number_32, side,
     sources as sources_word, time,
 };
-use media_base::{Bytes, Instant};
+use media_base::{Bitrate, Bytes, Instant};
 use media_model::{Side, Sources, Step, Write};
 use rtp_wire::{Pt, SeqNo, Ssrc};
 use std::alloc::Global;
@@ -121,6 +121,50 @@ fn app(alloc: Global, words: &[&[u8]]) -> Result<Step, LineError>
     }
 }
 
+fn ask(words: &[&[u8]]) -> Result<Step, LineError>
+    ensures { Gives (λ s. s) result (ask_step (texts words.now)) }
+{
+    match words {
+        [by, at, ssrc, kind] => Ok(Step::Ask {
+            side: side(by)?,
+            time: Instant::from_nanos(time(at)?),
+            ssrc: Ssrc::from(number_32(ssrc)?),
+            kind: keyframe(kind)?,
+        }),
+        _ => Err(LineError::Outside),
+    }
+}
+
+fn remb(words: &[&[u8]]) -> Result<Step, LineError>
+    ensures { Gives (λ s. s) result (remb_step (texts words.now)) }
+{
+    match words {
+        [by, at, ssrc, rate] => Ok(Step::Remb {
+            side: side(by)?,
+            time: Instant::from_nanos(time(at)?),
+            ssrc: Ssrc::from(number_32(ssrc)?),
+            rate: Bitrate::bps(number(rate)?),
+        }),
+        _ => Err(LineError::Outside),
+    }
+}
+
+// What an application calls beside writes.
+#[tactic(auto, unfolding(crate::specs::Grammar::call_of))]
+fn call(alloc: Global, kind: &[u8], words: &[&[u8]]) -> Result<Step, LineError>
+    ensures { Gives (λ s. s) result (call_of (kind.now ∷ texts words.now)) }
+{
+    if kind == b"app".as_slice() {
+        app(alloc, words)
+    } else if kind == b"ask".as_slice() {
+        ask(words)
+    } else if kind == b"remb".as_slice() {
+        remb(words)
+    } else {
+        Err(LineError::Outside)
+    }
+}
+
 #[tactic(auto, unfolding(crate::specs::Grammar::step_of))]
 fn step_in(alloc: Global, words: &[&[u8]]) -> Result<Step, LineError>
     ensures { Gives (λ s. s) result (step_of (texts words.now)) }
@@ -136,10 +180,8 @@ fn step_in(alloc: Global, words: &[&[u8]]) -> Result<Step, LineError>
                 deliver(rest)
             } else if *kind == b"foreign".as_slice() {
                 foreign(alloc, rest)
-            } else if *kind == b"app".as_slice() {
-                app(alloc, rest)
             } else {
-                Err(LineError::Outside)
+                call(alloc, kind, rest)
             }
         }
     }

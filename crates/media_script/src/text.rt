@@ -33,6 +33,8 @@ fn call_word(call: Call) -> &'static str
 {
     match call {
         Call::Application => "app",
+        Call::Ask => "ask",
+        Call::Remb => "remb",
     }
 }
 

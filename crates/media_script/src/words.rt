@@ -3,7 +3,7 @@ ghost use Rattle.std.specs.Prelude.{◌≡◌, ◌^◌, IsTrue, IfOk, codes};
 ghost use Rattle.std.specs.Option.{ForSome, option_copied};
 ghost use Rattle.std.specs.Char.{is_ascii_alphanumeric};
 ghost use Rattle.std.specs.List.{list_all};
-ghost use Rattle.media_script.specs.Words.{plain_front, number_of, narrow_of, millis_of, time_of, side_of, flag_of, hex_of, app_data_of, kind_of, at_most, cipher_of, profile_of, key_of, codec_of, media_kind_of, rate_of, is_name, name_of, extension_of, numbers_of, sources_of, repair_type_of, optional};
+ghost use Rattle.media_script.specs.Words.{plain_front, number_of, narrow_of, millis_of, time_of, side_of, flag_of, hex_of, app_data_of, kind_of, keyframe_of, at_most, cipher_of, profile_of, key_of, codec_of, media_kind_of, rate_of, is_name, name_of, extension_of, numbers_of, sources_of, type_behind, optional};
 ghost use Rattle.media_script.specs.Gives.{Gives};
 
 use crate::error::LineError;
@@ -12,7 +12,8 @@ use media_base::Bytes;
 use media_model::{
     ApplicationData, CipherName, Codec, FirstNumber, Key, Kind, MediaKind, Side, SrtcpIndex,
 };
-use rtp_wire::{Extension, Mid, Rid};
+use rtp_base::KeyframeRequestKind;
+use rtp_wire::{Extension, Mid, Pt, Rid};
 use srtp_core::SrtpProfile;
 use std::alloc::Global;
 
@@ -185,6 +186,19 @@ pub fn kind(word: &[u8]) -> Result<Kind, LineError>
     }
 }
 
+#[tactic(auto, unfolding(crate::specs::Words::keyframe_of))]
+pub fn keyframe(word: &[u8]) -> Result<KeyframeRequestKind, LineError>
+    ensures { Gives (λ k. k) result (keyframe_of word.now) }
+{
+    if word == b"pli".as_slice() {
+        Ok(KeyframeRequestKind::Pli)
+    } else if word == b"fir".as_slice() {
+        Ok(KeyframeRequestKind::Fir)
+    } else {
+        Err(LineError::Outside)
+    }
+}
+
 #[tactic(auto, unfolding(crate::specs::Words::cipher_of))]
 pub fn cipher(word: &[u8]) -> Result<CipherName, LineError>
     ensures { Gives (λ c. c) result (cipher_of word.now) }
@@ -326,14 +340,14 @@ pub fn sources(alloc: Global, word: &[u8]) -> Result<Vec<u32>, LineError>
     }
 }
 
-// The number of a type of repairs, behind rtx=.
-#[tactic(auto, unfolding(crate::specs::Words::repair_type_of))]
-pub fn repair_type(word: &[u8]) -> Result<u8, LineError>
-    ensures { Gives (λ n. n) result (repair_type_of word.now) }
+// The payload type behind a name, where the word has that.
+#[tactic(auto, unfolding(crate::specs::Words::type_behind))]
+pub fn type_behind(name: &[u8], word: &[u8]) -> Result<Option<Pt>, LineError>
+    ensures { Gives (λ pt. pt) result (type_behind name.now word.now) }
 {
-    match word.strip_prefix(b"rtx=".as_slice()) {
-        Some(digits) => number_8(digits),
-        None => Err(LineError::Outside),
+    match word.strip_prefix(name) {
+        Some(digits) => Ok(Some(Pt::from(number_8(digits)?))),
+        None => Ok(None),
     }
 }
 

@@ -108,8 +108,8 @@ pub fn media_main<S: Source, K: Sink>(
         → PlaysToEnd acts result.end result.transcript }
     // A write brings nothing. A tick seals of each stream all queued writes, in order, and each kept
     // write asked for, unless the stream is capped; and it asks for exactly the due numbers. A call seals
-    // its feedback. What comes is opened exactly where it opens, and its packet yielded. A tick that finds
-    // a key used up seals, until then, the first of these.
+    // its feedback, and one that makes a request brings nothing. What comes is opened exactly where it
+    // opens, and its packet yielded. A tick that finds a key used up seals, until then, the first of these.
     ensures steps { (setup : Given) (acts : List Act)
         → RunsScript (map string_bytes words.now) (S.left source.old) setup acts
         → AnswersTo (script_sealing setup) setup result.end result.transcript }

@@ -5,6 +5,7 @@
 #![tactic(auto)]
 
 mod ids;
+mod keyframe_request;
 mod kind;
 mod media_time;
 mod nack_entry;
@@ -17,6 +18,7 @@ mod window;
 pub mod wire;
 
 pub use ids::{Direction, MidRid, SessionId, TwccClusterId, TwccPacketId};
+pub use keyframe_request::KeyframeRequestKind;
 pub use kind::Kind;
 pub use media_time::{Frequency, MediaTime};
 pub use nack_entry::NackEntry;

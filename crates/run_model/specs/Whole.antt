@@ -81,6 +81,7 @@ pub data Turns (C : Config) (side : Side) (a : Session) : Session → List Event
       → Feedback a.rx time a.rx.table (items_in new) → Counts a.rtcp (indices new) next → Turns C side a (record { tx = ys; rx = ticked_side a.rx time; rtcp = next }) (ticked time ∷ new)
   calls : (time : ℕ) (items : List RtcpFb) → a.rx.now ≤ time → list_all is_other items ≡ true
       → Turns C side a (record { tx = a.tx; rx = record (a.rx) { now = time }; rtcp = a.rtcp + 1 }) (called time ∷ sealed_items a.rtcp items ∷ [])
+  requests : (time : ℕ) → a.rx.now ≤ time → Turns C side a (record { tx = a.tx; rx = record (a.rx) { now = time }; rtcp = a.rtcp }) (called time ∷ [])
   opens : (time : ℕ) (bytes : List ℕ) (ssrc n : ℕ) (p : Plain) (s : Incoming × RxRecord) → a.rx.now ≤ time → IsIn s a.rx.table
       → Opens C.types s.0 (C.seals (peer_of side)) (lists_in s.1) bytes ssrc n p
       → Turns C side a (record { tx = a.tx; rx = record (a.rx) { now = time; table = map (opened_in (setup_of C side) time ssrc n p) a.rx.table }; rtcp = a.rtcp })

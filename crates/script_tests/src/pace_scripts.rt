@@ -39,9 +39,9 @@ const PLAYED: [(&str, &str); 4] = [
 
 #[test]
 fn surface_ample(rt: HostRuntime) -> Result<(), Fail> {
-    let alloc = rt.alloc();
-    for (script, text) in PLAYED {
-        assert_eq!(rt; played(alloc, script)?.as_str(), text, "at {script}");
+    for (script, text) in &PLAYED {
+        let found = played(rt.alloc(), script)?;
+        assert!(rt; found.as_str() == *text, "at {script}");
     }
     Ok(())
 }
@@ -80,13 +80,13 @@ const WRONG: [(&str, u64); 24] = [
     ("pace 1\nrate 1\n\n#\nsend 1\nend\n", 5),
 ];
 
+fn is_wrong(alloc: Global, script: &str, line: u64) -> bool {
+    read_pace_script(alloc, script.as_bytes()).err() == Some(ScriptError::Syntax(line))
+}
+
 #[test]
-fn wrong_lines(rt: HostRuntime) -> Result<(), Fail> {
-    for (script, line) in WRONG {
-        match read_pace_script(rt.alloc(), script.as_bytes()) {
-            Ok(_) => return Err(Fail::from("read")),
-            Err(error) => assert_eq!(rt; error, ScriptError::Syntax(line), "at {script}"),
-        }
+fn wrong_lines(rt: HostRuntime) {
+    for (script, line) in &WRONG {
+        assert!(rt; is_wrong(rt.alloc(), script, *line), "at {script}");
     }
-    Ok(())
 }

@@ -10,7 +10,7 @@ use std::test::Fail;
 const EVERY_LINE: &[u8] = b"# all of it\n\nstr0m-media 1\ntype 96 vp8 90000\nmedia v video cam\n\
 media a audio mic2\nstream A v 42 - -\next 14 delay\ncipher toy\nunix 5\next 0 mid\ntype 255 telephone 4294967295\n\
 stream B a 4294967295 0 hi\nkey 00Ff\nprofile gcm128\nstream B v 7 - lo\nrtcp B 2147483648\nmtu 900 1500\n\
-type 97 vp9 90000 rtx=255\nstart 4294967295 281474976710656\ncache 7 0 18446744073709 4294967295\n\
+type 97 vp9 90000 rtx=255 red=9 pli fir\nstart 4294967295 281474976710656\ncache 7 0 18446744073709 4294967295\n\
 cache 42 18446744073709551615 0 none\n\
 pause 250\nreports 4000 18446744073709\nlocal A 4294967295\nbegin\n\
 write A 5ms 42 18446744073709551615 96 4294967295 1 0 8060Ff c=0000002AffFFffff\ntick B 1000\ndeliver A 0 3\n\
@@ -64,111 +64,155 @@ const EXTENSIONS: [(&str, Extension); 9] = [
     ("delay", Extension::PlayoutDelay),
 ];
 
-fn syntax(alloc: Global, text: &[u8]) -> Option<ScriptError> {
-    read_script(alloc, text).err()
+// Whether this line of a text is the first outside the grammar.
+fn is_outside(alloc: Global, text: &[u8], line: u64) -> bool {
+    read_script(alloc, text).err() == Some(ScriptError::Syntax(line))
+}
+
+// The setup of a script.
+fn setup_of(alloc: Global, text: &[u8]) -> Result<Setup, Fail> {
+    let (setup, _) = read_script(alloc, text).ok().ok_or("a script")?;
+    Ok(setup)
+}
+
+// The setup of a script without steps, with these lines before its key and behind it.
+fn setup_with(alloc: Global, before: &str, after: &str) -> Result<Setup, Fail> {
+    let text = format!(in alloc; "str0m-media 1\n{before}key zero\n{after}begin\nend\n")?;
+    setup_of(alloc, text.as_bytes())
+}
+
+// The steps of a script.
+fn steps_of(alloc: Global, text: &[u8]) -> Result<Vec<Step>, Fail> {
+    let (_, steps) = read_script(alloc, text).ok().ok_or("a script")?;
+    Ok(steps)
+}
+
+// What is said of a script, and whether it holds.
+type Fact = (&'static str, bool);
+
+// Tells the first fact that does not hold.
+fn all_hold(facts: &[Fact]) -> Result<(), Fail> {
+    for (what, holds) in facts {
+        if !*holds {
+            None::<()>.ok_or(*what)?;
+        }
+    }
+    Ok(())
+}
+
+fn are_types(types: &[PayloadType]) -> bool {
+    let others = [
+        PayloadType {
+            pt: Pt::from(255),
+            codec: Codec::Telephone,
+            rate: 4_294_967_295,
+            rtx: None,
+            red: None,
+            pli: false,
+            fir: false,
+        },
+        PayloadType {
+            pt: Pt::from(97),
+            codec: Codec::Vp9,
+            rate: 90_000,
+            rtx: Some(Pt::from(255)),
+            red: Some(Pt::from(9)),
+            pli: true,
+            fir: true,
+        },
+    ];
+    types.len() == 3 && types.get(1..) == Some(others.as_slice())
+}
+
+fn is_video(media: &Media) -> bool {
+    media.mid.as_slice() == b"v".as_slice()
+        && media.kind == MediaKind::Video
+        && media.cname.as_slice() == b"cam".as_slice()
+        && media.streams.as_slice().len() == 2
+}
+
+fn is_layer(stream: &Stream) -> bool {
+    stream.side == Side::B
+        && stream.ssrc == Ssrc::from(u32::MAX)
+        && stream.rtx == Some(Ssrc::from(0))
+        && match &stream.rid {
+            Some(rid) => rid.as_slice() == b"hi".as_slice(),
+            None => false,
+        }
+}
+
+fn are_media(media: &[Media]) -> bool {
+    match media {
+        [video, audio] => match audio.streams.as_slice().first() {
+            Some(stream) => is_video(video) && is_layer(stream),
+            None => false,
+        },
+        _ => false,
+    }
 }
 
 #[test]
 fn each_line_is_read(rt: HostRuntime) -> Result<(), Fail> {
     let alloc = rt.alloc();
-    let (setup, steps) = read_script(alloc, EVERY_LINE).ok().ok_or("a script")?;
-    assert_eq!(rt; setup.cipher, CipherName::Toy);
-    assert_eq!(rt; setup.profile, SrtpProfile::AeadAes128Gcm);
-    assert_eq!(rt; setup.key, Key::Given(Bytes::from_slice(alloc, &[0, 255])?));
-    assert_eq!(rt; setup.types.as_slice().len(), 3);
-    assert_eq!(rt;
-        setup.types.as_slice().get(1..),
-        Some([
-            PayloadType {
-                pt: Pt::from(255),
-                codec: Codec::Telephone,
-                rate: 4_294_967_295,
-                rtx: None,
-            },
-            PayloadType {
-                pt: Pt::from(97),
-                codec: Codec::Vp9,
-                rate: 90_000,
-                rtx: Some(Pt::from(255)),
-            },
-        ]
-        .as_slice())
-    );
-    assert_eq!(rt; setup.media.as_slice().len(), 2);
-    let video = setup.media.as_slice().first().ok_or("a media")?;
-    assert_eq!(rt; video.mid.as_slice(), b"v".as_slice());
-    assert_eq!(rt; video.kind, MediaKind::Video);
-    assert_eq!(rt; video.cname.as_slice(), b"cam".as_slice());
-    assert_eq!(rt; video.streams.as_slice().len(), 2);
-    let audio = setup.media.as_slice().last().ok_or("a media")?;
-    let stream = audio.streams.as_slice().first().ok_or("a stream")?;
-    assert_eq!(rt; stream.side, Side::B);
-    assert_eq!(rt; stream.ssrc, Ssrc::from(4_294_967_295));
-    assert_eq!(rt; stream.rtx, Some(Ssrc::from(0)));
-    let layer = stream.rid.ok_or("a layer")?;
-    assert_eq!(rt; layer.as_slice(), b"hi".as_slice());
-    assert_eq!(rt;
-        setup.mtu,
-        Mtu {
-            target: 900,
-            warn: 1500
-        }
-    );
-    assert_eq!(rt; setup.pause_threshold, Duration::from_nanos(250_000_000));
-    assert_eq!(rt;
-        setup.intervals,
-        intervals(4_000_000_000, 18_446_744_073_709_000_000)
-    );
-    assert_eq!(rt; setup.a, local(u32::MAX, SrtcpIndex::FIRST));
+    let key = Key::Given(Bytes::from_slice(alloc, &[0, 255])?);
     let last = SrtcpIndex::new(2_147_483_648).ok_or("an index")?;
-    assert_eq!(rt; setup.b, local(2, last));
-    assert_eq!(rt; steps.len(), 6);
-    assert_eq!(rt;
-        steps.last(),
-        Some(&Step::Foreign {
-            side: Side::B,
-            time: Instant::from_nanos(1),
-            kind: Kind::Rtp,
-            bytes: Bytes::from_slice(alloc, &[0x80])?,
-        })
-    );
-    Ok(())
+    let setup = setup_of(alloc, EVERY_LINE)?;
+    let mtu = Mtu {
+        target: 900,
+        warn: 1500,
+    };
+    all_hold(&[
+        ("its cipher", setup.cipher == CipherName::Toy),
+        ("its profile", setup.profile == SrtpProfile::AeadAes128Gcm),
+        ("its key", setup.key == key),
+        ("its types", are_types(setup.types.as_slice())),
+        ("its media", are_media(setup.media.as_slice())),
+        ("its mtu", setup.mtu == mtu),
+        (
+            "its threshold",
+            setup.pause_threshold == Duration::from_nanos(250_000_000),
+        ),
+        (
+            "its intervals",
+            setup.intervals == intervals(4_000_000_000, 18_446_744_073_709_000_000),
+        ),
+        ("A", setup.a == local(u32::MAX, SrtcpIndex::FIRST)),
+        ("B", setup.b == local(2, last)),
+    ])
+}
+
+fn cache(packets: u64, nanos: u64, cap: Option<u32>) -> Cache {
+    Cache {
+        packets,
+        age: Duration::from_nanos(nanos),
+        cap,
+    }
 }
 
 #[test]
 fn what_streams_keep_is_read(rt: HostRuntime) -> Result<(), Fail> {
     let alloc = rt.alloc();
-    let (setup, _) = read_script(alloc, EVERY_LINE).ok().ok_or("a script")?;
     let last = FirstNumber::new(281_474_976_710_656).ok_or("a number")?;
-    assert_eq!(rt; setup.starts.len(), 1);
-    assert_eq!(rt; setup.start(Ssrc::from(u32::MAX)), last);
-    assert_eq!(rt; setup.start(Ssrc::from(7)), FirstNumber::ZERO);
-    assert_eq!(rt; setup.caches.len(), 2);
-    assert_eq!(rt;
-        setup.cache(Ssrc::from(7)),
-        Cache {
-            packets: 0,
-            age: Duration::from_nanos(18_446_744_073_709_000_000),
-            cap: Some(u32::MAX),
-        }
-    );
-    assert_eq!(rt;
-        setup.cache(Ssrc::from(42)),
-        Cache {
-            packets: u64::MAX,
-            age: Duration::from_nanos(0),
-            cap: None,
-        }
-    );
-    assert_eq!(rt;
-        setup.cache(Ssrc::from(u32::MAX)),
-        Cache {
-            packets: 2_000,
-            age: Duration::from_nanos(3_000_000_000),
-            cap: Some(15),
-        }
-    );
-    Ok(())
+    let setup = setup_of(alloc, EVERY_LINE)?;
+    let most = Ssrc::from(u32::MAX);
+    all_hold(&[
+        ("one start", setup.starts.len() == 1),
+        ("its number", setup.start(most) == last),
+        ("no other", setup.start(Ssrc::from(7)) == FirstNumber::ZERO),
+        ("two caches", setup.caches.len() == 2),
+        (
+            "with a cap",
+            setup.cache(Ssrc::from(7)) == cache(0, 18_446_744_073_709_000_000, Some(u32::MAX)),
+        ),
+        (
+            "without one",
+            setup.cache(Ssrc::from(42)) == cache(u64::MAX, 0, None),
+        ),
+        (
+            "the usual one",
+            setup.cache(most) == cache(2_000, 3_000_000_000, Some(15)),
+        ),
+    ])
 }
 
 // What a side alone brings.
@@ -187,32 +231,67 @@ fn intervals(audio: u64, video: u64) -> ReportTimes {
     }
 }
 
+fn is_delivery(step: &Step) -> bool {
+    match step {
+        Step::Deliver {
+            side,
+            time,
+            datagram,
+        } => *side == Side::A && *time == Instant::from_nanos(0) && *datagram == 3,
+        _ => false,
+    }
+}
+
+// Whether a step is a datagram of anybody at the moment 1.
+fn is_foreign(step: &Step, to: Side, as_kind: Kind, wanted: &[u8]) -> bool {
+    match step {
+        Step::Foreign {
+            side,
+            time,
+            kind,
+            bytes,
+        } => {
+            let comes = *side == to && *time == Instant::from_nanos(1);
+            comes && *kind == as_kind && bytes.as_slice() == wanted
+        }
+        _ => false,
+    }
+}
+
+fn is_feedback(step: &Step) -> bool {
+    match step {
+        Step::Application {
+            side,
+            time,
+            sender,
+            media,
+            payload,
+        } => {
+            let called = *side == Side::B && *time == Instant::from_nanos(2_000_000);
+            let ends = *sender == Ssrc::from(u32::MAX) && *media == Ssrc::from(0);
+            called && ends && payload.as_slice() == [1, 2, 255, 255].as_slice()
+        }
+        _ => false,
+    }
+}
+
+// Whether the steps are two, and then these.
+fn are_steps(steps: &[Step]) -> bool {
+    match steps {
+        [_, _, delivery, rtcp, feedback, rtp] => {
+            is_delivery(delivery)
+                && is_foreign(rtcp, Side::A, Kind::Rtcp, &[])
+                && is_feedback(feedback)
+                && is_foreign(rtp, Side::B, Kind::Rtp, &[0x80])
+        }
+        _ => false,
+    }
+}
+
 #[test]
 fn each_step_is_read(rt: HostRuntime) -> Result<(), Fail> {
-    let alloc = rt.alloc();
-    let (_, steps) = read_script(alloc, EVERY_LINE).ok().ok_or("a script")?;
-    let payload = Bytes::from_slice(alloc, &[1, 2, 255, 255])?;
-    let handed = [
-        Step::Deliver {
-            side: Side::A,
-            time: Instant::from_nanos(0),
-            datagram: 3,
-        },
-        Step::Foreign {
-            side: Side::A,
-            time: Instant::from_nanos(1),
-            kind: Kind::Rtcp,
-            bytes: Bytes::from_slice(alloc, &[])?,
-        },
-        Step::Application {
-            side: Side::B,
-            time: Instant::from_nanos(2_000_000),
-            sender: Ssrc::from(u32::MAX),
-            media: Ssrc::from(0),
-            payload: ApplicationData::new(payload).ok_or("a payload")?,
-        },
-    ];
-    assert_eq!(rt; steps.get(2..5), Some(handed.as_slice()));
+    let steps = steps_of(rt.alloc(), EVERY_LINE)?;
+    assert!(rt; are_steps(steps.as_slice()));
     Ok(())
 }
 
@@ -225,17 +304,20 @@ const LOCALS: [(&str, u64, u64, u64, u64); 5] = [
     ("mtu 0 18446744073709551615\n", 0, u64::MAX, 0, 0),
 ];
 
+fn brings(alloc: Global, row: &(&str, u64, u64, u64, u64)) -> Result<bool, Fail> {
+    let (lines, target, warn, a, b) = *row;
+    let a = SrtcpIndex::new(a).ok_or("an index")?;
+    let b = SrtcpIndex::new(b).ok_or("an index")?;
+    let setup = setup_with(alloc, lines, "")?;
+    let right = setup.a == local(1, a) && setup.b == local(2, b);
+    Ok(right && setup.mtu == Mtu { target, warn })
+}
+
 #[test]
 fn what_each_side_brings_is_read(rt: HostRuntime) -> Result<(), Fail> {
-    let alloc = rt.alloc();
-    for (lines, target, warn, a, b) in LOCALS {
-        let a = SrtcpIndex::new(a).ok_or("an index")?;
-        let b = SrtcpIndex::new(b).ok_or("an index")?;
-        let text = format!(in alloc; "str0m-media 1\n{lines}key zero\nbegin\nend\n")?;
-        let (setup, _) = read_script(alloc, text.as_bytes()).ok().ok_or("a script")?;
-        assert_eq!(rt; setup.mtu, Mtu { target, warn }, "at {lines}");
-        assert_eq!(rt; setup.a, local(1, a), "at {lines}");
-        assert_eq!(rt; setup.b, local(2, b), "at {lines}");
+    for row in &LOCALS {
+        let right = brings(rt.alloc(), row)?;
+        assert!(rt; right, "at {}", row.0);
     }
     Ok(())
 }
@@ -244,10 +326,14 @@ fn what_each_side_brings_is_read(rt: HostRuntime) -> Result<(), Fail> {
 fn own_ssrcs_are_read(rt: HostRuntime) -> Result<(), Fail> {
     let alloc = rt.alloc();
     let text = b"str0m-media 1\nlocal B 0\nkey zero\nlocal A 4294967295\nbegin\nend\n";
-    let (setup, _) = read_script(alloc, text.as_slice()).ok().ok_or("a script")?;
-    assert_eq!(rt; setup.local(Side::A), local(u32::MAX, SrtcpIndex::FIRST));
-    assert_eq!(rt; setup.local(Side::B), local(0, SrtcpIndex::FIRST));
-    Ok(())
+    let setup = setup_of(alloc, text.as_slice())?;
+    all_hold(&[
+        (
+            "of A",
+            setup.local(Side::A) == local(u32::MAX, SrtcpIndex::FIRST),
+        ),
+        ("of B", setup.local(Side::B) == local(0, SrtcpIndex::FIRST)),
+    ])
 }
 
 // A script whose one step is feedback of so many bytes.
@@ -264,116 +350,122 @@ fn one_app(alloc: Global, bytes: usize) -> Result<String, Fail> {
     Ok(text)
 }
 
+// How many bytes the feedback of a script has whose one step it is.
+fn app_len(alloc: Global, text: &[u8]) -> Result<Option<usize>, Fail> {
+    let steps = steps_of(alloc, text)?;
+    Ok(match steps.first() {
+        Some(Step::Application { payload, .. }) => Some(payload.as_slice().len()),
+        _ => None,
+    })
+}
+
+const WHOLE_WORDS: [usize; 3] = [0, 4, 800];
+
+const OTHER_LENGTHS: [usize; 4] = [1, 3, 5, 804];
+
 #[test]
 fn feedback_of_few_whole_words_is_read(rt: HostRuntime) -> Result<(), Fail> {
-    let alloc = rt.alloc();
-    for len in [0, 4, 800] {
-        let text = one_app(alloc, len)?;
-        let (_, steps) = read_script(alloc, text.as_bytes()).ok().ok_or("a script")?;
-        let found = match steps.first() {
-            Some(Step::Application { payload, .. }) => payload.as_slice().len(),
-            _ => 1,
-        };
-        assert_eq!(rt; found, len);
+    for len in &WHOLE_WORDS {
+        let text = one_app(rt.alloc(), *len)?;
+        let found = app_len(rt.alloc(), text.as_bytes())?;
+        assert!(rt; found == Some(*len), "at {len}");
     }
-    for len in [1, 3, 5, 804] {
-        let text = one_app(alloc, len)?;
-        assert_eq!(rt;
-            syntax(alloc, text.as_bytes()),
-            Some(ScriptError::Syntax(4)),
-            "at {len}"
-        );
+    for len in &OTHER_LENGTHS {
+        let text = one_app(rt.alloc(), *len)?;
+        assert!(rt; is_outside(rt.alloc(), text.as_bytes(), 4), "at {len}");
     }
     Ok(())
+}
+
+fn ciphers(alloc: Global, row: &(&str, CipherName, SrtpProfile, usize)) -> Result<bool, Fail> {
+    let (lines, cipher, profile, len) = *row;
+    let setup = setup_with(alloc, lines, "")?;
+    let material = setup.material(alloc)?;
+    Ok(setup.cipher == cipher && setup.profile == profile && material.len() == len)
 }
 
 #[test]
 fn each_cipher_and_profile_is_read(rt: HostRuntime) -> Result<(), Fail> {
-    let alloc = rt.alloc();
-    for (lines, cipher, profile, material) in CIPHERS {
-        let text = format!(in alloc; "str0m-media 1\n{lines}key zero\nbegin\nend\n")?;
-        let (setup, _) = read_script(alloc, text.as_bytes()).ok().ok_or("a script")?;
-        assert_eq!(rt; setup.cipher, cipher, "at {lines}");
-        assert_eq!(rt; setup.profile, profile, "at {lines}");
-        assert_eq!(rt; setup.material(alloc)?.len(), material, "at {lines}");
+    for row in &CIPHERS {
+        let right = ciphers(rt.alloc(), row)?;
+        assert!(rt; right, "at {}", row.0);
     }
     Ok(())
+}
+
+fn names_extension(alloc: Global, name: &str, extension: Extension) -> Result<bool, Fail> {
+    let line = format!(in alloc; "ext 14 {name}\n")?;
+    let setup = setup_with(alloc, "", line.as_str())?;
+    let named = [NamedExtension { id: 14, extension }];
+    let mapped = setup.extension_map().id_of(extension) == Some(14);
+    Ok(setup.exts.as_slice() == named.as_slice() && mapped)
 }
 
 #[test]
 fn each_extension_is_read(rt: HostRuntime) -> Result<(), Fail> {
-    let alloc = rt.alloc();
-    for (name, extension) in EXTENSIONS {
-        let text = format!(in alloc; "str0m-media 1\nkey zero\next 14 {name}\nbegin\nend\n")?;
-        let (setup, _) = read_script(alloc, text.as_bytes()).ok().ok_or("a script")?;
-        assert_eq!(rt;
-            setup.exts.as_slice(),
-            [NamedExtension { id: 14, extension }].as_slice()
-        );
-        assert_eq!(rt; setup.extension_map().id_of(extension), Some(14));
+    for (name, extension) in &EXTENSIONS {
+        let right = names_extension(rt.alloc(), name, *extension)?;
+        assert!(rt; right, "at {name}");
     }
     Ok(())
 }
+
+// Setup lines, and the Unix time that they say.
+const BEGINNINGS: [(&str, u64); 3] = [
+    ("", 1_700_000_000),
+    ("unix 0\n", 0),
+    ("unix 18446744073709551615\n", u64::MAX),
+];
 
 #[test]
 fn beginning_is_read(rt: HostRuntime) -> Result<(), Fail> {
-    let alloc = rt.alloc();
-    for (line, unix_secs) in [
-        ("", 1_700_000_000),
-        ("unix 0\n", 0),
-        ("unix 18446744073709551615\n", u64::MAX),
-    ] {
-        let text = format!(in alloc; "str0m-media 1\n{line}key zero\nbegin\nend\n")?;
-        let (setup, _) = read_script(alloc, text.as_bytes()).ok().ok_or("a script")?;
-        assert_eq!(rt; setup.beginning.unix_secs, unix_secs, "at {line}");
+    for (line, unix_secs) in &BEGINNINGS {
+        let setup = setup_with(rt.alloc(), line, "")?;
+        assert!(rt; setup.beginning.unix_secs == *unix_secs, "at {line}");
     }
     Ok(())
 }
+
+// Lines before the key and behind it, and the threshold that they say.
+const THRESHOLDS: [(&str, &str, u64); 6] = [
+    ("", "", 1_500_000_000),
+    ("pause 1500\n", "", 1_500_000_000),
+    ("pause 0\n", "", 0),
+    ("", "pause 7\n", 7_000_000),
+    ("pause 10000000001\n", "", 10_000_000_001_000_000),
+    ("pause 18446744073709\n", "", 18_446_744_073_709_000_000),
+];
 
 #[test]
 fn pause_threshold_is_read(rt: HostRuntime) -> Result<(), Fail> {
-    let alloc = rt.alloc();
-    for (before, after, nanos) in [
-        ("", "", 1_500_000_000),
-        ("pause 1500\n", "", 1_500_000_000),
-        ("pause 0\n", "", 0),
-        ("", "pause 7\n", 7_000_000),
-        ("pause 10000000001\n", "", 10_000_000_001_000_000),
-        ("pause 18446744073709\n", "", 18_446_744_073_709_000_000),
-    ] {
-        let text = format!(in alloc; "str0m-media 1\n{before}key zero\n{after}begin\nend\n")?;
-        let (setup, _) = read_script(alloc, text.as_bytes()).ok().ok_or("a script")?;
-        assert_eq!(rt;
-            setup.pause_threshold,
-            Duration::from_nanos(nanos),
-            "at {before}{after}"
-        );
+    for (before, after, nanos) in &THRESHOLDS {
+        let setup = setup_with(rt.alloc(), before, after)?;
+        let right = setup.pause_threshold == Duration::from_nanos(*nanos);
+        assert!(rt; right, "at {before}{after}");
     }
     Ok(())
 }
 
+// The same of the intervals of reports.
+const INTERVALS: [(&str, &str, u64, u64); 5] = [
+    ("", "", 5_000_000_000, 1_000_000_000),
+    ("reports 5000 1000\n", "", 5_000_000_000, 1_000_000_000),
+    ("reports 0 0\n", "", 0, 0),
+    ("", "reports 7 250\n", 7_000_000, 250_000_000),
+    (
+        "reports 10000000001 18446744073709\n",
+        "",
+        10_000_000_001_000_000,
+        18_446_744_073_709_000_000,
+    ),
+];
+
 #[test]
 fn intervals_of_reports_are_read(rt: HostRuntime) -> Result<(), Fail> {
-    let alloc = rt.alloc();
-    for (before, after, audio, video) in [
-        ("", "", 5_000_000_000, 1_000_000_000),
-        ("reports 5000 1000\n", "", 5_000_000_000, 1_000_000_000),
-        ("reports 0 0\n", "", 0, 0),
-        ("", "reports 7 250\n", 7_000_000, 250_000_000),
-        (
-            "reports 10000000001 18446744073709\n",
-            "",
-            10_000_000_001_000_000,
-            18_446_744_073_709_000_000,
-        ),
-    ] {
-        let text = format!(in alloc; "str0m-media 1\n{before}key zero\n{after}begin\nend\n")?;
-        let (setup, _) = read_script(alloc, text.as_bytes()).ok().ok_or("a script")?;
-        assert_eq!(rt;
-            setup.intervals,
-            intervals(audio, video),
-            "at {before}{after}"
-        );
+    for (before, after, audio, video) in &INTERVALS {
+        let setup = setup_with(rt.alloc(), before, after)?;
+        let right = setup.intervals == intervals(*audio, *video);
+        assert!(rt; right, "at {before}{after}");
     }
     Ok(())
 }
@@ -383,15 +475,22 @@ fn ids_of_extensions(rt: HostRuntime) -> Result<(), Fail> {
     let alloc = rt.alloc();
     let text = b"str0m-media 1\nkey zero\next 0 mid\next 1 twcc\next 15 rid\next 3 abs\n\
 ext 3 level\next 2 twcc\nbegin\nend\n";
-    let (setup, _) = read_script(alloc, text.as_slice()).ok().ok_or("a script")?;
-    assert_eq!(rt; setup.exts.as_slice().len(), 6);
+    let setup = setup_of(alloc, text.as_slice())?;
     let exts = setup.extension_map();
-    assert_eq!(rt; exts.id_of(Extension::RtpMid), None);
-    assert_eq!(rt; exts.id_of(Extension::RtpStreamId), None);
-    assert_eq!(rt; exts.id_of(Extension::AbsoluteSendTime), None);
-    assert_eq!(rt; exts.id_of(Extension::AudioLevel), Some(3));
-    assert_eq!(rt; exts.id_of(Extension::TransportSequenceNumber), Some(2));
-    Ok(())
+    all_hold(&[
+        ("six lines", setup.exts.as_slice().len() == 6),
+        ("0", exts.id_of(Extension::RtpMid).is_none()),
+        ("15", exts.id_of(Extension::RtpStreamId).is_none()),
+        (
+            "3, at first",
+            exts.id_of(Extension::AbsoluteSendTime).is_none(),
+        ),
+        ("3", exts.id_of(Extension::AudioLevel) == Some(3)),
+        (
+            "2",
+            exts.id_of(Extension::TransportSequenceNumber) == Some(2),
+        ),
+    ])
 }
 
 // A script of one write, whose last words these are.
@@ -402,7 +501,7 @@ fn one_write(alloc: Global, words: &str) -> Result<String, Fail> {
 // Whether a write with these last words has these sources.
 fn has_sources(alloc: Global, words: &str, csrc: &[u32]) -> Result<bool, Fail> {
     let text = one_write(alloc, words)?;
-    let (_, steps) = read_script(alloc, text.as_bytes()).ok().ok_or("a script")?;
+    let steps = steps_of(alloc, text.as_bytes())?;
     match steps.first() {
         Some(Step::Write { write, .. }) => Ok(write.csrc.as_slice() == csrc),
         _ => Ok(false),
@@ -430,131 +529,135 @@ fn sources_are_read(rt: HostRuntime) -> Result<(), Fail> {
     Ok(())
 }
 
+fn is_no_write(alloc: Global, words: &str) -> Result<bool, Fail> {
+    let text = one_write(alloc, words)?;
+    Ok(is_outside(alloc, text.as_bytes(), 4))
+}
+
+const NO_SOURCES: [&str; 4] = ["01 c=", "01 c=000000", "01 00000007", "c=00000007"];
+
 #[test]
 fn sources_outside_are_told(rt: HostRuntime) -> Result<(), Fail> {
-    let alloc = rt.alloc();
-    let sixteen = many_sources(alloc, 16)?;
-    for words in [
-        sixteen.as_str(),
-        "01 c=",
-        "01 c=000000",
-        "01 00000007",
-        "c=00000007",
-    ] {
-        let text = one_write(alloc, words)?;
-        assert_eq!(rt;
-            syntax(alloc, text.as_bytes()),
-            Some(ScriptError::Syntax(4)),
-            "at {words}"
-        );
+    let sixteen = many_sources(rt.alloc(), 16)?;
+    let told = is_no_write(rt.alloc(), sixteen.as_str())?;
+    assert!(rt; told, "at 16");
+    for words in &NO_SOURCES {
+        let told = is_no_write(rt.alloc(), words)?;
+        assert!(rt; told, "at {words}");
     }
     Ok(())
 }
 
+// Scripts, and the first line of each that is outside the grammar.
+const OUTSIDE: [(&str, u64); 80] = [
+    ("", 1),
+    ("key zero\n", 1),
+    ("str0m-media 1", 1),
+    ("str0m-media 1\n", 2),
+    ("str0m-media 1\r\n", 1),
+    ("\n# \u{ff}\nstr0m-media 2\n", 3),
+    ("str0m-media 1\nkey zero\nkey zero\n", 3),
+    ("str0m-media 1\nkey -\nbegin\nend\nend\n", 5),
+    ("str0m-media 1\nbegin\nend\n", 4),
+    ("str0m-media 1\nbegin\ntick A 1\ntick A\nend\n", 4),
+    ("str0m-media 1\nkey zero\nbegin\nend", 4),
+    ("str0m-media 1\nkey zero\nbegin\ntick A 1\n", 5),
+    ("str0m-media 1\nkey zero\ntick A 1\nbegin\nend\n", 3),
+    (
+        "str0m-media 1\nkey zero\nbegin\ntype 96 vp8 90000\nend\n",
+        4,
+    ),
+    ("str0m-media 1\ncipher aes\n", 2),
+    ("str0m-media 1\nprofile gcm192\n", 2),
+    ("str0m-media 1\nprofile gcm128\nprofile gcm128\n", 3),
+    ("str0m-media 1\nunix 1\nunix 1\n", 3),
+    ("str0m-media 1\nunix 1ms\n", 2),
+    ("str0m-media 1\nunix 18446744073709551616\n", 2),
+    ("str0m-media 1\next 256 mid\n", 2),
+    ("str0m-media 1\next 1 csrc\n", 2),
+    ("str0m-media 1\next 1\n", 2),
+    ("str0m-media 1\next mid 1\n", 2),
+    ("str0m-media 1\ntype 256 vp8 90000\n", 2),
+    ("str0m-media 1\ntype 96 vp8 0\n", 2),
+    ("str0m-media 1\ntype 96 vp8 4294967296\n", 2),
+    ("str0m-media 1\ntype 96 vp10 90000\n", 2),
+    ("str0m-media 1\ntype 96 vp8 90000 fir pli\n", 2),
+    ("str0m-media 1\ntype 96 vp8 90000 pli pli\n", 2),
+    ("str0m-media 1\ntype 96 vp8 90000 pli red=97\n", 2),
+    ("str0m-media 1\ntype 96 vp8 90000 tcc\n", 2),
+    ("str0m-media 1\ntype 96 vp8 90000 rtx=\n", 2),
+    ("str0m-media 1\ntype 96 vp8 90000 rtx=256\n", 2),
+    ("str0m-media 1\ntype 96 vp8 90000 rtx=-\n", 2),
+    ("str0m-media 1\ntype 96 vp8 90000 red=\n", 2),
+    ("str0m-media 1\ntype 96 vp8 90000 red=256\n", 2),
+    ("str0m-media 1\ntype 96 vp8 90000 red=97 rtx=98\n", 2),
+    ("str0m-media 1\ntype 96 vp8 90000 rtx=97 rtx=98\n", 2),
+    ("str0m-media 1\ntype 96 vp8 rtx=97\n", 2),
+    ("str0m-media 1\nmedia 12345678901234567 video cam\n", 2),
+    ("str0m-media 1\nmedia v-1 video cam\n", 2),
+    ("str0m-media 1\nstream A v 42 - -\nmedia v video cam\n", 2),
+    ("str0m-media 1\nmedia v video cam\nstream A w 42 - -\n", 3),
+    ("str0m-media 1\nmedia v video cam\nstream A v 42  -\n", 3),
+    (
+        "str0m-media 1\nkey zero\nbegin\nforeign A 1 srtcp 80\nend\n",
+        4,
+    ),
+    ("str0m-media 1\nkey zero\nbegin\napp A 1 1 42\nend\n", 4),
+    ("str0m-media 1\nkey zero\nbegin\napp A 1 1 42 - -\nend\n", 4),
+    (
+        "str0m-media 1\nkey zero\nbegin\napp A 1 4294967296 42 -\nend\n",
+        4,
+    ),
+    (
+        "str0m-media 1\nkey zero\nbegin\napp A 1 1 4294967296 -\nend\n",
+        4,
+    ),
+    ("str0m-media 1\nmtu 1200\n", 2),
+    ("str0m-media 1\nmtu 1150 18446744073709551616\n", 2),
+    ("str0m-media 1\nmtu 1150 1280\nmtu 1150 1280\n", 3),
+    ("str0m-media 1\npause\n", 2),
+    ("str0m-media 1\npause 5ms\n", 2),
+    ("str0m-media 1\npause -\n", 2),
+    ("str0m-media 1\npause 1 2\n", 2),
+    ("str0m-media 1\npause 18446744073710\n", 2),
+    ("str0m-media 1\npause 18446744073709551616\n", 2),
+    ("str0m-media 1\npause 1500\npause 1500\n", 3),
+    ("str0m-media 1\nkey zero\nbegin\npause 1500\nend\n", 4),
+    ("str0m-media 1\nreports\n", 2),
+    ("str0m-media 1\nreports 5000\n", 2),
+    ("str0m-media 1\nreports 1 2 3\n", 2),
+    ("str0m-media 1\nreports 5ms 1000\n", 2),
+    ("str0m-media 1\nreports 5000 -\n", 2),
+    ("str0m-media 1\nreports 05 1000\n", 2),
+    ("str0m-media 1\nreports 5000  1000\n", 2),
+    ("str0m-media 1\nreports 18446744073710 1000\n", 2),
+    ("str0m-media 1\nreports 5000 18446744073710\n", 2),
+    ("str0m-media 1\nreports 5000 1000\nreports 5000 1000\n", 3),
+    (
+        "str0m-media 1\nkey zero\nbegin\nreports 5000 1000\nend\n",
+        4,
+    ),
+    ("str0m-media 1\nrtcp A 2147483649\n", 2),
+    ("str0m-media 1\nrtcp 5\n", 2),
+    ("str0m-media 1\nrtcp A 1\nrtcp B 1\nrtcp A 1\n", 4),
+    ("str0m-media 1\nlocal A 4294967296\n", 2),
+    ("str0m-media 1\nlocal B 1\nlocal A 2\nlocal B 3\n", 4),
+    (
+        "str0m-media 1\nkey zero\nbegin\nwrite A 1 42 1 96 0 0 0 01 c=- c=-\nend\n",
+        4,
+    ),
+    ("str0m-media 1\nkey zero\nbegin\ndeliver A 1ms\nend\n", 4),
+    (
+        "str0m-media 1\nkey zero\nbegin\ntick A 18446744073710ms\nend\n",
+        4,
+    ),
+];
+
 #[test]
 fn first_line_outside_is_told(rt: HostRuntime) {
-    let alloc = rt.alloc();
-    for (text, line) in [
-        ("", 1),
-        ("key zero\n", 1),
-        ("str0m-media 1", 1),
-        ("str0m-media 1\n", 2),
-        ("str0m-media 1\r\n", 1),
-        ("\n# \u{ff}\nstr0m-media 2\n", 3),
-        ("str0m-media 1\nkey zero\nkey zero\n", 3),
-        ("str0m-media 1\nkey -\nbegin\nend\nend\n", 5),
-        ("str0m-media 1\nbegin\nend\n", 4),
-        ("str0m-media 1\nbegin\ntick A 1\ntick A\nend\n", 4),
-        ("str0m-media 1\nkey zero\nbegin\nend", 4),
-        ("str0m-media 1\nkey zero\nbegin\ntick A 1\n", 5),
-        ("str0m-media 1\nkey zero\ntick A 1\nbegin\nend\n", 3),
-        (
-            "str0m-media 1\nkey zero\nbegin\ntype 96 vp8 90000\nend\n",
-            4,
-        ),
-        ("str0m-media 1\ncipher aes\n", 2),
-        ("str0m-media 1\nprofile gcm192\n", 2),
-        ("str0m-media 1\nprofile gcm128\nprofile gcm128\n", 3),
-        ("str0m-media 1\nunix 1\nunix 1\n", 3),
-        ("str0m-media 1\nunix 1ms\n", 2),
-        ("str0m-media 1\nunix 18446744073709551616\n", 2),
-        ("str0m-media 1\next 256 mid\n", 2),
-        ("str0m-media 1\next 1 csrc\n", 2),
-        ("str0m-media 1\next 1\n", 2),
-        ("str0m-media 1\next mid 1\n", 2),
-        ("str0m-media 1\ntype 256 vp8 90000\n", 2),
-        ("str0m-media 1\ntype 96 vp8 0\n", 2),
-        ("str0m-media 1\ntype 96 vp8 4294967296\n", 2),
-        ("str0m-media 1\ntype 96 vp10 90000\n", 2),
-        ("str0m-media 1\ntype 96 vp8 90000 pli\n", 2),
-        ("str0m-media 1\ntype 96 vp8 90000 rtx=\n", 2),
-        ("str0m-media 1\ntype 96 vp8 90000 rtx=256\n", 2),
-        ("str0m-media 1\ntype 96 vp8 90000 rtx=-\n", 2),
-        ("str0m-media 1\ntype 96 vp8 90000 red=97\n", 2),
-        ("str0m-media 1\ntype 96 vp8 90000 rtx=97 rtx=98\n", 2),
-        ("str0m-media 1\ntype 96 vp8 rtx=97\n", 2),
-        ("str0m-media 1\nmedia 12345678901234567 video cam\n", 2),
-        ("str0m-media 1\nmedia v-1 video cam\n", 2),
-        ("str0m-media 1\nstream A v 42 - -\nmedia v video cam\n", 2),
-        ("str0m-media 1\nmedia v video cam\nstream A w 42 - -\n", 3),
-        ("str0m-media 1\nmedia v video cam\nstream A v 42  -\n", 3),
-        (
-            "str0m-media 1\nkey zero\nbegin\nforeign A 1 srtcp 80\nend\n",
-            4,
-        ),
-        ("str0m-media 1\nkey zero\nbegin\napp A 1 1 42\nend\n", 4),
-        ("str0m-media 1\nkey zero\nbegin\napp A 1 1 42 - -\nend\n", 4),
-        (
-            "str0m-media 1\nkey zero\nbegin\napp A 1 4294967296 42 -\nend\n",
-            4,
-        ),
-        (
-            "str0m-media 1\nkey zero\nbegin\napp A 1 1 4294967296 -\nend\n",
-            4,
-        ),
-        ("str0m-media 1\nmtu 1200\n", 2),
-        ("str0m-media 1\nmtu 1150 18446744073709551616\n", 2),
-        ("str0m-media 1\nmtu 1150 1280\nmtu 1150 1280\n", 3),
-        ("str0m-media 1\npause\n", 2),
-        ("str0m-media 1\npause 5ms\n", 2),
-        ("str0m-media 1\npause -\n", 2),
-        ("str0m-media 1\npause 1 2\n", 2),
-        ("str0m-media 1\npause 18446744073710\n", 2),
-        ("str0m-media 1\npause 18446744073709551616\n", 2),
-        ("str0m-media 1\npause 1500\npause 1500\n", 3),
-        ("str0m-media 1\nkey zero\nbegin\npause 1500\nend\n", 4),
-        ("str0m-media 1\nreports\n", 2),
-        ("str0m-media 1\nreports 5000\n", 2),
-        ("str0m-media 1\nreports 1 2 3\n", 2),
-        ("str0m-media 1\nreports 5ms 1000\n", 2),
-        ("str0m-media 1\nreports 5000 -\n", 2),
-        ("str0m-media 1\nreports 05 1000\n", 2),
-        ("str0m-media 1\nreports 5000  1000\n", 2),
-        ("str0m-media 1\nreports 18446744073710 1000\n", 2),
-        ("str0m-media 1\nreports 5000 18446744073710\n", 2),
-        ("str0m-media 1\nreports 5000 1000\nreports 5000 1000\n", 3),
-        (
-            "str0m-media 1\nkey zero\nbegin\nreports 5000 1000\nend\n",
-            4,
-        ),
-        ("str0m-media 1\nrtcp A 2147483649\n", 2),
-        ("str0m-media 1\nrtcp 5\n", 2),
-        ("str0m-media 1\nrtcp A 1\nrtcp B 1\nrtcp A 1\n", 4),
-        ("str0m-media 1\nlocal A 4294967296\n", 2),
-        ("str0m-media 1\nlocal B 1\nlocal A 2\nlocal B 3\n", 4),
-        (
-            "str0m-media 1\nkey zero\nbegin\nwrite A 1 42 1 96 0 0 0 01 c=- c=-\nend\n",
-            4,
-        ),
-        ("str0m-media 1\nkey zero\nbegin\ndeliver A 1ms\nend\n", 4),
-        (
-            "str0m-media 1\nkey zero\nbegin\ntick A 18446744073710ms\nend\n",
-            4,
-        ),
-    ] {
-        assert_eq!(rt;
-            syntax(alloc, text.as_bytes()),
-            Some(ScriptError::Syntax(line)),
+    for (text, line) in &OUTSIDE {
+        assert!(rt;
+            is_outside(rt.alloc(), text.as_bytes(), *line),
             "at {text:?}"
         );
     }
@@ -581,36 +684,31 @@ const OUTSIDE_OF_A_STREAM: [&str; 17] = [
     "cache - 2000 3000 15\n",
 ];
 
+// The same, and the line of the script that is the first outside.
+const OUTSIDE_LATER: [(&str, u64); 4] = [
+    ("start 42 1\nstart 42 1\n", 5),
+    ("cache 42 1 1 1\nstart 42 1\ncache 42 1 1 1\n", 6),
+    ("start 42 1\nstart 50 1\nstream B v 50 - -\n", 5),
+    (
+        "cache 42 1 1 1\nstream B v 50 - -\ncache 50 1 1 1\nbegin\nstart 50 1\n",
+        8,
+    ),
+];
+
+fn is_outside_behind_stream(alloc: Global, lines: &str, line: u64) -> Result<bool, Fail> {
+    let text = format!(in alloc; "str0m-media 1\nmedia v video cam\nstream A v 42 43 -\n{lines}")?;
+    Ok(is_outside(alloc, text.as_bytes(), line))
+}
+
 #[test]
 fn lines_of_streams_outside_are_told(rt: HostRuntime) -> Result<(), Fail> {
-    let alloc = rt.alloc();
-    for line in OUTSIDE_OF_A_STREAM {
-        let text = format!(in alloc;
-            "str0m-media 1\nmedia v video cam\nstream A v 42 43 -\n{line}"
-        )?;
-        assert_eq!(rt;
-            syntax(alloc, text.as_bytes()),
-            Some(ScriptError::Syntax(4)),
-            "at {line}"
-        );
+    for lines in &OUTSIDE_OF_A_STREAM {
+        let told = is_outside_behind_stream(rt.alloc(), lines, 4)?;
+        assert!(rt; told, "at {lines}");
     }
-    for (lines, line) in [
-        ("start 42 1\nstart 42 1\n", 5),
-        ("cache 42 1 1 1\nstart 42 1\ncache 42 1 1 1\n", 6),
-        ("start 42 1\nstart 50 1\nstream B v 50 - -\n", 5),
-        (
-            "cache 42 1 1 1\nstream B v 50 - -\ncache 50 1 1 1\nbegin\nstart 50 1\n",
-            8,
-        ),
-    ] {
-        let text = format!(in alloc;
-            "str0m-media 1\nmedia v video cam\nstream A v 42 43 -\n{lines}"
-        )?;
-        assert_eq!(rt;
-            syntax(alloc, text.as_bytes()),
-            Some(ScriptError::Syntax(line)),
-            "at {lines}"
-        );
+    for (lines, line) in &OUTSIDE_LATER {
+        let told = is_outside_behind_stream(rt.alloc(), lines, *line)?;
+        assert!(rt; told, "at {lines}");
     }
     Ok(())
 }
@@ -629,54 +727,69 @@ fn many(alloc: Global, media: u32, streams: u32) -> Result<Vec<u8>, Fail> {
     Ok(text)
 }
 
+// Whether a script has 64 media, the first with 256 streams, and no steps.
+fn has_many(alloc: Global, text: &[u8]) -> Result<bool, Fail> {
+    let (setup, steps) = read_script(alloc, text).ok().ok_or("a script")?;
+    let streams = match setup.media.as_slice().first() {
+        Some(first) => first.streams.as_slice().len(),
+        None => 0,
+    };
+    Ok(setup.media.as_slice().len() == 64 && streams == 256 && steps.is_empty())
+}
+
 #[test]
 fn limits_of_media_and_streams(rt: HostRuntime) -> Result<(), Fail> {
     let alloc = rt.alloc();
     let full = many(alloc, 64, 256)?;
-    let (setup, steps) = read_script(alloc, full.as_slice()).ok().ok_or("a script")?;
-    assert_eq!(rt; setup.media.as_slice().len(), 64);
-    let first = setup.media.as_slice().first().ok_or("a media")?;
-    assert_eq!(rt; first.streams.as_slice().len(), 256);
-    assert!(rt; steps.is_empty());
     let media = many(alloc, 65, 0)?;
-    assert_eq!(rt;
-        syntax(alloc, media.as_slice()),
-        Some(ScriptError::Syntax(67))
-    );
     let streams = many(alloc, 1, 257)?;
-    assert_eq!(rt;
-        syntax(alloc, streams.as_slice()),
-        Some(ScriptError::Syntax(260))
-    );
-    Ok(())
+    all_hold(&[
+        ("all of both", has_many(alloc, full.as_slice())?),
+        ("a media too many", is_outside(alloc, media.as_slice(), 67)),
+        (
+            "a stream too many",
+            is_outside(alloc, streams.as_slice(), 260),
+        ),
+    ])
 }
 
-// One packet sealed by A, opened and yielded by B.
-fn one_opened(alloc: Global) -> Result<Transcript, Fail> {
-    let mut transcript = Transcript::new(alloc);
-    transcript.push(Entry::Called(Side::A, Instant::from_nanos(1), Call::Application))?;
-    transcript.push(Entry::Sealed(Sealed {
+// One packet sealed by A.
+fn one_sealed(alloc: Global) -> Result<Entry, Fail> {
+    let plain = Bytes::from_slice(alloc, &[1])?;
+    Ok(Entry::Sealed(Sealed {
         side: Side::A,
         kind: Kind::Rtp,
         ssrc: Ssrc::from(42),
         index: SeqNo::from(1),
-        plain: Bytes::from_slice(alloc, &[1])?,
+        plain,
         bytes: Bytes::from_slice(alloc, &[1, 2])?,
-    }))?;
-    transcript.push(Entry::Got(Got {
+    }))
+}
+
+// It comes to B.
+fn one_got(alloc: Global) -> Result<Entry, Fail> {
+    Ok(Entry::Got(Got {
         side: Side::B,
         time: Instant::from_nanos(1),
         kind: Kind::Rtp,
         bytes: Bytes::from_slice(alloc, &[1, 2])?,
-    }))?;
-    transcript.push(Entry::Opened(Opened {
+    }))
+}
+
+// B opens it.
+fn one_opened(alloc: Global) -> Result<Entry, Fail> {
+    Ok(Entry::Opened(Opened {
         side: Side::B,
         kind: Kind::Rtp,
         ssrc: Ssrc::from(42),
         index: SeqNo::from(1),
         plain: Bytes::from_slice(alloc, &[1])?,
-    }))?;
-    transcript.push(Entry::Yielded(
+    }))
+}
+
+// And yields its packet.
+fn one_yielded(alloc: Global) -> Result<Entry, Fail> {
+    Ok(Entry::Yielded(
         Side::B,
         Packet {
             ssrc: Ssrc::from(42),
@@ -687,39 +800,93 @@ fn one_opened(alloc: Global) -> Result<Transcript, Fail> {
             csrc: Sources::none(),
             payload: Bytes::from_slice(alloc, &[1])?,
         },
-    ))?;
-    Ok(transcript)
+    ))
+}
+
+// A call of A, and one packet sealed by it, opened and yielded by B.
+fn push_entries(alloc: Global, transcript: &mut Transcript) -> Result<(), Fail> {
+    transcript.push(Entry::Called(Side::A, Instant::from_nanos(1), Call::Application))?;
+    transcript.push(one_sealed(alloc)?)?;
+    transcript.push(one_got(alloc)?)?;
+    transcript.push(one_opened(alloc)?)?;
+    transcript.push(one_yielded(alloc)?)?;
+    Ok(())
+}
+
+const LINES: &str =
+    "called A app\nsealed A rtp 42 1 0102\ngot B rtp 2\nopened B rtp 42 1\nyielded B 42 1 96 0 0 01\n";
+
+// Whether the entries are written so.
+fn has_lines(alloc: Global, transcript: &Transcript) -> Result<bool, Fail> {
+    let text = entries_text(alloc, transcript.entries())?;
+    Ok(text.as_str() == LINES)
+}
+
+// Whether the whole is written so, where it holds, and the last line where the repairs do not.
+fn has_ends(alloc: Global, transcript: &Transcript) -> Result<bool, Fail> {
+    let whole = write_transcript(alloc, true, transcript)?;
+    let last = end_line(alloc, false, transcript)?;
+    let end = whole.as_str().strip_prefix(LINES);
+    Ok(
+        end == Some("end genuine=yes repairs=yes\n")
+            && last.as_str() == "end genuine=yes repairs=no\n",
+    )
+}
+
+fn is_written(alloc: Global, transcript: &mut Transcript) -> Result<bool, Fail> {
+    push_entries(alloc, transcript)?;
+    let lines = has_lines(alloc, transcript)?;
+    let ends = has_ends(alloc, transcript)?;
+    Ok(lines && ends && transcript.genuine(alloc)?)
+}
+
+#[test]
+fn transcripts_are_written(rt: HostRuntime) -> Result<(), Fail> {
+    let mut transcript = Transcript::new(rt.alloc());
+    let written = is_written(rt.alloc(), &mut transcript)?;
+    assert!(rt; written);
+    Ok(())
+}
+
+fn gives_material(alloc: Global, setup: &Setup) -> Result<bool, Fail> {
+    let material = setup.material(alloc)?;
+    Ok(material.as_slice() == [0, 255].as_slice())
+}
+
+fn gives_streams(alloc: Global, setup: &Setup) -> Result<bool, Fail> {
+    let wanted = [Ssrc::from(7), Ssrc::from(u32::MAX)];
+    let streams = setup.streams(alloc, Side::B)?;
+    Ok(streams.as_slice() == wanted.as_slice())
+}
+
+fn gives_types(alloc: Global, setup: &Setup) -> Result<bool, Fail> {
+    let wanted = [Pt::from(96), Pt::from(255), Pt::from(97), Pt::from(9)];
+    let types = setup.types(alloc)?;
+    Ok(types.as_slice() == wanted.as_slice())
+}
+
+fn gives_claimed_types(alloc: Global, setup: &Setup) -> Result<bool, Fail> {
+    let wanted = [
+        Pt::from(96),
+        Pt::from(255),
+        Pt::from(97),
+        Pt::from(255),
+        Pt::from(9),
+    ];
+    let claimed = setup.claimed_types(alloc)?;
+    Ok(claimed.as_slice() == wanted.as_slice())
+}
+
+fn gives_all(alloc: Global, setup: &Setup) -> Result<bool, Fail> {
+    let streams = gives_material(alloc, setup)? && gives_streams(alloc, setup)?;
+    let types = gives_types(alloc, setup)? && gives_claimed_types(alloc, setup)?;
+    Ok(streams && types)
 }
 
 #[test]
 fn surface_ample(rt: HostRuntime) -> Result<(), Fail> {
-    let alloc = rt.alloc();
-    let (setup, _) = read_script(alloc, EVERY_LINE).ok().ok_or("a script")?;
-    assert_eq!(rt; setup.material(alloc)?.as_slice(), [0, 255].as_slice());
-    assert_eq!(rt;
-        setup.streams(alloc, Side::B)?.as_slice(),
-        [Ssrc::from(7), Ssrc::from(4_294_967_295)].as_slice()
-    );
-    assert_eq!(rt;
-        setup.types(alloc)?.as_slice(),
-        [Pt::from(96), Pt::from(255), Pt::from(97)].as_slice()
-    );
-    assert_eq!(rt;
-        setup.claimed_types(alloc)?.as_slice(),
-        [Pt::from(96), Pt::from(255), Pt::from(97), Pt::from(255)].as_slice()
-    );
-    let transcript = one_opened(alloc)?;
-    assert!(rt; transcript.genuine(alloc)?);
-    let lines =
-        "called A app\nsealed A rtp 42 1 0102\ngot B rtp 2\nopened B rtp 42 1\nyielded B 42 1 96 0 0 01\n";
-    let text = entries_text(alloc, transcript.entries())?;
-    assert_eq!(rt; text.as_str(), lines);
-    let whole = write_transcript(alloc, true, &transcript)?;
-    assert_eq!(rt;
-        whole.as_str().strip_prefix(lines),
-        Some("end genuine=yes repairs=yes\n")
-    );
-    let last = end_line(alloc, false, &transcript)?;
-    assert_eq!(rt; last.as_str(), "end genuine=yes repairs=no\n");
+    let setup = setup_of(rt.alloc(), EVERY_LINE)?;
+    let given = gives_all(rt.alloc(), &setup)?;
+    assert!(rt; given);
     Ok(())
 }

@@ -1,4 +1,4 @@
-ghost use Rattle.std.specs.Prelude.{◌<◌, length};
+ghost use Rattle.std.specs.Prelude.{◌<◌, ◌≤◌, length};
 
 use rtp_wire::{ExtensionMap, RtpHeader};
 use sha1::Sha1;
@@ -17,6 +17,9 @@ const PACKET: [u8; 14] = [0x80, 0x60, 0, 1, 0, 0, 0, 0, 0, 0, 0, 42, 1, 2];
 const ZEROS: [u8; 20] = [
     0x80, 0x60, 0, 1, 0, 0, 0, 0, 0, 0, 0, 42, 0, 0, 0, 0, 0, 0, 0, 0,
 ];
+
+// The first bytes of the next, of which an AEAD makes 30.
+const SHORT_FEEDBACK: [u8; 10] = [0x8f, 0xce, 0, 3, 0, 0, 0, 1, 0, 0];
 
 // Application feedback of source 1.
 const FEEDBACK: [u8; 16] = [0x8f, 0xce, 0, 3, 0, 0, 0, 1, 0, 0, 0, 42, 1, 2, 3, 4];
@@ -71,68 +74,69 @@ fn code(key: &[u8], message: &[u8]) -> [u8; 20] {
     sha1_hmac(key, first, second)
 }
 
-// RFC 2202 section 3.
+// Keys, messages and codes of RFC 2202 section 3.
+const CODES: [(&[u8], &[u8], &str); 7] = [
+    (
+        &[0x0b; 20],
+        b"Hi There",
+        "b617318655057264e28bc0b6fb378c8ef146be00",
+    ),
+    (
+        b"Jefe",
+        b"what do ya want for nothing?",
+        "effcdf6ae5eb2fa2d27416d5f184df9c259a7c79",
+    ),
+    (
+        &[0xaa; 20],
+        &[0xdd; 50],
+        "125d7342b9ac11cd91a39af48aa17b4f63f175d3",
+    ),
+    (
+        &[
+            1, 2, 3, 4, 5, 6, 7, 8, 9, 10, 11, 12, 13, 14, 15, 16, 17, 18, 19, 20, 21, 22, 23, 24,
+            25,
+        ],
+        &[0xcd; 50],
+        "4c9007f4026250c6bc8414f9bf50c86c2d7235da",
+    ),
+    (
+        &[0x0c; 20],
+        b"Test With Truncation",
+        "4c1a03424b55e07fe7f27be1d58bb9324a9a5a04",
+    ),
+    (
+        &[0xaa; 80],
+        b"Test Using Larger Than Block-Size Key - Hash Key First",
+        "aa4ae5e15272d00e95705637ce8a3b55ed402112",
+    ),
+    (
+        &[0xaa; 80],
+        b"Test Using Larger Than Block-Size Key and Larger Than One Block-Size Data",
+        "e8e99d0f45237d786d6bbaa7965c7808bbff1a91",
+    ),
+];
+
 #[test]
 fn codes_of_the_standard(rt: HostRuntime) {
-    let ascending = [
-        1, 2, 3, 4, 5, 6, 7, 8, 9, 10, 11, 12, 13, 14, 15, 16, 17, 18, 19, 20, 21, 22, 23, 24, 25,
-    ];
-    let rows = [
-        (
-            code(&[0x0b; 20], b"Hi There"),
-            "b617318655057264e28bc0b6fb378c8ef146be00",
-        ),
-        (
-            code(b"Jefe", b"what do ya want for nothing?"),
-            "effcdf6ae5eb2fa2d27416d5f184df9c259a7c79",
-        ),
-        (
-            code(&[0xaa; 20], &[0xdd; 50]),
-            "125d7342b9ac11cd91a39af48aa17b4f63f175d3",
-        ),
-        (
-            code(&ascending, &[0xcd; 50]),
-            "4c9007f4026250c6bc8414f9bf50c86c2d7235da",
-        ),
-        (
-            code(&[0x0c; 20], b"Test With Truncation"),
-            "4c1a03424b55e07fe7f27be1d58bb9324a9a5a04",
-        ),
-        (
-            code(
-                &[0xaa; 80],
-                b"Test Using Larger Than Block-Size Key - Hash Key First",
-            ),
-            "aa4ae5e15272d00e95705637ce8a3b55ed402112",
-        ),
-        (
-            code(
-                &[0xaa; 80],
-                b"Test Using Larger Than Block-Size Key and Larger Than One Block-Size Data",
-            ),
-            "e8e99d0f45237d786d6bbaa7965c7808bbff1a91",
-        ),
-    ];
-    for (code, text) in rows {
-        assert!(rt; reads(&code, text), "{text}");
+    for (key, message, text) in &CODES {
+        assert!(rt; reads(&code(key, message), text), "{text}");
     }
 }
 
-// FIPS 180-1, appendices A and B.
+// Messages and digests of FIPS 180-1, appendices A and B.
+const DIGESTS: [(&[u8], &str); 2] = [
+    (b"abc", "a9993e364706816aba3e25717850c26c9cd0d89d"),
+    (
+        b"abcdbcdecdefdefgefghfghighijhijkijkljklmklmnlmnomnopnopq",
+        "84983e441c3bd26ebaae4aa1f95129e5e54670f1",
+    ),
+];
+
 #[test]
 fn digests_of_the_standard(rt: HostRuntime) {
-    assert!(rt;
-        reads(
-            &Sha1::digest(b"abc"),
-            "a9993e364706816aba3e25717850c26c9cd0d89d"
-        )
-    );
-    assert!(rt;
-        reads(
-            &Sha1::digest(b"abcdbcdecdefdefgefghfghighijhijkijkljklmklmnlmnomnopnopq"),
-            "84983e441c3bd26ebaae4aa1f95129e5e54670f1"
-        )
-    );
+    for (message, text) in &DIGESTS {
+        assert!(rt; reads(&Sha1::digest(message), text), "{text}");
+    }
 }
 
 fn zero_key<C: SrtpCipher>(
@@ -189,88 +193,144 @@ fn opens<C: SrtpCipher>(
     }
 }
 
-// The toy cipher under a zero master key, which enciphers a block to itself.
+// Packets, and what the toy cipher makes of them under a zero master key, which enciphers a block to
+// itself.
+const UNDER_ZERO: [(SrtpProfile, &[u8], &str); 3] = [
+    (
+        SrtpProfile::AeadAes128Gcm,
+        &PACKET,
+        "80600001000000000000002a010280600001002a00020000002b01020001",
+    ),
+    (
+        SrtpProfile::AeadAes256Gcm,
+        &PACKET,
+        "80600001000000000000002a010280600001002a00020000002b01020000",
+    ),
+    (
+        SrtpProfile::Aes128CmSha1_80,
+        &ZEROS,
+        "80600001000000000000002a0000000000000028b075b497ef97be322f0d",
+    ),
+];
+
+// A packet that the toy cipher seals under a zero master key.
+fn sealed_under_zero(
+    rt: &(impl AllocGlobal + Abort),
+    profile: SrtpProfile,
+    packet: &[u8],
+) -> Result<Vec<u8>, Fail> {
+    let mut context = zero_key(rt, ToyCipher, profile)?;
+    seal(rt, &mut context, packet, 0)
+}
+
 #[test]
-fn datagrams_under_a_zero_key(rt: HostRuntime) -> Result<(), Fail> {
-    let mut context = zero_key(&rt, ToyCipher, SrtpProfile::AeadAes128Gcm)?;
-    let sealed = seal(&rt, &mut context, &PACKET, 0)?;
-    assert!(rt;
-        reads(
-            &sealed,
-            "80600001000000000000002a010280600001002a00020000002b01020001"
-        )
-    );
-    let sealed = context.protect_rtcp(&FEEDBACK)?;
-    assert!(rt;
-        reads(
-            &sealed,
-            "8fce0003000000010000002a010303028ecc030700010007800000000000002b80000000"
-        )
-    );
-    let mut context = zero_key(&rt, ToyCipher, SrtpProfile::AeadAes256Gcm)?;
-    let sealed = seal(&rt, &mut context, &PACKET, 0)?;
-    assert!(rt;
-        reads(
-            &sealed,
-            "80600001000000000000002a010280600001002a00020000002b01020000"
-        )
-    );
-    let mut context = zero_key(&rt, ToyCipher, SrtpProfile::Aes128CmSha1_80)?;
-    let sealed = seal(&rt, &mut context, &ZEROS, 0)?;
-    assert!(rt;
-        reads(
-            &sealed,
-            "80600001000000000000002a0000000000000028b075b497ef97be322f0d"
-        )
-    );
+fn packets_under_a_zero_key(rt: HostRuntime) -> Result<(), Fail> {
+    for (profile, packet, text) in &UNDER_ZERO {
+        let sealed = sealed_under_zero(&rt, *profile, packet)?;
+        assert!(rt; reads(&sealed, text), "{text}");
+    }
     Ok(())
 }
 
-// A packet under rollover count 2, and feedback under index 7, with the E bit set and clear.
-fn right_side_gives(
+// The feedback, sealed behind a packet.
+fn seal_behind_packet(
     rt: &(impl AllocGlobal + Abort),
-    profile: SrtpProfile,
-    rtp: &str,
-    rtcp: &str,
-    clear: &[u8],
-) -> Result<(), Fail> {
-    let mut context = right_side(rt, profile)?;
-    let sealed = seal(rt, &mut context, &PACKET, 2)?;
-    assert!(rt; reads(&sealed, rtp), "{profile}");
-    let sealed = context.protect_rtcp(&FEEDBACK)?;
-    assert!(rt; reads(&sealed, rtcp), "{profile}");
-    let opened = context.unprotect_rtcp(&sealed)?.ok_or("encrypted")?;
-    assert_eq!(rt; opened.as_slice(), FEEDBACK.as_slice());
-    let opened = context.unprotect_rtcp(clear)?.ok_or("clear")?;
-    assert_eq!(rt; opened.as_slice(), FEEDBACK.as_slice());
+    context: &mut SrtpContext<ToyCipher>,
+) -> Result<Vec<u8>, Fail> {
+    seal(rt, context, &PACKET, 0)?;
+    Ok(context.protect_rtcp(&FEEDBACK)?)
+}
+
+#[test]
+fn feedback_under_a_zero_key(rt: HostRuntime) -> Result<(), Fail> {
+    let text = "8fce0003000000010000002a010303028ecc030700010007800000000000002b80000000";
+    let mut context = zero_key(&rt, ToyCipher, SrtpProfile::AeadAes128Gcm)?;
+    let sealed = seal_behind_packet(&rt, &mut context)?;
+    assert!(rt; reads(&sealed, text));
     Ok(())
+}
+
+// Whether these bytes open to the feedback.
+fn opens_to_feedback(
+    context: &mut SrtpContext<ShaCipher>,
+    bytes: &[u8],
+) -> Result<bool, AllocError> {
+    match context.unprotect_rtcp(bytes)? {
+        Some(opened) => Ok(opened.as_slice() == FEEDBACK.as_slice()),
+        None => Ok(false),
+    }
+}
+
+// Whether a packet is sealed under rollover count 2 to this text.
+fn gives_packet(
+    rt: &(impl AllocGlobal + Abort),
+    context: &mut SrtpContext<ShaCipher>,
+    text: &str,
+) -> Result<bool, Fail> {
+    let packet = seal(rt, context, &PACKET, 2)?;
+    Ok(reads(&packet, text))
+}
+
+// Whether the feedback is sealed to this text, and opens again.
+fn gives_feedback(context: &mut SrtpContext<ShaCipher>, text: &str) -> Result<bool, Fail> {
+    let sealed = context.protect_rtcp(&FEEDBACK)?;
+    let opened = opens_to_feedback(context, &sealed)?;
+    Ok(reads(&sealed, text) && opened)
+}
+
+// What the right side of a profile gives: the texts of a packet under rollover count 2 and of feedback
+// under index 7, and that feedback with the E bit clear.
+type Given = (SrtpProfile, &'static str, &'static str, &'static [u8]);
+
+fn gives(
+    rt: &(impl AllocGlobal + Abort),
+    context: &mut SrtpContext<ShaCipher>,
+    given: &Given,
+) -> Result<bool, Fail> {
+    let packet = gives_packet(rt, context, given.1)?;
+    let feedback = gives_feedback(context, given.2)?;
+    let clear = opens_to_feedback(context, given.3)?;
+    Ok(packet && feedback && clear)
+}
+
+fn right_side_gives(rt: &(impl AllocGlobal + Abort), given: &Given) -> Result<bool, Fail> {
+    let mut context = right_side(rt, given.0)?;
+    gives(rt, &mut context, given)
 }
 
 // Computed apart from this crate, of the formulas of RFC 3711 and RFC 7714 with SHA-1 for the cipher.
-#[test]
-fn datagrams_of_the_right_side(rt: HostRuntime) -> Result<(), Fail> {
-    right_side_gives(
-        &rt,
+const RIGHT_SIDE: [Given; 3] = [
+    (
         SrtpProfile::Aes128CmSha1_80,
         "80600001000000000000002a5f2e9d19ef840ba2465f3b44",
         "8fce00030000000102dd6b3c952f739e80000007cf20cd5c7d5921d6985e",
         &CLEAR_CM,
-    )?;
-    right_side_gives(
-        &rt,
+    ),
+    (
         SrtpProfile::AeadAes128Gcm,
         "80600001000000000000002a6e4b9cd2c96ba937e97dbdc579e921ec4159",
         "8fce000300000001f79aba4a7bdba9c177a5ac800b87c158500d2990edad949c80000007",
         &CLEAR_GCM_128,
-    )?;
-    right_side_gives(
-        &rt,
+    ),
+    (
         SrtpProfile::AeadAes256Gcm,
         "80600001000000000000002a5b8f351fccf3fc3063de484a6d492857ccb1",
         "8fce0003000000012a3b5eb31a4dffd8562187d669d207a4eac96fa6e5e529a180000007",
         &CLEAR_GCM_256,
-    )
+    ),
+];
+
+#[test]
+fn datagrams_of_the_right_side(rt: HostRuntime) -> Result<(), Fail> {
+    for given in &RIGHT_SIDE {
+        let right = right_side_gives(&rt, given)?;
+        assert!(rt; right, "{}", given.0);
+    }
+    Ok(())
 }
+
+// Each bit of a byte.
+const BITS: [u8; 8] = [1, 2, 4, 8, 16, 32, 64, 128];
 
 // How many changes of one bit of a byte leave a datagram that opens.
 fn changes_of_a_byte<C: SrtpCipher>(
@@ -282,12 +342,12 @@ fn changes_of_a_byte<C: SrtpCipher>(
     requires { i < length bytes.old }
 {
     let mut count = 0usize;
-    for mask in [1u8, 2, 4, 8, 16, 32, 64, 128] {
-        bytes[i] ^= mask;
+    for mask in &BITS {
+        bytes[i] ^= *mask;
         if opens(context, kind, bytes)? {
             count = count.saturating_add(1);
         }
-        bytes[i] ^= mask;
+        bytes[i] ^= *mask;
     }
     Ok(count)
 }
@@ -304,6 +364,34 @@ fn changes<C: SrtpCipher>(
     Ok(count)
 }
 
+// How many changes of one bit a datagram of 30 bytes that opens opens with.
+fn changes_of_sealed<C: SrtpCipher>(
+    rt: &(impl AllocGlobal + Abort),
+    context: &mut SrtpContext<C>,
+    kind: Kind,
+    bytes: &mut [u8],
+) -> Result<usize, Fail> {
+    assert!(rt; bytes.len() == 30);
+    assert!(rt; opens(context, kind, bytes)?);
+    Ok(changes(context, kind, bytes)?)
+}
+
+// The same of a packet and of feedback that are sealed.
+fn changes_of_both<C: SrtpCipher>(
+    rt: &(impl AllocGlobal + Abort),
+    context: &mut SrtpContext<C>,
+    packet: &[u8],
+    feedback: &[u8],
+) -> Result<(usize, usize), Fail>
+    requires { 8 ≤ length feedback.now }
+{
+    let mut rtp = seal(rt, context, packet, 0)?;
+    let of_packet = changes_of_sealed(rt, context, Kind::Rtp, rtp.as_mut_slice())?;
+    let mut rtcp = context.protect_rtcp(feedback)?;
+    let of_feedback = changes_of_sealed(rt, context, Kind::Rtcp, rtcp.as_mut_slice())?;
+    Ok((of_packet, of_feedback))
+}
+
 // Sealed datagrams of 30 bytes, an RTP and an RTCP one: how many changes of one bit each opens with.
 fn changes_that_open<C: SrtpCipher>(
     rt: &(impl AllocGlobal + Abort),
@@ -311,47 +399,35 @@ fn changes_that_open<C: SrtpCipher>(
     profile: SrtpProfile,
 ) -> Result<(usize, usize), Fail> {
     let mut context = zero_key(rt, cipher, profile)?;
-    let (packet, feedback) = match profile {
-        SrtpProfile::Aes128CmSha1_80 => (ZEROS.as_slice(), FEEDBACK.as_slice()),
-        _ => (PACKET.as_slice(), &FEEDBACK[..10]),
-    };
-    let mut rtp = seal(rt, &mut context, packet, 0)?;
-    let mut rtcp = context.protect_rtcp(feedback)?;
-    assert_eq!(rt; rtp.len(), 30);
-    assert_eq!(rt; rtcp.len(), 30);
-    assert!(rt; opens(&mut context, Kind::Rtp, &rtp)?);
-    assert!(rt; opens(&mut context, Kind::Rtcp, &rtcp)?);
-    Ok((
-        changes(&mut context, Kind::Rtp, rtp.as_mut_slice())?,
-        changes(&mut context, Kind::Rtcp, rtcp.as_mut_slice())?,
-    ))
+    match profile {
+        SrtpProfile::Aes128CmSha1_80 => changes_of_both(rt, &mut context, &ZEROS, &FEEDBACK),
+        _ => changes_of_both(rt, &mut context, &PACKET, &SHORT_FEEDBACK),
+    }
 }
 
-// Under the toy cipher each of the 31 bits of the index stands at the same columns of the associated
-// data and of the initial value, so a change of one makes another seal.
+// Profiles, and how many changes of the feedback open under the toy cipher: each of the 31 bits of the
+// index stands at the same columns of the associated data and of the initial value, so a change of one
+// makes another seal.
+const INDICES: [(SrtpProfile, usize); 3] = [
+    (SrtpProfile::Aes128CmSha1_80, 0),
+    (SrtpProfile::AeadAes128Gcm, 31),
+    (SrtpProfile::AeadAes256Gcm, 31),
+];
+
 #[test]
 fn changed_datagrams_do_not_open(rt: HostRuntime) -> Result<(), Fail> {
-    for profile in SrtpProfile::ALL {
-        assert_eq!(rt; changes_that_open(&rt, ShaCipher, profile)?, (0, 0));
-        let indices = if profile == SrtpProfile::Aes128CmSha1_80 {
-            0
-        } else {
-            31
-        };
-        assert_eq!(rt; changes_that_open(&rt, ToyCipher, profile)?, (0, indices));
+    for (profile, indices) in &INDICES {
+        let sha = changes_that_open(&rt, ShaCipher, *profile)?;
+        let toy = changes_that_open(&rt, ToyCipher, *profile)?;
+        assert!(rt; sha == (0, 0) && toy == (0, *indices), "{profile}");
     }
     Ok(())
 }
 
-fn short_ones_open<C: SrtpCipher>(
-    rt: &(impl AllocGlobal + Abort),
-    cipher: C,
-    profile: SrtpProfile,
-) -> Result<bool, Fail> {
+fn some_short_one_opens<C: SrtpCipher>(context: &mut SrtpContext<C>) -> Result<bool, Fail> {
     let bytes = [0x80; 40];
     let header = RtpHeader::parse(&bytes, &ExtensionMap::empty()).ok_or("no header")?;
     let index = u64::from(header.sequence_number);
-    let mut context = zero_key(rt, cipher, profile)?;
     for len in 0..41 {
         let rtp = context
             .unprotect_rtp(&bytes[..len], &header, index)
@@ -363,125 +439,157 @@ fn short_ones_open<C: SrtpCipher>(
     Ok(false)
 }
 
+fn short_ones_open<C: SrtpCipher>(
+    rt: &(impl AllocGlobal + Abort),
+    cipher: C,
+    profile: SrtpProfile,
+) -> Result<bool, Fail> {
+    let mut context = zero_key(rt, cipher, profile)?;
+    some_short_one_opens(&mut context)
+}
+
 // 0 to 40 bytes that nobody sealed.
 #[test]
 fn short_datagrams_do_not_open(rt: HostRuntime) -> Result<(), Fail> {
-    for profile in SrtpProfile::ALL {
-        assert!(rt;
-            !short_ones_open(&rt, ToyCipher, profile)?,
-            "toy, {profile}"
-        );
-        assert!(rt;
-            !short_ones_open(&rt, ShaCipher, profile)?,
-            "SHA-1, {profile}"
-        );
+    for profile in &SrtpProfile::ALL {
+        let toy = short_ones_open(&rt, ToyCipher, *profile)?;
+        let sha = short_ones_open(&rt, ShaCipher, *profile)?;
+        assert!(rt; !toy && !sha, "{profile}");
     }
     Ok(())
+}
+
+fn is_exhausted(context: &mut SrtpContext<ToyCipher>) -> bool {
+    context.protect_rtcp(&FEEDBACK).err() == Some(SrtpError::KeyExhausted)
+}
+
+// Whether one datagram more is sealed, under the last index, and no further one.
+fn seals_one(context: &mut SrtpContext<ToyCipher>) -> Result<bool, Fail> {
+    let sealed = context.protect_rtcp(&FEEDBACK)?;
+    Ok(sealed.ends_with(&[0xff; 4]) && is_exhausted(context) && is_exhausted(context))
 }
 
 // The last of the 2^31 indices, and no further one.
 #[test]
 fn indices_end(rt: HostRuntime) -> Result<(), Fail> {
     let material = KeyingMaterial::new(rt.alloc(), &[0; 56])?;
-    let profile = SrtpProfile::AeadAes128Gcm;
     let mut context = SrtpContext::new_at(
         rt.alloc(),
         ToyCipher,
-        profile,
+        SrtpProfile::AeadAes128Gcm,
         &material,
         true,
         0x7fff_ffff,
     )?;
-    let sealed = context.protect_rtcp(&FEEDBACK)?;
-    assert!(rt; sealed.ends_with(&[0xff; 4]));
-    for _ in 0..2 {
-        assert_eq!(rt;
-            context.protect_rtcp(&FEEDBACK).err(),
-            Some(SrtpError::KeyExhausted)
-        );
-    }
-    let other = SrtpContext::new(
-        rt.alloc(),
-        ToyCipher,
-        SrtpProfile::AeadAes256Gcm,
-        &material,
-        true,
-    );
-    assert_eq!(rt; other.err(), Some(SrtpError::KeyLength));
+    let sealed = seals_one(&mut context)?;
+    assert!(rt; sealed);
     Ok(())
+}
+
+#[test]
+fn other_lengths_are_told(rt: HostRuntime) -> Result<(), Fail> {
+    let material = KeyingMaterial::new(rt.alloc(), &[0; 56])?;
+    let profile = SrtpProfile::AeadAes256Gcm;
+    let context = SrtpContext::new(rt.alloc(), ToyCipher, profile, &material, true);
+    assert!(rt; context.err() == Some(SrtpError::KeyLength));
+    Ok(())
+}
+
+// Whether the second context opens what the first sealed of the packet.
+fn opens_of(
+    left: &mut SrtpContext<ToyCipher>,
+    peer: &mut SrtpContext<ToyCipher>,
+) -> Result<bool, Fail> {
+    let header = RtpHeader::parse(&PACKET, &ExtensionMap::empty()).ok_or("no header")?;
+    if header.header_len != 12 || header.sequence_number != 1 {
+        return Ok(false);
+    }
+    let sealed = left.protect_rtp(&PACKET, &header, 65537)?;
+    Ok(peer.unprotect_rtp(&sealed, &header, 65537) == Some([1, 2].as_slice()))
+}
+
+// Whether the second context opens the feedback that the first sealed under the index 5.
+fn opens_fifth(
+    peer: &mut SrtpContext<ToyCipher>,
+    left: &mut SrtpContext<ToyCipher>,
+) -> Result<bool, Fail> {
+    let sealed = peer.protect_rtcp(&FEEDBACK)?;
+    let opened = left.unprotect_rtcp(&sealed)?.ok_or("sealed")?;
+    Ok(sealed.ends_with(&[0x80, 0, 0, 5]) && opened.as_slice() == FEEDBACK.as_slice())
+}
+
+fn open_each_other(
+    left: &mut SrtpContext<ToyCipher>,
+    peer: &mut SrtpContext<ToyCipher>,
+) -> Result<bool, Fail> {
+    let packet = opens_of(left, peer)?;
+    let feedback = opens_fifth(peer, left)?;
+    Ok(packet && feedback)
 }
 
 #[test]
 fn surface_ample(rt: HostRuntime) -> Result<(), Fail> {
     let material = KeyingMaterial::new(rt.alloc(), &[0; 56])?;
-    assert_eq!(rt; material.as_slice(), [0; 56].as_slice());
+    assert!(rt; material.as_slice() == [0; 56].as_slice());
     let profile = SrtpProfile::AeadAes128Gcm;
     let mut left = SrtpContext::new(rt.alloc(), ToyCipher, profile, &material, true)?;
     let mut peer = SrtpContext::new_at(rt.alloc(), ToyCipher, profile, &material, true, 5)?;
-    let header = RtpHeader::parse(&PACKET, &ExtensionMap::empty()).ok_or("no header")?;
-    assert_eq!(rt; header.header_len, 12);
-    assert_eq!(rt; header.sequence_number, 1);
-    let sealed = left.protect_rtp(&PACKET, &header, 65537)?;
-    let payload = peer.unprotect_rtp(&sealed, &header, 65537).ok_or("sealed")?;
-    assert_eq!(rt; payload, [1, 2].as_slice());
-    let sealed = peer.protect_rtcp(&FEEDBACK)?;
-    assert!(rt; sealed.ends_with(&[0x80, 0, 0, 5]));
-    let opened = left.unprotect_rtcp(&sealed)?.ok_or("sealed")?;
-    assert_eq!(rt; opened.as_slice(), FEEDBACK.as_slice());
+    let opened = open_each_other(&mut left, &mut peer)?;
+    assert!(rt; opened);
     Ok(())
 }
+
+// All profiles, their names, and how many bytes of keying material each asks for.
+const NAMES: [(SrtpProfile, &str, usize); 3] = [
+    (SrtpProfile::AeadAes256Gcm, "SRTP_AEAD_AES_256_GCM", 88),
+    (SrtpProfile::AeadAes128Gcm, "SRTP_AEAD_AES_128_GCM", 56),
+    (SrtpProfile::Aes128CmSha1_80, "SRTP_AES128_CM_SHA1_80", 60),
+];
 
 #[test]
 fn names_and_lengths(rt: HostRuntime) -> Result<(), Fail> {
-    let rows = [
-        (SrtpProfile::AeadAes256Gcm, "SRTP_AEAD_AES_256_GCM", 88),
-        (SrtpProfile::AeadAes128Gcm, "SRTP_AEAD_AES_128_GCM", 56),
-        (SrtpProfile::Aes128CmSha1_80, "SRTP_AES128_CM_SHA1_80", 60),
-    ];
-    for (i, (profile, name, len)) in rows.into_iter().enumerate() {
-        assert_eq!(rt; SrtpProfile::ALL.get(i).copied(), Some(profile));
-        assert_eq!(rt; profile.keying_material_len(), len);
-        assert_eq!(rt; format!(in rt.alloc(); "{profile}")?.as_str(), name);
+    for (profile, name, len) in &NAMES {
+        let text = format!(in rt.alloc(); "{profile}")?;
+        let right = profile.keying_material_len() == *len && text.as_str() == *name;
+        assert!(rt; right, "{name}");
     }
-    assert_eq!(rt;
-        (SRTP_BLOCK_SIZE, SRTCP_OVERHEAD, SRTP_OVERHEAD),
-        (16, 20, 16)
-    );
     Ok(())
 }
 
-// RFC 3711 section 5, RFC 7714 section 12.
+#[test]
+fn all_profiles_in_order(rt: HostRuntime) {
+    let all = [
+        SrtpProfile::AeadAes256Gcm,
+        SrtpProfile::AeadAes128Gcm,
+        SrtpProfile::Aes128CmSha1_80,
+    ];
+    assert!(rt; SrtpProfile::ALL.as_slice() == all.as_slice());
+}
+
+// Lengths, and what they are by RFC 3711 section 5 and RFC 7714 section 12.
+const LENGTHS: [(usize, usize); 17] = [
+    (SRTP_BLOCK_SIZE, 16),
+    (SRTCP_OVERHEAD, 20),
+    (SRTP_OVERHEAD, 16),
+    (aes_128_cm_sha1_80::KEY_LEN, 16),
+    (aes_128_cm_sha1_80::SALT_LEN, 14),
+    (aes_128_cm_sha1_80::HMAC_KEY_LEN, 20),
+    (aes_128_cm_sha1_80::HMAC_TAG_LEN, 10),
+    (aead_aes_128_gcm::KEY_LEN, 16),
+    (aead_aes_128_gcm::SALT_LEN, 12),
+    (aead_aes_128_gcm::RTCP_AAD_LEN, 12),
+    (aead_aes_128_gcm::TAG_LEN, 16),
+    (aead_aes_128_gcm::IV_LEN, 12),
+    (aead_aes_256_gcm::KEY_LEN, 32),
+    (aead_aes_256_gcm::SALT_LEN, 12),
+    (aead_aes_256_gcm::RTCP_AAD_LEN, 12),
+    (aead_aes_256_gcm::TAG_LEN, 16),
+    (aead_aes_256_gcm::IV_LEN, 12),
+];
+
 #[test]
 fn lengths_of_the_profiles(rt: HostRuntime) {
-    assert_eq!(rt;
-        (aes_128_cm_sha1_80::KEY_LEN, aes_128_cm_sha1_80::SALT_LEN),
-        (16, 14)
-    );
-    assert_eq!(rt;
-        (
-            aes_128_cm_sha1_80::HMAC_KEY_LEN,
-            aes_128_cm_sha1_80::HMAC_TAG_LEN
-        ),
-        (20, 10)
-    );
-    assert_eq!(rt;
-        (aead_aes_128_gcm::KEY_LEN, aead_aes_128_gcm::SALT_LEN),
-        (16, 12)
-    );
-    assert_eq!(rt;
-        (aead_aes_128_gcm::RTCP_AAD_LEN, aead_aes_128_gcm::TAG_LEN),
-        (12, 16)
-    );
-    assert_eq!(rt;
-        (aead_aes_256_gcm::KEY_LEN, aead_aes_256_gcm::SALT_LEN),
-        (32, 12)
-    );
-    assert_eq!(rt;
-        (aead_aes_256_gcm::RTCP_AAD_LEN, aead_aes_256_gcm::TAG_LEN),
-        (12, 16)
-    );
-    assert_eq!(rt;
-        (aead_aes_128_gcm::IV_LEN, aead_aes_256_gcm::IV_LEN),
-        (12, 12)
-    );
+    for (len, wanted) in &LENGTHS {
+        assert!(rt; len == wanted, "{wanted}");
+    }
 }

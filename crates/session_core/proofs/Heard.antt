@@ -8,6 +8,7 @@ use Rattle.stream_core.specs.TxRecord.{TxRecord}
 use Rattle.session_core.specs.Hearing.{feedback_in, acknowledged_by, acknowledged, application_in, last_application, state_heard}
 use Rattle.report_core.specs.declared.moments.ReceiverMoment.{ReceiverMoment}
 use Rattle.stream_core.specs.RxRecord.{RxRecord}
+use Rattle.session_core.specs.News.{NewsRecord, news_heard_by, news_heard}
 use Rattle.session_core.specs.Reports.{rx_heard_by, rx_heard, moments_heard_by, moments_heard}
 use Rattle.session_core.specs.SessionRecord.{SessionState}
 
@@ -27,12 +28,17 @@ pub moments_more : (now : ℕ) (fs : List RtcpFb) (f : RtcpFb) (ms : List Receiv
 moments_more now [] f ms = refl
 moments_more now (g ∷ fs) f ms = moments_more now fs f (moments_heard_by now g ms)
 
+pub news_more : (now : ℕ) (tx : List (ℕ × TxRecord)) (rx : List (ℕ × RxRecord)) (fs : List RtcpFb) (f : RtcpFb) (n : NewsRecord)
+    → news_heard now tx rx (fs ++ f ∷ []) n ≡ news_heard_by now tx rx f (news_heard now tx rx fs n)
+news_more now tx rx [] f n = refl
+news_more now tx rx (g ∷ fs) f n = news_more now tx rx fs f (news_heard_by now tx rx g n)
+
 -- the state after a packet opened
-pub heard_state : (s r : SessionState) (now : ℕ) (plain : List ℕ) (threshold : ℕ) (opening : Option SrtpState) (tx : List (ℕ × TxRecord)) (application : Option AppSpecificFeedback) (moments : List ReceiverMoment)
-    → s ≡ r → threshold ≡ s.pause_threshold → opening ≡ s.opening → tx ≡ acknowledged (feedback_in plain) s.tx → application ≡ last_application (feedback_in plain) s.application
-    → moments ≡ moments_heard now (feedback_in plain) s.moments
-    → record s { pause_threshold = threshold; opening = opening; tx = tx; application = application; moments = moments } ≡ state_heard now plain r
-heard_state s r now plain threshold opening tx application moments same h o x a m =
-    let changed : record s { pause_threshold = threshold; opening = opening; tx = tx; application = application; moments = moments } ≡ state_heard now plain s =
-    λ j. record s { pause_threshold = h j; opening = o j; tx = x j; application = a j; moments = m j } in
-    changed ∙ ap {A = SessionState} {B = SessionState} (state_heard now plain) same
+pub heard_state : (s r : SessionState) (now : ℕ) (plain : List ℕ) (rx : List (ℕ × RxRecord)) (threshold : ℕ) (opening : Option SrtpState) (tx : List (ℕ × TxRecord)) (application : Option AppSpecificFeedback)
+    (moments : List ReceiverMoment) (news : NewsRecord) → s ≡ r → threshold ≡ s.pause_threshold → opening ≡ s.opening → tx ≡ acknowledged (feedback_in plain) s.tx
+    → application ≡ last_application (feedback_in plain) s.application → moments ≡ moments_heard now (feedback_in plain) s.moments → news ≡ news_heard now s.tx rx (feedback_in plain) s.news
+    → record s { pause_threshold = threshold; opening = opening; tx = tx; application = application; moments = moments; news = news } ≡ state_heard now plain rx r
+heard_state s r now plain rx threshold opening tx application moments news same h o x a m n =
+    let changed : record s { pause_threshold = threshold; opening = opening; tx = tx; application = application; moments = moments; news = news } ≡ state_heard now plain rx s =
+    λ j. record s { pause_threshold = h j; opening = o j; tx = x j; application = a j; moments = m j; news = n j } in
+    changed ∙ ap {A = SessionState} {B = SessionState} (state_heard now plain rx) same

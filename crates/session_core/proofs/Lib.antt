@@ -17,3 +17,4 @@ pub mod StreamsIn
 pub mod Tables
 pub mod Telling
 pub mod TickItems
+pub mod Waiting

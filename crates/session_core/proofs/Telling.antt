@@ -15,7 +15,11 @@ use Rattle.stream_core.specs.TxRecord.{TxRecord}
 use Rattle.session_core.specs.declared.datagram.Event.{Event}
 use Rattle.session_core.specs.declared.datagram.Event.TheVariants as event
 use Rattle.session_core.specs.SessionRecord.{SessionState, SessionRecord}
-use Rattle.session_core.specs.Calls.{lacks_keys, next_of, next_event, after_next, after_event, told, after_events, Polled}
+use Rattle.session_core.specs.Calls.{lacks_keys, next_of, next_event, after_next, after_event, told, silenced, after_events, Polled}
+use Rattle.session_core.specs.News.{NewsRecord, no_news, news_told, next_news, after_news, first_of, rest_of}
+use Rattle.session_core.specs.declared.news.KeyframeRequest.{KeyframeRequest}
+use Rattle.session_core.specs.declared.news.RembRequest.{RembRequest}
+use Rattle.session_core.specs.declared.news.SenderFeedback.{SenderFeedback}
 
 -- the next stream to be told of is the first of all
 module _ where
@@ -87,11 +91,35 @@ module _ where
   pub pauses_quiet : (rs : List (ℕ × RxRecord)) → next_pause rs ≡ None → (pauses rs ≡ []) × (each (on_record stream_told) rs ≡ rs)
   pauses_quiet rs h = quiet rs (first_where is_untold rs) refl h
 
+-- the first of what the peer asked and told stands in front of the rest, or nothing is left
+abbrev Splits : NewsRecord → Option Event → NewsRecord → Type 0
+Splits n None after = (news_told n ≡ []) × (n ≡ no_news) × (after ≡ no_news)
+Splits n (Some e) after = news_told n ≡ e ∷ news_told after
+
+news_splits : (ks : List (ℕ × KeyframeRequest)) (ss : List (ℕ × SenderFeedback)) (rs : List (ℕ × RembRequest))
+    → Splits (record { keyframes = ks; senders = ss; rates = rs }) (first_of ks ss rs) (rest_of ks ss rs)
+news_splits (k ∷ ks) ss rs = refl
+news_splits [] (s ∷ ss) rs = refl
+news_splits [] [] (r ∷ rs) = refl
+news_splits [] [] [] = (refl, refl, refl)
+
+abbrev packet_events : Option RtpPacket → List Event
+packet_events o = option_to_list (option_map event.RtpPacket o)
+
+abbrev told_with : Option AppSpecificFeedback → List StreamPaused → Option RtpPacket → NewsRecord → List Event
+told_with a ps q n = option_to_list (option_map event.AppSpecificFeedback a) ++ (map event.StreamPaused ps ++ (packet_events q ++ news_told n))
+
 abbrev waits : SessionRecord → List Event
-waits r = option_to_list (option_map event.AppSpecificFeedback r.state.application) ++ (map event.StreamPaused (pauses r.rx) ++ option_to_list (option_map event.RtpPacket r.state.packet))
+waits r = told_with r.state.application (pauses r.rx) r.state.packet r.state.news
 
 abbrev silent : SessionRecord → SessionRecord
-silent r = record r { state = record r.state { application = None; packet = None }; rx = each (on_record stream_told) r.rx }
+silent r = record r { state = silenced r.state; rx = each (on_record stream_told) r.rx }
+
+abbrev pub emptied : SessionRecord → SessionRecord
+emptied r = record r { state = record r.state { packet = None } }
+
+abbrev pub newer : SessionRecord → SessionRecord
+newer r = record r { state = record r.state { news = after_news r.state.news } }
 
 module _ (r : SessionRecord) where
   told_keyed : lacks_keys r.state ≡ false → told r ≡ waits r
@@ -99,7 +127,7 @@ module _ (r : SessionRecord) where
 
   after_keyed : lacks_keys r.state ≡ false → after_events r ≡ silent r
   after_keyed is = λ j. record r {
-    state = if is j then r.state else record r.state { application = None; packet = None };
+    state = if is j then r.state else silenced r.state;
     rx = if is j then r.rx else each (on_record stream_told) r.rx;
   }
 
@@ -108,7 +136,7 @@ module _ (r : SessionRecord) where
   lacking is = (
     ap (λ b. if b then [] else waits r) is,
     sym (λ j. record r {
-      state = if is j then r.state else record r.state { application = None; packet = None };
+      state = if is j then r.state else silenced r.state;
       rx = if is j then r.rx else each (on_record stream_told) r.rx;
     }),
   )
@@ -118,7 +146,7 @@ module _ (r : SessionRecord) where
   application_next is f a =
       let after : SessionRecord = record r { state = record r.state { application = None } } in (
         told_keyed r is
-            ∙ ap (λ o. option_to_list (option_map event.AppSpecificFeedback o) ++ (map event.StreamPaused (pauses r.rx) ++ option_to_list (option_map event.RtpPacket r.state.packet))) a
+            ∙ ap (λ o. told_with o (pauses r.rx) r.state.packet r.state.news) a
             ∙ ap (λ l. event.AppSpecificFeedback f ∷ l) (sym (told_keyed after is)),
         after_keyed after is ∙ sym (after_keyed r is),
       )
@@ -127,67 +155,79 @@ module _ (r : SessionRecord) where
       → Polled r (Some (event.StreamPaused p)) (record r { rx = after_pause r.rx })
   pause_next is a p n =
       let after : SessionRecord = record r { rx = after_pause r.rx } in
-      let k = pauses_split r.rx p n in
-      let tail : List Event = option_to_list (option_map event.RtpPacket r.state.packet) in (
+      let k = pauses_split r.rx p n in (
         told_keyed r is
-            ∙ ap (λ o. option_to_list (option_map event.AppSpecificFeedback o) ++ (map event.StreamPaused (pauses r.rx) ++ tail)) a
-            ∙ ap (λ l. map event.StreamPaused l ++ tail) k.0
-            ∙ ap (λ o. event.StreamPaused p ∷ (option_to_list (option_map event.AppSpecificFeedback o) ++ (map event.StreamPaused (pauses (after_pause r.rx)) ++ tail))) (sym a)
+            ∙ ap (λ o. told_with o (pauses r.rx) r.state.packet r.state.news) a
+            ∙ ap (λ l. told_with None l r.state.packet r.state.news) k.0
+            ∙ ap (λ o. event.StreamPaused p ∷ told_with o (pauses (after_pause r.rx)) r.state.packet r.state.news) (sym a)
             ∙ ap (λ l. event.StreamPaused p ∷ l) (sym (told_keyed after is)),
         after_keyed after is
-            ∙ ap (λ l. record r { state = record r.state { application = None; packet = None }; rx = l }) k.1
+            ∙ ap (λ l. record r { state = silenced r.state; rx = l }) k.1
             ∙ sym (after_keyed r is),
       )
 
-  packet_next : lacks_keys r.state ≡ false → r.state.application ≡ None → next_pause r.rx ≡ None → (q : RtpPacket) → r.state.packet ≡ Some q
-      → Polled r (Some (event.RtpPacket q)) (record r { state = record r.state { packet = None } })
+  pub packet_next : lacks_keys r.state ≡ false → r.state.application ≡ None → next_pause r.rx ≡ None → (q : RtpPacket) → r.state.packet ≡ Some q
+      → Polled r (Some (event.RtpPacket q)) (emptied r)
   packet_next is a n q w =
-      let after : SessionRecord = record r { state = record r.state { packet = None } } in
       let k = pauses_quiet r.rx n in (
         told_keyed r is
-            ∙ ap (λ o. option_to_list (option_map event.AppSpecificFeedback o) ++ (map event.StreamPaused (pauses r.rx) ++ option_to_list (option_map event.RtpPacket r.state.packet))) a
-            ∙ ap (λ l. map event.StreamPaused l ++ option_to_list (option_map event.RtpPacket r.state.packet)) k.0
-            ∙ ap (λ o. option_to_list (option_map event.RtpPacket o)) w
-            ∙ ap (λ l. event.RtpPacket q ∷ (map event.StreamPaused l ++ [])) (sym k.0)
-            ∙ ap (λ o. event.RtpPacket q ∷ (option_to_list (option_map event.AppSpecificFeedback o) ++ (map event.StreamPaused (pauses r.rx) ++ []))) (sym a)
-            ∙ ap (λ l. event.RtpPacket q ∷ l) (sym (told_keyed after is)),
-        after_keyed after is ∙ sym (after_keyed r is),
+            ∙ ap (λ o. told_with o (pauses r.rx) r.state.packet r.state.news) a
+            ∙ ap (λ l. told_with None l r.state.packet r.state.news) k.0
+            ∙ ap (λ o. told_with None [] o r.state.news) w
+            ∙ ap (λ l. event.RtpPacket q ∷ told_with None l None r.state.news) (sym k.0)
+            ∙ ap (λ o. event.RtpPacket q ∷ told_with o (pauses r.rx) None r.state.news) (sym a)
+            ∙ ap (λ l. event.RtpPacket q ∷ l) (sym (told_keyed (emptied r) is)),
+        after_keyed (emptied r) is ∙ sym (after_keyed r is),
       )
 
-  pub nothing_next : lacks_keys r.state ≡ false → r.state.application ≡ None → next_pause r.rx ≡ None → r.state.packet ≡ None
-      → Polled r None (record r { state = record r.state { packet = None } })
-  nothing_next is a n w =
-      let k = pauses_quiet r.rx n in (
-        told_keyed r is
-            ∙ ap (λ o. option_to_list (option_map event.AppSpecificFeedback o) ++ (map event.StreamPaused (pauses r.rx) ++ option_to_list (option_map event.RtpPacket r.state.packet))) a
-            ∙ ap (λ l. map event.StreamPaused l ++ option_to_list (option_map event.RtpPacket r.state.packet)) k.0
-            ∙ ap (λ o. option_to_list (option_map event.RtpPacket o)) w,
-        (λ j. record r { state = record r.state { application = a j; packet = None }; rx = sym k.1 j })
+  -- before the news nothing is told
+  news_alone : lacks_keys r.state ≡ false → r.state.application ≡ None → next_pause r.rx ≡ None → r.state.packet ≡ None → told r ≡ news_told r.state.news
+  news_alone is a n w =
+      told_keyed r is
+      ∙ ap (λ o. told_with o (pauses r.rx) r.state.packet r.state.news) a
+      ∙ ap (λ l. told_with None l r.state.packet r.state.news) (pauses_quiet r.rx n).0
+      ∙ ap (λ o. told_with None [] o r.state.news) w
+
+module _ (r : SessionRecord) where
+  pub news_next : lacks_keys r.state ≡ false → r.state.application ≡ None → next_pause r.rx ≡ None → r.state.packet ≡ None
+      → (o : Option Event) → next_news r.state.news ≡ o → Polled r o (newer r)
+  news_next is a n w None e =
+      let k = pauses_quiet r.rx n in
+      let s : Splits r.state.news None (after_news r.state.news) =
+      subst (λ (o : Option Event). Splits r.state.news o (after_news r.state.news)) e (news_splits r.state.news.keyframes r.state.news.senders r.state.news.rates) in (
+        news_alone r is a n w ∙ s.0,
+        (λ j. record r { state = record r.state { application = a j; packet = w j; news = s.2 j }; rx = sym k.1 j })
             ∙ sym (after_keyed r is),
+      )
+  news_next is a n w (Some x) e =
+      let s : Splits r.state.news (Some x) (after_news r.state.news) =
+      subst (λ (o : Option Event). Splits r.state.news o (after_news r.state.news)) e (news_splits r.state.news.keyframes r.state.news.senders r.state.news.rates) in (
+        news_alone r is a n w ∙ s ∙ ap (λ l. x ∷ l) (sym (news_alone (newer r) is a n w)),
+        after_keyed (newer r) is ∙ sym (after_keyed r is),
       )
 
   by : (b : Bool) → lacks_keys r.state ≡ b → (a : Option AppSpecificFeedback) → r.state.application ≡ a → (p : Option StreamPaused) → next_pause r.rx ≡ p
-      → (q : Option RtpPacket) → r.state.packet ≡ q → Polled r (if b then None else next_of a p q) (if b then r else after_next a p r)
-  by true is a x p y q z = lacking is
-  by false is (Some f) x p y q z = application_next is f x
-  by false is None x (Some p) y q z = pause_next is x p y
-  by false is None x None y (Some q) z = packet_next is x y q z
-  by false is None x None y None z = nothing_next is x y z
+      → (q : Option RtpPacket) → r.state.packet ≡ q → Polled r (if b then None else next_of a p q r.state.news) (if b then r else after_next a p q r)
+  by true is a x p y q z = lacking r is
+  by false is (Some f) x p y q z = application_next r is f x
+  by false is None x (Some p) y q z = pause_next r is x p y
+  by false is None x None y (Some q) z = packet_next r is x y q z
+  by false is None x None y None z = news_next is x y z (next_news r.state.news) refl
 
   -- a poll gives the first of what is told
   pub polls : Polled r (next_event r) (after_event r)
   polls = by (lacks_keys r.state) refl r.state.application refl (next_pause r.rx) refl r.state.packet refl
 
--- a packet is told last
-module _ (r : SessionRecord) where
-  pub packet_last : lacks_keys r.state ≡ false → r.state.application ≡ None → next_pause r.rx ≡ None → (q : RtpPacket) → r.state.packet ≡ Some q
-      → (told r ≡ event.RtpPacket q ∷ []) × (record r { state = record r.state { packet = None } } ≡ after_events r)
-  packet_last is a n q w =
-      let after : SessionRecord = record r { state = record r.state { packet = None } } in
-      let first : Polled r (Some (event.RtpPacket q)) after = packet_next r is a n q w in
-      let rest : Polled after None after = nothing_next after is a n refl in (
+-- where nothing came of streams, a packet is told last
+module _ (r : SessionRecord) (keyed : lacks_keys r.state ≡ false) (a : r.state.application ≡ None) (n : next_pause r.rx ≡ None) where
+  pub packet_last : (q : RtpPacket) → r.state.packet ≡ Some q → next_news r.state.news ≡ None → (told r ≡ event.RtpPacket q ∷ []) × (emptied r ≡ after_events r)
+  packet_last q w e =
+      let first : Polled r (Some (event.RtpPacket q)) (emptied r) = packet_next r keyed a n q w in
+      let s : Splits r.state.news None (after_news r.state.news) =
+      subst (λ (o : Option Event). Splits r.state.news o (after_news r.state.news)) e (news_splits r.state.news.keyframes r.state.news.senders r.state.news.rates) in
+      let rest : Polled (emptied r) None (newer (emptied r)) = news_next (emptied r) keyed a n refl None e in (
         first.0 ∙ ap (λ l. event.RtpPacket q ∷ l) rest.0,
-        rest.1 ∙ first.1,
+        (λ j. record r { state = record r.state { packet = None; news = (s.1 ∙ sym s.2) j } }) ∙ rest.1 ∙ first.1,
       )
 
 -- an event that was taken stands in front of what is left
@@ -200,11 +240,11 @@ taken_one sofar now e r after first is =
 -- what a poll answers and leaves, by what waits
 module _ (r : SessionRecord) (keys : lacks_keys r.state ≡ false) (a : Option AppSpecificFeedback) (p : Option StreamPaused) (q : Option RtpPacket)
     (x : r.state.application ≡ a) (y : next_pause r.rx ≡ p) (z : r.state.packet ≡ q) where
-  pub event_is : next_of a p q ≡ next_event r
-  event_is = sym (λ j. if keys j then None else next_of (x j) (y j) (z j))
+  pub event_is : next_of a p q r.state.news ≡ next_event r
+  event_is = sym (λ j. if keys j then None else next_of (x j) (y j) (z j) r.state.news)
 
-  pub after_is : after_next a p r ≡ after_event r
-  after_is = sym (λ j. if keys j then r else after_next (x j) (y j) r)
+  pub after_is : after_next a p q r ≡ after_event r
+  after_is = sym (λ j. if keys j then r else after_next (x j) (y j) (z j) r)
 
 -- both contexts are there
 pub has_keys : (sealing opening : Option SrtpState) → is_some sealing ≡ true → is_some opening ≡ true → (is_none sealing || is_none opening) ≡ false
@@ -225,3 +265,10 @@ pub state_emptied : (s r : SessionState) (t : ℕ) (tx : List (ℕ × TxRecord))
     → q ≡ None → record s { pause_threshold = t; tx = tx; application = a; packet = q } ≡ record r { packet = None }
 state_emptied s r t tx a q same et etx ea eq =
     (λ j. record s { pause_threshold = et j; tx = etx j; application = ea j; packet = eq j }) ∙ ap {A = SessionState} {B = SessionState} (λ x. record x { packet = None }) same
+
+-- the state where the next of what the peer asked and told was taken, behind all else
+pub state_newer : (s r : SessionState) (t : ℕ) (tx : List (ℕ × TxRecord)) (a : Option AppSpecificFeedback) (q : Option RtpPacket) (n : NewsRecord) → s ≡ r → t ≡ s.pause_threshold → tx ≡ s.tx
+    → a ≡ s.application → q ≡ s.packet → n ≡ after_news s.news → record s { pause_threshold = t; tx = tx; application = a; packet = q; news = n } ≡ record r { news = after_news r.news }
+state_newer s r t tx a q n same et etx ea eq en =
+    (λ j. record s { pause_threshold = et j; tx = etx j; application = ea j; packet = eq j; news = en j })
+    ∙ ap {A = SessionState} {B = SessionState} (λ x. record x { news = after_news x.news }) same

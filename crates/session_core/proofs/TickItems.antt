@@ -20,8 +20,8 @@ use Rattle.stream_core.specs.RxRecord.{RxRecord}
 use Rattle.stream_core.specs.TxRecord.{TxRecord}
 use Rattle.stream_core.specs.declared.payload_types.TypeRow.{TypeRow}
 use Rattle.stream_core.specs.declared.reports.Tick.{Tick}
-use Rattle.stream_core.specs.declared.requests.KeyframeRequestKind.{KeyframeRequestKind}
-use Rattle.stream_core.specs.declared.requests.KeyframeRequestKind.TheVariants.{Pli, Fir}
+use Rattle.rtp_base.specs.declared.keyframe_request.KeyframeRequestKind.{KeyframeRequestKind}
+use Rattle.rtp_base.specs.declared.keyframe_request.KeyframeRequestKind.TheVariants.{Pli, Fir}
 use Rattle.session_core.specs.Reports.{description_items, sender_report_items, reports_in, items_under, sender_items_with, answers}
 use Rattle.session_core.specs.SessionRecord.{MediaRecord}
 use Rattle.session_core.proofs.Fitting.{all_append}

@@ -17,6 +17,7 @@ use Rattle.session_core.specs.declared.config.SessionConfig.{SessionConfig}
 use Rattle.session_core.specs.declared.datagram.Event.{Event}
 use Rattle.session_core.specs.declared.datagram.Event.TheVariants as event
 use Rattle.session_core.specs.SessionRecord.{SessionState, SessionView, SessionRecord}
+use Rattle.session_core.specs.News.{NewsRecord, no_news, news_told, news_count, next_news, after_news}
 use Rattle.session_core.specs.Reports.{reports_at}
 use Rattle.session_core.specs.Rounds.{requests_at, round_at, send_at}
 use Rattle.session_core.specs.Sending.{has_mid}
@@ -48,6 +49,7 @@ fresh_session config = record {
     feedback = [];
     application = None;
     packet = None;
+    news = no_news;
     stopped = false;
   };
   rx = [];
@@ -71,22 +73,24 @@ abbrev pub lacks_keys : SessionState → Bool
 lacks_keys s = is_none s.sealing || is_none s.opening
 
 -- what is told next, where there are keys: the feedback of an application that came last, then which incoming streams were
--- paused or unpaused, in order, then the packet
-abbrev pub next_of : Option AppSpecificFeedback → Option StreamPaused → Option RtpPacket → Option Event
-next_of (Some f) paused packet = Some (event.AppSpecificFeedback f)
-next_of None (Some p) packet = Some (event.StreamPaused p)
-next_of None None packet = option_map event.RtpPacket packet
+-- paused or unpaused, in order, then the packet, then what the peer asked and told of streams
+abbrev pub next_of : Option AppSpecificFeedback → Option StreamPaused → Option RtpPacket → NewsRecord → Option Event
+next_of (Some f) paused packet news = Some (event.AppSpecificFeedback f)
+next_of None (Some p) packet news = Some (event.StreamPaused p)
+next_of None None (Some q) news = Some (event.RtpPacket q)
+next_of None None None news = next_news news
 
 abbrev pub next_event : SessionRecord → Option Event
-next_event r = if lacks_keys r.state then None else next_of r.state.application (next_pause r.rx) r.state.packet
+next_event r = if lacks_keys r.state then None else next_of r.state.application (next_pause r.rx) r.state.packet r.state.news
 
-abbrev pub after_next : Option AppSpecificFeedback → Option StreamPaused → SessionRecord → SessionRecord
-after_next (Some f) paused r = record r { state = record r.state { application = None } }
-after_next None (Some p) r = record r { rx = after_pause r.rx }
-after_next None None r = record r { state = record r.state { packet = None } }
+abbrev pub after_next : Option AppSpecificFeedback → Option StreamPaused → Option RtpPacket → SessionRecord → SessionRecord
+after_next (Some f) paused packet r = record r { state = record r.state { application = None } }
+after_next None (Some p) packet r = record r { rx = after_pause r.rx }
+after_next None None (Some q) r = record r { state = record r.state { packet = None } }
+after_next None None None r = record r { state = record r.state { news = after_news r.state.news } }
 
 abbrev pub after_event : SessionRecord → SessionRecord
-after_event r = if lacks_keys r.state then r else after_next r.state.application (next_pause r.rx) r
+after_event r = if lacks_keys r.state then r else after_next r.state.application (next_pause r.rx) r.state.packet r
 
 -- how much waits to be told
 abbrev pub one_in : {X : Type 0} → Option X → ℕ
@@ -94,17 +98,21 @@ one_in None = 0
 one_in (Some x) = 1
 
 abbrev pub events_in : {W S : Type 0} → SessionView W S → ℕ
-events_in s = one_in s.state.application + (untold_in s.rx + one_in s.state.packet)
+events_in s = one_in s.state.application + (untold_in s.rx + (one_in s.state.packet + news_count s.state.news))
 
 -- all that is told, in order
 abbrev pub told : SessionRecord → List Event
 told r =
     if lacks_keys r.state then []
     else option_to_list (option_map event.AppSpecificFeedback r.state.application)
-    ++ (map event.StreamPaused (pauses r.rx) ++ option_to_list (option_map event.RtpPacket r.state.packet))
+    ++ (map event.StreamPaused (pauses r.rx) ++ (option_to_list (option_map event.RtpPacket r.state.packet) ++ news_told r.state.news))
+
+-- the state where nothing waits to be told
+abbrev pub silenced : SessionState → SessionState
+silenced s = record s { application = None; packet = None; news = no_news }
 
 abbrev pub state_told : SessionState → SessionState
-state_told s = if lacks_keys s then s else record s { application = None; packet = None }
+state_told s = if lacks_keys s then s else silenced s
 
 abbrev pub after_events : SessionRecord → SessionRecord
 after_events r = record r { state = state_told r.state; rx = if lacks_keys r.state then r.rx else each (on_record stream_told) r.rx }

@@ -20,6 +20,7 @@ use Rattle.stream_core.specs.StreamsRecord.{Asked}
 use Rattle.stream_core.specs.Tables.{place_of, each, change_at}
 use Rattle.stream_core.specs.TxRecord.{TxRecord, after_reception}
 use Rattle.session_core.specs.declared.datagram.Opened.{Opened}
+use Rattle.session_core.specs.News.{news_heard}
 use Rattle.session_core.specs.Reports.{rx_heard, moments_heard}
 use Rattle.session_core.specs.SessionRecord.{SessionState, SessionRecord}
 
@@ -97,16 +98,17 @@ abbrev pub ntp_of : SessionState → ℕ → ℕ
 ntp_of s now = ntp_nanos s.transport.beginning.unix_secs now
 
 -- the session after a packet opened at a moment
-abbrev pub state_heard : ℕ → List ℕ → SessionState → SessionState
-state_heard now plain s = record s {
+abbrev pub state_heard : ℕ → List ℕ → List (ℕ × RxRecord) → SessionState → SessionState
+state_heard now plain rx s = record s {
   tx = acknowledged (feedback_in plain) s.tx;
   application = last_application (feedback_in plain) s.application;
   moments = moments_heard now (feedback_in plain) s.moments;
+  news = news_heard now s.tx rx (feedback_in plain) s.news;
 }
 
 abbrev pub after_rtcp : ℕ → List ℕ → List (ℕ × RepairsRecord) → SessionRecord → SessionRecord
 after_rtcp now plain repairs r = record r {
-  state = state_heard now plain r.state;
+  state = state_heard now plain r.rx r.state;
   rx = rx_heard now (feedback_in plain) (measured (ntp_of r.state now) (last_delay r.state.local_ssrc r.state.tx (feedback_in plain) None) r.rx);
   repairs = repairs;
 }

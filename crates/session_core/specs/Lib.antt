@@ -4,6 +4,7 @@ pub mod Feedback
 pub mod Hearing
 pub mod LendingStreams
 pub mod Medias
+pub mod News
 pub mod Receiving
 pub mod Repairs
 pub mod Reports

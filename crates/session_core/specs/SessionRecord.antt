@@ -1,6 +1,7 @@
 -- The record of a session.
 use Rattle.std.specs.Prelude.{◌≡◌, ℕ, Bool, Option, List}
 use Rattle.session_core.specs.declared.media.MediaKind.{MediaKind}
+use Rattle.session_core.specs.News.{NewsRecord}
 use Rattle.stream_core.specs.Seen.{SeenStandsFor}
 use Rattle.rtp_base.specs.declared.window.SeqNoWindow.{SeqNoWindow}
 use Rattle.srtp_core.specs.Contexts.{SrtpState}
@@ -33,7 +34,7 @@ pub record MediaRecord : Type 0 where
 -- moment of the last round in which it asked for what is missing, at first 0; whether there was a tick since a poll gave no
 -- packet, so that packets that are asked for may leave; after how long the next report of a stream is due, and the moments of
 -- receivers that wait for an answer; the feedback that waits to be sent; the feedback of an application and the packet that came
--- and wait to be told; and whether an error stopped it
+-- and wait to be told, and what the peer asked and told of streams and waits to be told; and whether an error stopped it
 pub record SessionState : Type 0 where
   pub id : ℕ
   pub target : ℕ
@@ -54,6 +55,7 @@ pub record SessionState : Type 0 where
   pub feedback : List Rtcp
   pub application : Option AppSpecificFeedback
   pub packet : Option RtpPacket
+  pub news : NewsRecord
   pub stopped : Bool
 
 -- a session as its callers see it: incoming streams each under its SSRC; under each SSRC of repairs that comes, the SSRC of

@@ -1,4 +1,5 @@
 use crate::error::RtcError;
+use crate::news::{KeyframeRequest, RembRequest, SenderFeedback};
 use media_base::{Bytes, Instant};
 use rtcp_wire::AppSpecificFeedback;
 use rtp_base::{Kind, SeqNo, Ssrc};
@@ -42,6 +43,12 @@ pub enum Event {
     StreamPaused(StreamPaused),
     /// A packet came on a stream.
     RtpPacket(RtpPacket),
+    /// The peer asks for a key frame of an outgoing stream.
+    KeyframeRequest(KeyframeRequest),
+    /// The sender of an incoming stream reported.
+    SenderFeedback(SenderFeedback),
+    /// The peer tells the greatest rate of an outgoing stream.
+    Remb(RembRequest),
 }
 
 /// All that a session had to give.

@@ -15,6 +15,7 @@ mod ticks;
 use crate::config::SessionConfig;
 use crate::error::{AppError, RtcError};
 use crate::media::{Media, media_of};
+use crate::news::News;
 use crate::sending::has_mid;
 use media_base::{Instant, already_happened};
 use repair_core::GapWindow;
@@ -63,6 +64,8 @@ pub struct Session<C: SrtpCipher, W: GapWindow, S: ResendStore<Sent>> {
     feedback: VecDeque<Rtcp>,
     application: Option<AppSpecificFeedback>,
     packet: Option<RtpPacket>,
+    // What the peer asked and told of streams, and waits to be told.
+    news: News,
     stopped: bool,
     // Where polling stands: no stream before this place is due.
     next_stream: usize,
@@ -95,6 +98,7 @@ impl<C: SrtpCipher, W: GapWindow, S: ResendStore<Sent>> Model for Session<C, W, 
         feedback = s.feedback.items;
         application = s.application;
         packet = s.packet;
+        news = s.news;
         stopped = s.stopped;
       };
       rx = s.streams.rx;
@@ -186,6 +190,7 @@ impl<C: SrtpCipher, W: GapWindow, S: ResendStore<Sent>> Session<C, W, S> {
             feedback: VecDeque::new(alloc),
             application: None,
             packet: None,
+            news: News::new(alloc),
             stopped: false,
             next_stream: 0,
         }

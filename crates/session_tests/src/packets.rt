@@ -43,20 +43,19 @@ fn context(alloc: Global, left: bool) -> Result<SrtpContext<ToyCipher>, Fail> {
 
 // Seals a packet as the sender does.
 fn seal(alloc: Global, plain: &[u8]) -> Result<Vec<u8>, Fail> {
-    let mut context = context(alloc, true)?;
     let Some(header) = RtpHeader::parse(plain, &ExtensionMap::empty()) else {
         return Ok(Vec::new(alloc));
     };
     if header.header_len > plain.len() {
         return Ok(Vec::new(alloc));
     }
+    let mut context = context(alloc, true)?;
     let sealed = context.protect_rtp(plain, &header, u64::from(header.sequence_number))?;
     Ok(sealed)
 }
 
 /// Seals a packet of this number as the sender does; one that begins with another number is nothing.
 pub fn seal_numbered(alloc: Global, plain: &[u8], number: u64) -> Result<Vec<u8>, Fail> {
-    let mut context = context(alloc, true)?;
     let Some(header) = RtpHeader::parse(plain, &ExtensionMap::empty()) else {
         return Ok(Vec::new(alloc));
     };
@@ -66,6 +65,7 @@ pub fn seal_numbered(alloc: Global, plain: &[u8], number: u64) -> Result<Vec<u8>
     if number % 65_536 != u64::from(header.sequence_number) {
         return Ok(Vec::new(alloc));
     }
+    let mut context = context(alloc, true)?;
     let sealed = context.protect_rtp(plain, &header, number)?;
     Ok(sealed)
 }

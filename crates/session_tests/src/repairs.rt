@@ -9,7 +9,7 @@ use crate::ends::{End, config};
 use crate::repairs::asking::{ASKED, CAPPED};
 use crate::repairs::carrying::{CARRIED, USED_UP};
 use crate::repairs::keeping::{KEPT, SEVERAL};
-use crate::repairs::steps::{Begins, Step, go_through};
+use crate::repairs::steps::{Begins, Row, Step, go_through};
 use std::alloc::Global;
 use std::test::Fail;
 
@@ -24,13 +24,15 @@ fn play(alloc: Global, begins: Begins, steps: &[Step]) -> Result<bool, Fail> {
     go_through(alloc, &mut end, &mut peer, begins.1, steps)
 }
 
+const TABLES: [&[Row]; 6] = [&ASKED, &CAPPED, &KEPT, &SEVERAL, &CARRIED, &USED_UP];
+
 #[test]
 fn repairs_hold(rt: HostRuntime) -> Result<(), Fail> {
-    let asked = ASKED.iter().chain(CAPPED.iter()).chain(KEPT.iter());
-    let all = asked.chain(SEVERAL.iter()).chain(CARRIED.iter());
-    for (name, begins, steps) in all.chain(USED_UP.iter()) {
-        let held = play(rt.alloc(), *begins, steps)?;
-        assert!(rt; held, "{name}");
+    for rows in &TABLES {
+        for (name, begins, steps) in *rows {
+            let held = play(rt.alloc(), *begins, steps)?;
+            assert!(rt; held, "{name}");
+        }
     }
     Ok(())
 }

@@ -4,6 +4,7 @@ mod counted;
 mod due;
 mod many;
 mod names;
+mod news;
 mod requests;
 mod steps;
 mod told;
@@ -14,8 +15,9 @@ use crate::reports::counted::COUNTED;
 use crate::reports::due::DUE;
 use crate::reports::many::{Receivers, answers_all, reports_of_64};
 use crate::reports::names::names_itself;
+use crate::reports::news::NEWS;
 use crate::reports::requests::{REQUESTS, numbers_requests};
-use crate::reports::steps::{Step, expect, goes};
+use crate::reports::steps::{Row, Step, expect, goes};
 use crate::reports::told::TOLD;
 use media_base::Duration;
 use session_core::ReportIntervals;
@@ -72,16 +74,15 @@ fn play(alloc: Global, asked: Asked) -> Result<bool, Fail> {
     holds(alloc, &mut end, asked)
 }
 
+const TABLES: [&[Row]; 5] = [&TOLD, &COUNTED, &DUE, &NEWS, &REQUESTS];
+
 #[test]
 fn reports_hold(rt: HostRuntime) -> Result<(), Fail> {
-    for (name, steps) in TOLD
-        .iter()
-        .chain(COUNTED.iter())
-        .chain(DUE.iter())
-        .chain(REQUESTS.iter())
-    {
-        let held = play(rt.alloc(), Asked::Steps(steps))?;
-        assert!(rt; held, "{name}");
+    for rows in &TABLES {
+        for (name, steps) in *rows {
+            let held = play(rt.alloc(), Asked::Steps(steps))?;
+            assert!(rt; held, "{name}");
+        }
     }
     Ok(())
 }
@@ -99,17 +100,19 @@ const MOMENTS: [Receivers; 6] = [
 
 #[test]
 fn moments_are_answered(rt: HostRuntime) -> Result<(), Fail> {
-    for receivers in MOMENTS {
-        let held = play(rt.alloc(), Asked::Moments(receivers))?;
+    for receivers in &MOMENTS {
+        let held = play(rt.alloc(), Asked::Moments(*receivers))?;
         assert!(rt; held, "{}", receivers.0);
     }
     Ok(())
 }
 
+const LENGTHS: [usize; 5] = [0, 1, 2, 255, 256];
+
 #[test]
 fn sources_are_named(rt: HostRuntime) -> Result<(), Fail> {
-    for len in [0, 1, 2, 255, 256] {
-        let held = play(rt.alloc(), Asked::Named(len))?;
+    for len in &LENGTHS {
+        let held = play(rt.alloc(), Asked::Named(*len))?;
         assert!(rt; held, "{len}");
     }
     Ok(())

@@ -255,28 +255,35 @@ fn is_brought(alloc: Global, end: &mut End, came: Came, wanted: Brings) -> Resul
     Ok(right && end.poll_event().is_none())
 }
 
-fn receiver(alloc: Global) -> Result<End, Fail> {
-    let mut end = End::new(alloc, config(alloc, map_of(Ids::Nothing), 1150, 0)?);
-    give_keys(alloc, &mut end, false)?;
+fn expect_repaired(end: &mut End) -> Result<(), Fail> {
     let mid_rid = MidRid(mid(), Some(rid()));
     end.streams()
         .expect_stream_rx(Ssrc::from(42), Some(Ssrc::from(43)), mid_rid, false)?;
-    Ok(end)
+    Ok(())
 }
 
-fn holds(alloc: Global, steps: &[(Came, Brings)]) -> Result<bool, Fail> {
-    let mut end = receiver(alloc)?;
+// Whether a fresh end goes through all steps.
+fn goes_through(alloc: Global, end: &mut End, steps: &[(Came, Brings)]) -> Result<bool, Fail> {
+    give_keys(alloc, end, false)?;
+    expect_repaired(end)?;
     for step in steps {
-        if !is_brought(alloc, &mut end, step.0, step.1)? {
+        if !is_brought(alloc, end, step.0, step.1)? {
             return Ok(false);
         }
     }
     Ok(true)
 }
 
+// Makes an end, and takes it through the steps: the one function that owns a session, with one exit.
+fn holds(alloc: Global, steps: &[(Came, Brings)]) -> Result<bool, Fail> {
+    let config = config(alloc, map_of(Ids::Nothing), 1150, 0)?;
+    let mut end = End::new(alloc, config);
+    goes_through(alloc, &mut end, steps)
+}
+
 #[test]
 fn repairs_restore_packets(rt: HostRuntime) -> Result<(), Fail> {
-    for (name, steps) in ROWS {
+    for (name, steps) in &ROWS {
         let held = holds(rt.alloc(), steps)?;
         assert!(rt; held, "{name}");
     }

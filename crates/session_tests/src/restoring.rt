@@ -255,6 +255,16 @@ fn goes(side: &mut Side, step: Step) -> Result<bool, AllocError> {
     }
 }
 
+fn goes_through(side: &mut Side, steps: &[Step]) -> Result<bool, AllocError> {
+    for step in steps {
+        if !goes(side, *step)? {
+            return Ok(false);
+        }
+    }
+    Ok(true)
+}
+
+// Makes a stream, and takes it through the steps: the one function that owns it, with one exit.
 fn play(alloc: Global, steps: &[Step]) -> Result<bool, AllocError> {
     let threshold = Duration::from_nanos(1_500_000_000);
     let mut side = Side {
@@ -269,12 +279,7 @@ fn play(alloc: Global, steps: &[Step]) -> Result<bool, AllocError> {
         main: None,
         repairs: None,
     };
-    for step in steps {
-        if !goes(&mut side, *step)? {
-            return Ok(false);
-        }
-    }
-    Ok(true)
+    goes_through(&mut side, steps)
 }
 
 #[test]
@@ -289,49 +294,63 @@ fn repairs_that_come_hold(rt: HostRuntime) -> Result<(), Fail> {
 type Receiving = Streams<MaskRegister, QueueStore<Sent>>;
 
 // Has SSRC 44, 42 and 45 be those of streams, the last two with repairs on SSRC 43.
-fn expect_three(alloc: Global) -> Result<Receiving, AllocError> {
-    let mut streams = Receiving::new(alloc, Duration::from_nanos(1_500_000_000));
+fn expect_three(streams: &mut Receiving) -> Result<(), AllocError> {
     let repairs = Ssrc::from(43);
     streams.expect_stream_rx(Ssrc::from(44), None, MidRid(mid(), None), false)?;
     streams.expect_stream_rx(Ssrc::from(42), Some(repairs), MidRid(mid(), None), false)?;
     streams.expect_stream_rx(Ssrc::from(45), Some(repairs), MidRid(mid(), None), false)?;
-    Ok(streams)
-}
-
-#[test]
-fn repairs_come_to_their_stream(rt: HostRuntime) -> Result<(), Fail> {
-    let mut streams = expect_three(rt.alloc())?;
-    assert!(rt; streams.repair_place(Ssrc::from(43)) == Some(1));
-    assert!(rt; streams.repair_place(Ssrc::from(42)).is_none());
-    assert!(rt; streams.original(Ssrc::from(43)) == Some(Ssrc::from(42)));
-    streams.remove_stream_rx(Ssrc::from(44));
-    assert!(rt; streams.repair_place(Ssrc::from(43)) == Some(0));
-    streams.remove_stream_rx(Ssrc::from(42));
-    assert!(rt; streams.repair_place(Ssrc::from(43)).is_none());
     Ok(())
 }
 
-#[test]
-fn repairs_are_taken_at_a_place(rt: HostRuntime) -> Result<(), Fail> {
-    let mut streams = expect_three(rt.alloc())?;
+// Whether repairs come to the first stream that has their SSRC, of three and once others are gone.
+fn come_to_the_first(streams: &mut Receiving) -> Result<bool, AllocError> {
+    expect_three(streams)?;
+    let second = streams.repair_place(Ssrc::from(43)) == Some(1);
+    let none_of_its_own = streams.repair_place(Ssrc::from(42)).is_none();
+    let original = streams.original(Ssrc::from(43)) == Some(Ssrc::from(42));
+    streams.remove_stream_rx(Ssrc::from(44));
+    let first = streams.repair_place(Ssrc::from(43)) == Some(0);
+    streams.remove_stream_rx(Ssrc::from(42));
+    let gone = streams.repair_place(Ssrc::from(43)).is_none();
+    Ok(second && none_of_its_own && original && first && gone)
+}
+
+// Whether the repair 5 is taken once at the place of its stream, and the packet 7 is restored there once.
+fn are_taken_once(streams: &mut Receiving) -> Result<bool, AllocError> {
+    expect_three(streams)?;
     let Some(place) = streams.repair_place(Ssrc::from(43)) else {
-        return Err(Fail::from("no place"));
+        return Ok(false);
     };
     let Some(number) = streams.accepts_repair(place, 5, None) else {
-        return Err(Fail::from("not fresh"));
+        return Ok(false);
     };
     streams.take_repair_at(place, Instant::from_nanos(1), number, None);
-    assert!(rt; streams.accepts_repair(place, 5, None).is_none());
+    let taken = streams.accepts_repair(place, 5, None).is_none();
     let came = arrival(Instant::from_nanos(1));
     let restored = streams.restore_at(place, 7, &came, None)?;
-    assert!(rt; number_of(restored) == Some(7));
     let Some(same) = streams.repair_place(Ssrc::from(43)) else {
-        return Err(Fail::from("no place"));
+        return Ok(false);
     };
-    assert!(rt; same == place);
     let again = streams.restore_at(same, 7, &came, None)?;
-    assert!(rt; again.is_none());
-    Ok(())
+    Ok(taken && number_of(restored) == Some(7) && same == place && again.is_none())
+}
+
+fn receiving(alloc: Global) -> Receiving {
+    Receiving::new(alloc, Duration::from_nanos(1_500_000_000))
+}
+
+#[test]
+fn repairs_come_to_their_stream(rt: HostRuntime) {
+    let mut streams = receiving(rt.alloc());
+    let came = come_to_the_first(&mut streams);
+    assert!(rt; came == Ok(true));
+}
+
+#[test]
+fn repairs_are_taken_at_a_place(rt: HostRuntime) {
+    let mut streams = receiving(rt.alloc());
+    let taken = are_taken_once(&mut streams);
+    assert!(rt; taken == Ok(true));
 }
 
 fn row(pt: u8, rtx: Option<u8>) -> TypeRow {
@@ -346,15 +365,20 @@ fn row(pt: u8, rtx: Option<u8>) -> TypeRow {
     }
 }
 
-#[test]
-fn types_of_repairs_have_primaries(rt: HostRuntime) -> Result<(), Fail> {
-    let mut types = PayloadTypes::new(rt.alloc());
+fn have_primaries(types: &mut PayloadTypes) -> Result<bool, AllocError> {
     types.add(row(96, Some(97)))?;
     types.add(row(98, Some(97)))?;
     types.add(row(100, None))?;
-    assert!(rt; types.primary(Pt::from(97)) == Some(Pt::from(96)));
-    assert!(rt; types.primary(Pt::from(96)).is_none());
+    let first = types.primary(Pt::from(97)) == Some(Pt::from(96));
+    let no_repairs = types.primary(Pt::from(96)).is_none();
     types.add(row(96, None))?;
-    assert!(rt; types.primary(Pt::from(97)) == Some(Pt::from(98)));
-    Ok(())
+    let next = types.primary(Pt::from(97)) == Some(Pt::from(98));
+    Ok(first && no_repairs && next)
+}
+
+#[test]
+fn types_of_repairs_have_primaries(rt: HostRuntime) {
+    let mut types = PayloadTypes::new(rt.alloc());
+    let held = have_primaries(&mut types);
+    assert!(rt; held == Ok(true));
 }

@@ -654,11 +654,15 @@ fn play(alloc: Global, begins: Begins, steps: &[Step]) -> Result<bool, Fail> {
     goes_through(alloc, &mut end, begins, steps)
 }
 
+const TABLES: [&[Row]; 3] = [&ROUNDS, &TRIPS, &PAUSES];
+
 #[test]
 fn rounds_and_pauses_hold(rt: HostRuntime) -> Result<(), Fail> {
-    for (name, begins, steps) in ROUNDS.iter().chain(TRIPS.iter()).chain(PAUSES.iter()) {
-        let held = play(rt.alloc(), *begins, steps)?;
-        assert!(rt; held, "{name}");
+    for rows in &TABLES {
+        for (name, begins, steps) in *rows {
+            let held = play(rt.alloc(), *begins, steps)?;
+            assert!(rt; held, "{name}");
+        }
     }
     Ok(())
 }

@@ -234,8 +234,8 @@ fn play(alloc: Global, row: Row) -> Result<bool, Fail> {
 
 #[test]
 fn rows_hold(rt: HostRuntime) -> Result<(), Fail> {
-    for (name, row) in ROWS {
-        let held = play(rt.alloc(), row)?;
+    for (name, row) in &ROWS {
+        let held = play(rt.alloc(), *row)?;
         assert!(rt; held, "{name}");
     }
     Ok(())
@@ -243,8 +243,8 @@ fn rows_hold(rt: HostRuntime) -> Result<(), Fail> {
 
 #[test]
 fn each_extension_is_carried(rt: HostRuntime) -> Result<(), Fail> {
-    for extension in EXTENSIONS {
-        let held = play(rt.alloc(), Row::Carries(Ids::Only(extension)))?;
+    for extension in &EXTENSIONS {
+        let held = play(rt.alloc(), Row::Carries(Ids::Only(*extension)))?;
         assert!(rt; held, "{extension:?}");
     }
     Ok(())

@@ -5,6 +5,9 @@ use Rattle.rtcp_wire.specs.declared.feedback.AppSpecificFeedback.{AppSpecificFee
 use Rattle.rtcp_wire.specs.declared.packet.Rtcp.TheVariants.{AppSpecificFeedback}
 use Rattle.srtp_core.specs.Cipher.{CipherMeaning}
 use Rattle.srtp_core.specs.declared.counter.Counter.TheVariants as srtcp
+use Rattle.stream_core.specs.declared.requests.RxRequests.{RxRequests}
+use Rattle.stream_core.specs.Pauses.{on_record}
+use Rattle.stream_core.specs.RxRecord.{RxState}
 use Rattle.stream_core.specs.Tables.{place_of, change_place}
 use Rattle.stream_core.specs.TxRecord.{written}
 use Rattle.session_core.specs.declared.datagram.Datagram.{Datagram}
@@ -93,3 +96,13 @@ CallsTurn =
     → a.rx.now ≤ time → 0 < time → FitsAlone (AppSpecificFeedback feedback)
     → NextDatagram cipher time (record r { state = with_feedback (AppSpecificFeedback feedback) r.state }) after (Some d)
     → TurnsTo cipher C side r a after (called time ∷ event_of r.state.transport.exts d ∷ [])
+
+-- what an incoming stream asks of its sender changes so
+abbrev pub requesting : (RxRequests → RxRequests) → RxState → RxState
+requesting f s = record s { requests = f s.requests }
+
+-- an incoming stream asks its sender for something else: what it asks for leaves in a later tick
+abbrev pub RequestsTurn : Type 0
+RequestsTurn =
+    (cipher : CipherMeaning) (C : Config) (side : Side) (r : SessionRecord) (a : Session) (place time : ℕ) (f : RxRequests → RxRequests) → IsFit C → Mirrors cipher C side r a
+    → a.rx.now ≤ time → TurnsTo cipher C side r a (record r { rx = change_place (on_record (requesting f)) r.rx place }) (called time ∷ [])

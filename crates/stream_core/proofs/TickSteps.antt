@@ -8,8 +8,8 @@ use Rattle.indexmap.specs.IndexMap.{set_value_at}
 use Rattle.rtcp_wire.specs.declared.packet.Rtcp.{Rtcp}
 use Rattle.repair_core.specs.Rounds.{Heard}
 use Rattle.stream_core.specs.declared.reports.Tick.{Tick}
-use Rattle.stream_core.specs.declared.requests.KeyframeRequestKind.{KeyframeRequestKind}
-use Rattle.stream_core.specs.declared.requests.KeyframeRequestKind.TheVariants.{Pli, Fir}
+use Rattle.rtp_base.specs.declared.keyframe_request.KeyframeRequestKind.{KeyframeRequestKind}
+use Rattle.rtp_base.specs.declared.keyframe_request.KeyframeRequestKind.TheVariants.{Pli, Fir}
 use Rattle.stream_core.specs.declared.requests.RxRequests.{RxRequests}
 use Rattle.stream_core.specs.Reporting.{is_among, reported, with_told, after_front, after_asking, front_items, front_count, fronts_with, fronts_count, rx_items, rx_after, items_with, after_with, report_items, any_request}
 use Rattle.stream_core.specs.Missing.{nack_of, after_round}

@@ -2,8 +2,8 @@
 use Rattle.std.specs.Prelude.{ℕ, ◌+◌, ◌%◌, ◌||◌, min, Bool, is_some, List, [], ◌∷◌, ◌++◌, Option, Some, None}
 use Rattle.rtcp_wire.specs.declared.packet.Rtcp.{Rtcp}
 use Rattle.rtcp_wire.specs.declared.packet.Rtcp.TheVariants as rtcp
-use Rattle.stream_core.specs.declared.requests.KeyframeRequestKind.{KeyframeRequestKind}
-use Rattle.stream_core.specs.declared.requests.KeyframeRequestKind.TheVariants.{Pli, Fir}
+use Rattle.rtp_base.specs.declared.keyframe_request.KeyframeRequestKind.{KeyframeRequestKind}
+use Rattle.rtp_base.specs.declared.keyframe_request.KeyframeRequestKind.TheVariants.{Pli, Fir}
 use Rattle.stream_core.specs.declared.requests.RxRequests.{RxRequests}
 
 -- nothing is asked, and no full intra request was made

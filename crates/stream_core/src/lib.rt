@@ -23,7 +23,7 @@ pub use payload::Payload;
 pub use payload_types::{PayloadTypes, TypeRow};
 pub use repairing::Sent;
 pub use reports::{Arrival, RxReports, Tick, TxReports};
-pub use requests::{KeyframeRequestKind, RxRequests};
+pub use requests::RxRequests;
 pub use seen::Seen;
 pub use send_queue::SendQueue;
 pub use ssrc_table::SsrcTable;

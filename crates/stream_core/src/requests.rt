@@ -15,18 +15,9 @@ ghost use Rattle.stream_core.specs.Requests.{
 
 use media_base::{Bitrate, Listed};
 use rtcp_wire::{Fir, FirEntry, Pli, Remb, Rtcp};
-use rtp_base::{ReportList, Ssrc};
+use rtp_base::{KeyframeRequestKind, ReportList, Ssrc};
 use std::alloc::{AllocError, Global};
 use std::collections::VecDeque;
-
-/// How a key frame is asked for.
-#[derive(Clone, Copy, Debug, PartialEq, Eq)]
-pub enum KeyframeRequestKind {
-    /// A picture was lost (RFC 4585 section 6.3.1).
-    Pli,
-    /// A full intra request (RFC 5104 section 4.3.1).
-    Fir,
-}
 
 /// What an incoming stream asks of its sender at the next tick.
 #[derive(Clone, Copy, Debug, PartialEq, Eq)]

@@ -14,13 +14,16 @@ ghost use Rattle.stream_core.specs.RxRecord.{RxRecord, StandsFor, expected, take
 ghost use Rattle.stream_core.specs.RxRepairs.{own_number, fresh_repair, repair_came, restored_for, restored, with_number, after_restored};
 
 use crate::reports::{Arrival, RxReports};
-use crate::requests::{KeyframeRequestKind, RxRequests};
+use crate::requests::RxRequests;
 use crate::stream_paused::StreamPaused;
 use media_base::{Bitrate, Duration, Instant};
 use repair_core::{GapWindow, ReceptionCounts};
 use report_core::{LastSenderReport, ReportIntervals, receiver_report};
 use rtcp_wire::{ReceiverReport, Rtcp, SenderInfo};
-use rtp_base::{Mid, MidRid, NackEntry, ReceptionReport, ReportList, Rid, SeqNo, Ssrc, widen16};
+use rtp_base::{
+    KeyframeRequestKind, Mid, MidRid, NackEntry, ReceptionReport, ReportList, Rid, SeqNo, Ssrc,
+    widen16,
+};
 use rtx_core::RepairWindow;
 use std::alloc::{AllocError, Global};
 use std::collections::VecDeque;

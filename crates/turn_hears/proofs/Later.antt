@@ -7,7 +7,7 @@ use Rattle.stream_core.specs.TxRecord.{TxRecord as StreamTx}
 use Rattle.srtp_core.specs.Contexts.{SrtpState}
 use Rattle.stream_core.specs.Pauses.{on_record, told as stream_told}
 use Rattle.stream_core.specs.Tables.{each}
-use Rattle.session_core.specs.Calls.{lacks_keys, after_events}
+use Rattle.session_core.specs.Calls.{lacks_keys, silenced, after_events}
 use Rattle.session_core.specs.SessionRecord.{MediaRecord, SessionState, SessionRecord}
 use Rattle.media_model.specs.declared.entry.Write.{Write}
 use Rattle.run_model.specs.Events.{Outgoing, Incoming}
@@ -72,10 +72,10 @@ keys_there s seals keyed = ap (λ x. is_none x || is_none s.opening) seals ∙ a
 
 -- and all is told
 abbrev pub told_record : SessionRecord → SessionRecord
-told_record s = record s { state = record s.state { application = None; packet = None }; rx = each (on_record stream_told) s.rx }
+told_record s = record s { state = silenced s.state; rx = each (on_record stream_told) s.rx }
 
 pub told_all : (s : SessionRecord) → lacks_keys s.state ≡ false → after_events s ≡ told_record s
 told_all s keys = λ j. record s {
-  state = cond (keys j) s.state (record s.state { application = None; packet = None });
+  state = cond (keys j) s.state (silenced s.state);
   rx = cond (keys j) s.rx (each (on_record stream_told) s.rx);
 }

@@ -7,3 +7,4 @@ pub mod Trips
 pub mod News
 pub mod Hearing
 pub mod Calling
+pub mod Requesting

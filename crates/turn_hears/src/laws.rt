@@ -1,4 +1,4 @@
-ghost use Rattle.session_turns.specs.Laws.{CallsTurn, HearsTurn, WritesTurn};
+ghost use Rattle.session_turns.specs.Laws.{CallsTurn, HearsTurn, RequestsTurn, WritesTurn};
 
 use rtcp_wire::frames_read_back;
 
@@ -18,3 +18,8 @@ pub fn calls_turn()
 {
     frames_read_back();
 }
+
+/// A request to the sender of a stream, which leaves in a later tick, is a turn.
+pub fn requests_turn()
+    ensures { RequestsTurn }
+{}

@@ -23,7 +23,7 @@ use Rattle.stream_core.specs.StreamsRecord.{StreamsRecord}
 use Rattle.stream_core.specs.Tables.{each}
 use Rattle.stream_core.specs.TxRecord.{TxRecord as StreamTx, after_timeout as stream_after_timeout}
 use Rattle.session_core.specs.declared.datagram.Datagram.{Datagram}
-use Rattle.session_core.specs.Calls.{lacks_keys, after_events}
+use Rattle.session_core.specs.Calls.{lacks_keys, silenced, after_events}
 use Rattle.session_core.specs.Feedback.{FitsAlone, compound_of, sealed_compound, due_of, some_due, exhausts, is_used_up, leaving, after_compound, counted}
 use Rattle.session_core.specs.Reports.{sender_ssrc, tick_at, due_senders, some_reports, sender_items, after_senders, answers, after_answers, TickItemsFit}
 use Rattle.session_core.specs.Rounds.{tick_of, after_incoming, after_outgoing, after_checks, after_timeout}
@@ -218,7 +218,7 @@ module _ (own : SrtpState) (exts : ExtensionMap) (ls : List Outgoing) (items : T
   told_stand : (r : SessionRecord) → Stands own exts ls r.state r.repairs → Stands own exts ls (after_events r).state (after_events r).repairs
   told_stand r h = by (lacks_keys r.state)
     where
-      by : (b : Bool) → Stands own exts ls (if b then r.state else record (r.state) { application = None; packet = None }) r.repairs
+      by : (b : Bool) → Stands own exts ls (if b then r.state else silenced r.state) r.repairs
       by true = h
       by false = record { ids = h.ids; keyed = h.keyed; wide = h.wide; fit = h.fit; tx = h.tx }
 

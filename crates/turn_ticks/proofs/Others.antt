@@ -40,8 +40,8 @@ use Rattle.stream_core.specs.RxRecord.{RxRecord as StreamRx}
 use Rattle.stream_core.specs.TxRecord.{TxRecord as StreamTx}
 use Rattle.stream_core.specs.declared.payload_types.TypeRow.{TypeRow}
 use Rattle.stream_core.specs.declared.reports.Tick.{Tick}
-use Rattle.stream_core.specs.declared.requests.KeyframeRequestKind.{KeyframeRequestKind}
-use Rattle.stream_core.specs.declared.requests.KeyframeRequestKind.TheVariants as kind
+use Rattle.rtp_base.specs.declared.keyframe_request.KeyframeRequestKind.{KeyframeRequestKind}
+use Rattle.rtp_base.specs.declared.keyframe_request.KeyframeRequestKind.TheVariants as kind
 use Rattle.stream_core.specs.declared.requests.RxRequests.{RxRequests}
 use Rattle.session_core.specs.Reports.{description_items, reports_in, items_under, sender_items_with, sender_items, due_senders, answers}
 use Rattle.session_core.specs.SessionRecord.{MediaRecord, SessionState}

@@ -23,7 +23,8 @@ use Rattle.stream_core.specs.Tables.{each}
 use Rattle.stream_core.specs.TxRecord.{TxRecord as StreamTx}
 use Rattle.session_core.specs.declared.datagram.Datagram.{Datagram}
 use Rattle.session_core.specs.declared.error.RtcError.{RtcError}
-use Rattle.session_core.specs.Calls.{lacks_keys, after_events}
+use Rattle.session_core.specs.Calls.{lacks_keys, silenced, after_events}
+use Rattle.session_core.specs.News.{no_news}
 use Rattle.session_core.specs.Draining.{IsDrainCut}
 use Rattle.session_core.specs.Hearing.{trip_of}
 use Rattle.session_core.specs.Reports.{sender_ssrc, tick_at, some_reports, due_senders, sender_items, after_senders, answers, after_answers}
@@ -79,6 +80,7 @@ begun_session now b r = record {
     last_round = if b then now else r.state.last_round;
     application = None;
     packet = None;
+    news = no_news;
   };
   rx = ticked_rx r.state.pause_threshold r.seen (tick now b r) (due_incoming now r) r.rx;
   originals = r.originals;
@@ -119,9 +121,9 @@ timed_is now b r round =
     ∙ ap {A = SessionState} {B = SessionRecord} (λ s. after_checks now (record (incoming_session now b r) { state = s }))
     (answered_is now (some_report now r) (after_senders now (incoming_session now b r).state))
 
-told_all : (s : SessionRecord) → lacks_keys s.state ≡ false → after_events s ≡ record s { state = record s.state { application = None; packet = None }; rx = each (on_record stream_told) s.rx }
+told_all : (s : SessionRecord) → lacks_keys s.state ≡ false → after_events s ≡ record s { state = silenced s.state; rx = each (on_record stream_told) s.rx }
 told_all s keys = λ j. record s {
-  state = if keys j then s.state else record s.state { application = None; packet = None };
+  state = if keys j then s.state else silenced s.state;
   rx = if keys j then s.rx else each (on_record stream_told) s.rx;
 }
 

@@ -155,4 +155,4 @@ module _ (material mid payload : List ℕ) where
       (told after.0 after.2) (told_next (after_event after.0) (leaves after.0 after.2))
     where
       waits : Expects toy_meaning key transport now mid payload receiver
-      waits = record { keys = refl; opening = refl; transport = refl; rx = refl; plain = λ pt. refl; seen = refl; application = refl; silent = refl; quiet = refl }
+      waits = record { keys = refl; opening = refl; transport = refl; rx = refl; plain = λ pt. refl; seen = refl; application = refl; news = refl; silent = refl; quiet = refl }

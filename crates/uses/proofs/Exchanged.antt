@@ -31,6 +31,7 @@ use Rattle.session_core.specs.declared.datagram.Event.{Event}
 use Rattle.session_core.specs.declared.datagram.Event.TheVariants as event
 use Rattle.session_core.specs.declared.datagram.Opened.{Opened}
 use Rattle.session_core.specs.Calls.{lacks_keys, told, after_events, Polled}
+use Rattle.session_core.specs.News.{no_news, news_told}
 use Rattle.session_core.specs.Receiving.{Receives, Opens, OpensRepair, OpensIn, number_of, rx_opened, arrival_of, after_opened, packet_from, cut, opened, repaired, stays}
 use Rattle.session_core.specs.Repairs.{repaired_by, original_under}
 use Rattle.session_core.specs.Feedback.{due_of, some_due}
@@ -200,6 +201,7 @@ module _ (cipher : CipherMeaning) (k : SrtpState) (t : Transport) (now : ℕ) (m
     pub plain : (pt : ℕ) → primary_type_of r.state.types pt ≡ None
     pub seen : r.seen ≡ []
     pub application : r.state.application ≡ None
+    pub news : r.state.news ≡ no_news
     pub silent : told r ≡ []
     pub quiet : told (after_events r) ≡ []
 
@@ -243,7 +245,8 @@ module _ (cipher : CipherMeaning) (k : SrtpState) (t : Transport) (now : ℕ) (m
       if x.keys j then []
       else option_to_list (option_map event.AppSpecificFeedback (x.application j))
       ++ (map event.StreamPaused (pauses (rx_opened (seen_of (y.source j) (x.seen j)) (arrival_of r.state.types now h) (y.source j) n (x.rx j)))
-      ++ option_to_list (option_map event.RtpPacket (if y.source j == 0 then r.state.packet else Some (packet_from now h n (cut h other)))))
+      ++ (option_to_list (option_map event.RtpPacket (if y.source j == 0 then r.state.packet else Some (packet_from now h n (cut h other))))
+      ++ news_told (x.news j)))
 
   -- no datagram of the stream is a repair
   no_repair : (r : SessionRecord) (h : RtpHeader) → Expects r → h.ssrc ≡ 42 → repaired_by r.state.types r.rx r.originals h ≡ None

@@ -5,17 +5,17 @@ use Rattle.srtp_core.specs.Toy.{toy_meaning}
 use Rattle.srtp_core.specs.declared.profile.SrtpProfile.TheVariants.{AeadAes128Gcm}
 use Rattle.session_core.specs.declared.config.SessionConfig.{SessionConfig}
 use Rattle.session_core.specs.declared.datagram.Event.{Event}
-use Rattle.session_core.specs.declared.datagram.Event.TheVariants.{RtpPacket, AppSpecificFeedback, StreamPaused}
+use Rattle.session_core.specs.declared.datagram.Event.TheVariants.{RtpPacket, AppSpecificFeedback}
 use Rattle.session_core.specs.declared.media.MediaKind.TheVariants.{Video}
 use Rattle.session_core.specs.Calls.{fresh_session, keyed}
 use Rattle.session_core.specs.SessionRecord.{SessionState, SessionRecord}
 use Rattle.stream_core.specs.Write.{WriteRecord}
 
--- the payload of what is told: none of a stream that was paused or unpaused
+-- the payload of what is told: none where it is of streams alone
 abbrev pub payload_told : Event → List ℕ
 payload_told (RtpPacket packet) = packet.payload
 payload_told (AppSpecificFeedback feedback) = feedback.payload
-payload_told (StreamPaused paused) = []
+payload_told _ = []
 
 -- the packet numbered 1 of type 96 at a moment, without marker, header values and contributing sources
 abbrev pub first_write : ℕ → List ℕ → WriteRecord

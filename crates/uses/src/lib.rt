@@ -27,7 +27,5 @@ pub mod script_parts;
 pub mod seal_and_open;
 pub mod send_again;
 pub mod tell_a_run;
-#[cfg(test)]
-mod tests;
 pub mod time_a_packet;
 pub mod widen_a_number;

@@ -12,13 +12,16 @@ use std::alloc::Global;
 
 /// A payload type that both sides know, with its clock in ticks a second, without repairs.
 pub fn payload_type(pt: u8, codec: Codec, rate: u32) -> PayloadType
-    ensures { result ≡ record { pt = pt; codec = codec; rate = rate; rtx = None } }
+    ensures { result ≡ record { pt = pt; codec = codec; rate = rate; rtx = None; red = None; pli = false; fir = false } }
 {
     PayloadType {
         pt: Pt::from(pt),
         codec,
         rate,
         rtx: None,
+        red: None,
+        pli: false,
+        fir: false,
     }
 }
 

@@ -1,22 +1,9 @@
 // Datagrams of anybody.
-use super::{lines_with, push_zeros, ran};
-use crate::ends::End;
+use super::Says::{Is, Lines};
+use super::{Run, Says, Wanted, first_astray, goes_with, push_zeros};
+use crate::ends::End::Done;
 use std::alloc::Global;
 use std::test::Fail;
-
-#[test]
-fn foreign_seal(rt: HostRuntime) -> Result<(), Fail> {
-    let (report, sink) = ran(
-        rt.alloc(),
-        "foreign B 1 rtp 80600002000000000000002a0380600002002a00020000002803000001\n",
-    )?;
-    assert_eq!(rt; report.end, End::Done);
-    assert_eq!(rt;
-        sink.bytes(),
-        b"got B rtp 29\nopened B rtp 42 2\nyielded B 42 2 96 0 0 03\nend genuine=no repairs=yes\n".as_slice()
-    );
-    Ok(())
-}
 
 // A datagram with SSRC 42 and number 6, whose payload is sealed to so many zeros.
 fn zeros(alloc: Global, bytes: u64) -> Result<String, Fail> {
@@ -46,22 +33,46 @@ foreign B 1 rtp 80600002000000000000002a0380600002002a00020000002803000001
 foreign B 1 rtp a0600004000000000000002a070002a0600004002a00020000002e07000201
 ";
 
+// What is said where none opens, and where four do.
+const NONE_OPENS: &[Says] = &[Lines("got B rtp", 12), Lines("opened", 0)];
+
+const FOUR_OPEN: &[Says] = &[
+    Lines("opened B rtp", 4),
+    Lines("opened B rtp 0 1", 1),
+    Lines("yielded B", 3),
+    Lines("yielded B 42 4 96 0 0 07", 1),
+    Lines("end genuine=no repairs=yes", 1),
+];
+
 #[test]
 fn foreign_datagrams(rt: HostRuntime) -> Result<(), Fail> {
     let alloc = rt.alloc();
     let mut steps = UNOPENED.to_string(alloc)?;
     steps.push_str(zeros(alloc, 1_973)?.as_str())?;
-    let (report, sink) = ran(alloc, steps.as_str())?;
-    assert_eq!(rt; report.end, End::Done);
-    assert_eq!(rt; lines_with(sink.bytes(), "got B rtp"), 12);
-    assert_eq!(rt; lines_with(sink.bytes(), "opened"), 0);
+    let none = goes_with(alloc, "", steps.as_str(), &Wanted(0, Done, NONE_OPENS))?;
     steps.push_str(OPENED)?;
     steps.push_str(zeros(alloc, 1_972)?.as_str())?;
-    let (_, sink) = ran(alloc, steps.as_str())?;
-    assert_eq!(rt; lines_with(sink.bytes(), "opened B rtp"), 4);
-    assert_eq!(rt; lines_with(sink.bytes(), "opened B rtp 0 1"), 1);
-    assert_eq!(rt; lines_with(sink.bytes(), "yielded B"), 3);
-    assert_eq!(rt; lines_with(sink.bytes(), "yielded B 42 4 96 0 0 07"), 1);
-    assert_eq!(rt; lines_with(sink.bytes(), "end genuine=no repairs=yes"), 1);
+    let four = goes_with(alloc, "", steps.as_str(), &Wanted(0, Done, FOUR_OPEN))?;
+    assert!(rt; none && four, "{none} {four}");
+    Ok(())
+}
+
+// A seal of the packet 2 alone.
+const FOREIGN_SEAL: [Run; 1] = [(
+    "",
+    "foreign B 1 rtp 80600002000000000000002a0380600002002a00020000002803000001\n",
+    Wanted(
+        0,
+        Done,
+        &[Is(
+            "got B rtp 29\nopened B rtp 42 2\nyielded B 42 2 96 0 0 03\nend genuine=no repairs=yes\n",
+        )],
+    ),
+)];
+
+#[test]
+fn foreign_seal(rt: HostRuntime) -> Result<(), Fail> {
+    let astray = first_astray(rt.alloc(), &FOREIGN_SEAL)?;
+    assert!(rt; astray.is_none(), "{astray:?}");
     Ok(())
 }

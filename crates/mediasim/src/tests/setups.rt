@@ -15,7 +15,7 @@ fn setup_script(alloc: Global, lines: &str) -> Result<Vec<u8>, Fail> {
 }
 
 // Setup lines, and the first rule that they break: each rule alone.
-const SETUP_FAULTS: [(&str, &str); 38] = [
+const SETUP_FAULTS: [(&str, &str); 41] = [
     (SHORT_KEY, "KeyLength"),
     ("key 00\nmtu 899 1280\n", "KeyLength"),
     ("key zero\nmtu 899 1280\nunix 2075000001\n", "Mtu"),
@@ -88,6 +88,9 @@ const SETUP_FAULTS: [(&str, &str); 38] = [
         "TypeTwice",
     ),
     ("key zero\ntype 96 vp8 90000 rtx=128\n", "TypeTwice"),
+    ("key zero\ntype 96 vp8 90000 red=96\n", "TypeTwice"),
+    ("key zero\ntype 96 vp8 90000 rtx=97 red=97\n", "TypeTwice"),
+    ("key zero\ntype 96 vp8 90000 red=128\n", "TypeTwice"),
     (
         "key zero\nmedia v video cam\nstream A v 42 0 -\ncache 42 0 1 1\n",
         "SsrcZero",
@@ -111,30 +114,111 @@ const SETUP_FAULTS: [(&str, &str); 38] = [
 ];
 
 // Setup lines of streams and types with repairs that break no rule.
-const REPAIR_SETUPS: [&str; 4] = [
+const REPAIR_SETUPS: [&str; 5] = [
     "key zero\nmedia v video cam\nstream A v 42 43 -\n",
     "key zero\nmedia v video cam\nstream A v 42 43 -\nstart 42 281474976710656\ncache 42 32000 1 1\n",
     "key zero\ntype 96 vp8 90000 rtx=127\n",
+    "key zero\ntype 96 vp8 90000 red=127 fir\n",
     "key zero\ntype 96 vp8 90000 rtx=97\nmedia v video cam\nstream A v 42 - -\nstart 42 5\ncache 42 2000 3000 none\n",
 ];
 
+// Setup lines without steps that are outside the grammar, and the first line that is.
+const WRONG: [(&str, u64); 13] = [
+    ("pause\n", 2),
+    ("pause 5ms\n", 2),
+    ("pause 1 2\n", 2),
+    ("pause 18446744073710\n", 2),
+    ("pause 1\npause 1\n", 3),
+    ("reports\n", 2),
+    ("reports 5000\n", 2),
+    ("reports 1 2 3\n", 2),
+    ("reports 5s 1000\n", 2),
+    ("reports 5000 5ms\n", 2),
+    ("reports 18446744073710 1000\n", 2),
+    ("reports 5000 18446744073710\n", 2),
+    ("reports 1 2\nreports 1 2\n", 3),
+];
+
+// Setup lines more under which `ONE_WRITE` goes as without them: thresholds of pauses, intervals of
+// reports, and lines of a stream without repairs, which keeps nothing, whatever they say.
+const SAME: [&str; 9] = [
+    "pause 0\n",
+    "pause 1500\n",
+    "pause 10000000000\n",
+    "reports 0 0\n",
+    "reports 5000 1000\n",
+    "reports 10000000000 10000000000\n",
+    "start 42 5\n",
+    "cache 42 1 0 0\n",
+    "cache 42 32000 10000000000 none\nstart 42 281474976710656\n",
+];
+
+// Whether a script ends with this status, after this text.
+fn tells(alloc: Global, script: Vec<u8>, status: u8, text: &str) -> Result<bool, Fail> {
+    let (report, sink) = ran_on(alloc, script)?;
+    Ok(report.status == status && sink.bytes() == text.as_bytes())
+}
+
 #[test]
 fn setups_with_repairs(rt: HostRuntime) -> Result<(), Fail> {
-    let alloc = rt.alloc();
-    for lines in REPAIR_SETUPS {
-        let (report, sink) = ran_on(alloc, setup_script(alloc, lines)?)?;
-        assert_eq!(rt; report.status, 0, "at {lines}");
-        assert_eq!(rt;
-            sink.bytes(),
-            b"end genuine=yes repairs=yes\n".as_slice(),
-            "at {lines}"
-        );
+    for lines in &REPAIR_SETUPS {
+        let script = setup_script(rt.alloc(), lines)?;
+        let told = tells(rt.alloc(), script, 0, "end genuine=yes repairs=yes\n")?;
+        assert!(rt; told, "{lines}");
     }
     Ok(())
 }
 
-// How many bytes of keying material each profile asks for.
-const MATERIAL: [(&str, u64); 3] = [("cm", 60), ("gcm128", 56), ("gcm256", 88)];
+fn has_fault(alloc: Global, lines: &str, fault: &str) -> Result<bool, Fail> {
+    let text = format!(in alloc; "fault setup {fault}\n")?;
+    tells(alloc, setup_script(alloc, lines)?, 1, text.as_str())
+}
+
+#[test]
+fn setup_faults(rt: HostRuntime) -> Result<(), Fail> {
+    for (lines, fault) in &SETUP_FAULTS {
+        let told = has_fault(rt.alloc(), lines, fault)?;
+        assert!(rt; told, "{lines}");
+    }
+    Ok(())
+}
+
+fn is_wrong(alloc: Global, lines: &str, line: u64) -> Result<bool, Fail> {
+    let text = format!(in alloc; "fault syntax {line}\n")?;
+    tells(alloc, setup_script(alloc, lines)?, 7, text.as_str())
+}
+
+#[test]
+fn wrong_setup_lines(rt: HostRuntime) -> Result<(), Fail> {
+    for (lines, line) in &WRONG {
+        let told = is_wrong(rt.alloc(), lines, *line)?;
+        assert!(rt; told, "{lines}");
+    }
+    Ok(())
+}
+
+#[test]
+fn setup_lines_that_change_nothing(rt: HostRuntime) -> Result<(), Fail> {
+    for lines in &SAME {
+        let script = script_with(rt.alloc(), lines, ONE_WRITE)?;
+        let told = tells(rt.alloc(), script, 0, ONE_WRITE_TEXT)?;
+        assert!(rt; told, "{lines}");
+    }
+    Ok(())
+}
+
+// Profiles, how many bytes of keying material are given, and how the run ends.
+const MATERIAL: [(&str, u64, End); 9] = [
+    ("cm", 59, End::Setup(SetupFault::KeyLength)),
+    ("cm", 60, End::Done),
+    ("cm", 61, End::Setup(SetupFault::KeyLength)),
+    ("gcm128", 55, End::Setup(SetupFault::KeyLength)),
+    ("gcm128", 56, End::Done),
+    ("gcm128", 57, End::Setup(SetupFault::KeyLength)),
+    ("gcm256", 87, End::Setup(SetupFault::KeyLength)),
+    ("gcm256", 88, End::Done),
+    ("gcm256", 89, End::Setup(SetupFault::KeyLength)),
+];
 
 // A script under this profile, with so many zeros for its key.
 fn key_script(alloc: Global, profile: &str, bytes: u64) -> Result<Vec<u8>, Fail> {
@@ -144,101 +228,16 @@ fn key_script(alloc: Global, profile: &str, bytes: u64) -> Result<Vec<u8>, Fail>
     setup_script(alloc, lines.as_str())
 }
 
+fn ends_with_key(alloc: Global, profile: &str, bytes: u64, end: End) -> Result<bool, Fail> {
+    let (report, _) = ran_on(alloc, key_script(alloc, profile, bytes)?)?;
+    Ok(report.end == end)
+}
+
 #[test]
 fn key_length_by_profile(rt: HostRuntime) -> Result<(), Fail> {
-    let alloc = rt.alloc();
-    for (profile, bytes) in MATERIAL {
-        let (report, _) = ran_on(alloc, key_script(alloc, profile, bytes)?)?;
-        assert_eq!(rt; report.end, End::Done, "at {profile}");
-        for other in [bytes.saturating_sub(1), bytes.saturating_add(1)] {
-            let (report, _) = ran_on(alloc, key_script(alloc, profile, other)?)?;
-            assert_eq!(rt;
-                report.end,
-                End::Setup(SetupFault::KeyLength),
-                "at {profile}"
-            );
-        }
-    }
-    Ok(())
-}
-
-#[test]
-fn setup_faults(rt: HostRuntime) -> Result<(), Fail> {
-    let alloc = rt.alloc();
-    for (lines, fault) in SETUP_FAULTS {
-        let (report, sink) = ran_on(alloc, setup_script(alloc, lines)?)?;
-        let text = format!(in alloc; "fault setup {fault}\n")?;
-        assert_eq!(rt; report.status, 1, "at {lines}");
-        assert_eq!(rt; sink.bytes(), text.as_bytes(), "at {lines}");
-    }
-    Ok(())
-}
-
-#[test]
-fn pause_threshold(rt: HostRuntime) -> Result<(), Fail> {
-    let alloc = rt.alloc();
-    for threshold in ["0", "1500", "10000000000"] {
-        let lines = format!(in alloc; "pause {threshold}\n")?;
-        let bytes = script_with(alloc, lines.as_str(), ONE_WRITE)?;
-        let (report, sink) = ran_on(alloc, bytes)?;
-        assert_eq!(rt; report.status, 0, "at {threshold}");
-        assert_eq!(rt; sink.bytes(), ONE_WRITE_TEXT.as_bytes(), "at {threshold}");
-    }
-    for words in ["pause", "pause 5ms", "pause 1 2", "pause 18446744073710"] {
-        let bytes = setup_script(alloc, format!(in alloc; "{words}\n")?.as_str())?;
-        let (report, sink) = ran_on(alloc, bytes)?;
-        assert_eq!(rt; report.status, 7, "at {words}");
-        assert_eq!(rt; sink.bytes(), b"fault syntax 2\n".as_slice(), "at {words}");
-    }
-    let (report, sink) = ran_on(alloc, setup_script(alloc, "pause 1\npause 1\n")?)?;
-    assert_eq!(rt; report.status, 7);
-    assert_eq!(rt; sink.bytes(), b"fault syntax 3\n".as_slice());
-    Ok(())
-}
-
-#[test]
-fn intervals_of_reports(rt: HostRuntime) -> Result<(), Fail> {
-    let alloc = rt.alloc();
-    for intervals in ["0 0", "5000 1000", "10000000000 10000000000"] {
-        let lines = format!(in alloc; "reports {intervals}\n")?;
-        let bytes = script_with(alloc, lines.as_str(), ONE_WRITE)?;
-        let (report, sink) = ran_on(alloc, bytes)?;
-        assert_eq!(rt; report.status, 0, "at {intervals}");
-        assert_eq!(rt; sink.bytes(), ONE_WRITE_TEXT.as_bytes(), "at {intervals}");
-    }
-    for words in [
-        "reports",
-        "reports 5000",
-        "reports 1 2 3",
-        "reports 5s 1000",
-        "reports 5000 5ms",
-        "reports 18446744073710 1000",
-        "reports 5000 18446744073710",
-    ] {
-        let bytes = setup_script(alloc, format!(in alloc; "{words}\n")?.as_str())?;
-        let (report, sink) = ran_on(alloc, bytes)?;
-        assert_eq!(rt; report.status, 7, "at {words}");
-        assert_eq!(rt; sink.bytes(), b"fault syntax 2\n".as_slice(), "at {words}");
-    }
-    let twice = setup_script(alloc, "reports 1 2\nreports 1 2\n")?;
-    let (report, sink) = ran_on(alloc, twice)?;
-    assert_eq!(rt; report.status, 7);
-    assert_eq!(rt; sink.bytes(), b"fault syntax 3\n".as_slice());
-    Ok(())
-}
-
-// A stream without repairs keeps nothing, whatever the lines of it say.
-#[test]
-fn lines_of_a_stream_without_repairs(rt: HostRuntime) -> Result<(), Fail> {
-    let alloc = rt.alloc();
-    for lines in [
-        "start 42 5\n",
-        "cache 42 1 0 0\n",
-        "cache 42 32000 10000000000 none\nstart 42 281474976710656\n",
-    ] {
-        let (report, sink) = ran_on(alloc, script_with(alloc, lines, ONE_WRITE)?)?;
-        assert_eq!(rt; report.status, 0, "at {lines}");
-        assert_eq!(rt; sink.bytes(), ONE_WRITE_TEXT.as_bytes(), "at {lines}");
+    for (profile, bytes, end) in &MATERIAL {
+        let ended = ends_with_key(rt.alloc(), profile, *bytes, *end)?;
+        assert!(rt; ended, "{profile} {bytes}");
     }
     Ok(())
 }

@@ -16,8 +16,9 @@ use stream_core::Sent;
 
 impl<C: SrtpCipher, W: GapWindow, S: ResendStore<Sent>> Session<C, W, S> {
     /// What the session tells next, where there are keys: the feedback of an application that came last,
-    /// then which incoming streams were paused or unpaused, in order, then the packet that came last, each
-    /// if it was not told.
+    /// then which incoming streams were paused or unpaused, in order, then the packet that came last, then
+    /// for which outgoing streams the peer asks for key frames, whose senders reported of the incoming ones,
+    /// and at which rates the outgoing ones are to come at most, each if it was not told.
     pub fn poll_event(&mut self) -> Option<Event>
         ensures event { (r : SessionRecord) → StandsFor W.remembers S.stands_for self.old r → result ≡ next_event r }
         ensures after { (r : SessionRecord) → StandsFor W.remembers S.stands_for self.old r → StandsFor W.remembers S.stands_for self.new (after_event r) }
@@ -34,12 +35,14 @@ impl<C: SrtpCipher, W: GapWindow, S: ResendStore<Sent>> Session<C, W, S> {
         if let Some(paused) = self.streams.poll_stream_paused() {
             return Some(Event::StreamPaused(paused));
         }
-        let packet = self.packet.take()?;
-        Some(Event::RtpPacket(packet))
+        if let Some(packet) = self.packet.take() {
+            return Some(Event::RtpPacket(packet));
+        }
+        self.news.next()
     }
 
-    /// Takes what `poll_event` tells next, behind what was taken before, and answers whether more may wait: a
-    /// packet is told last.
+    /// Takes what `poll_event` tells next, behind what was taken before, and answers whether more may wait:
+    /// mostly a packet is told last.
     pub(super) fn take_event(&mut self, sofar: &mut Vec<Event>) -> bool
         requires room { vec_len sofar.old < vec_capacity sofar.old }
         ensures more { OnTrue result ((r : SessionRecord) → StandsFor W.remembers S.stands_for self.old r
@@ -61,11 +64,15 @@ impl<C: SrtpCipher, W: GapWindow, S: ResendStore<Sent>> Session<C, W, S> {
             sofar.push_reserved(Event::StreamPaused(paused));
             return true;
         }
-        let Some(packet) = self.packet.take() else {
+        if let Some(packet) = self.packet.take() {
+            sofar.push_reserved(Event::RtpPacket(packet));
+            return !self.news.is_empty();
+        }
+        let Some(event) = self.news.next() else {
             return false;
         };
-        sofar.push_reserved(Event::RtpPacket(packet));
-        false
+        sofar.push_reserved(event);
+        true
     }
 
     /// What the session tells next of what may want memory: nothing yet.

@@ -256,11 +256,11 @@ impl<C: SrtpCipher, W: GapWindow, S: ResendStore<Sent>> Session<C, W, S> {
     /// sent, which may leave again after the next tick, its reception blocks acknowledge streams without
     /// repairs, its sender reports are kept for the reports of their streams, its moments of receivers wait
     /// for an answer, its last item that tells how long ago a moment of this session came in gives the round
-    /// trip of the incoming streams, its last feedback of an application is told by `poll_event`. None
-    /// where it does not open, and then nothing changes: where it is shorter than a packet of 8 bytes and
-    /// what seals it, where its tag does not hold, and without keys. One that comes again opens again. The
-    /// time grows with its items and the numbers that they name, and with the number of incoming streams
-    /// where one gives the round trip.
+    /// trip of the incoming streams, its last feedback of an application, its requests for key frames, its
+    /// sender reports and its greatest rates are told by `poll_event`. None where it does not open, and then
+    /// nothing changes: where it is shorter than a packet of 8 bytes and what seals it, where its tag does not
+    /// hold, and without keys. One that comes again opens again. The time grows with its items and the numbers
+    /// that they name, and with the number of incoming streams where one gives the round trip.
     ///
     /// # Errors
     /// `Stopped` where an earlier call stopped the session; `Memory`.
@@ -277,7 +277,7 @@ impl<C: SrtpCipher, W: GapWindow, S: ResendStore<Sent>> Session<C, W, S> {
         ensures unchanged { IsErrOf result Stopped → self.new ≡ self.old }
         ensures memory { self.old.state.stopped ≡ false → IfErr result (λ e. e ≡ Memory) }
         ensures failed { IsErrOf result Memory → self.new ≡ record self.old {
-          state = record (stopped_from self.old.state) { moments = self.new.state.moments };
+          state = record (stopped_from self.old.state) { moments = self.new.state.moments; news = self.new.state.news };
           repairs = self.new.repairs;
         } }
     {
@@ -298,7 +298,7 @@ impl<C: SrtpCipher, W: GapWindow, S: ResendStore<Sent>> Session<C, W, S> {
             → (after : SessionRecord) × ReceivesRtcp C.meaning r bytes.now now after opened × StandsFor W.remembers S.stands_for self.new after) }
         ensures unopened { IfOk result (λ opened. IfNone opened (self.new ≡ self.old)) }
         ensures runs { self.new.state.stopped ≡ self.old.state.stopped }
-        ensures err { OnErr result (self.new ≡ record self.old { state = record self.old.state { moments = self.new.state.moments }; repairs = self.new.repairs }) }
+        ensures err { OnErr result (self.new ≡ record self.old { state = record self.old.state { moments = self.new.state.moments; news = self.new.state.news }; repairs = self.new.repairs }) }
     {
         let Some(RtcpOpening { plain, index }) = open_rtcp(&mut self.opening, bytes)? else {
             return Ok(None);
@@ -308,6 +308,7 @@ impl<C: SrtpCipher, W: GapWindow, S: ResendStore<Sent>> Session<C, W, S> {
         self.next_stream = 0;
         ask_all(feedback.as_slice(), &mut self.streams, now)?;
         take_moments(feedback.as_slice(), now, &mut self.moments)?;
+        self.news.hear(&self.streams, feedback.as_slice(), now)?;
         let ntp = now.to_ntp_duration(&self.transport.beginning);
         measure(ntp, &delay, &mut self.streams);
         hear_senders(feedback.as_slice(), now, &mut self.streams);

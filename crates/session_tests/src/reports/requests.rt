@@ -4,8 +4,8 @@
 use crate::ends::End;
 use crate::reports::steps::Step::{Asks, Comes, Expects, Frames, Rates, Seals, Tick, Wakes};
 use crate::reports::steps::{Row, ask_frame, at, ticks};
+use rtp_base::KeyframeRequestKind::{Fir, Pli};
 use std::test::Fail;
-use stream_core::KeyframeRequestKind::{Fir, Pli};
 
 const PICTURE: &[u8] = &[0x81, 0xce, 0, 2, 0, 0, 0, 2, 0, 0, 0, 42];
 

@@ -1,12 +1,13 @@
 //! What is done with an end that reports.
 use crate::ends::{End, mid};
 use crate::packets::{seal_numbered, seal_report};
+use crate::reports::news::{News, tells};
 use media_base::{Bitrate, Bytes, Instant};
-use rtp_base::{Kind, Mid, MidRid, Pt, SeqNo, Ssrc};
+use rtp_base::{KeyframeRequestKind, Kind, Mid, MidRid, Pt, SeqNo, Ssrc};
 use session_core::{Media, MediaKind};
 use std::alloc::Global;
 use std::test::Fail;
-use stream_core::{KeyframeRequestKind, Payload, RtpWrite};
+use stream_core::{Payload, RtpWrite};
 
 /// What is done with an end, or asked of it. Moments are in nanoseconds; a mid is one letter; an SSRC of
 /// repairs is 0 where there are none.
@@ -37,6 +38,8 @@ pub enum Step {
     Tick(u64, &'static [u8]),
     /// A tick at a moment. This datagram leaves next.
     Seals(u64, &'static [u8]),
+    /// It tells these events, and no more.
+    Tells(&'static [News]),
     /// It wants a tick at this moment next.
     Wakes(Option<u64>),
 }
@@ -53,7 +56,8 @@ fn ssrc(low: u8) -> Ssrc {
     Ssrc::from(u32::from(low))
 }
 
-fn mid_of(letter: u8) -> Mid {
+/// The mid of a letter.
+pub fn mid_of(letter: u8) -> Mid {
     match Mid::from_slice(&[letter]) {
         Some(mid) => mid,
         None => mid(),
@@ -212,6 +216,7 @@ pub fn goes(alloc: Global, end: &mut End, step: Step) -> Result<bool, Fail> {
         Step::Rates(low, rate) => tell_rate(end, low, rate),
         Step::Seals(now, bytes) => return seals(end, at(now), bytes),
         Step::Tick(now, plain) => return ticks(end, at(now), plain),
+        Step::Tells(all) => return Ok(tells(end, all)),
         Step::Wakes(moment) => return Ok(wakes(end, moment)),
     }
     Ok(true)

@@ -43,3 +43,19 @@ returns-in-Application-clause-played g c =
 pub returns-in-Application-clause-refused : goal.returns-in-Application-clause-refused
 returns-in-Application-clause-refused g c =
     subst (λ (s : Step). IfErr c.send_application.result (λ (e : StepError). Refuses g.C.SrtpCipher.meaning c.args.self.now s e c.send_application.new.self.log)) (sym c.in-Application.is) c.send_application.ensures.refused
+
+pub returns-in-Ask-clause-played : goal.returns-in-Ask-clause-played
+returns-in-Ask-clause-played g c =
+    subst (λ (s : Step). OnOk c.request.result (Plays g.C.SrtpCipher.meaning c.args.self.now s c.request.new.self)) (sym c.in-Ask.is) c.request.ensures.played
+
+pub returns-in-Ask-clause-refused : goal.returns-in-Ask-clause-refused
+returns-in-Ask-clause-refused g c =
+    subst (λ (s : Step). IfErr c.request.result (λ (e : StepError). Refuses g.C.SrtpCipher.meaning c.args.self.now s e c.request.new.self.log)) (sym c.in-Ask.is) c.request.ensures.refused
+
+pub returns-in-Remb-clause-played : goal.returns-in-Remb-clause-played
+returns-in-Remb-clause-played g c =
+    subst (λ (s : Step). OnOk c.request-in-Remb.result (Plays g.C.SrtpCipher.meaning c.args.self.now s c.request-in-Remb.new.self)) (sym c.in-Remb.is) c.request-in-Remb.ensures.played
+
+pub returns-in-Remb-clause-refused : goal.returns-in-Remb-clause-refused
+returns-in-Remb-clause-refused g c =
+    subst (λ (s : Step). IfErr c.request-in-Remb.result (λ (e : StepError). Refuses g.C.SrtpCipher.meaning c.args.self.now s e c.request-in-Remb.new.self.log)) (sym c.in-Remb.is) c.request-in-Remb.ensures.refused

@@ -8,6 +8,7 @@ use Rattle.stream_core.specs.StreamsRecord.{StreamsView}
 use Rattle.stream_core.specs.Tables.{Along}
 use Rattle.session_core.specs.declared.datagram.Opened.{Opened}
 use Rattle.session_core.specs.Hearing.{RtcpOpensIn, stated, rtcp_opening_of, feedback_in, acknowledged, last_application, last_delay, measured, ntp_of, after_rtcp, AskedByAll, ReceivesRtcp, opened, stays}
+use Rattle.session_core.specs.News.{news_heard}
 use Rattle.session_core.specs.Reports.{rx_heard, moments_heard}
 use Rattle.session_core.specs.SessionRecord.{streams_in, SessionState, StandsFor}
 use Rattle.stream_core.specs.Repairing.{RepairsStandFor}
@@ -44,7 +45,7 @@ returns-clause-received g c = λ r h.
     let opens : RtcpOpensIn K c.self.inside.opening bytes plain = rw c.in-Some.is at c.in_ok-plain.ensures.opened in
     let index : c.in-Some.field-0.index ≡ stated c.self.inside.opening bytes = rw c.in-Some.is at c.in_ok-plain.ensures.index in
     let heard : c.in_ok-feedback.feedback.items ≡ feedback_in plain = c.in_ok-feedback.ensures ∙ ap feedback_in c.as_slice.ensures.value in
-    let ssrc : c.sender.result ≡ sender_of (take 8 plain) = c.sender.ensures ∙ ap (λ (l : List ℕ). sender_of (take 8 l)) c.as_slice-6.ensures.value in
+    let ssrc : c.sender.result ≡ sender_of (take 8 plain) = c.sender.ensures ∙ ap (λ (l : List ℕ). sender_of (take 8 l)) c.as_slice-7.ensures.value in
     let stands : c.from-2.result ≡ stated c.self.inside.opening bytes = c.from-2.ensures ∙ c.from.ensures ∙ index in
     let moment : c.to_ntp_duration-ntp.result ≡ ntp_of r.state now = c.to_ntp_duration-ntp.ensures ∙ ap (λ (s : SessionState). ntp_of s now) mine.state in
     let delay : c.last_delay-delay.result ≡ last_delay r.state.local_ssrc r.state.tx (feedback_in plain) None =
@@ -55,18 +56,22 @@ returns-clause-received g c = λ r h.
     let others = c.in_ok-ask_all.ensures.others in
     let known = c.measure.ensures.streams (record (streams_in r) { repairs = asked.0 }) asked.2 in
     let reported = c.hear_senders.ensures.streams (record (streams_in r) { repairs = asked.0; rx = measured c.to_ntp_duration-ntp.result c.last_delay-delay.result r.rx }) known in
-    let kept : c.hear.new.streams.rx ≡ c.hear_senders.new.streams.rx = ap (λ (v : StreamsView g.row.W.Denot g.row.S.Denot). v.rx) c.hear.ensures.streams in
-    let told_by : c.as_slice-5.result.now ≡ feedback_in plain = c.as_slice-5.ensures.value ∙ heard in
+    let kept : c.hear-2.new.streams.rx ≡ c.hear_senders.new.streams.rx = ap (λ (v : StreamsView g.row.W.Denot g.row.S.Denot). v.rx) c.hear-2.ensures.streams in
+    let told_by : c.as_slice-6.result.now ≡ feedback_in plain = c.as_slice-6.ensures.value ∙ heard in
     let moments : c.take_moments.new.moments ≡ moments_heard now (feedback_in plain) c.self.inside.moments =
     c.in_ok-take_moments.ensures ∙ ap (λ (fs : List RtcpFb). moments_heard now fs c.self.inside.moments) (c.as_slice-4.ensures.value ∙ heard) in
-    let threshold : c.hear.new.streams.threshold ≡ c.self.inside.streams.threshold =
-    ap (λ (v : StreamsView g.row.W.Denot g.row.S.Denot). v.threshold) c.hear.ensures.streams ∙ c.hear_senders.ensures.threshold ∙ c.measure.ensures.threshold ∙ ap (λ (v : StreamsView g.row.W.Denot g.row.S.Denot). v.threshold) others in
-    let tx : c.hear.new.streams.tx ≡ acknowledged (feedback_in plain) c.self.inside.streams.tx =
-    ap (λ (v : StreamsView g.row.W.Denot g.row.S.Denot). v.tx) c.hear.ensures.streams
+    let news : c.hear.new.self ≡ news_heard now c.self.inside.streams.tx r.rx (feedback_in plain) c.self.inside.news =
+    c.in_ok-hear.ensures (record (streams_in r) { repairs = asked.0 }) asked.2
+    ∙ ap (λ (fs : List RtcpFb). news_heard now r.state.tx r.rx fs c.self.inside.news) (c.as_slice-5.ensures.value ∙ heard)
+    ∙ ap (λ (s : SessionState). news_heard now s.tx r.rx (feedback_in plain) c.self.inside.news) (sym mine.state) in
+    let threshold : c.hear-2.new.streams.threshold ≡ c.self.inside.streams.threshold =
+    ap (λ (v : StreamsView g.row.W.Denot g.row.S.Denot). v.threshold) c.hear-2.ensures.streams ∙ c.hear_senders.ensures.threshold ∙ c.measure.ensures.threshold ∙ ap (λ (v : StreamsView g.row.W.Denot g.row.S.Denot). v.threshold) others in
+    let tx : c.hear-2.new.streams.tx ≡ acknowledged (feedback_in plain) c.self.inside.streams.tx =
+    ap (λ (v : StreamsView g.row.W.Denot g.row.S.Denot). v.tx) c.hear-2.ensures.streams
     ∙ ap (λ (fs : List RtcpFb). acknowledged fs c.hear_senders.new.streams.tx) heard
     ∙ ap (acknowledged (feedback_in plain)) (c.hear_senders.ensures.tx ∙ c.measure.ensures.tx ∙ ap (λ (v : StreamsView g.row.W.Denot g.row.S.Denot). v.tx) others) in
-    let application : c.hear.new.application ≡ last_application (feedback_in plain) c.self.inside.application =
-    c.hear.ensures.application ∙ ap (λ (fs : List RtcpFb). last_application fs c.self.inside.application) heard in
+    let application : c.hear-2.new.application ≡ last_application (feedback_in plain) c.self.inside.application =
+    c.hear-2.ensures.application ∙ ap (λ (fs : List RtcpFb). last_application fs c.self.inside.application) heard in
     let told : record { kind = Rtcp; ssrc = c.sender.result; index = c.from-2.result; plain = c.from_vec.result } ≡ rtcp_opening_of r.state.opening bytes plain =
     (λ j. record { kind = Rtcp; ssrc = ssrc j; index = stands j; plain = c.from_vec.ensures j }) ∙ ap (λ (s : SessionState). rtcp_opening_of s.opening bytes plain) mine.state in (
       after_rtcp now plain asked.0 r,
@@ -74,14 +79,14 @@ returns-clause-received g c = λ r h.
           (opened plain asked.0 (subst (λ (s : SessionState). RtcpOpensIn K s.opening bytes plain) mine.state opens)
           (subst (λ (fs : List RtcpFb). AskedByAll now fs r.repairs asked.0) (c.as_slice-3.ensures.value ∙ heard) asked.1)),
       record {
-        state = heard_state _ r.state now plain c.hear.new.streams.threshold c.open_rtcp.new.opening c.hear.new.streams.tx c.hear.new.application c.take_moments.new.moments mine.state threshold c.open_rtcp.ensures.same tx application moments;
+        state = heard_state _ r.state now plain r.rx c.hear-2.new.streams.threshold c.open_rtcp.new.opening c.hear-2.new.streams.tx c.hear-2.new.application c.take_moments.new.moments c.hear.new.self mine.state threshold c.open_rtcp.ensures.same tx application moments news;
         rx = subst (λ (l : List (ℕ × RxView g.row.W.Denot)). Along R l (rx_heard now (feedback_in plain) (measured (ntp_of r.state now) (last_delay r.state.local_ssrc r.state.tx (feedback_in plain) None) r.rx))) (sym kept)
             (subst (λ (t : ℕ). Along R c.hear_senders.new.streams.rx (rx_heard now (feedback_in plain) (measured t (last_delay r.state.local_ssrc r.state.tx (feedback_in plain) None) r.rx))) moment
             (subst (λ (o : Option DlrrItem). Along R c.hear_senders.new.streams.rx (rx_heard now (feedback_in plain) (measured c.to_ntp_duration-ntp.result o r.rx))) delay
             (subst (λ (fs : List RtcpFb). Along R c.hear_senders.new.streams.rx (rx_heard now fs (measured c.to_ntp_duration-ntp.result c.last_delay-delay.result r.rx))) told_by reported.rx)));
         probes = mine.probes;
         seen = mine.seen;
-        originals = ap (λ (v : StreamsView g.row.W.Denot g.row.S.Denot). v.originals) c.hear.ensures.streams ∙ reported.originals;
-        repairs = subst (λ (v : StreamsView g.row.W.Denot g.row.S.Denot). Along (RepairsStandFor g.S.ResendStore.stands_for) v.repairs asked.0) (sym c.hear.ensures.streams) reported.repairs;
+        originals = ap (λ (v : StreamsView g.row.W.Denot g.row.S.Denot). v.originals) c.hear-2.ensures.streams ∙ reported.originals;
+        repairs = subst (λ (v : StreamsView g.row.W.Denot g.row.S.Denot). Along (RepairsStandFor g.S.ResendStore.stands_for) v.repairs asked.0) (sym c.hear-2.ensures.streams) reported.repairs;
       },
     )

@@ -1,30 +1,6 @@
-use crate::answer_a_nack::answer_a_nack;
-use crate::build_a_script::one_write;
-use crate::check_a_setup::may_be_played;
-use crate::copy_bytes::copy_all;
-use crate::count_a_queue::wait_of_both;
-use crate::exchange_a_packet::exchange;
-use crate::keep_for_resending::keep_and_find;
-use crate::keep_in_a_queue::{queue_of_one, replace};
-use crate::measure_a_trip::measured_trip;
-use crate::pace_packets::send_next;
-use crate::play_a_run::played;
-use crate::put_into_order::next_frame;
-use crate::queue_a_packet::write_and_poll;
-use crate::read_a_header::{number_of, payload_of};
-use crate::read_a_pace_script::play_calls;
-use crate::read_a_script::count_steps;
-use crate::read_rtcp::read_feedback;
-use crate::register_by_mask::is_taken_twice;
-use crate::register_numbers::ask_for_missing;
-use crate::report_arrivals::{report_arrival, round_trip};
-use crate::seal_and_open::seal_and_open;
-use crate::send_again::{declare, send_again};
-use crate::tell_a_run::told;
-use crate::time_a_packet::leaves_at;
-use crate::widen_a_number::take_number;
 use mask_register::MaskRegister;
 use media_base::{Bytes, MemSink, MemSource, SystemTime};
+use media_model::{Setup, Transcript};
 use media_script::read_script;
 use media_units::{Beginning, Bitrate, DataSize, Duration, Instant};
 use pace_core::{NullPacer, QueuePriority, QueueSnapshot, QueueState};
@@ -50,6 +26,31 @@ use stream_core::{
     Transport, TypeRow,
 };
 use twcc_core::{TwccRecvRegister, TwccSendRegister};
+use uses::answer_a_nack::answer_a_nack;
+use uses::build_a_script::one_write;
+use uses::check_a_setup::may_be_played;
+use uses::copy_bytes::copy_all;
+use uses::count_a_queue::wait_of_both;
+use uses::exchange_a_packet::exchange;
+use uses::keep_for_resending::keep_and_find;
+use uses::keep_in_a_queue::{queue_of_one, replace};
+use uses::measure_a_trip::measured_trip;
+use uses::pace_packets::send_next;
+use uses::play_a_run::played;
+use uses::put_into_order::next_frame;
+use uses::queue_a_packet::write_and_poll;
+use uses::read_a_header::{number_of, payload_of};
+use uses::read_a_pace_script::play_calls;
+use uses::read_a_script::count_steps;
+use uses::read_rtcp::read_feedback;
+use uses::register_by_mask::is_taken_twice;
+use uses::register_numbers::ask_for_missing;
+use uses::report_arrivals::{report_arrival, round_trip};
+use uses::seal_and_open::seal_and_open;
+use uses::send_again::{declare, send_again};
+use uses::tell_a_run::told;
+use uses::time_a_packet::leaves_at;
+use uses::widen_a_number::take_number;
 
 // A packet of SSRC 42 with number 1 and two bytes of payload (RFC 3550 section 5.1).
 const PACKET: [u8; 14] = [0x80, 0x60, 0, 1, 0, 0, 0, 0, 0, 0, 0, 0x2a, 1, 2];
@@ -150,16 +151,20 @@ fn a_packet_is_found_again(rt: HostRuntime) -> Result<(), Fail> {
     Ok(())
 }
 
-fn repairs(alloc: Global) -> Result<usize, ResendError> {
-    let mut queue: ResendQueue<Sent, EvictingBuffer<Sent>> = ResendQueue::new(
-        alloc,
-        SeqNo::from(5),
-    )?;
+type Repairs = ResendQueue<Sent, EvictingBuffer<Sent>>;
+
+// How many repairs a queue gives of a packet that was sent and is asked for.
+fn repairs_of_one(alloc: Global, queue: &mut Repairs) -> Result<usize, ResendError> {
     queue.cache_sent_packet(Sent { number: 1 }, Instant::from_nanos(1))?;
     let mut numbers = Vec::new(alloc);
     let entry = NackEntry { pid: 1, blp: 1 };
-    answer_a_nack(&mut queue, &[entry], Instant::from_nanos(2), &mut numbers)?;
+    answer_a_nack(queue, &[entry], Instant::from_nanos(2), &mut numbers)?;
     Ok(numbers.len())
+}
+
+fn repairs(alloc: Global) -> Result<usize, ResendError> {
+    let mut queue: Repairs = ResendQueue::new(alloc, SeqNo::from(5))?;
+    repairs_of_one(alloc, &mut queue)
 }
 
 #[test]
@@ -173,11 +178,16 @@ fn asks_of<W: GapWindow>(window: &mut W) -> usize {
 }
 
 #[test]
-fn both_registers_ask(rt: HostRuntime) -> Result<(), Fail> {
+fn a_register_asks(rt: HostRuntime) -> Result<(), Fail> {
     let mut register = NackRegister::new(rt.alloc(), None)?;
-    assert_eq!(rt; asks_of(&mut register), 1);
-    let mut mask: MaskRegister = MaskRegister::new(rt.alloc(), None)?;
-    assert_eq!(rt; asks_of(&mut mask), 1);
+    assert!(rt; asks_of(&mut register) == 1);
+    Ok(())
+}
+
+#[test]
+fn a_register_by_mask_asks(rt: HostRuntime) -> Result<(), Fail> {
+    let mut register: MaskRegister = MaskRegister::new(rt.alloc(), None)?;
+    assert!(rt; asks_of(&mut register) == 1);
     Ok(())
 }
 
@@ -188,12 +198,15 @@ fn no_number_is_taken_twice(rt: HostRuntime) -> Result<(), Fail> {
     Ok(())
 }
 
-fn plain_len(alloc: Global, transport: &mut Transport) -> Result<usize, Fail> {
-    let mut stream = StreamTx::new(alloc, Ssrc::from(42), None, MidRid(mid(), None));
+fn plain_len(
+    alloc: Global,
+    stream: &mut StreamTx,
+    transport: &mut Transport,
+) -> Result<usize, Fail> {
     let now = Instant::from_nanos(1);
     let payload = Payload::from_slice(alloc, &[1, 2])?;
     let write = RtpWrite::new(Pt::from(96), SeqNo::from(1), 0, now, payload);
-    match write_and_poll(alloc, &mut stream, write, now, transport)? {
+    match write_and_poll(alloc, stream, write, now, transport)? {
         Some(receipt) => Ok(receipt.plain.len()),
         None => Ok(0),
     }
@@ -206,8 +219,9 @@ fn a_packet_is_queued(rt: HostRuntime) -> Result<(), Fail> {
         beginning: Beginning { unix_secs: 0 },
         twcc: 0,
     };
-    let len = plain_len(rt.alloc(), &mut transport)?;
-    assert_eq!(rt; len, 14);
+    let mut stream = StreamTx::new(rt.alloc(), Ssrc::from(42), None, MidRid(mid(), None));
+    let len = plain_len(rt.alloc(), &mut stream, &mut transport)?;
+    assert!(rt; len == 14);
     Ok(())
 }
 
@@ -245,16 +259,34 @@ fn send_first(
 }
 
 // What is sent after the peer asked for that packet.
-fn repair(alloc: Global, transport: &mut Transport) -> Result<Option<PacketReceipt>, Fail> {
-    let mut streams: Kept = Streams::new(alloc, Duration::from_millis(1_500));
-    let types = types(alloc)?;
+fn repair(
+    alloc: Global,
+    streams: &mut Kept,
+    transport: &mut Transport,
+    types: &PayloadTypes,
+) -> Result<Option<PacketReceipt>, Fail> {
     let (ssrc, rtx) = (Ssrc::from(42), Ssrc::from(43));
-    declare(&mut streams, ssrc, rtx, MidRid(mid(), None))?;
-    send_first(alloc, &mut streams, transport, &types)?;
+    declare(streams, ssrc, rtx, MidRid(mid(), None))?;
+    send_first(alloc, streams, transport, types)?;
     let entry = NackEntry { pid: 1, blp: 0 };
     let now = Instant::from_nanos(2);
-    let receipt = send_again(&mut streams, ssrc, &[entry], now, transport, &types)?;
+    let receipt = send_again(streams, ssrc, &[entry], now, transport, types)?;
     Ok(receipt)
+}
+
+// Whether that is type 97, number 1 and SSRC 43, and in front of the payload the number 1 (RFC 4588
+// section 4).
+fn is_repaired(
+    alloc: Global,
+    streams: &mut Kept,
+    transport: &mut Transport,
+    types: &PayloadTypes,
+) -> Result<bool, Fail> {
+    let expected = [0x80, 0x61, 0, 1, 0, 0, 0, 0, 0, 0, 0, 0x2b, 0, 1, 1, 2];
+    match repair(alloc, streams, transport, types)? {
+        Some(receipt) => Ok(receipt.plain.as_slice() == expected.as_slice()),
+        None => Ok(false),
+    }
 }
 
 #[test]
@@ -264,14 +296,10 @@ fn a_packet_is_sent_again(rt: HostRuntime) -> Result<(), Fail> {
         beginning: Beginning { unix_secs: 0 },
         twcc: 0,
     };
-    let sent = repair(rt.alloc(), &mut transport)?;
-    let plain = match &sent {
-        Some(receipt) => receipt.plain.as_slice(),
-        None => &[],
-    };
-    // Type 97, number 1 and SSRC 43, and in front of the payload the number 1 (RFC 4588 section 4).
-    let expected = [0x80, 0x61, 0, 1, 0, 0, 0, 0, 0, 0, 0, 0x2b, 0, 1, 1, 2];
-    assert!(rt; plain == expected.as_slice());
+    let types = types(rt.alloc())?;
+    let mut streams: Kept = Streams::new(rt.alloc(), Duration::from_millis(1_500));
+    let repaired = is_repaired(rt.alloc(), &mut streams, &mut transport, &types)?;
+    assert!(rt; repaired);
     Ok(())
 }
 
@@ -284,7 +312,7 @@ fn a_packet_is_exchanged(rt: HostRuntime) -> Result<(), Fail> {
     };
     let payload = match &told {
         Some(Event::RtpPacket(packet)) => packet.payload.as_slice(),
-        Some(Event::AppSpecificFeedback(_) | Event::StreamPaused(_)) | None => &[],
+        Some(_) | None => &[],
     };
     assert!(rt; payload == [1, 2].as_slice());
     Ok(())
@@ -299,12 +327,18 @@ fn a_script_is_built(rt: HostRuntime) -> Result<(), Fail> {
 }
 
 #[test]
+fn a_setup_may_be_played(rt: HostRuntime) -> Result<(), Fail> {
+    let (setup, _) = one_write(rt.alloc(), mid(), &[1, 2])?;
+    let may = may_be_played(rt.alloc(), &setup)?;
+    assert!(rt; may);
+    Ok(())
+}
+
+#[test]
 fn a_run_is_played(rt: HostRuntime) -> Result<(), Fail> {
-    let alloc = rt.alloc();
-    let (setup, steps) = one_write(alloc, mid(), &[1, 2])?;
-    assert!(rt; may_be_played(alloc, &setup)?);
+    let (setup, steps) = one_write(rt.alloc(), mid(), &[1, 2])?;
     // Written, ticked, sealed, got, opened, yielded.
-    assert_eq!(rt; played(alloc, &setup, &steps).entries().len(), 6);
+    assert!(rt; played(rt.alloc(), &setup, &steps).entries().len() == 6);
     Ok(())
 }
 
@@ -331,27 +365,41 @@ deliver B 33ms 4
 const FOREIGN: &str =
     "foreign B 33ms rtp 8061000a000000000000002b00058061000a002b00020000002100050001\n";
 
-// The last line of a run of a script of so many steps.
-fn last_of(alloc: Global, script: String) -> Result<String, Fail> {
-    let (setup, steps) = match read_script(alloc, script.as_bytes()) {
-        Ok(script) => script,
-        Err(_) => return Err(Fail::from("no script")),
-    };
-    let run = played(alloc, &setup, &steps);
-    let text = told(alloc, &setup, &run)?;
-    match text.as_str().lines().last() {
-        Some(line) => Ok(line.to_string(alloc)?),
-        None => Err(Fail::from("no line")),
+// Whether the text of a run ends with this line.
+fn ends_with(
+    alloc: Global,
+    setup: &Setup,
+    run: &Transcript,
+    line: &str,
+) -> Result<bool, AllocError> {
+    let text = told(alloc, setup, run)?;
+    Ok(text.as_str().lines().last() == Some(line))
+}
+
+// Whether the text of a run of a script ends with this line.
+fn is_told(alloc: Global, script: &[u8], line: &str) -> Result<bool, AllocError> {
+    match read_script(alloc, script) {
+        Ok((setup, steps)) => {
+            let run = played(alloc, &setup, &steps);
+            ends_with(alloc, &setup, &run, line)
+        }
+        Err(_) => Ok(false),
     }
 }
 
 #[test]
 fn a_run_is_told(rt: HostRuntime) -> Result<(), Fail> {
-    let alloc = rt.alloc();
-    let last = last_of(alloc, format!(in alloc; "{REPAIRED}end\n")?)?;
-    assert_eq!(rt; last.as_str(), "end genuine=yes repairs=yes");
-    let last = last_of(alloc, format!(in alloc; "{REPAIRED}{FOREIGN}end\n")?)?;
-    assert_eq!(rt; last.as_str(), "end genuine=no repairs=no");
+    let script = format!(in rt.alloc(); "{REPAIRED}end\n")?;
+    let told = is_told(rt.alloc(), script.as_bytes(), "end genuine=yes repairs=yes")?;
+    assert!(rt; told);
+    Ok(())
+}
+
+#[test]
+fn a_foreign_repair_is_told(rt: HostRuntime) -> Result<(), Fail> {
+    let script = format!(in rt.alloc(); "{REPAIRED}{FOREIGN}end\n")?;
+    let told = is_told(rt.alloc(), script.as_bytes(), "end genuine=no repairs=no")?;
+    assert!(rt; told);
     Ok(())
 }
 
@@ -425,6 +473,16 @@ fn gives(
     Ok(frame.is_some())
 }
 
+// Whether a frame is given where the packet 1 comes, and none where the packet 3 does then.
+fn gives_first_alone(
+    alloc: Global,
+    buffer: &mut DepacketizingBuffer<u8>,
+) -> Result<bool, AllocError> {
+    let first = gives(alloc, buffer, 1)?;
+    let third = gives(alloc, buffer, 3)?;
+    Ok(first && !third)
+}
+
 #[test]
 fn a_frame_waits_for_its_turn(rt: HostRuntime) -> Result<(), Fail> {
     let depack = CodecDepacketizer::new(CodecSpec {
@@ -434,14 +492,18 @@ fn a_frame_waits_for_its_turn(rt: HostRuntime) -> Result<(), Fail> {
         format: FormatParams::default(),
     });
     let mut buffer = DepacketizingBuffer::new(rt.alloc(), depack, 4);
-    let first = gives(rt.alloc(), &mut buffer, 1)?;
-    let third = gives(rt.alloc(), &mut buffer, 3)?;
-    assert!(rt; first && !third);
+    let waits = gives_first_alone(rt.alloc(), &mut buffer)?;
+    assert!(rt; waits);
     Ok(())
 }
 
 // How long it took from sending a packet to the report of its arrival.
 fn trip(alloc: Global, sent: &mut TwccSendRegister) -> Result<Option<Duration>, AllocError> {
+    let id = TwccPacketId {
+        seq: SeqNo::from(3),
+        cluster: None,
+    };
+    sent.register_seq(id, DataSize::bytes(100), Instant::from_nanos(5))?;
     let mut came = TwccRecvRegister::new(alloc);
     let moment = Instant::from_nanos(9);
     match report_arrival(alloc, &mut came, SeqNo::from(3), moment)? {
@@ -453,11 +515,6 @@ fn trip(alloc: Global, sent: &mut TwccSendRegister) -> Result<Option<Duration>, 
 #[test]
 fn a_report_tells_the_round_trip(rt: HostRuntime) -> Result<(), Fail> {
     let mut sent = TwccSendRegister::new(rt.alloc());
-    let id = TwccPacketId {
-        seq: SeqNo::from(3),
-        cluster: None,
-    };
-    sent.register_seq(id, DataSize::bytes(100), Instant::from_nanos(5))?;
     let trip = trip(rt.alloc(), &mut sent)?;
     assert_eq!(rt; trip, Some(Duration::from_nanos(20)));
     Ok(())
