@@ -60,14 +60,14 @@ pub has_words : (setup : Setup) (s : Stream) → s.ssrc < 2 ^ 32 → ((x : ℕ) 
 has_words setup s ssrc rtx = record { ssrc = ssrc; rtx = rtx }
 
 -- the streams of a session change
-pub streams_change : (f : StreamsRecord → StreamsRecord) (v : EndSession) (old new : EndStreams) → old.rx ≡ v.rx → old.tx ≡ v.state.tx → old.threshold ≡ v.state.pause_threshold → old.originals ≡ v.originals → old.repairs ≡ v.repairs
+pub streams_change : (f : StreamsRecord → StreamsRecord) (v : EndSession) (old new : EndStreams) → old.rx ≡ v.rx → old.tx ≡ v.state.tx → old.threshold ≡ v.state.pause_threshold → old.known ≡ v.known → old.repairs ≡ v.repairs
     → ((r : StreamsRecord) → StreamsStandFor Remembers Holds old r → StreamsStandFor Remembers Holds new (f r))
-    → StreamsChange f v (record v { state = record v.state { tx = new.tx; pause_threshold = new.threshold }; rx = new.rx; originals = new.originals; repairs = new.repairs })
-streams_change f v old new rx tx threshold originals repairs says s h =
+    → StreamsChange f v (record v { state = record v.state { tx = new.tx; pause_threshold = new.threshold }; rx = new.rx; known = new.known; repairs = new.repairs })
+streams_change f v old new rx tx threshold known repairs says s h =
     let after = says (streams_in s) (record {
       threshold = threshold ∙ ap (λ (t : SessionState). t.pause_threshold) h.state;
       rx = rw rx h.rx;
-      originals = originals ∙ h.originals;
+      known = known ∙ h.known;
       tx = tx ∙ ap (λ (t : SessionState). t.tx) h.state;
       repairs = rw repairs h.repairs;
     }) in
@@ -77,7 +77,7 @@ streams_change f v old new rx tx threshold originals repairs says s h =
           ∙ ap (λ (at : ℕ). let n : SessionState = record v.state { tx = made.tx; pause_threshold = at } in n) after.threshold
           ∙ ap (λ (t : SessionState). let n : SessionState = record t { tx = made.tx; pause_threshold = made.threshold } in n) h.state;
       rx = after.rx;
-      originals = after.originals;
+      known = after.known;
       probes = h.probes;
       seen = h.seen;
       repairs = after.repairs;
@@ -206,7 +206,7 @@ module _ (cipher : CipherMeaning) (setup : Setup) (side : Side) where
         stands = record {
           state = state;
           rx = rw is h.rx;
-          originals = rw is h.originals;
+          known = rw is h.known;
           probes = rw is h.probes;
           seen = rw is h.seen;
           repairs = rw is h.repairs;
@@ -242,6 +242,8 @@ module _ (cipher : CipherMeaning) (setup : Setup) (side : Side) where
       takes = b.takes;
       probes_stand = b.probes_stand;
       originals = b.originals;
+      sections = b.sections;
+      known = b.known;
     }
 
     pub starts_media : (v new : EndSession) (m : MediaRecord) → new ≡ record v { state = record v.state { medias = v.state.medias ++ m ∷ [] } }
@@ -256,7 +258,7 @@ module _ (cipher : CipherMeaning) (setup : Setup) (side : Side) where
           stands = record {
             state = ap (λ (w : EndSession). w.state) is ∙ ap to h.stands.state;
             rx = rw is h.stands.rx;
-            originals = rw is h.stands.originals;
+            known = rw is h.stands.known;
             probes = rw is h.stands.probes;
             seen = rw is h.stands.seen;
             repairs = rw is h.stands.repairs;
@@ -290,6 +292,8 @@ module _ (cipher : CipherMeaning) (setup : Setup) (side : Side) where
       takes = b.takes;
       probes_stand = b.probes_stand;
       originals = b.originals;
+      sections = b.sections;
+      known = b.known;
     }
 
     pub starts_sends : (v w z : EndSession) (L : Outgoing) (mid : List ℕ) (rid : Option (List ℕ)) → HasWords L → has_mid mid v.state.medias ≡ true → AreOnce (sent ++ L ∷ [])

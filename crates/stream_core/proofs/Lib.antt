@@ -7,6 +7,7 @@ pub mod Places
 pub mod PollSteps
 pub mod Polling
 pub mod Primaries
+pub mod Renaming
 pub mod RepairSteps
 pub mod RxSteps
 pub mod Stamps
