@@ -1,9 +1,9 @@
 -- How a datagram opens under an SSRC of no table, once it is taken up of which stream it is.
-use Rattle.std.proofs.Common.{◌≡◌, ℕ, Bool, true, false, List, Option, Some, None, is_some, refl, sym, ap, subst, ◌∙◌}
+use Rattle.std.proofs.Common.{◌≡◌, inl, inr, ℕ, Bool, true, false, List, Option, Some, None, is_some, refl, sym, ap, subst, ◌∙◌}
 use Rattle.std.specs.Prelude.{◌==◌, ◌||◌, option_and_then, slice_get, position, nat_eq, if◌then◌else◌}
 use Rattle.std.specs.Map.{values_of}
 use Rattle.std.specs.Option.{option_map, option_map_or}
-use Rattle.std.proofs.lemmas.Bool.{eq-eqb}
+use Rattle.std.proofs.lemmas.Bool.{eq-eqb, cases_Bool}
 use Rattle.mapping_core.specs.declared.mapping.MainChange.{MainChange}
 use Rattle.mapping_core.specs.declared.mapping.RepairsChange.{RepairsChange}
 use Rattle.mapping_core.specs.declared.stream.IncomingStream.{IncomingStream}
@@ -89,6 +89,14 @@ module _ (u : SessionRecord) (h : RtpHeader) (nonzero : (h.ssrc == 0) ≡ false)
         else as_packet (is_some (place_of h.payload_type u.state.types)) (fresh_number (seen_of h.ssrc u.seen) x h.sequence_number))
     own_opening true e = own_repair e
     own_opening false e = own_packet e
+
+  -- a packet that may open has a stream
+  pub has_place : (n : ℕ) → number_of (seen_of h.ssrc u.seen) u.rx u.probes h.ssrc h.sequence_number ≡ Some n → is_some (place_of h.ssrc u.rx) ≡ true
+  has_place n e =
+      elim (cases_Bool (is_some (place_of h.ssrc u.rx))) [
+        | inl yes ↦ yes
+        | inr no ↦ (let none = number_is None (value_none h.ssrc u.rx no) in absurd (cc (none, e)))
+      ]
 
   -- it is none's
   module _ (away : is_some (place_of h.ssrc u.rx) ≡ false) where

@@ -80,7 +80,9 @@ fn first_repair_under(header: &RtpHeader, seen: &Seen) -> Option<SeqNo>
 
 /// The number of a repair, told as such.
 fn as_repair(number: Option<SeqNo>) -> Option<(SeqNo, bool)>
-    ensures { result ≡ as_repair number }
+    ensures value { result ≡ as_repair number }
+    ensures small { IfSome number (λ n. n < 2 ^ 48) → IfSome result (λ f. f.0 < 2 ^ 48) }
+    ensures low { (low : ℕ) → IfSome number (λ n. n % 65536 ≡ low) → IfSome result (λ f. f.0 % 65536 ≡ low) }
 {
     match number {
         Some(number) => Some((number, true)),
@@ -96,7 +98,8 @@ fn first_under(
     header: &RtpHeader,
     repair: Option<SeqNo>,
 ) -> Option<(SeqNo, bool)>
-    requires { IfSome repair (λ n. (n < 2 ^ 48) × (n % 65536 ≡ header.now.sequence_number)) }
+    requires small { IfSome repair (λ n. n < 2 ^ 48) }
+    requires low { IfSome repair (λ n. n % 65536 ≡ header.now.sequence_number) }
     ensures number { (r : SessionRecord) (x : RxRecord) → SeenStandsFor seen.now r.seen → types.now ≡ r.state.types → (header.now.ssrc == 0) ≡ false
         → x.numbers ≡ None → x.state.roc ≡ None → value_under header.now.ssrc r.rx ≡ Some x → repair_accepted r.seen header.now x ≡ repair
         → result ≡ opening_number header.now r }

@@ -295,7 +295,7 @@ fn push_value(plain: &mut Vec<u8>, id: u8, value: &str) -> Result<(), Fail> {
     if bytes.is_empty() || bytes.len() > 16 {
         return Ok(());
     }
-    plain.push(id * 16 + (bytes.len() - 1) as u8)?;
+    plain.push(id.wrapping_mul(16).wrapping_add((bytes.len() - 1) as u8))?;
     plain.extend_from_slice(bytes)?;
     Ok(())
 }

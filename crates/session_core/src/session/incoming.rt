@@ -1,5 +1,5 @@
 //! What comes to a session: the datagrams of RTP and of RTCP.
-ghost use Rattle.std.specs.Prelude.{◌≡◌, ◌==◌, ◌<◌, ◌^◌, ◌↔◌, ◌||◌, ℕ, List, Some, None, true, false, length, is_none, IfSome, OnOk, is_err, IsTrue, IfOk, IfErr, IfNone, OnErr, IsErrOf};
+ghost use Rattle.std.specs.Prelude.{◌≡◌, ◌==◌, ◌<◌, ◌^◌, ◌↔◌, ◌||◌, ℕ, List, Some, None, true, false, length, drop, is_none, is_some, IfSome, OnOk, is_err, IsTrue, IfOk, IfErr, IfNone, OnErr, IsErrOf};
 ghost use Rattle.rtp_wire.specs.Header.{header_of};
 ghost use Rattle.session_core.specs.Hearing.{ReceivesRtcp};
 ghost use Rattle.std.specs.Map.{keys_of};
@@ -7,8 +7,8 @@ ghost use Rattle.std.specs.Option.{ForSome};
 ghost use Rattle.stream_core.specs.Seen.{seen_of};
 ghost use Rattle.stream_core.specs.Tables.{place_of};
 ghost use Rattle.session_core.specs.Mapping.{is_standing, mapped_in, is_nowhere};
-ghost use Rattle.session_core.specs.Receiving.{Takes, Receives, is_claimed, cut, after_opened, after_repair, after_original, after_restoring};
-ghost use Rattle.session_core.specs.Repairs.{repaired_by};
+ghost use Rattle.session_core.specs.Receiving.{Takes, Receives, is_claimed, cut, after_opened, after_repair, after_original, after_restoring, after_repaired};
+ghost use Rattle.session_core.specs.Repairs.{repaired_by, original_number};
 ghost use Rattle.session_core.specs.Draining.{stopped_from};
 ghost use Rattle.session_core.specs.SessionRecord.{SessionRecord, StandsFor};
 ghost use Rattle.session_core.specs.declared.error.RtcError.TheVariants.{Stopped, Memory};
@@ -29,6 +29,7 @@ use resend_core::ResendStore;
 use rtp_base::{Kind, SeqNo, Ssrc};
 use rtp_wire::RtpHeader;
 use srtp_core::SrtpCipher;
+use srtp_core::laws::rtp_opens_once;
 use std::alloc::AllocError;
 use stream_core::{Payload, Sent};
 
@@ -139,23 +140,45 @@ impl<C: SrtpCipher, W: GapWindow, S: ResendStore<Sent>> Session<C, W, S> {
             original: low,
             payload,
         } = opening;
-        match repaired_by(&self.types, &self.streams, header) {
-            Some((original, place)) => {
-                self.take_repair(now, header, place, number)?;
-                self.restore_packet(now, header, original, place, low, payload)?;
-            }
-            None => {
-                let place = self.streams.rx_place(header.ssrc);
-                let remembered = self.seen.get(header.ssrc);
-                self.take_packet(now, header, place, number, &remembered, payload)?;
-            }
-        }
+        self.take_in(now, header, number, low, payload)?;
         Ok(Some(Opened {
             kind: Kind::Rtp,
             ssrc: header.ssrc,
             index: number,
             plain,
         }))
+    }
+
+    /// A datagram opened under a number, as a packet of the stream of its SSRC or as a repair.
+    fn take_in(
+        &mut self,
+        now: Instant,
+        header: &RtpHeader,
+        number: SeqNo,
+        low: Option<u16>,
+        payload: Payload,
+    ) -> Result<(), AllocError>
+        requires { number < 2 ^ 48 }
+        ensures packet { OnOk result ((r : SessionRecord) (p : List ℕ) → StandsFor W.remembers S.stands_for self.old r
+            → repaired_by r.state.types r.rx r.known.originals header.now ≡ None → (header.now.ssrc == 0) ≡ false → is_some (place_of header.now.ssrc r.rx) ≡ true
+            → payload ≡ cut header.now p → StandsFor W.remembers S.stands_for self.new (after_opened now header.now number p r)) }
+        ensures repair { OnOk result ((r : SessionRecord) (p : List ℕ) (original : ℕ) → StandsFor W.remembers S.stands_for self.old r
+            → repaired_by r.state.types r.rx r.known.originals header.now ≡ Some original → low ≡ original_number (cut header.now p) → payload ≡ drop 2 (cut header.now p)
+            → StandsFor W.remembers S.stands_for self.new (after_repaired now header.now original number p r)) }
+        ensures runs { self.new.state.stopped ≡ self.old.state.stopped }
+        ensures err { OnErr result (self.new ≡ record self.old { rx = self.new.rx; probes = self.new.probes; seen = self.new.seen }) }
+    {
+        match repaired_by(&self.types, &self.streams, header) {
+            Some((original, place)) => {
+                self.take_repair(now, header, place, number)?;
+                self.restore_packet(now, header, original, place, low, payload)
+            }
+            None => {
+                let place = self.streams.rx_place(header.ssrc);
+                let remembered = self.seen.get(header.ssrc);
+                self.take_packet(now, header, place, number, &remembered, payload)
+            }
+        }
     }
 
     /// Takes in a datagram that begins with this header, of an SSRC that stays unknown: it opens as padding of
@@ -173,6 +196,7 @@ impl<C: SrtpCipher, W: GapWindow, S: ResendStore<Sent>> Session<C, W, S> {
         ensures runs { self.new.state.stopped ≡ self.old.state.stopped }
         ensures err { OnErr result (self.new ≡ self.old) }
     {
+        rtp_opens_once::<C>();
         let rids = rids_for(self.medias.as_slice(), header);
         if !is_early_padding(rids, self.types.claims(), header) {
             return Ok(None);

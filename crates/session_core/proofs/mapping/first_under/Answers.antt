@@ -13,7 +13,7 @@ pub returns-then-is_some-clause-number : goal.returns-then-is_some-clause-number
 returns-then-is_some-clause-number c = λ r x seen types nonzero numbers roc has repair.
     let primary : is_some (primary_type_of r.state.types c.args.header.now.payload_type) ≡ true =
     ap (λ (l : List (ℕ × TypeRow)). is_some (primary_type_of l c.args.header.now.payload_type)) (sym types) ∙ ap is_some (sym c.primary.ensures) ∙ sym c.is_some.ensures ∙ c.if-is_some.true in
-    c.as_repair.ensures ∙ ap as_repair (sym repair) ∙ sym (own_opening r c.args.header.now nonzero x has true primary)
+    c.as_repair.ensures.value ∙ ap as_repair (sym repair) ∙ sym (own_opening r c.args.header.now nonzero x has true primary)
 
 pub returns-then-not-has-clause-number : goal.returns-then-not-has-clause-number
 returns-then-not-has-clause-number c = λ r x seen types nonzero numbers roc has repair.
