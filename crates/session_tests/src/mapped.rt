@@ -3,13 +3,16 @@
 use crate::carrying::{Ids, map_of};
 use crate::ends::{End, config, give_keys, moment};
 use crate::packets::seal_numbered;
-use mapping_core::Rids;
-use media_base::{Bytes, Listed};
-use rtp_base::{Frequency, Kind, Mid, Pt, Rid, SeqNo, Ssrc};
-use session_core::{Event, Media, MediaKind, Opened};
-use std::alloc::Global;
+use mapping_core::{MainChange, Mapping, RepairsChange, Rids};
+use mask_register::MaskRegister;
+use media_base::{Bitrate, Bytes, Duration, Instant, Listed, SystemTime};
+use queue_store::QueueStore;
+use rtcp_wire::SenderInfo;
+use rtp_base::{Frequency, KeyframeRequestKind, Kind, Mid, MidRid, Pt, Rid, SeqNo, Ssrc};
+use session_core::{Event, Media, MediaKind, Opened, ReportIntervals};
+use std::alloc::{AllocError, Global};
 use std::test::Fail;
-use stream_core::{PayloadTypes, TypeRow};
+use stream_core::{Arrival, PayloadTypes, Sent, Streams, TypeRow};
 
 /// How a datagram is made.
 #[derive(Clone, Copy, PartialEq, Eq)]
@@ -478,4 +481,120 @@ fn unknown_ssrcs_map(rt: HostRuntime) -> Result<(), Fail> {
         assert!(rt; failed.is_none(), "{name}: {failed:?}");
     }
     Ok(())
+}
+
+type Receiving = Streams<MaskRegister, QueueStore<Sent>>;
+
+const MAIN: u32 = 42;
+
+const MOVED: u32 = 44;
+
+// Has a stream take a packet and a repair, ask its sender, be reported of, and report.
+fn receives(streams: &mut Receiving, now: Instant, mid: Mid) -> Result<bool, AllocError> {
+    let (main, repairs) = (Ssrc::from(MAIN), Ssrc::from(43));
+    streams.expect_stream_rx(main, Some(repairs), MidRid(mid, None), false)?;
+    let Some((place, number)) = streams.accepts(main, 300, None) else {
+        return Ok(false);
+    };
+    let came = Arrival {
+        now,
+        rtp_time: 0,
+        clock: Frequency::NINETY_KHZ,
+    };
+    streams.take_at(place, &came, number, None)?;
+    let Some(place) = streams.repair_place(repairs) else {
+        return Ok(false);
+    };
+    let Some(number) = streams.accepts_repair(place, 9, None) else {
+        return Ok(false);
+    };
+    streams.take_repair_at(place, now, number, None);
+    let Some(place) = streams.rx_place(main) else {
+        return Ok(false);
+    };
+    let stream = streams.rx_at(place);
+    stream.request_keyframe(KeyframeRequestKind::Fir);
+    stream.request_remb(Bitrate::bps(1_000));
+    stream.handle_sender_info(&sender_info(main), now);
+    stream.reported(now);
+    Ok(true)
+}
+
+fn sender_info(ssrc: Ssrc) -> SenderInfo {
+    SenderInfo {
+        ssrc,
+        ntp_time: SystemTime::from_unix_nanos(0),
+        rtp_time: 0,
+        sender_packet_count: 1,
+        sender_octet_count: 1,
+    }
+}
+
+const INTERVALS: (u64, u64) = (5_000_000_000, 1_000_000_000);
+
+// Whether the stream stands in its place under another SSRC, and what is kept of its packets began anew.
+fn began_anew(streams: &Receiving, now: Instant, mid: Mid) -> bool {
+    let (main, moved) = (Ssrc::from(MAIN), Ssrc::from(MOVED));
+    let intervals = ReportIntervals {
+        audio: Duration::from_nanos(INTERVALS.0),
+        video: Duration::from_nanos(INTERVALS.1),
+    };
+    let Some(place) = streams.rx_place(moved) else {
+        return false;
+    };
+    let stream = streams.rx(place);
+    let gone = streams.rx_place(main).is_none()
+        && stream.is_new()
+        && !stream.has_pending_request()
+        && stream.last_sender_report().is_none()
+        && stream.needs_report(&intervals, now);
+    let stays = place == 0
+        && stream.ssrc() == moved
+        && stream.rtx() == Some(Ssrc::from(43))
+        && stream.mid() == mid
+        && stream.rid().is_none()
+        && stream.paused_at().is_some()
+        && streams.original(Ssrc::from(43)) == Some(moved)
+        && streams.accepts_repair(place, 9, None).is_none();
+    gone && stays
+}
+
+// Whether a change of the SSRC of repairs begins them anew, and leaves what is kept of the packets.
+fn repairs_begin_anew(streams: &mut Receiving) -> Result<bool, AllocError> {
+    let (moved, repairs) = (Ssrc::from(MOVED), Ssrc::from(45));
+    let change = RepairsChange {
+        main: moved,
+        rtx: repairs,
+    };
+    streams.take_up(repairs, &Mapping::NewRepairs(change))?;
+    let Some(place) = streams.repair_place(repairs) else {
+        return Ok(false);
+    };
+    let stream = streams.rx(place);
+    let right = stream.rtx() == Some(repairs) && stream.ssrc() == moved;
+    let left = streams.original(Ssrc::from(43)).is_none();
+    let anew = streams.accepts_repair(place, 9, None).is_some();
+    Ok(right && left && anew)
+}
+
+fn changes(streams: &mut Receiving) -> Result<bool, AllocError> {
+    let Some(mid) = Mid::from_slice(b"v") else {
+        return Ok(false);
+    };
+    let now = Instant::from_nanos(4_000_000_000);
+    let received = receives(streams, now, mid)?;
+    let change = MainChange {
+        from: Ssrc::from(MAIN),
+        to: Ssrc::from(MOVED),
+    };
+    streams.take_up(change.to, &Mapping::NewMain(change))?;
+    let anew = began_anew(streams, now, mid);
+    Ok(received && anew && repairs_begin_anew(streams)?)
+}
+
+#[test]
+fn changes_of_ssrcs_begin_anew(rt: HostRuntime) {
+    let mut streams = Receiving::new(rt.alloc(), Duration::from_millis(1_500));
+    let held = changes(&mut streams);
+    assert!(rt; held == Ok(true));
 }

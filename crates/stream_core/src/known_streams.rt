@@ -1,10 +1,9 @@
 //! Of which incoming stream a datagram is, where the tables of streams do not tell it by its SSRC.
-ghost use Rattle.std.specs.Prelude.{◌≡◌, ◌==◌, ◌<◌, ℕ, List, Some, OnOk, OnErr, if◌then◌else◌};
+ghost use Rattle.std.specs.Prelude.{◌≡◌, OnOk, OnErr};
 ghost use Rattle.std.specs.Option.{option_copied};
 ghost use Rattle.mapping_core.specs.Mapped.{mapped};
-ghost use Rattle.mapping_core.specs.declared.mapping.MainChange.{MainChange as Change};
-ghost use Rattle.stream_core.specs.Known.{none_known, put_original, with_known, without_known, with_original_of, renamed_to, with_main, with_only, with_repairs};
-ghost use Rattle.stream_core.specs.Tables.{value_under, with_new, each};
+ghost use Rattle.stream_core.specs.Known.{none_known, put_original, with_known, without_known, with_original_of, renamed_to, with_main, with_repairs};
+ghost use Rattle.stream_core.specs.Tables.{value_under, each};
 
 use crate::ssrc_table::SsrcTable;
 use mapping_core::{
@@ -32,16 +31,21 @@ impl Model for KnownStreams {
     ghost view = { λ k. record { originals = k.originals; streams = k.streams } };
 }
 
+/// The SSRC that the stream of an SSRC has after a change.
+fn renamed(change: &MainChange, ssrc: Ssrc) -> Ssrc
+    ensures { result ≡ renamed_to change.now ssrc }
+{
+    if ssrc == change.from { change.to } else { ssrc }
+}
+
 /// Has the repairs of a stream that had one SSRC be those of the other one, under each SSRC of repairs. The
 /// time grows with the number of these.
 fn rename_all(originals: &mut SsrcTable<Ssrc>, change: &MainChange)
-    ensures { originals.new ≡ each (renamed_to change.entry.now) originals.old }
+    ensures { originals.new ≡ each (renamed_to change.now) originals.old }
 {
     for place in 0..originals.len() {
         let original = originals.at_mut(place);
-        if *original == change.from {
-            *original = change.to;
-        }
+        *original = renamed(change, *original);
     }
 }
 
@@ -124,7 +128,7 @@ impl KnownStreams {
 
     /// The packets of a stream come under another SSRC. The time grows with the number of streams.
     pub fn change_main(&mut self, change: &MainChange)
-        ensures { self.new ≡ with_main change.entry.now self.old }
+        ensures { self.new ≡ with_main change.now self.old }
     {
         rename_all(&mut self.originals, change);
         self.streams.change_main(*change);
@@ -133,7 +137,7 @@ impl KnownStreams {
     /// The repairs of a stream come under another SSRC, or for the first time under one. Without memory
     /// nothing changes. The time grows with the number of streams.
     pub fn change_repairs(&mut self, change: &RepairsChange) -> Result<(), AllocError>
-        ensures ok { OnOk result (self.new ≡ with_repairs change.entry.now self.old) }
+        ensures ok { OnOk result (self.new ≡ with_repairs change.now self.old) }
         ensures err { OnErr result (self.new ≡ self.old) }
     {
         self.originals.add_new(change.rtx, change.main)?;

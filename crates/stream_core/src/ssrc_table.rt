@@ -162,7 +162,7 @@ impl SsrcTable<Ssrc> {
     /// Has repairs of a stream come under one SSRC alone: takes out its others. The time grows with the
     /// number of entries.
     pub fn keep_only(&mut self, change: &RepairsChange)
-        ensures { self.new ≡ filter (is_kept change.entry.now) self.old }
+        ensures { self.new ≡ filter (is_kept change.now) self.old }
     {
         let rtx = change.rtx;
         let main = change.main;

@@ -243,7 +243,7 @@ impl<W: GapWindow, S: ResendStore<Sent>> Streams<W, S> {
     /// that SSRC, nothing changes.
     fn change_main(&mut self, change: &MainChange) -> Result<(), AllocError>
         ensures ok { OnOk result ((r : StreamsRecord) → StandsFor W.remembers S.stands_for self.old r
-            → StandsFor W.remembers S.stands_for self.new (with_main_rx change.entry.now r)) }
+            → StandsFor W.remembers S.stands_for self.new (with_main_rx change.now r)) }
         ensures tx { self.new.tx ≡ self.old.tx }
         ensures repairs { self.new.repairs ≡ self.old.repairs }
         ensures threshold { self.new.threshold ≡ self.old.threshold }
@@ -265,7 +265,7 @@ impl<W: GapWindow, S: ResendStore<Sent>> Streams<W, S> {
     /// The repairs of a stream come under another SSRC, or for the first time under one.
     fn change_repairs(&mut self, change: &RepairsChange) -> Result<(), AllocError>
         ensures ok { OnOk result ((r : StreamsRecord) → StandsFor W.remembers S.stands_for self.old r
-            → StandsFor W.remembers S.stands_for self.new (with_repairs_rx change.entry.now r)) }
+            → StandsFor W.remembers S.stands_for self.new (with_repairs_rx change.now r)) }
         ensures tx { self.new.tx ≡ self.old.tx }
         ensures repairs { self.new.repairs ≡ self.old.repairs }
         ensures threshold { self.new.threshold ≡ self.old.threshold }
