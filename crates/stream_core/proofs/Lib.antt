@@ -1,6 +1,7 @@
 pub mod Accepting
 pub mod Alongside
 pub mod Any
+pub mod Claims
 pub mod Fronts
 pub mod Mending
 pub mod Places

@@ -273,9 +273,10 @@ impl<W: GapWindow, S: ResendStore<Sent>> Streams<W, S> {
     {
         self.known.change_repairs(change)?;
         self.next_untold = 0;
-        if let Some(place) = self.rx.place(change.main) {
-            self.rx.at_mut(place).change_rtx(change.rtx);
-        }
+        let Some(place) = self.rx.place(change.main) else {
+            return Ok(());
+        };
+        self.rx.at_mut(place).change_rtx(change.rtx);
         Ok(())
     }
 

@@ -1,4 +1,5 @@
 use Rattle.std.proofs.Common.{sym, ap, ◌∙◌}
+use Rattle.stream_core.specs.Known.{KnownRecord}
 use Rattle.stream_core.specs.Tables.{value_under}
 use Rattle.session_core.proofs.RepairSteps.{unknown_under, none_under, gone_under}
 use Rattle.session_core.proofs.restoring.original_under.Goals as goal

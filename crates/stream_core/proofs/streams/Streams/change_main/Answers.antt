@@ -1,4 +1,4 @@
-use Rattle.std.proofs.Common.{sym, ◌∙◌}
+use Rattle.std.proofs.Common.{refl, sym, ◌∙◌}
 use Rattle.stream_core.proofs.StreamsSteps.{main_there, main_absent, main_moved}
 use Rattle.stream_core.proofs.streams.Streams.change_main.Goals as goal
 
