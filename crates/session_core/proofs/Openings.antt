@@ -1,10 +1,11 @@
 -- How a datagram opens under an SSRC of no table, once it is taken up of which stream it is.
 use Rattle.std.proofs.Common.{◌≡◌, inl, inr, ℕ, Bool, true, false, List, Option, Some, None, is_some, refl, sym, ap, subst, ◌∙◌}
-use Rattle.std.specs.Prelude.{◌==◌, ◌||◌, option_and_then, slice_get, position, nat_eq, if◌then◌else◌}
+use Rattle.std.specs.Prelude.{◌==◌, ◌||◌, not, option_and_then, slice_get, if◌then◌else◌}
 use Rattle.std.specs.Map.{values_of}
 use Rattle.std.specs.Option.{option_map, option_map_or}
 use Rattle.std.proofs.lemmas.Bool.{eq-eqb, cases_Bool}
 use Rattle.mapping_core.specs.declared.mapping.MainChange.{MainChange}
+use Rattle.mapping_core.specs.declared.mapping.Mapping.{Mapping}
 use Rattle.mapping_core.specs.declared.mapping.RepairsChange.{RepairsChange}
 use Rattle.mapping_core.specs.declared.stream.IncomingStream.{IncomingStream}
 use Rattle.mapping_core.specs.declared.mapping.Mapping.TheVariants.{Repairs, NewStream, NewMain, NewRepairs}
@@ -142,7 +143,7 @@ module _ (u : SessionRecord) (h : RtpHeader) (nonzero : (h.ssrc == 0) ≡ false)
 
 -- the session once a mapping is taken up
 
-abbrev pub taken : RtpHeader → SessionRecord → _ → SessionRecord
+abbrev pub taken : RtpHeader → SessionRecord → Mapping → SessionRecord
 taken h r m = with_incoming (taken_up h.ssrc m (streams_in r)) r
 
 module _ (h : RtpHeader) (r : SessionRecord) (away : IsStrange h r) where
@@ -188,7 +189,7 @@ module _ (h : RtpHeader) (r : SessionRecord) (away : IsStrange h r) where
     pub repairs_of : value_under h.ssrc after.known.originals ≡ Some c.main
     repairs_of =
         ap (λ (k : ℕ). value_under k after.known.originals) (sym is)
-        ∙ value_kept (is_kept c) c.rtx c.main (ap (λ b. b || _) (eq-eqb c.rtx c.rtx refl)) (with_new c.rtx c.main r.known.originals) (value_new c.rtx r.known.originals c.main rtx_none)
+        ∙ value_kept (is_kept c) c.rtx c.main (ap (λ b. b || not (c.main == c.main)) (eq-eqb c.rtx c.rtx refl)) (with_new c.rtx c.main r.known.originals) (value_new c.rtx r.known.originals c.main rtx_none)
 
     pub repairs_there : (x : RxRecord) → value_under c.main r.rx ≡ Some x → value_under c.main after.rx ≡ Some (repaired_under c.rtx x)
     repairs_there x has = value_change_at c.main (repaired_under c.rtx) r.rx ∙ ap (option_map (repaired_under c.rtx)) has

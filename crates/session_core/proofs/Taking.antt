@@ -7,11 +7,12 @@ use Rattle.mapping_core.specs.declared.mapping.Mapping.TheVariants.{Main, Repair
 use Rattle.rtp_wire.specs.declared.header.RtpHeader.{RtpHeader}
 use Rattle.rtp_wire.specs.Header.{header_of}
 use Rattle.srtp_core.specs.Cipher.{CipherMeaning}
+use Rattle.stream_core.specs.Seen.{seen_of}
 use Rattle.stream_core.specs.StreamsRecord.{taken_up}
 use Rattle.stream_core.specs.Tables.{value_under}
 use Rattle.session_core.specs.declared.datagram.Opened.{Opened}
 use Rattle.session_core.specs.Mapping.{is_standing, mapped_in, mapping_for, taken_up_for, is_nowhere}
-use Rattle.session_core.specs.Receiving.{Opens, OpensRepair, OpensPadding, OpensIn, Unpads, Takes, takes_packet, takes_repair, takes_nothing, Receives, opened, repaired, stays, after_opened, after_repaired, opening_of, as_repair, as_packet, number_by, opening_number}
+use Rattle.session_core.specs.Receiving.{Opens, OpensRepair, OpensPadding, OpensIn, Unpads, Takes, takes_packet, takes_repair, takes_nothing, Receives, opened, repaired, stays, is_claimed, number_of, after_opened, after_repaired, opening_of, as_repair, as_packet, number_by, opening_number}
 use Rattle.session_core.specs.Repairs.{repaired_by, repair_accepted}
 use Rattle.session_core.specs.SessionRecord.{SessionRecord, streams_in, with_incoming}
 
@@ -51,10 +52,12 @@ from_packet false o n b e = absurd cc
 module _ (u : SessionRecord) (h : RtpHeader) (n : ℕ) (b : Bool) (is : opening_number h u ≡ Some (n, b)) where
   pub number_of_repair : (original : ℕ) → repaired_by u.state.types u.rx u.known.originals h ≡ Some original
       → (option_and_then (repair_accepted u.seen h) (value_under original u.rx) ≡ Some n) × (b ≡ true)
-  number_of_repair original e = from_repair _ n b (sym (ap (number_by h u) e) ∙ is)
+  number_of_repair original e = from_repair (option_and_then (repair_accepted u.seen h) (value_under original u.rx)) n b (sym (ap (number_by h u) e) ∙ is)
 
-  pub number_of_packet : repaired_by u.state.types u.rx u.known.originals h ≡ None → _
-  number_of_packet e = from_packet _ _ n b (sym (ap (number_by h u) e) ∙ is)
+  pub number_of_packet : repaired_by u.state.types u.rx u.known.originals h ≡ None
+      → (is_claimed u.state.types h ≡ true) × (number_of (seen_of h.ssrc u.seen) u.rx u.probes h.ssrc h.sequence_number ≡ Some n) × (b ≡ false)
+  number_of_packet e =
+      from_packet (is_claimed u.state.types h) (number_of (seen_of h.ssrc u.seen) u.rx u.probes h.ssrc h.sequence_number) n b (sym (ap (number_by h u) e) ∙ is)
 
 module _ (cipher : CipherMeaning) (u : SessionRecord) (bytes : List ℕ) (h : RtpHeader) where
   packet_number : (n : ℕ) (payload : List ℕ) → Opens cipher u bytes h n payload → opening_number h u ≡ Some (n, false)
