@@ -4,7 +4,7 @@ use Rattle.std.specs.Prelude.{◌==◌, ◌||◌, ◌&&◌, not, option_and_then
 use Rattle.std.specs.List.{AllByRecursion}
 use Rattle.std.specs.Cmp.Lexicographic.{pointwise}
 use Rattle.std.specs.Option.{option_map, option_map_or}
-use Rattle.std.proofs.lemmas.Bool.{eqb-eq, false≢true, cases_Bool}
+use Rattle.std.proofs.lemmas.Bool.{eqb-true, false≢true, cases_Bool}
 use Rattle.mapping_core.specs.Claims.{claim_of, is_number}
 use Rattle.mapping_core.specs.Expecting.{is_specific, expects}
 use Rattle.mapping_core.specs.Mapped.{mapped, mapping_rules, first_that_applies, or_else, when, where_some, probe_rule, main_rule, repairs_rule, mid_rule, section_rule, type_rule, rid_rule, no_rid_rule, packet_rule, repair_rule, refuses, names_rid, is_unexpected, is_early_padding, repairs_expected}
@@ -96,7 +96,7 @@ module _ (r : SessionRecord) (sections : AllByRecursion ExpectsNone r.state.medi
   -- a stream whose repairs come under an SSRC has that one in the table
   in_table : (o : Option ℕ) (ssrc : ℕ) → ((rtx : ℕ) → o ≡ Some rtx → is_some (place_of rtx r.known.originals) ≡ true) → is_number o ssrc ≡ true → is_some (place_of ssrc r.known.originals) ≡ true
   in_table None ssrc has is = absurd cc
-  in_table (Some rtx) ssrc has is = ap (λ (k : ℕ). is_some (place_of k r.known.originals)) (sym (eqb-eq rtx ssrc is)) ∙ has rtx refl
+  in_table (Some rtx) ssrc has is = ap (λ (k : ℕ). is_some (place_of k r.known.originals)) (sym (eqb-true rtx ssrc is)) ∙ has rtx refl
 
   none_repairs : (streams : List IncomingStream) → AllByRecursion (HasOriginal r.known.originals) streams → is_some (place_of h.ssrc r.known.originals) ≡ false → find (has_repairs h.ssrc) streams ≡ None
   none_repairs [] all away = refl

@@ -1,4 +1,6 @@
-use Rattle.std.proofs.Common.{◌≡◌, ℕ, Bool, true, false, List, [], Option, Some, None, refl, sym, ap, subst, ◌∙◌}
+use Rattle.std.proofs.Common.{◌≡◌, ℕ, Bool, true, false, List, [], ◌∷◌, length, Option, Some, None, refl, sym, ap, subst, ◌∙◌, arith}
+use Rattle.std.specs.Prelude.{◌==◌}
+use Rattle.std.proofs.lemmas.Bool.{eqb-true, false≢true}
 use Rattle.rtp_base.specs.declared.kind.Kind.TheVariants.{Rtp}
 use Rattle.rtp_wire.specs.declared.header.RtpHeader.{RtpHeader}
 use Rattle.rtp_wire.specs.Header.{header_of}
@@ -16,6 +18,10 @@ use Rattle.session_core.proofs.Openings.{strange, nothing_opens}
 use Rattle.session_core.proofs.Others.{opening_kept}
 use Rattle.session_core.proofs.Taking.{strange_mapped, nowhere_same, stays_closed, no_packet, no_repair}
 use Rattle.session_core.proofs.session.Session.receive_padding.Goals as goal
+
+empty_of : (l : List ℕ) → (length l == 0) ≡ true → l ≡ []
+empty_of [] e = refl
+empty_of (x ∷ xs) e = let none = eqb-true (length (x ∷ xs)) 0 e in absurd (omega arith)
 
 -- a datagram of an SSRC that stays unknown opens as padding, or not at all
 module _ (cipher : CipherMeaning) (r : SessionRecord) (bytes : List ℕ) (h : RtpHeader) (reads : header_of r.state.transport.exts bytes ≡ Some h)
@@ -103,7 +109,7 @@ returns-then-not-is_empty-clause-received g c = λ r now h reads away nowhere.
     let number : unseen_number r.seen x ≡ Some n = sym (c.in-Some.ensures.number r.seen mine.seen) in
     let o : IsOpening K c.self.inside.opening x n false c.args.bytes.now c.in-Some-2.opening.plain c.in-Some-2.opening.original c.in-Some-2.opening.payload = rw c.in-Some-2.is at c.in_ok-opening.ensures.opened in
     let opens = subst (λ (s : SessionState). OpensIn K s.opening x n c.args.bytes.now o.payload) mine.state o.opens in
-    let full : cut x o.payload ≡ [] → ⊥ = ? in (
+    let full : cut x o.payload ≡ [] → ⊥ = (λ e. false≢true (sym c.if-not-is_empty.true ∙ c.is_empty.ensures ∙ ap (λ (l : List ℕ). length l == 0) (o.cuts ∙ e))) in (
       r,
       closed K r c.args.bytes.now x reads away nowhere now (filled K r c.args.bytes.now x reads away nowhere c.rtp_opens_once.ensures n o.payload number opens full),
       record {
@@ -128,7 +134,7 @@ returns-clause-received g c = λ r now h reads away nowhere.
     ∙ (λ j. is_early_padding (sym c.rids_for-rids.ensures j) (sym c.claims.ensures j) x) ∙ sym c.is_early_padding.ensures ∙ c.if-not-is_early_padding.false in
     let o : IsOpening K c.self.inside.opening x n false c.args.bytes.now c.in-Some-2.opening.plain c.in-Some-2.opening.original c.in-Some-2.opening.payload = rw c.in-Some-2.is at c.in_ok-opening.ensures.opened in
     let opens = subst (λ (s : SessionState). OpensIn K s.opening x n c.args.bytes.now o.payload) mine.state o.opens in
-    let empty : cut x o.payload ≡ [] = ? in (
+    let empty : cut x o.payload ≡ [] = sym o.cuts ∙ empty_of c.in-Some-2.opening.payload (sym c.is_empty.ensures ∙ c.if-not-is_empty.false) in (
       record r { seen = saw x.ssrc n r.seen },
       subst (λ l. Receives K r c.args.bytes.now now (record r { seen = saw x.ssrc n r.seen }) (Some (record { kind = Rtp; ssrc = x.ssrc; index = n; plain = l }))) (sym o.whole)
           (padding x n o.payload (record {
