@@ -24,3 +24,19 @@ returns-in-NewStream-clause-number g c = λ r h seen types away mapped.
     c.first_under.ensures.number (taken x r (NewStream s)) fresh seen types (strange x r away).nonzero refl refl (stream_there x r (strange x r away) s own)
     (sym (c.first_repair_under-repair.ensures.number r.seen fresh seen refl))
     ∙ ap (λ (n : Mapping). opening_number x (taken x r n)) (sym m)
+
+-- a stream changes its SSRC
+pub returns-in-NewMain-clause-number : goal.returns-in-NewMain-clause-number
+returns-in-NewMain-clause-number g c = λ r h seen types away mapped.
+    let x = c.args.header.now in
+    let k = c.in-NewMain.change.now in
+    let m : c.args.mapping.now ≡ NewMain k = c.in-NewMain.is in
+    let own : k.to ≡ x.ssrc = subst (IsOf x.ssrc) m (subst (IsOf x.ssrc) (sym mapped) (mapped_of _ _ _ x)) in
+    let s = strange x r away in
+    let i = c.in_ok-place.place in
+    let there : place_of k.from r.rx ≡ Some i = sym (c.rx_place-place.ensures.stands (streams_in r) h) ∙ c.in_ok-place.is in
+    ?
+
+-- repairs come under an SSRC that a stream has
+pub returns-in-Repairs-clause-number : goal.returns-in-Repairs-clause-number
+returns-in-Repairs-clause-number g c = λ r h seen types away mapped. ?
