@@ -51,12 +51,12 @@ module _ (k : ℕ) where
     pub claims_put : (es : List (ℕ × TypeRow)) → claims_in (insert_entry nat_eq es k row) ≡ put (claims_in es) (place_of k es)
     claims_put [] = refl
     claims_put (e ∷ es) = elim (cases_Bool (nat_eq k e.0)) [
-          | inl yes ↦
-              ap (λ b. claims_in (if b then (e.0, row) ∷ es else e ∷ insert_entry nat_eq es k row)) yes
-              ∙ sym (ap (put (claims_in (e ∷ es))) (position_first e.0 (keys_of es) yes))
-          | inr no ↦
-              ap (λ b. claims_in (if b then (e.0, row) ∷ es else e ∷ insert_entry nat_eq es k row)) no
-              ∙ ap (λ l. claim_in e.1 ∷ l) (claims_put es)
-              ∙ behind (claim_in e.1) (claims_in es) (place_of k es)
-              ∙ sym (ap (put (claims_in (e ∷ es))) (position_next e.0 (keys_of es) no))
-        ]
+      | inl yes ↦
+          ap (λ b. claims_in (if b then (e.0, row) ∷ es else e ∷ insert_entry nat_eq es k row)) yes
+          ∙ sym (ap (put (claims_in (e ∷ es))) (position_first e.0 (keys_of es) yes))
+      | inr no ↦
+          ap (λ b. claims_in (if b then (e.0, row) ∷ es else e ∷ insert_entry nat_eq es k row)) no
+          ∙ ap (λ l. claim_in e.1 ∷ l) (claims_put es)
+          ∙ behind (claim_in e.1) (claims_in es) (place_of k es)
+          ∙ sym (ap (put (claims_in (e ∷ es))) (position_next e.0 (keys_of es) no))
+    ]

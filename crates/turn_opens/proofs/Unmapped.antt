@@ -77,9 +77,9 @@ found_by false n o m e = inr e
 no_rids : (test : MediaRecord → Bool) (ms : List MediaRecord) → AllByRecursion ExpectsNone ms → (m : MediaRecord) → find test ms ≡ Some m → m.rids ≡ Specific []
 no_rids test [] all m is = absurd cc
 no_rids test (n ∷ ms) all m is = elim (found_by (test n) n (find test ms) m is) [
-      | inl same ↦ ap (λ (k : MediaRecord). k.rids) (sym same) ∙ all.0
-      | inr more ↦ no_rids test ms all.1 m more
-    ]
+  | inl same ↦ ap (λ (k : MediaRecord). k.rids) (sym same) ∙ all.0
+  | inr more ↦ no_rids test ms all.1 m more
+]
 
 module _ (r : SessionRecord) (sections : AllByRecursion ExpectsNone r.state.medias) (known : AllByRecursion (HasOriginal r.known.originals) r.known.streams) (h : RtpHeader) where
   rids_of : (o : Option MediaRecord) → ((m : MediaRecord) → o ≡ Some m → m.rids ≡ Specific []) → (e : Rids) → option_map (λ (m : MediaRecord). m.rids) o ≡ Some e → e ≡ Specific []
@@ -101,9 +101,9 @@ module _ (r : SessionRecord) (sections : AllByRecursion ExpectsNone r.state.medi
   none_repairs : (streams : List IncomingStream) → AllByRecursion (HasOriginal r.known.originals) streams → is_some (place_of h.ssrc r.known.originals) ≡ false → find (has_repairs h.ssrc) streams ≡ None
   none_repairs [] all away = refl
   none_repairs (s ∷ ss) all away = elim (cases_Bool (is_number s.rtx h.ssrc)) [
-        | inl yes ↦ absurd (false≢true (sym away ∙ in_table s.rtx h.ssrc all.0 yes))
-        | inr no ↦ ap (λ b. cond b (Some s) (find (has_repairs h.ssrc) ss)) no ∙ none_repairs ss all.1 away
-      ]
+    | inl yes ↦ absurd (false≢true (sym away ∙ in_table s.rtx h.ssrc all.0 yes))
+    | inr no ↦ ap (λ b. cond b (Some s) (find (has_repairs h.ssrc) ss)) no ∙ none_repairs ss all.1 away
+  ]
 
   or_none : (a b : Bool) → (a || b) ≡ false → (a ≡ false) × (b ≡ false)
   or_none true b e = absurd cc
