@@ -19,6 +19,8 @@ mod repairs;
 #[cfg(test)]
 mod reports;
 #[cfg(test)]
+mod resets;
+#[cfg(test)]
 mod restored;
 #[cfg(test)]
 mod restoring;

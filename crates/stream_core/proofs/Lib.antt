@@ -2,12 +2,16 @@ pub mod Accepting
 pub mod Alongside
 pub mod Any
 pub mod Fronts
+pub mod InUseSteps
 pub mod Mending
 pub mod Places
 pub mod PollSteps
 pub mod Polling
 pub mod Primaries
 pub mod RepairSteps
+pub mod Renaming
+pub mod RepairsKept
+pub mod ResetSteps
 pub mod RxSteps
 pub mod Stamps
 pub mod SeenSteps

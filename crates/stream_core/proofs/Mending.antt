@@ -8,17 +8,18 @@ use Rattle.rtp_wire.specs.Header.{header_bytes}
 use Rattle.stream_core.specs.declared.stream_tx.PacketReceipt.{PacketReceipt}
 use Rattle.stream_core.specs.declared.transport.Transport.{Transport}
 use Rattle.resend_core.specs.ResendStore.{Past}
-use Rattle.resend_core.specs.RtxCache.{StandsFor as CacheStandsFor}
+use Rattle.resend_core.specs.RtxCache.{made_for, StandsFor as CacheStandsFor}
 use Rattle.std.specs.Option.{option_map}
 use Rattle.rtx_core.specs.Resends.{ResendState, after_first, after_next, number_of, IsNext}
 use Rattle.rtx_core.specs.declared.resend.Resend.{Resend}
-use Rattle.stream_core.specs.Repairing.{SentPacket, RepairsView, RepairsRecord, RepairsStandFor, size_of_sent, repair_header, repair_of, Repairs, repaired, none_asked, Keeps, Polls, first, nothing, Stays, none_left, IsUsedUp}
+use Rattle.stream_core.specs.Repairing.{SentPacket, KeptView, RepairsView, RepairsRecord, RepairsStandFor, size_of_sent, repair_header, repair_of, Repairs, repaired, none_asked, Keeps, Polls, first, nothing, Stays, none_left, IsUsedUp}
 use Rattle.stream_core.specs.declared.packet.RtpPacket.{RtpPacket}
 use Rattle.stream_core.specs.declared.payload_types.TypeRow.{TypeRow}
 use Rattle.stream_core.specs.Arrivals.{with_first_of}
 use Rattle.stream_core.specs.Queue.{next_of, rest_of, rest_after, if_stamped}
 use Rattle.stream_core.specs.TxRecord.{TxRecord, IsSealable, receipt_of, polled, after_poll}
 use Rattle.stream_core.proofs.Polling.{bytes_of_any}
+use Rattle.stream_core.proofs.RepairsKept.{first_keeps, next_keeps}
 
 -- it is that repair
 pub repair_is : (ssrc : ℕ) (x : TxRecord) (t : Transport) (now n : ℕ) (p : SentPacket) (h : RtpHeader) (between : List ℕ) (r : PacketReceipt)
@@ -56,6 +57,8 @@ module _ {S : Type 0} (stands_for : S → Past SentPacket → Type 0) where
         state = (λ i. after_first now (same i) (h.state i));
         cache = h.cache;
         numbers = h.numbers;
+        limits = h.limits;
+        cap = first_keeps now m r.state ∙ h.cap;
       })
 
   -- something was sent again, or nothing is asked for any more
@@ -63,8 +66,10 @@ module _ {S : Type 0} (stands_for : S → Past SentPacket → Type 0) where
       → (r : RepairsRecord) → RepairsStandFor stands_for v r → RepairsStandFor stands_for w (record r { state = after_next now size_of_sent found r.state })
   sent_again v w now found state cache r h = record {
     state = state ∙ ap (after_next now size_of_sent found) h.state;
-    cache = subst (λ c. CacheStandsFor stands_for size_of_sent c r.cache) (sym cache) h.cache;
+    cache = subst (λ (c : KeptView S). CacheStandsFor stands_for size_of_sent c.held r.cache) (sym cache) h.cache;
     numbers = h.numbers;
+    limits = h.limits ∙ ap (λ (c : KeptView S). made_for c.packets c.age) (sym cache);
+    cap = next_keeps now found r.state ∙ h.cap ∙ ap (λ (c : KeptView S). c.cap) (sym cache);
   }
 
 -- a packet was found, or none

@@ -34,6 +34,10 @@ forgotten x = record x { counts = no_counts }
 abbrev pub no_tx_reports : TxReports
 no_tx_reports = record { clock = record { last = 0; is_audio = None }; written = None; sealed_type = None; sent = no_traffic }
 
+-- all begins anew, but of which kind the stream is stays told
+abbrev pub tx_reports_anew : TxReports → TxReports
+tx_reports_anew x = record no_tx_reports { clock = record { last = 0; is_audio = x.clock.is_audio } }
+
 -- a packet was written with this RTP time, which its media had at a moment
 abbrev pub with_write : ℕ → ℕ → TxReports → TxReports
 with_write time wallclock x = record x { written = Some (record { rtp_time = time; wallclock = wallclock }) }

@@ -2,12 +2,14 @@
 use Rattle.std.specs.Prelude.{◌≡◌, ℕ, ◌%◌, ◌<◌, ◌^◌, ◌==◌, not, Bool, false, if◌then◌else◌, Option, Some, None, option_and_then, List, [], ◌∷◌, ◌++◌, length, slice_index_or}
 use Rattle.std.specs.Int.{w16, to_be_bytes}
 use Rattle.std.specs.Option.{option_map}
-use Rattle.resend_core.specs.ResendStore.{Past}
+use Rattle.resend_core.specs.ResendStore.{Past, emptied}
+use Rattle.resend_core.specs.RtxCache.{made_for, StandsFor as CacheStandsFor}
 use Rattle.resend_core.specs.declared.rtx_cache.RtxCache.{RtxCache}
 use Rattle.rtp_wire.specs.declared.header.RtpHeader.{RtpHeader}
 use Rattle.rtp_wire.specs.declared.values.ExtensionValues.{ExtensionValues}
 use Rattle.rtp_wire.specs.Header.{header_bytes}
-use Rattle.rtx_core.specs.Resends.{ResendState, ResendView, ResendRecord, StandsFor, Caches, after_first, after_next, IsNext}
+use Rattle.rtx_core.specs.Ratio.{CapRecord, uncounted}
+use Rattle.rtx_core.specs.Resends.{ResendState, ResendView, ResendRecord, AreNumbers, Caches, after_first, after_next, IsNext}
 use Rattle.stream_core.specs.declared.packet.RtpPacket.{RtpPacket}
 use Rattle.stream_core.specs.declared.payload_types.TypeRow.{TypeRow}
 use Rattle.stream_core.specs.declared.stream_tx.PacketReceipt.{PacketReceipt}
@@ -28,15 +30,39 @@ number_of_sent s = s.packet.seq_no
 abbrev pub size_of_sent : SentPacket → ℕ
 size_of_sent s = length s.packet.payload
 
+-- what a stream keeps to send it again, and the limits that were set: so many packets, each for so long, and so many
+-- hundredths of what is sent may be repairs, or any number
+pub record KeptView (S : Type 0) : Type 0 where
+  pub held : RtxCache SentPacket S
+  pub packets : ℕ
+  pub age : ℕ
+  pub cap : Option ℕ
+
 -- what a stream sends again as its callers see it, and the record of that
 abbrev pub RepairsView : Type 0 → Type 0
-RepairsView S = ResendView (RtxCache SentPacket S)
+RepairsView S = ResendView (KeptView S)
 
 abbrev pub RepairsRecord : Type 0
 RepairsRecord = ResendRecord SentPacket
 
-abbrev pub RepairsStandFor : {S : Type 0} → (S → Past SentPacket → Type 0) → RepairsView S → RepairsRecord → Type 0
-RepairsStandFor stands_for q r = StandsFor stands_for size_of_sent q r
+-- the hundredths of a cap, if there is one
+abbrev pub hundredths_of : Option CapRecord → Option ℕ
+hundredths_of cap = option_map (λ c. c.hundredths) cap
+
+-- what is kept was made with the limits that were set
+pub record RepairsStandFor {S : Type 0} (stands_for : S → Past SentPacket → Type 0) (q : RepairsView S) (r : RepairsRecord) : Type 0 where
+  pub state : q.state ≡ r.state
+  pub cache : CacheStandsFor stands_for size_of_sent q.cache.held r.cache
+  pub numbers : AreNumbers r.cache.events
+  pub limits : emptied r.cache ≡ made_for q.cache.packets q.cache.age
+  pub cap : hundredths_of r.state.cap ≡ q.cache.cap
+
+-- all begins anew with a first number: nothing was sent, nothing is kept and nothing asked for. The limits stay
+abbrev pub repairs_anew : ℕ → RepairsRecord → RepairsRecord
+repairs_anew first r = record {
+  state = record { resends = []; next_seq_no = first; cap = option_map (λ c. uncounted c.hundredths) r.state.cap };
+  cache = emptied r.cache;
+}
 
 -- the type of the repairs of packets of a type
 abbrev pub rtx_type_of : List (ℕ × TypeRow) → ℕ → Option ℕ

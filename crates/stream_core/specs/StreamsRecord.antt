@@ -12,11 +12,11 @@ use Rattle.stream_core.specs.declared.payload_types.TypeRow.{TypeRow}
 use Rattle.stream_core.specs.declared.stream_tx.PacketReceipt.{PacketReceipt}
 use Rattle.stream_core.specs.declared.transport.Transport.{Transport}
 use Rattle.stream_core.specs.Queue.{next_of}
-use Rattle.stream_core.specs.Repairing.{SentPacket, RepairsView, RepairsRecord, RepairsStandFor, Polls, Stays, IsUsedUp, has_asked, state_in, repairs_of, with_repairs, size_of_sent}
+use Rattle.stream_core.specs.Repairing.{SentPacket, RepairsView, RepairsRecord, RepairsStandFor, Polls, Stays, IsUsedUp, has_asked, state_in, repairs_of, with_repairs, repairs_anew, size_of_sent}
 use Rattle.stream_core.specs.RxRecord.{RxView, RxRecord, expected, fresh_number, StandsFor as RxStandsFor}
 use Rattle.stream_core.specs.RxRepairs.{own_number, fresh_repair, restored_for, restored}
-use Rattle.stream_core.specs.Tables.{place_of, value_under, with_new, without_key, without_value, change_place, change_at, Along}
-use Rattle.stream_core.specs.TxRecord.{TxRecord, declared}
+use Rattle.stream_core.specs.Tables.{place_of, value_under, with_new, without_key, without_value, change_place, change_at, rekeyed, Along}
+use Rattle.stream_core.specs.TxRecord.{TxRecord, declared, anew_under}
 
 -- the streams as their callers see them: how long nothing comes on an incoming one until it is paused, where nothing else is
 -- set; the streams, each under its SSRC, in order of declaration; under each SSRC of repairs that comes, the SSRC of the
@@ -77,6 +77,24 @@ with_stream_tx ssrc rtx mid rid r = if is_some (place_of ssrc r.tx) then r else 
   tx = with_new ssrc (declared ssrc (option_map (λ x. x.0) rtx) mid rid) r.tx;
   repairs = with_first ssrc (option_map (λ x. x.1) rtx) r.repairs;
 }
+
+-- what a stream sends again that begins anew with a first number of repairs: with the limits that it had, if it sent repairs
+abbrev pub anew_from : ℕ → Option RepairsRecord → RepairsRecord
+anew_from first None = created first
+anew_from first (Some q) = repairs_anew first q
+
+-- and that of all streams, where the stream of an SSRC begins anew under another one
+abbrev pub with_anew : (ssrc to : ℕ) → Option ℕ → List (ℕ × RepairsRecord) → List (ℕ × RepairsRecord)
+with_anew ssrc to None qs = without_key ssrc qs
+with_anew ssrc to (Some first) qs = without_key ssrc (with_new to (anew_from first (value_under ssrc qs)) qs)
+
+-- the streams after the one that sends under an SSRC began anew under another one, in its place, with another SSRC and a
+-- first number of its repairs, if it has them from then on
+abbrev pub with_reset_tx : (ssrc to : ℕ) → Option (ℕ × ℕ) → StreamsRecord → StreamsRecord
+with_reset_tx ssrc to rtx r = if is_some (place_of ssrc r.tx) then record r {
+  tx = rekeyed ssrc to (change_at ssrc (anew_under to (option_map (λ x. x.0) rtx)) r.tx);
+  repairs = with_anew ssrc to (option_map (λ x. x.1) rtx) r.repairs;
+} else r
 
 -- the number under which a datagram of this SSRC with these low 16 bits may open, where a greatest number may be remembered
 -- of the SSRC

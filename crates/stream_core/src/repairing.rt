@@ -9,13 +9,14 @@ ghost use Rattle.stream_core.specs.Sealing.{after_packet};
 
 use crate::packet::RtpPacket;
 use crate::payload_types::PayloadTypes;
+use crate::stream_repairs::StreamRepairs;
 use crate::stream_tx::{PacketReceipt, StreamTx, receipt};
 use crate::transport::Transport;
 use media_base::Instant;
 use resend_core::{Cached, ResendStore};
 use rtp_base::{Pt, SeqNo, Ssrc};
 use rtp_wire::RtpHeader;
-use rtx_core::{ResendError, ResendQueue};
+use rtx_core::ResendError;
 use std::alloc::{AllocError, Global};
 use std::marker::Model;
 
@@ -121,7 +122,7 @@ fn poll_repair<S: ResendStore<Sent>>(
     alloc: Global,
     stream: &StreamTx,
     ssrc: Ssrc,
-    repairs: &mut ResendQueue<Sent, S>,
+    repairs: &mut StreamRepairs<S>,
     now: Instant,
     transport: &Transport,
 ) -> Result<Option<PacketReceipt>, ResendError>
@@ -150,7 +151,7 @@ fn poll_repair<S: ResendStore<Sent>>(
 /// A packet is sent for the first time: it is kept to be sent again, where it may be, and else counted.
 /// Without memory nothing changes.
 fn keep<S: ResendStore<Sent>>(
-    repairs: &mut ResendQueue<Sent, S>,
+    repairs: &mut StreamRepairs<S>,
     packet: &RtpPacket,
     types: &PayloadTypes,
     now: Instant,
@@ -175,7 +176,7 @@ fn keep<S: ResendStore<Sent>>(
 fn poll_first<S: ResendStore<Sent>>(
     alloc: Global,
     stream: &mut StreamTx,
-    repairs: &mut ResendQueue<Sent, S>,
+    repairs: &mut StreamRepairs<S>,
     now: Instant,
     transport: &Transport,
     types: &PayloadTypes,
@@ -210,7 +211,7 @@ pub(crate) fn poll_both<S: ResendStore<Sent>>(
     alloc: Global,
     stream: &mut StreamTx,
     ssrc: Ssrc,
-    repairs: &mut ResendQueue<Sent, S>,
+    repairs: &mut StreamRepairs<S>,
     now: Instant,
     transport: &Transport,
     types: &PayloadTypes,

@@ -8,6 +8,7 @@ ghost use Rattle.stream_core.specs.Arrivals.{
   with_late,
   forgotten,
   no_tx_reports,
+  tx_reports_anew,
   with_write,
   with_first_of,
   with_repair,
@@ -131,6 +132,15 @@ impl TxReports {
             sealed_type: None,
             sent: Traffic::new(),
         }
+    }
+
+    /// All begins anew, but of which kind it is stays told.
+    pub(crate) fn reset(&mut self)
+        ensures { self.new ≡ tx_reports_anew self.old }
+    {
+        let is_audio = self.clock.is_audio;
+        *self = TxReports::new();
+        self.clock.is_audio = is_audio;
     }
 
     /// A packet was written with an RTP time, which its media had at a moment.

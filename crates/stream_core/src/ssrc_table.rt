@@ -1,7 +1,7 @@
 ghost use Rattle.std.specs.Prelude.{◌≡◌, ◌==◌, not, ◌<◌, ◌∷◌, ◌++◌, ℕ, [], None, Some, length, take, slice_get, IfSome, OnOk, OnErr, is_some};
 ghost use Rattle.std.specs.Map.{values_of};
 ghost use Rattle.std.specs.Map.Iter.{ShowsInOrder, deref_pair};
-ghost use Rattle.stream_core.specs.Tables.{place_of, without_key, without_value};
+ghost use Rattle.stream_core.specs.Tables.{place_of, without_key, without_value, rekey_place};
 
 use indexmap::IndexMap;
 use indexmap::map::Iter;
@@ -89,6 +89,28 @@ impl<T: Drop> SsrcTable<T> {
         let found = self.place(ssrc).is_some();
         self.streams.shift_remove(&ssrc);
         found
+    }
+
+    /// Has the stream at a place stand under another SSRC, which none has. Without memory nothing changes.
+    /// The time grows with the number of streams declared after it.
+    pub fn rename(&mut self, place: usize, ssrc: Ssrc) -> Result<(), AllocError>
+        requires place { place < length self.old }
+        requires ssrc { place_of ssrc self.old ≡ None }
+        ensures ok { OnOk result (self.new ≡ rekey_place ssrc self.old place) }
+        ensures len { OnOk result (length self.new ≡ length self.old) }
+        ensures err { OnErr result (self.new ≡ self.old) }
+    {
+        self.streams.reserve(1)?;
+        match self.streams.shift_remove_index(place) {
+            Some(entry) => {
+                let (_, stream) = entry;
+                match self.streams.shift_insert(place, ssrc, stream) {
+                    Ok(_) => Ok(()),
+                    Err(_) => unreachable!(),
+                }
+            }
+            None => unreachable!(),
+        }
     }
 
     /// Takes out all but so many from the front.

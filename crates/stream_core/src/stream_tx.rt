@@ -96,7 +96,7 @@ pub(crate) fn receipt(
 }
 
 impl StreamTx {
-    ghost use Rattle.stream_core.specs.TxRecord.{declared, written, after_timeout, after_reception, IsTooBig, IsTooLong, Fits, polled, after_poll, after_resend, transport_after_poll, IsSealable};
+    ghost use Rattle.stream_core.specs.TxRecord.{declared, written, after_timeout, after_reception, anew_under, IsTooBig, IsTooLong, Fits, polled, after_poll, after_resend, transport_after_poll, IsSealable};
     ghost use Rattle.stream_core.specs.Reporting.{rtp_clock_of, sender_info_at, tx_report_at, is_tx_report_due, tx_reported, with_kind};
 
     /// A stream of an SSRC and of that of its repairs, for a media section or one stream of it, on which
@@ -194,6 +194,18 @@ impl StreamTx {
         if self.rtx.is_none() && report.ssrc == self.ssrc {
             self.acknowledged = true;
         }
+    }
+
+    /// Begins anew under another SSRC, and another one of its repairs, if it has them from then on. What
+    /// waits is dropped, its reports begin anew, and the peer has not acknowledged the SSRC.
+    pub(crate) fn reset_ssrc(&mut self, ssrc: Ssrc, rtx: Option<Ssrc>)
+        ensures { self.new ≡ anew_under ssrc rtx self.old }
+    {
+        self.ssrc = ssrc;
+        self.rtx = rtx;
+        self.acknowledged = false;
+        self.queue.clear();
+        self.reports.reset();
     }
 
     /// Puts what a packet that is sealed at a moment says among its values.

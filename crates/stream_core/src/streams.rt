@@ -14,12 +14,15 @@ ghost use Rattle.stream_core.specs.Tables.{Along, place_of, value_under, with_ne
 ghost use Rattle.stream_core.specs.TxRecord.{TxRecord, declared, after_timeout, any_waits, IsSealable};
 
 mod feedback;
+mod in_use;
+mod resetting;
 
 use crate::payload_types::PayloadTypes;
 use crate::repairing::{Sent, poll_alone, poll_both};
 use crate::reports::Arrival;
 use crate::ssrc_table::SsrcTable;
 use crate::stream_paused::StreamPaused;
+use crate::stream_repairs::StreamRepairs;
 use crate::stream_rx::StreamRx;
 use crate::stream_tx::{PacketReceipt, StreamTx};
 use crate::transport::Transport;
@@ -28,7 +31,7 @@ use media_base::{Duration, Instant};
 use repair_core::GapWindow;
 use resend_core::ResendStore;
 use rtp_base::{MidRid, NackEntry, SeqNo, Ssrc};
-use rtx_core::{ResendError, ResendQueue};
+use rtx_core::ResendError;
 use std::alloc::{AllocError, Global};
 use std::marker::Model;
 
@@ -42,7 +45,7 @@ pub struct Streams<W: GapWindow, S: ResendStore<Sent>> {
     originals: SsrcTable<Ssrc>,
     tx: SsrcTable<StreamTx>,
     // What the streams that have repairs send again, under the SSRC of their packets.
-    repairs: SsrcTable<ResendQueue<Sent, S>>,
+    repairs: SsrcTable<StreamRepairs<S>>,
     // Where polling stands: of no incoming stream before this place anything is to be told.
     next_untold: usize,
 }
@@ -115,7 +118,7 @@ fn first_untold<W: GapWindow>(streams: &SsrcTable<StreamRx<W>>, from: usize) -> 
 /// The SSRC of a stream's repairs, and where what it sends again stands, if it has repairs.
 fn find_repairs<S: ResendStore<Sent>>(
     stream: &StreamTx,
-    repairs: &SsrcTable<ResendQueue<Sent, S>>,
+    repairs: &SsrcTable<StreamRepairs<S>>,
 ) -> Option<(Ssrc, usize)>
     ensures found { IfSome result (λ f. (stream.now.rtx ≡ Some f.0) × (place_of stream.now.ssrc repairs.now ≡ Some f.1)) }
     ensures within { IfSome result (λ f. f.1 < length repairs.now) }
@@ -256,7 +259,7 @@ impl<W: GapWindow, S: ResendStore<Sent>> Streams<W, S> {
         }
         match rtx {
             Some(start) => {
-                let repairs = ResendQueue::new(self.alloc, start.1)?;
+                let repairs = StreamRepairs::new(self.alloc, start.1)?;
                 let stream = StreamTx::new(self.alloc, ssrc, Some(start.0), mid_rid);
                 add_both(&mut self.tx, &mut self.repairs, ssrc, stream, ssrc, repairs)?;
             }
