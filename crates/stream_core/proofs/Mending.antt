@@ -68,7 +68,7 @@ module _ {S : Type 0} (stands_for : S → Past SentPacket → Type 0) where
     state = state ∙ ap (after_next now size_of_sent found) h.state;
     cache = subst (λ (c : KeptView S). CacheStandsFor stands_for size_of_sent c.held r.cache) (sym cache) h.cache;
     numbers = h.numbers;
-    limits = h.limits ∙ ap (λ (c : KeptView S). made_for c.packets c.age) (sym cache);
+    limits = h.limits ∙ ap (λ (c : KeptView S). made_for {P = SentPacket} c.packets c.age) (sym cache);
     cap = next_keeps now found r.state ∙ h.cap ∙ ap (λ (c : KeptView S). c.cap) (sym cache);
   }
 

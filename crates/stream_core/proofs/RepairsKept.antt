@@ -48,7 +48,7 @@ recap_fresh : (cap : Option ℕ) (o : Option CapRecord) → hundredths_of o ≡ 
 recap_fresh None None same = refl
 recap_fresh None (Some c) same = absurd cc
 recap_fresh (Some n) None same = absurd cc
-recap_fresh (Some n) (Some c) same = let e : c.hundredths ≡ n = cc in ap (λ m. Some (uncounted m)) (sym e)
+recap_fresh (Some n) (Some c) same = let e : c.hundredths ≡ n = cc in ap (λ (m : ℕ). Some (uncounted m)) (sym e)
 
 -- a packet that is cached leaves the limits
 caches_keep : (now : ℕ) (p : SentPacket) (r after : RepairsRecord) → Caches size_of_sent number_of_sent now p r after
@@ -63,9 +63,6 @@ abbrev pub view_of : {S : Type 0} → Queue S → ℕ → ℕ → Option ℕ →
 view_of q packets age cap = record { state = q.state; cache = record { held = q.cache; packets = packets; age = age; cap = cap } }
 
 module _ {S : Type 0} (stands_for : S → Past SentPacket → Type 0) where
-  abbrev Stands : Queue S → RepairsRecord → Type 0
-  Stands q r = StandsFor stands_for size_of_sent q r
-
   pub begun : (q : Queue S) (first packets age : ℕ) (cap : Option ℕ) → packets ≡ 2000 → age ≡ 3000000000 → cap ≡ Some 15 → StandsFor stands_for size_of_sent q (created first)
       → RepairsStandFor stands_for (view_of q packets age cap) (created first)
   begun q first packets age cap many long part h = record {

@@ -1,11 +1,11 @@
 //! What a stream sends again, with the limits of what it keeps for that.
-ghost use Rattle.std.specs.Prelude.{◌≡◌, ◌↔◌, ◌+◌, ◌<◌, ◌≤◌, ◌^◌, ◌==◌, [], length, IfOk, IfSome, OnOk, OnErr, IsErrOf};
+ghost use Rattle.std.specs.Prelude.{◌≡◌, ◌↔◌, ◌<◌, ◌≤◌, ◌^◌, ◌==◌, List, [], length, IfOk, IfSome, OnOk, OnErr, IsErrOf};
 ghost use Rattle.std.specs.Option.{option_copied, option_map};
 ghost use Rattle.resend_core.specs.ResendStore.{last_position};
 ghost use Rattle.resend_core.specs.RtxCache.{packet_at};
 ghost use Rattle.rtx_core.specs.Resends.{created, recached, after_first, Caches, numbers_of, asked_for, next_of, cap_after, after_next, number_of, IsExhausted, Asks, IsNext};
 ghost use Rattle.rtx_core.specs.declared.resend.Resend.{Resend};
-ghost use Rattle.stream_core.specs.Repairing.{SentPacket, RepairsRecord, RepairsStandFor, number_of_sent, size_of_sent, repairs_anew};
+ghost use Rattle.stream_core.specs.Repairing.{RepairsRecord, RepairsStandFor, number_of_sent, size_of_sent, repairs_anew};
 
 use crate::repairing::Sent;
 use media_base::{Duration, Instant};
