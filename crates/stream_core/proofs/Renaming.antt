@@ -1,10 +1,9 @@
 -- A value of a table comes to stand under another key.
-use Rattle.std.proofs.Common.{◌≡◌, ℕ, zero, suc, ◌+◌, ◌<◌, ◌≤◌, List, [], ◌∷◌, ◌++◌, Option, Some, None, is_some, false, length, take, drop, insert, remove, slice_get, nat_eq, position, refl, sym, ap, subst, ◌∙◌, arith}
-use Rattle.std.specs.List.{position_or_len}
+use Rattle.std.proofs.Common.{◌≡◌, ℕ, zero, suc, ◌+◌, ◌<◌, ◌≤◌, List, [], ◌∷◌, ◌++◌, Option, Some, None, is_some, false, cond, length, take, drop, insert, remove, slice_get, nat_eq, position, refl, sym, ap, subst, ◌∙◌, arith}
+use Rattle.std.specs.List.{AllByRecursion, position_or_len}
 use Rattle.std.specs.Map.{keys_of, values_of, lookup}
 use Rattle.std.specs.Option.{option_map_or}
 use Rattle.std.specs.Prelude.{IsSome}
-use Rattle.std_collections.proofs.HashLookup.{IsAbsent, lookup-IsAbsent}
 use Rattle.indexmap.specs.IndexMap.{insert_entry, move_index, set_value_at}
 use Rattle.indexmap.proofs.MapLemmas.{absent_from_lookup, insert_entry-absent, or_len-absent, some_index}
 use Rattle.indexmap.proofs.MoveLemmas.{push_moved}
@@ -14,11 +13,19 @@ none_of : {X : Type 0} (o : Option X) → is_some o ≡ false → o ≡ None
 none_of None e = refl
 none_of (Some x) e = absurd cc
 
+-- a key is not in a table
+abbrev pub IsAbsent : {X : Type 0} → ℕ → List (ℕ × X) → Type 0
+IsAbsent k es = AllByRecursion (λ (j : ℕ). nat_eq k j ≡ false) (keys_of es)
+
+lookup_absent : {X : Type 0} (k : ℕ) (es : List (ℕ × X)) → IsAbsent k es → lookup (nat_eq k) es ≡ None
+lookup_absent k [] h = refl
+lookup_absent k (e ∷ es) h = ap (λ b. cond b (Some e.1) (lookup (nat_eq k) es)) h.0 ∙ lookup_absent k es h.1
+
 -- a key that has no place is not there
-pub absent_of : {X : Type 0} (k : ℕ) (es : List (ℕ × X)) → place_of k es ≡ None → IsAbsent (nat_eq k) es
+pub absent_of : {X : Type 0} (k : ℕ) (es : List (ℕ × X)) → place_of k es ≡ None → IsAbsent k es
 absent_of k es none = absent_from_lookup (nat_eq k) es (none_of (lookup (nat_eq k) es) (sym (some_index (nat_eq k) es) ∙ ap is_some none))
 
-absent_removed : {X : Type 0} (k : ℕ) (es : List (ℕ × X)) (i : ℕ) → IsAbsent (nat_eq k) es → IsAbsent (nat_eq k) (remove es i)
+absent_removed : {X : Type 0} (k : ℕ) (es : List (ℕ × X)) (i : ℕ) → IsAbsent k es → IsAbsent k (remove es i)
 absent_removed k [] zero h = tt
 absent_removed k [] (suc i) h = tt
 absent_removed k (e ∷ es) zero h = h.1
@@ -38,7 +45,7 @@ length_removed (e ∷ es) (suc i) h = let rest = length_removed es i (omega arit
 pub moved_to : {X : Type 0} (k : ℕ) (es removed after : List (ℕ × X)) (i : ℕ) (p : ℕ × X) → place_of k es ≡ None → i < length es → Some p ≡ slice_get es i → removed ≡ remove es i
     → after ≡ move_index (insert_entry nat_eq removed k p.1) (position_or_len (nat_eq k) (keys_of removed)) i → after ≡ rekey_place k es i
 moved_to k es removed after i p none within at gone put =
-    let absent = subst (IsAbsent (nat_eq k)) (sym gone) (absent_removed k es i (absent_of k es none)) in
+    let absent = subst (IsAbsent k) (sym gone) (absent_removed k es i (absent_of k es none)) in
     let long = length_removed es i within in
     let same : length removed ≡ length (remove es i) = ap length gone in
     let le : i ≤ length removed = omega (arith, long, same, within) in
@@ -54,11 +61,11 @@ length_rekeyed k (e ∷ es) zero = refl
 length_rekeyed k (e ∷ es) (suc i) = ap suc (length_rekeyed k es i)
 
 -- the key is not among those that are left
-pub absent_left : {X : Type 0} (k : ℕ) (es removed : List (ℕ × X)) (i : ℕ) → place_of k es ≡ None → removed ≡ remove es i → IsAbsent (nat_eq k) removed
-absent_left k es removed i none gone = subst (IsAbsent (nat_eq k)) (sym gone) (absent_removed k es i (absent_of k es none))
+pub absent_left : {X : Type 0} (k : ℕ) (es removed : List (ℕ × X)) (i : ℕ) → place_of k es ≡ None → removed ≡ remove es i → IsAbsent k removed
+absent_left k es removed i none gone = subst (IsAbsent k) (sym gone) (absent_removed k es i (absent_of k es none))
 
 pub not_left : {X : Type 0} (k : ℕ) (es removed : List (ℕ × X)) (i : ℕ) → place_of k es ≡ None → removed ≡ remove es i → IsSome (lookup (nat_eq k) removed) → ⊥
-not_left k es removed i none gone has = subst (λ o. IsSome o) (lookup-IsAbsent (nat_eq k) removed (absent_left k es removed i none gone)) has
+not_left k es removed i none gone has = subst (λ o. IsSome o) (lookup_absent k removed (absent_left k es removed i none gone)) has
 
 -- there is something at a place within
 pub none_within : {X : Type 0} (es : List X) (i : ℕ) → i < length es → None ≡ slice_get es i → ⊥
