@@ -48,7 +48,8 @@ fn rename_with<A: Drop, B: Drop>(
     ensures err { OnErr result ((one.new ≡ one.old) × (other.new ≡ other.old)) }
 {
     if other.place(key).is_some() {
-        return one.rename(place, key);
+        one.rename(place, key)?;
+        return Ok(());
     }
     let len = other.len();
     other.add(key, value)?;
