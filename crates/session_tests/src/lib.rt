@@ -30,3 +30,5 @@ mod rounds;
 mod steps;
 #[cfg(test)]
 mod table;
+#[cfg(test)]
+mod times;
