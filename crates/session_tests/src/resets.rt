@@ -231,6 +231,7 @@ fn repairs_of(repairs: Repairs) -> Option<(Ssrc, SeqNo)>
 }
 
 /// The streams, what their packets share, and the moment.
+#[derive(Drop)]
 struct Side<'a> {
     alloc: Global,
     streams: &'a mut Sending,
