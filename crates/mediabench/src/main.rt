@@ -14,9 +14,11 @@ mod pacing;
 mod queues;
 mod registers;
 mod report;
+mod runs;
 mod sessions;
 mod stores;
 mod table;
+mod texts;
 mod timing;
 
 use media_base::WriterSink;

@@ -1,5 +1,5 @@
 // Rounds on sessions: one stream, the toy cipher under AEAD_AES_128_GCM, and the register with a mask.
-ghost use Rattle.std.specs.Prelude.{◌<◌, ◌≤◌, ◌^◌, length, IfOk};
+ghost use Rattle.std.specs.Prelude.{◌<◌, ◌≤◌, ◌^◌, length};
 
 use crate::memory::answer;
 use mask_register::MaskRegister;
@@ -35,19 +35,23 @@ fn mid_rid() -> Option<MidRid> {
     Some(MidRid(Mid::from_slice(b"v")?, None))
 }
 
-fn config(alloc: Global) -> Result<SessionConfig, AllocError>
-    ensures target { IfOk result (λ c. 900 ≤ c.mtu.target) }
-    ensures order { IfOk result (λ c. c.mtu.target ≤ c.mtu.warn) }
-    ensures warn { IfOk result (λ c. c.mtu.warn ≤ 1500) }
-    ensures index { IfOk result (λ c. c.srtcp_index ≤ 2 ^ 31) }
-{
+fn types(alloc: Global) -> Result<PayloadTypes, AllocError> {
     let mut types = PayloadTypes::new(alloc);
     types.add(TypeRow {
         pt: Pt::from(96),
         clock: Frequency::NINETY_KHZ,
         rtx: Some(Pt::from(97)),
     })?;
-    Ok(SessionConfig {
+    Ok(types)
+}
+
+fn config(types: PayloadTypes) -> SessionConfig
+    ensures target { 900 ≤ result.mtu.target }
+    ensures order { result.mtu.target ≤ result.mtu.warn }
+    ensures warn { result.mtu.warn ≤ 1500 }
+    ensures index { result.srtcp_index ≤ 2 ^ 31 }
+{
+    SessionConfig {
         id: 1,
         beginning: Beginning {
             unix_secs: 1_700_000_000,
@@ -65,16 +69,18 @@ fn config(alloc: Global) -> Result<SessionConfig, AllocError>
         srtcp_index: 0,
         exts: ExtensionMap::empty(),
         types,
-    })
+    }
 }
 
-// A session with a media section, without keys and streams.
-fn fresh(alloc: Global, mid: Mid) -> Result<End, AllocError> {
-    let config = config(alloc)?;
+// A session without media sections, keys and streams.
+fn fresh(alloc: Global) -> Result<End, AllocError> {
+    let types = types(alloc)?;
+    Ok(End::new(alloc, config(types)))
+}
+
+fn add_media(alloc: Global, session: &mut End, mid: Mid) -> Result<(), AllocError> {
     let cname = Bytes::from_slice(alloc, b"cam")?;
-    let mut session = End::new(alloc, config);
-    answer(session.add_media(Media::new(mid, MediaKind::Video, cname)))?;
-    Ok(session)
+    answer(session.add_media(Media::new(mid, MediaKind::Video, cname)))
 }
 
 fn give_keys(alloc: Global, session: &mut End, left: bool) -> Result<(), AllocError> {
@@ -107,18 +113,25 @@ fn declare_repaired(
     streams.set_rtx_cache(ssrc, 2_000, Duration::from_secs(3), None)
 }
 
-fn sender(alloc: Global, at: MidRid) -> Result<End, AllocError> {
-    let mut session = fresh(alloc, at.0)?;
-    give_keys(alloc, &mut session, true)?;
-    declare(session.streams(), at)?;
-    Ok(session)
+// Gives a session a media section and keys.
+fn set_up(alloc: Global, session: &mut End, mid: Mid, left: bool) -> Result<(), AllocError> {
+    add_media(alloc, session, mid)?;
+    give_keys(alloc, session, left)
 }
 
-fn receiver(alloc: Global, at: MidRid) -> Result<End, AllocError> {
-    let mut session = fresh(alloc, at.0)?;
-    give_keys(alloc, &mut session, false)?;
-    expect(session.streams(), at)?;
-    Ok(session)
+fn set_up_sender(alloc: Global, session: &mut End, at: MidRid) -> Result<(), AllocError> {
+    set_up(alloc, session, at.0, true)?;
+    declare(session.streams(), at)
+}
+
+fn set_up_receiver(alloc: Global, session: &mut End, at: MidRid) -> Result<(), AllocError> {
+    set_up(alloc, session, at.0, false)?;
+    expect(session.streams(), at)
+}
+
+fn set_up_repairer(alloc: Global, session: &mut End, at: MidRid) -> Result<(), AllocError> {
+    set_up(alloc, session, at.0, true)?;
+    declare_repaired(session.streams(), at)
 }
 
 // Writes a packet on the first stream.
@@ -138,34 +151,37 @@ fn packet(number: u64, now: Instant, payload: Payload) -> RtpWrite {
     RtpWrite::new(Pt::from(96), seq, 0, now, payload).nackable(true)
 }
 
-// Ticks, and takes what leaves.
-fn leave(session: &mut End, now: Instant) -> Result<Vec<Datagram>, AllocError> {
-    answer(session.handle_timeout(now))?;
+// The moment of the packet of a number.
+fn moment(number: u64) -> Instant {
+    Instant::from_nanos(number.wrapping_mul(1_000).max(1))
+}
+
+// Writes a packet of these bytes.
+fn write_next(
+    alloc: Global,
+    session: &mut End,
+    number: u64,
+    bytes: &[u8],
+) -> Result<(), AllocError> {
+    let payload = Payload::from_slice(alloc, bytes)?;
+    write_first(session.streams(), packet(number, moment(number), payload))
+}
+
+// Takes what leaves.
+fn drain(session: &mut End, now: Instant) -> Result<Vec<Datagram>, AllocError> {
     let drained = answer(session.drain(now))?;
     Ok(drained.datagrams)
 }
 
-// Writes a packet of these bytes, ticks, and takes what leaves.
-fn send_next(
-    alloc: Global,
-    session: &mut End,
-    number: u64,
-    bytes: &[u8],
-) -> Result<Vec<Datagram>, AllocError> {
-    let now = Instant::from_nanos(number.wrapping_mul(1_000).max(1));
-    let payload = Payload::from_slice(alloc, bytes)?;
-    write_first(session.streams(), packet(number, now, payload))?;
-    leave(session, now)
+// Ticks, and takes what leaves.
+fn leave(session: &mut End, now: Instant) -> Result<Vec<Datagram>, AllocError> {
+    answer(session.handle_timeout(now))?;
+    drain(session, now)
 }
 
 // The same; tells how many datagrams left.
-fn send_one(
-    alloc: Global,
-    session: &mut End,
-    number: u64,
-    bytes: &[u8],
-) -> Result<u64, AllocError> {
-    let datagrams = send_next(alloc, session, number, bytes)?;
+fn count_leaving(session: &mut End, now: Instant) -> Result<u64, AllocError> {
+    let datagrams = leave(session, now)?;
     Ok(datagrams.len() as u64)
 }
 
@@ -173,15 +189,31 @@ fn send_one(
 fn send_all(alloc: Global, session: &mut End, bytes: &[u8], count: u64) -> Result<u64, AllocError> {
     let mut sent: u64 = 0;
     for i in 0..count {
-        sent = sent.wrapping_add(send_one(alloc, session, i, bytes)?);
+        write_next(alloc, session, i, bytes)?;
+        sent = sent.wrapping_add(count_leaving(session, moment(i))?);
     }
     Ok(sent)
 }
 
-fn send(alloc: Global, at: MidRid, size: usize, count: u64) -> Result<u64, AllocError> {
-    let mut session = sender(alloc, at)?;
-    let bytes = vec![in alloc; 7; size]?;
-    send_all(alloc, &mut session, &bytes, count)
+fn send_by(
+    alloc: Global,
+    session: &mut End,
+    at: MidRid,
+    bytes: &[u8],
+    count: u64,
+) -> Result<u64, AllocError> {
+    set_up_sender(alloc, session, at)?;
+    send_all(alloc, session, bytes, count)
+}
+
+fn send(alloc: Global, at: MidRid, bytes: &[u8], count: u64) -> Result<u64, AllocError> {
+    let mut session = fresh(alloc)?;
+    send_by(alloc, &mut session, at, bytes, count)
+}
+
+// The last of some datagrams.
+fn last(mut datagrams: Vec<Datagram>) -> Option<Datagram> {
+    datagrams.pop()
 }
 
 // Sends a packet, and puts the last datagram that leaves behind those before.
@@ -192,58 +224,95 @@ fn seal_one(
     bytes: &[u8],
     all: &mut Vec<Datagram>,
 ) -> Result<(), AllocError> {
-    let mut datagrams = send_next(alloc, session, number, bytes)?;
-    if let Some(datagram) = datagrams.pop() {
+    write_next(alloc, session, number, bytes)?;
+    if let Some(datagram) = last(leave(session, moment(number))?) {
         all.push(datagram)?;
     }
     Ok(())
 }
 
-fn seal_all(alloc: Global, session: &mut End, bytes: &[u8]) -> Result<Vec<Datagram>, AllocError> {
-    let mut all = Vec::new(alloc);
+// Puts the datagrams of the first numbers behind those before.
+fn seal_by(
+    alloc: Global,
+    session: &mut End,
+    at: MidRid,
+    bytes: &[u8],
+    all: &mut Vec<Datagram>,
+) -> Result<(), AllocError> {
+    set_up_sender(alloc, session, at)?;
     for i in 0..SEALED {
-        seal_one(alloc, session, i, bytes, &mut all)?;
+        seal_one(alloc, session, i, bytes, all)?;
     }
-    Ok(all)
+    Ok(())
 }
 
-// Datagrams of the first numbers.
-fn datagrams(alloc: Global, at: MidRid, size: usize) -> Result<Vec<Datagram>, AllocError> {
-    let mut session = sender(alloc, at)?;
-    let bytes = vec![in alloc; 7; size]?;
-    seal_all(alloc, &mut session, &bytes)
+fn seal(
+    alloc: Global,
+    at: MidRid,
+    bytes: &[u8],
+    all: &mut Vec<Datagram>,
+) -> Result<(), AllocError> {
+    let mut session = fresh(alloc)?;
+    seal_by(alloc, &mut session, at, bytes, all)
 }
 
-// A datagram comes, and what it opened to is taken; tells whether it opened.
-fn receive_next(session: &mut End, bytes: &[u8]) -> Result<bool, AllocError> {
+// Takes a datagram in; tells whether it opened.
+fn open(session: &mut End, bytes: &[u8]) -> Result<bool, AllocError> {
     let opened = answer(session.handle_rtp_receive(Instant::from_nanos(1), bytes))?;
-    let drained = answer(session.drain(Instant::from_nanos(1)))?;
-    Ok(opened.is_some() && !drained.events.is_empty())
+    Ok(opened.is_some())
 }
 
-// The datagrams come; tells how many opened.
-fn receive_each(session: &mut End, datagrams: &[Datagram]) -> Result<u64, AllocError> {
+// Takes what a session tells; tells whether that is anything.
+fn hear(session: &mut End) -> Result<bool, AllocError> {
+    let drained = answer(session.drain(Instant::from_nanos(1)))?;
+    Ok(!drained.events.is_empty())
+}
+
+// The datagrams come, and what each opened to is taken; tells how many opened.
+fn receive_by(
+    alloc: Global,
+    session: &mut End,
+    at: MidRid,
+    datagrams: &[Datagram],
+) -> Result<u64, AllocError> {
+    set_up_receiver(alloc, session, at)?;
     let mut opened: u64 = 0;
     for datagram in datagrams {
-        let next = receive_next(session, datagram.bytes.as_slice())?;
-        opened = opened.wrapping_add(u64::from(next));
+        let opens = open(session, datagram.bytes.as_slice())?;
+        let tells = hear(session)?;
+        opened = opened.wrapping_add(u64::from(opens && tells));
     }
     Ok(opened)
 }
 
-// The datagrams come to a new session; tells how many opened.
-fn receive_all(alloc: Global, at: MidRid, datagrams: &[Datagram]) -> Result<u64, AllocError> {
-    let mut session = receiver(alloc, at)?;
-    receive_each(&mut session, datagrams)
+fn receive_once(alloc: Global, at: MidRid, datagrams: &[Datagram]) -> Result<u64, AllocError> {
+    let mut session = fresh(alloc)?;
+    receive_by(alloc, &mut session, at, datagrams)
 }
 
-fn receive(alloc: Global, at: MidRid, size: usize, count: u64) -> Result<u64, AllocError> {
-    let datagrams = datagrams(alloc, at, size)?;
+// The datagrams come to several sessions; tells how many opened.
+fn receive_all(
+    alloc: Global,
+    at: MidRid,
+    datagrams: &[Datagram],
+    count: u64,
+) -> Result<u64, AllocError> {
     let mut opened: u64 = 0;
     for _i in 0..count / SEALED {
-        opened = opened.wrapping_add(receive_all(alloc, at, &datagrams)?);
+        opened = opened.wrapping_add(receive_once(alloc, at, datagrams)?);
     }
     Ok(opened)
+}
+
+fn sealed(alloc: Global, at: MidRid, bytes: &[u8]) -> Result<Vec<Datagram>, AllocError> {
+    let mut datagrams = Vec::new(alloc);
+    seal(alloc, at, bytes, &mut datagrams)?;
+    Ok(datagrams)
+}
+
+fn receive(alloc: Global, at: MidRid, bytes: &[u8], count: u64) -> Result<u64, AllocError> {
+    let datagrams = sealed(alloc, at, bytes)?;
+    receive_all(alloc, at, &datagrams, count)
 }
 
 // The packet of number 0 is asked for.
@@ -255,40 +324,57 @@ fn ask(
     streams.handle_nack(Ssrc::from(42), &[entry], now)
 }
 
-// Asks, ticks, and takes what leaves; tells how many datagrams left.
-fn repair_one(session: &mut End, number: u64) -> Result<u64, AllocError> {
-    let now = Instant::from_nanos(number.wrapping_mul(1_000).max(1));
-    ask(session.streams(), now)?;
-    let datagrams = leave(session, now)?;
-    Ok(datagrams.len() as u64)
-}
-
 // Asks so often for the packet; tells how many datagrams left.
 fn repair_all(session: &mut End, count: u64) -> Result<u64, AllocError> {
     let mut sent: u64 = 0;
     for i in 0..count {
-        sent = sent.wrapping_add(repair_one(session, i)?);
+        ask(session.streams(), moment(i))?;
+        sent = sent.wrapping_add(count_leaving(session, moment(i))?);
     }
     Ok(sent)
 }
 
-fn repair(alloc: Global, at: MidRid, size: usize, count: u64) -> Result<u64, AllocError> {
-    let mut session = fresh(alloc, at.0)?;
-    give_keys(alloc, &mut session, true)?;
-    declare_repaired(session.streams(), at)?;
-    let bytes = vec![in alloc; 7; size]?;
-    send_one(alloc, &mut session, 0, &bytes)?;
-    repair_all(&mut session, count)
+fn repair_by(
+    alloc: Global,
+    session: &mut End,
+    at: MidRid,
+    bytes: &[u8],
+    count: u64,
+) -> Result<u64, AllocError> {
+    set_up_repairer(alloc, session, at)?;
+    write_next(alloc, session, 0, bytes)?;
+    count_leaving(session, moment(0))?;
+    repair_all(session, count)
+}
+
+fn repair(alloc: Global, at: MidRid, bytes: &[u8], count: u64) -> Result<u64, AllocError> {
+    let mut session = fresh(alloc)?;
+    repair_by(alloc, &mut session, at, bytes, count)
+}
+
+// Does it so often with these bytes.
+fn play_on(alloc: Global, work: SessionWork, bytes: &[u8], count: u64) -> Result<u64, AllocError> {
+    match (work, mid_rid()) {
+        (SessionWork::Send(_), Some(at)) => send(alloc, at, bytes, count),
+        (SessionWork::Receive(_), Some(at)) => receive(alloc, at, bytes, count),
+        (SessionWork::Repair(_), Some(at)) => repair(alloc, at, bytes, count),
+        (_, None) => Ok(0),
+    }
 }
 
 impl SessionWork {
+    // The bytes of a payload.
+    fn size(self) -> usize {
+        match self {
+            SessionWork::Send(size) | SessionWork::Receive(size) | SessionWork::Repair(size) => {
+                size
+            }
+        }
+    }
+
     /// Does it so often.
     pub fn play(self, alloc: Global, count: u64) -> Result<u64, AllocError> {
-        match (self, mid_rid()) {
-            (SessionWork::Send(size), Some(at)) => send(alloc, at, size, count),
-            (SessionWork::Receive(size), Some(at)) => receive(alloc, at, size, count),
-            (SessionWork::Repair(size), Some(at)) => repair(alloc, at, size, count),
-            (_, None) => Ok(0),
-        }
+        let bytes = vec![in alloc; 7; self.size()]?;
+        play_on(alloc, self, &bytes, count)
     }
 }

@@ -6,8 +6,10 @@ use crate::headers::HeaderWork;
 use crate::pacing::PacerWork;
 use crate::queues;
 use crate::registers::{Numbers, RegisterWork};
+use crate::runs::RunWork;
 use crate::sessions::SessionWork;
 use crate::stores::{CacheWork, Packet, StoreWork};
+use crate::texts::TextWork;
 use mask_register::MaskRegister;
 use queue_store::QueueStore;
 use repair_core::NackRegister;
@@ -43,6 +45,10 @@ pub enum Work {
     Waiting,
     /// Calls of sessions.
     Session(SessionWork),
+    /// Scripts read, and lines of transcripts made.
+    Text(TextWork),
+    /// Runs of two sessions.
+    Run(RunWork),
 }
 
 impl Work {
@@ -63,6 +69,8 @@ impl Work {
             Work::Rtcp(work) => work.play(alloc, count),
             Work::Waiting => queues::pass_all(alloc, count),
             Work::Session(work) => work.play(alloc, count),
+            Work::Text(work) => work.play(alloc, count),
+            Work::Run(work) => work.play(alloc, count),
         }
     }
 }
@@ -79,7 +87,7 @@ pub struct Row {
 }
 
 /// The rows, in the order in which they are timed.
-pub const ROWS: [Row; 61] = [
+pub const ROWS: [Row; 71] = [
     Row {
         name: "take-in-order-slots",
         work: Work::Slots(RegisterWork::Take(Numbers::InOrder)),
@@ -384,5 +392,55 @@ pub const ROWS: [Row; 61] = [
         name: "session-repair-1200",
         work: Work::Session(SessionWork::Repair(1_200)),
         count: 50_000,
+    },
+    Row {
+        name: "script-read-2480",
+        work: Work::Text(TextWork::Read(2_480)),
+        count: 20_000,
+    },
+    Row {
+        name: "transcript-text-1200",
+        work: Work::Text(TextWork::Write(1_200)),
+        count: 50_000,
+    },
+    Row {
+        name: "run-write-4",
+        work: Work::Run(RunWork::Write(4)),
+        count: 10_000,
+    },
+    Row {
+        name: "run-write-1200",
+        work: Work::Run(RunWork::Write(1_200)),
+        count: 10_000,
+    },
+    Row {
+        name: "run-play-4",
+        work: Work::Run(RunWork::Play(4)),
+        count: 10_000,
+    },
+    Row {
+        name: "run-play-1200",
+        work: Work::Run(RunWork::Play(1_200)),
+        count: 10_000,
+    },
+    Row {
+        name: "run-repair-4",
+        work: Work::Run(RunWork::Repair(4)),
+        count: 10_000,
+    },
+    Row {
+        name: "run-repair-1200",
+        work: Work::Run(RunWork::Repair(1_200)),
+        count: 10_000,
+    },
+    Row {
+        name: "run-widen-4",
+        work: Work::Run(RunWork::Widen(4)),
+        count: 1_447_500,
+    },
+    Row {
+        name: "run-widen-1200",
+        work: Work::Run(RunWork::Widen(1_200)),
+        count: 1_447_500,
     },
 ];
