@@ -3,20 +3,10 @@
 #![tactic(auto)]
 
 mod bench_main;
-mod ciphers;
 mod command;
-mod compounds;
 mod error;
-mod feedback;
-mod headers;
-mod memory;
-mod pacing;
-mod queues;
-mod registers;
 mod report;
 mod runs;
-mod sessions;
-mod stores;
 mod table;
 mod texts;
 mod timing;

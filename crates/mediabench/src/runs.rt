@@ -1,6 +1,6 @@
 // Rounds on runs: one stream with repairs, which keeps 2,000 packets, and the toy cipher under
 // AEAD_AES_128_GCM.
-use crate::memory::answer;
+use bench_rounds::answer;
 use media_base::{Bytes, Instant};
 use media_model::{Setup, Side, Sources, Step, Transcript, Write};
 use media_play::media_run;

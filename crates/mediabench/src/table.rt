@@ -1,15 +1,15 @@
 // The table of rows.
-use crate::ciphers::CipherWork;
-use crate::compounds::CompoundWork;
-use crate::feedback::FeedbackWork;
-use crate::headers::HeaderWork;
-use crate::pacing::PacerWork;
-use crate::queues;
-use crate::registers::{Numbers, RegisterWork};
 use crate::runs::RunWork;
-use crate::sessions::SessionWork;
-use crate::stores::{CacheWork, Packet, StoreWork};
 use crate::texts::TextWork;
+use bench_rounds::ciphers::CipherWork;
+use bench_rounds::compounds::CompoundWork;
+use bench_rounds::feedback::FeedbackWork;
+use bench_rounds::headers::HeaderWork;
+use bench_rounds::pacing::PacerWork;
+use bench_rounds::registers::{Numbers, RegisterWork};
+use bench_rounds::stores::{CacheWork, Packet, StoreWork};
+use bench_sessions::queues;
+use bench_sessions::sessions::SessionWork;
 use mask_register::MaskRegister;
 use queue_store::QueueStore;
 use repair_core::NackRegister;

@@ -1,5 +1,5 @@
 // Rounds on scripts and on the text of transcripts.
-use crate::memory::answer;
+use bench_rounds::answer;
 use media_base::Bytes;
 use media_model::{Entry, Kind, Sealed, Side};
 use media_script::{put_line, read_script};

@@ -1,4 +1,4 @@
-// Rounds on the stores of sent packets.
+//! Rounds on the stores of sent packets.
 ghost use Rattle.std.specs.Prelude.{◌<◌};
 
 use media_base::{Duration, Instant};

@@ -1,4 +1,4 @@
-// Rounds on the queue of packets that wait to be sealed.
+//! Rounds on the queue of packets that wait to be sealed.
 use media_base::Instant;
 use rtp_base::{Frequency, MediaTime, SeqNo};
 use rtp_wire::{ExtensionMap, RtpHeader};

@@ -1,7 +1,7 @@
-// Rounds on sessions: one stream, the toy cipher under AEAD_AES_128_GCM, and the register with a mask.
+//! Rounds on sessions: one stream, the toy cipher under AEAD_AES_128_GCM, and the register with a mask.
 ghost use Rattle.std.specs.Prelude.{◌<◌, ◌≤◌, ◌^◌, length};
 
-use crate::memory::answer;
+use bench_rounds::answer;
 use mask_register::MaskRegister;
 use media_base::{Beginning, Bytes, Duration, Instant};
 use queue_store::QueueStore;

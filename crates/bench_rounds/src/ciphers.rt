@@ -1,4 +1,4 @@
-// Rounds on the toy cipher, under AEAD_AES_128_GCM.
+//! Rounds on the toy cipher, under AEAD_AES_128_GCM.
 use crate::memory::answer;
 use rtp_wire::{ExtensionMap, RtpHeader};
 use srtp_core::{KeyingMaterial, SrtpContext, SrtpProfile, ToyCipher};

@@ -1,4 +1,4 @@
-// Rounds on the pacers.
+//! Rounds on the pacers.
 use media_base::{Bitrate, DataSize, Duration, Instant};
 use pace_core::{LeakyBucketPacer, NullPacer, Pacer};
 use pace_units::{QueuePriority, QueueSnapshot, QueueState};

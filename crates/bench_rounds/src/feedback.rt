@@ -1,4 +1,4 @@
-// Rounds on transport-wide feedback.
+//! Rounds on transport-wide feedback.
 use media_base::{DataSize, Instant};
 use rtp_base::{SeqNo, Ssrc, TwccPacketId};
 use std::alloc::{AllocError, Global};

@@ -1,4 +1,4 @@
-// Rounds on the registers of received numbers.
+//! Rounds on the registers of received numbers.
 ghost use Rattle.std.specs.Prelude.{◌<◌, ◌^◌};
 
 use media_base::Instant;

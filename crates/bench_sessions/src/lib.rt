@@ -1,0 +1,5 @@
+//! Rounds of the benchmark on sessions, and on the queue of packets that wait to be sealed.
+#![tactic(auto)]
+
+pub mod queues;
+pub mod sessions;
