@@ -6,12 +6,41 @@ use queue_store::QueueStore;
 use rtp_base::{Frequency, Mid, MidRid, Pt, Rid, Ssrc};
 use rtp_wire::ExtensionMap;
 use session_core::{Media, MediaKind, Mtu, ReportIntervals, RtcError, Session, SessionConfig};
-use srtp_core::{KeyingMaterial, SrtpProfile, ToyCipher};
-use std::alloc::Global;
+use srtp_core::{KeyingMaterial, SrtpError, SrtpProfile, ToyCipher};
+use std::alloc::{AllocError, Global};
 use stream_core::{PayloadTypes, Sent, TypeRow};
 
 /// One end with the toy cipher.
 pub type End = Session<ToyCipher, MaskRegister, QueueStore<Sent>>;
+
+/// Why something is not made, or a call gives nothing.
+#[derive(Clone, Copy, Debug, PartialEq, Eq)]
+pub enum Fault {
+    /// There is no memory left.
+    Memory,
+    /// What seals the datagrams of a peer gives nothing.
+    Seal(SrtpError),
+    /// A session gives nothing.
+    Session(RtcError),
+}
+
+impl From<AllocError> for Fault {
+    fn from(_: AllocError) -> Self {
+        Fault::Memory
+    }
+}
+
+impl From<SrtpError> for Fault {
+    fn from(error: SrtpError) -> Self {
+        Fault::Seal(error)
+    }
+}
+
+impl From<RtcError> for Fault {
+    fn from(error: RtcError) -> Self {
+        Fault::Session(error)
+    }
+}
 
 /// The moment of all calls: one second and a half after the beginning.
 pub fn moment() -> Instant {
