@@ -107,9 +107,10 @@ impl MappedStreams {
         rules::map(self.all.as_slice(), rids, types, header)
     }
 
-    /// Has the packets of a stream come under another SSRC.
+    /// Has the packets of a stream come under another SSRC, unless that is the one that they had right
+    /// before, or packets of some stream come under it. The time grows with the number of streams.
     #[tactic(auto, using(crate::proofs::GoingOn::go_on_with_main))]
-    fn change_main(&mut self, change: MainChange)
+    pub fn change_main(&mut self, change: MainChange)
         ensures changed { self.new ≡ with_main change self.old }
         ensures go_on { GoOn self.old self.new }
     {
@@ -121,9 +122,9 @@ impl MappedStreams {
         }
     }
 
-    /// Has the repairs of a stream come under an SSRC.
+    /// Has the repairs of a stream come under an SSRC. The time grows with the number of streams.
     #[tactic(auto, using(crate::proofs::GoingOn::go_on_with_repairs))]
-    fn change_repairs(&mut self, change: RepairsChange)
+    pub fn change_repairs(&mut self, change: RepairsChange)
         ensures changed { self.new ≡ with_repairs change self.old }
         ensures go_on { GoOn self.old self.new }
     {

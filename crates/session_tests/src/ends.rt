@@ -60,6 +60,7 @@ pub fn config(
         pt: Pt::from(96),
         clock: Frequency::NINETY_KHZ,
         rtx: Some(Pt::from(97)),
+        red: None,
     })?;
     Ok(SessionConfig {
         id: 1,

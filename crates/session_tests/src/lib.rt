@@ -13,6 +13,8 @@ mod feedback;
 #[cfg(test)]
 mod leaving;
 #[cfg(test)]
+mod mapped;
+#[cfg(test)]
 mod packets;
 #[cfg(test)]
 mod repairs;

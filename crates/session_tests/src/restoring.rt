@@ -362,6 +362,7 @@ fn row(pt: u8, rtx: Option<u8>) -> TypeRow {
         pt: Pt::from(pt),
         clock: Frequency::SECONDS,
         rtx,
+        red: None,
     }
 }
 

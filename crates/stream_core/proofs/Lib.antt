@@ -1,12 +1,14 @@
 pub mod Accepting
 pub mod Alongside
 pub mod Any
+pub mod Claims
 pub mod Fronts
 pub mod Mending
 pub mod Places
 pub mod PollSteps
 pub mod Polling
 pub mod Primaries
+pub mod Renaming
 pub mod RepairSteps
 pub mod RxSteps
 pub mod Stamps

@@ -101,7 +101,7 @@ module _ {W S : Type 0} (remembers : W → Heard → Type 0) (stands_for : S →
         let m = mine r h in
         record {
           threshold = m.threshold;
-          originals = m.originals;
+          known = m.known;
           rx = m.rx;
           tx = m.tx;
           repairs = change_at_along (RepairsStandFor stands_for) inside.repairs r.repairs ssrc i x y f m.repairs place at step;
@@ -128,7 +128,7 @@ module _ {W S : Type 0} (remembers : W → Heard → Type 0) (stands_for : S →
       → StandsFor remembers stands_for s (record r { repairs = change_at ssrc f r.repairs })
   nothing_changed ssrc f none r h = record {
     threshold = h.threshold;
-    originals = h.originals;
+    known = h.known;
     rx = h.rx;
     tx = h.tx;
     repairs = change_at_none (RepairsStandFor stands_for) s.repairs r.repairs ssrc f h.repairs (ap (λ (v : StreamsView W S). place_of ssrc v.repairs) (sym view) ∙ none);
@@ -175,7 +175,7 @@ tx_new remembers stands_for s inside view ssrc rtx mid rid q tx repairs absent s
     let to : StreamsRecord = record r { tx = with_new ssrc new r.tx; repairs = with_new ssrc (created rtx.1) r.repairs } in
     subst (λ x. StandsFor remembers stands_for (record inside { tx = tx; repairs = repairs }) x) (sym (ap (λ b. if b then r else to) none)) (record {
       threshold = m.threshold;
-      originals = m.originals;
+      known = m.known;
       rx = m.rx;
       tx = put ∙ ap (λ (l : List (ℕ × TxRecord)). l ++ (ssrc, new) ∷ []) m.tx ∙ sym (with_new_absent ssrc new r.tx none);
       repairs = subst (λ l. Along (RepairsStandFor stands_for) l (with_new ssrc (created rtx.1) r.repairs)) (sym queued)

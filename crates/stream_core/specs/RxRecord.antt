@@ -103,6 +103,18 @@ opened_as remembered a n r = record r { state = came_at a n r.state; numbers = S
 abbrev pub restarted : ℕ → RxRecord → RxRecord
 restarted roc r = record { state = record r.state { roc = Some roc; reports = forgotten r.state.reports }; numbers = None; repairs = None }
 
+-- the packets of a stream come under another SSRC: what was taken of them, how they came, what their sender reported and what it
+-- is asked are forgotten, and the next report is due as that of a stream that never reported; what was taken of repairs stays
+abbrev pub moved_to : ℕ → RxRecord → RxRecord
+moved_to ssrc r = record r {
+  state = record r.state { ssrc = ssrc; roc = None; reports = no_rx_reports; requests = no_requests };
+  numbers = None;
+}
+
+-- the repairs of a stream come under another SSRC, or for the first time under one: what was taken of them is forgotten
+abbrev pub repaired_under : ℕ → RxRecord → RxRecord
+repaired_under rtx r = record r { state = record r.state { rtx = Some rtx }; repairs = None }
+
 -- there is a window exactly where the record says so, and it remembers what it was told
 abbrev pub Remembers : {W : Type 0} → (W → Heard → Type 0) → Option W → Option Heard → Type 0
 Remembers remembers None None = Unit {0}

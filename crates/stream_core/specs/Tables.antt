@@ -44,3 +44,9 @@ Under R a b = (a.0 ≡ b.0) × R a.1 b.1
 
 abbrev pub Along : {A B : Type 0} → (A → B → Type 0) → List (ℕ × A) → List (ℕ × B) → Type 0
 Along R xs ys = AllZip (Under R) xs ys
+
+-- the key at a place becomes another one
+abbrev pub renamed : {X : Type 0} → ℕ → List (ℕ × X) → ℕ → List (ℕ × X)
+renamed k [] i = []
+renamed k (e ∷ es) zero = (k, e.1) ∷ es
+renamed k (e ∷ es) (suc i) = e ∷ renamed k es i

@@ -10,7 +10,7 @@ ghost use Rattle.report_core.specs.Receiver.{receiver_report_of};
 ghost use Rattle.stream_core.specs.Reporting.{report_at, is_report_due, block_at, greatest_in, reported, with_told, front_count, with_news};
 ghost use Rattle.stream_core.specs.Requests.{is_request, request_count, request_items, with_keyframe, with_bitrate};
 ghost use Rattle.repair_core.specs.Counts.{counts_report, counts_after};
-ghost use Rattle.stream_core.specs.RxRecord.{RxRecord, StandsFor, expected, taken_of, number_for, fresh_number, unpaused, came_at, opened_as, restarted};
+ghost use Rattle.stream_core.specs.RxRecord.{RxRecord, StandsFor, expected, taken_of, number_for, fresh_number, unpaused, came_at, opened_as, restarted, moved_to, repaired_under};
 ghost use Rattle.stream_core.specs.RxRepairs.{own_number, fresh_repair, repair_came, restored_for, restored, with_number, after_restored};
 
 use crate::reports::{Arrival, RxReports};
@@ -113,6 +113,49 @@ fn is_above(remembered: Option<SeqNo>, number: SeqNo) -> bool
     match remembered {
         Some(greatest) => greatest < number,
         None => true,
+    }
+}
+
+/// The number with these low 16 bits under which the first datagram of a stream may open that is no repair,
+/// None where so great a number is remembered of its SSRC.
+pub fn first_number(low: u16, remembered: Option<SeqNo>) -> Option<SeqNo>
+    requires { ForSome remembered (λ n. n < 2 ^ 48) }
+    ensures fresh { (r : RxRecord) → r.numbers ≡ None → r.state.roc ≡ None → result ≡ fresh_number remembered r low }
+    ensures small { IfSome result (λ n. n < 2 ^ 48) }
+    ensures low { IfSome result (λ n. n % 65536 ≡ low) }
+{
+    let number = SeqNo::from(widen16(number_of(remembered), low));
+    if is_above(remembered, number) {
+        Some(number)
+    } else {
+        None
+    }
+}
+
+/// The own number of the first repair of a stream with these low 16 bits, where `seen` is the greatest
+/// number that was seen on the SSRC of its datagram, below 2^48.
+pub fn first_repair_number(low: u16, seen: Option<SeqNo>) -> SeqNo
+    requires { ForSome seen (λ n. n < 2 ^ 48) }
+    ensures number { (r : RxRecord) → r.repairs ≡ None → result ≡ own_number seen r low }
+    ensures small { result < 2 ^ 48 }
+    ensures low { result % 65536 ≡ low }
+{
+    RepairWindow::new().number_for(low, seen)
+}
+
+/// The own number under which the first repair of a stream with these low 16 bits may open.
+pub fn first_repair(low: u16, seen: Option<SeqNo>) -> Option<SeqNo>
+    requires { ForSome seen (λ n. n < 2 ^ 48) }
+    ensures fresh { (r : RxRecord) → r.repairs ≡ None → result ≡ fresh_repair seen r low }
+    ensures small { IfSome result (λ n. n < 2 ^ 48) }
+    ensures low { IfSome result (λ n. n % 65536 ≡ low) }
+{
+    let before = &seen;
+    let number = first_repair_number(low, *before);
+    if RepairWindow::new().accepts(number, *before) {
+        Some(number)
+    } else {
+        None
     }
 }
 
@@ -377,6 +420,29 @@ impl<W: GapWindow> StreamRx<W> {
         self.repairs = RepairWindow::new();
         self.roc = Some(roc);
         self.reports.forget();
+    }
+
+    /// Its packets come under another SSRC. What was taken of them and how they came, a rollover count that
+    /// was set, what its sender reported and what it is asked are forgotten, its next full intra request has
+    /// the number 0, and its next report is due as that of a stream that never reported. What was taken of
+    /// its repairs stays.
+    pub fn change_ssrc(&mut self, ssrc: Ssrc)
+        ensures { (r : RxRecord) → StandsFor W.remembers self.old r → StandsFor W.remembers self.new (moved_to ssrc r) }
+    {
+        self.ssrc = ssrc;
+        self.roc = None;
+        self.reports = RxReports::new();
+        self.requests = RxRequests::new();
+        self.window = None;
+    }
+
+    /// Its repairs come under another SSRC, or for the first time under one. What was taken of them is
+    /// forgotten.
+    pub fn change_rtx(&mut self, rtx: Ssrc)
+        ensures { (r : RxRecord) → StandsFor W.remembers self.old r → StandsFor W.remembers self.new (repaired_under rtx r) }
+    {
+        self.rtx = Some(rtx);
+        self.repairs = RepairWindow::new();
     }
 
     /// Sets how long nothing comes on the stream until it is paused, from the next datagram on.

@@ -9,3 +9,4 @@ pub mod Session
 pub mod Opening
 pub mod Turning
 pub mod Turns
+pub mod Unmapped

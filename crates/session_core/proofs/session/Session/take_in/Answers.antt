@@ -1,0 +1,58 @@
+use Rattle.std.proofs.Common.{◌≡◌, ℕ, false, true, List, Option, Some, None, Ok, Err, is_none, drop, length, nat_eq, position, refl, sym, ap, subst, ◌∙◌, arith}
+use Rattle.std.specs.Prelude.{◌==◌, Result, OnOk, IfSome}
+use Rattle.std.specs.Option.{option_map}
+use Rattle.stream_core.specs.Tables.{place_of}
+use Rattle.session_core.specs.Receiving.{cut, after_repair, after_restoring, after_repaired}
+use Rattle.session_core.specs.Repairs.{repaired_by, original_number}
+use Rattle.session_core.specs.SessionRecord.{streams_in, SessionState, SessionRecord, SessionView, StandsFor}
+use Rattle.session_core.proofs.StreamsIn.{streams_stand}
+use Rattle.session_core.proofs.Tables.{length_keys}
+use Rattle.session_core.proofs.session.Session.take_in.Goals as goal
+
+on_ok_map : {X E : Type 0} (o : Result X E) (P Q : Type 0) → (P → Q) → OnOk o P → OnOk o Q
+on_ok_map (Ok x) P Q f p = f p
+on_ok_map (Err e) P Q f p = tt
+
+pub restore_packet-requires : goal.restore_packet-requires
+restore_packet-requires g c =
+    let keys = ap length c.in_ok-take_repair.ensures.places in
+    let new = length_keys c.take_repair.new.self.rx in
+    let old = length_keys c.self.inside.streams.rx in
+    let view = ap (λ (v : SessionView g.row.W.Denot g.row.S.Denot). length v.rx) c.self.view_is in
+    let within = c.in-Some.ensures.within in
+    omega arith
+
+pub returns-in-Some-clause-repair : goal.returns-in-Some-clause-repair
+returns-in-Some-clause-repair g c =
+    let R = g.W.GapWindow.remembers in
+    let S = g.S.ResendStore.stands_for in
+    let x = c.args.header.now in
+    let main = c.in-Some.original in
+    let now = c.args.now in
+    let n = c.args.number in
+    on_ok_map c.restore_packet.result _ _ (λ done r p original h repairs low cuts.
+    let mine = subst (λ s. StandsFor R S s r) (sym c.self.view_is) h in
+    let found : repaired_by r.state.types r.rx r.known.originals x ≡ Some main =
+    ap (λ (s : SessionState). repaired_by s.types r.rx r.known.originals x) (sym mine.state)
+    ∙ sym (c.repaired_by.ensures.original (streams_in r) (streams_stand R S _ r mine)) ∙ ap (option_map (λ f. f.0)) c.in-Some.is in
+    let same : main ≡ original = cc (found, repairs) in
+    let there : place_of main c.args.self.now.rx ≡ Some c.in-Some.place =
+    ap (λ (v : SessionView g.row.W.Denot g.row.S.Denot). place_of main v.rx) (sym c.self.view_is) ∙ c.in-Some.ensures.place in
+    let taken = c.in_ok-take_repair.ensures.ok r main h there in
+    let still : place_of main c.take_repair.new.self.rx ≡ Some c.in-Some.place = ap (position (nat_eq main)) c.in_ok-take_repair.ensures.places ∙ there in
+    let restored = done (after_repair now x main n r) taken still in
+    subst (λ (k : ℕ). StandsFor R S c.restore_packet.new.self (after_repaired now x k n p r)) same
+    (subst (λ l. StandsFor R S c.restore_packet.new.self (after_restoring now x main l (drop 2 (cut x p)) (after_repair now x main n r))) low
+    (subst (λ q. StandsFor R S c.restore_packet.new.self (after_restoring now x main c.args.low q (after_repair now x main n r))) cuts restored))) c.restore_packet.ensures.ok
+
+pub returns-in-Some-clause-packet : goal.returns-in-Some-clause-packet
+returns-in-Some-clause-packet g c =
+    let R = g.W.GapWindow.remembers in
+    let S = g.S.ResendStore.stands_for in
+    let x = c.args.header.now in
+    on_ok_map c.restore_packet.result _ _ (λ done r p h plain nonzero placed cuts.
+    let mine = subst (λ s. StandsFor R S s r) (sym c.self.view_is) h in
+    let found : repaired_by r.state.types r.rx r.known.originals x ≡ Some c.in-Some.original =
+    ap (λ (s : SessionState). repaired_by s.types r.rx r.known.originals x) (sym mine.state)
+    ∙ sym (c.repaired_by.ensures.original (streams_in r) (streams_stand R S _ r mine)) ∙ ap (option_map (λ f. f.0)) c.in-Some.is in
+    absurd (cc (found, plain))) c.restore_packet.ensures.ok
