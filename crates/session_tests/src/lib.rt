@@ -21,6 +21,8 @@ mod repairs;
 #[cfg(test)]
 mod reports;
 #[cfg(test)]
+mod resets;
+#[cfg(test)]
 mod restored;
 #[cfg(test)]
 mod restoring;
@@ -30,3 +32,5 @@ mod rounds;
 mod steps;
 #[cfg(test)]
 mod table;
+#[cfg(test)]
+mod times;

@@ -3,6 +3,7 @@ pub mod Alongside
 pub mod Any
 pub mod Claims
 pub mod Fronts
+pub mod InUseSteps
 pub mod Mending
 pub mod Places
 pub mod PollSteps
@@ -10,6 +11,7 @@ pub mod Polling
 pub mod Primaries
 pub mod Renaming
 pub mod RepairSteps
+pub mod ResetSteps
 pub mod RxSteps
 pub mod Stamps
 pub mod SeenSteps

@@ -11,7 +11,7 @@ use Rattle.mapping_core.specs.declared.stream.IncomingStream.{IncomingStream}
 use Rattle.repair_core.specs.Rounds.{Heard}
 use Rattle.resend_core.specs.ResendStore.{Past}
 use Rattle.rtp_base.specs.declared.nack_entry.NackEntry.{NackEntry}
-use Rattle.rtx_core.specs.Resends.{ResendView, Asks, asked_for, numbers_of, created}
+use Rattle.rtx_core.specs.Resends.{ResendView, Asks, asked_for, numbers_of, created, begun_anew}
 use Rattle.rtx_core.specs.declared.resend.Resend.{Resend}
 use Rattle.resend_core.specs.ResendStore.{last_position}
 use Rattle.stream_core.specs.declared.payload_types.TypeRow.{TypeRow}
@@ -22,8 +22,8 @@ use Rattle.stream_core.specs.Queue.{next_of}
 use Rattle.stream_core.specs.Repairing.{SentPacket, RepairsView, RepairsRecord, RepairsStandFor, Polls, Stays, IsUsedUp, has_asked, state_in, repairs_of, with_repairs, size_of_sent}
 use Rattle.stream_core.specs.RxRecord.{RxView, RxRecord, expected, fresh_number, moved_to, repaired_under, StandsFor as RxStandsFor}
 use Rattle.stream_core.specs.RxRepairs.{own_number, fresh_repair, restored_for, restored}
-use Rattle.stream_core.specs.Tables.{place_of, value_under, with_new, without_key, change_place, change_at, renamed, Along}
-use Rattle.stream_core.specs.TxRecord.{TxRecord, declared}
+use Rattle.stream_core.specs.Tables.{place_of, value_under, with_new, without_key, change_place, change_at, renamed, Along, without_value, rekeyed}
+use Rattle.stream_core.specs.TxRecord.{TxRecord, declared, anew_under}
 
 -- the streams as their callers see them: how long nothing comes on an incoming one until it is paused, where nothing else is
 -- set; the streams, each under its SSRC, in order of declaration; what tells of which stream a datagram is that comes under no
@@ -118,6 +118,24 @@ with_stream_tx ssrc rtx mid rid r = if is_some (place_of ssrc r.tx) then r else 
   tx = with_new ssrc (declared ssrc (option_map (λ x. x.0) rtx) mid rid) r.tx;
   repairs = with_first ssrc (option_map (λ x. x.1) rtx) r.repairs;
 }
+
+-- what a stream sends again that begins anew with a first number of repairs: with the limits that it had, if it sent repairs
+abbrev pub anew_from : ℕ → Option RepairsRecord → RepairsRecord
+anew_from first None = created first
+anew_from first (Some q) = begun_anew first q
+
+-- and that of all streams, where the stream of an SSRC begins anew under another one
+abbrev pub with_anew : (ssrc to : ℕ) → Option ℕ → List (ℕ × RepairsRecord) → List (ℕ × RepairsRecord)
+with_anew ssrc to None qs = without_key ssrc qs
+with_anew ssrc to (Some first) qs = without_key ssrc (with_new to (anew_from first (value_under ssrc qs)) qs)
+
+-- the streams after the one that sends under an SSRC began anew under another one, in its place, with another SSRC and a
+-- first number of its repairs, if it has them from then on
+abbrev pub with_reset_tx : (ssrc to : ℕ) → Option (ℕ × ℕ) → StreamsRecord → StreamsRecord
+with_reset_tx ssrc to rtx r = if is_some (place_of ssrc r.tx) then record r {
+  tx = rekeyed ssrc to (change_at ssrc (anew_under to (option_map (λ x. x.0) rtx)) r.tx);
+  repairs = with_anew ssrc to (option_map (λ x. x.1) rtx) r.repairs;
+} else r
 
 -- the number under which a datagram of this SSRC with these low 16 bits may open, where a greatest number may be remembered
 -- of the SSRC

@@ -100,6 +100,7 @@ impl<T: Drop> SsrcTable<T> {
         requires place { place < length self.old }
         requires new { place_of ssrc self.old ≡ None }
         ensures ok { OnOk result (self.new ≡ renamed ssrc self.old place) }
+        ensures len { OnOk result (length self.new ≡ length self.old) }
         ensures err { OnErr result (self.new ≡ self.old) }
     {
         self.streams.reserve(1)?;

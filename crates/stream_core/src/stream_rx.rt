@@ -10,7 +10,7 @@ ghost use Rattle.report_core.specs.Receiver.{receiver_report_of};
 ghost use Rattle.stream_core.specs.Reporting.{report_at, is_report_due, block_at, greatest_in, reported, with_told, front_count, with_news};
 ghost use Rattle.stream_core.specs.Requests.{is_request, request_count, request_items, with_keyframe, with_bitrate};
 ghost use Rattle.repair_core.specs.Counts.{counts_report, counts_after};
-ghost use Rattle.stream_core.specs.RxRecord.{RxRecord, StandsFor, expected, taken_of, number_for, fresh_number, unpaused, came_at, opened_as, restarted, moved_to, repaired_under};
+ghost use Rattle.stream_core.specs.RxRecord.{RxRecord, StandsFor, expected, taken_of, number_for, fresh_number, unpaused, came_at, opened_as, restarted, moved_to, repaired_under, taken_time, restored_time};
 ghost use Rattle.stream_core.specs.RxRepairs.{own_number, fresh_repair, repair_came, restored_for, restored, with_number, after_restored};
 
 use crate::reports::{Arrival, RxReports};
@@ -21,8 +21,8 @@ use repair_core::{GapWindow, ReceptionCounts};
 use report_core::{LastSenderReport, ReportIntervals, receiver_report};
 use rtcp_wire::{ReceiverReport, Rtcp, SenderInfo};
 use rtp_base::{
-    KeyframeRequestKind, Mid, MidRid, NackEntry, ReceptionReport, ReportList, Rid, SeqNo, Ssrc,
-    widen16,
+    KeyframeRequestKind, MediaTime, Mid, MidRid, NackEntry, ReceptionReport, ReportList, Rid,
+    SeqNo, Ssrc, widen16,
 };
 use rtx_core::RepairWindow;
 use std::alloc::{AllocError, Global};
@@ -325,10 +325,37 @@ impl<W: GapWindow> StreamRx<W> {
         ensures err { OnErr result (self.new ≡ self.old) }
     {
         self.put(number, remembered)?;
+        let was_paused = self.pause_at.is_none();
         self.unpause(arrival.now);
         self.roc = None;
         self.reports.arrived(number, arrival);
+        self.reports.timed(arrival, was_paused);
         Ok(())
+    }
+
+    /// The RTP time of a packet that is taken as it came (RFC 3550 section 5.1), widened by the last one.
+    /// Where the stream is paused and the time would lie before the last one, the time half of the 32 bits
+    /// on is taken instead, if it lies behind the last one.
+    pub fn taken_time(&self, arrival: &Arrival) -> MediaTime
+        ensures { result ≡ taken_time arrival.entry.now self.now.state }
+    {
+        self.reports.time_of(arrival, self.pause_at.is_none())
+    }
+
+    /// The RTP time of a packet that is restored from a repair that so came, widened by the last one. It is
+    /// not the stream's last time from then on.
+    pub fn restored_time(&self, arrival: &Arrival) -> MediaTime
+        ensures { result ≡ restored_time arrival.entry.now self.now.state }
+    {
+        self.reports.time_of(arrival, false)
+    }
+
+    /// The RTP time of the packet that was taken last, None before one was. Packets that were restored do
+    /// not count.
+    pub fn last_time(&self) -> Option<MediaTime>
+        ensures { result ≡ self.now.state.reports.times.last }
+    {
+        self.reports.times.last
     }
 
     /// A repair's own number with these low 16 bits (RFC 3711 section 3.3.1), where `seen` is the greatest

@@ -15,6 +15,8 @@ ghost use Rattle.stream_core.specs.Tables.{Along, place_of, value_under, with_ne
 ghost use Rattle.stream_core.specs.TxRecord.{TxRecord, declared, after_timeout, any_waits, IsSealable};
 
 mod feedback;
+mod in_use;
+mod resetting;
 
 use crate::known_streams::KnownStreams;
 use crate::payload_types::PayloadTypes;
