@@ -124,8 +124,9 @@ pub fn first_number(low: u16, remembered: Option<SeqNo>) -> Option<SeqNo>
     ensures small { IfSome result (λ n. n < 2 ^ 48) }
     ensures low { IfSome result (λ n. n % 65536 ≡ low) }
 {
-    let number = SeqNo::from(widen16(number_of(remembered), low));
-    if is_above(remembered, number) {
+    let before = &remembered;
+    let number = SeqNo::from(widen16(number_of(*before), low));
+    if is_above(*before, number) {
         Some(number)
     } else {
         None
