@@ -1,5 +1,5 @@
 -- A stream that sends begins anew under another SSRC.
-use Rattle.std.proofs.Common.{◌≡◌, ℕ, true, List, Option, Some, None, is_some, slice_get, refl, sym, ap, subst, ◌∙◌}
+use Rattle.std.proofs.Common.{◌≡◌, ℕ, true, List, Option, Some, None, is_some, slice_get, sym, ap, subst, ◌∙◌}
 use Rattle.std.specs.Prelude.{if◌then◌else◌, Result, Ok, Err, IfOk}
 use Rattle.std.specs.Map.{values_of}
 use Rattle.std.specs.Option.{option_map}

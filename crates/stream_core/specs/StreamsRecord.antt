@@ -22,7 +22,7 @@ use Rattle.stream_core.specs.Queue.{next_of}
 use Rattle.stream_core.specs.Repairing.{SentPacket, RepairsView, RepairsRecord, RepairsStandFor, Polls, Stays, IsUsedUp, has_asked, state_in, repairs_of, with_repairs, size_of_sent}
 use Rattle.stream_core.specs.RxRecord.{RxView, RxRecord, expected, fresh_number, moved_to, repaired_under, StandsFor as RxStandsFor}
 use Rattle.stream_core.specs.RxRepairs.{own_number, fresh_repair, restored_for, restored}
-use Rattle.stream_core.specs.Tables.{place_of, value_under, with_new, with_value, without_key, change_place, change_at, renamed, Along, without_value, rekeyed}
+use Rattle.stream_core.specs.Tables.{place_of, value_under, with_new, with_value, without_key, change_place, change_at, renamed, Along, rekeyed}
 use Rattle.stream_core.specs.TxRecord.{TxRecord, declared, anew_under}
 
 -- the streams as their callers see them: how long nothing comes on an incoming one until it is paused, where nothing else is
