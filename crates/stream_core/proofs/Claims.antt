@@ -11,10 +11,6 @@ use Rattle.stream_core.specs.declared.payload_types.TypeRow.{TypeRow}
 use Rattle.stream_core.specs.Repairing.{claim_in, claims_in}
 use Rattle.stream_core.specs.Tables.{place_of}
 
-pub length_claims : (es : List (ℕ × TypeRow)) → length (claims_in es) ≡ length es
-length_claims [] = refl
-length_claims (e ∷ es) = ap suc (length_claims es)
-
 module _ (k : ℕ) where
   abbrev first : List ℕ → ℕ
   first ns = position_or_len (nat_eq k) ns

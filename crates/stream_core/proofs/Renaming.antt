@@ -5,7 +5,7 @@ use Rattle.std.specs.Option.{option_map_or}
 use Rattle.indexmap.specs.IndexMap.{IndexMap, get, insert_entry, move_index, set_value_at}
 use Rattle.indexmap.proofs.CallerLemmas.{insert_entry-new}
 use Rattle.indexmap.proofs.MapLemmas.{some_index}
-use Rattle.std.proofs.lemmas.List.{length_push}
+use Rattle.std.proofs.lemmas.List.{length_push, take_all}
 use Rattle.stream_core.specs.Tables.{place_of, renamed, change_place, change_at, rekeyed}
 use Rattle.stream_core.specs.Known.{put_original}
 use Rattle.stream_core.proofs.TableSteps.{all_but_new}
@@ -83,17 +83,13 @@ module _ {X S : Type 0} (m : IndexMap ℕ X S) (es : List (ℕ × X)) (i k : ℕ
       ∙ ap (λ y. insert (remove es i) i (k, y)) (sym same)
       ∙ put_back es i k p at
 
-all_of : {X : Type 0} (es : List X) → take (length es) es ≡ es
-all_of [] = refl
-all_of (e ∷ es) = ap (λ l. e ∷ l) (all_of es)
-
 all_but_put : {X : Type 0} (o : Option ℕ) (es : List X) (x : X) → take (length es) (option_map_or (λ (i : ℕ). es) o (es ++ x ∷ [])) ≡ es
 all_but_put None es x = all_but_new es x
-all_but_put (Some i) es x = all_of es
+all_but_put (Some i) es x = take_all es (length es) (omega arith)
 
 -- what was put behind the others is taken off
 pub all_but_original : (ssrc : ℕ) (rtx : Option ℕ) (os : List (ℕ × ℕ)) → take (length os) (put_original ssrc rtx os) ≡ os
-all_but_original ssrc None os = all_of os
+all_but_original ssrc None os = take_all os (length os) (omega arith)
 all_but_original ssrc (Some rtx) os = all_but_put (place_of rtx os) os (rtx, ssrc)
 
 pub length_rekeyed : {X : Type 0} (k : ℕ) (es : List (ℕ × X)) (i : ℕ) → length (renamed k es i) ≡ length es

@@ -149,11 +149,6 @@ asked_there qs x rtx i v empty has place at is =
     ∙ ap (λ o. has_asked (state_in (option_and_then (slice_get (values_of qs)) o))) place
     ∙ ap (λ o. has_asked (state_in o)) at)
 
--- a value that was put last is taken out
-pub all_but_new : {X : Type 0} (es : List X) (x : X) → take (length es) (es ++ x ∷ []) ≡ es
-all_but_new [] x = refl
-all_but_new (e ∷ es) x = ap (λ l. e ∷ l) (all_but_new es x)
-
 -- a value is new in both tables, or in none
 pub along_with_new : {A B : Type 0} (R : A → B → Type 0) (xs : List (ℕ × A)) (ys : List (ℕ × B)) (k : ℕ) (x : A) (y : B) → Along R xs ys → R x y → Along R (with_new k x xs) (with_new k y ys)
 along_with_new R xs ys k x y h r = by (is_some (place_of k xs)) refl

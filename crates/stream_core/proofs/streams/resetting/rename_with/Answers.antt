@@ -1,5 +1,6 @@
 use Rattle.std.proofs.Common.{take, sym, ◌∙◌}
-use Rattle.stream_core.proofs.RepairSteps.{all_but_new, with_value_there}
+use Rattle.stream_core.proofs.RepairSteps.{with_value_there}
+use Rattle.stream_core.proofs.TableSteps.{all_but_new}
 use Rattle.stream_core.proofs.streams.resetting.rename_with.Goals as goal
 
 pub returns-in-Some-clause-other : goal.returns-in-Some-clause-other
