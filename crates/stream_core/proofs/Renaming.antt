@@ -85,11 +85,11 @@ module _ {X S : Type 0} (m : IndexMap ℕ X S) (es : List (ℕ × X)) (i k : ℕ
 
 all_but_put : {X : Type 0} (o : Option ℕ) (es : List X) (x : X) → take (length es) (option_map_or (λ (i : ℕ). es) o (es ++ x ∷ [])) ≡ es
 all_but_put None es x = all_but_new es x
-all_but_put (Some i) es x = take_all es (length es) (omega arith)
+all_but_put (Some i) es x = take_all (length es) es (omega arith)
 
 -- what was put behind the others is taken off
 pub all_but_original : (ssrc : ℕ) (rtx : Option ℕ) (os : List (ℕ × ℕ)) → take (length os) (put_original ssrc rtx os) ≡ os
-all_but_original ssrc None os = take_all os (length os) (omega arith)
+all_but_original ssrc None os = take_all (length os) os (omega arith)
 all_but_original ssrc (Some rtx) os = all_but_put (place_of rtx os) os (rtx, ssrc)
 
 pub length_rekeyed : {X : Type 0} (k : ℕ) (es : List (ℕ × X)) (i : ℕ) → length (renamed k es i) ≡ length es

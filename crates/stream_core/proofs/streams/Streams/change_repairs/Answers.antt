@@ -1,4 +1,4 @@
-use Rattle.std.proofs.Common.{refl, sym, ◌∙◌}
+use Rattle.std.proofs.Common.{refl, sym}
 use Rattle.stream_core.proofs.StreamsSteps.{repairs_moved, repairs_absent}
 use Rattle.stream_core.proofs.streams.Streams.change_repairs.Goals as goal
 
