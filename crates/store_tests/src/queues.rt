@@ -1,11 +1,7 @@
-ghost use Rattle.std.specs.Prelude.{◌≡◌, ◌<◌};
-
 use media_base::{Duration, Instant};
-use queue_store::{QueueStore, Steps};
+use queue_store::QueueStore;
 use resend_core::{EvictingBuffer, ResendStore};
 use std::alloc::{AllocError, Global};
-use std::marker::Brand;
-use std::sync::ledger::{Blank, Ledger};
 use std::test::Fail;
 
 fn seconds(count: u64) -> Instant {
@@ -96,31 +92,4 @@ fn queue_keeps(rt: HostRuntime) -> Result<(), Fail> {
     assert_eq!(rt; queue.last_position(), None);
     assert!(rt; !queue.contains(7));
     Ok(())
-}
-
-// The value of a position, found by halving, with a ledger of its own for the steps.
-fn halved<L: Ledger>(queue: &QueueStore<char>, position: u64, blank: Blank) -> Option<char>
-    requires name { blank.name ≡ L.name }
-    requires parts { blank.parts ≡ L.parts }
-    requires some { 0 < L.parts }
-{
-    let mut steps: Steps<L> = Steps::new(blank);
-    queue.get_counted(position, &mut steps).copied()
-}
-
-fn halves(alloc: Global, asked: &[u64; 3]) -> Result<[Option<char>; 3], AllocError> {
-    let mut queue = QueueStore::new(alloc, 4, Duration::from_secs(10), 10)?;
-    queue.push(5, seconds(0), 'A')?;
-    queue.push(7, seconds(2), 'B')?;
-    let mut found = [None; 3];
-    for (place, position) in found.iter_mut().zip(asked) {
-        *place = halved::<Brand>(&queue, *position, Blank::new(1));
-    }
-    Ok(found)
-}
-
-#[test]
-fn queue_halves(rt: HostRuntime) {
-    let found = halves(rt.alloc(), &[5, 6, 7]);
-    assert!(rt; found == Ok([Some('A'), None, Some('B')]));
 }
