@@ -3,6 +3,7 @@ use pace_units::{
     PacerControl, ProbeClusterConfig, ProbeClusterState, ProbeKind, QueuePriority, QueueSnapshot,
 };
 use rtp_base::TwccClusterId;
+use std::process::Abort;
 
 // A call of a cluster, and what it answers. Moments are in microseconds.
 #[derive(Clone, Copy)]
@@ -41,29 +42,25 @@ fn sizes(size: Option<DataSize>) -> Option<u64> {
     }
 }
 
-// Whether a cluster answers a call so.
-fn answers(cluster: &mut ProbeClusterState, call: Call) -> bool {
-    match call {
-        Ask(now, size) => sizes(cluster.next_packet(micros(now))) == size,
-        Send(now, size) => {
-            cluster.record_packet(micros(now), DataSize::bytes(size));
-            true
-        }
-        Time(nanos) => cluster.next_probe_time().as_nanos() == nanos,
-        Due(now, due) => cluster.should_send_now(micros(now)) == due,
-        Complete(whole) => cluster.is_complete(micros(0)) == whole,
-    }
-}
-
-// The first call that a new cluster does not answer so.
-fn first_wrong(config: ProbeClusterConfig, calls: &[Call]) -> Option<usize> {
+fn follows(rt: &impl Abort, config: ProbeClusterConfig, calls: &[Call]) {
     let mut cluster = ProbeClusterState::new(config);
     for (i, call) in calls.iter().enumerate() {
-        if !answers(&mut cluster, *call) {
-            return Some(i);
+        match *call {
+            Ask(now, size) => {
+                assert!(rt; sizes(cluster.next_packet(micros(now))) == size, "call {i}");
+            }
+            Send(now, size) => cluster.record_packet(micros(now), DataSize::bytes(size)),
+            Time(nanos) => {
+                assert_eq!(rt; cluster.next_probe_time().as_nanos(), nanos, "call {i}");
+            }
+            Due(now, due) => {
+                assert_eq!(rt; cluster.should_send_now(micros(now)), due, "call {i}");
+            }
+            Complete(whole) => {
+                assert_eq!(rt; cluster.is_complete(micros(0)), whole, "call {i}");
+            }
         }
     }
-    None
 }
 
 // The first padding comes 2 ms after the beginning, the next ones 2 ms apart and not before the bytes sent would have
@@ -126,31 +123,28 @@ const CLOSE: [Call; 4] = [
 // 8 bits at 3 bit/s, rounded up.
 const SLOW: [Call; 3] = [Send(0, 1), Time(2_666_666_667), Complete(false)];
 
-// A cluster of no bytes and no packets, and one of 3 bit/s.
-fn empty() -> ProbeClusterConfig {
-    config(960)
-        .with_duration(Duration::ZERO)
-        .with_min_packet_count(0)
-}
-
-fn slow() -> ProbeClusterConfig {
-    ProbeClusterConfig::new(TwccClusterId::from(7), Bitrate::bps(3), ProbeKind::Initial)
-}
-
 #[test]
 fn clusters_at_their_edges(rt: HostRuntime) {
-    let whole = config(960);
-    let spent = config(960).with_min_packet_count(2);
-    let zero = config(0).with_min_packet_count(0);
-    let found = [
-        first_wrong(whole, &WHOLE),
-        first_wrong(spent, &SPENT),
-        first_wrong(zero, &ZERO),
-        first_wrong(empty(), &NONE),
-        first_wrong(whole.with_min_probe_delta(Duration::ZERO), &CLOSE),
-        first_wrong(slow(), &SLOW),
-    ];
-    assert!(rt; found == [None; 6]);
+    follows(&rt, config(960), &WHOLE);
+    follows(&rt, config(960).with_min_packet_count(2), &SPENT);
+    follows(&rt, config(0).with_min_packet_count(0), &ZERO);
+    follows(
+        &rt,
+        config(960)
+            .with_duration(Duration::ZERO)
+            .with_min_packet_count(0),
+        &NONE,
+    );
+    follows(
+        &rt,
+        config(960).with_min_probe_delta(Duration::ZERO),
+        &CLOSE,
+    );
+    follows(
+        &rt,
+        ProbeClusterConfig::new(TwccClusterId::from(7), Bitrate::bps(3), ProbeKind::Initial),
+        &SLOW,
+    );
 }
 
 // Media is active, the link is overused, the estimate, the least rate, and the rates of padding and of pacing, in
@@ -176,9 +170,12 @@ fn pacer_control(rt: HostRuntime) {
             *overused,
             Bitrate::kbps(*minimum),
         );
-        let right = rates.padding_rate == Bitrate::kbps(*padding)
-            && rates.pacing_rate == Bitrate::kbps(*pacing);
-        assert!(rt; right, "at {estimate}");
+        assert_eq!(rt;
+            rates.padding_rate,
+            Bitrate::kbps(*padding),
+            "at {estimate}"
+        );
+        assert_eq!(rt; rates.pacing_rate, Bitrate::kbps(*pacing), "at {estimate}");
     }
 }
 
@@ -195,22 +192,21 @@ fn waiting() -> QueueSnapshot {
     snapshot
 }
 
-// Moments in microseconds, and how long the three packets waited together then, in milliseconds.
-const WAITS: [(u64, u64); 3] = [(12_000, 13), (10_000, 7), (4_000, 7)];
-
-fn waits_so(snapshot: &QueueSnapshot) -> bool {
-    for (now, wait) in &WAITS {
-        if snapshot.total_queue_time(micros(*now)) != Duration::from_millis(*wait) {
-            return false;
-        }
+#[test]
+fn snapshots_wait_and_merge(rt: HostRuntime) {
+    let snapshot = waiting();
+    for (now, wait) in [(12u64, 13u64), (10, 7), (4, 7)] {
+        assert_eq!(rt;
+            snapshot.total_queue_time(micros(0).saturating_add(Duration::from_millis(now))),
+            Duration::from_millis(wait)
+        );
     }
     let far = Instant::from_nanos(u64::MAX);
-    snapshot.total_queue_time(far).as_nanos() == u64::MAX
-}
-
-// A queue that is as full as can be.
-fn full() -> QueueSnapshot {
-    QueueSnapshot {
+    assert_eq!(rt; snapshot.total_queue_time(far).as_nanos(), u64::MAX);
+    let mut whole = QueueSnapshot::default();
+    whole.merge(&waiting());
+    assert!(rt; whole == waiting());
+    whole.merge(&QueueSnapshot {
         created_at: micros(5),
         byte_size: usize::MAX,
         packet_count: u32::MAX,
@@ -218,12 +214,8 @@ fn full() -> QueueSnapshot {
         last_emitted: Some(micros(3)),
         first_unsent: Some(micros(5)),
         priority: QueuePriority::Media,
-    }
-}
-
-// Both of these together.
-fn both() -> QueueSnapshot {
-    QueueSnapshot {
+    });
+    let both = QueueSnapshot {
         created_at: micros(5),
         byte_size: usize::MAX,
         packet_count: u32::MAX,
@@ -231,15 +223,6 @@ fn both() -> QueueSnapshot {
         last_emitted: Some(micros(3)),
         first_unsent: Some(micros(4)),
         priority: QueuePriority::Media,
-    }
-}
-
-#[test]
-fn snapshots_wait_and_merge(rt: HostRuntime) {
-    assert!(rt; waits_so(&waiting()));
-    let mut whole = QueueSnapshot::default();
-    whole.merge(&waiting());
-    assert!(rt; whole == waiting());
-    whole.merge(&full());
-    assert!(rt; whole == both());
+    };
+    assert!(rt; whole == both);
 }

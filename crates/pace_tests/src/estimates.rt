@@ -2,6 +2,7 @@ use media_base::{Bitrate, DataSize, Duration, Instant, Listed};
 use pace_units::{Estimator, FixedEstimate, ProbeClusterConfig, ProbeKind, ScriptedEstimate};
 use rtp_base::TwccClusterId;
 use std::alloc::{AllocError, Global};
+use std::process::Abort;
 
 // A call of an estimator, and what it answers. Moments are in milliseconds, rates in kbit/s.
 #[derive(Clone, Copy)]
@@ -45,27 +46,23 @@ fn number(config: Option<ProbeClusterConfig>) -> Option<u64> {
     }
 }
 
-// Whether an estimator answers a call so.
-fn answers<E: Estimator>(estimator: &mut E, call: Call) -> bool {
-    match call {
-        Timeout(now, can_probe, wanted) => {
-            number(estimator.handle_timeout(millis(now), can_probe)) == wanted
-        }
-        Poll(wanted) => estimator.poll_estimate() == rate(wanted),
-        Last(wanted) => estimator.last_estimate() == rate(wanted),
-        Pending(wanted) => estimator.pending() == wanted,
-        Wake(wanted) => estimator.poll_timeout() == moment(wanted),
-    }
-}
-
-// The first call that it does not answer so.
-fn first_wrong<E: Estimator>(estimator: &mut E, calls: &[Call]) -> Option<usize> {
+fn follows<E: Estimator>(rt: &impl Abort, estimator: &mut E, calls: &[Call]) {
     for (i, call) in calls.iter().enumerate() {
-        if !answers(estimator, *call) {
-            return Some(i);
+        match *call {
+            Timeout(now, can_probe, wanted) => {
+                let probe = estimator.handle_timeout(millis(now), can_probe);
+                assert!(rt; number(probe) == wanted, "call {i}");
+            }
+            Poll(wanted) => {
+                assert!(rt; estimator.poll_estimate() == rate(wanted), "call {i}");
+            }
+            Last(wanted) => assert!(rt; estimator.last_estimate() == rate(wanted), "call {i}"),
+            Pending(wanted) => assert_eq!(rt; estimator.pending(), wanted, "call {i}"),
+            Wake(wanted) => {
+                assert!(rt; estimator.poll_timeout() == moment(wanted), "call {i}");
+            }
         }
     }
-    None
 }
 
 // Estimates of 0, 10 and 20 ms, and clusters of 10 and 10 ms.
@@ -120,17 +117,18 @@ const FIXED: [Call; 9] = [
     Wake(None),
 ];
 
-// What no scripted estimate heeds. Whether a probe is started then, and nothing is overused.
-fn hears<E: Estimator>(estimator: &mut E) -> bool {
+// What no scripted estimate heeds.
+fn hears<E: Estimator>(rt: &impl Abort, estimator: &mut E) {
     let cluster = TwccClusterId::from(1);
     let config = ProbeClusterConfig::new(cluster, Bitrate::mbps(1), ProbeKind::Initial);
-    let started = estimator.start_probe(config);
+    assert!(rt; estimator.start_probe(config));
     estimator.end_probe(millis(1), cluster);
     estimator.update(&[], millis(1));
     estimator.on_media_sent(millis(1), DataSize::bytes(1), false);
     estimator.set_bitrate(Bitrate::bps(1), Bitrate::bps(2));
     estimator.reset(Bitrate::bps(1));
-    started && !estimator.is_overusing() && estimator.minimum_bitrate() == Bitrate::bps(0)
+    assert!(rt; !estimator.is_overusing());
+    assert_eq!(rt; estimator.minimum_bitrate(), Bitrate::bps(0));
 }
 
 // What a script is told besides timeouts changes nothing.
@@ -139,7 +137,7 @@ fn estimates_are_polled_dry(rt: HostRuntime) {
     let Ok(mut estimator) = script(rt.alloc()) else {
         return assert!(rt; false, "memory");
     };
-    assert!(rt; hears(&mut estimator));
-    assert!(rt; first_wrong(&mut estimator, &DRY).is_none());
-    assert!(rt; first_wrong(&mut FixedEstimate::new(Bitrate::mbps(2)), &FIXED).is_none());
+    hears(&rt, &mut estimator);
+    follows(&rt, &mut estimator, &DRY);
+    follows(&rt, &mut FixedEstimate::new(Bitrate::mbps(2)), &FIXED);
 }

@@ -25,19 +25,18 @@ const PROBE_PADDING: Reason = Reason::Pacer(PacerReason::Probe2);
 
 const EMPTY: Queues = [Held(b'v', 0, 0, Fresh), NO, NO, NO];
 
-// Plays the steps, up to the first of which something else is seen.
-fn first_wrong<P: Pacer>(
+// Plays each step and compares what is seen.
+fn follows<P: Pacer>(
     rt: &impl Abort,
     alloc: Global,
     pacer: &mut P,
     table: &[(Step, Seen)],
-) -> Result<Option<usize>, AllocError> {
+) -> Result<(), AllocError> {
     for (i, (step, wanted)) in table.iter().enumerate() {
-        if play(rt, alloc, pacer, *step)? != *wanted {
-            return Ok(Some(i));
-        }
+        let seen = play(rt, alloc, pacer, *step)?;
+        assert!(rt; seen == *wanted, "step {i}");
     }
-    Ok(None)
+    Ok(())
 }
 
 // Ten packets of 1,000 bytes at 1 Mbit/s, at one moment: five are let out, and then none for 40 ms.
@@ -58,42 +57,24 @@ const SIXTH: [(Step, Seen); 3] = [
     (Wake, Wakes(Some(40_000_001), PACED)),
 ];
 
-// Whether so many bits are owed, and one of the packets of a queue is let out.
-fn lets_out(
-    rt: &impl Abort,
-    alloc: Global,
-    pacer: &mut LeakyBucketPacer,
-    round: &(u32, usize, u128),
-) -> Result<bool, AllocError> {
-    let owed = pacer.debt().as_billionths() / 1_000_000_000;
-    let queues = [Held(b'v', round.0, round.1, Fresh), NO, NO, NO];
-    let table = [
-        (Timeout(1, queues), Asked(None)),
-        (Poll, Gave(Some((b'v', None)))),
-        (Send(1, 1_000, b'v'), Nothing),
-    ];
-    let wrong = first_wrong(rt, alloc, pacer, &table)?;
-    Ok(owed == round.2 && wrong.is_none())
-}
-
-fn lets_out_five(
-    rt: &impl Abort,
-    alloc: Global,
-    pacer: &mut LeakyBucketPacer,
-) -> Result<bool, AllocError> {
-    for round in &ROUNDS {
-        if !lets_out(rt, alloc, pacer, round)? {
-            return Ok(false);
-        }
+fn burst(rt: &impl Abort, alloc: Global) -> Result<(), AllocError> {
+    let mut pacer = LeakyBucketPacer::new(alloc, Bitrate::mbps(1));
+    for (count, bytes, bits) in ROUNDS.iter() {
+        assert_eq!(rt; pacer.debt().as_billionths() / 1_000_000_000, *bits);
+        let queues = [Held(b'v', *count, *bytes, Fresh), NO, NO, NO];
+        let table = [
+            (Timeout(1, queues), Asked(None)),
+            (Poll, Gave(Some((b'v', None)))),
+            (Send(1, 1_000, b'v'), Nothing),
+        ];
+        follows(rt, alloc, &mut pacer, &table)?;
     }
-    Ok(first_wrong(rt, alloc, pacer, &SIXTH)?.is_none())
+    follows(rt, alloc, &mut pacer, &SIXTH)
 }
 
 #[test]
 fn leaky_burst(rt: HostRuntime) {
-    let mut pacer = LeakyBucketPacer::new(rt.alloc(), Bitrate::mbps(1));
-    let five = lets_out_five(&rt, rt.alloc(), &mut pacer);
-    assert!(rt; five == Ok(true));
+    assert!(rt; burst(&rt, rt.alloc()).is_ok());
 }
 
 // Before anything was sent the first queue that holds packets, also before an unpaced one; then the unpaced one that
@@ -262,13 +243,10 @@ const PADDED: [(Step, Seen); 28] = [
 
 const NOTHING_HELD: Queues = [Held(b'v', 1, 0, Fresh), NO, NO, NO];
 
-/// A step, what is seen of it, and the bits that are owed and the rate after it.
-type Owing = (Step, Seen, u64, u64);
-
 // The debt in bits after each step, and the rate of the last timeout. A debt is cut to 500 ms at the rate, and drains
 // at the rate of the timeout before, whatever is set since; at exactly the burst of 4,000 bits none is let out, and a
 // nanosecond later one is.
-const OWED: [Owing; 17] = [
+const OWED: [(Step, Seen, u64, u64); 17] = [
     (Timeout(0, NOTHING_HELD), Asked(None), 0, 1_000_000),
     (Send(0, 100_000, b'v'), Nothing, 500_000, 1_000_000),
     (Step::Pacing(100_000), Nothing, 500_000, 1_000_000),
@@ -311,7 +289,7 @@ const OWED: [Owing; 17] = [
 ];
 
 // Two packets that waited for 1.5 s each have 0.5 s left: 1,000 bytes take 16 kbit/s.
-const RAISED: [Owing; 9] = [
+const RAISED: [(Step, Seen, u64, u64); 9] = [
     (Step::Pacing(0), Nothing, 0, 0),
     (
         Timeout(
@@ -366,36 +344,20 @@ const RAISED: [Owing; 9] = [
     (Poll, Gave(None), 504_000, 10_000_000_000),
 ];
 
-fn goes(
+fn owes(
     rt: &impl Abort,
     alloc: Global,
     pacer: &mut LeakyBucketPacer,
-    row: &Owing,
-) -> Result<bool, AllocError> {
-    let seen = play(rt, alloc, pacer, row.0)?;
-    let owed = pacer.debt().as_billionths() / 1_000_000_000;
-    Ok(seen == row.1 && owed == row.2 as u128 && pacer.rate() == Bitrate::bps(row.3))
-}
-
-// The first step that does not go so.
-fn first_unowed(
-    rt: &impl Abort,
-    alloc: Global,
-    pacer: &mut LeakyBucketPacer,
-    table: &[Owing],
-) -> Result<Option<usize>, AllocError> {
-    for (i, row) in table.iter().enumerate() {
-        if !goes(rt, alloc, pacer, row)? {
-            return Ok(Some(i));
-        }
+    table: &[(Step, Seen, u64, u64)],
+) -> Result<(), AllocError> {
+    for (i, (step, wanted, bits, rate)) in table.iter().enumerate() {
+        let seen = play(rt, alloc, pacer, *step)?;
+        assert!(rt; seen == *wanted, "step {i}");
+        let owed = pacer.debt().as_billionths() / 1_000_000_000;
+        assert_eq!(rt; owed, *bits as u128, "step {i}");
+        assert!(rt; pacer.rate() == Bitrate::bps(*rate), "step {i}");
     }
-    Ok(None)
-}
-
-// Takes a pacer at 1 Mbit/s through steps: the one function that owns it, with one exit.
-fn owes(rt: &impl Abort, alloc: Global, table: &[Owing]) -> Result<Option<usize>, AllocError> {
-    let mut pacer = LeakyBucketPacer::new(alloc, Bitrate::mbps(1));
-    first_unowed(rt, alloc, &mut pacer, table)
+    Ok(())
 }
 
 // 480 bytes in at least two packets, at 1,920 kbit/s for 2 ms.
@@ -473,65 +435,51 @@ const NEVER: [Probing; 2] = [
     (Send(2_000_000, 480, b'v'), Nothing, None, None),
 ];
 
-fn probes_so(
-    rt: &impl Abort,
-    alloc: Global,
-    pacer: &mut PacerImpl,
-    row: &Probing,
-) -> Result<bool, AllocError> {
-    let seen = play(rt, alloc, pacer, row.0)?;
-    let active = number_of(pacer.active_cluster());
-    let ended = number_of(pacer.check_probe_complete(at(0)));
-    Ok(seen == row.1 && active == row.2 && ended == row.3)
-}
-
-// Plays the steps with two clusters, up to the first that does not go so.
 fn probes(
     rt: &impl Abort,
     alloc: Global,
     pacer: &mut PacerImpl,
     table: &[Probing],
-) -> Result<Option<usize>, AllocError> {
+) -> Result<(), AllocError> {
     pacer.start_probe(cluster(1))?;
     pacer.start_probe(cluster(2))?;
-    for (i, row) in table.iter().enumerate() {
-        if !probes_so(rt, alloc, pacer, row)? {
-            return Ok(Some(i));
-        }
+    for (i, (step, wanted, active, ended)) in table.iter().enumerate() {
+        let seen = play(rt, alloc, pacer, *step)?;
+        assert!(rt; seen == *wanted, "step {i}");
+        assert!(rt; number_of(pacer.active_cluster()) == *active, "step {i}");
+        assert!(rt;
+            number_of(pacer.check_probe_complete(at(0))) == *ended,
+            "step {i}"
+        );
     }
-    Ok(None)
+    Ok(())
 }
 
 // The rate of a timeout that drops the clusters is still theirs, and the pacing rate comes back after it.
-const DROPPED: [Owing; 2] = [
+const DROPPED: [(Step, Seen, u64, u64); 2] = [
     (Timeout(1, [NO, NO, NO, NO]), Asked(None), 0, 1_920_000),
     (Timeout(1, [NO, NO, NO, NO]), Asked(None), 0, 1_000_000),
 ];
 
 #[test]
 fn leaky_debts(rt: HostRuntime) {
-    assert!(rt; owes(&rt, rt.alloc(), &OWED) == Ok(None));
-    assert!(rt; owes(&rt, rt.alloc(), &RAISED) == Ok(None));
+    for table in [OWED.as_slice(), RAISED.as_slice()] {
+        let mut pacer = LeakyBucketPacer::new(rt.alloc(), Bitrate::mbps(1));
+        assert!(rt; owes(&rt, rt.alloc(), &mut pacer, table).is_ok());
+    }
     let mut pacer = LeakyBucketPacer::new(rt.alloc(), Bitrate::mbps(1));
     assert!(rt; pacer.start_probe(cluster(1)).is_ok());
-    assert!(rt; first_unowed(&rt, rt.alloc(), &mut pacer, &DROPPED) == Ok(None));
-}
-
-fn leaky_probes(
-    rt: &impl Abort,
-    alloc: Global,
-    table: &[Probing],
-) -> Result<Option<usize>, AllocError> {
-    let mut pacer = PacerImpl::leaky_bucket(alloc, Bitrate::mbps(1));
-    probes(rt, alloc, &mut pacer, table)
+    assert!(rt; owes(&rt, rt.alloc(), &mut pacer, &DROPPED).is_ok());
 }
 
 #[test]
 fn clusters_run_one_after_another(rt: HostRuntime) {
-    assert!(rt; leaky_probes(&rt, rt.alloc(), &IN_A_ROW) == Ok(None));
-    assert!(rt; leaky_probes(&rt, rt.alloc(), &STARVED) == Ok(None));
+    for table in [IN_A_ROW.as_slice(), STARVED.as_slice()] {
+        let mut pacer = PacerImpl::leaky_bucket(rt.alloc(), Bitrate::mbps(1));
+        assert!(rt; probes(&rt, rt.alloc(), &mut pacer, table).is_ok());
+    }
     let mut pacer = PacerImpl::null(rt.alloc());
-    assert!(rt; probes(&rt, rt.alloc(), &mut pacer, &NEVER) == Ok(None));
+    assert!(rt; probes(&rt, rt.alloc(), &mut pacer, &NEVER).is_ok());
 }
 
 // Packets leave at once, from the queue that was sent on longest ago; one that was never sent on goes before all, and
@@ -584,28 +532,27 @@ const NULL: [(Step, Seen); 23] = [
     (Poll, Gave(None)),
 ];
 
-const LEAKY: [&[(Step, Seen)]; 3] = [&FIRST, &TURNS, &PADDED];
-
 #[test]
 fn turns(rt: HostRuntime) {
-    for table in &LEAKY {
+    for table in [FIRST.as_slice(), TURNS.as_slice(), PADDED.as_slice()] {
         let mut pacer = PacerImpl::leaky_bucket(rt.alloc(), Bitrate::mbps(1));
-        assert!(rt; first_wrong(&rt, rt.alloc(), &mut pacer, table) == Ok(None));
+        assert!(rt; follows(&rt, rt.alloc(), &mut pacer, table).is_ok());
     }
     let mut pacer = PacerImpl::null(rt.alloc());
-    assert!(rt; first_wrong(&rt, rt.alloc(), &mut pacer, &NULL) == Ok(None));
+    assert!(rt; follows(&rt, rt.alloc(), &mut pacer, &NULL).is_ok());
     // The same without the choice of two kinds.
     let mut pacer = NullPacer::new(rt.alloc());
-    assert!(rt; first_wrong(&rt, rt.alloc(), &mut pacer, &NULL) == Ok(None));
+    assert!(rt; follows(&rt, rt.alloc(), &mut pacer, &NULL).is_ok());
 }
 
 // Calls that take memory and stand in no table.
 #[test]
 fn surface_ample(rt: HostRuntime) {
     let mut pacer = LeakyBucketPacer::new(rt.alloc(), Bitrate::mbps(1));
-    let started = pacer.start_probe(cluster(3)).is_ok();
-    let active = number_of(pacer.active_cluster()) == Some(3);
-    assert!(rt; started && active && pacer.check_probe_complete(at(0)).is_none());
+    assert!(rt; pacer.start_probe(cluster(3)).is_ok());
+    assert!(rt; number_of(pacer.active_cluster()) == Some(3));
+    assert!(rt; pacer.check_probe_complete(at(0)).is_none());
     let mut log = PaceLog::new(rt.alloc());
-    assert!(rt; log.push(PaceEntry::Set).is_ok() && log.len() == 1);
+    assert!(rt; log.push(PaceEntry::Set).is_ok());
+    assert_eq!(rt; log.len(), 1);
 }

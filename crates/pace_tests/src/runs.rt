@@ -95,25 +95,21 @@ fn run(
     }
 }
 
-fn has_lines(log: &PaceLog, wanted: &[Line]) -> bool {
-    for (entry, line) in log.iter().zip(wanted.iter()) {
-        if line_of(entry) != *line {
-            return false;
-        }
-    }
-    log.len() == wanted.len() && log.is_empty() == wanted.is_empty()
-}
-
-// Whether the run of these calls is logged in these lines, and ends so.
 fn logs(
     rt: &impl Abort,
     alloc: Global,
     table: &[Call],
     wanted: &[Line],
     error: Option<PaceError>,
-) -> Result<bool, AllocError> {
+) -> Result<(), AllocError> {
     let (log, ended) = run(rt, alloc, table)?;
-    Ok(ended == error && has_lines(&log, wanted))
+    assert!(rt; ended == error);
+    assert_eq!(rt; log.len(), wanted.len());
+    assert_eq!(rt; log.is_empty(), wanted.is_empty());
+    for (i, (entry, line)) in log.iter().zip(wanted.iter()).enumerate() {
+        assert!(rt; line_of(entry) == *line, "call {i}");
+    }
+    Ok(())
 }
 
 // Two packets at one moment; a poll between tells the wake.
@@ -173,29 +169,28 @@ const SENT_BEFORE: [Call; 3] = [Timeout(2, 2, false), Poll, Send(1, 0)];
 
 const FALLEN: [Line; 3] = [Timed(None), Chose, Sent(0, 0, 1_000_000)];
 
-/// A run, its lines, and why it ends early.
-type Row = (&'static [Call], &'static [Line], Option<PaceError>);
-
-const ROWS: [Row; 6] = [
-    (&TWO, &TWO_LINES, None),
-    (&PADDED, &PADDED_LINES, None),
-    (&UNPOLLED, &[Timed(None)], Some(PaceError::Call(1))),
-    (
-        &TWICE,
-        &[Timed(None), Chose, Sent(8_000, 8_000, 1_000_000)],
-        Some(PaceError::Call(3)),
-    ),
-    (&FALLS, &FALLEN, Some(PaceError::Call(3))),
-    (
+fn runs(rt: &impl Abort, alloc: Global) -> Result<(), AllocError> {
+    logs(rt, alloc, &TWO, &TWO_LINES, None)?;
+    logs(rt, alloc, &PADDED, &PADDED_LINES, None)?;
+    logs(
+        rt,
+        alloc,
+        &UNPOLLED,
+        &TWO_LINES[..1],
+        Some(PaceError::Call(1)),
+    )?;
+    logs(rt, alloc, &TWICE, &TWO_LINES[..3], Some(PaceError::Call(3)))?;
+    logs(rt, alloc, &FALLS, &FALLEN, Some(PaceError::Call(3)))?;
+    logs(
+        rt,
+        alloc,
         &SENT_BEFORE,
-        &[Timed(None), Chose],
+        &FALLEN[..2],
         Some(PaceError::Call(2)),
-    ),
-];
+    )
+}
 
 #[test]
 fn runs_are_logged(rt: HostRuntime) {
-    for (table, wanted, error) in &ROWS {
-        assert!(rt; logs(&rt, rt.alloc(), table, wanted, *error) == Ok(true));
-    }
+    assert!(rt; runs(&rt, rt.alloc()).is_ok());
 }
