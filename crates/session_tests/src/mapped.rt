@@ -24,10 +24,13 @@ enum Made {
     Forged,
 }
 
-/// A datagram that comes: its SSRC, type and number, the mid, the rid and the repair rid that it carries, if
-/// they are not empty, and its payload.
+/// The mid, the rid and the repair rid that a datagram carries, if they are not empty.
 #[derive(Clone, Copy)]
-struct Came(u8, u8, u64, [&'static str; 3], Made, &'static [u8]);
+struct Names(&'static str, &'static str, &'static str);
+
+/// A datagram that comes: its SSRC, type and number, the names that it carries, and its payload.
+#[derive(Clone, Copy)]
+struct Came(u8, u8, u64, Names, Made, &'static [u8]);
 
 /// What comes to an end, and how it stands.
 #[derive(Clone, Copy)]
@@ -57,11 +60,11 @@ use Made::{Forged, Padded, Plain};
 use Step::{Has, Lacks, Nothing, Opens, Tells};
 
 /// The media section v alone.
-const V: [&str; 3] = ["v", "", ""];
+const V: Names = Names("v", "", "");
 /// It and the rid hi; and that as the rid of what is repaired.
-const HI: [&str; 3] = ["v", "hi", ""];
+const HI: Names = Names("v", "hi", "");
 
-const OF_HI: [&str; 3] = ["v", "", "hi"];
+const OF_HI: Names = Names("v", "", "hi");
 
 /// What comes, one after the other, to an end whose media section v expects these streams. Type 97 repairs
 /// type 96, which is sent under type 98 with older frames; type 100 has no repairs.
@@ -75,9 +78,15 @@ const ROWS: [Row; 16] = [
             Lacks(50),
             Tells(Came(50, 96, 7, V, Plain, &[1]), 50, 96, 7, &[1]),
             Has(50, 0, 0),
-            Tells(Came(50, 96, 8, ["", "", ""], Plain, &[2]), 50, 96, 8, &[2]),
             Tells(
-                Came(40, 100, 1, ["v", "lo", ""], Plain, &[3]),
+                Came(50, 96, 8, Names("", "", ""), Plain, &[2]),
+                50,
+                96,
+                8,
+                &[2],
+            ),
+            Tells(
+                Came(40, 100, 1, Names("v", "lo", ""), Plain, &[3]),
                 40,
                 100,
                 1,
@@ -90,8 +99,8 @@ const ROWS: [Row; 16] = [
         "the mid names a media section",
         Any,
         &[
-            Nothing(Came(50, 96, 1, ["", "", ""], Plain, &[1])),
-            Nothing(Came(50, 96, 1, ["w", "", ""], Plain, &[1])),
+            Nothing(Came(50, 96, 1, Names("", "", ""), Plain, &[1])),
+            Nothing(Came(50, 96, 1, Names("w", "", ""), Plain, &[1])),
             Lacks(50),
             Tells(Came(50, 96, 1, V, Plain, &[1]), 50, 96, 1, &[1]),
         ],
@@ -112,8 +121,8 @@ const ROWS: [Row; 16] = [
         "a rid that is carried is expected",
         Only(&["hi"]),
         &[
-            Nothing(Came(50, 96, 1, ["v", "lo", ""], Plain, &[1])),
-            Nothing(Came(50, 96, 1, ["v", "", "lo"], Plain, &[1])),
+            Nothing(Came(50, 96, 1, Names("v", "lo", ""), Plain, &[1])),
+            Nothing(Came(50, 96, 1, Names("v", "", "lo"), Plain, &[1])),
             Lacks(50),
             Tells(Came(50, 96, 1, HI, Plain, &[1]), 50, 96, 1, &[1]),
             Has(50, 0, 0),
@@ -159,7 +168,7 @@ const ROWS: [Row; 16] = [
             Tells(Came(51, 97, 1, V, Plain, &[0, 7, 9]), 50, 96, 7, &[9]),
             Has(50, 0, 51),
             Tells(
-                Came(51, 97, 2, ["", "", ""], Plain, &[0, 8, 9]),
+                Came(51, 97, 2, Names("", "", ""), Plain, &[0, 8, 9]),
                 50,
                 96,
                 8,
@@ -180,11 +189,11 @@ const ROWS: [Row; 16] = [
         "with both rids it is a packet, and each is expected",
         Only(&["hi", "lo"]),
         &[
-            Nothing(Came(50, 96, 1, ["v", "hi", "no"], Plain, &[1])),
-            Nothing(Came(50, 96, 1, ["v", "no", "hi"], Plain, &[1])),
+            Nothing(Came(50, 96, 1, Names("v", "hi", "no"), Plain, &[1])),
+            Nothing(Came(50, 96, 1, Names("v", "no", "hi"), Plain, &[1])),
             Lacks(50),
             Tells(
-                Came(50, 96, 1, ["v", "hi", "lo"], Plain, &[1]),
+                Came(50, 96, 1, Names("v", "hi", "lo"), Plain, &[1]),
                 50,
                 96,
                 1,
@@ -199,7 +208,7 @@ const ROWS: [Row; 16] = [
         &[
             Tells(Came(50, 96, 300, V, Plain, &[1]), 50, 96, 300, &[1]),
             Tells(
-                Came(40, 96, 1, ["v", "lo", ""], Plain, &[1]),
+                Came(40, 96, 1, Names("v", "lo", ""), Plain, &[1]),
                 40,
                 96,
                 1,
@@ -269,14 +278,14 @@ const ROWS: [Row; 16] = [
         &[
             Nothing(Came(51, 97, 5, OF_HI, Plain, &[])),
             Nothing(Came(51, 100, 5, OF_HI, Padded, &[0, 0, 3])),
-            Nothing(Came(51, 97, 5, ["v", "", "lo"], Padded, &[0, 0, 3])),
+            Nothing(Came(51, 97, 5, Names("v", "", "lo"), Padded, &[0, 0, 3])),
             Nothing(Came(51, 97, 5, OF_HI, Padded, &[9, 0, 0, 3])),
             Nothing(Came(51, 97, 5, OF_HI, Padded, &[0, 0, 9])),
             Opens(Came(51, 97, 5, OF_HI, Padded, &[0, 0, 3])),
             Nothing(Came(51, 97, 5, OF_HI, Padded, &[0, 0, 3])),
             Opens(Came(51, 96, 4, OF_HI, Padded, &[1])),
             Lacks(51),
-            Nothing(Came(51, 97, 7, ["", "", "hi"], Padded, &[1])),
+            Nothing(Came(51, 97, 7, Names("", "", "hi"), Padded, &[1])),
             Tells(Came(50, 96, 5, HI, Plain, &[1]), 50, 96, 5, &[1]),
             Nothing(Came(51, 97, 4, OF_HI, Plain, &[0, 6, 2])),
             Tells(Came(51, 97, 6, OF_HI, Plain, &[0, 6, 2]), 50, 96, 6, &[2]),
@@ -306,9 +315,10 @@ fn push_value(plain: &mut Vec<u8>, id: u8, value: &str) -> Result<(), Fail> {
 // The elements of the header extension, in whole words (RFC 8285 section 4.2).
 fn values_of(alloc: Global, came: &Came) -> Result<Vec<u8>, Fail> {
     let mut values = Vec::new(alloc);
-    push_value(&mut values, 4, came.3[0])?;
-    push_value(&mut values, 5, came.3[1])?;
-    push_value(&mut values, 6, came.3[2])?;
+    let Names(mid, rid, repaired) = came.3;
+    push_value(&mut values, 4, mid)?;
+    push_value(&mut values, 5, rid)?;
+    push_value(&mut values, 6, repaired)?;
     for _ in 0..(4 - values.len() % 4) % 4 {
         values.push(0)?;
     }

@@ -411,9 +411,9 @@ fn streams_begin_anew(rt: HostRuntime) -> Result<(), Fail> {
 // A stream that is sent under 42 with repairs under 43, and one that is received under 50 with repairs
 // under 51.
 fn prepare(streams: &mut Sending) -> Result<(), AllocError> {
-    let at = MidRid(mid(), None);
     let repairs = repairs_of(Some((43, 0)));
-    streams.declare_stream_tx(Ssrc::from(42), repairs, at)?;
+    streams.declare_stream_tx(Ssrc::from(42), repairs, MidRid(mid(), None))?;
+    let at = MidRid(mid(), None);
     streams.expect_stream_rx(Ssrc::from(50), Some(Ssrc::from(51)), at, false)
 }
 

@@ -14,7 +14,8 @@ use Rattle.srtp_core.specs.declared.profile.SrtpProfile.TheVariants.{AeadAes128G
 use Rattle.stream_core.specs.declared.transport.Transport.{Transport}
 use Rattle.stream_core.specs.Repairing.{SentPacket, RepairsStandFor}
 use Rattle.stream_core.specs.RxRecord.{expected, StandsFor as RxStandsFor}
-use Rattle.stream_core.specs.StreamsRecord.{StreamsView, StreamsRecord, no_streams, StandsFor as StreamsStandsFor}
+use Rattle.stream_core.specs.Known.{KnownRecord}
+use Rattle.stream_core.specs.StreamsRecord.{StreamsView, StreamsRecord, no_streams, first_known, with_stream_rx, StandsFor as StreamsStandsFor}
 use Rattle.stream_core.specs.Tables.{Along, change_place, with_new}
 use Rattle.stream_core.specs.TxRecord.{TxRecord, declared, written}
 use Rattle.stream_core.specs.Write.{WriteRecord}
@@ -65,8 +66,11 @@ module _ (material mid payload : List ℕ) where
       let made : SessionRecord = end_of material mid true in
       record made { state = record made.state { tx = (42, written (first_write now payload) (declared 42 None mid None)) ∷ [] } }
 
+  abbrev pub knows : ℕ → KnownRecord
+  knows ssrc = record { originals = []; streams = first_known ssrc None mid None false ∷ [] }
+
   abbrev pub receiver : SessionRecord
-  receiver = record (end_of material mid false) { rx = (42, awaited mid) ∷ [] }
+  receiver = record (end_of material mid false) { rx = (42, awaited mid) ∷ []; known = knows 42 }
 
   abbrev pub key : SrtpState
   key = new_state toy_meaning AeadAes128Gcm material true 0
@@ -86,7 +90,7 @@ module _ (material mid payload : List ℕ) where
   pub expects : {W S : Type 0} (remembers : W → Heard → Type 0) (holds : S → Past SentPacket → Type 0) (s : SessionView W S) (lent left : StreamsView W S) (ssrc : ℕ) → ssrc ≡ 42
       → StandsFor remembers holds s (end_of material mid false) → lent.rx ≡ s.rx → lent.tx ≡ s.state.tx → lent.threshold ≡ s.state.pause_threshold → lent.known ≡ s.known → lent.repairs ≡ s.repairs
       → ((r : StreamsRecord) → StreamsStandsFor remembers holds lent r
-      → StreamsStandsFor remembers holds left (record r { rx = with_new ssrc (expected ssrc None mid None false r.threshold) r.rx }))
+      → StreamsStandsFor remembers holds left (with_stream_rx ssrc None mid None false r))
       → StandsFor remembers holds (record s { state = record s.state { tx = left.tx; pause_threshold = left.threshold }; rx = left.rx; known = left.known; repairs = left.repairs }) receiver
   expects remembers holds s lent left ssrc is made rx tx threshold known repairs ok =
       let before : StreamsStandsFor remembers holds lent (no_streams end_config.pause_threshold) =
@@ -103,7 +107,7 @@ module _ (material mid payload : List ℕ) where
       record {
         state = λ j. record (made.state j) { tx = empty j; pause_threshold = same j };
         rx = subst (λ n. Along (RxStandsFor remembers) left.rx (with_new n (expected n None mid None false end_config.pause_threshold) [])) is after.rx;
-        known = after.known;
+        known = after.known ∙ ap knows is;
         probes = made.probes;
         seen = made.seen;
         repairs = after.repairs;

@@ -1,6 +1,6 @@
 -- What a session tells of the packet that another one sealed.
 use Rattle.std.proofs.Common.{◌≡◌, ℕ, zero, suc, Bool, true, false, List, [], ◌∷◌, length, Option, Some, None, refl, sym, ap, ◌∙◌, subst, arith, slice_get}
-use Rattle.std.specs.Prelude.{◌==◌, ◌||◌, ◌&&◌, ◌++◌, IfSome, if◌then◌else◌, is_some, option_and_then, map}
+use Rattle.std.specs.Prelude.{◌==◌, ◌||◌, ◌&&◌, ◌++◌, IfSome, if◌then◌else◌, is_some, is_none, option_and_then, map}
 use Rattle.std.specs.Map.{values_of}
 use Rattle.std.specs.Option.{option_map, option_to_list}
 use Rattle.std.specs.Prelude.{replicate}
@@ -32,7 +32,7 @@ use Rattle.session_core.specs.declared.datagram.Event.TheVariants as event
 use Rattle.session_core.specs.declared.datagram.Opened.{Opened}
 use Rattle.session_core.specs.Calls.{lacks_keys, told, after_events, Polled}
 use Rattle.session_core.specs.News.{no_news, news_told}
-use Rattle.mapping_core.specs.Mapped.{is_early_padding}
+use Rattle.mapping_core.specs.Mapped.{is_early_padding, repairs_expected, has_rtx}
 use Rattle.mapping_core.specs.declared.mapping.Mapping.TheVariants.{Main}
 use Rattle.session_core.specs.Mapping.{rids_for, is_standing, mapped_in, taken_up_for}
 use Rattle.session_core.specs.Receiving.{Receives, Opens, OpensRepair, OpensPadding, OpensIn, number_of, rx_opened, arrival_of, after_opened, packet_from, cut, opened, repaired, padding, stays}
@@ -286,7 +286,8 @@ module _ (cipher : CipherMeaning) (k : SrtpState) (t : Transport) (now : ℕ) (m
   second_carries r came between after o bytes first second again keeps apart x same (padding h n other opens) p q =
       let there : OpensPadding cipher r packet_bytes h n other = subst (λ (l : List ℕ). OpensPadding cipher r l h n other) same opens in
       let y : Reads h = reads h again keeps (ap (λ (m : ExtensionMap). header_of m packet_bytes) (sym x.transport) ∙ there.reads) in
-      let never : is_early_padding (rids_for h r.state.medias) (claims_in r.state.types) h ≡ false = ap (λ b. b && _) y.plain in
+      let never : is_early_padding (rids_for h r.state.medias) (claims_in r.state.types) h ≡ false =
+      ap (λ b. b && is_none h.ext_vals.rid && repairs_expected (rids_for h r.state.medias) h && has_rtx (claims_in r.state.types) h) y.plain in
       absurd (cc (never, there.early))
   second_carries r came between after o bytes first second again keeps apart x same (stays refused others early) p q =
       none_then payload r between after first second x.silent x.quiet p q
