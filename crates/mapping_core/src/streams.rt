@@ -1,5 +1,8 @@
-ghost use Rattle.std.specs.Prelude.{◌≡◌, ◌↔◌, IsTrue, ◌<◌, [], length, position, false, true, IfSome, OnOk, OnErr, Some};
+ghost use Rattle.std.specs.Prelude.{◌≡◌, ◌==◌, ◌↔◌, IsTrue, ◌<◌, [], length, position, false, true, IfSome, OnOk, OnErr, Some};
 ghost use Rattle.std.specs.Option.{option_copied};
+ghost use Rattle.std.specs.Slice.Iter.{iter_rest};
+ghost use Rattle.std.specs.Iterator.Adapters.{IterYieldsInOrder};
+ghost use Rattle.mapping_core.specs.declared.stream.IncomingStream.{IncomingStream as Stream};
 ghost use Rattle.mapping_core.specs.Streams.{has_main, is_known, with_stream, with_main, with_repairs, committed, without, without_section};
 ghost use Rattle.mapping_core.specs.Mapped.{is_new, mapped, mapping_rules, first_that_applies};
 ghost use Rattle.mapping_core.specs.Maps.{MapsAnew};
@@ -15,6 +18,7 @@ use rtp_base::{Mid, Ssrc};
 use rtp_wire::RtpHeader;
 use std::alloc::{AllocError, Global};
 use std::marker::Model;
+use std::slice;
 
 /// The streams that are received, in order of declaration. Contracts see the list of them.
 #[derive(Debug, Drop)]
@@ -39,6 +43,28 @@ impl MappedStreams {
         MappedStreams {
             all: Vec::new(alloc),
         }
+    }
+
+    /// How many there are.
+    pub fn len(&self) -> usize
+        ensures { result ≡ length self.now }
+    {
+        self.all.len()
+    }
+
+    /// Whether there are none.
+    pub fn is_empty(&self) -> bool
+        ensures { result ≡ (length self.now == 0) }
+    {
+        self.all.is_empty()
+    }
+
+    /// The streams, one after another.
+    pub fn iter(&self) -> slice::Iter<'_, IncomingStream>
+        ensures rest { iter_rest result ≡ self.now }
+        ensures runs { IterYieldsInOrder Stream }
+    {
+        self.all.iter()
     }
 
     /// The streams, in order of declaration.
@@ -107,9 +133,10 @@ impl MappedStreams {
         rules::map(self.all.as_slice(), rids, types, header)
     }
 
-    /// Has the packets of a stream come under another SSRC.
+    /// Has the packets of a stream come under another SSRC, unless that is the one that they had right
+    /// before, or packets of some stream come under it. The time grows with the number of streams.
     #[tactic(auto, using(crate::proofs::GoingOn::go_on_with_main))]
-    fn change_main(&mut self, change: MainChange)
+    pub fn change_main(&mut self, change: MainChange)
         ensures changed { self.new ≡ with_main change self.old }
         ensures go_on { GoOn self.old self.new }
     {
@@ -121,9 +148,9 @@ impl MappedStreams {
         }
     }
 
-    /// Has the repairs of a stream come under an SSRC.
+    /// Has the repairs of a stream come under an SSRC. The time grows with the number of streams.
     #[tactic(auto, using(crate::proofs::GoingOn::go_on_with_repairs))]
-    fn change_repairs(&mut self, change: RepairsChange)
+    pub fn change_repairs(&mut self, change: RepairsChange)
         ensures changed { self.new ≡ with_repairs change self.old }
         ensures go_on { GoOn self.old self.new }
     {

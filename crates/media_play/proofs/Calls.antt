@@ -83,7 +83,7 @@ module _ {cipher : CipherMeaning} {setup : Setup} {side : Side} {end : EndState}
       record {
         state = ap (λ (v : EndSession). v.state) whole ∙ ap (with_feedback item) stands.state;
         rx = rw whole stands.rx;
-        originals = rw whole stands.originals;
+        known = rw whole stands.known;
         probes = rw whole stands.probes;
         seen = rw whole stands.seen;
         repairs = rw whole stands.repairs;

@@ -18,7 +18,8 @@ use Rattle.session_core.specs.Calls.{told}
 use Rattle.session_core.specs.News.{NewsRecord, keyframe_event, sender_event, rate_event, news_told}
 use Rattle.session_core.specs.Draining.{IsDrainCut, at_poll, between_polls, IsCutOff, at_event, later}
 use Rattle.rtp_wire.specs.declared.header.RtpHeader.{RtpHeader}
-use Rattle.session_core.specs.Receiving.{Receives, opened, repaired, stays, cut, after_repair, after_restoring}
+use Rattle.session_core.specs.Mapping.{taken_up_for}
+use Rattle.session_core.specs.Receiving.{Receives, opened, repaired, padding, stays, cut, after_repair, after_restoring}
 use Rattle.session_core.specs.Repairs.{original_number}
 use Rattle.session_core.specs.Rounds.{after_timeout}
 use Rattle.session_core.specs.Sending.{DrainsTo}
@@ -94,9 +95,10 @@ restoring_keeps now h original (Some m) rest s = record { sealing = refl; openin
 pub keeps : {cipher : CipherMeaning} {r : SessionRecord} {bytes : List ℕ} {now : ℕ} {after : SessionRecord} {o : Option Opening} → Receives cipher r bytes now after o → Keeps r after
 keeps (opened h n payload k) = record { sealing = refl; opening = refl; application = refl }
 keeps {r = r} {now = now} (repaired h original n payload opens) =
-    let k = restoring_keeps now h original (original_number (cut h payload)) (drop 2 (cut h payload)) (after_repair now h original n r) in
+    let k = restoring_keeps now h original (original_number (cut h payload)) (drop 2 (cut h payload)) (after_repair now h original n (taken_up_for h r)) in
     record { sealing = k.sealing; opening = k.opening; application = k.application }
-keeps (stays main others) = record { sealing = refl; opening = refl; application = refl }
+keeps (padding h n payload k) = record { sealing = refl; opening = refl; application = refl }
+keeps (stays main others early) = record { sealing = refl; opening = refl; application = refl }
 
 packet_in-append : (xs ys : List Event) (q : Option Packet) → packet_in (xs ++ ys) q ≡ packet_in ys (packet_in xs q)
 packet_in-append [] ys q = refl

@@ -108,7 +108,7 @@ turned_wrote {cipher} {setup} {side} {end} {a} {entries} {time} law at w place n
     let stands : SessionStands new.session after = subst (λ (v : EndSession). SessionStands v after) (sym is) (record {
       state = ap (λ (s : SessionState). record s { tx = change_place (written (write_at time w)) s.tx place }) ready.stands.state;
       rx = ready.stands.rx;
-      originals = ready.stands.originals;
+      known = ready.stands.known;
       probes = ready.stands.probes;
       seen = ready.stands.seen;
       repairs = ready.stands.repairs;

@@ -110,7 +110,7 @@ turned_requested {cipher} {setup} {side} {end} {a} {entries} {time} law at what 
     let stands : SessionStands new.session after = subst (λ (v : EndSession). SessionStands v after) (sym is) (record {
       state = ready.stands.state;
       rx = requests_stand f end.session.rx r.rx place ready.stands.rx;
-      originals = ready.stands.originals;
+      known = ready.stands.known;
       probes = ready.stands.probes;
       seen = ready.stands.seen;
       repairs = ready.stands.repairs;

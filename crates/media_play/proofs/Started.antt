@@ -144,6 +144,8 @@ module _ (cipher : CipherMeaning) (setup : Setup) (side : Side) where
             (zip_map (RxStands setup.pause_threshold None []) (λ L. (L, new_rx)) s.rx ins
             (zip_map (λ e L. RxStands setup.pause_threshold None [] e (L, new_rx)) incoming_of s.rx (outgoing_of (peer_of side) setup) b.takes)));
         originals = b.originals;
+        sections = b.sections;
+        known = b.known;
         last_round = b.last_round;
         target = b.target;
         feedback = b.feedback;

@@ -144,6 +144,30 @@ absent_has k (n ∷ ns) none = elim (tested (n == k)) [
 pub place_absent : {X : Type 0} (k : ℕ) (es : List (ℕ × X)) → (IsIn k (keys_of es) → ⊥) → is_some (place_of k es) ≡ false
 place_absent k es none = place_in k (keys_of es) ∙ absent_has k (keys_of es) none
 
+-- a key that has a place has one among more entries, and so has that of an entry behind the others
+has_left : (k : ℕ) (ns ms : List ℕ) → has ns k ≡ true → has (ns ++ ms) k ≡ true
+has_left k [] ms h = absurd cc
+has_left k (n ∷ ns) ms h = elim (tested (n == k)) [
+  | inl t ↦ ap (λ b. b || has (ns ++ ms) k) t
+  | inr t ↦ ap (λ b. b || has (ns ++ ms) k) t ∙ has_left k ns ms (sym (ap (λ b. b || has ns k) t) ∙ h)
+]
+
+has_last_one : (k : ℕ) (ns : List ℕ) → has (ns ++ k ∷ []) k ≡ true
+has_last_one k [] = ap (λ b. b || false) (eq-eqb k k refl)
+has_last_one k (n ∷ ns) = elim (tested (n == k)) [
+  | inl t ↦ ap (λ b. b || has (ns ++ k ∷ []) k) t
+  | inr t ↦ ap (λ b. b || has (ns ++ k ∷ []) k) t ∙ has_last_one k ns
+]
+
+pub place_left : {X : Type 0} (k : ℕ) (es more : List (ℕ × X)) → is_some (place_of k es) ≡ true → is_some (place_of k (es ++ more)) ≡ true
+place_left k es more there =
+    place_in k (keys_of (es ++ more))
+    ∙ ap (λ l. has l k) (map-append (λ e. e.0) es more)
+    ∙ has_left k (keys_of es) (keys_of more) (sym (place_in k (keys_of es)) ∙ there)
+
+pub place_last : {X : Type 0} (k : ℕ) (x : X) (es : List (ℕ × X)) → is_some (place_of k (es ++ (k, x) ∷ [])) ≡ true
+place_last k x es = place_in k (keys_of (es ++ (k, x) ∷ [])) ∙ ap (λ l. has l k) (map-append (λ e. e.0) es ((k, x) ∷ [])) ∙ has_last_one k (keys_of es)
+
 absent : {X : Type 0} (o : Option ℕ) (es more : List (ℕ × X)) → is_some o ≡ false → option_map_or (λ (i : ℕ). es) o more ≡ more
 absent None es more h = refl
 absent (Some i) es more h = absurd cc

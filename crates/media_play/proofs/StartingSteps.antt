@@ -1,7 +1,7 @@
 -- A session that begins: with keys, with media sections, with streams.
 use Rattle.std.proofs.Common.{◌≡◌, inl, inr, ℕ, Bool, true, false, not, List, [], ◌∷◌, ◌++◌, map, Option, Some, None, is_some, refl, sym, ap, ◌∙◌, subst, ◌<◌, ◌≤◌, ◌^◌}
 use Rattle.std.specs.Prelude.{option_to_list, if◌then◌else◌, is_none}
-use Rattle.std.specs.List.{AllZip, flat_map}
+use Rattle.std.specs.List.{AllByRecursion, AllZip, flat_map}
 use Rattle.std.specs.Map.{keys_of}
 use Rattle.std.specs.Option.{option_map}
 use Rattle.std.proofs.lemmas.List.{append-nil}
@@ -15,15 +15,18 @@ use Rattle.srtp_core.specs.Cipher.{CipherMeaning}
 use Rattle.srtp_core.specs.Contexts.{new_state}
 use Rattle.stream_core.specs.Repairing.{RepairsRecord}
 use Rattle.stream_core.specs.RxRecord.{RxRecord, expected}
-use Rattle.stream_core.specs.StreamsRecord.{StreamsRecord, StandsFor as StreamsStandFor, with_first, with_original, with_stream_tx, with_stream_rx}
-use Rattle.stream_core.specs.Tables.{with_new, change_at}
+use Rattle.mapping_core.specs.Streams.{fresh, is_main, with_stream}
+use Rattle.mapping_core.specs.declared.stream.IncomingStream.{IncomingStream}
+use Rattle.stream_core.specs.Known.{KnownRecord}
+use Rattle.stream_core.specs.StreamsRecord.{StreamsRecord, StandsFor as StreamsStandFor, first_known, with_first, with_original, with_stream_tx, with_stream_rx}
+use Rattle.stream_core.specs.Tables.{place_of, with_new, change_at}
 use Rattle.stream_core.specs.TxRecord.{TxRecord, declared}
 use Rattle.media_play.specs.Ends.{EndSession, EndStreams, SessionStands}
 use Rattle.session_core.specs.declared.config.SessionConfig.{SessionConfig}
 use Rattle.session_core.specs.Calls.{fresh_session, keyed}
 use Rattle.session_core.specs.Sending.{has_mid}
 use Rattle.session_core.specs.SessionRecord.{MediaRecord, SessionState, SessionRecord, streams_in}
-use Rattle.session_turns.specs.Mirrors.{rtx_seen, original_in, original_with}
+use Rattle.session_turns.specs.Mirrors.{rtx_seen, original_in, original_with, ExpectsNone, HasOriginal}
 use Rattle.media_model.specs.declared.entry.Side.{Side}
 use Rattle.media_model.specs.declared.entry.Side.TheVariants.{A, B}
 use Rattle.media_model.specs.declared.setup.Stream.{Stream}
@@ -37,7 +40,7 @@ use Rattle.run_model.specs.Whole.{incoming_of}
 use Rattle.media_laws.specs.Keys.{is_left}
 use Rattle.media_laws.specs.Plain.{extensions_of}
 use Rattle.media_play.specs.Starting.{intervals_of, ssrcs_in, AreOnce, HasWords, IsRow, rows_of, IsIdle, IsUnheard, kept_for, kept_in, with_streams, StreamsChange, Begun, Starts}
-use Rattle.media_play.proofs.StartingLists.{all_push, zip_push, zip_weaker, zip_keys, any_left, any_last, new_last, place_absent, change_none, change_last, keys_among, mains_among, strange}
+use Rattle.media_play.proofs.StartingLists.{all_push, place_left, place_last, zip_push, zip_weaker, zip_keys, any_left, any_last, new_last, place_absent, change_none, change_last, keys_among, mains_among, strange}
 
 -- the sides
 
@@ -60,14 +63,14 @@ pub has_words : (setup : Setup) (s : Stream) → s.ssrc < 2 ^ 32 → ((x : ℕ) 
 has_words setup s ssrc rtx = record { ssrc = ssrc; rtx = rtx }
 
 -- the streams of a session change
-pub streams_change : (f : StreamsRecord → StreamsRecord) (v : EndSession) (old new : EndStreams) → old.rx ≡ v.rx → old.tx ≡ v.state.tx → old.threshold ≡ v.state.pause_threshold → old.originals ≡ v.originals → old.repairs ≡ v.repairs
+pub streams_change : (f : StreamsRecord → StreamsRecord) (v : EndSession) (old new : EndStreams) → old.rx ≡ v.rx → old.tx ≡ v.state.tx → old.threshold ≡ v.state.pause_threshold → old.known ≡ v.known → old.repairs ≡ v.repairs
     → ((r : StreamsRecord) → StreamsStandFor Remembers Holds old r → StreamsStandFor Remembers Holds new (f r))
-    → StreamsChange f v (record v { state = record v.state { tx = new.tx; pause_threshold = new.threshold }; rx = new.rx; originals = new.originals; repairs = new.repairs })
-streams_change f v old new rx tx threshold originals repairs says s h =
+    → StreamsChange f v (record v { state = record v.state { tx = new.tx; pause_threshold = new.threshold }; rx = new.rx; known = new.known; repairs = new.repairs })
+streams_change f v old new rx tx threshold known repairs says s h =
     let after = says (streams_in s) (record {
       threshold = threshold ∙ ap (λ (t : SessionState). t.pause_threshold) h.state;
       rx = rw rx h.rx;
-      originals = originals ∙ h.originals;
+      known = known ∙ h.known;
       tx = tx ∙ ap (λ (t : SessionState). t.tx) h.state;
       repairs = rw repairs h.repairs;
     }) in
@@ -77,7 +80,7 @@ streams_change f v old new rx tx threshold originals repairs says s h =
           ∙ ap (λ (at : ℕ). let n : SessionState = record v.state { tx = made.tx; pause_threshold = at } in n) after.threshold
           ∙ ap (λ (t : SessionState). let n : SessionState = record t { tx = made.tx; pause_threshold = made.threshold } in n) h.state;
       rx = after.rx;
-      originals = after.originals;
+      known = after.known;
       probes = h.probes;
       seen = h.seen;
       repairs = after.repairs;
@@ -152,6 +155,35 @@ original_keys L k i = go L.rtx i
     go (Some rtx) (inl e) = inr (inl e)
     go (Some rtx) (inr j) = absurd j
 
+-- what is known of a stream that comes, and of all with one more
+abbrev heard_as : Outgoing → List ℕ → Option (List ℕ) → IncomingStream
+heard_as L mid rid = first_known L.ssrc L.rtx mid rid (is_none L.rtx)
+
+abbrev known_more : SessionRecord → Outgoing → List ℕ → Option (List ℕ) → KnownRecord
+known_more s L mid rid = record { originals = s.known.originals ++ original_with L.ssrc L.rtx; streams = with_stream (heard_as L mid rid) s.known.streams }
+
+grown : (os more : List (ℕ × ℕ)) (streams : List IncomingStream) → AllByRecursion (HasOriginal os) streams → AllByRecursion (HasOriginal (os ++ more)) streams
+grown os more [] all = tt
+grown os more (s ∷ ss) all = (λ rtx is. place_left rtx os more (all.0 rtx is), grown os more ss all.1)
+
+own_original : (ssrc : ℕ) (os : List (ℕ × ℕ)) (o : Option ℕ) (rtx : ℕ) → o ≡ Some rtx → is_some (place_of rtx (os ++ original_with ssrc o)) ≡ true
+own_original ssrc os None rtx is = absurd cc
+own_original ssrc os (Some x) rtx is = let same : x ≡ rtx = cc in ap (λ (k : ℕ). is_some (place_of k (os ++ (x, ssrc) ∷ []))) (sym same) ∙ place_last x ssrc os
+
+all_known : (L : Outgoing) (mid : List ℕ) (rid : Option (List ℕ)) (s : SessionRecord) → AllByRecursion (HasOriginal s.known.originals) s.known.streams
+    → AllByRecursion (HasOriginal (s.known.originals ++ original_with L.ssrc L.rtx)) (with_stream (heard_as L mid rid) s.known.streams)
+all_known L mid rid s all = by (is_main s.known.streams L.ssrc)
+  where
+    more : List (ℕ × ℕ)
+    more = s.known.originals ++ original_with L.ssrc L.rtx
+
+    before : AllByRecursion (HasOriginal more) s.known.streams
+    before = grown s.known.originals (original_with L.ssrc L.rtx) s.known.streams all
+
+    by : (b : Bool) → AllByRecursion (HasOriginal more) (if b then s.known.streams else s.known.streams ++ fresh (heard_as L mid rid) ∷ [])
+    by true = before
+    by false = all_push (HasOriginal more) s.known.streams (fresh (heard_as L mid rid)) before (own_original L.ssrc s.known.originals L.rtx)
+
 originals_of : (Ls : List Outgoing) → flat_map original_in (map incoming_of Ls) ≡ flat_map (λ L. original_in (incoming_of L)) Ls
 originals_of [] = refl
 originals_of (L ∷ Ls) = ap (λ l. original_in (incoming_of L) ++ l) (originals_of Ls)
@@ -185,6 +217,8 @@ module _ (cipher : CipherMeaning) (setup : Setup) (side : Side) where
         takes = tt;
         probes_stand = record { ssrc = refl; roc = refl; suppressed = refl; threshold_is = pauses; pause = refl; numbers = refl; begun = tt; repairs = refl; seen_main = refl; seen_rtx = refl };
         originals = refl;
+        sections = tt;
+        known = tt;
       }
 
   pub starts_keyed : (config : SessionConfig) (v new : EndSession) (material : List ℕ) (left : Bool) → 900 ≤ config.mtu.target → config.pause_threshold ≡ setup.pause_threshold → config.intervals ≡ intervals_of setup → config.srtcp_index ≡ (local_of side setup).srtcp_index
@@ -206,7 +240,7 @@ module _ (cipher : CipherMeaning) (setup : Setup) (side : Side) where
         stands = record {
           state = state;
           rx = rw is h.rx;
-          originals = rw is h.originals;
+          known = rw is h.known;
           probes = rw is h.probes;
           seen = rw is h.seen;
           repairs = rw is h.repairs;
@@ -217,9 +251,9 @@ module _ (cipher : CipherMeaning) (setup : Setup) (side : Side) where
   module _ (sent received : List Outgoing) where
     -- one media section more
 
-    begun_media : (s : SessionRecord) (m : MediaRecord) → Begun cipher setup side sent received s
+    begun_media : (s : SessionRecord) (m : MediaRecord) → ExpectsNone m → Begun cipher setup side sent received s
         → Begun cipher setup side sent received (record s { state = record s.state { medias = s.state.medias ++ m ∷ [] } })
-    begun_media s m b = record {
+    begun_media s m none b = record {
       seals = b.seals;
       opens = b.opens;
       target = b.target;
@@ -242,11 +276,13 @@ module _ (cipher : CipherMeaning) (setup : Setup) (side : Side) where
       takes = b.takes;
       probes_stand = b.probes_stand;
       originals = b.originals;
+      sections = all_push ExpectsNone s.state.medias m b.sections none;
+      known = b.known;
     }
 
-    pub starts_media : (v new : EndSession) (m : MediaRecord) → new ≡ record v { state = record v.state { medias = v.state.medias ++ m ∷ [] } }
+    pub starts_media : (v new : EndSession) (m : MediaRecord) → ExpectsNone m → new ≡ record v { state = record v.state { medias = v.state.medias ++ m ∷ [] } }
         → Starts cipher setup side sent received v → Starts cipher setup side sent received new
-    starts_media v new m is h =
+    starts_media v new m none is h =
         let to = λ (s : SessionState). let n : SessionState = record s { medias = s.medias ++ m ∷ [] } in n in
         record {
           session = record h.session { state = to h.session.state };
@@ -256,12 +292,12 @@ module _ (cipher : CipherMeaning) (setup : Setup) (side : Side) where
           stands = record {
             state = ap (λ (w : EndSession). w.state) is ∙ ap to h.stands.state;
             rx = rw is h.stands.rx;
-            originals = rw is h.stands.originals;
+            known = rw is h.stands.known;
             probes = rw is h.stands.probes;
             seen = rw is h.stands.seen;
             repairs = rw is h.stands.repairs;
           };
-          begun = begun_media h.session m h.begun;
+          begun = begun_media h.session m none h.begun;
         }
 
     -- one stream more
@@ -290,6 +326,8 @@ module _ (cipher : CipherMeaning) (setup : Setup) (side : Side) where
       takes = b.takes;
       probes_stand = b.probes_stand;
       originals = b.originals;
+      sections = b.sections;
+      known = b.known;
     }
 
     pub starts_sends : (v w z : EndSession) (L : Outgoing) (mid : List ℕ) (rid : Option (List ℕ)) → HasWords L → has_mid mid v.state.medias ≡ true → AreOnce (sent ++ L ∷ [])
@@ -316,7 +354,7 @@ module _ (cipher : CipherMeaning) (setup : Setup) (side : Side) where
     begun_hears : (s : SessionRecord) (L : Outgoing) (mid : List ℕ) (rid : Option (List ℕ)) → Begun cipher setup side sent received s
         → Begun cipher setup side sent (received ++ L ∷ []) (record s {
           rx = s.rx ++ (L.ssrc, expected L.ssrc L.rtx mid rid (is_none L.rtx) s.state.pause_threshold) ∷ [];
-          originals = s.originals ++ original_with L.ssrc L.rtx;
+          known = known_more s L mid rid;
         })
     begun_hears s L mid rid b = record {
       seals = b.seals;
@@ -349,6 +387,8 @@ module _ (cipher : CipherMeaning) (setup : Setup) (side : Side) where
           ∙ ap (λ l. flat_map (λ M. original_in (incoming_of M)) received ++ l) (sym (append-nil (original_in (incoming_of L))))
           ∙ sym (flat_map-append (λ M. original_in (incoming_of M)) received (L ∷ []))
           ∙ sym (originals_of (received ++ L ∷ []));
+      sections = b.sections;
+      known = all_known L mid rid s b.known;
     }
 
     pub starts_hears : (v w : EndSession) (L : Outgoing) (mid : List ℕ) (rid : Option (List ℕ)) → HasWords L → AreOnce (received ++ L ∷ [])
@@ -358,14 +398,15 @@ module _ (cipher : CipherMeaning) (setup : Setup) (side : Side) where
         let s = h.session in
         let none : IsIn L.ssrc (keys_of s.rx) → ⊥ =
         λ i. strange received L L.ssrc once (inl refl) (mains_among received L.ssrc (subst (IsIn L.ssrc) (zip_keys (IsUnheard setup.pause_threshold) (λ (M : Outgoing). M.ssrc) (λ e M k. k.key) s.rx received h.begun.takes) i)) in
-        let no_rtx : (rtx : ℕ) → L.rtx ≡ Some rtx → IsIn rtx (keys_of s.originals) → ⊥ =
+        let no_rtx : (rtx : ℕ) → L.rtx ≡ Some rtx → IsIn rtx (keys_of s.known.originals) → ⊥ =
         λ rtx is i. strange received L rtx once (inr (rtx_own L rtx L.rtx is))
         (keys_among (λ M. original_in (incoming_of M)) original_keys received rtx (subst (λ (l : List (ℕ × ℕ)). IsIn rtx (keys_of l)) (h.begun.originals ∙ originals_of received) i)) in
         let x = expected L.ssrc L.rtx mid rid (is_none L.rtx) s.state.pause_threshold in
         let rx : with_new L.ssrc x s.rx ≡ s.rx ++ (L.ssrc, x) ∷ [] = new_last L.ssrc x s.rx none in
-        let originals : with_original L.ssrc L.rtx s.rx s.originals ≡ s.originals ++ original_with L.ssrc L.rtx = original_added L.ssrc L.rtx s.rx s.originals none no_rtx in
-        let after : SessionRecord = record s { rx = s.rx ++ (L.ssrc, x) ∷ []; originals = s.originals ++ original_with L.ssrc L.rtx } in
-        let same : with_streams (with_stream_rx L.ssrc L.rtx mid rid (is_none L.rtx) (streams_in s)) s ≡ after = λ i. record s { rx = rx i; originals = originals i } in
+        let originals : with_original L.ssrc L.rtx s.rx s.known.originals ≡ s.known.originals ++ original_with L.ssrc L.rtx = original_added L.ssrc L.rtx s.rx s.known.originals none no_rtx in
+        let streams = ap (λ b. if b then s.known.streams else with_stream (heard_as L mid rid) s.known.streams) (place_absent L.ssrc s.rx none) in
+        let after : SessionRecord = record s { rx = s.rx ++ (L.ssrc, x) ∷ []; known = known_more s L mid rid } in
+        let same : with_streams (with_stream_rx L.ssrc L.rtx mid rid (is_none L.rtx) (streams_in s)) s ≡ after = λ i. record s { rx = rx i; known = record { originals = originals i; streams = streams i } } in
         record {
           session = after;
           bounded = h.bounded;

@@ -12,7 +12,7 @@ use Rattle.report_core.specs.declared.clock.ReportIntervals.{ReportIntervals}
 use Rattle.stream_core.specs.TxRecord.{TxRecord}
 use Rattle.session_core.specs.Sending.{has_mid}
 use Rattle.session_core.specs.SessionRecord.{MediaRecord, SessionRecord, streams_in}
-use Rattle.session_turns.specs.Mirrors.{RxMirrors, RxStands, original_in}
+use Rattle.session_turns.specs.Mirrors.{RxMirrors, RxStands, original_in, ExpectsNone, HasOriginal}
 use Rattle.media_model.specs.declared.entry.Side.{Side}
 use Rattle.media_model.specs.declared.setup.Media.{Media}
 use Rattle.media_model.specs.declared.setup.PayloadType.{PayloadType}
@@ -93,7 +93,7 @@ abbrev pub with_streams : StreamsRecord → SessionRecord → SessionRecord
 with_streams s r = record r {
   state = record r.state { tx = s.tx; pause_threshold = s.threshold };
   rx = s.rx;
-  originals = s.originals;
+  known = s.known;
   repairs = s.repairs;
 }
 
@@ -129,7 +129,9 @@ pub record Begun (cipher : CipherMeaning) (setup : Setup) (side : Side) (sent re
   pub repairs : s.repairs ≡ flat_map kept_in sent
   pub takes : AllZip (IsUnheard setup.pause_threshold) s.rx received
   pub probes_stand : RxMirrors setup.pause_threshold [] s.probes (probes, new_rx)
-  pub originals : s.originals ≡ flat_map original_in (map incoming_of received)
+  pub originals : s.known.originals ≡ flat_map original_in (map incoming_of received)
+  pub sections : AllByRecursion ExpectsNone s.state.medias
+  pub known : AllByRecursion (HasOriginal s.known.originals) s.known.streams
 
 pub record Starts (cipher : CipherMeaning) (setup : Setup) (side : Side) (sent received : List Outgoing) (view : EndSession) : Type 0 where
   pub session : SessionRecord

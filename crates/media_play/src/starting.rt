@@ -24,8 +24,9 @@ ghost use Rattle.setup_rules.specs.SetupRules.{is_mtu, setup_fault};
 ghost use Rattle.media_play.specs.Starting.{IsRow, rows_in, rows_of, AreOnce, outgoing_at, StreamsChange, Starts, IsStarted};
 
 use crate::numbers::Numbers;
+use mapping_core::Rids;
 use mask_register::MaskRegister;
-use media_base::Bytes;
+use media_base::{Bytes, Listed};
 use media_model::{Cache, FirstNumber, Media, MediaKind, PayloadType, Setup, Side, Stream};
 use queue_store::QueueStore;
 use rtp_wire::{Frequency, Mid, MidRid, SeqNo, Ssrc};
@@ -47,12 +48,14 @@ fn add_type(types: &mut PayloadTypes, row: &PayloadType) -> Result<(), AllocErro
         pt: row.pt,
         clock,
         rtx: row.rtx,
+        red: row.red,
     })?;
     if let Some(pt) = row.red {
         types.add(TypeRow {
             pt,
             clock,
             rtx: None,
+            red: None,
         })?;
     }
     Ok(())
@@ -254,7 +257,7 @@ fn add_streams<C: SrtpCipher>(
     Ok(())
 }
 
-/// Adds a media section of a setup to a session of a side, with its streams.
+/// Adds a media section of a setup to a session of a side, with its streams. It expects no stream but these.
 fn add_media<C: SrtpCipher>(
     alloc: Global,
     session: &mut Session<C, MaskRegister, QueueStore<Sent>>,
@@ -270,7 +273,8 @@ fn add_media<C: SrtpCipher>(
         (received ++ outgoing_at setup.now (peer_of side) media.now) session.new) }
 {
     let cname = Bytes::from_slice(alloc, media.cname.as_slice())?;
-    let section = Section::new(media.mid, section_kind(media.kind), cname);
+    let mut section = Section::new(media.mid, section_kind(media.kind), cname);
+    section.set_rid_rx(Rids::Specific(Listed::new(alloc)));
     match session.add_media(section) {
         Ok(()) => add_streams(session, setup, side, media.mid, media.streams.as_slice()),
         Err(_) => Err(AllocError),

@@ -46,6 +46,7 @@ fn config(alloc: Global) -> Result<SessionConfig, AllocError>
         pt: Pt::from(96),
         clock: Frequency::NINETY_KHZ,
         rtx: Some(Pt::from(97)),
+        red: None,
     })?;
     Ok(SessionConfig {
         id: 1,

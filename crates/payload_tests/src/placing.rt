@@ -4,7 +4,6 @@ use red_core::RedMemory;
 use repair_core::{GapWindow, NackRegister};
 use rtp_base::SeqNo;
 use std::alloc::{AllocError, Global};
-use std::test::Fail;
 
 // A stream on which numbers came at these times, and numbers that came whose times are forgotten.
 #[derive(Drop)]
@@ -37,89 +36,184 @@ fn place(stream: &Stream, datagram: u32, time: u64) -> Option<u64> {
     Some(u64::from(place))
 }
 
+/// What is done with a stream, or asked of it.
+#[derive(Clone, Copy)]
+enum Step {
+    /// A block of this time, that comes in this datagram, has this place.
+    Place(u32, u64, Option<u64>),
+    /// The packet of this number and time is recovered.
+    Recovers(u32, u64),
+    /// This number came at this time.
+    Took(u32, u64),
+    /// The numbers from this one up to the other came 960 ticks after one another.
+    TookEach(u32, u32),
+    /// All times are forgotten.
+    Clears,
+}
+
+use Step::{Clears, Place, Recovers, Took, TookEach};
+
+/// The numbers that came and their times, those that came and whose times are forgotten, and what then is done.
+type Row = (&'static [(u32, u64)], &'static [u32], &'static [Step]);
+
+fn goes(stream: &mut Stream, step: Step) -> bool {
+    match step {
+        Place(datagram, time, wanted) => return place(stream, datagram, time) == wanted,
+        Recovers(n, time) => stream.memory.recovered(&mut stream.window, number(n), time),
+        Took(n, time) => stream.memory.took(number(n), time),
+        TookEach(first, end) => {
+            for n in first..end {
+                stream.memory.took(number(n), u64::from(n) * 960);
+            }
+        }
+        Clears => stream.memory.clear(),
+    }
+    true
+}
+
+fn goes_through(stream: &mut Stream, steps: &[Step]) -> bool {
+    for step in steps {
+        if !goes(stream, *step) {
+            return false;
+        }
+    }
+    true
+}
+
+// Whether each row goes so: the one function that owns streams.
+fn hold(alloc: Global, rows: &[Row]) -> Result<bool, AllocError> {
+    for (came, alone, steps) in rows {
+        let mut stream = stream_of(alloc, came, alone)?;
+        if !goes_through(&mut stream, steps) {
+            return Ok(false);
+        }
+    }
+    Ok(true)
+}
+
 // A block whose time a number has, and one a tick beside it.
+const KNOWN: [Row; 1] = [(
+    &[(1, 0), (4, 2880)],
+    &[],
+    &[
+        Place(4, 0, None),
+        Place(4, 2880, None),
+        Place(4, 960, Some(2)),
+        Recovers(2, 960),
+        Place(4, 960, None),
+        Place(4, 959, None),
+        Place(4, 961, Some(3)),
+    ],
+)];
+
 #[test]
-fn a_known_time_has_no_place(rt: HostRuntime) -> Result<(), Fail> {
-    let mut stream = stream_of(rt.alloc(), &[(1, 0), (4, 2880)], &[])?;
-    assert_eq!(rt; place(&stream, 4, 0), None);
-    assert_eq!(rt; place(&stream, 4, 2880), None);
-    assert_eq!(rt; place(&stream, 4, 960), Some(2));
-    stream.memory.recovered(&mut stream.window, number(2), 960);
-    assert_eq!(rt; place(&stream, 4, 960), None);
-    assert_eq!(rt; place(&stream, 4, 959), None);
-    assert_eq!(rt; place(&stream, 4, 961), Some(3));
-    Ok(())
+fn a_known_time_has_no_place(rt: HostRuntime) {
+    assert!(rt; hold(rt.alloc(), &KNOWN) == Ok(true));
 }
 
 // A number on each side, and the lower one at most 9 below the datagram.
+const BOTH_SIDES: [Row; 4] = [
+    (
+        &[(5, 1000), (7, 3000)],
+        &[],
+        &[
+            Place(7, 999, None),
+            Place(7, 1001, Some(6)),
+            Place(7, 3001, None),
+        ],
+    ),
+    (
+        &[(1, 0), (3, 1920), (6, 4800), (9, 7680)],
+        &[],
+        &[Place(9, 3840, Some(5))],
+    ),
+    (&[(1, 0), (10, 8640)], &[], &[Place(10, 960, Some(2))]),
+    (&[(1, 0), (11, 9600)], &[], &[Place(11, 8640, None)]),
+];
+
 #[test]
-fn numbers_stand_on_both_sides(rt: HostRuntime) -> Result<(), Fail> {
-    let two = stream_of(rt.alloc(), &[(5, 1000), (7, 3000)], &[])?;
-    assert_eq!(rt; place(&two, 7, 999), None);
-    assert_eq!(rt; place(&two, 7, 1001), Some(6));
-    assert_eq!(rt; place(&two, 7, 3001), None);
-    let four = stream_of(rt.alloc(), &[(1, 0), (3, 1920), (6, 4800), (9, 7680)], &[])?;
-    assert_eq!(rt; place(&four, 9, 3840), Some(5));
-    let near = stream_of(rt.alloc(), &[(1, 0), (10, 8640)], &[])?;
-    assert_eq!(rt; place(&near, 10, 960), Some(2));
-    let far = stream_of(rt.alloc(), &[(1, 0), (11, 9600)], &[])?;
-    assert_eq!(rt; place(&far, 11, 8640), None);
-    Ok(())
+fn numbers_stand_on_both_sides(rt: HostRuntime) {
+    assert!(rt; hold(rt.alloc(), &BOTH_SIDES) == Ok(true));
 }
 
 // One number between takes any time between, also where others there came.
+const ONE_BETWEEN: [Row; 3] = [
+    (
+        &[(1, 0), (3, 5000)],
+        &[],
+        &[Place(3, 1, Some(2)), Place(3, 4999, Some(2))],
+    ),
+    (&[(1, 0), (4, 3001)], &[3], &[Place(4, 17, Some(2))]),
+    (&[(1, 0), (2, 1000)], &[], &[Place(2, 500, None)]),
+];
+
 #[test]
-fn one_number_takes_any_time(rt: HostRuntime) -> Result<(), Fail> {
-    let one = stream_of(rt.alloc(), &[(1, 0), (3, 5000)], &[])?;
-    assert_eq!(rt; place(&one, 3, 1), Some(2));
-    assert_eq!(rt; place(&one, 3, 4999), Some(2));
-    let other = stream_of(rt.alloc(), &[(1, 0), (4, 3001)], &[3])?;
-    assert_eq!(rt; place(&other, 4, 17), Some(2));
-    let none = stream_of(rt.alloc(), &[(1, 0), (2, 1000)], &[])?;
-    assert_eq!(rt; place(&none, 2, 500), None);
-    Ok(())
+fn one_number_takes_any_time(rt: HostRuntime) {
+    assert!(rt; hold(rt.alloc(), &ONE_BETWEEN) == Ok(true));
 }
 
 // Of several numbers the one at the time, where both divisions are exact and it did not come.
+const SEVERAL_BETWEEN: [Row; 3] = [
+    (
+        &[(1, 0), (4, 2880)],
+        &[],
+        &[
+            Place(4, 960, Some(2)),
+            Place(4, 1920, Some(3)),
+            Place(4, 1000, None),
+        ],
+    ),
+    (&[(1, 0), (4, 2881)], &[], &[Place(4, 960, None)]),
+    (
+        &[(1, 0), (5, 3840)],
+        &[3],
+        &[
+            Place(5, 960, Some(2)),
+            Place(5, 1920, None),
+            Place(5, 2880, Some(4)),
+        ],
+    ),
+];
+
 #[test]
-fn several_numbers_rise_evenly(rt: HostRuntime) -> Result<(), Fail> {
-    let even = stream_of(rt.alloc(), &[(1, 0), (4, 2880)], &[])?;
-    assert_eq!(rt; place(&even, 4, 960), Some(2));
-    assert_eq!(rt; place(&even, 4, 1920), Some(3));
-    assert_eq!(rt; place(&even, 4, 1000), None);
-    let uneven = stream_of(rt.alloc(), &[(1, 0), (4, 2881)], &[])?;
-    assert_eq!(rt; place(&uneven, 4, 960), None);
-    let between = stream_of(rt.alloc(), &[(1, 0), (5, 3840)], &[3])?;
-    assert_eq!(rt; place(&between, 5, 960), Some(2));
-    assert_eq!(rt; place(&between, 5, 1920), None);
-    assert_eq!(rt; place(&between, 5, 2880), Some(4));
-    Ok(())
+fn several_numbers_rise_evenly(rt: HostRuntime) {
+    assert!(rt; hold(rt.alloc(), &SEVERAL_BETWEEN) == Ok(true));
 }
 
 // A place is not above the datagram.
+const BELOW_ITS_DATAGRAM: [Row; 1] = [(
+    &[(1, 0), (4, 2880)],
+    &[],
+    &[
+        Place(2, 960, Some(2)),
+        Place(2, 1920, None),
+        Place(0, 960, None),
+    ],
+)];
+
 #[test]
-fn a_block_came_before_its_datagram(rt: HostRuntime) -> Result<(), Fail> {
-    let stream = stream_of(rt.alloc(), &[(1, 0), (4, 2880)], &[])?;
-    assert_eq!(rt; place(&stream, 2, 960), Some(2));
-    assert_eq!(rt; place(&stream, 2, 1920), None);
-    assert_eq!(rt; place(&stream, 0, 960), None);
-    Ok(())
+fn a_block_came_before_its_datagram(rt: HostRuntime) {
+    assert!(rt; hold(rt.alloc(), &BELOW_ITS_DATAGRAM) == Ok(true));
 }
 
 // The 32 numbers that came last are remembered, and a cleared memory has none.
+const LAST_32: [Row; 1] = [(
+    &[(1, 0), (3, 1920)],
+    &[],
+    &[
+        TookEach(4, 34),
+        Place(3, 960, Some(2)),
+        Took(34, 32640),
+        Place(3, 960, None),
+        Clears,
+        Took(1, 0),
+        Place(3, 960, None),
+        Took(3, 1920),
+        Place(3, 960, Some(2)),
+    ],
+)];
+
 #[test]
-fn the_last_32_are_remembered(rt: HostRuntime) -> Result<(), Fail> {
-    let mut stream = stream_of(rt.alloc(), &[(1, 0), (3, 1920)], &[])?;
-    for n in 4..34u32 {
-        stream.memory.took(number(n), u64::from(n) * 960);
-    }
-    assert_eq!(rt; place(&stream, 3, 960), Some(2));
-    stream.memory.took(number(34), 32640);
-    assert_eq!(rt; place(&stream, 3, 960), None);
-    stream.memory.clear();
-    stream.memory.took(number(1), 0);
-    assert_eq!(rt; place(&stream, 3, 960), None);
-    stream.memory.took(number(3), 1920);
-    assert_eq!(rt; place(&stream, 3, 960), Some(2));
-    Ok(())
+fn the_last_32_are_remembered(rt: HostRuntime) {
+    assert!(rt; hold(rt.alloc(), &LAST_32) == Ok(true));
 }

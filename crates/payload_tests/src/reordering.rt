@@ -5,19 +5,18 @@ use payload_core::{
 };
 use rtp_base::{Frequency, MediaTime, SeqNo};
 use rtp_wire::{ExtensionMap, RtpHeader};
-use std::alloc::AllocError;
-use std::test::Fail;
+use std::alloc::{AllocError, Global};
 
 type Buffer = DepacketizingBuffer<u8>;
 
-fn buffer_of(rt: &HostRuntime, codec: Codec, clock_rate: Frequency, hold_back: usize) -> Buffer {
+fn buffer_of(alloc: Global, codec: Codec, clock_rate: Frequency, hold_back: usize) -> Buffer {
     let depack = CodecDepacketizer::new(CodecSpec {
         codec,
         clock_rate,
         channels: None,
         format: FormatParams::default(),
     });
-    DepacketizingBuffer::new(rt.alloc(), depack, hold_back)
+    DepacketizingBuffer::new(alloc, depack, hold_back)
 }
 
 fn meta(number: u64, came: u64) -> Option<RtpMeta<u8>> {
@@ -33,7 +32,7 @@ fn meta(number: u64, came: u64) -> Option<RtpMeta<u8>> {
 }
 
 fn put(
-    rt: &HostRuntime,
+    alloc: Global,
     buffer: &mut Buffer,
     number: u64,
     came: u64,
@@ -42,7 +41,7 @@ fn put(
     let Some(meta) = meta(number, came) else {
         return Ok(false);
     };
-    buffer.push(meta, Bytes::from_slice(rt.alloc(), payload)?)?;
+    buffer.push(meta, Bytes::from_slice(alloc, payload)?)?;
     Ok(true)
 }
 
@@ -108,139 +107,163 @@ enum Step {
     Missing(Option<(u64, u64, u64)>),
 }
 
+fn goes(alloc: Global, buffer: &mut Buffer, step: Step) -> Result<bool, AllocError> {
+    match step {
+        Step::Put(number, came) => put(alloc, buffer, number, came, &[1]),
+        Step::Pad(number) => pad(buffer, number),
+        Step::Deadline(moment) => Ok(give_up_at(buffer, moment)),
+        Step::Give(now, timeout, want) => Ok(give(buffer, now, timeout) == want),
+        Step::Wake(timeout, want) => Ok(wake(buffer, timeout) == want),
+        Step::Missing(want) => Ok(missing(buffer) == want),
+    }
+}
+
 // The first step that is not answered so.
 fn first_wrong(
-    rt: &HostRuntime,
-    hold_back: usize,
+    alloc: Global,
+    buffer: &mut Buffer,
     steps: &[Step],
 ) -> Result<Option<usize>, AllocError> {
-    let mut buffer = buffer_of(rt, Codec::Opus, Frequency::FORTY_EIGHT_KHZ, hold_back);
     for (i, step) in steps.iter().enumerate() {
-        let right = match *step {
-            Step::Put(number, came) => put(rt, &mut buffer, number, came, &[1])?,
-            Step::Pad(number) => pad(&mut buffer, number)?,
-            Step::Deadline(moment) => give_up_at(&mut buffer, moment),
-            Step::Give(now, timeout, want) => give(&mut buffer, now, timeout) == want,
-            Step::Wake(timeout, want) => wake(&buffer, timeout) == want,
-            Step::Missing(want) => missing(&buffer) == want,
-        };
-        if !right {
+        if !goes(alloc, buffer, *step)? {
             return Ok(Some(i));
         }
     }
     Ok(None)
 }
 
+// Takes a buffer of sound through steps: the one function that owns it, with one exit.
+fn play(alloc: Global, hold_back: usize, steps: &[Step]) -> Result<Option<usize>, AllocError> {
+    let mut buffer = buffer_of(alloc, Codec::Opus, Frequency::FORTY_EIGHT_KHZ, hold_back);
+    first_wrong(alloc, &mut buffer, steps)
+}
+
 // In order, replays, and numbers at or below the last one given.
+const IN_ORDER: [Step; 10] = [
+    Step::Give(0, None, None),
+    Step::Put(6, 0),
+    Step::Put(5, 0),
+    Step::Missing(None),
+    Step::Give(0, None, Some((5, true))),
+    Step::Put(5, 0),
+    Step::Put(4, 0),
+    Step::Put(6, 0),
+    Step::Give(0, None, Some((6, true))),
+    Step::Give(0, None, None),
+];
+
 #[test]
-fn packets_in_order(rt: HostRuntime) -> Result<(), AllocError> {
-    let steps = [
-        Step::Give(0, None, None),
-        Step::Put(6, 0),
-        Step::Put(5, 0),
-        Step::Missing(None),
-        Step::Give(0, None, Some((5, true))),
-        Step::Put(5, 0),
-        Step::Put(4, 0),
-        Step::Put(6, 0),
-        Step::Give(0, None, Some((6, true))),
-        Step::Give(0, None, None),
-    ];
-    assert_eq!(rt; first_wrong(&rt, 2, &steps)?, None);
-    Ok(())
+fn packets_in_order(rt: HostRuntime) {
+    assert!(rt; play(rt.alloc(), 2, &IN_ORDER) == Ok(None));
 }
 
 // A gap that is passed over once more than two packets wait, and one that is filled.
+const HELD_BACK: [Step; 16] = [
+    Step::Put(6, 0),
+    Step::Give(0, None, Some((6, true))),
+    Step::Put(9, 7),
+    Step::Put(10, 0),
+    Step::Missing(Some((7, 9, 7))),
+    Step::Give(0, None, None),
+    Step::Put(11, 0),
+    Step::Missing(None),
+    Step::Give(0, None, Some((9, false))),
+    Step::Give(0, None, Some((10, true))),
+    Step::Put(13, 0),
+    Step::Give(0, None, Some((11, true))),
+    Step::Give(0, None, None),
+    Step::Put(12, 0),
+    Step::Give(0, None, Some((12, true))),
+    Step::Give(0, None, Some((13, true))),
+];
+
 #[test]
-fn gaps_hold_packets_back(rt: HostRuntime) -> Result<(), AllocError> {
-    let steps = [
-        Step::Put(6, 0),
-        Step::Give(0, None, Some((6, true))),
-        Step::Put(9, 7),
-        Step::Put(10, 0),
-        Step::Missing(Some((7, 9, 7))),
-        Step::Give(0, None, None),
-        Step::Put(11, 0),
-        Step::Missing(None),
-        Step::Give(0, None, Some((9, false))),
-        Step::Give(0, None, Some((10, true))),
-        Step::Put(13, 0),
-        Step::Give(0, None, Some((11, true))),
-        Step::Give(0, None, None),
-        Step::Put(12, 0),
-        Step::Give(0, None, Some((12, true))),
-        Step::Give(0, None, Some((13, true))),
-    ];
-    assert_eq!(rt; first_wrong(&rt, 2, &steps)?, None);
-    Ok(())
+fn gaps_hold_packets_back(rt: HostRuntime) {
+    assert!(rt; play(rt.alloc(), 2, &HELD_BACK) == Ok(None));
 }
 
 // By the timeout of sound, and by the recovery deadline.
+const GIVEN_UP: [Step; 14] = [
+    Step::Put(5, 0),
+    Step::Give(0, None, Some((5, true))),
+    Step::Put(8, 100),
+    Step::Wake(None, None),
+    Step::Wake(Some(50), Some(150)),
+    Step::Give(149, Some(50), None),
+    Step::Give(150, Some(50), Some((8, false))),
+    Step::Put(10, 200),
+    Step::Deadline(210),
+    Step::Wake(None, Some(210)),
+    Step::Wake(Some(5), Some(205)),
+    Step::Wake(Some(50), Some(210)),
+    Step::Give(209, None, None),
+    Step::Give(210, None, Some((10, false))),
+];
+
 #[test]
-fn gaps_are_given_up(rt: HostRuntime) -> Result<(), AllocError> {
-    let steps = [
-        Step::Put(5, 0),
-        Step::Give(0, None, Some((5, true))),
-        Step::Put(8, 100),
-        Step::Wake(None, None),
-        Step::Wake(Some(50), Some(150)),
-        Step::Give(149, Some(50), None),
-        Step::Give(150, Some(50), Some((8, false))),
-        Step::Put(10, 200),
-        Step::Deadline(210),
-        Step::Wake(None, Some(210)),
-        Step::Wake(Some(5), Some(205)),
-        Step::Wake(Some(50), Some(210)),
-        Step::Give(209, None, None),
-        Step::Give(210, None, Some((10, false))),
-    ];
-    assert_eq!(rt; first_wrong(&rt, 15, &steps)?, None);
-    Ok(())
+fn gaps_are_given_up(rt: HostRuntime) {
+    assert!(rt; play(rt.alloc(), 15, &GIVEN_UP) == Ok(None));
 }
 
 // 6 and 8 count as given once they are next; 7 is missing; 9 stays a padding number.
+const PADDED: [Step; 16] = [
+    Step::Put(5, 0),
+    Step::Pad(6),
+    Step::Pad(8),
+    Step::Pad(9),
+    Step::Put(9, 0),
+    Step::Put(10, 0),
+    Step::Give(0, None, Some((5, true))),
+    Step::Put(6, 0),
+    Step::Missing(Some((7, 10, 0))),
+    Step::Give(0, None, None),
+    Step::Put(7, 0),
+    Step::Give(0, None, Some((7, true))),
+    Step::Give(0, None, Some((10, true))),
+    Step::Pad(11),
+    Step::Put(12, 0),
+    Step::Give(0, None, Some((12, true))),
+];
+
 #[test]
-fn padding_numbers(rt: HostRuntime) -> Result<(), AllocError> {
-    let steps = [
-        Step::Put(5, 0),
-        Step::Pad(6),
-        Step::Pad(8),
-        Step::Pad(9),
-        Step::Put(9, 0),
-        Step::Put(10, 0),
-        Step::Give(0, None, Some((5, true))),
-        Step::Put(6, 0),
-        Step::Missing(Some((7, 10, 0))),
-        Step::Give(0, None, None),
-        Step::Put(7, 0),
-        Step::Give(0, None, Some((7, true))),
-        Step::Give(0, None, Some((10, true))),
-        Step::Pad(11),
-        Step::Put(12, 0),
-        Step::Give(0, None, Some((12, true))),
-    ];
-    assert_eq!(rt; first_wrong(&rt, 15, &steps)?, None);
-    Ok(())
+fn padding_numbers(rt: HostRuntime) {
+    assert!(rt; play(rt.alloc(), 15, &PADDED) == Ok(None));
 }
 
-// A front that is refused is gone.
-#[test]
-fn refused_fronts(rt: HostRuntime) -> Result<(), Fail> {
-    let mut buffer = buffer_of(&rt, Codec::Telephone, Frequency::EIGHT_KHZ, 0);
-    assert!(rt; put(&rt, &mut buffer, 5, 0, &[5, 0x8a, 0])?);
-    assert!(rt; put(&rt, &mut buffer, 6, 0, &[5, 0x8a, 0, 1])?);
-    let short = buffer.pop(Instant::from_nanos(0), None);
-    assert!(rt; matches!(&short, Some(Err(PacketError::ShortTelephone))));
-    let tone = TelephoneEvent {
+// The digit 5, ended, at -10 dBm0, of one tick of 8,000.
+fn tone() -> CodecExtra {
+    CodecExtra::Tele(TelephoneEvent {
         event: 5,
         end: true,
         volume: 10,
         duration: Duration::from_nanos(125_000),
-    };
-    let Some(Ok(frame)) = buffer.pop(Instant::from_nanos(0), None) else {
-        assert!(rt; false, "no frame");
-        return Ok(());
-    };
-    assert_eq!(rt; frame.codec_extra, CodecExtra::Tele(tone));
-    Ok(())
+    })
+}
+
+fn refuses_front(buffer: &mut Buffer) -> bool {
+    match buffer.pop(Instant::from_nanos(0), None) {
+        Some(Err(error)) => error == PacketError::ShortTelephone,
+        _ => false,
+    }
+}
+
+fn gives_tone(buffer: &mut Buffer) -> bool {
+    match buffer.pop(Instant::from_nanos(0), None) {
+        Some(Ok(frame)) => frame.codec_extra == tone(),
+        _ => false,
+    }
+}
+
+fn refuses_once(alloc: Global, buffer: &mut Buffer) -> Result<bool, AllocError> {
+    let short = put(alloc, buffer, 5, 0, &[5, 0x8a, 0])?;
+    let whole = put(alloc, buffer, 6, 0, &[5, 0x8a, 0, 1])?;
+    Ok(short && whole && refuses_front(buffer) && gives_tone(buffer))
+}
+
+// A front that is refused is gone.
+#[test]
+fn refused_fronts(rt: HostRuntime) {
+    let mut buffer = buffer_of(rt.alloc(), Codec::Telephone, Frequency::EIGHT_KHZ, 0);
+    let refused = refuses_once(rt.alloc(), &mut buffer);
+    assert!(rt; refused == Ok(true));
 }

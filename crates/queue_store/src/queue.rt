@@ -221,6 +221,14 @@ impl<T: Drop> ResendStore<T> for QueueStore<T> {
         self.get(position).is_some()
     }
 
+    fn max_size(&self) -> usize {
+        self.size
+    }
+
+    fn max_age(&self) -> Duration {
+        self.age
+    }
+
     fn last_position(&self) -> Option<u64> {
         self.last
     }

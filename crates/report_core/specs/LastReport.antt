@@ -1,5 +1,5 @@
 -- What came from the sender of an incoming stream, and what a receiver tells of it (RFC 3550 section 6.4.1).
-use Rattle.std.specs.Prelude.{ℕ, ◌-◌, ◌*◌, ◌/◌, ◌%◌, ◌^◌, true, false, if◌then◌else◌, Option, Some, None}
+use Rattle.std.specs.Prelude.{ℕ, ◌-◌, ◌*◌, ◌/◌, ◌%◌, ◌^◌, Option, Some, None}
 use Rattle.std.specs.Option.{option_map}
 use Rattle.media_units.specs.Wallclock.{ntp_of_unix}
 use Rattle.rtp_base.specs.Widen.{widen32}
@@ -17,21 +17,13 @@ abbrev pub delay_units : ℕ → ℕ
 delay_units nanos = nanos / 1000 * 65536 / 1000000 % 2 ^ 32
 
 abbrev pub no_news : SenderNews
-no_news = record { last = None; is_untold = false }
+no_news = record { last = None }
 
 -- a report came at a moment; its RTP time is widened by that of the one before
 abbrev pub with_report : SenderInfo → (now : ℕ) → SenderNews → SenderNews
 with_report info now n = record {
   last = Some (record { info = info; rtp_time = widen32 (option_map (λ l. l.rtp_time) n.last) info.rtp_time; received_at = now });
-  is_untold = true;
 }
-
--- the report that is still to be told
-abbrev pub untold_of : SenderNews → Option LastSenderReport
-untold_of n = if n.is_untold then n.last else None
-
-abbrev pub after_told : SenderNews → SenderNews
-after_told n = record n { is_untold = false }
 
 -- when the last sender report was sent, and how long ago it came; both 0 before one came
 abbrev pub last_sr_time : Option LastSenderReport → ℕ

@@ -116,11 +116,4 @@ impl SenderClock {
     {
         self.last = now;
     }
-
-    /// The reports begin anew, as where the stream gets another SSRC. Its kind stays.
-    pub fn restart(&mut self)
-        ensures { self.new ≡ record self.old { last = 0 } }
-    {
-        self.last = already_happened();
-    }
 }

@@ -75,11 +75,4 @@ impl RtpClock {
             _ => 0,
         }
     }
-
-    /// The stream begins anew, as where it gets another SSRC: nothing was written. The clock stays.
-    pub fn restart(&mut self)
-        ensures { self.new ≡ record self.old { written = None } }
-    {
-        self.written = None;
-    }
 }

@@ -1,18 +1,16 @@
 //! What came from the sender of an incoming stream, and what a receiver tells of it.
-ghost use Rattle.std.specs.Prelude.{◌≡◌, unwrap_or};
+ghost use Rattle.std.specs.Prelude.{◌≡◌};
 ghost use Rattle.report_core.specs.LastReport.{
   compact_of,
   delay_units,
   no_news,
   with_report,
-  after_told,
-  untold_of,
   block_of,
 };
 
 use media_base::{Duration, Instant, SystemTime, SystemTimeExt};
 use rtcp_wire::SenderInfo;
-use rtp_base::{Frequency, MediaTime, ReceptionReport, Ssrc, widen32};
+use rtp_base::{ReceptionReport, Ssrc, widen32};
 
 /// The last sender report that came.
 #[derive(Clone, Copy, Debug, PartialEq, Eq)]
@@ -25,24 +23,11 @@ pub struct LastSenderReport {
     pub received_at: Instant,
 }
 
-impl LastSenderReport {
-    /// Its RTP time, in ticks of the clock of the stream's last packet, or of seconds before any
-    /// packet came.
-    pub fn media_time(&self, clock: Option<Frequency>) -> MediaTime
-        ensures ticks { result.numer ≡ self.now.rtp_time }
-        ensures clock { result.frequency ≡ unwrap_or clock 1 }
-    {
-        MediaTime::new(self.rtp_time, clock.unwrap_or(Frequency::SECONDS))
-    }
-}
-
 /// What came of sender reports on an incoming stream. Each call takes constant time.
 #[derive(Clone, Copy, Debug, PartialEq, Eq)]
 pub struct SenderNews {
     /// The last report, None before any came.
     pub last: Option<LastSenderReport>,
-    /// Whether it is still to be told.
-    pub is_untold: bool,
 }
 
 /// The middle 32 bits of the 64 in which NTP tells a moment (RFC 3550 section 4).
@@ -66,10 +51,7 @@ impl SenderNews {
     pub fn new() -> Self
         ensures { result ≡ no_news }
     {
-        SenderNews {
-            last: None,
-            is_untold: false,
-        }
+        SenderNews { last: None }
     }
 
     /// Takes in a report that came at a moment, in place of the one before.
@@ -82,19 +64,6 @@ impl SenderNews {
             rtp_time: widen32(before, info.rtp_time),
             received_at: now,
         });
-        self.is_untold = true;
-    }
-
-    /// The last report, where it was not given so before.
-    pub fn poll(&mut self) -> Option<LastSenderReport>
-        ensures report { result ≡ untold_of self.old }
-        ensures after { self.new ≡ after_told self.old }
-    {
-        if !self.is_untold {
-            return None;
-        }
-        self.is_untold = false;
-        self.last
     }
 
     /// The reception block of a source at a moment (RFC 3550 section 6.4.1): what its register

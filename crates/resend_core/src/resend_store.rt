@@ -1,7 +1,7 @@
 ghost use Rattle.std.specs.Prelude.{◌≡◌, ℕ, Bool, Option, Some, None, true, is_some, option_and_then, OnSome, OnOk, OnErr, IfOk, IsOk};
 ghost use Rattle.std.specs.Option.{option_copied, option_copied_mut};
 ghost use Rattle.std.specs.Borrow.{sem, LendsIf};
-ghost use Rattle.resend_core.specs.ResendStore.{Past, evicted, with_event, emptied, made, revalued, last_position, HeldAs, IsPushedInto, IsPassedOver, MarksPush, MarksEviction};
+ghost use Rattle.resend_core.specs.ResendStore.{Past, evicted, with_event, emptied, made, size_of, revalued, last_position, HeldAs, IsPushedInto, IsPassedOver, MarksPush, MarksEviction};
 
 use crate::rtx_cache_buf::EvictingBuffer;
 use media_base::{Duration, Instant};
@@ -65,6 +65,14 @@ pub trait ResendStore<T: Drop>: Drop {
     /// Whether the value of a position is held.
     fn contains(&self, position: u64) -> bool
         ensures { result ≡ is_some (value_at self.now position) };
+
+    /// How many values it may hold in the end.
+    fn max_size(&self) -> usize
+        ensures { (past : Past T) → stands_for self.now past → result ≡ size_of past };
+
+    /// The age beyond which it holds no value.
+    fn max_age(&self) -> Duration
+        ensures { (past : Past T) → stands_for self.now past → result ≡ past.age };
 
     /// The position that was stored last.
     fn last_position(&self) -> Option<u64>
@@ -136,6 +144,14 @@ impl<T: Drop> ResendStore<T> for EvictingBuffer<T> {
     #[inline(always)]
     fn contains(&self, position: u64) -> bool {
         EvictingBuffer::contains(self, position)
+    }
+
+    fn max_size(&self) -> usize {
+        EvictingBuffer::max_size(self)
+    }
+
+    fn max_age(&self) -> Duration {
+        EvictingBuffer::max_age(self)
     }
 
     fn last_position(&self) -> Option<u64> {

@@ -1,6 +1,6 @@
 ghost use Rattle.std.specs.Prelude.{◌≡◌, ℕ, ◌+◌, ◌*◌, ◌/◌, ◌<◌, ◌≤◌, Option, IsNone, IfSome, IfOk, OnOk, OnErr, option_and_then, slice_index_or};
 ghost use Rattle.std.specs.Option.{option_copied};
-ghost use Rattle.resend_core.specs.ResendStore.{Past, emptied, last_position, HeldAs, IsInOrder};
+ghost use Rattle.resend_core.specs.ResendStore.{Past, emptied, size_of, last_position, HeldAs, IsInOrder};
 ghost use Rattle.resend_core.specs.RtxCache.{StandsFor, packet_at, made_for, IsCached, CachedOnce, last_of_class, greatest_below, NoneKept};
 
 use crate::resend_store::ResendStore;
@@ -46,6 +46,13 @@ impl<P: Cached, S: ResendStore<P>> RtxCache<P, S> {
             numbers: SizeClasses::new(),
             kind: PhantomData,
         })
+    }
+
+    /// One of the same limits in which nothing was stored.
+    pub fn anew(&self, alloc: Global) -> Result<Self, AllocError>
+        ensures { (past : Past P) → StandsFor S.stands_for P.size self.now past → IfOk result (λ c. StandsFor S.stands_for P.size c (made_for (size_of past) past.age)) }
+    {
+        RtxCache::new(alloc, self.packets.max_size(), self.packets.max_age())
     }
 
     /// Stores a packet under its number, and drops those that are too old. Its payload is below 2,000

@@ -3,7 +3,7 @@ ghost use Rattle.std.specs.Option.{option_copied, option_copied_mut};
 ghost use Rattle.std.specs.Borrow.{sem};
 ghost use Rattle.std.specs.Bool.{OnTrue};
 ghost use Rattle.resend_core.specs.Ring.{held};
-ghost use Rattle.resend_core.specs.ResendStore.{evicted, Past, made, with_event, emptied, revalued, last_position, HeldAs, IsPassedOver, MarksPush, MarksEviction, raised_to};
+ghost use Rattle.resend_core.specs.ResendStore.{evicted, Past, made, size_of, with_event, emptied, revalued, last_position, HeldAs, IsPassedOver, MarksPush, MarksEviction, raised_to};
 ghost use Rattle.resend_core.specs.Lending.{LendsValue};
 ghost use Rattle.resend_core.specs.EvictingBuffer.{StandsFor, value_at, with_value, Grows, Places, IsBounded, Spans, Drops, DropsLowest, Sweeps, IsDone, IsReady, IsPushed, takes_push, lowered, swept as swept_to};
 
@@ -299,6 +299,20 @@ impl<T: Drop> EvictingBuffer<T> {
         ensures { result ≡ is_some (value_at self.now position) }
     {
         entry_at(&self.ring, position).is_some()
+    }
+
+    /// How many slots it grows to.
+    pub fn max_size(&self) -> usize
+        ensures { (past : Past T) → StandsFor self.now past → result ≡ size_of past }
+    {
+        self.size
+    }
+
+    /// The age beyond which it holds no value.
+    pub fn max_age(&self) -> Duration
+        ensures { (past : Past T) → StandsFor self.now past → result ≡ past.age }
+    {
+        self.age
     }
 
     /// The position that was stored last.

@@ -4,7 +4,7 @@ use Rattle.std.specs.List.{flat_map}
 use Rattle.std.specs.Option.{option_map, option_map_or, option_to_list}
 use Rattle.rtp_base.specs.NackEntry.{named_by}
 use Rattle.rtp_base.specs.declared.nack_entry.NackEntry.{NackEntry}
-use Rattle.resend_core.specs.ResendStore.{Event, pushed, evicted, Past, with_event, emptied, MustStore, HeldAs}
+use Rattle.resend_core.specs.ResendStore.{Event, pushed, evicted, Past, with_event, emptied, size_of, MustStore, HeldAs}
 use Rattle.resend_core.specs.RtxCache.{made_for, StandsFor as CacheStandsFor}
 use Rattle.resend_core.specs.declared.rtx_cache.RtxCache.{RtxCache}
 use Rattle.rtx_core.specs.Ratio.{CapRecord, uncounted, after_reading, with_sent, with_resent, with_hundredths}
@@ -42,6 +42,13 @@ abbrev pub created : {P : Type 0} → ℕ → ResendRecord P
 created first = record {
   state = record { resends = []; next_seq_no = first; cap = Some (uncounted 15) };
   cache = made_for 2000 3000000000;
+}
+
+-- all begins anew with a first number of repairs: nothing was sent, nothing is kept and nothing asked for. The limits stay
+abbrev pub begun_anew : {P : Type 0} → ℕ → ResendRecord P → ResendRecord P
+begun_anew first r = record {
+  state = record { resends = []; next_seq_no = first; cap = option_map (λ c. uncounted c.hundredths) r.state.cap };
+  cache = made_for (size_of r.cache) r.cache.age;
 }
 
 -- another cap, or none; what was sent counts on where there was one

@@ -51,6 +51,13 @@ impl RatioCap {
         }
     }
 
+    /// The hundredths that may be repairs.
+    pub fn hundredths(&self) -> u32
+        ensures { result ≡ self.now.hundredths }
+    {
+        self.hundredths
+    }
+
     /// Sets another cap. It is read anew.
     pub fn set(&mut self, hundredths: u32)
         ensures { self.new ≡ with_hundredths hundredths self.old }

@@ -4,7 +4,7 @@ ghost use Rattle.rtp_base.specs.NackEntry.{named_by};
 ghost use Rattle.resend_core.specs.ResendStore.{Past, last_position};
 ghost use Rattle.resend_core.specs.RtxCache.{packet_at, IsCached, StandsFor as CacheStandsFor};
 ghost use Rattle.rtx_core.specs.Ratio.{after_reading, forgetting, with_pushed, without_pushed, with_resent};
-ghost use Rattle.rtx_core.specs.Resends.{ResendRecord, StandsFor, created, recapped, recached, after_first, Caches, numbers_of, resend_of, resends_of, asked_for, first_held, is_capped, next_of, cap_after, after_next, number_of, IsExhausted, closed, Asks, IsNext};
+ghost use Rattle.rtx_core.specs.Resends.{ResendRecord, StandsFor, created, begun_anew, recapped, recached, after_first, Caches, numbers_of, resend_of, resends_of, asked_for, first_held, is_capped, next_of, cap_after, after_next, number_of, IsExhausted, closed, Asks, IsNext};
 
 use crate::ratio_cap::RatioCap;
 use crate::resend::{NUMBER_LIMIT, Resend, ResendError};
@@ -101,6 +101,26 @@ impl<P: Cached, S: ResendStore<P>> ResendQueue<P, S> {
             resends: VecDeque::new(alloc),
             next_seq_no: u64::from(first_seq_no),
             cap: Some(RatioCap::new(alloc, DEFAULT_RTX_RATIO_CAP)),
+        })
+    }
+
+    /// One with the same limits for which nothing was sent. Its repairs begin with a number of at most
+    /// 2^48, which is one too many.
+    pub fn anew(&self, first_seq_no: SeqNo) -> Result<Self, AllocError>
+        requires { first_seq_no ≤ 2 ^ 48 }
+        ensures { (r : ResendRecord P) → StandsFor S.stands_for P.size self.now r → IfOk result (λ q. StandsFor S.stands_for P.size q (begun_anew first_seq_no r)) }
+    {
+        let cache = self.cache.anew(self.alloc)?;
+        let cap = match &self.cap {
+            Some(cap) => Some(RatioCap::new(self.alloc, cap.hundredths())),
+            None => None,
+        };
+        Ok(ResendQueue {
+            alloc: self.alloc,
+            cache,
+            resends: VecDeque::new(self.alloc),
+            next_seq_no: u64::from(first_seq_no),
+            cap,
         })
     }
 

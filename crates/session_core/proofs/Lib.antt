@@ -6,7 +6,10 @@ pub mod Dues
 pub mod Failing
 pub mod Fitting
 pub mod Heard
+pub mod Keyed
+pub mod Mappings
 pub mod Nacks
+pub mod Openings
 pub mod Others
 pub mod Passing
 pub mod RepairSteps
@@ -15,6 +18,7 @@ pub mod Spoken
 pub mod Staying
 pub mod StreamsIn
 pub mod Tables
+pub mod Taking
 pub mod Telling
 pub mod TickItems
 pub mod Waiting

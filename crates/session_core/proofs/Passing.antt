@@ -37,26 +37,26 @@ module _ {W S : Type 0} (remembers : W → Heard → Type 0) (stands_for : S →
 
   -- its stream was polled
   pub polled_stands : (n : StreamsView W S) (t : Transport) (s : StreamsRecord) (o : Option PacketReceipt) → StreamsStand remembers stands_for n s → n.rx ≡ v.rx
-      → n.originals ≡ v.originals → n.threshold ≡ v.state.pause_threshold → t ≡ (if is_some o then after_packet v.state.transport else v.state.transport)
-      → StandsFor remembers stands_for (record v { state = record v.state { tx = n.tx; transport = t; pause_threshold = n.threshold }; rx = n.rx; originals = n.originals; repairs = n.repairs }) (after_streams r s o)
-  polled_stands n t s o stands rx originals threshold counted = record {
+      → n.known ≡ v.known → n.threshold ≡ v.state.pause_threshold → t ≡ (if is_some o then after_packet v.state.transport else v.state.transport)
+      → StandsFor remembers stands_for (record v { state = record v.state { tx = n.tx; transport = t; pause_threshold = n.threshold }; rx = n.rx; known = n.known; repairs = n.repairs }) (after_streams r s o)
+  polled_stands n t s o stands rx known threshold counted = record {
     state =
         (λ j. record v.state { tx = stands.tx j; transport = counted j; pause_threshold = threshold j })
         ∙ ap {A = SessionState} {B = SessionState} (λ x. record x { tx = s.tx; transport = if is_some o then after_packet x.transport else x.transport }) h.state;
     rx = subst (λ (l : List (ℕ × RxView W)). Along (RxStandsFor remembers) l r.rx) (sym rx) h.rx;
     probes = h.probes;
     seen = h.seen;
-    originals = originals ∙ h.originals;
+    known = known ∙ h.known;
     repairs = stands.repairs;
   }
 
   -- its stream stays as it was
-  pub same_stands : (n : StreamsView W S) (t : Transport) → n ≡ record { threshold = v.state.pause_threshold; rx = v.rx; originals = v.originals; tx = v.state.tx; repairs = v.repairs } → t ≡ v.state.transport
-      → StandsFor remembers stands_for (record v { state = record v.state { tx = n.tx; transport = t; pause_threshold = n.threshold }; rx = n.rx; originals = n.originals; repairs = n.repairs }) r
+  pub same_stands : (n : StreamsView W S) (t : Transport) → n ≡ record { threshold = v.state.pause_threshold; rx = v.rx; known = v.known; tx = v.state.tx; repairs = v.repairs } → t ≡ v.state.transport
+      → StandsFor remembers stands_for (record v { state = record v.state { tx = n.tx; transport = t; pause_threshold = n.threshold }; rx = n.rx; known = n.known; repairs = n.repairs }) r
   same_stands n t same kept =
       let Q : StreamsView W S → Transport → Type 0 =
-      λ m u. StandsFor remembers stands_for (record v { state = record v.state { tx = m.tx; transport = u; pause_threshold = m.threshold }; rx = m.rx; originals = m.originals; repairs = m.repairs }) r in
-      subst (λ m. Q m t) (sym same) (subst (λ u. Q (record { threshold = v.state.pause_threshold; rx = v.rx; originals = v.originals; tx = v.state.tx; repairs = v.repairs }) u) (sym kept) h)
+      λ m u. StandsFor remembers stands_for (record v { state = record v.state { tx = m.tx; transport = u; pause_threshold = m.threshold }; rx = m.rx; known = m.known; repairs = m.repairs }) r in
+      subst (λ m. Q m t) (sym same) (subst (λ u. Q (record { threshold = v.state.pause_threshold; rx = v.rx; known = v.known; tx = v.state.tx; repairs = v.repairs }) u) (sym kept) h)
 
   -- none is due
   pub unreleased_stands : StandsFor remembers stands_for (record v { state = record v.state { released = false } }) (unreleased r)
@@ -65,7 +65,7 @@ module _ {W S : Type 0} (remembers : W → Heard → Type 0) (stands_for : S →
     rx = h.rx;
     probes = h.probes;
     seen = h.seen;
-    originals = h.originals;
+    known = h.known;
     repairs = h.repairs;
   }
 
@@ -123,7 +123,7 @@ module _ {W S : Type 0} (remembers : W → Heard → Type 0) (stands_for : S →
           rx = h.rx;
           probes = h.probes;
           seen = h.seen;
-          originals = h.originals;
+          known = h.known;
           repairs = h.repairs;
         },
       )
@@ -142,7 +142,7 @@ module _ {W S : Type 0} (remembers : W → Heard → Type 0) (stands_for : S →
           let key = same_error {T = Option Datagram} e (KeyExhausted counter.Rtcp) (used.1 is) in (
             r,
             subst (λ x. PollFails now r r x) (sym key) (key_used_up (used_in r h.state true is)),
-            record { state = (λ j. record v.state { feedback = kept is j; sealing = unsealed j }) ∙ h.state; rx = h.rx; originals = h.originals; probes = h.probes; seen = h.seen; repairs = h.repairs },
+            record { state = (λ j. record v.state { feedback = kept is j; sealing = unsealed j }) ∙ h.state; rx = h.rx; known = h.known; probes = h.probes; seen = h.seen; repairs = h.repairs },
           )
       by r h false is =
           let left : AreLeft r.state.target r.state.feedback items = subst (λ (s : SessionState). AreLeft s.target s.feedback items) h.state lost in (
@@ -154,7 +154,7 @@ module _ {W S : Type 0} (remembers : W → Heard → Type 0) (stands_for : S →
               rx = h.rx;
               probes = h.probes;
               seen = h.seen;
-              originals = h.originals;
+              known = h.known;
               repairs = h.repairs;
             },
           )
@@ -174,7 +174,7 @@ sealed_stands remembers stands_for v r h sealing same = record {
   rx = h.rx;
   probes = h.probes;
   seen = h.seen;
-  originals = h.originals;
+  known = h.known;
   repairs = h.repairs;
 }
 

@@ -50,23 +50,23 @@ module _ (cipher : CipherMeaning) (r : SessionRecord) (bytes : List ℕ) where
         (subst (λ (x : RtpHeader). Unpads x payload) (sym e) o.unpads)
 
     -- a repair is no packet, and a packet no repair
-    pub repair_only : (original : ℕ) → repaired_by r.state.types r.rx r.originals g ≡ Some original → Stays
+    pub repair_only : (original : ℕ) → repaired_by r.state.types r.rx r.known.originals g ≡ Some original → Stays
     repair_only original is h n payload o =
         let e = same h o.reads in
-        let none : repaired_by r.state.types r.rx r.originals g ≡ None = ap (repaired_by r.state.types r.rx r.originals) e ∙ o.original in
+        let none : repaired_by r.state.types r.rx r.known.originals g ≡ None = ap (repaired_by r.state.types r.rx r.known.originals) e ∙ o.original in
         absurd cc
 
-    pub packet_only : repaired_by r.state.types r.rx r.originals g ≡ None → StaysRepair
+    pub packet_only : repaired_by r.state.types r.rx r.known.originals g ≡ None → StaysRepair
     packet_only none h original n payload o =
         let e = same h o.reads in
-        let some : repaired_by r.state.types r.rx r.originals g ≡ Some original = ap (repaired_by r.state.types r.rx r.originals) e ∙ o.repairs in
+        let some : repaired_by r.state.types r.rx r.known.originals g ≡ Some original = ap (repaired_by r.state.types r.rx r.known.originals) e ∙ o.repairs in
         absurd cc
 
-    module _ (original : ℕ) (repairs : repaired_by r.state.types r.rx r.originals g ≡ Some original) where
+    module _ (original : ℕ) (repairs : repaired_by r.state.types r.rx r.known.originals g ≡ Some original) where
       same_original : (h : RtpHeader) (other n : ℕ) (payload : List ℕ) → OpensRepair cipher r bytes h other n payload → original ≡ other
       same_original h other n payload o =
           let e = same h o.reads in
-          let some : repaired_by r.state.types r.rx r.originals g ≡ Some other = ap (repaired_by r.state.types r.rx r.originals) e ∙ o.repairs in
+          let some : repaired_by r.state.types r.rx r.known.originals g ≡ Some other = ap (repaired_by r.state.types r.rx r.known.originals) e ∙ o.repairs in
           cc
 
       same_number : (h : RtpHeader) (other n : ℕ) (payload : List ℕ) → OpensRepair cipher r bytes h other n payload

@@ -17,12 +17,12 @@ use Rattle.session_core.specs.SessionRecord.{SessionState, SessionView, SessionR
 
 module _ {W S : Type 0} (remembers : W → Heard → Type 0) (stands_for : S → Past SentPacket → Type 0) where
   pub streams_stand : (s : SessionView W S) (r : SessionRecord) → StandsFor remembers stands_for s r
-      → StreamsStand remembers stands_for (record { threshold = s.state.pause_threshold; rx = s.rx; originals = s.originals; tx = s.state.tx; repairs = s.repairs }) (streams_in r)
+      → StreamsStand remembers stands_for (record { threshold = s.state.pause_threshold; rx = s.rx; known = s.known; tx = s.state.tx; repairs = s.repairs }) (streams_in r)
   streams_stand s r h = record {
     threshold = λ j. (h.state j).pause_threshold;
     rx = h.rx;
     tx = λ j. (h.state j).tx;
-    originals = h.originals;
+    known = h.known;
     repairs = h.repairs;
   }
 

@@ -10,6 +10,7 @@ use Rattle.srtp_core.specs.Contexts.{new_state}
 use Rattle.srtp_core.specs.declared.profile.SrtpProfile.{SrtpProfile}
 use Rattle.stream_core.specs.declared.packet.RtpPacket.{RtpPacket}
 use Rattle.stream_core.specs.declared.stream_paused.StreamPaused.{StreamPaused}
+use Rattle.stream_core.specs.Known.{none_known}
 use Rattle.stream_core.specs.Pauses.{on_record, told as stream_told, next_pause, after_pause, pauses, untold_in, first_pause, sooner}
 use Rattle.stream_core.specs.RxRecord.{expected}
 use Rattle.stream_core.specs.Tables.{each}
@@ -53,7 +54,7 @@ fresh_session config = record {
     stopped = false;
   };
   rx = [];
-  originals = [];
+  known = none_known;
   probes = expected 0 None probe_mid None true config.pause_threshold;
   seen = [];
   repairs = [];

@@ -15,6 +15,6 @@ abbrev pub LendsStreams : (C K L W S : RattleType) → CipherGhosts C.Denot K.De
 LendsStreams C K L W S cipher window store s r = Lends (the_row C W S K L cipher window store) (streams_row W S window store) s r (λ x. record s.now {
   state = record s.now.state { tx = x.tx; pause_threshold = x.threshold };
   rx = x.rx;
-  originals = x.originals;
+  known = x.known;
   repairs = x.repairs;
 })

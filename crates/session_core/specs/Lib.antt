@@ -3,6 +3,7 @@ pub mod Draining
 pub mod Feedback
 pub mod Hearing
 pub mod LendingStreams
+pub mod Mapping
 pub mod Medias
 pub mod News
 pub mod Receiving

@@ -1,6 +1,7 @@
 -- What a datagram opens to, and what a session makes of it.
-use Rattle.std.specs.Prelude.{◌≡◌, ◌==◌, ◌<◌, ◌||◌, ℕ, Bool, true, false, IsTrue, IsSome, is_some, unwrap_or, if◌then◌else◌, List, ◌++◌, take, drop, slice_index, option_and_then, Option, Some, None}
-use Rattle.std.specs.Option.{option_map_or}
+use Rattle.std.specs.Prelude.{◌≡◌, ◌==◌, ◌<◌, ◌||◌, ℕ, Bool, true, false, IsTrue, IsSome, is_some, unwrap_or, if◌then◌else◌, List, [], ◌++◌, take, drop, slice_index, option_and_then, Option, Some, None}
+use Rattle.std.specs.Option.{option_map, option_map_or}
+use Rattle.mapping_core.specs.Mapped.{is_early_padding}
 use Rattle.rtp_base.specs.declared.kind.Kind.TheVariants.{Rtp}
 use Rattle.rtp_wire.specs.declared.extension.ExtensionMap.{ExtensionMap}
 use Rattle.rtp_wire.specs.declared.header.RtpHeader.{RtpHeader}
@@ -11,6 +12,7 @@ use Rattle.srtp_core.specs.Contexts.{SrtpState}
 use Rattle.srtp_core.specs.Seals.{OpensTo}
 use Rattle.stream_core.specs.declared.packet.RtpPacket.{RtpPacket}
 use Rattle.stream_core.specs.RxRecord.{RxRecord, fresh_number, opened_as}
+use Rattle.stream_core.specs.Repairing.{claims_in}
 use Rattle.stream_core.specs.Reporting.{clock_under}
 use Rattle.stream_core.specs.StreamsRecord.{accepted, restored_on, restored_number_on}
 use Rattle.stream_core.specs.Tables.{value_under, place_of, change_at}
@@ -19,6 +21,7 @@ use Rattle.stream_core.specs.declared.reports.Arrival.{Arrival}
 use Rattle.session_core.specs.declared.datagram.Opened.{Opened}
 use Rattle.stream_core.specs.Seen.{seen_of, saw}
 use Rattle.stream_core.specs.RxRepairs.{repair_came, after_restored}
+use Rattle.session_core.specs.Mapping.{rids_for, mapping_for, taken_up_for, is_nowhere, unseen_number}
 use Rattle.session_core.specs.Repairs.{repaired_by, repair_accepted, original_number, restored_header}
 use Rattle.session_core.specs.SessionRecord.{SessionRecord}
 
@@ -93,7 +96,7 @@ after_opened now h n payload r = record {
     packet = packet_after now h n (cut h payload) r.state.packet;
   };
   rx = rx_opened (seen_of h.ssrc r.seen) (arrival_of r.state.types now h) h.ssrc n r.rx;
-  originals = r.originals;
+  known = r.known;
   probes = probes_opened (seen_of h.ssrc r.seen) (arrival_of r.state.types now h) h.ssrc n r.probes;
   seen = saw h.ssrc n r.seen;
   repairs = r.repairs;
@@ -139,7 +142,7 @@ module _ (cipher : CipherMeaning) (r : SessionRecord) (bytes : List ℕ) where
   -- the bytes open under this header and number to this payload
   pub record Opens (h : RtpHeader) (n : ℕ) (payload : List ℕ) : Type 0 where
     pub reads : header_of r.state.transport.exts bytes ≡ Some h
-    pub original : repaired_by r.state.types r.rx r.originals h ≡ None
+    pub original : repaired_by r.state.types r.rx r.known.originals h ≡ None
     pub claimed : is_claimed r.state.types h ≡ true
     pub accepts : number_of (seen_of h.ssrc r.seen) r.rx r.probes h.ssrc h.sequence_number ≡ Some n
     pub opens : OpensIn cipher r.state.opening h n bytes payload
@@ -148,19 +151,59 @@ module _ (cipher : CipherMeaning) (r : SessionRecord) (bytes : List ℕ) where
   -- the bytes open as a repair of a stream under this header and own number to this payload
   pub record OpensRepair (h : RtpHeader) (original n : ℕ) (payload : List ℕ) : Type 0 where
     pub reads : header_of r.state.transport.exts bytes ≡ Some h
-    pub repairs : repaired_by r.state.types r.rx r.originals h ≡ Some original
+    pub repairs : repaired_by r.state.types r.rx r.known.originals h ≡ Some original
     pub accepts : option_and_then (repair_accepted r.seen h) (value_under original r.rx) ≡ Some n
     pub opens : OpensIn cipher r.state.opening h n bytes payload
     pub unpads : Unpads h payload
 
-  -- what bytes that come at a moment make of a session: they open to a packet or as a repair, or to nothing
+  -- what bytes that come at a moment make of a session whose tables have their SSRC: they open to a packet or as a repair, or
+  -- to nothing
+  pub data Takes (now : ℕ) : SessionRecord → Option Opened → Type 0 where
+    takes_packet : (h : RtpHeader) (n : ℕ) (payload : List ℕ) → Opens h n payload
+        → Takes now (after_opened now h n payload r) (Some (opening_of bytes h n payload))
+    takes_repair : (h : RtpHeader) (original n : ℕ) (payload : List ℕ) → OpensRepair h original n payload
+        → Takes now (after_repaired now h original n payload r) (Some (opening_of bytes h n payload))
+    takes_nothing : ((h : RtpHeader) (n : ℕ) (payload : List ℕ) → Opens h n payload → ⊥)
+        → ((h : RtpHeader) (original n : ℕ) (payload : List ℕ) → OpensRepair h original n payload → ⊥) → Takes now r None
+
+-- the number under which bytes of a header may open, and whether as a repair
+abbrev pub as_repair : Option ℕ → Option (ℕ × Bool)
+as_repair n = option_map (λ m. (m, true)) n
+
+abbrev pub as_packet : Bool → Option ℕ → Option (ℕ × Bool)
+as_packet claimed n = if claimed then option_map (λ m. (m, false)) n else None
+
+abbrev pub number_by : RtpHeader → SessionRecord → Option ℕ → Option (ℕ × Bool)
+number_by h r None = as_packet (is_claimed r.state.types h) (number_of (seen_of h.ssrc r.seen) r.rx r.probes h.ssrc h.sequence_number)
+number_by h r (Some original) = as_repair (option_and_then (repair_accepted r.seen h) (value_under original r.rx))
+
+abbrev pub opening_number : RtpHeader → SessionRecord → Option (ℕ × Bool)
+opening_number h r = number_by h r (repaired_by r.state.types r.rx r.known.originals h)
+
+module _ (cipher : CipherMeaning) (r : SessionRecord) (bytes : List ℕ) where
+  -- the bytes open under this header and number as padding of a stream that is not known yet: nothing is left of their payload
+  -- without it
+  pub record OpensPadding (h : RtpHeader) (n : ℕ) (payload : List ℕ) : Type 0 where
+    pub reads : header_of r.state.transport.exts bytes ≡ Some h
+    pub unknown : is_nowhere (mapping_for h r) ≡ true
+    pub early : is_early_padding (rids_for h r.state.medias) (claims_in r.state.types) h ≡ true
+    pub accepts : unseen_number r.seen h ≡ Some n
+    pub opens : OpensIn cipher r.state.opening h n bytes payload
+    pub unpads : Unpads h payload
+    pub empty : cut h payload ≡ []
+
+  -- what bytes that come at a moment make of a session. They open to a packet or as a repair of the session in which it is taken
+  -- up of which stream they are, or as padding, or to nothing; and it is taken up only where they open
   pub data Receives (now : ℕ) : SessionRecord → Option Opened → Type 0 where
-    opened : (h : RtpHeader) (n : ℕ) (payload : List ℕ) → Opens h n payload
-        → Receives now (after_opened now h n payload r) (Some (opening_of bytes h n payload))
-    repaired : (h : RtpHeader) (original n : ℕ) (payload : List ℕ) → OpensRepair h original n payload
-        → Receives now (after_repaired now h original n payload r) (Some (opening_of bytes h n payload))
-    stays : ((h : RtpHeader) (n : ℕ) (payload : List ℕ) → Opens h n payload → ⊥)
-        → ((h : RtpHeader) (original n : ℕ) (payload : List ℕ) → OpensRepair h original n payload → ⊥) → Receives now r None
+    opened : (h : RtpHeader) (n : ℕ) (payload : List ℕ) → Opens cipher (taken_up_for h r) bytes h n payload
+        → Receives now (after_opened now h n payload (taken_up_for h r)) (Some (opening_of bytes h n payload))
+    repaired : (h : RtpHeader) (original n : ℕ) (payload : List ℕ) → OpensRepair cipher (taken_up_for h r) bytes h original n payload
+        → Receives now (after_repaired now h original n payload (taken_up_for h r)) (Some (opening_of bytes h n payload))
+    padding : (h : RtpHeader) (n : ℕ) (payload : List ℕ) → OpensPadding h n payload
+        → Receives now (record r { seen = saw h.ssrc n r.seen }) (Some (opening_of bytes h n payload))
+    stays : ((h : RtpHeader) (n : ℕ) (payload : List ℕ) → Opens cipher (taken_up_for h r) bytes h n payload → ⊥)
+        → ((h : RtpHeader) (original n : ℕ) (payload : List ℕ) → OpensRepair cipher (taken_up_for h r) bytes h original n payload → ⊥)
+        → ((h : RtpHeader) (n : ℕ) (payload : List ℕ) → OpensPadding h n payload → ⊥) → Receives now r None
 
 -- the number that the header of a datagram states has 16 bits
 abbrev pub HeaderNumbersFit : Type 0

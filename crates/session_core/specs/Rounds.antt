@@ -41,7 +41,7 @@ abbrev pub after_checks : ℕ → SessionRecord → SessionRecord
 after_checks now r = record {
   state = record r.state { tx = each (told_kind r.state.medias) (each (stream_after_timeout now) r.state.tx); released = true };
   rx = each (on_record (checked now)) r.rx;
-  originals = r.originals;
+  known = r.known;
   probes = on_record (checked now) r.probes;
   seen = r.seen;
   repairs = r.repairs;

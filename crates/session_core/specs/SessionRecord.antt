@@ -2,6 +2,8 @@
 use Rattle.std.specs.Prelude.{◌≡◌, ℕ, Bool, Option, List}
 use Rattle.session_core.specs.declared.media.MediaKind.{MediaKind}
 use Rattle.session_core.specs.News.{NewsRecord}
+use Rattle.mapping_core.specs.declared.rids.Rids.{Rids}
+use Rattle.stream_core.specs.Known.{KnownRecord}
 use Rattle.stream_core.specs.Seen.{SeenStandsFor}
 use Rattle.rtp_base.specs.declared.window.SeqNoWindow.{SeqNoWindow}
 use Rattle.srtp_core.specs.Contexts.{SrtpState}
@@ -20,11 +22,12 @@ use Rattle.resend_core.specs.ResendStore.{Past}
 use Rattle.report_core.specs.declared.clock.ReportIntervals.{ReportIntervals}
 use Rattle.report_core.specs.declared.moments.ReceiverMoment.{ReceiverMoment}
 
--- a media section: its mid, its kind, and the canonical name of its sources
+-- a media section: its mid, its kind, the canonical name of its sources, and which streams it expects by their rids
 pub record MediaRecord : Type 0 where
   pub mid : List ℕ
   pub kind : MediaKind
   pub cname : List ℕ
+  pub rids : Rids
 
 -- all of a session but its incoming streams: its identification; the target for the length of its datagrams; the SSRC that
 -- its feedback has where it sends on no stream; for how long nothing comes on an incoming stream until it is paused, where
@@ -58,13 +61,13 @@ pub record SessionState : Type 0 where
   pub news : NewsRecord
   pub stopped : Bool
 
--- a session as its callers see it: incoming streams each under its SSRC; under each SSRC of repairs that comes, the SSRC of
--- the stream that is repaired; the stream of SSRC 0, on which probes come; the numbers that opened under each SSRC; and what
--- the outgoing streams that have repairs send again, each under its SSRC
+-- a session as its callers see it: incoming streams each under its SSRC; what tells of which of them a datagram is that comes
+-- under no SSRC of these; the stream of SSRC 0, on which probes come; the numbers that opened under each SSRC; and what the
+-- outgoing streams that have repairs send again, each under its SSRC
 pub record SessionView (W S : Type 0) : Type 0 where
   pub state : SessionState
   pub rx : List (ℕ × RxView W)
-  pub originals : List (ℕ × ℕ)
+  pub known : KnownRecord
   pub probes : RxView W
   pub seen : List (ℕ × SeqNoWindow)
   pub repairs : List (ℕ × RepairsView S)
@@ -72,7 +75,7 @@ pub record SessionView (W S : Type 0) : Type 0 where
 pub record SessionRecord : Type 0 where
   pub state : SessionState
   pub rx : List (ℕ × RxRecord)
-  pub originals : List (ℕ × ℕ)
+  pub known : KnownRecord
   pub probes : RxRecord
   pub seen : List (ℕ × List ℕ)
   pub repairs : List (ℕ × RepairsRecord)
@@ -80,11 +83,15 @@ pub record SessionRecord : Type 0 where
 pub record StandsFor {W S : Type 0} (remembers : W → Heard → Type 0) (stands_for : S → Past SentPacket → Type 0) (s : SessionView W S) (r : SessionRecord) : Type 0 where
   pub state : s.state ≡ r.state
   pub rx : Along (RxStandsFor remembers) s.rx r.rx
-  pub originals : s.originals ≡ r.originals
+  pub known : s.known ≡ r.known
   pub probes : RxStandsFor remembers s.probes r.probes
   pub seen : SeenStandsFor s.seen r.seen
   pub repairs : Along (RepairsStandFor stands_for) s.repairs r.repairs
 
 -- its streams
 abbrev pub streams_in : SessionRecord → StreamsRecord
-streams_in r = record { threshold = r.state.pause_threshold; rx = r.rx; originals = r.originals; tx = r.state.tx; repairs = r.repairs }
+streams_in r = record { threshold = r.state.pause_threshold; rx = r.rx; known = r.known; tx = r.state.tx; repairs = r.repairs }
+
+-- the session with these as what comes to it
+abbrev pub with_incoming : StreamsRecord → SessionRecord → SessionRecord
+with_incoming s r = record r { rx = s.rx; known = s.known }

@@ -189,7 +189,7 @@ pub fn measure<W: GapWindow, S: ResendStore<Sent>>(
     ensures tx { streams.new.tx ≡ streams.old.tx }
     ensures repairs { streams.new.repairs ≡ streams.old.repairs }
     ensures threshold { streams.new.threshold ≡ streams.old.threshold }
-    ensures originals { streams.new.originals ≡ streams.old.originals }
+    ensures known { streams.new.known ≡ streams.old.known }
 {
     if let Some(delay) = delay {
         streams.set_trip(trip(ntp, delay));

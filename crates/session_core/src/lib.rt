@@ -7,6 +7,7 @@ mod datagram;
 mod error;
 mod feedback;
 mod hearing;
+mod mapping;
 mod media;
 mod news;
 mod receiving;

@@ -1,10 +1,14 @@
-ghost use Rattle.std.specs.Prelude.{◌≡◌};
+ghost use Rattle.std.specs.Prelude.{◌≡◌, OnOk, OnErr};
 ghost use Rattle.std.specs.Option.{option_copied};
+ghost use Rattle.mapping_core.specs.Expecting.{with_rid};
+ghost use Rattle.mapping_core.specs.declared.rids.Rids.TheVariants.{Any};
 ghost use Rattle.session_core.specs.Medias.{media_of};
 ghost use Rattle.session_core.specs.Reports.{is_sound};
 
+use mapping_core::Rids;
 use media_base::Bytes;
-use rtp_base::Mid;
+use rtp_base::{Mid, Rid};
+use std::alloc::{AllocError, Global};
 use std::marker::Model;
 
 /// Whether media is heard or seen.
@@ -28,12 +32,14 @@ impl MediaKind {
     }
 }
 
-/// A media section (RFC 8866 section 5.14). Contracts see the record of its mid, its kind and its CNAME.
+/// A media section (RFC 8866 section 5.14). Contracts see the record of its mid, its kind, its CNAME and
+/// which streams it expects by their rids.
 #[derive(Debug, Drop)]
 pub struct Media {
     mid: Mid,
     kind: MediaKind,
     cname: Bytes,
+    rids: Rids,
 }
 
 impl Model for Media {
@@ -41,16 +47,21 @@ impl Model for Media {
 
     ghost Value = { MediaRecord };
 
-    ghost view = { λ m. record { mid = m.mid; kind = m.kind; cname = m.cname } };
+    ghost view = { λ m. record { mid = m.mid; kind = m.kind; cname = m.cname; rids = m.rids } };
 }
 
 impl Media {
     /// A section of a mid, for sound or pictures, with the canonical name of its sources (RFC 3550
-    /// section 6.5.1).
+    /// section 6.5.1). It expects streams of any rid, or of none.
     pub fn new(mid: Mid, kind: MediaKind, cname: Bytes) -> Self
-        ensures { result ≡ record { mid = mid; kind = kind; cname = cname } }
+        ensures { result ≡ record { mid = mid; kind = kind; cname = cname; rids = Any } }
     {
-        Media { mid, kind, cname }
+        Media {
+            mid,
+            kind,
+            cname,
+            rids: Rids::Any,
+        }
     }
 
     /// Its identification (RFC 9143).
@@ -65,6 +76,29 @@ impl Media {
         ensures { result ≡ self.now.kind }
     {
         self.kind
+    }
+
+    /// Which streams it expects, by their rids (RFC 8852).
+    pub fn rids_rx(&self) -> &Rids
+        ensures { result.now ≡ self.now.rids }
+    {
+        &self.rids
+    }
+
+    /// Sets which streams it expects, by their rids.
+    pub fn set_rid_rx(&mut self, rids: Rids)
+        ensures { self.new ≡ record self.old { rids = rids } }
+    {
+        self.rids = rids;
+    }
+
+    /// Expects one more rid, and from then on no stream without one. Without memory nothing changes. The
+    /// time grows with the number of rids.
+    pub fn expect_rid_rx(&mut self, alloc: Global, rid: Rid) -> Result<(), AllocError>
+        ensures ok { OnOk result (self.new ≡ record self.old { rids = with_rid rid self.old.rids }) }
+        ensures err { OnErr result (self.new ≡ self.old) }
+    {
+        self.rids.expect(alloc, rid)
     }
 
     /// The canonical name of its sources.

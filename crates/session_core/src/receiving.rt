@@ -197,7 +197,7 @@ pub fn take<W: GapWindow, S: ResendStore<Sent>>(
     ensures tx { streams.new.tx ≡ streams.old.tx }
     ensures repairs { streams.new.repairs ≡ streams.old.repairs }
     ensures threshold { streams.new.threshold ≡ streams.old.threshold }
-    ensures originals { streams.new.originals ≡ streams.old.originals }
+    ensures known { streams.new.known ≡ streams.old.known }
     ensures err { OnErr result ((streams.new ≡ streams.old) × (probes.new ≡ probes.old)) }
 {
     match place {

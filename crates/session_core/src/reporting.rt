@@ -268,7 +268,7 @@ fn hear_sender<W: GapWindow, S: ResendStore<Sent>>(
     ensures tx { streams.new.tx ≡ streams.old.tx }
     ensures repairs { streams.new.repairs ≡ streams.old.repairs }
     ensures threshold { streams.new.threshold ≡ streams.old.threshold }
-    ensures originals { streams.new.originals ≡ streams.old.originals }
+    ensures known { streams.new.known ≡ streams.old.known }
 {
     if let RtcpFb::SenderInfo(info) = item {
         streams.handle_sender_info(info, now);
@@ -286,7 +286,7 @@ pub fn hear_senders<W: GapWindow, S: ResendStore<Sent>>(
     ensures tx { streams.new.tx ≡ streams.old.tx }
     ensures repairs { streams.new.repairs ≡ streams.old.repairs }
     ensures threshold { streams.new.threshold ≡ streams.old.threshold }
-    ensures originals { streams.new.originals ≡ streams.old.originals }
+    ensures known { streams.new.known ≡ streams.old.known }
 {
     for item in feedback {
         hear_sender(item, now, streams);

@@ -17,7 +17,7 @@ use rtp_wire::RtpHeader;
 use stream_core::{Arrival, Payload, PayloadTypes, RtpPacket, Seen, Sent, Streams};
 
 /// Whether both ends know a type, as one of packets or of repairs.
-fn is_known(types: &PayloadTypes, pt: Pt) -> bool
+pub fn is_known(types: &PayloadTypes, pt: Pt) -> bool
     ensures { result ≡ is_known types.now pt }
 {
     types.has(pt) || types.primary(pt).is_some()
@@ -31,7 +31,7 @@ fn original_under<W: GapWindow, S: ResendStore<Sent>>(
     header: &RtpHeader,
 ) -> Option<(Ssrc, usize)>
     ensures original { (r : StreamsRecord) → StreamsStand W.remembers S.stands_for streams.now r
-        → option_map (λ f. f.0) result ≡ original_under types.now r.rx r.originals header.now }
+        → option_map (λ f. f.0) result ≡ original_under types.now r.rx r.known.originals header.now }
     ensures place { IfSome result (λ f. place_of f.0 streams.now.rx ≡ Some f.1) }
     ensures within { IfSome result (λ f. f.1 < length streams.now.rx) }
 {
@@ -56,7 +56,7 @@ pub fn repaired_by<W: GapWindow, S: ResendStore<Sent>>(
     header: &RtpHeader,
 ) -> Option<(Ssrc, usize)>
     ensures original { (r : StreamsRecord) → StreamsStand W.remembers S.stands_for streams.now r
-        → option_map (λ f. f.0) result ≡ repaired_by types.now r.rx r.originals header.now }
+        → option_map (λ f. f.0) result ≡ repaired_by types.now r.rx r.known.originals header.now }
     ensures place { IfSome result (λ f. place_of f.0 streams.now.rx ≡ Some f.1) }
     ensures within { IfSome result (λ f. f.1 < length streams.now.rx) }
 {

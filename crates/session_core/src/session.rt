@@ -102,7 +102,7 @@ impl<C: SrtpCipher, W: GapWindow, S: ResendStore<Sent>> Model for Session<C, W, 
         stopped = s.stopped;
       };
       rx = s.streams.rx;
-      originals = s.streams.originals;
+      known = s.streams.known;
       probes = s.probes;
       seen = s.seen;
       repairs = s.streams.repairs;
@@ -361,7 +361,7 @@ impl<C: SrtpCipher, W: GapWindow, S: ResendStore<Sent>> Session<C, W, S> {
     pub fn streams(&mut self) -> &mut Streams<W, S>
         ensures* writes_back { sem 𝓛 (LendsStreams C.row C.Key128.row C.Key256.row W.row S.row C.SrtpCipher W.GapWindow S.ResendStore self.entry result) }
         ensures rx { result.now.rx ≡ self.old.rx }
-        ensures originals { result.now.originals ≡ self.old.originals }
+        ensures known { result.now.known ≡ self.old.known }
         ensures repairs { result.now.repairs ≡ self.old.repairs }
         ensures tx { result.now.tx ≡ self.old.state.tx }
         ensures threshold { result.now.threshold ≡ self.old.state.pause_threshold }

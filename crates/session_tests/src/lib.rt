@@ -13,11 +13,15 @@ mod feedback;
 #[cfg(test)]
 mod leaving;
 #[cfg(test)]
+mod mapped;
+#[cfg(test)]
 mod packets;
 #[cfg(test)]
 mod repairs;
 #[cfg(test)]
 mod reports;
+#[cfg(test)]
+mod resets;
 #[cfg(test)]
 mod restored;
 #[cfg(test)]
@@ -25,6 +29,10 @@ mod restoring;
 #[cfg(test)]
 mod rounds;
 #[cfg(test)]
+mod sections;
+#[cfg(test)]
 mod steps;
 #[cfg(test)]
 mod table;
+#[cfg(test)]
+mod times;

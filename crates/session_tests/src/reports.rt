@@ -10,7 +10,7 @@ mod steps;
 mod told;
 
 use crate::carrying::{Ids, map_of};
-use crate::ends::{End, config, give_keys};
+use crate::ends::{End, Fault, config, give_keys};
 use crate::reports::counted::COUNTED;
 use crate::reports::due::DUE;
 use crate::reports::many::{Receivers, answers_all, reports_of_64};
@@ -22,7 +22,6 @@ use crate::reports::told::TOLD;
 use media_base::Duration;
 use session_core::ReportIntervals;
 use std::alloc::Global;
-use std::test::Fail;
 
 /// What is asked of an end.
 #[derive(Clone, Copy)]
@@ -39,7 +38,7 @@ enum Asked {
     Numbers,
 }
 
-fn goes_through(alloc: Global, end: &mut End, steps: &[Step]) -> Result<bool, Fail> {
+fn goes_through(alloc: Global, end: &mut End, steps: &[Step]) -> Result<bool, Fault> {
     for step in steps {
         if !goes(alloc, end, *step)? {
             return Ok(false);
@@ -48,7 +47,7 @@ fn goes_through(alloc: Global, end: &mut End, steps: &[Step]) -> Result<bool, Fa
     Ok(true)
 }
 
-fn holds(alloc: Global, end: &mut End, asked: Asked) -> Result<bool, Fail> {
+fn holds(alloc: Global, end: &mut End, asked: Asked) -> Result<bool, Fault> {
     give_keys(alloc, end, false)?;
     match asked {
         Asked::Steps(steps) => goes_through(alloc, end, steps),
@@ -64,7 +63,7 @@ fn holds(alloc: Global, end: &mut End, asked: Asked) -> Result<bool, Fail> {
 
 // Makes an end that reports every 5 s and every 1 s, and asks it: the one function that owns a session,
 // with one exit.
-fn play(alloc: Global, asked: Asked) -> Result<bool, Fail> {
+fn play(alloc: Global, asked: Asked) -> Result<bool, Fault> {
     let mut made = config(alloc, map_of(Ids::Nothing), 1150, 0)?;
     made.intervals = ReportIntervals {
         audio: Duration::from_secs(5),
@@ -77,7 +76,7 @@ fn play(alloc: Global, asked: Asked) -> Result<bool, Fail> {
 const TABLES: [&[Row]; 5] = [&TOLD, &COUNTED, &DUE, &NEWS, &REQUESTS];
 
 #[test]
-fn reports_hold(rt: HostRuntime) -> Result<(), Fail> {
+fn reports_hold(rt: HostRuntime) -> Result<(), Fault> {
     for rows in &TABLES {
         for (name, steps) in *rows {
             let held = play(rt.alloc(), Asked::Steps(steps))?;
@@ -99,7 +98,7 @@ const MOMENTS: [Receivers; 6] = [
 ];
 
 #[test]
-fn moments_are_answered(rt: HostRuntime) -> Result<(), Fail> {
+fn moments_are_answered(rt: HostRuntime) -> Result<(), Fault> {
     for receivers in &MOMENTS {
         let held = play(rt.alloc(), Asked::Moments(*receivers))?;
         assert!(rt; held, "{}", receivers.0);
@@ -110,7 +109,7 @@ fn moments_are_answered(rt: HostRuntime) -> Result<(), Fail> {
 const LENGTHS: [usize; 5] = [0, 1, 2, 255, 256];
 
 #[test]
-fn sources_are_named(rt: HostRuntime) -> Result<(), Fail> {
+fn sources_are_named(rt: HostRuntime) -> Result<(), Fault> {
     for len in &LENGTHS {
         let held = play(rt.alloc(), Asked::Named(*len))?;
         assert!(rt; held, "{len}");
@@ -119,14 +118,14 @@ fn sources_are_named(rt: HostRuntime) -> Result<(), Fail> {
 }
 
 #[test]
-fn full_intra_requests_are_numbered(rt: HostRuntime) -> Result<(), Fail> {
+fn full_intra_requests_are_numbered(rt: HostRuntime) -> Result<(), Fault> {
     let held = play(rt.alloc(), Asked::Numbers)?;
     assert!(rt; held);
     Ok(())
 }
 
 #[test]
-fn many_streams_report(rt: HostRuntime) -> Result<(), Fail> {
+fn many_streams_report(rt: HostRuntime) -> Result<(), Fault> {
     let held = play(rt.alloc(), Asked::Many)?;
     assert!(rt; held);
     Ok(())

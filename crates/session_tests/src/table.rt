@@ -1,6 +1,8 @@
 use crate::arriving::{Wanted, first_packet, refuses, tells};
 use crate::carrying::{EXTENSIONS, Ids, carries, map_of};
-use crate::ends::{End, FIRST_REPORT, config, expect_stream, give_keys, moment, prepare_sender};
+use crate::ends::{
+    End, FIRST_REPORT, Fault, config, expect_stream, give_keys, moment, prepare_sender,
+};
 use crate::feedback::{Feedback, holds};
 use crate::leaving::{drains, is_silent, sends, write};
 use crate::packets::Incoming::{Changed, Cut, Long, Padded, SealOf};
@@ -9,7 +11,6 @@ use media_base::already_happened;
 use rtp_base::Ssrc;
 use rtp_wire::{Extension, ExtensionValues};
 use std::alloc::Global;
-use std::test::Fail;
 
 /// What is asked of two fresh ends, one that sends and one that receives.
 #[derive(Clone, Copy)]
@@ -75,23 +76,23 @@ const ROWS: [(&str, Row); 31] = [
 ];
 
 // Writes the packet of `SEALED`.
-fn write_first(alloc: Global, a: &mut End) -> Result<(), Fail> {
+fn write_first(alloc: Global, a: &mut End) -> Result<(), Fault> {
     write(alloc, a, 1, ExtensionValues::none())
 }
 
-fn seals(alloc: Global, a: &mut End, bytes: &[u8]) -> Result<bool, Fail> {
+fn seals(alloc: Global, a: &mut End, bytes: &[u8]) -> Result<bool, Fault> {
     give_keys(alloc, a, true)?;
     write_first(alloc, a)?;
     sends(a, bytes)
 }
 
-fn gives_all(alloc: Global, a: &mut End) -> Result<bool, Fail> {
+fn gives_all(alloc: Global, a: &mut End) -> Result<bool, Fault> {
     give_keys(alloc, a, true)?;
     write_first(alloc, a)?;
     drains(a, &SEALED, FIRST_REPORT)
 }
 
-fn waits_to_send(alloc: Global, a: &mut End) -> Result<bool, Fail> {
+fn waits_to_send(alloc: Global, a: &mut End) -> Result<bool, Fault> {
     write_first(alloc, a)?;
     let without_keys = is_silent(a, moment())?;
     give_keys(alloc, a, true)?;
@@ -100,7 +101,7 @@ fn waits_to_send(alloc: Global, a: &mut End) -> Result<bool, Fail> {
     Ok(without_keys && at_0 && then)
 }
 
-fn stops_sending(alloc: Global, a: &mut End) -> Result<bool, Fail> {
+fn stops_sending(alloc: Global, a: &mut End) -> Result<bool, Fault> {
     give_keys(alloc, a, true)?;
     write_first(alloc, a)?;
     let removed = a.streams().remove_stream_tx(Ssrc::from(42));
@@ -108,13 +109,13 @@ fn stops_sending(alloc: Global, a: &mut End) -> Result<bool, Fail> {
     Ok(removed && then)
 }
 
-fn exchanges(alloc: Global, a: &mut End, b: &mut End, ids: Ids) -> Result<bool, Fail> {
+fn exchanges(alloc: Global, a: &mut End, b: &mut End, ids: Ids) -> Result<bool, Fault> {
     give_keys(alloc, a, true)?;
     give_keys(alloc, b, false)?;
     carries(alloc, a, b, ids)
 }
 
-fn is_told(alloc: Global, b: &mut End, incoming: Incoming, len: usize) -> Result<bool, Fail> {
+fn is_told(alloc: Global, b: &mut End, incoming: Incoming, len: usize) -> Result<bool, Fault> {
     give_keys(alloc, b, false)?;
     let mut all = [0; 2000];
     all[0] = 1;
@@ -127,7 +128,7 @@ fn is_told(alloc: Global, b: &mut End, incoming: Incoming, len: usize) -> Result
     tells(b, bytes.as_slice(), &wanted)
 }
 
-fn is_refused(alloc: Global, b: &mut End, incoming: Incoming) -> Result<bool, Fail> {
+fn is_refused(alloc: Global, b: &mut End, incoming: Incoming) -> Result<bool, Fault> {
     give_keys(alloc, b, false)?;
     let bytes = bytes_of(alloc, incoming)?;
     let refused = refuses(b, bytes.as_slice())?;
@@ -135,14 +136,14 @@ fn is_refused(alloc: Global, b: &mut End, incoming: Incoming) -> Result<bool, Fa
     Ok(refused && then)
 }
 
-fn waits_for_keys(alloc: Global, b: &mut End) -> Result<bool, Fail> {
+fn waits_for_keys(alloc: Global, b: &mut End) -> Result<bool, Fault> {
     let without_keys = refuses(b, &SEALED)?;
     give_keys(alloc, b, false)?;
     let then = tells(b, &SEALED, &first_packet())?;
     Ok(without_keys && then)
 }
 
-fn stops_receiving(alloc: Global, b: &mut End) -> Result<bool, Fail> {
+fn stops_receiving(alloc: Global, b: &mut End) -> Result<bool, Fault> {
     give_keys(alloc, b, false)?;
     let removed = b.streams().remove_stream_rx(Ssrc::from(42));
     let without_stream = refuses(b, &SEALED)?;
@@ -151,7 +152,7 @@ fn stops_receiving(alloc: Global, b: &mut End) -> Result<bool, Fail> {
     Ok(removed && without_stream && then)
 }
 
-fn opens_once(alloc: Global, b: &mut End) -> Result<bool, Fail> {
+fn opens_once(alloc: Global, b: &mut End) -> Result<bool, Fault> {
     give_keys(alloc, b, false)?;
     let first = tells(b, &SEALED, &first_packet())?;
     let again = refuses(b, &SEALED)?;
@@ -192,7 +193,7 @@ fn index_of(row: Row) -> u32 {
     }
 }
 
-fn hears(alloc: Global, a: &mut End, b: &mut End, asked: Feedback) -> Result<bool, Fail> {
+fn hears(alloc: Global, a: &mut End, b: &mut End, asked: Feedback) -> Result<bool, Fault> {
     match asked {
         Feedback::Lost => {}
         _ => give_keys(alloc, a, true)?,
@@ -202,7 +203,7 @@ fn hears(alloc: Global, a: &mut End, b: &mut End, asked: Feedback) -> Result<boo
 }
 
 // Whether two fresh ends answer as a row says.
-fn hold(alloc: Global, a: &mut End, b: &mut End, row: Row) -> Result<bool, Fail> {
+fn hold(alloc: Global, a: &mut End, b: &mut End, row: Row) -> Result<bool, Fault> {
     prepare_sender(alloc, a)?;
     expect_stream(b)?;
     match row {
@@ -222,7 +223,7 @@ fn hold(alloc: Global, a: &mut End, b: &mut End, row: Row) -> Result<bool, Fail>
 }
 
 // Makes two ends, and asks them a row: the one function that owns sessions, with one exit.
-fn play(alloc: Global, row: Row) -> Result<bool, Fail> {
+fn play(alloc: Global, row: Row) -> Result<bool, Fault> {
     let exts = map_of(ids_of(row));
     let (target, index) = (target_of(row), index_of(row));
     let sender = config(alloc, exts, target, index)?;
@@ -233,7 +234,7 @@ fn play(alloc: Global, row: Row) -> Result<bool, Fail> {
 }
 
 #[test]
-fn rows_hold(rt: HostRuntime) -> Result<(), Fail> {
+fn rows_hold(rt: HostRuntime) -> Result<(), Fault> {
     for (name, row) in &ROWS {
         let held = play(rt.alloc(), *row)?;
         assert!(rt; held, "{name}");
@@ -242,7 +243,7 @@ fn rows_hold(rt: HostRuntime) -> Result<(), Fail> {
 }
 
 #[test]
-fn each_extension_is_carried(rt: HostRuntime) -> Result<(), Fail> {
+fn each_extension_is_carried(rt: HostRuntime) -> Result<(), Fault> {
     for extension in &EXTENSIONS {
         let held = play(rt.alloc(), Row::Carries(Ids::Only(*extension)))?;
         assert!(rt; held, "{extension:?}");
@@ -251,7 +252,7 @@ fn each_extension_is_carried(rt: HostRuntime) -> Result<(), Fail> {
 }
 
 #[test]
-fn compounds_are_cut_at_each_target(rt: HostRuntime) -> Result<(), Fail> {
+fn compounds_are_cut_at_each_target(rt: HostRuntime) -> Result<(), Fault> {
     for target in 900..1501 {
         let held = play(rt.alloc(), Row::Feedback(Feedback::Cut(target)))?;
         assert!(rt; held, "{target}");

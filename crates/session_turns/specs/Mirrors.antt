@@ -1,10 +1,12 @@
 -- When the record of a session is that of a plain session of the laws.
-use Rattle.std.specs.Prelude.{◌≡◌, ◌≤◌, ◌<◌, ◌^◌, ℕ, Bool, true, false, is_some, unwrap_or, List, [], ◌∷◌, map, length, Option, Some, None}
+use Rattle.std.specs.Prelude.{◌≡◌, ◌≤◌, ◌<◌, ◌^◌, ℕ, true, false, is_some, unwrap_or, List, [], ◌∷◌, map, length, Option, Some, None}
 use Rattle.std.specs.List.{AllByRecursion, AllZip, flat_map}
-use Rattle.rtp_base.specs.Window.{greatest, is_fresh_rtx, is_fresh_after, greatest_after}
+use Rattle.rtp_base.specs.Window.{is_fresh_after, greatest_after}
 use Rattle.rtp_wire.specs.BytesLaws.{AreWords}
 use Rattle.rtp_wire.specs.Extensions.{no_values}
-use Rattle.resend_core.specs.ResendStore.{Event as Stored, pushed, evicted, Past}
+use Rattle.mapping_core.specs.declared.rids.Rids.TheVariants.{Specific}
+use Rattle.mapping_core.specs.declared.stream.IncomingStream.{IncomingStream}
+use Rattle.resend_core.specs.ResendStore.{Event as Stored, pushed, evicted}
 use Rattle.repair_core.specs.Rounds.{Heard, taken}
 use Rattle.rtx_core.specs.Ratio.{CapRecord, recent}
 use Rattle.rtx_core.specs.Repairs.{RepairPast}
@@ -17,18 +19,17 @@ use Rattle.stream_core.specs.Write.{WriteRecord, packet_of}
 use Rattle.stream_core.specs.Repairing.{SentPacket, RepairsRecord, rtx_type_of, repairs_of}
 use Rattle.stream_core.specs.RxRecord.{RxRecord as StreamRx}
 use Rattle.stream_core.specs.TxRecord.{TxRecord as StreamTx}
-use Rattle.stream_core.specs.Tables.{value_under}
+use Rattle.stream_core.specs.Tables.{place_of, value_under}
 use Rattle.session_core.specs.Hearing.{is_own, trip_of, ntp_of}
 use Rattle.session_core.specs.Sending.{has_mid}
-use Rattle.session_core.specs.SessionRecord.{MediaRecord, SessionState, SessionRecord}
+use Rattle.session_core.specs.SessionRecord.{MediaRecord, SessionRecord}
 use Rattle.media_model.specs.declared.entry.Side.{Side}
 use Rattle.media_model.specs.declared.entry.Write.{Write}
 use Rattle.media_model.specs.Sides.{peer_of}
 use Rattle.run_model.specs.Events.{Outgoing, Incoming}
 use Rattle.run_model.specs.TxPlay.{TxRecord, past_of}
 use Rattle.run_model.specs.RxPlay.{RxRecord}
-use Rattle.run_model.specs.Asking.{RxSetup}
-use Rattle.run_model.specs.Tables.{Table, lines, AreApart}
+use Rattle.run_model.specs.Tables.{lines, AreApart}
 use Rattle.run_model.specs.Whole.{Config, Session, setup_of, incoming_of, probes}
 use Rattle.session_turns.specs.Reading.{types_in, sealing_of, reporting_of}
 
@@ -185,6 +186,13 @@ pub data RxMirror (threshold : ℕ) (trip : Option ℕ) (r : SessionRecord) : Li
   rx_mirror : (s : Incoming × RxRecord) (rest : List (Incoming × RxRecord)) → s.0 ≡ probes → RxMirrors threshold r.seen r.probes s
       → AllZip (RxStands threshold trip r.seen) r.rx rest → RxMirror threshold trip r (s ∷ rest)
 
+-- a media section expects no stream but those that are declared, and of each known stream the SSRC of its repairs is in the table
+abbrev pub ExpectsNone : MediaRecord → Type 0
+ExpectsNone m = m.rids ≡ Specific []
+
+abbrev pub HasOriginal : List (ℕ × ℕ) → IncomingStream → Type 0
+HasOriginal originals s = (rtx : ℕ) → s.rtx ≡ Some rtx → is_some (place_of rtx originals) ≡ true
+
 -- a session, and the plain session of a side of a configuration; nothing waits to be told or sent but packets
 pub record Mirrors (cipher : CipherMeaning) (C : Config) (side : Side) (r : SessionRecord) (a : Session) : Type 0 where
   pub own : SrtpState
@@ -204,7 +212,9 @@ pub record Mirrors (cipher : CipherMeaning) (C : Config) (side : Side) (r : Sess
   pub incoming : map (λ s. s.0) a.rx.table ≡ (setup_of C side).streams
   pub tx : AllZip (TxMirrors r.state.types r.state.medias a.rx.now None r.repairs) r.state.tx a.tx
   pub rx : RxMirror C.threshold a.rx.trip r a.rx.table
-  pub originals : r.originals ≡ flat_map original_in (map incoming_of (C.outgoing (peer_of side)))
+  pub originals : r.known.originals ≡ flat_map original_in (map incoming_of (C.outgoing (peer_of side)))
+  pub sections : AllByRecursion ExpectsNone r.state.medias
+  pub known : AllByRecursion (HasOriginal r.known.originals) r.known.streams
   pub last_round : r.state.last_round ≡ a.rx.last_round
   pub target : 900 ≤ r.state.target
   pub feedback : r.state.feedback ≡ []

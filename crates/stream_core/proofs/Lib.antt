@@ -1,13 +1,17 @@
 pub mod Accepting
 pub mod Alongside
 pub mod Any
+pub mod Claims
 pub mod Fronts
+pub mod InUseSteps
 pub mod Mending
 pub mod Places
 pub mod PollSteps
 pub mod Polling
 pub mod Primaries
+pub mod Renaming
 pub mod RepairSteps
+pub mod ResetSteps
 pub mod RxSteps
 pub mod Stamps
 pub mod SeenSteps

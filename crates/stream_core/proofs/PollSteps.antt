@@ -74,7 +74,7 @@ module _ {W S : Type 0} (remembers : W → Heard → Type 0) (stands_for : S →
           polls_at x y (Some k.0) o (at_record r m) (subst (λ a. Polls types t now x a y (Some k.0) o) (sym (of_record r q.0 q.1)) k.1),
           record {
             threshold = m.threshold;
-            originals = m.originals;
+            known = m.known;
             rx = m.rx;
             tx = set_const inside.tx place x y there ∙ ap (λ (l : List (ℕ × TxRecord)). change_place (λ old. y) l place) m.tx;
             repairs = repairs_set stands_for inside.repairs r.repairs x.ssrc m.repairs i v w k.0 where_ at k.2;
@@ -94,7 +94,7 @@ module _ {W S : Type 0} (remembers : W → Heard → Type 0) (stands_for : S →
           stays_at x (Some k.0) (at_record r m) (subst (λ a. Stays now a (Some k.0)) (sym (of_record r q.0 q.1)) k.1),
           record {
             threshold = m.threshold;
-            originals = m.originals;
+            known = m.known;
             rx = m.rx;
             tx = set_same inside.tx place x y there unchanged ∙ m.tx;
             repairs = repairs_set stands_for inside.repairs r.repairs x.ssrc m.repairs i v w k.0 where_ at k.2;
@@ -146,7 +146,7 @@ module _ {W S : Type 0} (remembers : W → Heard → Type 0) (stands_for : S →
           polls_at x y None o (at_record r m) polls,
           record {
             threshold = m.threshold;
-            originals = m.originals;
+            known = m.known;
             rx = m.rx;
             tx = set_const inside.tx place x y there ∙ ap (λ (l : List (ℕ × TxRecord)). change_place (λ old. y) l place) m.tx;
             repairs = m.repairs;
@@ -159,7 +159,7 @@ module _ {W S : Type 0} (remembers : W → Heard → Type 0) (stands_for : S →
         let m = mine r h in (
           _,
           stays_at x None (at_record r m) (subst (λ a. Stays now a None) (sym (none_record r m x.rtx refl)) (same None)),
-          record { threshold = m.threshold; rx = m.rx; originals = m.originals; tx = set_same inside.tx place x y there unchanged ∙ m.tx; repairs = m.repairs },
+          record { threshold = m.threshold; rx = m.rx; known = m.known; tx = set_same inside.tx place x y there unchanged ∙ m.tx; repairs = m.repairs },
         )
 
     pub fewer_alone : (y : TxRecord) → y ≡ after_poll x → option_map (is_ready s.repairs) (slice_get (values_of s.tx) place) ≡ Some true

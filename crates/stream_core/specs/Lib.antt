@@ -1,4 +1,6 @@
 pub mod Arrivals
+pub mod InUse
+pub mod Known
 pub mod Lending
 pub mod LendingStreams
 pub mod Missing

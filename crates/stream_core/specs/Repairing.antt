@@ -1,7 +1,8 @@
 -- What a stream sends again (RFC 4588), and what a poll of it gives.
-use Rattle.std.specs.Prelude.{◌≡◌, ℕ, ◌%◌, ◌<◌, ◌^◌, ◌==◌, not, Bool, false, if◌then◌else◌, Option, Some, None, option_and_then, List, [], ◌∷◌, ◌++◌, length, slice_index_or}
+use Rattle.std.specs.Prelude.{◌≡◌, ℕ, ◌%◌, ◌<◌, ◌^◌, ◌==◌, not, Bool, false, if◌then◌else◌, Option, Some, None, option_and_then, List, [], ◌∷◌, ◌++◌, length, slice_index_or, map}
 use Rattle.std.specs.Int.{w16, to_be_bytes}
 use Rattle.std.specs.Option.{option_map}
+use Rattle.mapping_core.specs.declared.claim.TypeClaim.{TypeClaim}
 use Rattle.resend_core.specs.ResendStore.{Past}
 use Rattle.resend_core.specs.declared.rtx_cache.RtxCache.{RtxCache}
 use Rattle.rtp_wire.specs.declared.header.RtpHeader.{RtpHeader}
@@ -58,6 +59,13 @@ ArePrimaries primaries types = (pt : ℕ) → pt < 256 → slice_index_or primar
 -- under each type the place where its row stands
 abbrev pub ArePlaces : List (Option ℕ) → List (ℕ × TypeRow) → Type 0
 ArePlaces places types = (pt : ℕ) → pt < 256 → slice_index_or places pt None ≡ place_of pt types
+
+-- a row as a claim of its types, and the rows, in their order
+abbrev pub claim_in : TypeRow → TypeClaim
+claim_in row = record { pt = row.pt; rtx = row.rtx; red = row.red }
+
+abbrev pub claims_in : List (ℕ × TypeRow) → List TypeClaim
+claims_in types = map (λ e. claim_in e.1) types
 
 -- the type of the repairs of a packet: none where the packet is not kept to be sent again
 abbrev pub kept_as : List (ℕ × TypeRow) → RtpPacket → Option ℕ

@@ -8,7 +8,8 @@ use Rattle.rtx_core.specs.Repairs.{RepairPast, Remembers as RepairsRemember}
 use Rattle.stream_core.specs.declared.reports.Arrival.{Arrival}
 use Rattle.stream_core.specs.declared.reports.RxReports.{RxReports}
 use Rattle.stream_core.specs.declared.requests.RxRequests.{RxRequests}
-use Rattle.stream_core.specs.Arrivals.{no_rx_reports, with_arrival, forgotten}
+use Rattle.rtp_base.specs.declared.media_time.MediaTime.{MediaTime}
+use Rattle.stream_core.specs.Arrivals.{no_rx_reports, with_arrival, with_time, time_of, forgotten}
 use Rattle.stream_core.specs.Requests.{no_requests}
 
 -- all of an incoming stream but its window: its SSRC and that of its repairs, the media section and the stream in it; the
@@ -92,9 +93,18 @@ unpaused now s = record s {
   untold = s.untold || is_none s.pause_at;
 }
 
+-- the RTP time of a packet that is taken as it came, and that of one that is restored from a repair that so came: the second
+-- is no stream's last time, and a pause before it does not count
+abbrev pub taken_time : Arrival → RxState → MediaTime
+taken_time a s = time_of (is_none s.pause_at) a s.reports
+
+abbrev pub restored_time : Arrival → RxState → MediaTime
+restored_time a s = time_of false a s.reports
+
 -- a packet opened under this number: a rollover count that was set is used up
 abbrev pub came_at : Arrival → ℕ → RxState → RxState
-came_at a n s = record (unpaused a.now s) { roc = None; reports = with_arrival a n s.reports }
+came_at a n s =
+    record (unpaused a.now s) { roc = None; reports = with_time (is_none s.pause_at) a (with_arrival a n s.reports) }
 
 abbrev pub opened_as : Option ℕ → Arrival → ℕ → RxRecord → RxRecord
 opened_as remembered a n r = record r { state = came_at a n r.state; numbers = Some (came (heard remembered r) n) }
@@ -102,6 +112,18 @@ opened_as remembered a n r = record r { state = came_at a n r.state; numbers = S
 -- the numbers are forgotten, those of the repairs too, with what was counted, and a rollover count was set
 abbrev pub restarted : ℕ → RxRecord → RxRecord
 restarted roc r = record { state = record r.state { roc = Some roc; reports = forgotten r.state.reports }; numbers = None; repairs = None }
+
+-- the packets of a stream come under another SSRC: what was taken of them, how they came, what their sender reported and what it
+-- is asked are forgotten, and the next report is due as that of a stream that never reported; what was taken of repairs stays
+abbrev pub moved_to : ℕ → RxRecord → RxRecord
+moved_to ssrc r = record r {
+  state = record r.state { ssrc = ssrc; roc = None; reports = no_rx_reports; requests = no_requests };
+  numbers = None;
+}
+
+-- the repairs of a stream come under another SSRC, or for the first time under one: what was taken of them is forgotten
+abbrev pub repaired_under : ℕ → RxRecord → RxRecord
+repaired_under rtx r = record r { state = record r.state { rtx = Some rtx }; repairs = None }
 
 -- there is a window exactly where the record says so, and it remembers what it was told
 abbrev pub Remembers : {W : Type 0} → (W → Heard → Type 0) → Option W → Option Heard → Type 0

@@ -9,7 +9,7 @@ use Rattle.stream_core.specs.declared.packet.RtpPacket.{RtpPacket}
 use Rattle.stream_core.specs.declared.stream_tx.PacketReceipt.{PacketReceipt}
 use Rattle.stream_core.specs.declared.reports.TxReports.{TxReports}
 use Rattle.stream_core.specs.declared.transport.Transport.{Transport}
-use Rattle.stream_core.specs.Arrivals.{no_tx_reports, with_write, with_first_of, with_repair}
+use Rattle.stream_core.specs.Arrivals.{no_tx_reports, tx_reports_anew, with_write, with_first_of, with_repair}
 use Rattle.stream_core.specs.Queue.{needs_tick, with_stamp, next_of, rest_of}
 use Rattle.stream_core.specs.Sealing.{sealed_values, with_values, after_packet}
 use Rattle.stream_core.specs.Write.{WriteRecord, packet_of}
@@ -43,6 +43,12 @@ acknowledges ssrc r = is_none r.rtx && ssrc == r.ssrc
 
 abbrev pub after_reception : ReceptionReport → TxRecord → TxRecord
 after_reception b r = record r { acknowledged = r.acknowledged || acknowledges b.ssrc r }
+
+-- the stream begins anew under another SSRC, and another one of its repairs, if it has them from then on: nothing waits, its
+-- reports begin anew, and the peer has not acknowledged the SSRC
+abbrev pub anew_under : ℕ → Option ℕ → TxRecord → TxRecord
+anew_under ssrc rtx r =
+    record r { ssrc = ssrc; rtx = rtx; acknowledged = false; queue = []; reports = tx_reports_anew r.reports }
 
 -- the causes for which a packet is not written, the first of them
 abbrev pub IsTooBig : WriteRecord → Type 0

@@ -2,6 +2,7 @@
 //! Each is told by the SSRC of its packets (RFC 3550 section 3).
 #![tactic(auto)]
 
+mod known_streams;
 mod packet;
 mod payload;
 mod payload_types;
@@ -18,6 +19,7 @@ mod streams;
 mod transport;
 mod write;
 
+pub use known_streams::KnownStreams;
 pub use packet::RtpPacket;
 pub use payload::Payload;
 pub use payload_types::{PayloadTypes, TypeRow};
@@ -28,7 +30,7 @@ pub use seen::Seen;
 pub use send_queue::SendQueue;
 pub use ssrc_table::SsrcTable;
 pub use stream_paused::StreamPaused;
-pub use stream_rx::StreamRx;
+pub use stream_rx::{StreamRx, first_number, first_repair, first_repair_number};
 pub use stream_tx::{PacketReceipt, StreamTx};
 pub use streams::{Streams, is_among, sooner};
 pub use transport::Transport;

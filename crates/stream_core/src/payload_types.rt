@@ -3,11 +3,12 @@ ghost use Rattle.std.specs.Map.Iter.{ShowsInOrder, deref_pair};
 ghost use Rattle.indexmap.specs.IndexMap.{insert_entry};
 ghost use Rattle.stream_core.specs.Tables.{place_of};
 ghost use Rattle.stream_core.specs.declared.payload_types.TypeRow.{TypeRow as Row};
-ghost use Rattle.stream_core.specs.Repairing.{rtx_type_of, primary_type_of, ArePrimaries};
+ghost use Rattle.stream_core.specs.Repairing.{rtx_type_of, primary_type_of, ArePrimaries, claim_in, claims_in};
 ghost use Rattle.stream_core.specs.Reporting.{clock_under};
 
 use indexmap::IndexMap;
 use indexmap::map::Iter;
+use mapping_core::TypeClaim;
 use rtp_base::{Frequency, Pt};
 use std::alloc::{AllocError, Global};
 use std::marker::Model;
@@ -21,6 +22,21 @@ pub struct TypeRow {
     pub clock: Frequency,
     /// The type of repairs of its packets (RFC 4588 section 8.1), where there is one.
     pub rtx: Option<Pt>,
+    /// The type under which it is sent with older frames (RED, RFC 2198), where there is one. Its datagrams
+    /// are taken where it has a row of its own.
+    pub red: Option<Pt>,
+}
+
+impl TypeRow {
+    fn claim(&self) -> TypeClaim
+        ensures { result ≡ claim_in self.now }
+    {
+        TypeClaim {
+            pt: self.pt,
+            rtx: self.rtx,
+            red: self.red,
+        }
+    }
 }
 
 /// The payload types that both ends know, each under its number, in the order in which they were added.
@@ -32,6 +48,8 @@ pub struct PayloadTypes {
     primaries: [Option<Pt>; 256],
     // Under each type the place where its row stands.
     places: [Option<usize>; 256],
+    // The rows as claims, in the same order.
+    claims: Vec<TypeClaim>,
 }
 
 impl Model for PayloadTypes {
@@ -40,11 +58,12 @@ impl Model for PayloadTypes {
 
     ghost Value = { List (ℕ × TypeRow) };
 
-    ghost use Rattle.stream_core.specs.Repairing.{ArePrimaries, ArePlaces};
+    ghost use Rattle.std.specs.Prelude.{◌≡◌};
+    ghost use Rattle.stream_core.specs.Repairing.{ArePrimaries, ArePlaces, claims_in};
 
     ghost view = { λ t. t.rows.entries };
 
-    ghost invariant = { λ t. ArePrimaries t.primaries t.rows.entries × ArePlaces t.places t.rows.entries };
+    ghost invariant = { λ t. ArePrimaries t.primaries t.rows.entries × ArePlaces t.places t.rows.entries × (t.claims.items ≡ claims_in t.rows.entries) };
 }
 
 /// Under each type the first one whose packets have repairs of it. The time grows with the number of
@@ -65,6 +84,33 @@ fn primaries_of(rows: &IndexMap<Pt, TypeRow>) -> [Option<Pt>; 256]
     primaries
 }
 
+/// Puts a row in the place of the one with its number, or behind the others, and its claim beside it.
+fn put_row(
+    rows: &mut IndexMap<Pt, TypeRow>,
+    claims: &mut Vec<TypeClaim>,
+    row: TypeRow,
+) -> Result<(), AllocError>
+    requires { claims.old.items ≡ claims_in rows.old.entries }
+    ensures rows { OnOk result (rows.new.entries ≡ insert_entry nat_eq rows.old.entries row.pt row) }
+    ensures claims { OnOk result (claims.new.items ≡ claims_in rows.new.entries) }
+    ensures err { OnErr result ((rows.new.entries ≡ rows.old.entries) × (claims.new.items ≡ claims.old.items)) }
+{
+    if let Some(place) = rows.get_index_of(&row.pt) {
+        rows.insert(row.pt, row)?;
+        claims[place] = row.claim();
+        return Ok(());
+    }
+    let len = claims.len();
+    claims.push(row.claim())?;
+    match rows.insert(row.pt, row) {
+        Ok(_) => Ok(()),
+        Err(error) => {
+            claims.truncate(len);
+            Err(AllocError::from(error))
+        }
+    }
+}
+
 impl PayloadTypes {
     /// No types.
     pub fn new(alloc: Global) -> Self
@@ -74,6 +120,7 @@ impl PayloadTypes {
             rows: IndexMap::new(alloc),
             primaries: [None; 256],
             places: [None; 256],
+            claims: Vec::new(alloc),
         }
     }
 
@@ -83,7 +130,7 @@ impl PayloadTypes {
         ensures ok { OnOk result (self.new ≡ insert_entry nat_eq self.old row.pt row) }
         ensures err { OnErr result (self.new ≡ self.old) }
     {
-        self.rows.insert(row.pt, row)?;
+        put_row(&mut self.rows, &mut self.claims, row)?;
         self.primaries = primaries_of(&self.rows);
         self.places[usize::from(u8::from(row.pt))] = self.rows.get_index_of(&row.pt);
         Ok(())
@@ -140,6 +187,13 @@ impl PayloadTypes {
     {
         let place = self.place(pt)?;
         Some(self.rows[place].clock)
+    }
+
+    /// The types as claims, in the order in which they were added.
+    pub fn claims(&self) -> &[TypeClaim]
+        ensures { result.now ≡ claims_in self.now }
+    {
+        self.claims.as_slice()
     }
 
     /// The first type whose packets have repairs of a type: one look-up in an array. None where it is no

@@ -6,19 +6,29 @@ ghost use Rattle.stream_core.specs.Arrivals.{
   no_rx_reports,
   with_arrival,
   with_late,
+  with_time,
+  time_of,
   forgotten,
   no_tx_reports,
+  tx_reports_anew,
   with_write,
   with_first_of,
   with_repair,
+  with_nack,
+  with_pli,
+  with_fir,
+  stats_of,
 };
 
 use crate::packet::RtpPacket;
 use crate::stream_tx::PacketReceipt;
 use media_base::{Beginning, Instant};
 use repair_core::{ReceptionCounts, TimePoint};
-use report_core::{ReceiverClock, ReportIntervals, SenderClock, SenderNews, Traffic, Written};
-use rtp_base::{Frequency, Pt, SeqNo, Ssrc};
+use report_core::{
+    ReceiverClock, ReportIntervals, SenderClock, SenderNews, StreamStats, TimeLine, Traffic,
+    Written,
+};
+use rtp_base::{Frequency, MediaTime, Pt, SeqNo, Ssrc};
 
 /// The bytes of the original number in front of the payload of a repair (RFC 4588 section 4).
 const ORIGINAL_NUMBER_LEN: usize = 2;
@@ -71,6 +81,8 @@ pub struct RxReports {
     pub clock: ReceiverClock,
     /// What its sender reported.
     pub news: SenderNews,
+    /// The RTP times of its packets.
+    pub times: TimeLine,
 }
 
 impl RxReports {
@@ -82,6 +94,7 @@ impl RxReports {
             counts: ReceptionCounts::new(),
             clock: ReceiverClock::new(),
             news: SenderNews::new(),
+            times: TimeLine::new(),
         }
     }
 
@@ -92,11 +105,27 @@ impl RxReports {
         self.counts.arrived(number, true, arrival.point());
     }
 
-    /// Forgets what was counted of packets.
+    /// Forgets what was counted of packets. The last time stays.
     pub(crate) fn forget(&mut self)
         ensures { self.new ≡ forgotten self.old }
     {
         self.counts = ReceptionCounts::new();
+    }
+
+    /// The RTP time of a packet, widened by the last one, where the stream was paused before the packet or
+    /// not.
+    pub(crate) fn time_of(&self, arrival: &Arrival, was_paused: bool) -> MediaTime
+        ensures { result ≡ time_of was_paused arrival.entry.now self.now }
+    {
+        let numer = self.times.widened(arrival.rtp_time, was_paused);
+        MediaTime::new(numer, arrival.clock)
+    }
+
+    /// That time is the last one from now on.
+    pub(crate) fn timed(&mut self, arrival: &Arrival, was_paused: bool)
+        ensures { self.new ≡ with_time was_paused arrival.entry.now self.old }
+    {
+        self.times.take(arrival.rtp_time, was_paused, arrival.clock);
     }
 
     /// A packet came under a number that is not fresh: it enters the jitter alone.
@@ -118,6 +147,14 @@ pub struct TxReports {
     pub sealed_type: Option<Pt>,
     /// The packets that were sealed, repairs among them, and the bytes of their payloads.
     pub sent: Traffic,
+    /// The repairs among them.
+    pub resent: Traffic,
+    /// The NACK items that came (RFC 4585 section 6.2.1), at most 2^64 - 1.
+    pub nacks: u64,
+    /// The PLI items that came (RFC 4585 section 6.3.1), at most 2^64 - 1.
+    pub plis: u64,
+    /// The FIR entries that came (RFC 5104 section 4.3.1), at most 2^64 - 1.
+    pub firs: u64,
 }
 
 impl TxReports {
@@ -130,7 +167,20 @@ impl TxReports {
             written: None,
             sealed_type: None,
             sent: Traffic::new(),
+            resent: Traffic::new(),
+            nacks: 0,
+            plis: 0,
+            firs: 0,
         }
+    }
+
+    /// All begins anew, but of which kind it is stays told.
+    pub(crate) fn reset(&mut self)
+        ensures { self.new ≡ tx_reports_anew self.old }
+    {
+        let is_audio = self.clock.is_audio;
+        *self = TxReports::new();
+        self.clock.is_audio = is_audio;
     }
 
     /// A packet was written with an RTP time, which its media had at a moment.
@@ -157,6 +207,41 @@ impl TxReports {
         ensures { self.new ≡ with_repair repair.now self.old }
     {
         let front = repair.header.header_len.saturating_add(ORIGINAL_NUMBER_LEN);
-        self.sent.count(repair.plain.len().saturating_sub(front));
+        let bytes = repair.plain.len().saturating_sub(front);
+        self.sent.count(bytes);
+        self.resent.count(bytes);
+    }
+
+    /// A NACK item came.
+    pub(crate) fn asked_again(&mut self)
+        ensures { self.new ≡ with_nack self.old }
+    {
+        self.nacks = self.nacks.saturating_add(1);
+    }
+
+    /// A PLI item came.
+    pub(crate) fn lost_picture(&mut self)
+        ensures { self.new ≡ with_pli self.old }
+    {
+        self.plis = self.plis.saturating_add(1);
+    }
+
+    /// A FIR entry came.
+    pub(crate) fn asked_keyframe(&mut self)
+        ensures { self.new ≡ with_fir self.old }
+    {
+        self.firs = self.firs.saturating_add(1);
+    }
+
+    /// What was counted.
+    pub(crate) fn stats(&self) -> StreamStats
+        ensures { result ≡ stats_of self.now }
+    {
+        StreamStats {
+            traffic: self.sent,
+            nacks: self.nacks,
+            plis: self.plis,
+            firs: self.firs,
+        }
     }
 }

@@ -1,10 +1,12 @@
-ghost use Rattle.std.specs.Prelude.{◌≡◌, ◌==◌, not, ◌<◌, ◌∷◌, ◌++◌, ℕ, [], None, Some, length, take, slice_get, IfSome, OnOk, OnErr, is_some};
+ghost use Rattle.std.specs.Prelude.{◌≡◌, ◌==◌, ◌||◌, not, ◌<◌, ◌∷◌, ◌++◌, ℕ, [], None, Some, length, take, slice_get, filter, IfSome, OnOk, OnErr, is_some};
 ghost use Rattle.std.specs.Map.{values_of};
 ghost use Rattle.std.specs.Map.Iter.{ShowsInOrder, deref_pair};
-ghost use Rattle.stream_core.specs.Tables.{place_of, without_key, without_value};
+ghost use Rattle.stream_core.specs.Tables.{place_of, with_new, without_key, without_value, renamed};
+ghost use Rattle.stream_core.specs.Known.{is_kept};
 
 use indexmap::IndexMap;
 use indexmap::map::Iter;
+use mapping_core::RepairsChange;
 use rtp_base::Ssrc;
 use std::alloc::{AllocError, Global};
 use std::marker::Model;
@@ -80,6 +82,36 @@ impl<T: Drop> SsrcTable<T> {
         Ok(())
     }
 
+    /// Puts a stream behind the others; where its SSRC has one already, that one stays. Without memory
+    /// nothing changes.
+    pub fn add_new(&mut self, ssrc: Ssrc, stream: T) -> Result<(), AllocError>
+        ensures ok { OnOk result (self.new ≡ with_new ssrc stream self.old) }
+        ensures err { OnErr result (self.new ≡ self.old) }
+    {
+        if self.place(ssrc).is_some() {
+            return Ok(());
+        }
+        self.add(ssrc, stream)
+    }
+
+    /// Has the stream at a place stand there under another SSRC, which none has. Without memory nothing
+    /// changes. The time grows with the number of streams.
+    pub fn rename(&mut self, place: usize, ssrc: Ssrc) -> Result<(), AllocError>
+        requires place { place < length self.old }
+        requires new { place_of ssrc self.old ≡ None }
+        ensures ok { OnOk result (self.new ≡ renamed ssrc self.old place) }
+        ensures len { OnOk result (length self.new ≡ length self.old) }
+        ensures err { OnErr result (self.new ≡ self.old) }
+    {
+        self.streams.reserve(1)?;
+        if let Some((_, stream)) = self.streams.shift_remove_index(place) {
+            let last = self.streams.len();
+            self.streams.insert(ssrc, stream)?;
+            self.streams.move_index(last, place);
+        }
+        Ok(())
+    }
+
     /// Takes out the stream of an SSRC, and tells whether there was one. The time grows with the number
     /// of streams declared after it.
     pub fn remove(&mut self, ssrc: Ssrc) -> bool
@@ -125,6 +157,20 @@ impl SsrcTable<Ssrc> {
             |_key: &Ssrc, value: &mut Ssrc| -> bool
                 ensures { (result ≡ not (value.old == ssrc)) × (value.new ≡ value.old) }
             { *value != ssrc },
+        );
+    }
+
+    /// Has repairs of a stream come under one SSRC alone: takes out its others. The time grows with the
+    /// number of entries.
+    pub fn keep_only(&mut self, change: &RepairsChange)
+        ensures { self.new ≡ filter (is_kept change.now) self.old }
+    {
+        let rtx = change.rtx;
+        let main = change.main;
+        self.streams.retain(
+            |key: &Ssrc, value: &mut Ssrc| -> bool
+                ensures { (result ≡ (key.now == rtx || not (value.old == main))) × (value.new ≡ value.old) }
+            { *key == rtx || *value != main },
         );
     }
 }

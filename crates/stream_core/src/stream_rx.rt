@@ -10,7 +10,7 @@ ghost use Rattle.report_core.specs.Receiver.{receiver_report_of};
 ghost use Rattle.stream_core.specs.Reporting.{report_at, is_report_due, block_at, greatest_in, reported, with_told, front_count, with_news};
 ghost use Rattle.stream_core.specs.Requests.{is_request, request_count, request_items, with_keyframe, with_bitrate};
 ghost use Rattle.repair_core.specs.Counts.{counts_report, counts_after};
-ghost use Rattle.stream_core.specs.RxRecord.{RxRecord, StandsFor, expected, taken_of, number_for, fresh_number, unpaused, came_at, opened_as, restarted};
+ghost use Rattle.stream_core.specs.RxRecord.{RxRecord, StandsFor, expected, taken_of, number_for, fresh_number, unpaused, came_at, opened_as, restarted, moved_to, repaired_under, taken_time, restored_time};
 ghost use Rattle.stream_core.specs.RxRepairs.{own_number, fresh_repair, repair_came, restored_for, restored, with_number, after_restored};
 
 use crate::reports::{Arrival, RxReports};
@@ -21,8 +21,8 @@ use repair_core::{GapWindow, ReceptionCounts};
 use report_core::{LastSenderReport, ReportIntervals, receiver_report};
 use rtcp_wire::{ReceiverReport, Rtcp, SenderInfo};
 use rtp_base::{
-    KeyframeRequestKind, Mid, MidRid, NackEntry, ReceptionReport, ReportList, Rid, SeqNo, Ssrc,
-    widen16,
+    KeyframeRequestKind, MediaTime, Mid, MidRid, NackEntry, ReceptionReport, ReportList, Rid,
+    SeqNo, Ssrc, widen16,
 };
 use rtx_core::RepairWindow;
 use std::alloc::{AllocError, Global};
@@ -113,6 +113,50 @@ fn is_above(remembered: Option<SeqNo>, number: SeqNo) -> bool
     match remembered {
         Some(greatest) => greatest < number,
         None => true,
+    }
+}
+
+/// The number with these low 16 bits under which the first datagram of a stream may open that is no repair,
+/// None where so great a number is remembered of its SSRC.
+pub fn first_number(low: u16, remembered: Option<SeqNo>) -> Option<SeqNo>
+    requires { ForSome remembered (λ n. n < 2 ^ 48) }
+    ensures fresh { (r : RxRecord) → r.numbers ≡ None → r.state.roc ≡ None → result ≡ fresh_number remembered r low }
+    ensures small { IfSome result (λ n. n < 2 ^ 48) }
+    ensures low { IfSome result (λ n. n % 65536 ≡ low) }
+{
+    let before = &remembered;
+    let number = SeqNo::from(widen16(number_of(*before), low));
+    if is_above(*before, number) {
+        Some(number)
+    } else {
+        None
+    }
+}
+
+/// The own number of the first repair of a stream with these low 16 bits, where `seen` is the greatest
+/// number that was seen on the SSRC of its datagram, below 2^48.
+pub fn first_repair_number(low: u16, seen: Option<SeqNo>) -> SeqNo
+    requires { ForSome seen (λ n. n < 2 ^ 48) }
+    ensures number { (r : RxRecord) → r.repairs ≡ None → result ≡ own_number seen r low }
+    ensures small { result < 2 ^ 48 }
+    ensures low { result % 65536 ≡ low }
+{
+    RepairWindow::new().number_for(low, seen)
+}
+
+/// The own number under which the first repair of a stream with these low 16 bits may open.
+pub fn first_repair(low: u16, seen: Option<SeqNo>) -> Option<SeqNo>
+    requires { ForSome seen (λ n. n < 2 ^ 48) }
+    ensures fresh { (r : RxRecord) → r.repairs ≡ None → result ≡ fresh_repair seen r low }
+    ensures small { IfSome result (λ n. n < 2 ^ 48) }
+    ensures low { IfSome result (λ n. n % 65536 ≡ low) }
+{
+    let before = &seen;
+    let number = first_repair_number(low, *before);
+    if RepairWindow::new().accepts(number, *before) {
+        Some(number)
+    } else {
+        None
     }
 }
 
@@ -259,6 +303,13 @@ impl<W: GapWindow> StreamRx<W> {
         Ok(())
     }
 
+    /// Forgets the numbers that were taken.
+    fn forget_numbers(&mut self)
+        ensures { self.new ≡ record self.old { window = None } }
+    {
+        self.window = None;
+    }
+
     /// Something opened at a moment: the stream is not paused until its threshold has passed.
     fn unpause(&mut self, now: Instant)
         ensures { self.new ≡ record self.old { state = unpaused now self.old.state } }
@@ -282,10 +333,37 @@ impl<W: GapWindow> StreamRx<W> {
         ensures err { OnErr result (self.new ≡ self.old) }
     {
         self.put(number, remembered)?;
+        let was_paused = self.pause_at.is_none();
         self.unpause(arrival.now);
         self.roc = None;
         self.reports.arrived(number, arrival);
+        self.reports.timed(arrival, was_paused);
         Ok(())
+    }
+
+    /// The RTP time of a packet that is taken as it came (RFC 3550 section 5.1), widened by the last one.
+    /// Where the stream is paused and the time would lie before the last one, the time half of the 32 bits
+    /// on is taken instead, if it lies behind the last one.
+    pub fn taken_time(&self, arrival: &Arrival) -> MediaTime
+        ensures { result ≡ taken_time arrival.entry.now self.now.state }
+    {
+        self.reports.time_of(arrival, self.pause_at.is_none())
+    }
+
+    /// The RTP time of a packet that is restored from a repair that so came, widened by the last one. It is
+    /// not the stream's last time from then on.
+    pub fn restored_time(&self, arrival: &Arrival) -> MediaTime
+        ensures { result ≡ restored_time arrival.entry.now self.now.state }
+    {
+        self.reports.time_of(arrival, false)
+    }
+
+    /// The RTP time of the packet that was taken last, None before one was. Packets that were restored do
+    /// not count.
+    pub fn last_time(&self) -> Option<MediaTime>
+        ensures { result ≡ self.now.state.reports.times.last }
+    {
+        self.reports.times.last
     }
 
     /// A repair's own number with these low 16 bits (RFC 3711 section 3.3.1), where `seen` is the greatest
@@ -373,10 +451,33 @@ impl<W: GapWindow> StreamRx<W> {
     pub fn reset_roc(&mut self, roc: u32)
         ensures { (r : RxRecord) → StandsFor W.remembers self.old r → StandsFor W.remembers self.new (restarted roc r) }
     {
-        self.window = None;
+        self.forget_numbers();
         self.repairs = RepairWindow::new();
         self.roc = Some(roc);
         self.reports.forget();
+    }
+
+    /// Its packets come under another SSRC. What was taken of them and how they came, a rollover count that
+    /// was set, what its sender reported and what it is asked are forgotten, its next full intra request has
+    /// the number 0, and its next report is due as that of a stream that never reported. What was taken of
+    /// its repairs stays.
+    pub fn change_ssrc(&mut self, ssrc: Ssrc)
+        ensures { (r : RxRecord) → StandsFor W.remembers self.old r → StandsFor W.remembers self.new (moved_to ssrc r) }
+    {
+        self.ssrc = ssrc;
+        self.roc = None;
+        self.reports = RxReports::new();
+        self.requests = RxRequests::new();
+        self.forget_numbers();
+    }
+
+    /// Its repairs come under another SSRC, or for the first time under one. What was taken of them is
+    /// forgotten.
+    pub fn change_rtx(&mut self, rtx: Ssrc)
+        ensures { (r : RxRecord) → StandsFor W.remembers self.old r → StandsFor W.remembers self.new (repaired_under rtx r) }
+    {
+        self.rtx = Some(rtx);
+        self.repairs = RepairWindow::new();
     }
 
     /// Sets how long nothing comes on the stream until it is paused, from the next datagram on.

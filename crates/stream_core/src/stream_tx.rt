@@ -14,7 +14,7 @@ use crate::transport::Transport;
 use crate::write::{RtpWrite, WriteError};
 use media_base::{Beginning, Bytes, Instant};
 use pace_units::QueueSnapshot;
-use report_core::{ReportIntervals, RtpClock, sender_info};
+use report_core::{ReportIntervals, RtpClock, StreamStats, Traffic, sender_info};
 use rtcp_wire::SenderInfo;
 use rtp_base::{Mid, MidRid, ReceptionReport, Rid, SeqNo, Ssrc};
 use rtp_wire::{ExtensionMap, ExtensionValues, RtpHeader};
@@ -96,7 +96,8 @@ pub(crate) fn receipt(
 }
 
 impl StreamTx {
-    ghost use Rattle.stream_core.specs.TxRecord.{declared, written, after_timeout, after_reception, IsTooBig, IsTooLong, Fits, polled, after_poll, after_resend, transport_after_poll, IsSealable};
+    ghost use Rattle.stream_core.specs.TxRecord.{declared, written, after_timeout, after_reception, anew_under, IsTooBig, IsTooLong, Fits, polled, after_poll, after_resend, transport_after_poll, IsSealable};
+    ghost use Rattle.stream_core.specs.Arrivals.{with_nack, with_pli, with_fir, stats_of};
     ghost use Rattle.stream_core.specs.Reporting.{rtp_clock_of, sender_info_at, tx_report_at, is_tx_report_due, tx_reported, with_kind};
 
     /// A stream of an SSRC and of that of its repairs, for a media section or one stream of it, on which
@@ -196,6 +197,18 @@ impl StreamTx {
         }
     }
 
+    /// Begins anew under another SSRC, and another one of its repairs, if it has them from then on. What
+    /// waits is dropped, its reports begin anew, and the peer has not acknowledged the SSRC.
+    pub(crate) fn reset_ssrc(&mut self, ssrc: Ssrc, rtx: Option<Ssrc>)
+        ensures { self.new ≡ anew_under ssrc rtx self.old }
+    {
+        self.ssrc = ssrc;
+        self.rtx = rtx;
+        self.acknowledged = false;
+        self.queue.clear();
+        self.reports.reset();
+    }
+
     /// Puts what a packet that is sealed at a moment says among its values.
     fn put_sealed_values(&self, values: &mut ExtensionValues, now: Instant, transport: &Transport)
         ensures { values.new ≡ sealed_values transport.now now self.now.acknowledged self.now.mid self.now.rid values.old }
@@ -253,6 +266,42 @@ impl StreamTx {
         ensures { self.new ≡ after_resend repair.now self.old }
     {
         self.reports.resent(repair);
+    }
+
+    /// Counts a NACK item for the stream (RFC 4585 section 6.2.1).
+    pub fn increase_nacks(&mut self)
+        ensures { self.new ≡ record self.old { reports = with_nack self.old.reports } }
+    {
+        self.reports.asked_again();
+    }
+
+    /// Counts a PLI item for the stream (RFC 4585 section 6.3.1).
+    pub fn increase_plis(&mut self)
+        ensures { self.new ≡ record self.old { reports = with_pli self.old.reports } }
+    {
+        self.reports.lost_picture();
+    }
+
+    /// Counts a FIR entry for the stream (RFC 5104 section 4.3.1).
+    pub fn increase_firs(&mut self)
+        ensures { self.new ≡ record self.old { reports = with_fir self.old.reports } }
+    {
+        self.reports.asked_keyframe();
+    }
+
+    /// What was counted since it was declared or began anew: the packets that were sealed, repairs among
+    /// them, with the bytes of their payloads, and what its receivers asked for.
+    pub fn stats(&self) -> StreamStats
+        ensures { result ≡ stats_of self.now.reports }
+    {
+        self.reports.stats()
+    }
+
+    /// The repairs among the packets that were counted.
+    pub fn resent(&self) -> Traffic
+        ensures { result ≡ self.now.reports.resent }
+    {
+        self.reports.resent
     }
 
     /// What tells its RTP time: its last write, and the clock of the type that was last sealed for the

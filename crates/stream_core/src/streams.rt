@@ -1,6 +1,7 @@
 ghost use Rattle.std.specs.Prelude.{◌≡◌, ◌<◌, ◌≤◌, ◌^◌, ◌%◌, ◌+◌, ◌++◌, ◌∷◌, ◌⊎◌, ℕ, List, [], None, Some, true, if◌then◌else◌, length, take, slice_get, IfOk, IfSome, IfNone, OnOk, OnErr, IsErrOf, is_some};
 ghost use Rattle.std.specs.Map.{keys_of, values_of};
-ghost use Rattle.std.specs.Option.{ForSome, option_map};
+ghost use Rattle.std.specs.Option.{ForSome, option_map, option_copied};
+ghost use Rattle.mapping_core.specs.Mapped.{mapped};
 ghost use Rattle.stream_core.specs.Missing.{any_enabled};
 ghost use Rattle.stream_core.specs.Pauses.{checked, on_view, on_record, first_where, view_untold, next_pause, after_pause, untold_in, first_pause, sooner, with_trip};
 ghost use Rattle.stream_core.specs.RxRecord.{RxRecord, StandsFor as RxStandsFor, opened_as};
@@ -9,12 +10,15 @@ ghost use Rattle.rtx_core.specs.Resends.{recached};
 ghost use Rattle.rtp_wire.specs.HeaderLaws.{IsReadAgain};
 ghost use Rattle.stream_core.specs.Repairing.{RepairsRecord};
 ghost use Rattle.stream_core.specs.Sealing.{after_packet};
-ghost use Rattle.stream_core.specs.StreamsRecord.{StreamsRecord, StandsFor, no_streams, accepted, accepted_repair, restored_on, own_number_on, restored_number_on, with_stream_rx, without_stream_rx, repair_place, with_stream_tx, is_asked, is_ready, Asked, PollsAt, StaysAt, IsUsedUpAt, all_waiting, all_asked};
+ghost use Rattle.stream_core.specs.StreamsRecord.{StreamsRecord, StandsFor, no_streams, accepted, accepted_repair, restored_on, own_number_on, restored_number_on, with_stream_rx, without_stream_rx, with_main_rx, with_repairs_rx, taken_up, repair_place, with_stream_tx, is_asked, is_ready, Asked, PollsAt, StaysAt, IsUsedUpAt, all_waiting, all_asked};
 ghost use Rattle.stream_core.specs.Tables.{Along, place_of, value_under, with_new, without_key, each, change_at};
 ghost use Rattle.stream_core.specs.TxRecord.{TxRecord, declared, after_timeout, any_waits, IsSealable};
 
 mod feedback;
+mod in_use;
+mod resetting;
 
+use crate::known_streams::KnownStreams;
 use crate::payload_types::PayloadTypes;
 use crate::repairing::{Sent, poll_alone, poll_both};
 use crate::reports::Arrival;
@@ -24,10 +28,12 @@ use crate::stream_rx::StreamRx;
 use crate::stream_tx::{PacketReceipt, StreamTx};
 use crate::transport::Transport;
 pub use feedback::is_among;
+use mapping_core::{IncomingStream, MainChange, Mapping, RepairsChange, Rids, TypeClaim};
 use media_base::{Duration, Instant};
 use repair_core::GapWindow;
 use resend_core::ResendStore;
 use rtp_base::{MidRid, NackEntry, SeqNo, Ssrc};
+use rtp_wire::RtpHeader;
 use rtx_core::{ResendError, ResendQueue};
 use std::alloc::{AllocError, Global};
 use std::marker::Model;
@@ -38,8 +44,8 @@ pub struct Streams<W: GapWindow, S: ResendStore<Sent>> {
     alloc: Global,
     pause_threshold: Duration,
     rx: SsrcTable<StreamRx<W>>,
-    // Under each SSRC of repairs that comes, the SSRC of the stream that is repaired.
-    originals: SsrcTable<Ssrc>,
+    // What tells of which of them a datagram is whose SSRC is none of these.
+    known: KnownStreams,
     tx: SsrcTable<StreamTx>,
     // What the streams that have repairs send again, under the SSRC of their packets.
     repairs: SsrcTable<ResendQueue<Sent, S>>,
@@ -53,7 +59,7 @@ impl<W: GapWindow, S: ResendStore<Sent>> Model for Streams<W, S> {
 
     ghost Value = { StreamsView W S };
 
-    ghost view = { λ s. record { threshold = s.pause_threshold; rx = s.rx; originals = s.originals; tx = s.tx; repairs = s.repairs } };
+    ghost view = { λ s. record { threshold = s.pause_threshold; rx = s.rx; known = s.known; tx = s.tx; repairs = s.repairs } };
 
     ghost invariant = { λ s. IsToldTo s.next_untold s.rx };
 }
@@ -164,7 +170,7 @@ impl<W: GapWindow, S: ResendStore<Sent>> Streams<W, S> {
             alloc,
             pause_threshold,
             rx: SsrcTable::new(alloc),
-            originals: SsrcTable::new(alloc),
+            known: KnownStreams::new(alloc),
             tx: SsrcTable::new(alloc),
             repairs: SsrcTable::new(alloc),
             next_untold: 0,
@@ -174,7 +180,7 @@ impl<W: GapWindow, S: ResendStore<Sent>> Streams<W, S> {
     /// Has datagrams of an SSRC be those of a stream of a media section, behind the other streams. With
     /// `rtx` datagrams of that SSRC are its repairs (RFC 4588), unless they are another stream's. With
     /// `suppress_nack` it asks for nothing that is missing. A stream of that SSRC stays as it is. Without
-    /// memory nothing changes.
+    /// memory nothing changes. The time grows with the number of streams.
     pub fn expect_stream_rx(
         &mut self,
         ssrc: Ssrc,
@@ -184,39 +190,35 @@ impl<W: GapWindow, S: ResendStore<Sent>> Streams<W, S> {
     ) -> Result<(), AllocError>
         ensures ok { OnOk result ((r : StreamsRecord) → StandsFor W.remembers S.stands_for self.old r
             → StandsFor W.remembers S.stands_for self.new (with_stream_rx ssrc rtx mid_rid.0 mid_rid.1 suppress_nack r)) }
+        ensures tx { self.new.tx ≡ self.old.tx }
+        ensures repairs { self.new.repairs ≡ self.old.repairs }
+        ensures threshold { self.new.threshold ≡ self.old.threshold }
         ensures err { OnErr result (self.new ≡ self.old) }
     {
         if self.rx.place(ssrc).is_some() {
             return Ok(());
         }
+        let known = IncomingStream {
+            ssrc,
+            rtx,
+            mid: mid_rid.0,
+            rid: mid_rid.1,
+            previous: None,
+            suppress_nack,
+        };
         let threshold = self.pause_threshold;
         self.next_untold = 0;
-        match rtx {
-            Some(rtx) => {
-                let repairs = Some(rtx);
-                let stream = StreamRx::new(
-                    self.alloc,
-                    ssrc,
-                    repairs,
-                    mid_rid,
-                    suppress_nack,
-                    threshold,
-                );
-                add_both(&mut self.rx, &mut self.originals, ssrc, stream, rtx, ssrc)?;
-            }
-            None => {
-                let stream = StreamRx::new(
-                    self.alloc,
-                    ssrc,
-                    None,
-                    mid_rid,
-                    suppress_nack,
-                    threshold,
-                );
-                self.rx.add(ssrc, stream)?;
+        let len = self.rx.len();
+        let names = MidRid(known.mid, known.rid);
+        let stream = StreamRx::new(self.alloc, ssrc, known.rtx, names, suppress_nack, threshold);
+        self.rx.add(ssrc, stream)?;
+        match self.known.expect(&known) {
+            Ok(()) => Ok(()),
+            Err(error) => {
+                self.rx.truncate(len);
+                Err(error)
             }
         }
-        Ok(())
     }
 
     /// Takes out the stream that receives datagrams of an SSRC, with its SSRC of repairs, and tells whether
@@ -227,8 +229,81 @@ impl<W: GapWindow, S: ResendStore<Sent>> Streams<W, S> {
         ensures found { result ≡ is_some (place_of ssrc self.old.rx) }
     {
         self.next_untold = 0;
-        self.originals.remove_all(ssrc);
+        self.known.remove(ssrc);
         self.rx.remove(ssrc)
+    }
+
+    /// Of which stream a datagram with this header is that comes under an SSRC of no table, where the media
+    /// section of its mid expects `rids`; None where no section has its mid. The time grows with the number
+    /// of streams, of types and of rids.
+    pub fn map(&self, rids: Option<&Rids>, types: &[TypeClaim], header: &RtpHeader) -> Mapping
+        ensures { result ≡ mapped (option_copied rids.entry) types.now self.now.known.streams header.now }
+    {
+        self.known.map(rids, types, header)
+    }
+
+    /// The packets of a stream come under another SSRC. Where there is no such stream, or another one has
+    /// that SSRC, nothing changes.
+    fn change_main(&mut self, change: &MainChange) -> Result<(), AllocError>
+        ensures ok { OnOk result ((r : StreamsRecord) → StandsFor W.remembers S.stands_for self.old r
+            → StandsFor W.remembers S.stands_for self.new (with_main_rx change.now r)) }
+        ensures tx { self.new.tx ≡ self.old.tx }
+        ensures repairs { self.new.repairs ≡ self.old.repairs }
+        ensures threshold { self.new.threshold ≡ self.old.threshold }
+        ensures err { OnErr result (self.new ≡ self.old) }
+    {
+        if self.rx.place(change.to).is_some() {
+            return Ok(());
+        }
+        let Some(place) = self.rx.place(change.from) else {
+            return Ok(());
+        };
+        self.next_untold = 0;
+        self.rx.rename(place, change.to)?;
+        self.rx.at_mut(place).change_ssrc(change.to);
+        self.known.change_main(change);
+        Ok(())
+    }
+
+    /// The repairs of a stream come under another SSRC, or for the first time under one.
+    fn change_repairs(&mut self, change: &RepairsChange) -> Result<(), AllocError>
+        ensures ok { OnOk result ((r : StreamsRecord) → StandsFor W.remembers S.stands_for self.old r
+            → StandsFor W.remembers S.stands_for self.new (with_repairs_rx change.now r)) }
+        ensures tx { self.new.tx ≡ self.old.tx }
+        ensures repairs { self.new.repairs ≡ self.old.repairs }
+        ensures threshold { self.new.threshold ≡ self.old.threshold }
+        ensures err { OnErr result (self.new ≡ self.old) }
+    {
+        self.known.change_repairs(change)?;
+        self.next_untold = 0;
+        let Some(place) = self.rx.place(change.main) else {
+            return Ok(());
+        };
+        self.rx.at_mut(place).change_rtx(change.rtx);
+        Ok(())
+    }
+
+    /// Takes up of which stream a datagram of an SSRC is, once it opened: a stream that it declares stands
+    /// behind the others, and one whose SSRC changes stays in its place. Without memory nothing changes.
+    /// The time grows with the number of streams.
+    pub fn take_up(&mut self, ssrc: Ssrc, mapping: &Mapping) -> Result<(), AllocError>
+        ensures ok { OnOk result ((r : StreamsRecord) → StandsFor W.remembers S.stands_for self.old r
+            → StandsFor W.remembers S.stands_for self.new (taken_up ssrc mapping.now r)) }
+        ensures tx { self.new.tx ≡ self.old.tx }
+        ensures repairs { self.new.repairs ≡ self.old.repairs }
+        ensures threshold { self.new.threshold ≡ self.old.threshold }
+        ensures err { OnErr result (self.new ≡ self.old) }
+    {
+        match mapping {
+            Mapping::Main(_) | Mapping::Nowhere(_) => Ok(()),
+            Mapping::Repairs(main) => self.known.take_repairs(ssrc, *main),
+            Mapping::NewStream(stream) => {
+                let mid_rid = MidRid(stream.mid, stream.rid);
+                self.expect_stream_rx(stream.ssrc, stream.rtx, mid_rid, stream.suppress_nack)
+            }
+            Mapping::NewMain(change) => self.change_main(change),
+            Mapping::NewRepairs(change) => self.change_repairs(change),
+        }
     }
 
     /// Declares a stream of a media section that sends under an SSRC, behind the other streams. With `rtx`
@@ -248,7 +323,7 @@ impl<W: GapWindow, S: ResendStore<Sent>> Streams<W, S> {
         ensures plain { OnOk result (rtx ≡ None → self.new.repairs ≡ self.old.repairs) }
         ensures rx { self.new.rx ≡ self.old.rx }
         ensures threshold { self.new.threshold ≡ self.old.threshold }
-        ensures originals { self.new.originals ≡ self.old.originals }
+        ensures known { self.new.known ≡ self.old.known }
         ensures err { OnErr result (self.new ≡ self.old) }
     {
         if self.tx.place(ssrc).is_some() {
@@ -324,7 +399,7 @@ impl<W: GapWindow, S: ResendStore<Sent>> Streams<W, S> {
             → (after : StreamsRecord) × StaysAt now place r after × StandsFor W.remembers S.stands_for self.new after) }
         ensures rx { self.new.rx ≡ self.old.rx }
         ensures threshold { self.new.threshold ≡ self.old.threshold }
-        ensures originals { self.new.originals ≡ self.old.originals }
+        ensures known { self.new.known ≡ self.old.known }
     {
         let stream = self.tx.at_mut(place);
         match find_repairs(stream, &self.repairs) {
@@ -362,7 +437,7 @@ impl<W: GapWindow, S: ResendStore<Sent>> Streams<W, S> {
         ensures tx { self.new.tx ≡ self.old.tx }
         ensures rx { self.new.rx ≡ self.old.rx }
         ensures threshold { self.new.threshold ≡ self.old.threshold }
-        ensures originals { self.new.originals ≡ self.old.originals }
+        ensures known { self.new.known ≡ self.old.known }
         ensures err { OnErr result (self.new ≡ self.old) }
     {
         match self.repairs.place(ssrc) {
@@ -390,7 +465,7 @@ impl<W: GapWindow, S: ResendStore<Sent>> Streams<W, S> {
         ensures tx { self.new.tx ≡ self.old.tx }
         ensures rx { self.new.rx ≡ self.old.rx }
         ensures threshold { self.new.threshold ≡ self.old.threshold }
-        ensures originals { self.new.originals ≡ self.old.originals }
+        ensures known { self.new.known ≡ self.old.known }
         ensures err { OnErr result (self.new ≡ self.old) }
     {
         match self.repairs.place(ssrc) {
@@ -431,7 +506,7 @@ impl<W: GapWindow, S: ResendStore<Sent>> Streams<W, S> {
         ensures uncounted { OnErr result (transport.new ≡ transport.old) }
         ensures rx { self.new.rx ≡ self.old.rx }
         ensures threshold { self.new.threshold ≡ self.old.threshold }
-        ensures originals { self.new.originals ≡ self.old.originals }
+        ensures known { self.new.known ≡ self.old.known }
     {
         let polled = self.poll_stream(place, now, transport, types)?;
         if polled.is_some() {
@@ -466,15 +541,14 @@ impl<W: GapWindow, S: ResendStore<Sent>> Streams<W, S> {
 
     /// The SSRC of the stream whose repairs come under an SSRC: one look-up in a hash table.
     pub fn original(&self, ssrc: Ssrc) -> Option<Ssrc>
-        ensures { result ≡ value_under ssrc self.now.originals }
+        ensures { result ≡ value_under ssrc self.now.known.originals }
     {
-        let place = self.originals.place(ssrc)?;
-        Some(*self.originals.at(place))
+        self.known.original(ssrc)
     }
 
     /// Where the stream stands whose repairs come under an SSRC: two look-ups in hash tables.
     pub fn repair_place(&self, ssrc: Ssrc) -> Option<usize>
-        ensures place { result ≡ repair_place ssrc self.now.originals self.now.rx }
+        ensures place { result ≡ repair_place ssrc self.now.known.originals self.now.rx }
         ensures within { IfSome result (λ i. i < length self.now.rx) }
     {
         let original = self.original(ssrc)?;
@@ -489,7 +563,7 @@ impl<W: GapWindow, S: ResendStore<Sent>> Streams<W, S> {
         ensures repairs { self.new.repairs ≡ self.old.repairs }
         ensures rx { self.new.rx ≡ each (on_view (checked now)) self.old.rx }
         ensures threshold { self.new.threshold ≡ self.old.threshold }
-        ensures originals { self.new.originals ≡ self.old.originals }
+        ensures known { self.new.known ≡ self.old.known }
     {
         self.next_untold = 0;
         check_all(&mut self.rx, now);
@@ -515,7 +589,7 @@ impl<W: GapWindow, S: ResendStore<Sent>> Streams<W, S> {
         ensures tx { self.new.tx ≡ self.old.tx }
         ensures repairs { self.new.repairs ≡ self.old.repairs }
         ensures threshold { self.new.threshold ≡ self.old.threshold }
-        ensures originals { self.new.originals ≡ self.old.originals }
+        ensures known { self.new.known ≡ self.old.known }
     {
         self.next_untold = 0;
         set_trips(&mut self.rx, &trip);
@@ -530,7 +604,7 @@ impl<W: GapWindow, S: ResendStore<Sent>> Streams<W, S> {
         ensures tx { self.new.tx ≡ self.old.tx }
         ensures repairs { self.new.repairs ≡ self.old.repairs }
         ensures threshold { self.new.threshold ≡ self.old.threshold }
-        ensures originals { self.new.originals ≡ self.old.originals }
+        ensures known { self.new.known ≡ self.old.known }
         ensures fewer { IfSome result (λ p. untold_in self.new.rx < untold_in self.old.rx) }
         ensures none { IfNone result (self.new ≡ self.old) }
     {
@@ -603,7 +677,7 @@ impl<W: GapWindow, S: ResendStore<Sent>> Streams<W, S> {
         ensures tx { self.new.tx ≡ self.old.tx }
         ensures repairs { self.new.repairs ≡ self.old.repairs }
         ensures threshold { self.new.threshold ≡ self.old.threshold }
-        ensures originals { self.new.originals ≡ self.old.originals }
+        ensures known { self.new.known ≡ self.old.known }
         ensures err { OnErr result (self.new ≡ self.old) }
     {
         self.rx.at_mut(place).take(arrival, number, remembered)?;
@@ -662,7 +736,7 @@ impl<W: GapWindow, S: ResendStore<Sent>> Streams<W, S> {
         ensures tx { self.new.tx ≡ self.old.tx }
         ensures repairs { self.new.repairs ≡ self.old.repairs }
         ensures threshold { self.new.threshold ≡ self.old.threshold }
-        ensures originals { self.new.originals ≡ self.old.originals }
+        ensures known { self.new.known ≡ self.old.known }
     {
         self.rx.at_mut(place).take_repair(now, number, seen);
         if self.rx.at(place).is_untold() {
@@ -693,7 +767,7 @@ impl<W: GapWindow, S: ResendStore<Sent>> Streams<W, S> {
         ensures tx { self.new.tx ≡ self.old.tx }
         ensures repairs { self.new.repairs ≡ self.old.repairs }
         ensures threshold { self.new.threshold ≡ self.old.threshold }
-        ensures originals { self.new.originals ≡ self.old.originals }
+        ensures known { self.new.known ≡ self.old.known }
         ensures err { OnErr result (self.new ≡ self.old) }
     {
         let number = self.rx.at_mut(place).restore(low, arrival, remembered)?;

@@ -192,6 +192,8 @@ module _ (frames : FramesReadBack) (cipher : CipherMeaning) (C : Config) (side :
         (tx_later r.state.types a.rx.now time le r.state.medias None r.repairs) r.state.tx a.tx h.tx;
     rx = rx_still C.threshold a.rx.trip r left.state r.repairs a.rx.table h.rx;
     originals = h.originals;
+    sections = h.sections;
+    known = h.known;
     last_round = h.last_round;
     target = h.target;
     feedback = refl;

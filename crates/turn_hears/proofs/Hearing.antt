@@ -156,6 +156,8 @@ module _ (cipher : CipherMeaning) (C : Config) (side : Side) (r : SessionRecord)
         (tx_later r.state.types a.rx.now time le r.state.medias None r.repairs) r.state.tx a.tx h.tx;
     rx = go a.rx.table h.rx;
     originals = h.originals;
+    sections = h.sections;
+    known = h.known;
     last_round = h.last_round;
     target = h.target;
     feedback = h.feedback;
@@ -227,6 +229,8 @@ module _ (cipher : CipherMeaning) (C : Config) (side : Side) (r : SessionRecord)
       tx = still_all r.state.types r.state.medias time repairs items r.state.tx hears_all.streams hears_all.zip;
       rx = rx_heard a.rx.table h.rx;
       originals = h.originals;
+      sections = h.sections;
+      known = h.known;
       last_round = h.last_round;
       target = h.target;
       feedback = h.feedback;

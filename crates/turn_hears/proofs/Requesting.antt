@@ -78,6 +78,8 @@ module _ (cipher : CipherMeaning) (C : Config) (side : Side) (r : SessionRecord)
         (tx_later r.state.types a.rx.now time le r.state.medias None r.repairs) r.state.tx a.tx h.tx;
     rx = rx_left a.rx.table h.rx;
     originals = h.originals;
+    sections = h.sections;
+    known = h.known;
     last_round = h.last_round;
     target = h.target;
     feedback = h.feedback;

@@ -123,6 +123,8 @@ writes_turn cipher C side r a place time w fit h le given unused there =
             (subst AreApart (sym h.outgoing) (fit.apart side)) h.tx;
         rx = rx_still C.threshold a.rx.trip r (record r.state { tx = change_place put r.state.tx place }) r.repairs a.rx.table h.rx;
         originals = h.originals;
+        sections = h.sections;
+        known = h.known;
         last_round = h.last_round;
         target = h.target;
         feedback = h.feedback;

@@ -64,7 +64,7 @@ module _ (cipher : CipherMeaning) (C : Config) (side : Side) (r : SessionRecord)
   pub no_zero : AllAway 0 parts.rest
   no_zero = away_zero (C.outgoing (peer_of side)) parts.rest lines_same (fit.words (peer_of side))
 
-  pub originals : r.originals ≡ originals_of parts.rest
+  pub originals : r.known.originals ≡ originals_of parts.rest
   originals = mirrors.originals ∙ ap (flat_map original_in) (sym lines_same)
 
   -- a datagram that opens, to some payload

@@ -107,7 +107,7 @@ repair_probes T L m p is = ap (λ (K : Incoming). is_repair T K m p) is ∙ go (
 
 module _ (r : SessionRecord) (h : RtpHeader) where
   abbrev pub repaired_here : Option ℕ
-  repaired_here = repaired_by r.state.types r.rx r.originals h
+  repaired_here = repaired_by r.state.types r.rx r.known.originals h
 
   abbrev pub number_here : Option ℕ
   number_here = number_of (seen_of h.ssrc r.seen) r.rx r.probes h.ssrc h.sequence_number
@@ -116,7 +116,7 @@ module _ (r : SessionRecord) (h : RtpHeader) where
   under o = if is_known r.state.types h.payload_type then standing r.rx o else None
 
   abbrev by_place : Option ℕ → Option ℕ
-  by_place o = if is_some o then (if is_some (primary_type_of r.state.types h.payload_type) then Some h.ssrc else None) else original_under r.state.types r.rx r.originals h
+  by_place o = if is_some o then (if is_some (primary_type_of r.state.types h.payload_type) then Some h.ssrc else None) else original_under r.state.types r.rx r.known.originals h
 
   abbrev number_in : Option StreamRx → Option ℕ
   number_in o = option_and_then (λ x. fresh_number (seen_of h.ssrc r.seen) x h.sequence_number) o
@@ -141,7 +141,7 @@ module _ (r : SessionRecord) (h : RtpHeader) where
     number_none : place_of h.ssrc r.rx ≡ None → number_here ≡ None
     number_none is = number_placed None (ap (option_and_then (slice_get (values_of r.rx))) is)
 
-    module _ (threshold : ℕ) (trip : Option ℕ) (rest : List Plain) (others : AllZip (RxStands threshold trip r.seen) r.rx rest) (originals : r.originals ≡ originals_of rest) where
+    module _ (threshold : ℕ) (trip : Option ℕ) (rest : List Plain) (others : AllZip (RxStands threshold trip r.seen) r.rx rest) (originals : r.known.originals ≡ originals_of rest) where
       abbrev R : Real → Plain → Type 0
       R = RxStands threshold trip r.seen
 

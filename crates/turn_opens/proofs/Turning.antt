@@ -105,6 +105,8 @@ module _ (cipher : CipherMeaning) (C : Config) (side : Side) (r : SessionRecord)
           (tx_later r.state.types a.rx.now time le r.state.medias None r.repairs) r.state.tx a.tx mirrors.tx;
       rx = rx_told C.threshold a.rx.trip (made r m.packet m.rx m.first m.seen) (map (moves h n payload) a.rx.table) m.streams;
       originals = mirrors.originals;
+      sections = mirrors.sections;
+      known = mirrors.known;
       last_round = mirrors.last_round;
       target = mirrors.target;
       feedback = mirrors.feedback;

@@ -93,7 +93,7 @@ module _ (again : WrittenIsReadAgain) (cipher : CipherMeaning) (own : SrtpState)
   stream_right : (now place : ℕ) (r : SessionRecord) (s : StreamsRecord) (o : Option PacketReceipt) → Stands own exts ls r.state r.repairs → Gives now r place s o
       → Stands own exts ls (after_streams r s o).state (after_streams r s o).repairs × GivesRight o
   stream_right now place r s o h g =
-      let p = place_right ls again cipher own r.state.types r.state.transport now place (record { threshold = r.state.pause_threshold; rx = r.rx; originals = r.originals; tx = r.state.tx; repairs = r.repairs }) s o g h.tx in (
+      let p = place_right ls again cipher own r.state.types r.state.transport now place (record { threshold = r.state.pause_threshold; rx = r.rx; known = r.known; tx = r.state.tx; repairs = r.repairs }) s o g h.tx in (
         record { ids = same (is_some o) ∙ h.ids; keyed = h.keyed; wide = h.wide; fit = h.fit; tx = p.0 },
         λ q e. subst (λ x. IsRightRtp cipher x own ls (sealed_as cipher own q)) h.ids (p.1 q e),
       )

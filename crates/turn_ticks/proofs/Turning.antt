@@ -83,7 +83,7 @@ begun_session now b r = record {
     news = no_news;
   };
   rx = ticked_rx r.state.pause_threshold r.seen (tick now b r) (due_incoming now r) r.rx;
-  originals = r.originals;
+  known = r.known;
   probes = on_record (checked now) r.probes;
   seen = r.seen;
   repairs = r.repairs;
@@ -275,6 +275,8 @@ module _ (read_back : ItemsReadBack) (lengths : ItemsFitByLengths)
             tx = d.tx;
             rx = rx_ticked_mirror C.threshold a.rx.trip (tick time round r) (due_incoming time r) r x a.rx.table m.rx refl refl refl;
             originals = m.originals;
+            sections = m.sections;
+            known = m.known;
             last_round = λ i. if round then time else m.last_round i;
             target = m.target;
             feedback = refl;

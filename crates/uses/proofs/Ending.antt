@@ -14,7 +14,8 @@ use Rattle.srtp_core.specs.declared.profile.SrtpProfile.TheVariants.{AeadAes128G
 use Rattle.stream_core.specs.declared.transport.Transport.{Transport}
 use Rattle.stream_core.specs.Repairing.{SentPacket, RepairsStandFor}
 use Rattle.stream_core.specs.RxRecord.{expected, StandsFor as RxStandsFor}
-use Rattle.stream_core.specs.StreamsRecord.{StreamsView, StreamsRecord, no_streams, StandsFor as StreamsStandsFor}
+use Rattle.stream_core.specs.Known.{KnownRecord}
+use Rattle.stream_core.specs.StreamsRecord.{StreamsView, StreamsRecord, no_streams, first_known, with_stream_rx, StandsFor as StreamsStandsFor}
 use Rattle.stream_core.specs.Tables.{Along, change_place, with_new}
 use Rattle.stream_core.specs.TxRecord.{TxRecord, declared, written}
 use Rattle.stream_core.specs.Write.{WriteRecord}
@@ -38,12 +39,12 @@ set_change f (e ∷ es) (suc i) x at = ap (λ l. e ∷ l) (set_change f es i x a
 
 -- a session whose stream at the first place changed
 pub changed_first : {W S : Type 0} (s : SessionView W S) (lent : StreamsView W S) (f : TxRecord → TxRecord) (was is : TxRecord) → lent.rx ≡ s.rx → lent.tx ≡ s.state.tx
-    → lent.threshold ≡ s.state.pause_threshold → lent.originals ≡ s.originals → lent.repairs ≡ s.repairs → slice_get (values_of lent.tx) 0 ≡ Some was → is ≡ f was
-    → record s { state = record s.state { tx = set_value_at lent.tx 0 is; pause_threshold = lent.threshold }; rx = lent.rx; originals = lent.originals; repairs = lent.repairs } ≡ record s { state = record s.state { tx = change_place f s.state.tx 0 } }
-changed_first s lent f was is rx tx threshold originals repairs at same =
+    → lent.threshold ≡ s.state.pause_threshold → lent.known ≡ s.known → lent.repairs ≡ s.repairs → slice_get (values_of lent.tx) 0 ≡ Some was → is ≡ f was
+    → record s { state = record s.state { tx = set_value_at lent.tx 0 is; pause_threshold = lent.threshold }; rx = lent.rx; known = lent.known; repairs = lent.repairs } ≡ record s { state = record s.state { tx = change_place f s.state.tx 0 } }
+changed_first s lent f was is rx tx threshold known repairs at same =
     let list : set_value_at lent.tx 0 is ≡ change_place f s.state.tx 0 =
     ap (set_value_at lent.tx 0) same ∙ set_change f lent.tx 0 was at ∙ ap (λ es. change_place f es 0) tx in
-    λ j. record s { state = record s.state { tx = list j; pause_threshold = threshold j }; rx = rx j; originals = originals j; repairs = repairs j }
+    λ j. record s { state = record s.state { tx = list j; pause_threshold = threshold j }; rx = rx j; known = known j; repairs = repairs j }
 
 -- a table that one stream was put into
 pub holds_one : {X : Type 0} (key : ℕ) (x : X) (es list : List (ℕ × X)) → es ≡ [] → list ≡ with_new key x es → 0 < length list
@@ -65,8 +66,11 @@ module _ (material mid payload : List ℕ) where
       let made : SessionRecord = end_of material mid true in
       record made { state = record made.state { tx = (42, written (first_write now payload) (declared 42 None mid None)) ∷ [] } }
 
+  abbrev pub knows : ℕ → KnownRecord
+  knows ssrc = record { originals = []; streams = first_known ssrc None mid None false ∷ [] }
+
   abbrev pub receiver : SessionRecord
-  receiver = record (end_of material mid false) { rx = (42, awaited mid) ∷ [] }
+  receiver = record (end_of material mid false) { rx = (42, awaited mid) ∷ []; known = knows 42 }
 
   abbrev pub key : SrtpState
   key = new_state toy_meaning AeadAes128Gcm material true 0
@@ -84,16 +88,16 @@ module _ (material mid payload : List ℕ) where
 
   -- a session that stands for an end, with a stream that it expects
   pub expects : {W S : Type 0} (remembers : W → Heard → Type 0) (holds : S → Past SentPacket → Type 0) (s : SessionView W S) (lent left : StreamsView W S) (ssrc : ℕ) → ssrc ≡ 42
-      → StandsFor remembers holds s (end_of material mid false) → lent.rx ≡ s.rx → lent.tx ≡ s.state.tx → lent.threshold ≡ s.state.pause_threshold → lent.originals ≡ s.originals → lent.repairs ≡ s.repairs
+      → StandsFor remembers holds s (end_of material mid false) → lent.rx ≡ s.rx → lent.tx ≡ s.state.tx → lent.threshold ≡ s.state.pause_threshold → lent.known ≡ s.known → lent.repairs ≡ s.repairs
       → ((r : StreamsRecord) → StreamsStandsFor remembers holds lent r
-      → StreamsStandsFor remembers holds left (record r { rx = with_new ssrc (expected ssrc None mid None false r.threshold) r.rx }))
-      → StandsFor remembers holds (record s { state = record s.state { tx = left.tx; pause_threshold = left.threshold }; rx = left.rx; originals = left.originals; repairs = left.repairs }) receiver
-  expects remembers holds s lent left ssrc is made rx tx threshold originals repairs ok =
+      → StreamsStandsFor remembers holds left (with_stream_rx ssrc None mid None false r))
+      → StandsFor remembers holds (record s { state = record s.state { tx = left.tx; pause_threshold = left.threshold }; rx = left.rx; known = left.known; repairs = left.repairs }) receiver
+  expects remembers holds s lent left ssrc is made rx tx threshold known repairs ok =
       let before : StreamsStandsFor remembers holds lent (no_streams end_config.pause_threshold) =
       record {
         threshold = threshold ∙ ap (λ (x : SessionState). x.pause_threshold) made.state;
         rx = subst (λ es. Along (RxStandsFor remembers) es []) (sym rx) made.rx;
-        originals = originals ∙ made.originals;
+        known = known ∙ made.known;
         tx = tx ∙ ap (λ (x : SessionState). x.tx) made.state;
         repairs = subst (λ qs. Along (RepairsStandFor holds) qs []) (sym repairs) made.repairs;
       } in
@@ -103,7 +107,7 @@ module _ (material mid payload : List ℕ) where
       record {
         state = λ j. record (made.state j) { tx = empty j; pause_threshold = same j };
         rx = subst (λ n. Along (RxStandsFor remembers) left.rx (with_new n (expected n None mid None false end_config.pause_threshold) [])) is after.rx;
-        originals = after.originals;
+        known = after.known ∙ ap knows is;
         probes = made.probes;
         seen = made.seen;
         repairs = after.repairs;
@@ -111,22 +115,22 @@ module _ (material mid payload : List ℕ) where
 
   -- one that stands for the other end, with the packet written on a stream that was declared
   pub writes : {W S : Type 0} (remembers : W → Heard → Type 0) (holds : S → Past SentPacket → Type 0) (now ssrc : ℕ) (w : WriteRecord) (s ended : SessionView W S) (lent left : StreamsView W S) → ssrc ≡ 42 → w ≡ first_write now payload
-      → StandsFor remembers holds s (end_of material mid true) → lent.rx ≡ s.rx → lent.tx ≡ s.state.tx → lent.threshold ≡ s.state.pause_threshold → lent.originals ≡ s.originals → lent.repairs ≡ s.repairs
+      → StandsFor remembers holds s (end_of material mid true) → lent.rx ≡ s.rx → lent.tx ≡ s.state.tx → lent.threshold ≡ s.state.pause_threshold → lent.known ≡ s.known → lent.repairs ≡ s.repairs
       → left ≡ record lent { tx = with_new ssrc (declared ssrc None mid None) lent.tx }
-      → ended ≡ record s { state = record s.state { tx = change_place (written w) left.tx 0; pause_threshold = left.threshold }; rx = left.rx; originals = left.originals; repairs = left.repairs }
+      → ended ≡ record s { state = record s.state { tx = change_place (written w) left.tx 0; pause_threshold = left.threshold }; rx = left.rx; known = left.known; repairs = left.repairs }
       → StandsFor remembers holds ended (sender now)
-  writes remembers holds now ssrc w s ended lent left is same made rx tx threshold originals repairs added wrote =
+  writes remembers holds now ssrc w s ended lent left is same made rx tx threshold known repairs added wrote =
       let none : lent.tx ≡ [] = tx ∙ ap (λ (x : SessionState). x.tx) made.state in
       let list : left.tx ≡ (42, declared 42 None mid None) ∷ [] =
       ap (λ (v : StreamsView _ _). v.tx) added ∙ (λ j. with_new (is j) (declared (is j) None mid None) (none j)) in
       let wait : left.threshold ≡ s.state.pause_threshold = ap (λ (v : StreamsView _ _). v.threshold) added ∙ threshold in
       let ins : left.rx ≡ s.rx = ap (λ (v : StreamsView _ _). v.rx) added ∙ rx in
-      let sources : left.originals ≡ s.originals = ap (λ (v : StreamsView _ _). v.originals) added ∙ originals in
+      let sources : left.known ≡ s.known = ap (λ (v : StreamsView _ _). v.known) added ∙ known in
       let kept : left.repairs ≡ s.repairs = ap (λ (v : StreamsView _ _). v.repairs) added ∙ repairs in
       let stands : StandsFor remembers holds (record s { state = record s.state { tx = (sender now).state.tx } }) (sender now) =
-      record { state = λ j. record (made.state j) { tx = (sender now).state.tx }; rx = made.rx; originals = made.originals; probes = made.probes; seen = made.seen; repairs = made.repairs } in
+      record { state = λ j. record (made.state j) { tx = (sender now).state.tx }; rx = made.rx; known = made.known; probes = made.probes; seen = made.seen; repairs = made.repairs } in
       subst (λ (v : SessionView _ _). StandsFor remembers holds v (sender now))
-      (sym (wrote ∙ (λ j. record s { state = record s.state { tx = change_place (written (same j)) (list j) 0; pause_threshold = wait j }; rx = ins j; originals = sources j; repairs = kept j }))) stands
+      (sym (wrote ∙ (λ j. record s { state = record s.state { tx = change_place (written (same j)) (list j) 0; pause_threshold = wait j }; rx = ins j; known = sources j; repairs = kept j }))) stands
 
   -- and what it is after a tick
   pub ticked : {W S : Type 0} (remembers : W → Heard → Type 0) (holds : S → Past SentPacket → Type 0) (now : ℕ) (s after : SessionView W S) → StandsFor remembers holds s (sender now)

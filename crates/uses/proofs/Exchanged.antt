@@ -1,6 +1,6 @@
 -- What a session tells of the packet that another one sealed.
 use Rattle.std.proofs.Common.{◌≡◌, ℕ, zero, suc, Bool, true, false, List, [], ◌∷◌, length, Option, Some, None, refl, sym, ap, ◌∙◌, subst, arith, slice_get}
-use Rattle.std.specs.Prelude.{◌==◌, ◌++◌, IfSome, if◌then◌else◌, is_some, option_and_then, map}
+use Rattle.std.specs.Prelude.{◌==◌, ◌||◌, ◌&&◌, ◌++◌, IfSome, if◌then◌else◌, is_some, is_none, option_and_then, map}
 use Rattle.std.specs.Map.{values_of}
 use Rattle.std.specs.Option.{option_map, option_to_list}
 use Rattle.std.specs.Prelude.{replicate}
@@ -20,9 +20,9 @@ use Rattle.stream_core.specs.Queue.{with_stamp}
 use Rattle.stream_core.specs.Pauses.{pause_of, pauses}
 use Rattle.stream_core.specs.RxRecord.{RxRecord, expected, came_at}
 use Rattle.stream_core.specs.declared.payload_types.TypeRow.{TypeRow}
-use Rattle.stream_core.specs.Repairing.{RepairsRecord, primary_type_of, Polls, without, again as sends_again, first as sends_first, nothing, repairs_of}
+use Rattle.stream_core.specs.Repairing.{claims_in, RepairsRecord, primary_type_of, Polls, without, again as sends_again, first as sends_first, nothing, repairs_of}
 use Rattle.stream_core.specs.Seen.{seen_of}
-use Rattle.stream_core.specs.StreamsRecord.{StreamsRecord, polls_at}
+use Rattle.stream_core.specs.StreamsRecord.{StreamsRecord, taken_up, polls_at}
 use Rattle.stream_core.specs.Tables.{value_under, place_of}
 use Rattle.stream_core.specs.TxRecord.{TxRecord, declared, written, after_timeout, polled, receipt_of, sealed_header}
 use Rattle.stream_core.specs.Write.{packet_of}
@@ -32,12 +32,15 @@ use Rattle.session_core.specs.declared.datagram.Event.TheVariants as event
 use Rattle.session_core.specs.declared.datagram.Opened.{Opened}
 use Rattle.session_core.specs.Calls.{lacks_keys, told, after_events, Polled}
 use Rattle.session_core.specs.News.{no_news, news_told}
-use Rattle.session_core.specs.Receiving.{Receives, Opens, OpensRepair, OpensIn, number_of, rx_opened, arrival_of, after_opened, packet_from, cut, opened, repaired, stays}
+use Rattle.mapping_core.specs.Mapped.{is_early_padding, repairs_expected, has_rtx}
+use Rattle.mapping_core.specs.declared.mapping.Mapping.TheVariants.{Main}
+use Rattle.session_core.specs.Mapping.{rids_for, is_standing, mapped_in, taken_up_for}
+use Rattle.session_core.specs.Receiving.{Receives, Opens, OpensRepair, OpensPadding, OpensIn, number_of, rx_opened, arrival_of, after_opened, packet_from, cut, opened, repaired, padding, stays}
 use Rattle.session_core.specs.Repairs.{repaired_by, original_under}
 use Rattle.session_core.specs.Feedback.{due_of, some_due}
 use Rattle.session_core.specs.Reports.{of_kind}
 use Rattle.session_core.specs.Sending.{sealed_as, sealed_by, Gives, NextPacket, none_due, given, passed, NextDatagram, silent, packet as leaves, compound}
-use Rattle.session_core.specs.SessionRecord.{MediaRecord, SessionState, SessionRecord}
+use Rattle.session_core.specs.SessionRecord.{MediaRecord, SessionState, SessionRecord, streams_in, with_incoming}
 use Rattle.uses.specs.Exchange.{payload_told, first_write, end_config}
 use Rattle.uses.proofs.Opening.{sealed_packet, opens_to_it, reads_header}
 
@@ -249,12 +252,19 @@ module _ (cipher : CipherMeaning) (k : SrtpState) (t : Transport) (now : ℕ) (m
       ++ news_told (x.news j)))
 
   -- no datagram of the stream is a repair
-  no_repair : (r : SessionRecord) (h : RtpHeader) → Expects r → h.ssrc ≡ 42 → repaired_by r.state.types r.rx r.originals h ≡ None
+  no_repair : (r : SessionRecord) (h : RtpHeader) → Expects r → h.ssrc ≡ 42 → repaired_by r.state.types r.rx r.known.originals h ≡ None
   no_repair r h x source =
       λ j.
       if source j == 0 then None
       else (if is_some (place_of (source j) (x.rx j)) then (if is_some (x.plain h.payload_type j) then Some (source j) else None)
-      else original_under r.state.types (x.rx j) r.originals h)
+      else original_under r.state.types (x.rx j) r.known.originals h)
+
+  -- the stream is known: nothing is taken up
+  kept_as : (r : SessionRecord) (h : RtpHeader) → Expects r → h.ssrc ≡ 42 → taken_up_for h r ≡ r
+  kept_as r h x source =
+      let standing : is_standing h.ssrc r.rx r.known.originals ≡ true =
+      λ j. source j == 0 || (is_some (place_of (source j) (x.rx j)) || is_some (place_of (source j) r.known.originals)) in
+      ap (λ b. with_incoming (taken_up h.ssrc (if b then Main h.ssrc else mapped_in h r) (streams_in r)) r) standing
 
   -- what is told second after it came is a packet of the payload
   pub second_carries : (r came between after : SessionRecord) (o : Option Opened) (bytes : List ℕ) (first second : Option Event)
@@ -262,13 +272,22 @@ module _ (cipher : CipherMeaning) (k : SrtpState) (t : Transport) (now : ℕ) (m
       → Expects r → bytes ≡ packet_bytes → Receives cipher r bytes now came o → Polled came first between → Polled between second after
       → IfSome second (λ e. payload_told e ≡ payload)
   second_carries r came between after o bytes first second again keeps apart x same (opened h n other opens) p q =
-      let at : Opens cipher r packet_bytes h n other = subst (λ (l : List ℕ). Opens cipher r l h n other) same opens in
-      let y : Reads h = reads h again keeps (ap (λ (m : ExtensionMap). header_of m packet_bytes) (sym x.transport) ∙ at.reads) in
-      second_of payload came between after _ _ first second (told_then r h n other x y) (opened_payload r h n other again keeps apart x at) p q
+      let there : Opens cipher (taken_up_for h r) packet_bytes h n other = subst (λ (l : List ℕ). Opens cipher (taken_up_for h r) l h n other) same opens in
+      let y : Reads h = reads h again keeps (ap (λ (m : ExtensionMap). header_of m packet_bytes) (sym x.transport) ∙ there.reads) in
+      let stays_so = kept_as r h x y.source in
+      let at : Opens cipher r packet_bytes h n other = subst (λ (u : SessionRecord). Opens cipher u packet_bytes h n other) stays_so there in
+      second_of payload came between after _ _ first second (ap (λ (u : SessionRecord). told (after_opened now h n other u)) stays_so ∙ told_then r h n other x y) (opened_payload r h n other again keeps apart x at) p q
   second_carries r came between after o bytes first second again keeps apart x same (repaired h original n other opens) p q =
-      let at : OpensRepair cipher r packet_bytes h original n other = subst (λ (l : List ℕ). OpensRepair cipher r l h original n other) same opens in
-      let y : Reads h = reads h again keeps (ap (λ (m : ExtensionMap). header_of m packet_bytes) (sym x.transport) ∙ at.reads) in
+      let there : OpensRepair cipher (taken_up_for h r) packet_bytes h original n other = subst (λ (l : List ℕ). OpensRepair cipher (taken_up_for h r) l h original n other) same opens in
+      let y : Reads h = reads h again keeps (ap (λ (m : ExtensionMap). header_of m packet_bytes) (sym x.transport) ∙ there.reads) in
+      let at : OpensRepair cipher r packet_bytes h original n other = subst (λ (u : SessionRecord). OpensRepair cipher u packet_bytes h original n other) (kept_as r h x y.source) there in
       let not : None ≡ Some original = sym (no_repair r h x y.source) ∙ at.repairs in
       absurd cc
-  second_carries r came between after o bytes first second again keeps apart x same (stays refused others) p q =
+  second_carries r came between after o bytes first second again keeps apart x same (padding h n other opens) p q =
+      let there : OpensPadding cipher r packet_bytes h n other = subst (λ (l : List ℕ). OpensPadding cipher r l h n other) same opens in
+      let y : Reads h = reads h again keeps (ap (λ (m : ExtensionMap). header_of m packet_bytes) (sym x.transport) ∙ there.reads) in
+      let never : is_early_padding (rids_for h r.state.medias) (claims_in r.state.types) h ≡ false =
+      ap (λ b. b && is_none h.ext_vals.rid && repairs_expected (rids_for h r.state.medias) h && has_rtx (claims_in r.state.types) h) y.plain in
+      absurd (cc (never, there.early))
+  second_carries r came between after o bytes first second again keeps apart x same (stays refused others early) p q =
       none_then payload r between after first second x.silent x.quiet p q

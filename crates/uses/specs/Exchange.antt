@@ -1,5 +1,6 @@
 -- What two sessions exchange.
 use Rattle.std.specs.Prelude.{ℕ, Bool, false, List, [], ◌∷◌, None, codes}
+use Rattle.mapping_core.specs.declared.rids.Rids.TheVariants.{Any}
 use Rattle.rtp_wire.specs.Extensions.{no_values, no_extensions}
 use Rattle.srtp_core.specs.Toy.{toy_meaning}
 use Rattle.srtp_core.specs.declared.profile.SrtpProfile.TheVariants.{AeadAes128Gcm}
@@ -42,11 +43,11 @@ end_config = record {
   intervals = record { audio = 5000000000; video = 1000000000 };
   srtcp_index = 0;
   exts = no_extensions;
-  types = (96, record { pt = 96; clock = 90000; rtx = None }) ∷ [];
+  types = (96, record { pt = 96; clock = 90000; rtx = None; red = None }) ∷ [];
 }
 
 abbrev pub with_media : List ℕ → SessionState → SessionState
-with_media mid s = record s { medias = record { mid = mid; kind = Video; cname = codes "cam" } ∷ [] }
+with_media mid s = record s { medias = record { mid = mid; kind = Video; cname = codes "cam"; rids = Any } ∷ [] }
 
 abbrev pub end_of : List ℕ → List ℕ → Bool → SessionRecord
 end_of material mid left =

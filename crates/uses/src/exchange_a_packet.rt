@@ -35,6 +35,7 @@ pub fn end(alloc: Global, material: &KeyingMaterial, mid: Mid, left: bool) -> Re
         pt,
         clock,
         rtx: None,
+        red: None,
     })?;
     let (target, warn) = (DATAGRAM_MTU, DATAGRAM_MTU_WARN);
     let config = SessionConfig {

@@ -234,6 +234,7 @@ fn types(alloc: Global) -> Result<PayloadTypes, AllocError> {
         pt: Pt::from(96),
         clock: Frequency::NINETY_KHZ,
         rtx: Some(Pt::from(97)),
+        red: None,
     })?;
     Ok(types)
 }

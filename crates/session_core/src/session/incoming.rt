@@ -1,11 +1,14 @@
 //! What comes to a session: the datagrams of RTP and of RTCP.
-ghost use Rattle.std.specs.Prelude.{◌≡◌, ◌<◌, ◌^◌, ◌↔◌, ◌||◌, ℕ, Some, None, true, false, length, OnOk, is_err, IsTrue, IfOk, IfErr, IfNone, OnErr, IsErrOf};
+ghost use Rattle.std.specs.Prelude.{◌≡◌, ◌==◌, ◌<◌, ◌^◌, ◌↔◌, ◌||◌, ℕ, List, Some, None, true, false, length, drop, is_none, is_some, IfSome, OnOk, is_err, IsTrue, IfOk, IfErr, IfNone, OnErr, IsErrOf};
 ghost use Rattle.rtp_wire.specs.Header.{header_of};
 ghost use Rattle.session_core.specs.Hearing.{ReceivesRtcp};
 ghost use Rattle.std.specs.Map.{keys_of};
+ghost use Rattle.std.specs.Option.{ForSome};
+ghost use Rattle.stream_core.specs.Seen.{seen_of};
 ghost use Rattle.stream_core.specs.Tables.{place_of};
-ghost use Rattle.session_core.specs.Receiving.{Receives, is_claimed, after_repair, after_original, after_restoring};
-ghost use Rattle.session_core.specs.Repairs.{repaired_by};
+ghost use Rattle.session_core.specs.Mapping.{is_standing, mapped_in, is_nowhere};
+ghost use Rattle.session_core.specs.Receiving.{Takes, Receives, is_claimed, cut, after_opened, after_repair, after_original, after_restoring, after_repaired};
+ghost use Rattle.session_core.specs.Repairs.{repaired_by, original_number};
 ghost use Rattle.session_core.specs.Draining.{stopped_from};
 ghost use Rattle.session_core.specs.SessionRecord.{SessionRecord, StandsFor};
 ghost use Rattle.session_core.specs.declared.error.RtcError.TheVariants.{Stopped, Memory};
@@ -15,15 +18,18 @@ use crate::datagram::Opened;
 use crate::error::RtcError;
 use crate::feedback::sender;
 use crate::hearing::{RtcpOpening, ask_all, feedback_in, hear, last_delay, measure, open_rtcp};
+use crate::mapping::{first_opening, is_nowhere, is_standing, rids_for, unseen_number};
 use crate::receiving::{Opening, accepts, arrival, is_claimed, open, put_packet, take};
 use crate::reporting::{hear_senders, take_moments};
 use crate::restoring::{accepts_repair, put_restored, repaired_by, restored_arrival};
+use mapping_core::{Mapping, is_early_padding};
 use media_base::{Bytes, Instant, InstantExt};
 use repair_core::GapWindow;
 use resend_core::ResendStore;
 use rtp_base::{Kind, SeqNo, Ssrc};
 use rtp_wire::RtpHeader;
 use srtp_core::SrtpCipher;
+use srtp_core::laws::rtp_opens_once;
 use std::alloc::AllocError;
 use stream_core::{Payload, Sent};
 
@@ -31,10 +37,15 @@ impl<C: SrtpCipher, W: GapWindow, S: ResendStore<Sent>> Session<C, W, S> {
     /// Takes in an RTP datagram that came, and tells what it opened to; its packet is told by
     /// `poll_event`, but for SSRC 0. A repair (RFC 4588), which comes under the SSRC of a stream's repairs,
     /// or under the stream's own with a type of repairs, tells the packet that it restores, where that did
-    /// not come before. None where it does not open, and then nothing changes: where it has no header, or
-    /// more than 2,000 bytes; where its SSRC is no incoming stream's or its repairs', nor 0, or its payload
-    /// type is not known; where its number was taken, or is too old; where its tag does not hold, there
-    /// are no keys, or it does not end in the padding that its header tells of.
+    /// not come before. An SSRC that no incoming stream has, for its packets or its repairs, maps to a
+    /// stream by what the header carries (RFC 8843 section 9.2, RFC 8852, RFC 4588 section 8), which is
+    /// taken up once the datagram opened: a stream is declared, or has another SSRC from then on. One that
+    /// stays unknown opens as padding of a stream to come, where nothing else is in it. None where it does
+    /// not open, and then nothing changes: where it has no header, or more than 2,000 bytes; where its SSRC
+    /// is no incoming stream's or its repairs', nor 0, and maps to none, or its payload type is not known;
+    /// where its number was taken, or is too old; where its tag does not hold, there are no keys, or it does
+    /// not end in the padding that its header tells of. The time of a datagram whose SSRC is unknown grows
+    /// with the number of media sections, of their rids, of types and of streams.
     ///
     /// # Errors
     /// `Stopped` where an earlier call stopped the session; `Memory`.
@@ -50,7 +61,7 @@ impl<C: SrtpCipher, W: GapWindow, S: ResendStore<Sent>> Session<C, W, S> {
         ensures latch { self.new.state.stopped ≡ self.old.state.stopped || is_err result }
         ensures unchanged { IsErrOf result Stopped → self.new ≡ self.old }
         ensures memory { self.old.state.stopped ≡ false → IfErr result (λ e. e ≡ Memory) }
-        ensures failed { IsErrOf result Memory → self.new ≡ record self.old { state = stopped_from self.old.state; rx = self.new.rx; probes = self.new.probes; seen = self.new.seen } }
+        ensures failed { IsErrOf result Memory → self.new ≡ record self.old { state = stopped_from self.old.state; rx = self.new.rx; known = self.new.known; probes = self.new.probes; seen = self.new.seen } }
     {
         if self.stopped {
             return Err(RtcError::Stopped);
@@ -69,12 +80,165 @@ impl<C: SrtpCipher, W: GapWindow, S: ResendStore<Sent>> Session<C, W, S> {
             → (after : SessionRecord) × Receives C.meaning r bytes.now now after opened × StandsFor W.remembers S.stands_for self.new after) }
         ensures unopened { IfOk result (λ opened. IfNone opened (self.new ≡ self.old)) }
         ensures runs { self.new.state.stopped ≡ self.old.state.stopped }
-        ensures err { OnErr result (self.new ≡ record self.old { rx = self.new.rx; probes = self.new.probes; seen = self.new.seen }) }
+        ensures err { OnErr result (self.new ≡ record self.old { rx = self.new.rx; known = self.new.known; probes = self.new.probes; seen = self.new.seen }) }
     {
         let read = RtpHeader::parse(bytes, &self.transport.exts);
         let Some(header) = &read else {
             return Ok(None);
         };
+        if is_standing(header.ssrc, &self.streams) {
+            return self.receive_standing(now, bytes, header);
+        }
+        let mapping = self.map(header);
+        if is_nowhere(&mapping) {
+            return self.receive_padding(bytes, header);
+        }
+        self.receive_mapped(now, bytes, header, &mapping)
+    }
+
+    /// Of which stream a datagram with this header is that comes under an SSRC of no table.
+    fn map(&self, header: &RtpHeader) -> Mapping
+        ensures { (r : SessionRecord) → StandsFor W.remembers S.stands_for self.now r → result ≡ mapped_in header.now r }
+    {
+        let rids = rids_for(self.medias.as_slice(), header);
+        self.streams.map(rids, self.types.claims(), header)
+    }
+
+    /// Takes in a datagram that begins with this header, of an SSRC that maps to a stream: where it opens as
+    /// one of that stream, that is taken up.
+    fn receive_mapped(
+        &mut self,
+        now: Instant,
+        bytes: &[u8],
+        header: &RtpHeader,
+        mapping: &Mapping,
+    ) -> Result<Option<Opened>, AllocError>
+        ensures received { IfOk result (λ opened. (r : SessionRecord) → StandsFor W.remembers S.stands_for self.old r
+            → header_of r.state.transport.exts bytes.now ≡ Some header.now → is_standing header.now.ssrc r.rx r.known.originals ≡ false
+            → mapping.now ≡ mapped_in header.now r → is_nowhere mapping.now ≡ false
+            → (after : SessionRecord) × Receives C.meaning r bytes.now now after opened × StandsFor W.remembers S.stands_for self.new after) }
+        ensures unopened { IfOk result (λ opened. IfNone opened (self.new ≡ self.old)) }
+        ensures runs { self.new.state.stopped ≡ self.old.state.stopped }
+        ensures err { OnErr result (self.new ≡ record self.old { rx = self.new.rx; known = self.new.known; probes = self.new.probes; seen = self.new.seen }) }
+    {
+        let Some(found) = first_opening(&self.types, &self.streams, &self.seen, header, mapping)
+        else {
+            return Ok(None);
+        };
+        let number = found.0;
+        let Some(opening) = open(
+            self.alloc,
+            &mut self.opening,
+            bytes,
+            header,
+            number,
+            found.1,
+        )?
+        else {
+            return Ok(None);
+        };
+        self.streams.take_up(header.ssrc, mapping)?;
+        let Opening {
+            plain,
+            original: low,
+            payload,
+        } = opening;
+        self.take_in(now, header, number, low, payload)?;
+        Ok(Some(Opened {
+            kind: Kind::Rtp,
+            ssrc: header.ssrc,
+            index: number,
+            plain,
+        }))
+    }
+
+    /// A datagram opened under a number, as a packet of the stream of its SSRC or as a repair.
+    fn take_in(
+        &mut self,
+        now: Instant,
+        header: &RtpHeader,
+        number: SeqNo,
+        low: Option<u16>,
+        payload: Payload,
+    ) -> Result<(), AllocError>
+        requires { number < 2 ^ 48 }
+        ensures packet { OnOk result ((r : SessionRecord) (p : List ℕ) → StandsFor W.remembers S.stands_for self.old r
+            → repaired_by r.state.types r.rx r.known.originals header.now ≡ None → (header.now.ssrc == 0) ≡ false → is_some (place_of header.now.ssrc r.rx) ≡ true
+            → payload ≡ cut header.now p → StandsFor W.remembers S.stands_for self.new (after_opened now header.now number p r)) }
+        ensures repair { OnOk result ((r : SessionRecord) (p : List ℕ) (original : ℕ) → StandsFor W.remembers S.stands_for self.old r
+            → repaired_by r.state.types r.rx r.known.originals header.now ≡ Some original → low ≡ original_number (cut header.now p) → payload ≡ drop 2 (cut header.now p)
+            → StandsFor W.remembers S.stands_for self.new (after_repaired now header.now original number p r)) }
+        ensures runs { self.new.state.stopped ≡ self.old.state.stopped }
+        ensures err { OnErr result (self.new ≡ record self.old { rx = self.new.rx; probes = self.new.probes; seen = self.new.seen }) }
+    {
+        match repaired_by(&self.types, &self.streams, header) {
+            Some(found) => {
+                self.take_repair(now, header, found.1, number)?;
+                self.restore_packet(now, header, found.0, found.1, low, payload)
+            }
+            None => {
+                let place = self.streams.rx_place(header.ssrc);
+                let remembered = self.seen.get(header.ssrc);
+                self.take_packet(now, header, place, number, &remembered, payload)
+            }
+        }
+    }
+
+    /// Takes in a datagram that begins with this header, of an SSRC that stays unknown: it opens as padding of
+    /// a stream that is not known yet, or not at all.
+    fn receive_padding(
+        &mut self,
+        bytes: &[u8],
+        header: &RtpHeader,
+    ) -> Result<Option<Opened>, AllocError>
+        ensures received { IfOk result (λ opened. (r : SessionRecord) (now : ℕ) → StandsFor W.remembers S.stands_for self.old r
+            → header_of r.state.transport.exts bytes.now ≡ Some header.now → is_standing header.now.ssrc r.rx r.known.originals ≡ false
+            → is_nowhere (mapped_in header.now r) ≡ true
+            → (after : SessionRecord) × Receives C.meaning r bytes.now now after opened × StandsFor W.remembers S.stands_for self.new after) }
+        ensures unopened { IfOk result (λ opened. IfNone opened (self.new ≡ self.old)) }
+        ensures runs { self.new.state.stopped ≡ self.old.state.stopped }
+        ensures err { OnErr result (self.new ≡ self.old) }
+    {
+        rtp_opens_once::<C>();
+        let rids = rids_for(self.medias.as_slice(), header);
+        if !is_early_padding(rids, self.types.claims(), header) {
+            return Ok(None);
+        }
+        let Some(number) = unseen_number(header, &self.seen) else {
+            return Ok(None);
+        };
+        let repair = false;
+        let Some(opening) = open(self.alloc, &mut self.opening, bytes, header, number, repair)?
+        else {
+            return Ok(None);
+        };
+        let Opening { plain, payload, .. } = opening;
+        if !payload.is_empty() {
+            return Ok(None);
+        }
+        self.seen.put(header.ssrc, number)?;
+        Ok(Some(Opened {
+            kind: Kind::Rtp,
+            ssrc: header.ssrc,
+            index: number,
+            plain,
+        }))
+    }
+
+    /// Takes in a datagram that begins with this header, of an SSRC that some table has.
+    fn receive_standing(
+        &mut self,
+        now: Instant,
+        bytes: &[u8],
+        header: &RtpHeader,
+    ) -> Result<Option<Opened>, AllocError>
+        ensures received { IfOk result (λ opened. (r : SessionRecord) → StandsFor W.remembers S.stands_for self.old r
+            → header_of r.state.transport.exts bytes.now ≡ Some header.now
+            → (after : SessionRecord) × Takes C.meaning r bytes.now now after opened × StandsFor W.remembers S.stands_for self.new after) }
+        ensures unopened { IfOk result (λ opened. IfNone opened (self.new ≡ self.old)) }
+        ensures runs { self.new.state.stopped ≡ self.old.state.stopped }
+        ensures err { OnErr result (self.new ≡ record self.old { rx = self.new.rx; probes = self.new.probes; seen = self.new.seen }) }
+    {
         if let Some(found) = repaired_by(&self.types, &self.streams, header) {
             return self.receive_repair(now, bytes, header, found.0, found.1);
         }
@@ -82,6 +246,39 @@ impl<C: SrtpCipher, W: GapWindow, S: ResendStore<Sent>> Session<C, W, S> {
             return Ok(None);
         }
         self.receive_under(now, bytes, header)
+    }
+
+    /// A packet that opened under a number comes on the stream at a place, or with none on that of SSRC 0.
+    fn take_packet(
+        &mut self,
+        now: Instant,
+        header: &RtpHeader,
+        place: Option<usize>,
+        number: SeqNo,
+        remembered: &Option<SeqNo>,
+        payload: Payload,
+    ) -> Result<(), AllocError>
+        requires place { IfSome place (λ i. i < length self.old.rx) }
+        requires number { number < 2 ^ 48 }
+        requires remembered { ForSome remembered.now (λ n. n < 2 ^ 48) }
+        ensures ok { OnOk result ((r : SessionRecord) (p : List ℕ) → StandsFor W.remembers S.stands_for self.old r → remembered.now ≡ seen_of header.now.ssrc r.seen
+            → is_none place ≡ (header.now.ssrc == 0) → IfSome place (λ i. place_of header.now.ssrc self.old.rx ≡ Some i) → payload ≡ cut header.now p
+            → StandsFor W.remembers S.stands_for self.new (after_opened now header.now number p r)) }
+        ensures runs { self.new.state.stopped ≡ self.old.state.stopped }
+        ensures err { OnErr result (self.new ≡ record self.old { rx = self.new.rx; probes = self.new.probes; seen = self.new.seen }) }
+    {
+        let came = arrival(&self.types, now, header);
+        take(
+            place,
+            &came,
+            number,
+            remembered,
+            &mut self.streams,
+            &mut self.probes,
+        )?;
+        self.seen.put(header.ssrc, number)?;
+        put_packet(now, header, number, payload, &mut self.packet);
+        Ok(())
     }
 
     /// A repair of the stream at a place opened under its own number.
@@ -175,9 +372,9 @@ impl<C: SrtpCipher, W: GapWindow, S: ResendStore<Sent>> Session<C, W, S> {
     ) -> Result<Option<Opened>, AllocError>
         requires { place < length self.old.rx }
         ensures received { IfOk result (λ opened. (r : SessionRecord) → StandsFor W.remembers S.stands_for self.old r
-            → header_of r.state.transport.exts bytes.now ≡ Some header.now → repaired_by r.state.types r.rx r.originals header.now ≡ Some original
+            → header_of r.state.transport.exts bytes.now ≡ Some header.now → repaired_by r.state.types r.rx r.known.originals header.now ≡ Some original
             → place_of original self.old.rx ≡ Some place
-            → (after : SessionRecord) × Receives C.meaning r bytes.now now after opened × StandsFor W.remembers S.stands_for self.new after) }
+            → (after : SessionRecord) × Takes C.meaning r bytes.now now after opened × StandsFor W.remembers S.stands_for self.new after) }
         ensures unopened { IfOk result (λ opened. IfNone opened (self.new ≡ self.old)) }
         ensures runs { self.new.state.stopped ≡ self.old.state.stopped }
         ensures err { OnErr result (self.new ≡ record self.old { rx = self.new.rx; probes = self.new.probes; seen = self.new.seen }) }
@@ -211,9 +408,9 @@ impl<C: SrtpCipher, W: GapWindow, S: ResendStore<Sent>> Session<C, W, S> {
         header: &RtpHeader,
     ) -> Result<Option<Opened>, AllocError>
         ensures received { IfOk result (λ opened. (r : SessionRecord) → StandsFor W.remembers S.stands_for self.old r
-            → header_of r.state.transport.exts bytes.now ≡ Some header.now → repaired_by r.state.types r.rx r.originals header.now ≡ None
+            → header_of r.state.transport.exts bytes.now ≡ Some header.now → repaired_by r.state.types r.rx r.known.originals header.now ≡ None
             → is_claimed r.state.types header.now ≡ true
-            → (after : SessionRecord) × Receives C.meaning r bytes.now now after opened × StandsFor W.remembers S.stands_for self.new after) }
+            → (after : SessionRecord) × Takes C.meaning r bytes.now now after opened × StandsFor W.remembers S.stands_for self.new after) }
         ensures unopened { IfOk result (λ opened. IfNone opened (self.new ≡ self.old)) }
         ensures runs { self.new.state.stopped ≡ self.old.state.stopped }
         ensures err { OnErr result (self.new ≡ record self.old { rx = self.new.rx; probes = self.new.probes; seen = self.new.seen }) }
@@ -233,17 +430,8 @@ impl<C: SrtpCipher, W: GapWindow, S: ResendStore<Sent>> Session<C, W, S> {
         else {
             return Ok(None);
         };
-        take(
-            found.0,
-            &arrival(&self.types, now, header),
-            number,
-            &remembered,
-            &mut self.streams,
-            &mut self.probes,
-        )?;
-        self.seen.put(header.ssrc, number)?;
         let Opening { plain, payload, .. } = opening;
-        put_packet(now, header, number, payload, &mut self.packet);
+        self.take_packet(now, header, found.0, number, &remembered, payload)?;
         Ok(Some(Opened {
             kind: Kind::Rtp,
             ssrc: header.ssrc,

@@ -111,7 +111,7 @@ impl<C: SrtpCipher, W: GapWindow, S: ResendStore<Sent>> Session<C, W, S> {
         ensures failed { self.old.state.stopped ≡ false → IfErr result (λ e. (r : SessionRecord) → StandsFor W.remembers S.stands_for self.old r
             → (after : SessionRecord) × PollFails now r after e × StandsFor W.remembers S.stands_for self.new (stopped_record after)) }
         ensures rx { self.new.rx ≡ self.old.rx }
-        ensures originals { self.new.originals ≡ self.old.originals }
+        ensures known { self.new.known ≡ self.old.known }
         ensures probes { self.new.probes ≡ self.old.probes }
         ensures seen { self.new.seen ≡ self.old.seen }
     {
@@ -137,7 +137,7 @@ impl<C: SrtpCipher, W: GapWindow, S: ResendStore<Sent>> Session<C, W, S> {
         ensures failed { IfErr result (λ e. (r : SessionRecord) → StandsFor W.remembers S.stands_for self.old r
             → (after : SessionRecord) × PollFails now r after e × StandsFor W.remembers S.stands_for self.new after) }
         ensures rx { self.new.rx ≡ self.old.rx }
-        ensures originals { self.new.originals ≡ self.old.originals }
+        ensures known { self.new.known ≡ self.old.known }
         ensures probes { self.new.probes ≡ self.old.probes }
         ensures seen { self.new.seen ≡ self.old.seen }
     {
@@ -180,7 +180,7 @@ impl<C: SrtpCipher, W: GapWindow, S: ResendStore<Sent>> Session<C, W, S> {
         ensures failed { IfErr result (λ e. (r : SessionRecord) → StandsFor W.remembers S.stands_for self.old r
             → (after : SessionRecord) × PacketFails now r after e × StandsFor W.remembers S.stands_for self.new after) }
         ensures rx { self.new.rx ≡ self.old.rx }
-        ensures originals { self.new.originals ≡ self.old.originals }
+        ensures known { self.new.known ≡ self.old.known }
         ensures probes { self.new.probes ≡ self.old.probes }
         ensures seen { self.new.seen ≡ self.old.seen }
     {
@@ -209,7 +209,7 @@ impl<C: SrtpCipher, W: GapWindow, S: ResendStore<Sent>> Session<C, W, S> {
         ensures failed { IfErr result (λ e. (r : SessionRecord) → StandsFor W.remembers S.stands_for self.old r
             → (after : SessionRecord) × PacketFails now r after e × StandsFor W.remembers S.stands_for self.new after) }
         ensures rx { self.new.rx ≡ self.old.rx }
-        ensures originals { self.new.originals ≡ self.old.originals }
+        ensures known { self.new.known ≡ self.old.known }
         ensures probes { self.new.probes ≡ self.old.probes }
         ensures seen { self.new.seen ≡ self.old.seen }
     {

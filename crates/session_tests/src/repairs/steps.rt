@@ -1,6 +1,6 @@
 //! What is done with two ends, of which one sends with repairs (RFC 4588).
 use crate::carrying::Ids;
-use crate::ends::{End, ended_with, expect_stream, give_keys, mid, rid};
+use crate::ends::{End, Fault, ended_with, expect_stream, give_keys, mid, rid};
 use crate::packets::seal_report;
 use mask_register::MaskRegister;
 use media_base::{Bytes, Duration, Instant};
@@ -9,7 +9,6 @@ use rtp_base::{Kind, MidRid, Pt, Rid, SeqNo, Ssrc};
 use rtp_wire::ExtensionValues;
 use session_core::{Datagram, DrainFault, Media, MediaKind, RtcError};
 use std::alloc::Global;
-use std::test::Fail;
 use stream_core::{Payload, RtpWrite, Sent, Streams};
 
 /// What a pair of ends begins with: the ids of header extensions, and the number of the first
@@ -105,7 +104,7 @@ fn packet(
     number: u64,
     between: &[u8],
     payload: &[u8],
-) -> Result<Vec<u8>, Fail> {
+) -> Result<Vec<u8>, Fault> {
     let mut plain = vec![in alloc; 0x80, pt]?;
     plain.extend_from_slice(&((number % 65536) as u16).to_be_bytes())?;
     plain.extend_from_slice(&[0, 0, 0, 0, 0, 0, 0, low])?;
@@ -129,7 +128,7 @@ fn is_first(
     low: u8,
     number: u64,
     payload: &[u8],
-) -> Result<bool, Fail> {
+) -> Result<bool, Fault> {
     let plain = packet(alloc, 96, low, number, &[], payload)?;
     Ok(is_rtp(datagram, low, number, plain.as_slice()))
 }
@@ -141,18 +140,18 @@ fn is_again(
     low: u8,
     numbers: (u64, u64),
     payload: &[u8],
-) -> Result<bool, Fail> {
+) -> Result<bool, Fault> {
     let first = ((numbers.1 % 65536) as u16).to_be_bytes();
     let plain = packet(alloc, 97, low, numbers.0, &first, payload)?;
     Ok(is_rtp(datagram, low, numbers.0, plain.as_slice()))
 }
 
 // The longest payload.
-fn longest(alloc: Global) -> Result<Vec<u8>, Fail> {
+fn longest(alloc: Global) -> Result<Vec<u8>, Fault> {
     Ok(vec![in alloc; 7; 1400]?)
 }
 
-fn is_sent(alloc: Global, out: Out, datagram: &Datagram) -> Result<bool, Fail> {
+fn is_sent(alloc: Global, out: Out, datagram: &Datagram) -> Result<bool, Fault> {
     match out {
         Out::First(low, number, payload) => is_first(alloc, datagram, low, number, payload),
         Out::Again(low, number, first, payload) => {
@@ -171,7 +170,7 @@ fn is_sent(alloc: Global, out: Out, datagram: &Datagram) -> Result<bool, Fail> {
 }
 
 // Whether the datagrams are exactly these, in order.
-fn are_sent(alloc: Global, outs: &[Out], datagrams: &[Datagram]) -> Result<bool, Fail> {
+fn are_sent(alloc: Global, outs: &[Out], datagrams: &[Datagram]) -> Result<bool, Fault> {
     for (out, datagram) in outs.iter().zip(datagrams.iter()) {
         if !is_sent(alloc, *out, datagram)? {
             return Ok(false);
@@ -180,13 +179,13 @@ fn are_sent(alloc: Global, outs: &[Out], datagrams: &[Datagram]) -> Result<bool,
     Ok(outs.len() == datagrams.len())
 }
 
-fn declare(end: &mut End, low: u8) -> Result<(), Fail> {
+fn declare(end: &mut End, low: u8) -> Result<(), Fault> {
     let mid_rid = MidRid(mid(), Some(rid()));
     end.streams().declare_stream_tx(ssrc(low), None, mid_rid)?;
     Ok(())
 }
 
-fn declare_repaired(end: &mut End, low: u8, first: u64) -> Result<(), Fail> {
+fn declare_repaired(end: &mut End, low: u8, first: u64) -> Result<(), Fault> {
     let mid_rid = MidRid(mid(), Some(rid()));
     let repairs = Ssrc::from(u32::from(low) + 1);
     let first = SeqNo::from(first.min(281_474_976_710_656));
@@ -195,7 +194,7 @@ fn declare_repaired(end: &mut End, low: u8, first: u64) -> Result<(), Fail> {
     Ok(())
 }
 
-fn keep(end: &mut End, packets: usize, age: u64, cap: Option<u32>) -> Result<(), Fail> {
+fn keep(end: &mut End, packets: usize, age: u64, cap: Option<u32>) -> Result<(), Fault> {
     let age = Duration::from_nanos(age);
     end.streams().set_rtx_cache(ssrc(42), packets, age, cap)?;
     Ok(())
@@ -206,7 +205,7 @@ fn put(
     streams: &mut Streams<MaskRegister, QueueStore<Sent>>,
     low: u8,
     write: RtpWrite,
-) -> Result<(), Fail> {
+) -> Result<(), Fault> {
     if let Some(place) = streams.tx_place(ssrc(low)) {
         streams.tx_at(place).write_rtp(write)?;
     }
@@ -224,13 +223,13 @@ fn written() -> ExtensionValues {
 }
 
 // A packet of type 96 at RTP time 0 that may be sent again.
-fn write(alloc: Global, end: &mut End, low: u8, number: u64, bytes: &[u8]) -> Result<(), Fail> {
+fn write(alloc: Global, end: &mut End, low: u8, number: u64, bytes: &[u8]) -> Result<(), Fault> {
     let payload = Payload::from_slice(alloc, bytes)?;
     let write = RtpWrite::new(Pt::from(96), SeqNo::from(number), 0, at(1), payload);
     put(end.streams(), low, write.ext_vals(written()).nackable(true))
 }
 
-fn write_long(alloc: Global, end: &mut End, number: u64) -> Result<(), Fail> {
+fn write_long(alloc: Global, end: &mut End, number: u64) -> Result<(), Fault> {
     let payload = longest(alloc)?;
     write(alloc, end, 42, number, payload.as_slice())
 }
@@ -242,24 +241,24 @@ fn write_as(
     way: (u8, bool, u32),
     number: u64,
     bytes: &[u8],
-) -> Result<(), Fail> {
+) -> Result<(), Fault> {
     let payload = Payload::from_slice(alloc, bytes)?;
     let write = RtpWrite::new(Pt::from(way.0), SeqNo::from(number), way.2, at(1), payload);
     put(end.streams(), 42, write.nackable(way.1))
 }
 
 // Whether a drain gives exactly this.
-fn drains(alloc: Global, end: &mut End, now: Instant, outs: &[Out]) -> Result<bool, Fail> {
+fn drains(alloc: Global, end: &mut End, now: Instant, outs: &[Out]) -> Result<bool, Fault> {
     let drained = end.drain(now)?;
     are_sent(alloc, outs, drained.datagrams.as_slice())
 }
 
-fn ticks(alloc: Global, end: &mut End, now: Instant, outs: &[Out]) -> Result<bool, Fail> {
+fn ticks(alloc: Global, end: &mut End, now: Instant, outs: &[Out]) -> Result<bool, Fault> {
     end.handle_timeout(now)?;
     drains(alloc, end, now, outs)
 }
 
-fn sends_three(alloc: Global, end: &mut End) -> Result<bool, Fail> {
+fn sends_three(alloc: Global, end: &mut End) -> Result<bool, Fault> {
     write(alloc, end, 42, 1, &[1])?;
     write(alloc, end, 42, 2, &[2])?;
     write(alloc, end, 42, 3, &[3])?;
@@ -289,7 +288,7 @@ fn sends_many(
     now: Instant,
     from: u64,
     to: u64,
-) -> Result<bool, Fail> {
+) -> Result<bool, Fault> {
     for number in from..to {
         write(alloc, end, 42, number, &[(number % 256) as u8])?;
     }
@@ -299,7 +298,7 @@ fn sends_many(
 }
 
 // Whether plain bytes of RTCP from the peer open.
-fn hears(alloc: Global, end: &mut End, now: Instant, plain: &[u8]) -> Result<bool, Fail> {
+fn hears(alloc: Global, end: &mut End, now: Instant, plain: &[u8]) -> Result<bool, Fault> {
     let sealed = seal_report(alloc, plain)?;
     let opened = end.handle_rtcp_receive(now, sealed.as_slice())?;
     Ok(opened.is_some())
@@ -312,7 +311,7 @@ fn is_asked(
     now: Instant,
     low: u8,
     entry: (u16, u16),
-) -> Result<bool, Fail> {
+) -> Result<bool, Fault> {
     let mut plain = vec![in alloc; 0x81, 0xcd, 0, 3, 0, 0, 0, 2, 0, 0, 0, low]?;
     plain.extend_from_slice(&entry.0.to_be_bytes())?;
     plain.extend_from_slice(&entry.1.to_be_bytes())?;
@@ -320,7 +319,7 @@ fn is_asked(
 }
 
 // Whether all datagrams but that of a number open at the peer.
-fn arrive(peer: &mut End, now: Instant, lost: u64, datagrams: &[Datagram]) -> Result<bool, Fail> {
+fn arrive(peer: &mut End, now: Instant, lost: u64, datagrams: &[Datagram]) -> Result<bool, Fault> {
     for datagram in datagrams {
         if datagram.index != SeqNo::from(lost) {
             let opened = peer.handle_rtp_receive(now, datagram.bytes.as_slice())?;
@@ -339,7 +338,7 @@ fn loses(
     now: Instant,
     lost: u64,
     outs: &[Out],
-) -> Result<bool, Fail> {
+) -> Result<bool, Fault> {
     end.handle_timeout(now)?;
     let drained = end.drain(now)?;
     let sent = are_sent(alloc, outs, drained.datagrams.as_slice())?;
@@ -347,7 +346,7 @@ fn loses(
     Ok(sent && opened)
 }
 
-fn peer_asks(end: &mut End, peer: &mut End, now: Instant, plain: &[u8]) -> Result<bool, Fail> {
+fn peer_asks(end: &mut End, peer: &mut End, now: Instant, plain: &[u8]) -> Result<bool, Fault> {
     peer.handle_timeout(now)?;
     let Some(sent) = peer.poll_datagram(now)? else {
         return Ok(false);
@@ -370,12 +369,12 @@ fn is_stopped(end: &mut End, now: Instant) -> bool {
 }
 
 // Whether a drain gave exactly this, and then there was no number of repairs.
-fn is_used_up(alloc: Global, fault: &DrainFault, outs: &[Out]) -> Result<bool, Fail> {
+fn is_used_up(alloc: Global, fault: &DrainFault, outs: &[Out]) -> Result<bool, Fault> {
     let sent = are_sent(alloc, outs, fault.sofar.datagrams.as_slice())?;
     Ok(sent && fault.error == RtcError::RepairsExhausted(ssrc(43)))
 }
 
-fn ends(alloc: Global, end: &mut End, now: Instant, outs: &[Out]) -> Result<bool, Fail> {
+fn ends(alloc: Global, end: &mut End, now: Instant, outs: &[Out]) -> Result<bool, Fault> {
     end.handle_timeout(now)?;
     let ended = match end.drain(now) {
         Err(fault) => is_used_up(alloc, &fault, outs)?,
@@ -384,7 +383,7 @@ fn ends(alloc: Global, end: &mut End, now: Instant, outs: &[Out]) -> Result<bool
     Ok(ended && is_stopped(end, now))
 }
 
-fn ends_at_once(end: &mut End, now: Instant) -> Result<bool, Fail> {
+fn ends_at_once(end: &mut End, now: Instant) -> Result<bool, Fault> {
     end.handle_timeout(now)?;
     let ended = ended_with(
         &end.poll_datagram(now),
@@ -394,7 +393,7 @@ fn ends_at_once(end: &mut End, now: Instant) -> Result<bool, Fail> {
 }
 
 // Does a step, and tells whether it went so.
-fn goes(alloc: Global, end: &mut End, peer: &mut End, step: Step) -> Result<bool, Fail> {
+fn goes(alloc: Global, end: &mut End, peer: &mut End, step: Step) -> Result<bool, Fault> {
     match step {
         Step::Declares(low) => declare(end, low)?,
         Step::Repairs(low, first) => declare_repaired(end, low, first)?,
@@ -430,7 +429,7 @@ pub fn go_through(
     peer: &mut End,
     first: u64,
     steps: &[Step],
-) -> Result<bool, Fail> {
+) -> Result<bool, Fault> {
     let cname = Bytes::from_slice(alloc, b"cam")?;
     end.add_media(Media::new(mid(), MediaKind::Video, cname))?;
     declare_repaired(end, 42, first)?;

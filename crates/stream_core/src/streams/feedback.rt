@@ -272,7 +272,7 @@ impl<W: GapWindow, S: ResendStore<Sent>> Streams<W, S> {
         ensures tx { self.new.tx ≡ self.old.tx }
         ensures repairs { self.new.repairs ≡ self.old.repairs }
         ensures threshold { self.new.threshold ≡ self.old.threshold }
-        ensures originals { self.new.originals ≡ self.old.originals }
+        ensures known { self.new.known ≡ self.old.known }
     {
         let mids = due_mids(self.alloc, &self.rx, &tick.intervals, tick.now)?;
         let made = fronts(self.alloc, &self.rx, tick, mids.as_slice())?;
@@ -349,7 +349,7 @@ impl<W: GapWindow, S: ResendStore<Sent>> Streams<W, S> {
         ensures tx { self.new.tx ≡ self.old.tx }
         ensures repairs { self.new.repairs ≡ self.old.repairs }
         ensures threshold { self.new.threshold ≡ self.old.threshold }
-        ensures originals { self.new.originals ≡ self.old.originals }
+        ensures known { self.new.known ≡ self.old.known }
     {
         if let Some(place) = self.rx.place(info.ssrc) {
             self.rx.at_mut(place).handle_sender_info(info, now);

@@ -20,7 +20,7 @@ returns-in-Keyframe g c =
     ap (set_value_at c.streams.result.now.rx place) c.request_keyframe.ensures ∙ set_change f c.streams.result.now.rx place c.rx_at.result.now c.rx_at.ensures.value
     ∙ ap (λ (l : List (ℕ × RxView MaskRegister)). change_place f l place) c.streams.ensures.rx
     ∙ ap (λ (q : Request). change_place (on_view (requesting (requested q))) old.rx place) (sym c.in-Keyframe.is) in
-    λ j. record { state = record old.state { tx = c.streams.ensures.tx j; pause_threshold = c.streams.ensures.threshold j }; rx = rx j; probes = old.probes; repairs = c.streams.ensures.repairs j; originals = c.streams.ensures.originals j; seen = old.seen }
+    λ j. record { state = record old.state { tx = c.streams.ensures.tx j; pause_threshold = c.streams.ensures.threshold j }; rx = rx j; probes = old.probes; repairs = c.streams.ensures.repairs j; known = c.streams.ensures.known j; seen = old.seen }
 
 pub returns-in-Rate : goal.returns-in-Rate
 returns-in-Rate g c =
@@ -31,4 +31,4 @@ returns-in-Rate g c =
     ap (set_value_at c.streams-in-Rate.result.now.rx place) c.request_remb.ensures ∙ set_change f c.streams-in-Rate.result.now.rx place c.rx_at-in-Rate.result.now c.rx_at-in-Rate.ensures.value
     ∙ ap (λ (l : List (ℕ × RxView MaskRegister)). change_place f l place) c.streams-in-Rate.ensures.rx
     ∙ ap (λ (q : Request). change_place (on_view (requesting (requested q))) old.rx place) (sym c.in-Rate.is) in
-    λ j. record { state = record old.state { tx = c.streams-in-Rate.ensures.tx j; pause_threshold = c.streams-in-Rate.ensures.threshold j }; rx = rx j; probes = old.probes; repairs = c.streams-in-Rate.ensures.repairs j; originals = c.streams-in-Rate.ensures.originals j; seen = old.seen }
+    λ j. record { state = record old.state { tx = c.streams-in-Rate.ensures.tx j; pause_threshold = c.streams-in-Rate.ensures.threshold j }; rx = rx j; probes = old.probes; repairs = c.streams-in-Rate.ensures.repairs j; known = c.streams-in-Rate.ensures.known j; seen = old.seen }

@@ -1,4 +1,5 @@
-use Rattle.std.proofs.Common.{◌++◌, List, sym, ap, subst, ◌∙◌}
+use Rattle.mapping_core.specs.declared.rids.Rids.TheVariants.{Specific}
+use Rattle.std.proofs.Common.{◌≡◌, [], ◌++◌, List, sym, ap, subst, ◌∙◌}
 use Rattle.std.specs.List.{filter_map}
 use Rattle.std.proofs.lemmas.Result.{on_ok_weaker}
 use Rattle.media_play.specs.Ends.{EndSession}
@@ -18,12 +19,13 @@ returns-in-Ok g c =
     let streams = c.as_slice-in-Ok.ensures in
     let known =
     ap (λ (v : EndSession). has_mid mid v.state.medias) c.in-Ok.ensures.ok
-    ∙ has_last c.args.session.now.state.medias c.new-section.result mid (ap (λ (m : MediaRecord). m.mid) c.new-section.ensures) in
+    ∙ has_last c.args.session.now.state.medias c.set_rid_rx.new.self mid (ap (λ (m : MediaRecord). m.mid) c.set_rid_rx.ensures ∙ ap (λ (m : MediaRecord). m.mid) c.new-section.ensures) in
+    let rids : c.set_rid_rx.new.self.rids ≡ Specific [] = ap (λ (m : MediaRecord). m.rids) c.set_rid_rx.ensures ∙ ap Specific c.new.ensures in
     on_ok_weaker c.add_streams.result
     (λ starts cipher sent received once_sent once_heard h.
     let own = ap (λ (l : List Stream). sent ++ filter_map (outgoing_in setup c.args.side) l) streams in
     let others = ap (λ (l : List Stream). received ++ filter_map (outgoing_in setup (peer_of c.args.side)) l) streams in
     starts_same cipher setup c.args.side _ _ _ _ c.add_streams.new.session own others
     (starts cipher sent received known (subst AreOnce (sym own) once_sent) (subst AreOnce (sym others) once_heard)
-    (starts_media cipher setup c.args.side sent received c.args.session.now c.add_media.new.self c.new-section.result c.in-Ok.ensures.ok h)))
+    (starts_media cipher setup c.args.side sent received c.args.session.now c.add_media.new.self c.set_rid_rx.new.self rids c.in-Ok.ensures.ok h)))
     c.add_streams.ensures

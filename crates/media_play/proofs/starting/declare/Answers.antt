@@ -17,6 +17,6 @@ returns-clause-stands g c =
       | in-None w ↦ search rules
     ] in
     on_ok_weaker c.declare_stream_tx.result
-    (λ says. streams_change (with_stream_tx stream.ssrc (option_map (λ (ssrc : ℕ). (ssrc, c.args.first)) stream.rtx) c.args.mid stream.rid) c.args.session.now c.streams.result.now c.declare_stream_tx.new.self s.rx s.tx s.threshold s.originals s.repairs
+    (λ says. streams_change (with_stream_tx stream.ssrc (option_map (λ (ssrc : ℕ). (ssrc, c.args.first)) stream.rtx) c.args.mid stream.rid) c.args.session.now c.streams.result.now c.declare_stream_tx.new.self s.rx s.tx s.threshold s.known s.repairs
     (subst (λ o. (r : StreamsRecord) → StandsFor Remembers Holds c.streams.result.now r → StandsFor Remembers Holds c.declare_stream_tx.new.self (with_stream_tx stream.ssrc o c.args.mid stream.rid r)) first says))
     c.declare_stream_tx.ensures.ok

@@ -9,4 +9,4 @@ pub returns-clause-stands : goal.returns-clause-stands
 returns-clause-stands g c =
     let s = c.streams.ensures in
     let f = λ (r : StreamsRecord). let t : StreamsRecord = record r { repairs = change_at c.args.ssrc (recached c.args.cache.packets c.args.cache.age c.args.cache.cap) r.repairs } in t in
-    on_ok_weaker c.set_rtx_cache.result (λ says. streams_change f c.args.session.now c.streams.result.now c.set_rtx_cache.new.self s.rx s.tx s.threshold s.originals s.repairs says) c.set_rtx_cache.ensures.ok
+    on_ok_weaker c.set_rtx_cache.result (λ says. streams_change f c.args.session.now c.streams.result.now c.set_rtx_cache.new.self s.rx s.tx s.threshold s.known s.repairs says) c.set_rtx_cache.ensures.ok

@@ -13,7 +13,7 @@ pub returns-in-Some : goal.returns-in-Some
 returns-in-Some g c =
     let es = c.args.streams.now.tx in
     let told = after_reception c.in-ReceptionReport.report in
-    ap (λ (l : List (ℕ × TxRecord)). record { threshold = c.args.streams.now.threshold; rx = c.args.streams.now.rx; originals = c.args.streams.now.originals; tx = l; repairs = c.args.streams.now.repairs })
+    ap (λ (l : List (ℕ × TxRecord)). record { threshold = c.args.streams.now.threshold; rx = c.args.streams.now.rx; known = c.args.streams.now.known; tx = l; repairs = c.args.streams.now.repairs })
     (ap (set_value_at es c.in-Some.place) c.handle_reception_report.ensures
     ∙ set_change told es c.in-Some.place c.tx_at.result.now c.tx_at.ensures.value
     ∙ ap (λ (o : Option ℕ). option_map_or (change_place told es) o es) (sym (sym c.tx_place.ensures.place ∙ c.in-Some.is))

@@ -27,5 +27,5 @@ loop-item-preserved g c =
           );
       others =
           c.in_ok-ask.ensures.others
-          ∙ ap (λ (v : StreamsView g.row.W.Denot g.row.S.Denot). record { threshold = v.threshold; rx = v.rx; originals = v.originals; tx = v.tx; repairs = c.ask.new.streams.repairs }) c.loop-item.invariant.others;
+          ∙ ap (λ (v : StreamsView g.row.W.Denot g.row.S.Denot). record { threshold = v.threshold; rx = v.rx; known = v.known; tx = v.tx; repairs = c.ask.new.streams.repairs }) c.loop-item.invariant.others;
     }

@@ -14,8 +14,8 @@ loop-item-preserved g c =
     record {
       streams =
           c.acknowledge.ensures
-          ∙ ap (λ (v : StreamsView g.row.W.Denot g.row.S.Denot). record { threshold = v.threshold; rx = v.rx; originals = v.originals; tx = acknowledged_by item v.tx; repairs = v.repairs }) c.loop-item.invariant.streams
-          ∙ ap (λ (l : List (ℕ × TxRecord)). record { threshold = c.args.streams.now.threshold; rx = c.args.streams.now.rx; originals = c.args.streams.now.originals; tx = l; repairs = c.args.streams.now.repairs }) (sym (acknowledged_more done item c.args.streams.now.tx));
+          ∙ ap (λ (v : StreamsView g.row.W.Denot g.row.S.Denot). record { threshold = v.threshold; rx = v.rx; known = v.known; tx = acknowledged_by item v.tx; repairs = v.repairs }) c.loop-item.invariant.streams
+          ∙ ap (λ (l : List (ℕ × TxRecord)). record { threshold = c.args.streams.now.threshold; rx = c.args.streams.now.rx; known = c.args.streams.now.known; tx = l; repairs = c.args.streams.now.repairs }) (sym (acknowledged_more done item c.args.streams.now.tx));
       application =
           c.or.ensures
           ∙ ap (λ (o : Option AppSpecificFeedback). option_or o c.take.result) c.application_in.ensures

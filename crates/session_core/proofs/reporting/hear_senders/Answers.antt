@@ -8,7 +8,7 @@ use Rattle.session_core.proofs.Heard.{rx_more}
 use Rattle.session_core.proofs.reporting.hear_senders.Goals as goal
 
 pub loop-item-init : goal.loop-item-init
-loop-item-init g c = record { streams = λ r h. h; tx = refl; repairs = refl; threshold = refl; originals = refl }
+loop-item-init g c = record { streams = λ r h. h; tx = refl; repairs = refl; threshold = refl; known = refl }
 
 pub loop-item-preserved : goal.loop-item-preserved
 loop-item-preserved g c =
@@ -27,5 +27,5 @@ loop-item-preserved g c =
       tx = c.hear_sender.ensures.tx ∙ inv.tx;
       repairs = c.hear_sender.ensures.repairs ∙ inv.repairs;
       threshold = c.hear_sender.ensures.threshold ∙ inv.threshold;
-      originals = c.hear_sender.ensures.originals ∙ inv.originals;
+      known = c.hear_sender.ensures.known ∙ inv.known;
     }

@@ -10,5 +10,5 @@ invariant-loop-item g l = record {
   tx : l.streams.tx ≡ l.fn.streams.tx;
   repairs : l.streams.repairs ≡ l.fn.streams.repairs;
   threshold : l.streams.threshold ≡ l.fn.streams.threshold;
-  originals : l.streams.originals ≡ l.fn.streams.originals;
+  known : l.streams.known ≡ l.fn.streams.known;
 }

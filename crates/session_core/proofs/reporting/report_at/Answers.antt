@@ -17,7 +17,7 @@ returns-then-is_none g c =
     let mids = c.args.mids.now in
     let x = c.tx.result.now in
     let none : reports_in mids medias x ≡ None = sym (c.reports_in.ensures x (sym c.mid.ensures)) ∙ none_given _ _ (c.is_none.ensures ∙ ap not c.if-is_none.true) in
-    ap (λ (l : List (ℕ × TxRecord)). record { threshold = c.args.streams.now.threshold; rx = c.args.streams.now.rx; originals = c.args.streams.now.originals; tx = l; repairs = c.args.streams.now.repairs })
+    ap (λ (l : List (ℕ × TxRecord)). record { threshold = c.args.streams.now.threshold; rx = c.args.streams.now.rx; known = c.args.streams.now.known; tx = l; repairs = c.args.streams.now.repairs })
     (sym (change_same (sender_after medias c.args.moment mids) es c.args.place x c.tx.ensures (stays_silent medias c.args.moment mids x none)))
 
 pub returns : goal.returns
@@ -35,5 +35,5 @@ returns g c =
     let some : reports_in mids medias x ≡ Some given.0 = sym (c.reports_in.ensures x (sym c.mid.ensures)) ∙ given.1 in
     let done : sender_after medias now mids y ≡ c.reported.new.self =
     ap (sender_after medias now mids) (sym same) ∙ reports_now medias now mids x given.0 some ∙ ap (tx_reported now) same ∙ sym c.reported.ensures in
-    ap (λ (l : List (ℕ × TxRecord)). record { threshold = c.args.streams.now.threshold; rx = c.args.streams.now.rx; originals = c.args.streams.now.originals; tx = l; repairs = c.args.streams.now.repairs })
+    ap (λ (l : List (ℕ × TxRecord)). record { threshold = c.args.streams.now.threshold; rx = c.args.streams.now.rx; known = c.args.streams.now.known; tx = l; repairs = c.args.streams.now.repairs })
     (ap (set_value_at es c.args.place) (sym done) ∙ set_change (sender_after medias now mids) es c.args.place y again)

@@ -17,7 +17,7 @@ returns-then-is_some g c =
     let medias = c.args.medias.now in
     let x = c.tx-stream.result.now in
     let told : is_some x.reports.clock.is_audio ≡ true = ap is_some (sym c.is_audio.ensures) ∙ sym c.is_some.ensures ∙ c.if-is_some.true in
-    ap (λ (l : List (ℕ × TxRecord)). record { threshold = c.args.streams.now.threshold; rx = c.args.streams.now.rx; originals = c.args.streams.now.originals; tx = l; repairs = c.args.streams.now.repairs })
+    ap (λ (l : List (ℕ × TxRecord)). record { threshold = c.args.streams.now.threshold; rx = c.args.streams.now.rx; known = c.args.streams.now.known; tx = l; repairs = c.args.streams.now.repairs })
     (sym (change_same (told_kind medias) es c.args.place x c.tx-stream.ensures (told_before x.reports.clock.is_audio (media_of x.mid medias) x told)))
 
 pub returns-in_default : goal.returns-in_default
@@ -26,7 +26,7 @@ returns-in_default g c =
     let medias = c.args.medias.now in
     let x = c.tx-stream.result.now in
     let none : media_of x.mid medias ≡ None = ap (λ (m : List ℕ). media_of m medias) (sym c.mid.ensures) ∙ sym c.media_of.ensures ∙ ap option_copied c.in_default.is in
-    ap (λ (l : List (ℕ × TxRecord)). record { threshold = c.args.streams.now.threshold; rx = c.args.streams.now.rx; originals = c.args.streams.now.originals; tx = l; repairs = c.args.streams.now.repairs })
+    ap (λ (l : List (ℕ × TxRecord)). record { threshold = c.args.streams.now.threshold; rx = c.args.streams.now.rx; known = c.args.streams.now.known; tx = l; repairs = c.args.streams.now.repairs })
     (sym (change_same (told_kind medias) es c.args.place x c.tx-stream.ensures (without_media x.reports.clock.is_audio (media_of x.mid medias) x none)))
 
 pub returns : goal.returns
@@ -44,5 +44,5 @@ returns g c =
     let told : told_kind medias y ≡ c.tell_kind.new.self =
     ap (told_kind medias) (sym same) ∙ told_now x.reports.clock.is_audio (media_of x.mid medias) c.in-Some.media.now x new some
     ∙ ap (with_kind (is_sound c.in-Some.media.now.kind)) same ∙ ap (λ b. with_kind b y) (sym kind) ∙ sym c.tell_kind.ensures in
-    ap (λ (l : List (ℕ × TxRecord)). record { threshold = c.args.streams.now.threshold; rx = c.args.streams.now.rx; originals = c.args.streams.now.originals; tx = l; repairs = c.args.streams.now.repairs })
+    ap (λ (l : List (ℕ × TxRecord)). record { threshold = c.args.streams.now.threshold; rx = c.args.streams.now.rx; known = c.args.streams.now.known; tx = l; repairs = c.args.streams.now.repairs })
     (ap (set_value_at es c.args.place) (sym told) ∙ set_change (told_kind medias) es c.args.place y again)

@@ -19,8 +19,8 @@ loop-place-preserved g c =
     let i = c.loop-place.place in
     let all = c.args.streams.now.tx in
     c.tell_kind.ensures
-    ∙ ap (λ (v : StreamsView g.row.W.Denot g.row.S.Denot). record { threshold = v.threshold; rx = v.rx; originals = v.originals; tx = change_place f v.tx i; repairs = v.repairs }) c.loop-place.invariant
-    ∙ ap (λ (l : List (ℕ × TxRecord)). record { threshold = c.args.streams.now.threshold; rx = c.args.streams.now.rx; originals = c.args.streams.now.originals; tx = l; repairs = c.args.streams.now.repairs })
+    ∙ ap (λ (v : StreamsView g.row.W.Denot g.row.S.Denot). record { threshold = v.threshold; rx = v.rx; known = v.known; tx = change_place f v.tx i; repairs = v.repairs }) c.loop-place.invariant
+    ∙ ap (λ (l : List (ℕ × TxRecord)). record { threshold = c.args.streams.now.threshold; rx = c.args.streams.now.rx; known = c.args.streams.now.known; tx = l; repairs = c.args.streams.now.repairs })
     (upto_step f i all ∙ ap (λ n. upto f n all) (sym (add-one i)))
 
 pub returns : goal.returns
@@ -29,5 +29,5 @@ returns g c =
     let all = c.args.streams.now.tx in
     let long : length all ≤ c.loop-place.place = omega arith in
     c.loop-place.invariant
-    ∙ ap (λ (l : List (ℕ × TxRecord)). record { threshold = c.args.streams.now.threshold; rx = c.args.streams.now.rx; originals = c.args.streams.now.originals; tx = l; repairs = c.args.streams.now.repairs })
+    ∙ ap (λ (l : List (ℕ × TxRecord)). record { threshold = c.args.streams.now.threshold; rx = c.args.streams.now.rx; known = c.args.streams.now.known; tx = l; repairs = c.args.streams.now.repairs })
     (upto_all f c.loop-place.place all long)

@@ -25,11 +25,11 @@ returns c =
     let written_is = c.new-packet.ensures ∙ write_is c.from.result c.from-2.result now c.in_ok-payload.payload payload c.from.ensures c.from-2.ensures c.in_ok-payload.ensures in
     let said = c.in_ok-declare_stream_tx.ensures in
     let added : c.declare_stream_tx.new.self ≡ record c.streams.result.now { tx = with_new ssrc (declared ssrc None mid None) c.streams.result.now.tx } =
-    λ j. record { threshold = said.threshold j; rx = said.rx j; originals = said.originals j; tx = said.tx j; repairs = said.plain refl j } in
+    λ j. record { threshold = said.threshold j; rx = said.rx j; known = said.known j; tx = said.tx j; repairs = said.plain refl j } in
     let sends = writes material mid payload Remembers Holds now ssrc c.new-packet.result c.in_ok-a.a c.write.new.end c.streams.result.now c.declare_stream_tx.new.self c.from-ssrc.ensures written_is
-    c.in_ok-a.ensures.made c.streams.ensures.rx c.streams.ensures.tx c.streams.ensures.threshold c.streams.ensures.originals c.streams.ensures.repairs added c.in_ok-write.ensures in
+    c.in_ok-a.ensures.made c.streams.ensures.rx c.streams.ensures.tx c.streams.ensures.threshold c.streams.ensures.known c.streams.ensures.repairs added c.in_ok-write.ensures in
     let waits = expects material mid payload Remembers Holds c.in_ok-b.b c.streams-2.result.now c.expect_stream_rx.new.self ssrc c.from-ssrc.ensures
-    c.in_ok-b.ensures.made c.streams-2.ensures.rx c.streams-2.ensures.tx c.streams-2.ensures.threshold c.streams-2.ensures.originals c.streams-2.ensures.repairs c.in_ok-expect_stream_rx.ensures.ok in
+    c.in_ok-b.ensures.made c.streams-2.ensures.rx c.streams-2.ensures.tx c.streams-2.ensures.threshold c.streams-2.ensures.known c.streams-2.ensures.repairs c.in_ok-expect_stream_rx.ensures.ok in
     at_end material mid payload Remembers Holds now c.handle_timeout.new.self c.poll_datagram.new.self _ c.handle_rtp_receive.new.self c.poll_event-unpaused.new.self
     c.in-Some.sent c.as_slice.result.now c.in_ok-handle_rtp_receive.field-0 c.poll_event-unpaused.result c.poll_event.result
     c.written_header_is_read_again.ensures c.rtp_seal_keeps_header.ensures c.rtp_seals_apart.ensures

@@ -6,4 +6,4 @@ use Rattle.uses.proofs.exchange_a_packet.write.Goals as goal
 pub returns-in-Ok : goal.returns-in-Ok
 returns-in-Ok c =
     changed_first c.args.end.now c.streams.result.now (written c.args.packet) c.tx_at.result.now c.write_rtp.new.self
-    c.streams.ensures.rx c.streams.ensures.tx c.streams.ensures.threshold c.streams.ensures.originals c.streams.ensures.repairs c.tx_at.ensures.value c.in-Ok.ensures.ok
+    c.streams.ensures.rx c.streams.ensures.tx c.streams.ensures.threshold c.streams.ensures.known c.streams.ensures.repairs c.tx_at.ensures.value c.in-Ok.ensures.ok

@@ -22,7 +22,7 @@ returns-then-is_err-clause-sofar g c = λ runs r h.
           (ap {A = DrainFault} {B = RtcError} (λ f. f.error) fault)
           (ap {A = DrainFault} {B = List Event} (λ f. f.sofar.events.items) fault)
           (ap {A = DrainFault} {B = List Datagram} (λ f. f.sofar.datagrams.items) fault ∙ c.new-datagrams.ensures.items),
-      record { state = ap stopped_from mine.state; rx = mine.rx; originals = mine.originals; probes = mine.probes; seen = mine.seen; repairs = mine.repairs },
+      record { state = ap stopped_from mine.state; rx = mine.rx; known = mine.known; probes = mine.probes; seen = mine.seen; repairs = mine.repairs },
     )
 
 pub returns-in-Err-clause-sofar : goal.returns-in-Err-clause-sofar

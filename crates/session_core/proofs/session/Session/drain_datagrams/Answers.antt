@@ -65,7 +65,7 @@ returns-then-is_err-clause-sofar g c = λ r h.
     let mine = subst (λ s. StandsFor g.W.GapWindow.remembers g.S.ResendStore.stands_for s here.0) (sym c.self.view_is) here.2 in (
       stopped_record here.0,
       between_polls here.0 _ (subst (λ (l : List Datagram). DrainsTo g.C.SrtpCipher.meaning c.args.now r here.0 l) (sym c.reserve.ensures.items) here.1),
-      record { state = ap stopped_from mine.state; rx = mine.rx; originals = mine.originals; probes = mine.probes; seen = mine.seen; repairs = mine.repairs },
+      record { state = ap stopped_from mine.state; rx = mine.rx; known = mine.known; probes = mine.probes; seen = mine.seen; repairs = mine.repairs },
     )
 
 pub returns-in-Err-clause-sofar : goal.returns-in-Err-clause-sofar

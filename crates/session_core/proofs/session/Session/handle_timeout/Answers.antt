@@ -29,7 +29,7 @@ returns-clause-ok g c = λ r h.
     record {
       state = state_ticked _ s.state c.tell_kinds.new.streams.threshold c.tell_kinds.new.streams.tx (λ x. each (told_kind x.medias) (each (stream_after_timeout now) x.tx)) mine.state threshold tx;
       rx = subst (λ (v : StreamsView g.row.W.Denot g.row.S.Denot). Along (RxStandsFor m) v.rx (each (on_record (checked now)) s.rx)) (sym told) ticked.rx;
-      originals = ap (λ (v : StreamsView g.row.W.Denot g.row.S.Denot). v.originals) told ∙ ticked.originals;
+      known = ap (λ (v : StreamsView g.row.W.Denot g.row.S.Denot). v.known) told ∙ ticked.known;
       repairs = subst (λ (v : StreamsView g.row.W.Denot g.row.S.Denot). Along (RepairsStandFor g.S.ResendStore.stands_for) v.repairs s.repairs) (sym told) ticked.repairs;
       seen = mine.seen;
       probes = subst (λ (v : RxView g.row.W.Denot). RxStandsFor m v (on_record (checked now) s.probes)) (sym c.handle_timeout.ensures)

@@ -35,7 +35,7 @@ returns-in-Some-poll_stream_paused-clause-after g c = λ r h.
       rx = (c.poll_stream_paused.ensures.after (streams_in r) (streams_stand m g.S.ResendStore.stands_for _ r mine)).rx;
       probes = mine.probes;
       seen = mine.seen;
-      originals = (c.poll_stream_paused.ensures.after (streams_in r) (streams_stand m g.S.ResendStore.stands_for _ r mine)).originals;
+      known = (c.poll_stream_paused.ensures.after (streams_in r) (streams_stand m g.S.ResendStore.stands_for _ r mine)).known;
       repairs = (c.poll_stream_paused.ensures.after (streams_in r) (streams_stand m g.S.ResendStore.stands_for _ r mine)).repairs;
     })
 
@@ -64,7 +64,7 @@ returns-in-Some-take-clause-after g c = λ r h.
       rx = subst (λ (v : StreamsView g.row.W.Denot g.row.S.Denot). Along (RxStandsFor m) v.rx r.rx) (sym c.in_default-poll_stream_paused.ensures.none) mine.rx;
       probes = mine.probes;
       seen = mine.seen;
-      originals = (c.poll_stream_paused.ensures.after (streams_in r) (streams_stand m g.S.ResendStore.stands_for _ r mine)).originals;
+      known = (c.poll_stream_paused.ensures.after (streams_in r) (streams_stand m g.S.ResendStore.stands_for _ r mine)).known;
       repairs = (c.poll_stream_paused.ensures.after (streams_in r) (streams_stand m g.S.ResendStore.stands_for _ r mine)).repairs;
     })
 
@@ -102,7 +102,7 @@ returns-clause-after g c = λ r h.
       rx = subst (λ (v : StreamsView g.row.W.Denot g.row.S.Denot). Along (RxStandsFor m) v.rx r.rx) (sym c.in_default-poll_stream_paused.ensures.none) mine.rx;
       probes = mine.probes;
       seen = mine.seen;
-      originals = (c.poll_stream_paused.ensures.after (streams_in r) (streams_stand m g.S.ResendStore.stands_for _ r mine)).originals;
+      known = (c.poll_stream_paused.ensures.after (streams_in r) (streams_stand m g.S.ResendStore.stands_for _ r mine)).known;
       repairs = (c.poll_stream_paused.ensures.after (streams_in r) (streams_stand m g.S.ResendStore.stands_for _ r mine)).repairs;
     })
 

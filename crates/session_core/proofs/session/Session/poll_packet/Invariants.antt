@@ -13,7 +13,7 @@ invariant-loop-receipt g l = record {
   feedback : l.self.state.feedback ≡ l.fn.self.state.feedback;
   sealing : l.self.state.sealing ≡ l.fn.self.state.sealing;
   rx : l.self.rx ≡ l.fn.self.rx;
-  originals : l.self.originals ≡ l.fn.self.originals;
+  known : l.self.known ≡ l.fn.self.known;
   probes : l.self.probes ≡ l.fn.self.probes;
   seen : l.self.seen ≡ l.fn.self.seen;
   fewer : waiting_in l.self ≤ waiting_in l.fn.self;

@@ -67,7 +67,7 @@ returns-clause-polled g c = λ r h.
       k.0,
       next,
       gives_is m S _ r mine c.args.now c.in-Some.place k.0 c.in-Ok.polled k.1,
-      polled_stands m S _ r mine c.poll_packet-polled.new.self c.poll_packet-polled.new.transport k.0 c.in-Ok.polled k.2 said.rx said.originals said.threshold said.counted,
+      polled_stands m S _ r mine c.poll_packet-polled.new.self c.poll_packet-polled.new.transport k.0 c.in-Ok.polled k.2 said.rx said.known said.threshold said.counted,
     )
 
 pub invariant_of-self-in-Err : goal.invariant_of-self-in-Err
@@ -96,7 +96,7 @@ returns-in-Err-clause-failed g c = λ r h.
     let next = place_is m S _ r mine (Some c.in-Some.place)
     (sym c.in-Some.is ∙ c.first_due.ensures.place ∙ ap (λ x. first_due x c.self.inside.released c.self.inside.streams.repairs c.self.inside.streams.tx) c.as_slice-medias.ensures.value) in
     let stays = said.failed (streams_in r) stand in
-    let after = polled_stands m S _ r mine c.poll_packet-polled.new.self c.poll_packet-polled.new.transport stays.0 None stays.2 said.rx said.originals said.threshold said.uncounted in
+    let after = polled_stands m S _ r mine c.poll_packet-polled.new.self c.poll_packet-polled.new.transport stays.0 None stays.2 said.rx said.known said.threshold said.uncounted in
     either _ c.in-Err.error
     (λ memory. (
       after_streams r stays.0 None,

@@ -1,86 +1,61 @@
 use Rattle.std.proofs.Common.{◌≡◌, ℕ, List, Some, None, Ok, Err, sym, ap, subst, ◌∙◌}
-use Rattle.rtp_wire.specs.Header.{header_of}
 use Rattle.std.specs.Prelude.{true, false, Option, Result, IfOk}
-use Rattle.std.specs.Option.{option_map}
-use Rattle.std.specs.declared.alloc.AllocError.{AllocError}
-use Rattle.repair_core.specs.Rounds.{Heard}
-use Rattle.srtp_core.specs.Cipher.{CipherMeaning}
+use Rattle.rtp_wire.specs.Header.{header_of}
 use Rattle.session_core.specs.declared.datagram.Opened.{Opened}
+use Rattle.session_core.specs.Mapping.{is_standing, is_nowhere, mapped_in}
 use Rattle.session_core.specs.SessionRecord.{SessionRecord, SessionState, SessionView, StandsFor, streams_in}
-use Rattle.resend_core.specs.ResendStore.{Past}
-use Rattle.stream_core.specs.Repairing.{SentPacket}
-use Rattle.stream_core.specs.Tables.{place_of}
-use Rattle.session_core.specs.Receiving.{Receives, is_claimed, stays}
-use Rattle.session_core.specs.Repairs.{repaired_by}
-use Rattle.session_core.proofs.Staying.{stays_unread, repair_unread, stays_unclaimed, packet_only}
 use Rattle.session_core.proofs.StreamsIn.{streams_stand}
+use Rattle.session_core.proofs.Taking.{stays_headless, received_standing}
 use Rattle.session_core.proofs.session.Session.receive.Goals as goal
 
--- a call that needs three facts of a session that hold of this one
-received_of : {W S : Type 0} (remembers : W → Heard → Type 0) (stands_for : S → Past SentPacket → Type 0) (cipher : CipherMeaning) (o : Result (Option Opened) AllocError) (bytes : List ℕ) (now : ℕ) (A B C : SessionRecord → Type 0) (v new : SessionView W S)
-    → IfOk o (λ opened. (r : SessionRecord) → StandsFor remembers stands_for v r → A r → B r → C r
-    → (after : SessionRecord) × Receives cipher r bytes now after opened × StandsFor remembers stands_for new after)
-    → ((r : SessionRecord) → StandsFor remembers stands_for v r → A r × B r × C r)
-    → IfOk o (λ opened. (r : SessionRecord) → StandsFor remembers stands_for v r → (after : SessionRecord) × Receives cipher r bytes now after opened × StandsFor remembers stands_for new after)
-received_of remembers stands_for cipher (Ok x) bytes now A B C v new f known = λ r s. let k = known r s in f r s k.0 k.1 k.2
-received_of remembers stands_for cipher (Err x) bytes now A B C v new f known = tt
+if_ok_map : {X E : Type 0} (o : Result X E) (P Q : X → Type 0) → ((x : X) → P x → Q x) → IfOk o P → IfOk o Q
+if_ok_map (Ok x) P Q f p = f x p
+if_ok_map (Err e) P Q f p = tt
 
 pub returns-in_default-clause-received : goal.returns-in_default-clause-received
 returns-in_default-clause-received g c = λ r h.
     let mine = subst (λ s. StandsFor g.W.GapWindow.remembers g.S.ResendStore.stands_for s r) (sym c.self.view_is) h in
     let none : header_of r.state.transport.exts c.args.bytes.now ≡ None =
     ap (λ (s : SessionState). header_of s.transport.exts c.args.bytes.now) (sym mine.state) ∙ sym c.parse-read.ensures ∙ c.in_default.is in
-    (r, stays (stays_unread g.C.SrtpCipher.meaning r c.args.bytes.now none) (repair_unread g.C.SrtpCipher.meaning r c.args.bytes.now none), h)
+    (r, stays_headless g.C.SrtpCipher.meaning r c.args.bytes.now c.args.now none, h)
 
-pub returns-in-Some-repaired_by-clause-received : goal.returns-in-Some-repaired_by-clause-received
-returns-in-Some-repaired_by-clause-received g c =
+pub returns-then-is_standing-clause-received : goal.returns-then-is_standing-clause-received
+returns-then-is_standing-clause-received g c =
     let R = g.W.GapWindow.remembers in
     let S = g.S.ResendStore.stands_for in
     let x = c.in-Some.header in
-    let original = c.in-Some-repaired_by.found.0 in
-    let place = c.in-Some-repaired_by.found.1 in
-    let there : place_of original c.args.self.now.rx ≡ Some place =
-    ap (λ (v : SessionView g.row.W.Denot g.row.S.Denot). place_of original v.rx) (sym c.self.view_is) ∙ c.in-Some-repaired_by.ensures.place in
-    received_of R S g.C.SrtpCipher.meaning c.receive_repair.result c.args.bytes.now c.args.now
-    (λ r. header_of r.state.transport.exts c.args.bytes.now ≡ Some x) (λ r. repaired_by r.state.types r.rx r.originals x ≡ Some original) (λ r. place_of original c.args.self.now.rx ≡ Some place)
-    c.args.self.now c.receive_repair.new.self c.receive_repair.ensures.received
-    (λ r h.
+    if_ok_map c.receive_standing.result _ _ (λ o says r h.
     let mine = subst (λ s. StandsFor R S s r) (sym c.self.view_is) h in
     let reads : header_of r.state.transport.exts c.args.bytes.now ≡ Some x =
     ap (λ (s : SessionState). header_of s.transport.exts c.args.bytes.now) (sym mine.state) ∙ sym c.parse-read.ensures ∙ c.in-Some.is in
-    let repairs : repaired_by r.state.types r.rx r.originals x ≡ Some original =
-    ap (λ (s : SessionState). repaired_by s.types r.rx r.originals x) (sym mine.state)
-    ∙ sym (c.repaired_by.ensures.original (streams_in r) (streams_stand R S _ r mine)) ∙ ap (option_map (λ f. f.0)) c.in-Some-repaired_by.is in
-    (reads, repairs, there))
+    let stands : is_standing x.ssrc r.rx r.known.originals ≡ true =
+    sym (c.is_standing.ensures (streams_in r) (streams_stand R S _ r mine)) ∙ c.if-is_standing.true in
+    let k = says r h reads in
+    (k.0, received_standing g.C.SrtpCipher.meaning r c.args.bytes.now x reads stands c.args.now k.0 o k.1, k.2)) c.receive_standing.ensures.received
 
-pub returns-then-not-is_claimed-clause-received : goal.returns-then-not-is_claimed-clause-received
-returns-then-not-is_claimed-clause-received g c = λ r h.
+pub returns-then-is_nowhere-clause-received : goal.returns-then-is_nowhere-clause-received
+returns-then-is_nowhere-clause-received g c =
     let R = g.W.GapWindow.remembers in
     let S = g.S.ResendStore.stands_for in
-    let mine = subst (λ s. StandsFor R S s r) (sym c.self.view_is) h in
     let x = c.in-Some.header in
+    if_ok_map c.receive_padding.result _ _ (λ o says r h.
+    let mine = subst (λ s. StandsFor R S s r) (sym c.self.view_is) h in
     let reads : header_of r.state.transport.exts c.args.bytes.now ≡ Some x =
     ap (λ (s : SessionState). header_of s.transport.exts c.args.bytes.now) (sym mine.state) ∙ sym c.parse-read.ensures ∙ c.in-Some.is in
-    let plain : repaired_by r.state.types r.rx r.originals x ≡ None =
-    ap (λ (s : SessionState). repaired_by s.types r.rx r.originals x) (sym mine.state)
-    ∙ sym (c.repaired_by.ensures.original (streams_in r) (streams_stand R S _ r mine)) ∙ ap (option_map (λ f. f.0)) c.in_default-repaired_by.is in
-    let none : is_claimed r.state.types x ≡ false = ap (λ (s : SessionState). is_claimed s.types x) (sym mine.state) ∙ sym c.is_claimed.ensures ∙ c.if-not-is_claimed.true in
-    (r, stays (stays_unclaimed g.C.SrtpCipher.meaning r c.args.bytes.now x reads none) (packet_only g.C.SrtpCipher.meaning r c.args.bytes.now x reads plain), h)
+    let away : is_standing x.ssrc r.rx r.known.originals ≡ false =
+    sym (c.is_standing.ensures (streams_in r) (streams_stand R S _ r mine)) ∙ c.if-is_standing.false in
+    let nowhere : is_nowhere (mapped_in x r) ≡ true = sym (ap is_nowhere (c.map-mapping.ensures r h)) ∙ sym c.is_nowhere.ensures ∙ c.if-is_nowhere.true in
+    says r c.args.now h reads away nowhere) c.receive_padding.ensures.received
 
 pub returns-clause-received : goal.returns-clause-received
 returns-clause-received g c =
     let R = g.W.GapWindow.remembers in
     let S = g.S.ResendStore.stands_for in
     let x = c.in-Some.header in
-    received_of R S g.C.SrtpCipher.meaning c.receive_under.result c.args.bytes.now c.args.now
-    (λ r. header_of r.state.transport.exts c.args.bytes.now ≡ Some x) (λ r. repaired_by r.state.types r.rx r.originals x ≡ None) (λ r. is_claimed r.state.types x ≡ true)
-    c.args.self.now c.receive_under.new.self c.receive_under.ensures.received
-    (λ r h.
+    if_ok_map c.receive_mapped.result _ _ (λ o says r h.
     let mine = subst (λ s. StandsFor R S s r) (sym c.self.view_is) h in
     let reads : header_of r.state.transport.exts c.args.bytes.now ≡ Some x =
     ap (λ (s : SessionState). header_of s.transport.exts c.args.bytes.now) (sym mine.state) ∙ sym c.parse-read.ensures ∙ c.in-Some.is in
-    let plain : repaired_by r.state.types r.rx r.originals x ≡ None =
-    ap (λ (s : SessionState). repaired_by s.types r.rx r.originals x) (sym mine.state)
-    ∙ sym (c.repaired_by.ensures.original (streams_in r) (streams_stand R S _ r mine)) ∙ ap (option_map (λ f. f.0)) c.in_default-repaired_by.is in
-    let claimed : is_claimed r.state.types x ≡ true = ap (λ (s : SessionState). is_claimed s.types x) (sym mine.state) ∙ sym c.is_claimed.ensures ∙ c.if-not-is_claimed.false in
-    (reads, plain, claimed))
+    let away : is_standing x.ssrc r.rx r.known.originals ≡ false =
+    sym (c.is_standing.ensures (streams_in r) (streams_stand R S _ r mine)) ∙ c.if-is_standing.false in
+    says r h reads away (c.map-mapping.ensures r h) (sym c.is_nowhere.ensures ∙ c.if-is_nowhere.false)) c.receive_mapped.ensures.received

@@ -2,7 +2,7 @@ use Rattle.std.proofs.Common.{◌≡◌, ℕ, true, List, Some, None, length, dr
 use Rattle.std.specs.Prelude.{option_and_then}
 use Rattle.rtp_base.specs.declared.kind.Kind.TheVariants.{Rtp}
 use Rattle.stream_core.specs.Tables.{place_of, value_under}
-use Rattle.session_core.specs.Receiving.{Unpads, OpensIn, IsOpening, Receives, cut, repaired, stays, after_repair, after_restoring, after_repaired}
+use Rattle.session_core.specs.Receiving.{Unpads, OpensIn, IsOpening, Takes, cut, takes_repair, takes_nothing, after_repair, after_restoring, after_repaired}
 use Rattle.session_core.specs.Repairs.{repair_accepted}
 use Rattle.session_core.specs.SessionRecord.{streams_in, SessionState, SessionView, StandsFor}
 use Rattle.session_core.proofs.Others.{opening_kept}
@@ -29,7 +29,7 @@ returns-in_default-clause-received g c = λ r h reads repairs place.
     let x = c.args.header.now in
     let none : option_and_then (repair_accepted r.seen x) (value_under c.args.original r.rx) ≡ None =
     sym (c.in_default.ensures.number (streams_in r) r.seen c.args.original (streams_stand R S _ r mine) mine.seen here) in
-    (r, stays (repair_only g.C.SrtpCipher.meaning r c.args.bytes.now x reads c.args.original repairs) (repair_unaccepted g.C.SrtpCipher.meaning r c.args.bytes.now x reads c.args.original repairs none), h)
+    (r, takes_nothing (repair_only g.C.SrtpCipher.meaning r c.args.bytes.now x reads c.args.original repairs) (repair_unaccepted g.C.SrtpCipher.meaning r c.args.bytes.now x reads c.args.original repairs none), h)
 
 pub returns-in_default-2-clause-received : goal.returns-in_default-2-clause-received
 returns-in_default-2-clause-received g c = λ r h reads repairs place.
@@ -44,13 +44,13 @@ returns-in_default-2-clause-received g c = λ r h reads repairs place.
     sym (c.in-Some.ensures.number (streams_in r) r.seen c.args.original (streams_stand R S _ r mine) mine.seen here) in
     let none : (p : List ℕ) → OpensIn K.meaning c.self.inside.opening x n c.args.bytes.now p → Unpads x p → ⊥ = rw c.in_default-2.is at c.in_ok-opening.ensures.none in (
       r,
-      stays (repair_only K.meaning r c.args.bytes.now x reads c.args.original repairs)
+      takes_nothing (repair_only K.meaning r c.args.bytes.now x reads c.args.original repairs)
           (repair_sealed K.meaning r c.args.bytes.now x reads c.args.original repairs n number
           (subst (λ (s : SessionState). (p : List ℕ) → OpensIn K.meaning s.opening x n c.args.bytes.now p → Unpads x p → ⊥) mine.state none)),
       record {
         state = opening_kept _ r.state c.open.new.opening mine.state c.open.ensures.same;
         rx = mine.rx;
-        originals = mine.originals;
+        known = mine.known;
         probes = mine.probes;
         seen = mine.seen;
         repairs = mine.repairs;
@@ -76,7 +76,7 @@ returns-clause-received g c = λ r h reads repairs place.
     let kept : StandsFor R S _ r = record {
       state = opening_kept _ r.state c.open.new.opening mine.state c.open.ensures.same;
       rx = mine.rx;
-      originals = mine.originals;
+      known = mine.known;
       probes = mine.probes;
       seen = mine.seen;
       repairs = mine.repairs;
@@ -85,8 +85,8 @@ returns-clause-received g c = λ r h reads repairs place.
     let there : place_of original c.take_repair.new.self.rx ≡ Some c.args.place = ap (position (nat_eq original)) c.in_ok-take_repair.ensures.places ∙ here in
     let done = c.in_ok-restore_packet.ensures.ok (after_repair now x original n r) taken there in (
       after_repaired now x original n o.payload r,
-      subst (λ l. Receives K.meaning r c.args.bytes.now now (after_repaired now x original n o.payload r) (Some (record { kind = Rtp; ssrc = x.ssrc; index = n; plain = l }))) (sym o.whole)
-          (repaired x original n o.payload (record { reads = reads; repairs = repairs; accepts = number; opens = opens; unpads = o.unpads })),
+      subst (λ l. Takes K.meaning r c.args.bytes.now now (after_repaired now x original n o.payload r) (Some (record { kind = Rtp; ssrc = x.ssrc; index = n; plain = l }))) (sym o.whole)
+          (takes_repair x original n o.payload (record { reads = reads; repairs = repairs; accepts = number; opens = opens; unpads = o.unpads })),
       subst (λ l. StandsFor R S c.restore_packet.new.self (after_restoring now x original l (drop 2 (cut x o.payload)) (after_repair now x original n r))) o.number
           (subst (λ p. StandsFor R S c.restore_packet.new.self (after_restoring now x original c.in-Some-2.opening.original p (after_repair now x original n r))) o.cuts done),
     )

@@ -29,7 +29,7 @@ returns-in_default-clause-received g c = λ r h.
         rx = mine.rx;
         probes = mine.probes;
         seen = mine.seen;
-        originals = mine.originals;
+        known = mine.known;
         repairs = mine.repairs;
       },
     )
@@ -86,7 +86,7 @@ returns-clause-received g c = λ r h.
             (subst (λ (fs : List RtcpFb). Along R c.hear_senders.new.streams.rx (rx_heard now fs (measured c.to_ntp_duration-ntp.result c.last_delay-delay.result r.rx))) told_by reported.rx)));
         probes = mine.probes;
         seen = mine.seen;
-        originals = ap (λ (v : StreamsView g.row.W.Denot g.row.S.Denot). v.originals) c.hear-2.ensures.streams ∙ reported.originals;
+        known = ap (λ (v : StreamsView g.row.W.Denot g.row.S.Denot). v.known) c.hear-2.ensures.streams ∙ reported.known;
         repairs = subst (λ (v : StreamsView g.row.W.Denot g.row.S.Denot). Along (RepairsStandFor g.S.ResendStore.stands_for) v.repairs asked.0) (sym c.hear-2.ensures.streams) reported.repairs;
       },
     )

@@ -37,7 +37,7 @@ returns-clause-ok g c = λ r h place.
           (c.put_restored.ensures ∙ ap (λ o. packet_restored c.self.inside.types c.args.now c.args.header.now original c.args.payload o c.self.inside.packet) fresh);
       rx = subst (λ (a : Arrival). Along (StreamStandsFor R) c.restore_at.new.self.rx (change_at original (after_restored (seen_of original r.seen) a low) r.rx)) came
           (subst (λ o. Along (StreamStandsFor R) c.restore_at.new.self.rx (change_at original (after_restored o c.restored_arrival-came.result low) r.rx)) greatest after.rx);
-      originals = after.originals;
+      known = after.known;
       probes = mine.probes;
       seen = subst (λ o. SeenStandsFor c.put.new.self (option_map_or (λ n. saw original n r.seen) o r.seen)) number (c.in_ok-put.ensures.ok r.seen mine.seen);
       repairs = after.repairs;

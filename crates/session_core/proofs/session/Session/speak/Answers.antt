@@ -91,7 +91,7 @@ returns-clause-ok g c = λ r h.
       rx =
           subst (λ (v : StreamsView g.row.W.Denot g.row.S.Denot). Along (RxStandsFor m) v.rx (incoming_after (tick_of now r) r.rx)) (sym told)
           (subst (λ (t : Tick). Along (RxStandsFor m) between.rx (incoming_after t r.rx)) tick said.0.rx);
-      originals = ap (λ (v : StreamsView g.row.W.Denot g.row.S.Denot). v.originals) told ∙ said.0.originals;
+      known = ap (λ (v : StreamsView g.row.W.Denot g.row.S.Denot). v.known) told ∙ said.0.known;
       repairs = subst (λ (v : StreamsView g.row.W.Denot g.row.S.Denot). Along (RepairsStandFor g.S.ResendStore.stands_for) v.repairs r.repairs) (sym told) said.0.repairs;
       probes = mine.probes;
       seen = mine.seen;

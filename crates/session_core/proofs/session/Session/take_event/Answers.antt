@@ -30,7 +30,7 @@ returns-in-Some-clause-more g c = λ r h.
             rx = mine.rx;
             probes = mine.probes;
             seen = mine.seen;
-            originals = mine.originals;
+            known = mine.known;
             repairs = mine.repairs;
           }),
       taken_one c.args.sofar.now.items c.push_reserved.new.self.items (event.AppSpecificFeedback c.in-Some.feedback) r (after_event r) step.0 c.push_reserved.ensures.items,
@@ -54,7 +54,7 @@ returns-in-Some-poll_stream_paused-clause-more g c = λ r h.
             rx = (c.poll_stream_paused.ensures.after (streams_in r) (streams_stand m g.S.ResendStore.stands_for _ r mine)).rx;
             probes = mine.probes;
             seen = mine.seen;
-            originals = (c.poll_stream_paused.ensures.after (streams_in r) (streams_stand m g.S.ResendStore.stands_for _ r mine)).originals;
+            known = (c.poll_stream_paused.ensures.after (streams_in r) (streams_stand m g.S.ResendStore.stands_for _ r mine)).known;
             repairs = (c.poll_stream_paused.ensures.after (streams_in r) (streams_stand m g.S.ResendStore.stands_for _ r mine)).repairs;
           }),
       taken_one c.args.sofar.now.items c.push_reserved-in-Some-poll_stream_paused.new.self.items (event.StreamPaused c.in-Some-poll_stream_paused.paused) r (after_event r) step.0 c.push_reserved-in-Some-poll_stream_paused.ensures.items,
@@ -79,7 +79,7 @@ returns-in-Some-take-clause-more g c = elim (is_either c.is_empty.result) [
           rx = subst (λ (v : StreamsView g.row.W.Denot g.row.S.Denot). Along (RxStandsFor m) v.rx r.rx) (sym c.in_default-poll_stream_paused.ensures.none) mine.rx;
           probes = mine.probes;
           seen = mine.seen;
-          originals = (c.poll_stream_paused.ensures.after (streams_in r) (streams_stand m g.S.ResendStore.stands_for _ r mine)).originals;
+          known = (c.poll_stream_paused.ensures.after (streams_in r) (streams_stand m g.S.ResendStore.stands_for _ r mine)).known;
           repairs = (c.poll_stream_paused.ensures.after (streams_in r) (streams_stand m g.S.ResendStore.stands_for _ r mine)).repairs;
         },
         taken_one c.args.sofar.now.items c.push_reserved-in-Some-take.new.self.items (event.RtpPacket c.in-Some-take.packet) r (emptied r) step.0 c.push_reserved-in-Some-take.ensures.items,
@@ -107,7 +107,7 @@ returns-in-Some-take-clause-last g c = elim (is_either c.is_empty.result) [
               rx = subst (λ (v : StreamsView g.row.W.Denot g.row.S.Denot). Along (RxStandsFor m) v.rx r.rx) (sym c.in_default-poll_stream_paused.ensures.none) mine.rx;
               probes = mine.probes;
               seen = mine.seen;
-              originals = (c.poll_stream_paused.ensures.after (streams_in r) (streams_stand m g.S.ResendStore.stands_for _ r mine)).originals;
+              known = (c.poll_stream_paused.ensures.after (streams_in r) (streams_stand m g.S.ResendStore.stands_for _ r mine)).known;
               repairs = (c.poll_stream_paused.ensures.after (streams_in r) (streams_stand m g.S.ResendStore.stands_for _ r mine)).repairs;
             }),
       ))
@@ -140,7 +140,7 @@ returns-in_default-next-clause-last g c = λ r h.
             rx = subst (λ (v : StreamsView g.row.W.Denot g.row.S.Denot). Along (RxStandsFor m) v.rx r.rx) (sym c.in_default-poll_stream_paused.ensures.none) mine.rx;
             probes = mine.probes;
             seen = mine.seen;
-            originals = (c.poll_stream_paused.ensures.after (streams_in r) (streams_stand m g.S.ResendStore.stands_for _ r mine)).originals;
+            known = (c.poll_stream_paused.ensures.after (streams_in r) (streams_stand m g.S.ResendStore.stands_for _ r mine)).known;
             repairs = (c.poll_stream_paused.ensures.after (streams_in r) (streams_stand m g.S.ResendStore.stands_for _ r mine)).repairs;
           }),
     )
@@ -162,7 +162,7 @@ returns-clause-more g c = λ r h.
         rx = subst (λ (v : StreamsView g.row.W.Denot g.row.S.Denot). Along (RxStandsFor m) v.rx r.rx) (sym c.in_default-poll_stream_paused.ensures.none) mine.rx;
         probes = mine.probes;
         seen = mine.seen;
-        originals = (c.poll_stream_paused.ensures.after (streams_in r) (streams_stand m g.S.ResendStore.stands_for _ r mine)).originals;
+        known = (c.poll_stream_paused.ensures.after (streams_in r) (streams_stand m g.S.ResendStore.stands_for _ r mine)).known;
         repairs = (c.poll_stream_paused.ensures.after (streams_in r) (streams_stand m g.S.ResendStore.stands_for _ r mine)).repairs;
       },
       taken_one c.args.sofar.now.items c.push_reserved-2.new.self.items c.in-Some-next.event r (newer r) step.0 c.push_reserved-2.ensures.items,

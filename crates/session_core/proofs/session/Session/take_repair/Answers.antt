@@ -19,7 +19,7 @@ returns-clause-ok g c = λ r original h place.
     record {
       state = streams_kept _ r.state c.take_repair_at.new.self.threshold c.take_repair_at.new.self.tx mine.state c.take_repair_at.ensures.threshold c.take_repair_at.ensures.tx;
       rx = subst (λ o. Along (StreamStandsFor R) c.take_repair_at.new.self.rx (change_at original (repair_came o c.args.now c.args.number) r.rx)) greatest taken.rx;
-      originals = taken.originals;
+      known = taken.known;
       probes = mine.probes;
       seen = c.in_ok-put.ensures.ok r.seen mine.seen;
       repairs = taken.repairs;

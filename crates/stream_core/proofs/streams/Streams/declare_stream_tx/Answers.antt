@@ -10,7 +10,7 @@ returns-in_ok-add_both-in-Some-clause-ok g c = λ r h.
     let mid = c.args.mid_rid.0 in
     let rid = c.args.mid_rid.1 in
     let put = said.one ∙ ap (λ (x : TxRecord). c.self.inside.tx ++ (c.args.ssrc, x) ∷ []) c.new-stream.ensures in
-    let view : StreamsView g.row.W.Denot g.row.S.Denot = record { threshold = c.self.inside.pause_threshold; rx = c.self.inside.rx; originals = c.self.inside.originals; tx = c.add_both.new.one; repairs = c.add_both.new.other } in
+    let view : StreamsView g.row.W.Denot g.row.S.Denot = record { threshold = c.self.inside.pause_threshold; rx = c.self.inside.rx; known = c.self.inside.known; tx = c.add_both.new.one; repairs = c.add_both.new.other } in
     subst (λ o. StandsFor g.W.GapWindow.remembers g.S.ResendStore.stands_for view (with_stream_tx c.args.ssrc o mid rid r)) (sym c.in-Some.is)
     (tx_new g.W.GapWindow.remembers g.S.ResendStore.stands_for c.args.self.now _ c.self.view_is c.args.ssrc c.in-Some.start mid rid
     c.in_ok-repairs-in-Some.repairs c.add_both.new.one c.add_both.new.other (sym (ap is_some c.place.ensures.place) ∙ sym c.is_some.ensures ∙ c.if-is_some.false)

@@ -6,7 +6,7 @@ use Rattle.stream_core.proofs.streams.Streams.handle_nack.Goals as goal
 pub returns-in_err-handle_nack-in-Some-clause-err : goal.returns-in_err-handle_nack-in-Some-clause-err
 returns-in_err-handle_nack-in-Some-clause-err g c =
     let same = set_same c.self.inside.repairs c.in-Some.at c.at_mut.result.now c.handle_nack.new.self c.at_mut.ensures.value c.in_err-handle_nack-in-Some.ensures.err in
-    on_err c.from_residual.result _ ((λ j. record { threshold = c.self.inside.pause_threshold; rx = c.self.inside.rx; originals = c.self.inside.originals; tx = c.self.inside.tx; repairs = same j }) ∙ c.self.view_is)
+    on_err c.from_residual.result _ ((λ j. record { threshold = c.self.inside.pause_threshold; rx = c.self.inside.rx; known = c.self.inside.known; tx = c.self.inside.tx; repairs = same j }) ∙ c.self.view_is)
 
 pub returns-in_ok-handle_nack-in-Some-clause-ok : goal.returns-in_ok-handle_nack-in-Some-clause-ok
 returns-in_ok-handle_nack-in-Some-clause-ok g c =

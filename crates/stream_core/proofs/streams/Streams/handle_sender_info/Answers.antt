@@ -30,7 +30,7 @@ returns-in_default-clause-heard g c = λ r h.
     ap (λ (v : StreamsView g.row.W.Denot g.row.S.Denot). place_of c.args.info.now.ssrc v.rx) (sym c.self.view_is) ∙ sym c.place.ensures.place ∙ c.in_default.is in
     record {
       threshold = h.threshold;
-      originals = h.originals;
+      known = h.known;
       rx = change_at_none (RxStandsFor g.W.GapWindow.remembers) c.args.self.now.rx r.rx c.args.info.now.ssrc (on_record (with_news c.args.info.now c.args.now)) h.rx none;
       tx = h.tx;
       repairs = h.repairs;

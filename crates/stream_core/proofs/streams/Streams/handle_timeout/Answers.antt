@@ -14,7 +14,7 @@ returns-clause-streams g c = λ r h.
     let mine = subst (λ s. StandsFor m g.S.ResendStore.stands_for s r) (sym c.self.view_is) h in
     record {
       threshold = mine.threshold;
-      originals = mine.originals;
+      known = mine.known;
       rx = subst (λ (l : List (ℕ × RxView g.row.W.Denot)). Along (RxStandsFor m) l (each (on_record (checked c.args.now)) r.rx)) (sym c.check_all.ensures)
           (states_along m (checked c.args.now) c.self.inside.rx r.rx mine.rx);
       tx = c.tick_all.ensures ∙ ap (λ (l : List (ℕ × TxRecord)). each (after_timeout c.args.now) l) mine.tx;

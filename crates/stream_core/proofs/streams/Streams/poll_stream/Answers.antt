@@ -37,7 +37,7 @@ returns-in-Some-clause-exhausted g c = λ e.
     let last = c.poll_both.ensures.exhausted e in
     let tx = set_same c.self.inside.tx c.args.place c.at_mut-stream.result.now c.poll_both.new.stream c.at_mut-stream.ensures.value last.0 in
     let repairs = set_same c.self.inside.repairs _ c.at_mut-repairs.result.now c.poll_both.new.repairs c.at_mut-repairs.ensures.value last.1 in (
-      (λ j. record { threshold = c.self.inside.pause_threshold; rx = c.self.inside.rx; originals = c.self.inside.originals; tx = tx j; repairs = repairs j }) ∙ c.self.view_is,
+      (λ j. record { threshold = c.self.inside.pause_threshold; rx = c.self.inside.rx; known = c.self.inside.known; tx = tx j; repairs = repairs j }) ∙ c.self.view_is,
       used_there g.W.GapWindow.remembers g.S.ResendStore.stands_for c.args.self.now _ c.self.view_is c.args.types.now c.args.transport.now c.args.now c.args.place
           c.at_mut-stream.result.now c.at_mut-stream.ensures.value _ _ c.at_mut-repairs.result.now f.0 f.1 c.at_mut-repairs.ensures.value last.2,
     )

@@ -23,7 +23,7 @@ returns-in_default-clause-after g c = λ r h.
     let none : first_where view_untold c.self.inside.rx ≡ None = sym c.first_untold.ensures.place ∙ c.in_default.is in
     record {
       threshold = mine.threshold;
-      originals = mine.originals;
+      known = mine.known;
       rx = subst (λ (l : List (ℕ × RxRecord)). Along (RxStandsFor m) c.self.inside.rx l) (sym (nothing_told m c.self.inside.rx r.rx mine.rx none).1) mine.rx;
       tx = mine.tx;
       repairs = mine.repairs;
@@ -48,7 +48,7 @@ returns-clause-after g c = λ r h.
     let first : first_where view_untold c.self.inside.rx ≡ Some c.in-Some.place = sym c.first_untold.ensures.place ∙ c.in-Some.is in
     record {
       threshold = mine.threshold;
-      originals = mine.originals;
+      known = mine.known;
       rx = after_next m c.self.inside.rx r.rx mine.rx c.in-Some.place c.at_mut.result.now first c.at_mut.ensures.value c.poll_paused.new.self c.poll_paused.ensures.after;
       tx = mine.tx;
       repairs = mine.repairs;

@@ -7,7 +7,7 @@ use Rattle.stream_core.proofs.streams.Streams.set_rtx_cache.Goals as goal
 pub returns-in_err-set_rtx_cache-in-Some-clause-err : goal.returns-in_err-set_rtx_cache-in-Some-clause-err
 returns-in_err-set_rtx_cache-in-Some-clause-err g c =
     let same = set_same c.self.inside.repairs c.in-Some.at c.at_mut.result.now c.set_rtx_cache.new.self c.at_mut.ensures.value c.in_err-set_rtx_cache-in-Some.ensures.err in
-    on_err c.from_residual.result _ ((λ j. record { threshold = c.self.inside.pause_threshold; rx = c.self.inside.rx; originals = c.self.inside.originals; tx = c.self.inside.tx; repairs = same j }) ∙ c.self.view_is)
+    on_err c.from_residual.result _ ((λ j. record { threshold = c.self.inside.pause_threshold; rx = c.self.inside.rx; known = c.self.inside.known; tx = c.self.inside.tx; repairs = same j }) ∙ c.self.view_is)
 
 pub returns-in_ok-set_rtx_cache-in-Some-clause-ok : goal.returns-in_ok-set_rtx_cache-in-Some-clause-ok
 returns-in_ok-set_rtx_cache-in-Some-clause-ok g c =

@@ -13,7 +13,7 @@ returns-clause-streams g c = λ r h.
     let mine = subst (λ s. StandsFor m g.S.ResendStore.stands_for s r) (sym c.self.view_is) h in
     record {
       threshold = mine.threshold;
-      originals = mine.originals;
+      known = mine.known;
       rx = subst (λ (l : List (ℕ × RxView g.row.W.Denot)). Along (RxStandsFor m) l (each (on_record (with_trip c.args.trip)) r.rx)) (sym c.set_trips.ensures)
           (states_along m (with_trip c.args.trip) c.self.inside.rx r.rx mine.rx);
       tx = mine.tx;
