@@ -121,7 +121,7 @@ impl<C: SrtpCipher, W: GapWindow, S: ResendStore<Sent>> Session<C, W, S> {
         ensures runs { self.new.state.stopped ≡ self.old.state.stopped }
         ensures err { OnErr result (self.new ≡ record self.old { rx = self.new.rx; known = self.new.known; probes = self.new.probes; seen = self.new.seen }) }
     {
-        let Some((number, repair)) = first_opening(
+        let Some(found) = first_opening(
             &self.types,
             &self.streams,
             &self.seen,
@@ -130,7 +130,15 @@ impl<C: SrtpCipher, W: GapWindow, S: ResendStore<Sent>> Session<C, W, S> {
         ) else {
             return Ok(None);
         };
-        let Some(opening) = open(self.alloc, &mut self.opening, bytes, header, number, repair)?
+        let number = found.0;
+        let Some(opening) = open(
+            self.alloc,
+            &mut self.opening,
+            bytes,
+            header,
+            number,
+            found.1,
+        )?
         else {
             return Ok(None);
         };
@@ -168,17 +176,13 @@ impl<C: SrtpCipher, W: GapWindow, S: ResendStore<Sent>> Session<C, W, S> {
         ensures runs { self.new.state.stopped ≡ self.old.state.stopped }
         ensures err { OnErr result (self.new ≡ record self.old { rx = self.new.rx; probes = self.new.probes; seen = self.new.seen }) }
     {
-        match repaired_by(&self.types, &self.streams, header) {
-            Some((original, place)) => {
-                self.take_repair(now, header, place, number)?;
-                self.restore_packet(now, header, original, place, low, payload)
-            }
-            None => {
-                let place = self.streams.rx_place(header.ssrc);
-                let remembered = self.seen.get(header.ssrc);
-                self.take_packet(now, header, place, number, &remembered, payload)
-            }
+        if let Some(found) = repaired_by(&self.types, &self.streams, header) {
+            self.take_repair(now, header, found.1, number)?;
+            return self.restore_packet(now, header, found.0, found.1, low, payload);
         }
+        let place = self.streams.rx_place(header.ssrc);
+        let remembered = self.seen.get(header.ssrc);
+        self.take_packet(now, header, place, number, &remembered, payload)
     }
 
     /// Takes in a datagram that begins with this header, of an SSRC that stays unknown: it opens as padding of
