@@ -121,13 +121,8 @@ impl<C: SrtpCipher, W: GapWindow, S: ResendStore<Sent>> Session<C, W, S> {
         ensures runs { self.new.state.stopped ≡ self.old.state.stopped }
         ensures err { OnErr result (self.new ≡ record self.old { rx = self.new.rx; known = self.new.known; probes = self.new.probes; seen = self.new.seen }) }
     {
-        let Some(found) = first_opening(
-            &self.types,
-            &self.streams,
-            &self.seen,
-            header,
-            mapping,
-        ) else {
+        let Some(found) = first_opening(&self.types, &self.streams, &self.seen, header, mapping)
+        else {
             return Ok(None);
         };
         let number = found.0;

@@ -1,10 +1,10 @@
-use Rattle.std.proofs.Common.{◌≡◌, ℕ, false, true, List, Option, Some, None, Ok, Err, is_some, drop, length, nat_eq, position, refl, sym, ap, subst, ◌∙◌, arith}
+use Rattle.std.proofs.Common.{◌≡◌, ℕ, false, true, Option, Some, None, Ok, Err, is_some, drop, length, nat_eq, position, refl, sym, ap, subst, ◌∙◌, arith}
 use Rattle.std.specs.Prelude.{◌==◌, is_none, Result, OnOk, IfSome}
 use Rattle.std.specs.Option.{option_map}
 use Rattle.stream_core.specs.Tables.{place_of}
 use Rattle.session_core.specs.Receiving.{cut, after_repair, after_restoring, after_repaired}
-use Rattle.session_core.specs.Repairs.{repaired_by, original_number}
-use Rattle.session_core.specs.SessionRecord.{streams_in, SessionState, SessionRecord, SessionView, StandsFor}
+use Rattle.session_core.specs.Repairs.{repaired_by}
+use Rattle.session_core.specs.SessionRecord.{streams_in, SessionState, SessionView, StandsFor}
 use Rattle.session_core.proofs.StreamsIn.{streams_stand}
 use Rattle.session_core.proofs.Tables.{length_keys}
 use Rattle.session_core.proofs.session.Session.take_in.Goals as goal
