@@ -126,14 +126,8 @@ impl<C: SrtpCipher, W: GapWindow, S: ResendStore<Sent>> Session<C, W, S> {
             return Ok(None);
         };
         let number = found.0;
-        let Some(opening) = open(
-            self.alloc,
-            &mut self.opening,
-            bytes,
-            header,
-            number,
-            found.1,
-        )?
+        let repair = found.1;
+        let Some(opening) = open(self.alloc, &mut self.opening, bytes, header, number, repair)?
         else {
             return Ok(None);
         };
