@@ -44,21 +44,33 @@ fn datagram(alloc: Global, size: usize) -> Result<Vec<u8>, AllocError> {
     Ok(bytes)
 }
 
-// Seals the datagram; tells a byte of it.
+// The datagram sealed under its number.
 fn seal_one(
+    alloc: Global,
+    context: &mut SrtpContext<ToyCipher>,
+    plain: &[u8],
+    header: &RtpHeader,
+) -> Result<Vec<u8>, AllocError> {
+    if header.header_len > plain.len() {
+        return Ok(Vec::new(alloc));
+    }
+    context.protect_rtp(plain, header, u64::from(header.sequence_number))
+}
+
+// Seals the datagram; tells the last byte of the seal.
+fn seal_next(
+    alloc: Global,
     context: &mut SrtpContext<ToyCipher>,
     plain: &[u8],
     header: &RtpHeader,
 ) -> Result<u64, AllocError> {
-    if header.header_len > plain.len() {
-        return Ok(0);
-    }
-    let sealed = context.protect_rtp(plain, header, u64::from(header.sequence_number))?;
+    let sealed = seal_one(alloc, context, plain, header)?;
     Ok(u64::from(sealed.last().copied().unwrap_or(0)))
 }
 
 // Seals the datagram so often; tells the sum of a byte of each seal.
 fn seal_all(
+    alloc: Global,
     context: &mut SrtpContext<ToyCipher>,
     plain: &[u8],
     header: &RtpHeader,
@@ -66,14 +78,14 @@ fn seal_all(
 ) -> Result<u64, AllocError> {
     let mut sum: u64 = 0;
     for _i in 0..count {
-        sum = sum.wrapping_add(seal_one(context, plain, header)?);
+        sum = sum.wrapping_add(seal_next(alloc, context, plain, header)?);
     }
     Ok(sum)
 }
 
 fn seal(alloc: Global, plain: &[u8], header: &RtpHeader, count: u64) -> Result<u64, AllocError> {
     let mut context = context(alloc)?;
-    seal_all(&mut context, plain, header, count)
+    seal_all(alloc, &mut context, plain, header, count)
 }
 
 // Opens the datagram; tells how many bytes that gave.
@@ -103,13 +115,10 @@ fn open(alloc: Global, sealed: &[u8], header: &RtpHeader, count: u64) -> Result<
     Ok(open_all(&mut context, sealed, header, count))
 }
 
-// The datagram sealed under its number.
+// The datagram sealed by a context of its own.
 fn sealed(alloc: Global, plain: &[u8], header: &RtpHeader) -> Result<Vec<u8>, AllocError> {
-    if header.header_len > plain.len() {
-        return Ok(Vec::new(alloc));
-    }
     let mut context = context(alloc)?;
-    context.protect_rtp(plain, header, u64::from(header.sequence_number))
+    seal_one(alloc, &mut context, plain, header)
 }
 
 // Seals the datagram, and opens it so often.
