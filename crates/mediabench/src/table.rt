@@ -1,13 +1,15 @@
 // The table of rows.
-use crate::ciphers::CipherWork;
-use crate::compounds::CompoundWork;
-use crate::feedback::FeedbackWork;
-use crate::headers::HeaderWork;
-use crate::pacing::PacerWork;
-use crate::queues;
-use crate::registers::{Numbers, RegisterWork};
-use crate::sessions::SessionWork;
-use crate::stores::{CacheWork, Packet, StoreWork};
+use crate::runs::{LINE, LOSSY_4, LOSSY_1200, PLAIN_4, PLAIN_1200, Script, ScriptWork};
+use bench_rounds::ciphers::CipherWork;
+use bench_rounds::compounds::CompoundWork;
+use bench_rounds::feedback::FeedbackWork;
+use bench_rounds::headers::HeaderWork;
+use bench_rounds::pacing::PacerWork;
+use bench_rounds::registers::{Numbers, RegisterWork};
+use bench_rounds::stores::{CacheWork, Packet, StoreWork};
+use bench_rounds::texts::TextWork;
+use bench_sessions::queues;
+use bench_sessions::sessions::SessionWork;
 use mask_register::MaskRegister;
 use queue_store::QueueStore;
 use repair_core::NackRegister;
@@ -43,6 +45,10 @@ pub enum Work {
     Waiting,
     /// Calls of sessions.
     Session(SessionWork),
+    /// Text of scripts and transcripts.
+    Text(TextWork),
+    /// Scripts read and played, and the text of their runs.
+    Script(ScriptWork, Script),
 }
 
 impl Work {
@@ -63,6 +69,8 @@ impl Work {
             Work::Rtcp(work) => work.play(alloc, count),
             Work::Waiting => queues::pass_all(alloc, count),
             Work::Session(work) => work.play(alloc, count),
+            Work::Text(work) => work.play(alloc, count),
+            Work::Script(work, script) => work.play(alloc, script, count),
         }
     }
 }
@@ -79,7 +87,7 @@ pub struct Row {
 }
 
 /// The rows, in the order in which they are timed.
-pub const ROWS: [Row; 61] = [
+pub const ROWS: [Row; 74] = [
     Row {
         name: "take-in-order-slots",
         work: Work::Slots(RegisterWork::Take(Numbers::InOrder)),
@@ -384,5 +392,70 @@ pub const ROWS: [Row; 61] = [
         name: "session-repair-1200",
         work: Work::Session(SessionWork::Repair(1_200)),
         count: 50_000,
+    },
+    Row {
+        name: "hex-text-1200",
+        work: Work::Text(TextWork::Hex(1_200)),
+        count: 100_000,
+    },
+    Row {
+        name: "next-space-2480",
+        work: Work::Text(TextWork::Space(2_480)),
+        count: 400_000,
+    },
+    Row {
+        name: "script-line-2480",
+        work: Work::Script(ScriptWork::Read, LINE),
+        count: 20_000,
+    },
+    Row {
+        name: "script-read-4",
+        work: Work::Script(ScriptWork::Read, PLAIN_4),
+        count: 100,
+    },
+    Row {
+        name: "script-read-1200",
+        work: Work::Script(ScriptWork::Read, PLAIN_1200),
+        count: 100,
+    },
+    Row {
+        name: "run-play-4",
+        work: Work::Script(ScriptWork::Play, PLAIN_4),
+        count: 100,
+    },
+    Row {
+        name: "run-play-1200",
+        work: Work::Script(ScriptWork::Play, PLAIN_1200),
+        count: 100,
+    },
+    Row {
+        name: "run-repair-4",
+        work: Work::Script(ScriptWork::Play, LOSSY_4),
+        count: 100,
+    },
+    Row {
+        name: "run-repair-1200",
+        work: Work::Script(ScriptWork::Play, LOSSY_1200),
+        count: 100,
+    },
+    Row {
+        name: "run-text-4",
+        work: Work::Script(ScriptWork::Write, PLAIN_4),
+        count: 100,
+    },
+    Row {
+        name: "run-text-1200",
+        work: Work::Script(ScriptWork::Write, PLAIN_1200),
+        count: 100,
+    },
+    Row {
+        name: "run-widen-4",
+        work: Work::Script(ScriptWork::Widen, LOSSY_4),
+        count: 100,
+    },
+    Row {
+        name: "run-widen-1200",
+        work: Work::Script(ScriptWork::Widen, LOSSY_1200),
+        count: 100,
     },
 ];
