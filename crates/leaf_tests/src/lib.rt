@@ -1,9 +1,13 @@
-//! The tests of numbers, headers, registers and stores: worked values of the standards, and each public call that
-//! takes memory once with enough of it. What a clause says is not tested.
+//! The tests of numbers, headers, registers, stores and mapped streams: worked values of the standards, and each
+//! public call that takes memory once with enough of it. What a clause says is not tested.
 #![tactic(auto)]
 
 #[cfg(test)]
 mod bytes;
+#[cfg(test)]
+mod drawn_ssrcs;
+#[cfg(test)]
+mod mapped_streams;
 #[cfg(test)]
 mod repairs;
 #[cfg(test)]

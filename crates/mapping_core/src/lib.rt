@@ -11,8 +11,6 @@ mod rids;
 mod rules;
 mod stream;
 mod streams;
-#[cfg(test)]
-mod tests;
 
 pub use claim::TypeClaim;
 pub use draw::{SSRC_DRAWS, SsrcError, UsedSsrcs, new_ssrc_pair};

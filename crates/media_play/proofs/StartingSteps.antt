@@ -1,7 +1,7 @@
 -- A session that begins: with keys, with media sections, with streams.
 use Rattle.std.proofs.Common.{◌≡◌, inl, inr, ℕ, Bool, true, false, not, List, [], ◌∷◌, ◌++◌, map, Option, Some, None, is_some, refl, sym, ap, ◌∙◌, subst, ◌<◌, ◌≤◌, ◌^◌}
 use Rattle.std.specs.Prelude.{option_to_list, if◌then◌else◌, is_none}
-use Rattle.std.specs.List.{AllZip, flat_map}
+use Rattle.std.specs.List.{AllByRecursion, AllZip, flat_map}
 use Rattle.std.specs.Map.{keys_of}
 use Rattle.std.specs.Option.{option_map}
 use Rattle.std.proofs.lemmas.List.{append-nil}
@@ -19,7 +19,7 @@ use Rattle.mapping_core.specs.Streams.{fresh, is_main, with_stream}
 use Rattle.mapping_core.specs.declared.stream.IncomingStream.{IncomingStream}
 use Rattle.stream_core.specs.Known.{KnownRecord}
 use Rattle.stream_core.specs.StreamsRecord.{StreamsRecord, StandsFor as StreamsStandFor, first_known, with_first, with_original, with_stream_tx, with_stream_rx}
-use Rattle.stream_core.specs.Tables.{with_new, change_at}
+use Rattle.stream_core.specs.Tables.{place_of, with_new, change_at}
 use Rattle.stream_core.specs.TxRecord.{TxRecord, declared}
 use Rattle.media_play.specs.Ends.{EndSession, EndStreams, SessionStands}
 use Rattle.session_core.specs.declared.config.SessionConfig.{SessionConfig}

@@ -85,18 +85,10 @@ padding_some : {I : Type 0} (o : Option (Option (Arrival I))) → is_padding o �
 padding_some None e = absurd cc
 padding_some (Some o) e = refl
 
-packet_some : {I : Type 0} (o : Option (Option (Arrival I))) → is_some (packet_of o) ≡ true → is_some o ≡ true
-packet_some None e = absurd cc
-packet_some (Some o) e = refl
-
 nothing_pushed : {I : Type 0} (o : Option (Option (Arrival I))) → is_some (packet_of o) ≡ false → is_padding o ≡ false → o ≡ None
 nothing_pushed None e f = refl
 nothing_pushed (Some None) e f = absurd cc
 nothing_pushed (Some (Some a)) e f = absurd cc
-
-is_none : {A : Type 0} (o : Option A) → is_some o ≡ false → o ≡ None
-is_none None e = refl
-is_none (Some x) e = absurd cc
 
 packet_not_padding : {I : Type 0} (o : Option (Option (Arrival I))) → is_padding o ≡ true → packet_of o ≡ None
 packet_not_padding None e = absurd cc

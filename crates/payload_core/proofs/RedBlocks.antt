@@ -12,15 +12,6 @@ pub record IsRead (front : List Block) (left : ℕ) (head rest : List ℕ) (all 
   pub so_far : option_map (λ later. front ++ later) (blocks_from left head rest) ≡ all
   pub headed : 4 * left + 1 ≤ length head
 
-none_before : (o : Option (List Block)) → option_map (λ later. [] ++ later) o ≡ o
-none_before None = refl
-none_before (Some later) = refl
-
-pub read_starts : (count : ℕ) (heads payloads : List ℕ) → 4 * count + 1 ≤ length heads → IsRead [] (count - 0) heads payloads (blocks_from count heads payloads)
-read_starts count heads payloads long =
-    let e : count - 0 ≡ count = omega arith in
-    rw e (record { so_far = none_before (blocks_from count heads payloads); headed = long })
-
 regroup : (front : List Block) (b : Block) (o : Option (List Block)) → option_map (λ later. (front ++ b ∷ []) ++ later) o ≡ option_map (λ later. front ++ later) (option_map (λ later. b ∷ later) o)
 regroup front b None = refl
 regroup front b (Some later) = ap Some (append_assoc front (b ∷ []) later)

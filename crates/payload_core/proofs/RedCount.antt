@@ -1,5 +1,5 @@
 -- The loop that counts the redundant blocks.
-use Rattle.std.proofs.Common.{◌≡◌, ℕ, suc, ◌+◌, ◌*◌, ◌<◌, ◌≤◌, List, [], ◌∷◌, length, drop, get_or, Option, Some, None, refl, sym, ap, ◌∙◌, arith, ltb, true, false}
+use Rattle.std.proofs.Common.{◌≡◌, ℕ, suc, ◌+◌, ◌*◌, ◌<◌, ◌≤◌, List, [], ◌∷◌, length, drop, get_or, Option, Some, None, refl, ap, ◌∙◌, arith, ltb, true, false}
 use Rattle.std.specs.Option.{option_map}
 use Rattle.std.proofs.lemmas.Bool.{lt-ltb, le-ltb}
 use Rattle.payload_core.specs.Red.{redundant_count}
@@ -9,30 +9,12 @@ pub record IsCounted (count : ℕ) (rest bytes : List ℕ) : Type 0 where
   pub so_far : option_map (λ k. k + count) (redundant_count rest) ≡ redundant_count bytes
   pub passed : length rest + 4 * count ≤ length bytes
 
-same : (o : Option ℕ) → option_map (λ k. k + 0) o ≡ o
-same None = refl
-same (Some k) = let e : k + 0 ≡ k = omega arith in ap Some e
-
-pub count_starts : (bytes : List ℕ) → IsCounted 0 bytes bytes
-count_starts bytes = record { so_far = same (redundant_count bytes); passed = omega arith }
-
-pub count_nothing : (rest : List ℕ) → length rest ≡ 0 → redundant_count rest ≡ None
-count_nothing [] e = refl
-count_nothing (b ∷ rest) e = absurd (omega arith)
-
 pub count_here : (rest : List ℕ) → 0 < length rest → get_or rest 0 0 < 128 → redundant_count rest ≡ Some 0
 count_here [] lt low = absurd (omega arith)
 count_here (b ∷ []) lt low = let t : ltb b 128 ≡ true = lt-ltb _ _ low in rw t refl
 count_here (b ∷ c ∷ []) lt low = let t : ltb b 128 ≡ true = lt-ltb _ _ low in rw t refl
 count_here (b ∷ c ∷ d ∷ []) lt low = let t : ltb b 128 ≡ true = lt-ltb _ _ low in rw t refl
 count_here (b ∷ c ∷ d ∷ e ∷ rest) lt low = let t : ltb b 128 ≡ true = lt-ltb _ _ low in rw t refl
-
-pub count_cut : (rest : List ℕ) → length rest < 4 → 128 ≤ get_or rest 0 0 → redundant_count rest ≡ None
-count_cut [] lt high = refl
-count_cut (b ∷ []) lt high = let t : ltb b 128 ≡ false = le-ltb _ _ high in rw t refl
-count_cut (b ∷ c ∷ []) lt high = let t : ltb b 128 ≡ false = le-ltb _ _ high in rw t refl
-count_cut (b ∷ c ∷ d ∷ []) lt high = let t : ltb b 128 ≡ false = le-ltb _ _ high in rw t refl
-count_cut (b ∷ c ∷ d ∷ e ∷ rest) lt high = absurd (omega arith)
 
 pub count_next : (rest : List ℕ) → 4 ≤ length rest → 128 ≤ get_or rest 0 0 → redundant_count rest ≡ option_map suc (redundant_count (drop 4 rest))
 count_next [] le high = absurd (omega arith)
@@ -53,14 +35,3 @@ count_more count rest after bytes le high e len so = record {
       regroup count (redundant_count after) ∙ (rw next at so.so_far);
   passed = omega (arith, so.passed);
 }
-
-pub count_found : (count : ℕ) (rest bytes : List ℕ) → 0 < length rest → get_or rest 0 0 < 128 → IsCounted count rest bytes → redundant_count bytes ≡ Some count
-count_found count rest bytes lt low so =
-    let e : 0 + count ≡ count = omega arith in
-    sym so.so_far ∙ rw (count_here rest lt low) (ap Some e)
-
-pub count_none : (count : ℕ) (rest bytes : List ℕ) → redundant_count rest ≡ None → IsCounted count rest bytes → redundant_count bytes ≡ None
-count_none count rest bytes none so = sym so.so_far ∙ rw none refl
-
-pub count_passed : (rest bytes : List ℕ) → IsCounted (length bytes) rest bytes → redundant_count bytes ≡ None
-count_passed rest bytes so = count_none (length bytes) rest bytes (count_nothing rest (omega (arith, so.passed))) so

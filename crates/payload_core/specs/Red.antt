@@ -1,7 +1,7 @@
 -- Redundant audio data (RFC 2198).
 use Rattle.std.specs.Prelude.{ℕ, zero, suc, ◌+◌, ◌*◌, ◌/◌, ◌%◌, Bool, true, false, nat_lt, ◌==◌, if◌then◌else◌, Option, Some, None, List, [], ◌∷◌, length, take, drop, slice_index, map, filter}
 use Rattle.std.specs.Option.{option_map, option_and_then}
-use Rattle.std.specs.Int.{w32, from_be_bytes}
+use Rattle.rtp_base.specs.Wire.{word_at}
 use Rattle.payload_core.specs.declared.red.RedBlock.{RedBlock}
 
 -- a block: its type, how long before the packet's time its frame began, and the frame
@@ -27,7 +27,7 @@ redundant_count [] = None
 
 -- the header of a redundant block: a bit, a type of 7 bits, an offset of 14 and a length of 10
 abbrev pub header_of : List ℕ → ℕ
-header_of bytes = from_be_bytes w32 (take 4 bytes)
+header_of bytes = word_at bytes 0
 
 abbrev pub type_in : List ℕ → ℕ
 type_in bytes = header_of bytes / 16777216 % 128

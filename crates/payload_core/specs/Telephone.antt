@@ -1,6 +1,7 @@
 -- Telephone events (RFC 4733).
-use Rattle.std.specs.Prelude.{◌≡◌, ℕ, ◌+◌, ◌-◌, ◌*◌, ◌/◌, ◌%◌, ◌<◌, ◌≤◌, Bool, ◌==◌, nat_lt, if◌then◌else◌, Option, Some, None, List, ◌∷◌, ◌++◌, length, take, drop, slice_index}
-use Rattle.std.specs.Int.{w16, from_be_bytes, to_be_bytes}
+use Rattle.std.specs.Prelude.{◌≡◌, ℕ, ◌+◌, ◌-◌, ◌*◌, ◌/◌, ◌%◌, ◌<◌, ◌≤◌, Bool, ◌==◌, nat_lt, if◌then◌else◌, Option, Some, None, List, ◌∷◌, ◌++◌, length, slice_index}
+use Rattle.std.specs.Int.{w16, to_be_bytes}
+use Rattle.rtp_base.specs.Wire.{half_at}
 use Rattle.payload_core.specs.declared.tele.TelephoneEvent.{TelephoneEvent}
 
 -- the whole ticks of a clock in a length of time, in nanoseconds
@@ -20,7 +21,7 @@ event_of clock bytes =
       event = slice_index bytes 0;
       end = slice_index bytes 1 / 128 == 1;
       volume = slice_index bytes 1 % 64;
-      duration = duration_of clock (from_be_bytes w16 (take 2 (drop 2 bytes)));
+      duration = duration_of clock (half_at bytes 2);
     })
 
 abbrev pub end_bit : Bool → ℕ

@@ -1,8 +1,9 @@
 //! Redundant audio data (RED, RFC 2198): a frame together with older ones.
 ghost use Rattle.std.specs.Prelude.{◌≡◌, ◌+◌, ◌*◌, ◌≤◌, length, IfSome};
-ghost use Rattle.payload_core.specs.Red.{redundant_count, header_of, first_block, primary_block, blocks_from, block_of, blocks_of, of_type};
+ghost use Rattle.payload_core.specs.Red.{redundant_count, first_block, primary_block, blocks_from, block_of, blocks_of, of_type};
 ghost use Rattle.std.specs.Option.{option_map};
 
+use rtp_base::wire;
 use rtp_wire::Pt;
 use std::alloc::{AllocError, Global};
 use thiserror::Error;
@@ -66,21 +67,13 @@ fn redundant_count(bytes: &[u8]) -> Option<usize>
     None
 }
 
-// The header at the front, of 32 bits.
-fn header(bytes: &[u8]) -> u32
-    requires { 4 ≤ length bytes.now }
-    ensures { result ≡ header_of bytes.now }
-{
-    u32::from_be_bytes([bytes[0], bytes[1], bytes[2], bytes[3]])
-}
-
 // The block of a header, and the payloads behind its own, or None where its length passes the end.
 #[tactic(auto, unfolding(crate::specs::Red::first_block))]
 fn first_block<'a>(head: &[u8], payloads: &'a [u8]) -> Option<(RedBlock<'a>, &'a [u8])>
     requires { 4 ≤ length head.now }
     ensures { option_map (λ x. (block_of x.0, x.1.now)) result ≡ first_block head.now payloads.now }
 {
-    let header = header(head);
+    let header = wire::word(head, 0);
     let len = (header % 1024) as usize;
     if payloads.len() < len {
         return None;

@@ -3,6 +3,7 @@ ghost use Rattle.std.specs.Prelude.{◌≡◌, ◌≤◌};
 ghost use Rattle.payload_core.specs.Telephone.{units_of, duration_of, EventReadsBack, UnitsComeBack};
 
 use media_base::Duration;
+use rtp_base::wire;
 use rtp_wire::Frequency;
 
 /// A telephone event (RFC 4733 section 2.3).
@@ -48,7 +49,7 @@ impl TelephoneEvent {
             event: bytes[0],
             end: bytes[1] / 128 == 1,
             volume: bytes[1] % 64,
-            duration: duration_from_units(u16::from_be_bytes([bytes[2], bytes[3]]), clock_rate),
+            duration: duration_from_units(wire::half(bytes, 2), clock_rate),
         })
     }
 

@@ -157,6 +157,29 @@ fn hears_opus(config: &CodecConfig) -> bool {
     }
 }
 
+// Which of the types carries the same as a type of this codec.
+fn matched(config: &CodecConfig, codec: Codec) -> Option<Pt> {
+    let known = config.match_params(params_of(1, codec))?;
+    Some(known.pt)
+}
+
+// A type of media is known, one of its repairs is none of media; and the number is no part of what
+// types carry.
+fn knows_types(config: &CodecConfig) -> bool {
+    let known = config.has_pt(Pt::from(96)) && !config.has_pt(Pt::from(97));
+    let opus = matched(config, Codec::Opus) == Some(Pt::from(111));
+    known && opus && matched(config, Codec::Pcmu).is_none()
+}
+
+#[test]
+fn types_are_found(rt: HostRuntime) {
+    let found = match config(rt.alloc()) {
+        Ok(config) => knows_types(&config),
+        Err(_) => false,
+    };
+    assert!(rt; found);
+}
+
 fn is_configured(alloc: Global) -> Result<bool, AllocError> {
     let config = config(alloc)?;
     let near = config.red_distances() == [1].as_slice();

@@ -11,8 +11,6 @@ mod rtp_clock;
 mod sender;
 mod sender_news;
 mod stats;
-#[cfg(test)]
-mod tests;
 mod time_line;
 mod traffic;
 mod trip;

@@ -1,7 +1,9 @@
-//! The tests of compound RTCP and of transport-wide feedback: worked values of the standards, and each public
-//! call that takes memory once with enough of it. What a clause says is not tested.
+//! The tests of compound RTCP, of transport-wide feedback and of what reports count and tell: worked values of the
+//! standards, and each public call that takes memory once with enough of it. What a clause says is not tested.
 #![tactic(auto)]
 
+#[cfg(test)]
+mod reporting;
 #[cfg(test)]
 mod rtcp_items;
 #[cfg(test)]

@@ -123,6 +123,18 @@ fn codes_of_the_standard(rt: HostRuntime) {
     }
 }
 
+// The first ten bytes of the third of these codes, where the last four bytes of the message are the
+// rollover count, and of the second one (RFC 3711 section 4.2).
+#[test]
+fn tags_of_the_standard(rt: HostRuntime) {
+    let mut packet = [0xdd; 56];
+    aes_128_cm_sha1_80::rtp_hmac(&[0xaa; 20], &mut packet, 0xdddd_dddd_0001, 46);
+    assert!(rt; reads(&packet[46..], "125d7342b9ac11cd91a3"));
+    let mut feedback = *b"what do ya want for nothing?..........";
+    aes_128_cm_sha1_80::rtcp_hmac(b"Jefe", &mut feedback, 28);
+    assert!(rt; reads(&feedback[28..], "effcdf6ae5eb2fa2d274"));
+}
+
 // Messages and digests of FIPS 180-1, appendices A and B.
 const DIGESTS: [(&[u8], &str); 2] = [
     (b"abc", "a9993e364706816aba3e25717850c26c9cd0d89d"),

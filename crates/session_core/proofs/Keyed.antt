@@ -31,6 +31,10 @@ module _ (k : ℕ) where
             ∙ sym (ap (λ b. option_map suc (cond b (Some (first ns)) None)) u)
       ]
 
+none_suc : (o : Option ℕ) → is_some (option_map suc o) ≡ is_some o
+none_suc None = refl
+none_suc (Some i) = refl
+
 module _ {X : Type 0} (k : ℕ) where
   pub place_first : (e : ℕ × X) (es : List (ℕ × X)) → k ≡ e.0 → place_of k (e ∷ es) ≡ Some 0
   place_first e es is = position_first k e.0 (keys_of es) (eq-eqb k e.0 is)
@@ -49,15 +53,22 @@ module _ {X : Type 0} (k : ℕ) where
       go (Some i) = refl
 
   -- a key of some entry has a place, and of no other
-  none_suc : (o : Option ℕ) → is_some (option_map suc o) ≡ is_some o
-  none_suc None = refl
-  none_suc (Some i) = refl
-
   not_first : (e : ℕ × X) (es : List (ℕ × X)) → is_some (place_of k (e ∷ es)) ≡ false → k ≡ e.0 → ⊥
   not_first e es none is = let some : is_some (place_of k (e ∷ es)) ≡ true = ap is_some (place_first e es is) in absurd cc
 
   none_behind : (e : ℕ × X) (es : List (ℕ × X)) → is_some (place_of k (e ∷ es)) ≡ false → is_some (place_of k es) ≡ false
   none_behind e es none = sym (none_suc (place_of k es)) ∙ sym (ap is_some (place_next e es (not_first e es none))) ∙ none
+
+  -- a key that has a place has a value
+  pub value_some : (es : List (ℕ × X)) → is_some (place_of k es) ≡ true → (x : X) × (value_under k es ≡ Some x)
+  value_some [] p = absurd cc
+  value_some (e ∷ es) p =
+      elim (cases_eq k e.0) [
+        | inl is ↦ (e.1, value_first e es is)
+        | inr other ↦
+            let rest = value_some es (sym (none_suc (place_of k es)) ∙ sym (ap is_some (place_next e es other)) ∙ p) in
+            (rest.0, value_next e es other ∙ rest.1)
+      ]
 
   -- a value behind the others
   pub value_last : (es : List (ℕ × X)) (x : X) → is_some (place_of k es) ≡ false → value_under k (es ++ (k, x) ∷ []) ≡ Some x

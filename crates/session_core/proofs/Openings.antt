@@ -95,8 +95,8 @@ module _ (u : SessionRecord) (h : RtpHeader) (nonzero : (h.ssrc == 0) ≡ false)
   pub has_place : (n : ℕ) → number_of (seen_of h.ssrc u.seen) u.rx u.probes h.ssrc h.sequence_number ≡ Some n → is_some (place_of h.ssrc u.rx) ≡ true
   has_place n e =
       elim (cases_Bool (is_some (place_of h.ssrc u.rx))) [
-        | inl yes ↦ yes
-        | inr no ↦ (let none = number_is None (value_none h.ssrc u.rx no) in absurd (cc (none, e)))
+        | inl there ↦ there
+        | inr gone ↦ (let none = number_is None (value_none h.ssrc u.rx gone) in absurd (cc (none, e)))
       ]
 
   -- it is none's

@@ -9,14 +9,6 @@ use Rattle.session_core.specs.SessionRecord.{SessionState}
 pub opening_kept : (s r : SessionState) (opening : Option SrtpState) → s ≡ r → opening ≡ s.opening → record s { opening = opening } ≡ r
 opening_kept s r opening same kept = ap {A = Option SrtpState} {B = SessionState} (λ o. record s { opening = o }) kept ∙ same
 
--- a datagram opened
-pub opened_state : (s r : SessionState) (threshold : ℕ) (opening : Option SrtpState) (tx : List (ℕ × TxRecord)) (packet : Option RtpPacket) (P : Option RtpPacket → Option RtpPacket)
-    → s ≡ r → threshold ≡ s.pause_threshold → opening ≡ s.opening → tx ≡ s.tx → packet ≡ P s.packet
-    → record s { pause_threshold = threshold; opening = opening; tx = tx; packet = packet } ≡ record r { packet = P r.packet }
-opened_state s r threshold opening tx packet P same h o t p =
-    let changed : record s { pause_threshold = threshold; opening = opening; tx = tx; packet = packet } ≡ record s { packet = P s.packet } = λ j. record s { pause_threshold = h j; opening = o j; tx = t j; packet = p j } in
-    changed ∙ ap {A = SessionState} {B = SessionState} (λ a. record a { packet = P a.packet }) same
-
 -- the streams that come changed, and the packet that waits to be told
 pub restored_state : (s r : SessionState) (threshold : ℕ) (tx : List (ℕ × TxRecord)) (packet : Option RtpPacket) (P : SessionState → Option RtpPacket)
     → s ≡ r → threshold ≡ s.pause_threshold → tx ≡ s.tx → packet ≡ P s → record s { pause_threshold = threshold; tx = tx; packet = packet } ≡ record r { packet = P r }
@@ -27,3 +19,8 @@ restored_state s r threshold tx packet P same h t p =
 pub streams_kept : (s r : SessionState) (threshold : ℕ) (tx : List (ℕ × TxRecord)) → s ≡ r → threshold ≡ s.pause_threshold → tx ≡ s.tx
     → record s { pause_threshold = threshold; tx = tx } ≡ r
 streams_kept s r threshold tx same h t = (λ j. record s { pause_threshold = h j; tx = t j }) ∙ same
+
+-- the streams that come changed, and what opens stays as it is
+pub mapped_state : (s r : SessionState) (threshold : ℕ) (opening : Option SrtpState) (tx : List (ℕ × TxRecord)) → s ≡ r → threshold ≡ s.pause_threshold → opening ≡ s.opening → tx ≡ s.tx
+    → record s { pause_threshold = threshold; opening = opening; tx = tx } ≡ r
+mapped_state s r threshold opening tx same h o t = (λ j. record s { pause_threshold = h j; opening = o j; tx = t j }) ∙ same

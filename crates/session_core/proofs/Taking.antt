@@ -40,13 +40,27 @@ nowhere_same h r e = nowhere_kept h.ssrc (mapping_for h r) r e
 
 -- the number under which a datagram opens
 
+same_pair : (x y : ℕ × Bool) → Some x ≡ Some y → x ≡ y
+same_pair x y e = cc
+
+some_none : (o : Option (ℕ × Bool)) (x : ℕ × Bool) → o ≡ Some x → o ≡ None → ⊥
+some_none o x e f = cc
+
+-- a number that is told in two ways is one
+same_number : (o : Option (ℕ × Bool)) (n m : ℕ) (a b : Bool) → o ≡ Some (n, a) → o ≡ Some (m, b) → n ≡ m
+same_number o n m a b e f = ap (λ (x : ℕ × Bool). x.0) (same_pair (n, a) (m, b) (sym e ∙ f))
+
 from_repair : (o : Option ℕ) (n : ℕ) (b : Bool) → as_repair o ≡ Some (n, b) → (o ≡ Some n) × (b ≡ true)
 from_repair None n b e = absurd cc
-from_repair (Some m) n b e = (cc, cc)
+from_repair (Some m) n b e =
+    let p = same_pair (m, true) (n, b) e in
+    (ap (λ (x : ℕ × Bool). Some x.0) p, sym (ap (λ (x : ℕ × Bool). x.1) p))
 
 from_packet : (claimed : Bool) (o : Option ℕ) (n : ℕ) (b : Bool) → as_packet claimed o ≡ Some (n, b) → (claimed ≡ true) × (o ≡ Some n) × (b ≡ false)
 from_packet true None n b e = absurd cc
-from_packet true (Some m) n b e = (refl, cc, cc)
+from_packet true (Some m) n b e =
+    let p = same_pair (m, false) (n, b) e in
+    (refl, ap (λ (x : ℕ × Bool). Some x.0) p, sym (ap (λ (x : ℕ × Bool). x.1) p))
 from_packet false o n b e = absurd cc
 
 module _ (u : SessionRecord) (h : RtpHeader) (n : ℕ) (b : Bool) (is : opening_number h u ≡ Some (n, b)) where
@@ -69,23 +83,21 @@ module _ (cipher : CipherMeaning) (u : SessionRecord) (bytes : List ℕ) (h : Rt
   -- it opens under none
   module _ (none : opening_number h u ≡ None) where
     pub no_packet : (n : ℕ) (payload : List ℕ) → Opens cipher u bytes h n payload → ⊥
-    no_packet n payload o = let some = packet_number n payload o in absurd cc
+    no_packet n payload o = absurd (some_none (opening_number h u) (n, false) (packet_number n payload o) none)
 
     pub no_repair : (original n : ℕ) (payload : List ℕ) → OpensRepair cipher u bytes h original n payload → ⊥
-    no_repair original n payload o = let some = repair_number original n payload o in absurd cc
+    no_repair original n payload o = absurd (some_none (opening_number h u) (n, true) (repair_number original n payload o) none)
 
   -- under the one under which it may, it does not
   module _ (m : ℕ) (b : Bool) (one : opening_number h u ≡ Some (m, b)) (closed : (p : List ℕ) → OpensIn cipher u.state.opening h m bytes p → Unpads h p → ⊥) where
     pub sealed_packet : (n : ℕ) (payload : List ℕ) → Opens cipher u bytes h n payload → ⊥
     sealed_packet n payload o =
-        let some = packet_number n payload o in
-        let same : n ≡ m = cc in
+        let same = same_number (opening_number h u) n m false b (packet_number n payload o) one in
         closed payload (subst (λ (k : ℕ). OpensIn cipher u.state.opening h k bytes payload) same o.opens) o.unpads
 
     pub sealed_repair : (original n : ℕ) (payload : List ℕ) → OpensRepair cipher u bytes h original n payload → ⊥
     sealed_repair original n payload o =
-        let some = repair_number original n payload o in
-        let same : n ≡ m = cc in
+        let same = same_number (opening_number h u) n m true b (repair_number original n payload o) one in
         closed payload (subst (λ (k : ℕ). OpensIn cipher u.state.opening h k bytes payload) same o.opens) o.unpads
 
 -- what bytes make of a session

@@ -29,6 +29,8 @@ mod restoring;
 #[cfg(test)]
 mod rounds;
 #[cfg(test)]
+mod sections;
+#[cfg(test)]
 mod steps;
 #[cfg(test)]
 mod table;

@@ -393,6 +393,7 @@ fn add_types(types: &mut PayloadTypes) -> Result<(), AllocError> {
         pt: Pt::from(96),
         clock: Frequency::SECONDS,
         rtx: Some(Pt::from(97)),
+        red: None,
     })
 }
 

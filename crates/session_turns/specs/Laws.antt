@@ -1,5 +1,5 @@
 -- What a session does at each call of a run is a turn.
-use Rattle.std.specs.Prelude.{◌≡◌, ◌≤◌, ◌<◌, ◌^◌, ℕ, List, [], ◌∷◌, ◌++◌, slice_index, Option, Some, None}
+use Rattle.std.specs.Prelude.{◌≡◌, ◌≤◌, ◌<◌, ◌^◌, ℕ, List, [], ◌∷◌, slice_index, Option, Some, None}
 use Rattle.rtp_base.specs.declared.kind.Kind.TheVariants.{Rtp, Rtcp}
 use Rattle.rtcp_wire.specs.declared.feedback.AppSpecificFeedback.{AppSpecificFeedback as Application}
 use Rattle.rtcp_wire.specs.declared.packet.Rtcp.TheVariants.{AppSpecificFeedback}
@@ -15,7 +15,7 @@ use Rattle.session_core.specs.declared.datagram.Opened.{Opened as Opening}
 use Rattle.session_core.specs.Calls.{after_events, with_feedback}
 use Rattle.session_core.specs.Feedback.{FitsAlone}
 use Rattle.session_core.specs.Hearing.{ReceivesRtcp}
-use Rattle.session_core.specs.Receiving.{Receives}
+use Rattle.session_core.specs.Receiving.{Receives, Takes}
 use Rattle.session_core.specs.Rounds.{after_timeout}
 use Rattle.session_core.specs.declared.error.RtcError.{RtcError}
 use Rattle.session_core.specs.declared.error.RtcError.TheVariants.{KeyExhausted, RepairsExhausted}
@@ -40,6 +40,12 @@ pub record TurnsTo (cipher : CipherMeaning) (C : Config) (side : Side) (r : Sess
   pub types : after.state.types ≡ r.state.types
   pub exts : after.state.transport.exts ≡ r.state.transport.exts
   pub runs : after.state.stopped ≡ r.state.stopped
+
+-- RTP maps to no stream in a session that mirrors a plain one: bytes make of it what they make of one whose tables have their SSRC
+abbrev pub MapsNothing : Type 0
+MapsNothing =
+    (cipher : CipherMeaning) (C : Config) (side : Side) (r after : SessionRecord) (a : Session) (time : ℕ) (bytes : List ℕ) (o : Option Opening) → Mirrors cipher C side r a
+    → Receives cipher r bytes time after o → Takes cipher r bytes time after o
 
 -- a write whose number was not used is handed to its stream
 abbrev pub WritesTurn : Type 0

@@ -1,12 +1,12 @@
 -- When the record of a session is that of a plain session of the laws.
-use Rattle.std.specs.Prelude.{◌≡◌, ◌≤◌, ◌<◌, ◌^◌, ℕ, Bool, true, false, is_some, unwrap_or, List, [], ◌∷◌, map, length, Option, Some, None}
+use Rattle.std.specs.Prelude.{◌≡◌, ◌≤◌, ◌<◌, ◌^◌, ℕ, true, false, is_some, unwrap_or, List, [], ◌∷◌, map, length, Option, Some, None}
 use Rattle.std.specs.List.{AllByRecursion, AllZip, flat_map}
-use Rattle.rtp_base.specs.Window.{greatest, is_fresh_rtx, is_fresh_after, greatest_after}
+use Rattle.rtp_base.specs.Window.{is_fresh_after, greatest_after}
 use Rattle.rtp_wire.specs.BytesLaws.{AreWords}
 use Rattle.rtp_wire.specs.Extensions.{no_values}
 use Rattle.mapping_core.specs.declared.rids.Rids.TheVariants.{Specific}
 use Rattle.mapping_core.specs.declared.stream.IncomingStream.{IncomingStream}
-use Rattle.resend_core.specs.ResendStore.{Event as Stored, pushed, evicted, Past}
+use Rattle.resend_core.specs.ResendStore.{Event as Stored, pushed, evicted}
 use Rattle.repair_core.specs.Rounds.{Heard, taken}
 use Rattle.rtx_core.specs.Ratio.{CapRecord, recent}
 use Rattle.rtx_core.specs.Repairs.{RepairPast}
@@ -22,15 +22,14 @@ use Rattle.stream_core.specs.TxRecord.{TxRecord as StreamTx}
 use Rattle.stream_core.specs.Tables.{place_of, value_under}
 use Rattle.session_core.specs.Hearing.{is_own, trip_of, ntp_of}
 use Rattle.session_core.specs.Sending.{has_mid}
-use Rattle.session_core.specs.SessionRecord.{MediaRecord, SessionState, SessionRecord}
+use Rattle.session_core.specs.SessionRecord.{MediaRecord, SessionRecord}
 use Rattle.media_model.specs.declared.entry.Side.{Side}
 use Rattle.media_model.specs.declared.entry.Write.{Write}
 use Rattle.media_model.specs.Sides.{peer_of}
 use Rattle.run_model.specs.Events.{Outgoing, Incoming}
 use Rattle.run_model.specs.TxPlay.{TxRecord, past_of}
 use Rattle.run_model.specs.RxPlay.{RxRecord}
-use Rattle.run_model.specs.Asking.{RxSetup}
-use Rattle.run_model.specs.Tables.{Table, lines, AreApart}
+use Rattle.run_model.specs.Tables.{lines, AreApart}
 use Rattle.run_model.specs.Whole.{Config, Session, setup_of, incoming_of, probes}
 use Rattle.session_turns.specs.Reading.{types_in, sealing_of, reporting_of}
 

@@ -43,9 +43,11 @@ enum Step {
     UsedUp(u64),
     /// All goes.
     Clear,
+    /// All begins anew, with a first number of repairs and the same limits.
+    Anew(u64),
 }
 
-use Step::{Clear, Counted, Nack, Next, Sent, Taken, UsedUp};
+use Step::{Anew, Clear, Counted, Nack, Next, Sent, Taken, UsedUp};
 
 /// The number of the first repair; how many packets are kept, and for how many milliseconds; the cap.
 type Made = (u64, usize, u64, Option<u32>);
@@ -152,9 +154,35 @@ const CLEARED: [Step; 6] = [
     Taken(0, None),
 ];
 
+// The room for one packet stays.
+const ANEW: [Step; 9] = [
+    Sent(1, 1, 0),
+    Nack(1, 0, 0),
+    Anew(9),
+    Next(0, None),
+    Sent(2, 1, 0),
+    Sent(3, 1, 0),
+    Nack(2, 1, 0),
+    Taken(0, Some(9)),
+    Taken(0, None),
+];
+
+// The cap stays, and what it counts begins anew.
+const CAPPED_ANEW: [Step; 9] = [
+    Sent(1, 1, 0),
+    Nack(1, 0, 0),
+    Taken(0, Some(5)),
+    Anew(9),
+    Sent(2, 1, 100),
+    Nack(2, 0, 100),
+    Taken(100, Some(9)),
+    Nack(2, 0, 150),
+    Taken(150, None),
+];
+
 const NONE_KEPT: [Step; 3] = [Sent(1, 1, 0), Nack(1, 0, 0), Taken(0, None)];
 
-const ROWS: [(Made, &[Step]); 11] = [
+const ROWS: [(Made, &[Step]); 13] = [
     (SECONDS, &TWICE),
     (CAPPED, &ABOVE_CAP),
     ((5, 2_000, 3_000, Some(20)), &AT_CAP),
@@ -164,6 +192,8 @@ const ROWS: [(Made, &[Step]); 11] = [
     (SECONDS, &AGES),
     ((5, 1, 3_000, None), &OF_ONE),
     (SECONDS, &CLEARED),
+    ((5, 1, 3_000, None), &ANEW),
+    (CAPPED, &CAPPED_ANEW),
     ((5, 0, 3_000, None), &NONE_KEPT),
     ((5, 2_000, 0, None), &NONE_KEPT),
 ];
@@ -212,6 +242,7 @@ fn is_answered<S: ResendStore<Packet>>(
         }
         UsedUp(now) => return Ok(queue.pop(at(now)) == Err(ResendError::Exhausted)),
         Clear => queue.clear(),
+        Anew(first) => *queue = queue.anew(SeqNo::from(first % LIMIT))?,
     }
     Ok(true)
 }

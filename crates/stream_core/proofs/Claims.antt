@@ -1,5 +1,5 @@
 -- The rows of types as claims, as one is put.
-use Rattle.std.proofs.Common.{◌≡◌, ℕ, zero, suc, ◌+◌, Bool, true, false, cond, ltb, List, [], ◌∷◌, ◌++◌, Option, Some, None, length, nat_eq, refl, sym, ap, ◌∙◌, arith, inl, inr}
+use Rattle.std.proofs.Common.{◌≡◌, ℕ, suc, true, false, cond, ltb, List, [], ◌∷◌, ◌++◌, Option, Some, None, length, nat_eq, refl, sym, ap, ◌∙◌, arith, inl, inr}
 use Rattle.std.proofs.lemmas.Bool.{lt-ltb, le-ltb, ltb-true, ltb-false, cases_Bool}
 use Rattle.std.specs.Prelude.{slice_set, position, if◌then◌else◌}
 use Rattle.std.specs.List.{position_or_len}
@@ -10,10 +10,6 @@ use Rattle.mapping_core.specs.declared.claim.TypeClaim.{TypeClaim}
 use Rattle.stream_core.specs.declared.payload_types.TypeRow.{TypeRow}
 use Rattle.stream_core.specs.Repairing.{claim_in, claims_in}
 use Rattle.stream_core.specs.Tables.{place_of}
-
-pub length_claims : (es : List (ℕ × TypeRow)) → length (claims_in es) ≡ length es
-length_claims [] = refl
-length_claims (e ∷ es) = ap suc (length_claims es)
 
 module _ (k : ℕ) where
   abbrev first : List ℕ → ℕ
@@ -51,12 +47,12 @@ module _ (k : ℕ) where
     pub claims_put : (es : List (ℕ × TypeRow)) → claims_in (insert_entry nat_eq es k row) ≡ put (claims_in es) (place_of k es)
     claims_put [] = refl
     claims_put (e ∷ es) = elim (cases_Bool (nat_eq k e.0)) [
-      | inl yes ↦
-          ap (λ b. claims_in (if b then (e.0, row) ∷ es else e ∷ insert_entry nat_eq es k row)) yes
-          ∙ sym (ap (put (claims_in (e ∷ es))) (position_first e.0 (keys_of es) yes))
-      | inr no ↦
-          ap (λ b. claims_in (if b then (e.0, row) ∷ es else e ∷ insert_entry nat_eq es k row)) no
+      | inl same ↦
+          ap (λ b. claims_in (if b then (e.0, row) ∷ es else e ∷ insert_entry nat_eq es k row)) same
+          ∙ sym (ap (put (claims_in (e ∷ es))) (position_first e.0 (keys_of es) same))
+      | inr other ↦
+          ap (λ b. claims_in (if b then (e.0, row) ∷ es else e ∷ insert_entry nat_eq es k row)) other
           ∙ ap (λ l. claim_in e.1 ∷ l) (claims_put es)
           ∙ behind (claim_in e.1) (claims_in es) (place_of k es)
-          ∙ sym (ap (put (claims_in (e ∷ es))) (position_next e.0 (keys_of es) no))
+          ∙ sym (ap (put (claims_in (e ∷ es))) (position_next e.0 (keys_of es) other))
     ]

@@ -1,15 +1,14 @@
 -- A value of a table comes to stand under another key.
-use Rattle.std.proofs.Common.{◌≡◌, ℕ, zero, suc, Bool, true, false, cond, List, [], ◌∷◌, ◌++◌, Option, Some, None, length, take, drop, slice_get, nat_eq, is_some, refl, sym, ap, ◌∙◌, arith, ◌+◌, ◌<◌, ◌≤◌, insert, remove, position, subst}
-use Rattle.std.specs.Prelude.{insert, remove, IsSome}
+use Rattle.std.proofs.Common.{◌≡◌, ℕ, zero, suc, Bool, true, false, cond, List, [], ◌∷◌, ◌++◌, Option, Some, None, length, take, slice_get, nat_eq, is_some, refl, sym, ap, ◌∙◌, arith, ◌+◌, ◌<◌, insert, remove, position}
 use Rattle.std.specs.Map.{keys_of, lookup, values_of}
 use Rattle.std.specs.Option.{option_map_or}
 use Rattle.indexmap.specs.IndexMap.{IndexMap, get, insert_entry, move_index, set_value_at}
 use Rattle.indexmap.proofs.CallerLemmas.{insert_entry-new}
-use Rattle.indexmap.proofs.MapLemmas.{some_index, absent_from_lookup, insert_entry-absent, or_len-absent}
-use Rattle.stream_core.specs.Tables.{place_of, with_new, renamed, change_place, change_at, rekeyed}
+use Rattle.indexmap.proofs.MapLemmas.{some_index}
+use Rattle.std.proofs.lemmas.List.{length_push, take_all}
+use Rattle.stream_core.specs.Tables.{place_of, renamed, change_place, change_at, rekeyed}
 use Rattle.stream_core.specs.Known.{put_original}
-use Rattle.std.specs.List.{AllByRecursion, position_or_len}
-use Rattle.indexmap.proofs.MoveLemmas.{push_moved}
+use Rattle.stream_core.proofs.TableSteps.{all_but_new}
 
 -- what has no value has none once an entry is gone
 behind_one : {X : Type 0} (b : Bool) (x : X) (o : Option X) → cond b (Some x) o ≡ None → o ≡ None
@@ -51,103 +50,52 @@ moved_last xs x i =
     ap (λ o. option_map_or (λ y. insert (remove (xs ++ x ∷ []) (length xs)) i y) o (xs ++ x ∷ [])) (last_of xs x)
     ∙ ap (λ l. insert l i x) (without_last xs x)
 
--- the entries once one was taken out, put behind the others under a key that none has, and moved to its place
-pub renamed_there : {X S : Type 0} (m : IndexMap ℕ X S) (i k : ℕ) (p : ℕ × X) (es between after : List (ℕ × X)) (len : ℕ) → m.entries ≡ remove es i → place_of k es ≡ None
-    → slice_get es i ≡ Some p → between ≡ insert_entry nat_eq m.entries k p.1 → len ≡ length m.entries → after ≡ move_index between len i → after ≡ renamed k es i
-renamed_there m i k p es between after len gone none at added long moved =
-    let absent : get nat_eq m k ≡ None =
-    ap (lookup (nat_eq k)) gone
-    ∙ lookup_removed (nat_eq k) es i (no_lookup (lookup (nat_eq k) es) (sym (some_index (nat_eq k) es) ∙ ap is_some none)) in
-    moved
-    ∙ (λ j. move_index ((added ∙ insert_entry-new nat_eq m k p.1 absent) j) (long j) i)
-    ∙ moved_last m.entries (k, p.1) i
-    ∙ ap (λ l. insert l i (k, p.1)) gone
-    ∙ put_back es i k p at
-
--- what was put behind the others is taken off
-all_but_put : {X : Type 0} (o : Option ℕ) (es : List X) (x : X) → take (length es) (option_map_or (λ (i : ℕ). es) o (es ++ x ∷ [])) ≡ es
-all_but_put None es x = all_of es x
-  where
-    all_of : {X : Type 0} (es : List X) (x : X) → take (length es) (es ++ x ∷ []) ≡ es
-    all_of [] x = refl
-    all_of (e ∷ es) x = ap (λ l. e ∷ l) (all_of es x)
-all_but_put (Some i) es x = take_length es
-  where
-    take_length : {X : Type 0} (es : List X) → take (length es) es ≡ es
-    take_length [] = refl
-    take_length (e ∷ es) = ap (λ l. e ∷ l) (take_length es)
-
-pub all_but_original : (ssrc : ℕ) (rtx : Option ℕ) (os : List (ℕ × ℕ)) → take (length os) (put_original ssrc rtx os) ≡ os
-all_but_original ssrc None os = all_of os
-  where
-    all_of : {X : Type 0} (es : List X) → take (length es) es ≡ es
-    all_of [] = refl
-    all_of (e ∷ es) = ap (λ l. e ∷ l) (all_of es)
-all_but_original ssrc (Some rtx) os = all_but_put (place_of rtx os) os (rtx, ssrc)
-
-none_of : {X : Type 0} (o : Option X) → is_some o ≡ false → o ≡ None
-none_of None e = refl
-none_of (Some x) e = absurd cc
-
--- a key is not in a table
-abbrev pub IsAbsent : {X : Type 0} → ℕ → List (ℕ × X) → Type 0
-IsAbsent k es = AllByRecursion (λ (j : ℕ). nat_eq k j ≡ false) (keys_of es)
-
-lookup_absent : {X : Type 0} (k : ℕ) (es : List (ℕ × X)) → IsAbsent k es → lookup (nat_eq k) es ≡ None
-lookup_absent k [] h = refl
-lookup_absent k (e ∷ es) h = ap (λ b. cond b (Some e.1) (lookup (nat_eq k) es)) h.0 ∙ lookup_absent k es h.1
-
--- a key that has no place is not there
-pub absent_of : {X : Type 0} (k : ℕ) (es : List (ℕ × X)) → place_of k es ≡ None → IsAbsent k es
-absent_of k es none = absent_from_lookup (nat_eq k) es (none_of (lookup (nat_eq k) es) (sym (some_index (nat_eq k) es) ∙ ap is_some none))
-
-absent_removed : {X : Type 0} (k : ℕ) (es : List (ℕ × X)) (i : ℕ) → IsAbsent k es → IsAbsent k (remove es i)
-absent_removed k [] zero h = tt
-absent_removed k [] (suc i) h = tt
-absent_removed k (e ∷ es) zero h = h.1
-absent_removed k (e ∷ es) (suc i) h = (h.0, absent_removed k es i h.1)
-
-put_back_at : {X : Type 0} (k : ℕ) (es : List (ℕ × X)) (i : ℕ) (p : ℕ × X) → slice_get es i ≡ Some p → insert (remove es i) i (k, p.1) ≡ renamed k es i
-put_back_at k [] i p at = absurd cc
-put_back_at k (e ∷ es) zero p at = let same : p.1 ≡ e.1 = cc in ap (λ x. (k, x) ∷ es) same
-put_back_at k (e ∷ es) (suc i) p at = ap (λ l. e ∷ l) (put_back_at k es i p at)
-
 pub length_removed : {X : Type 0} (es : List X) (i : ℕ) → i < length es → length (remove es i) + 1 ≡ length es
 length_removed [] i h = absurd (omega arith)
 length_removed (e ∷ es) zero h = omega arith
 length_removed (e ∷ es) (suc i) h = let rest = length_removed es i (omega arith) in omega (arith, rest)
 
--- what is taken out and put back under another key
-pub moved_to : {X : Type 0} (k : ℕ) (es removed after : List (ℕ × X)) (i : ℕ) (p : ℕ × X) → place_of k es ≡ None → i < length es → Some p ≡ slice_get es i → removed ≡ remove es i
-    → after ≡ move_index (insert_entry nat_eq removed k p.1) (position_or_len (nat_eq k) (keys_of removed)) i → after ≡ renamed k es i
-moved_to k es removed after i p none within at gone put =
-    let absent = subst (IsAbsent k) (sym gone) (absent_removed k es i (absent_of k es none)) in
-    let long = length_removed es i within in
-    let same : length removed ≡ length (remove es i) = ap length gone in
-    let le : i ≤ length removed = omega (arith, long, same, within) in
-    put
-    ∙ (λ j. move_index (insert_entry-absent nat_eq k p.1 removed absent j) (or_len-absent (nat_eq k) removed absent j) i)
-    ∙ push_moved removed (k, p.1) i le
-    ∙ ap (λ l. insert l i (k, p.1)) gone
-    ∙ put_back_at k es i p (sym at)
+-- one was taken out, and comes behind the others under a key that none has
+module _ {X S : Type 0} (m : IndexMap ℕ X S) (es : List (ℕ × X)) (i k : ℕ) (x : X) (between : List (ℕ × X)) (gone : m.entries ≡ remove es i) (none : place_of k es ≡ None)
+    (added : between ≡ insert_entry nat_eq m.entries k x) where
+  pub added_behind : between ≡ m.entries ++ (k, x) ∷ []
+  added_behind =
+      let absent : get nat_eq m k ≡ None =
+      ap (lookup (nat_eq k)) gone
+      ∙ lookup_removed (nat_eq k) es i (no_lookup (lookup (nat_eq k) es) (sym (some_index (nat_eq k) es) ∙ ap is_some none)) in
+      added ∙ insert_entry-new nat_eq m k x absent
+
+  -- so there are as many as there were
+  pub as_many : i < length es → (length m.entries + 1 ≡ length es) × (length between ≡ length es)
+  as_many within =
+      let left = ap length gone in
+      let less = length_removed es i within in
+      let more = ap length added_behind ∙ length_push m.entries (k, x) in
+      (omega arith, omega arith)
+
+  -- and moved to its place it stands there under that key
+  pub renamed_there : (p : ℕ × X) (after : List (ℕ × X)) (len : ℕ) → p.1 ≡ x → slice_get es i ≡ Some p → len ≡ length m.entries → after ≡ move_index between len i → after ≡ renamed k es i
+  renamed_there p after len same at long moved =
+      moved
+      ∙ (λ j. move_index (added_behind j) (long j) i)
+      ∙ moved_last m.entries (k, x) i
+      ∙ ap (λ l. insert l i (k, x)) gone
+      ∙ ap (λ y. insert (remove es i) i (k, y)) (sym same)
+      ∙ put_back es i k p at
+
+all_but_put : {X : Type 0} (o : Option ℕ) (es : List X) (x : X) → take (length es) (option_map_or (λ (i : ℕ). es) o (es ++ x ∷ [])) ≡ es
+all_but_put None es x = all_but_new es x
+all_but_put (Some i) es x = take_all (length es) es (omega arith)
+
+-- what was put behind the others is taken off
+pub all_but_original : (ssrc : ℕ) (rtx : Option ℕ) (os : List (ℕ × ℕ)) → take (length os) (put_original ssrc rtx os) ≡ os
+all_but_original ssrc None os = take_all (length os) os (omega arith)
+all_but_original ssrc (Some rtx) os = all_but_put (place_of rtx os) os (rtx, ssrc)
 
 pub length_rekeyed : {X : Type 0} (k : ℕ) (es : List (ℕ × X)) (i : ℕ) → length (renamed k es i) ≡ length es
 length_rekeyed k [] i = refl
 length_rekeyed k (e ∷ es) zero = refl
 length_rekeyed k (e ∷ es) (suc i) = ap suc (length_rekeyed k es i)
-
--- the key is not among those that are left
-pub absent_left : {X : Type 0} (k : ℕ) (es removed : List (ℕ × X)) (i : ℕ) → place_of k es ≡ None → removed ≡ remove es i → IsAbsent k removed
-absent_left k es removed i none gone = subst (IsAbsent k) (sym gone) (absent_removed k es i (absent_of k es none))
-
-pub not_left : {X : Type 0} (k : ℕ) (es removed : List (ℕ × X)) (i : ℕ) → place_of k es ≡ None → removed ≡ remove es i → IsSome (lookup (nat_eq k) removed) → ⊥
-not_left k es removed i none gone has = subst (λ o. IsSome o) (lookup_absent k removed (absent_left k es removed i none gone)) has
-
--- there is something at a place within
-pub none_within : {X : Type 0} (es : List X) (i : ℕ) → i < length es → None ≡ slice_get es i → ⊥
-none_within [] i within at = omega arith
-none_within (e ∷ es) zero within at = cc
-none_within (e ∷ es) (suc i) within at = none_within es i (omega arith) at
 
 -- the value under the new key changes
 pub rekeyed_value : {X : Type 0} (k : ℕ) (es : List (ℕ × X)) (i : ℕ) → values_of (renamed k es i) ≡ values_of es

@@ -2,6 +2,7 @@
 use Rattle.std.proofs.Common.{◌≡◌, ℕ, zero, suc, ◌+◌, Bool, true, false, List, [], ◌∷◌, ◌++◌, Option, Some, None, Ok, Err, is_some, not, length, take, slice_get, nat_eq, position, refl, sym, ap, subst, ◌∙◌, arith, option_and_then}
 use Rattle.std.specs.Prelude.{◌==◌, Result, OnErr, if◌then◌else◌}
 use Rattle.std.specs.Map.{keys_of, values_of}
+use Rattle.std.specs.Option.{option_map_or}
 use Rattle.indexmap.specs.IndexMap.{set_value_at}
 use Rattle.resend_core.specs.ResendStore.{Past, last_position}
 use Rattle.rtx_core.specs.Resends.{ResendView, Asks, asked_for, numbers_of, created}
@@ -10,10 +11,10 @@ use Rattle.rtp_base.specs.declared.nack_entry.NackEntry.{NackEntry}
 use Rattle.repair_core.specs.Rounds.{Heard}
 use Rattle.stream_core.specs.Repairing.{SentPacket, RepairsView, RepairsRecord, RepairsStandFor, has_asked, state_in, size_of_sent}
 use Rattle.stream_core.specs.StreamsRecord.{StreamsView, StreamsRecord, StandsFor, Asked, no_repairs, asked, with_stream_tx, is_asked, all_waiting, all_asked}
-use Rattle.stream_core.specs.Tables.{place_of, value_under, with_new, change_place, change_at, Along}
+use Rattle.stream_core.specs.Tables.{place_of, value_under, with_new, with_value, change_place, change_at, Along}
 use Rattle.stream_core.specs.TxRecord.{TxRecord, declared}
 use Rattle.stream_core.proofs.TableSteps.{with_new_there, with_new_absent, along_there, along_new}
-use Rattle.stream_core.proofs.Alongside.{place_along, value_along, change_at_along, change_at_none}
+use Rattle.stream_core.proofs.Alongside.{place_along, value_along, change_at_along, change_at_none, along_more}
 
 -- a value is written over
 pub set_const : {X : Type 0} (es : List (ℕ × X)) (i : ℕ) (x y : X) → slice_get (values_of es) i ≡ Some x → set_value_at es i y ≡ change_place (λ old. y) es i
@@ -148,11 +149,6 @@ asked_there qs x rtx i v empty has place at is =
     ∙ ap (λ o. has_asked (state_in (option_and_then (slice_get (values_of qs)) o))) place
     ∙ ap (λ o. has_asked (state_in o)) at)
 
--- a value that was put last is taken out
-pub all_but_new : {X : Type 0} (es : List X) (x : X) → take (length es) (es ++ x ∷ []) ≡ es
-all_but_new [] x = refl
-all_but_new (e ∷ es) x = ap (λ l. e ∷ l) (all_but_new es x)
-
 -- a value is new in both tables, or in none
 pub along_with_new : {A B : Type 0} (R : A → B → Type 0) (xs : List (ℕ × A)) (ys : List (ℕ × B)) (k : ℕ) (x : A) (y : B) → Along R xs ys → R x y → Along R (with_new k x xs) (with_new k y ys)
 along_with_new R xs ys k x y h r = by (is_some (place_of k xs)) refl
@@ -160,6 +156,28 @@ along_with_new R xs ys k x y h r = by (is_some (place_of k xs)) refl
     by : (b : Bool) → is_some (place_of k xs) ≡ b → Along R (with_new k x xs) (with_new k y ys)
     by true e = subst (λ l. Along R l (with_new k y ys)) (sym (with_new_there k x xs e)) (along_there R xs ys k y h e)
     by false e = subst (λ l. Along R l (with_new k y ys)) (sym (with_new_absent k x xs e)) (along_new R xs ys k x y h r e)
+
+-- a value is put under a key of both tables
+changed_both : {A B : Type 0} (R : A → B → Type 0) (xs : List (ℕ × A)) (ys : List (ℕ × B)) (i : ℕ) (x : A) (y : B) → Along R xs ys → R x y
+    → Along R (change_place (λ old. x) xs i) (change_place (λ old. y) ys i)
+changed_both R [] [] i x y h r = h
+changed_both R [] (b ∷ ys) i x y h r = absurd h
+changed_both R (a ∷ xs) [] i x y h r = absurd h
+changed_both R (a ∷ xs) (b ∷ ys) zero x y h r = ((h.0.0, r), h.1)
+changed_both R (a ∷ xs) (b ∷ ys) (suc i) x y h r = (h.0, changed_both R xs ys i x y h.1 r)
+
+pub along_with_value : {A B : Type 0} (R : A → B → Type 0) (xs : List (ℕ × A)) (ys : List (ℕ × B)) (k : ℕ) (x : A) (y : B) → Along R xs ys → R x y → Along R (with_value k x xs) (with_value k y ys)
+along_with_value R xs ys k x y h r =
+    subst (λ o. Along R (with_value k x xs) (option_map_or (change_place (λ old. y) ys) o (ys ++ (k, y) ∷ []))) (place_along R xs ys k h) (by (place_of k xs))
+  where
+    by : (o : Option ℕ) → Along R (option_map_or (change_place (λ old. x) xs) o (xs ++ (k, x) ∷ [])) (option_map_or (change_place (λ old. y) ys) o (ys ++ (k, y) ∷ []))
+    by None = along_more R xs ys k x y h r
+    by (Some i) = changed_both R xs ys i x y h r
+
+-- a value that a key has is written over
+pub with_value_there : {X : Type 0} (k i : ℕ) (x old : X) (es : List (ℕ × X)) → place_of k es ≡ Some i → slice_get (values_of es) i ≡ Some old → set_value_at es i x ≡ with_value k x es
+with_value_there k i x old es place at =
+    set_const es i old x at ∙ sym (ap (λ o. option_map_or (change_place (λ was. x) es) o (es ++ (k, x) ∷ [])) place)
 
 -- a stream with repairs is declared
 pub tx_new : {W S : Type 0} (remembers : W → Heard → Type 0) (stands_for : S → Past SentPacket → Type 0) (s inside : StreamsView W S) → inside ≡ s

@@ -1,19 +1,24 @@
 -- A stream that sends begins anew under another SSRC.
-use Rattle.std.proofs.Common.{◌≡◌, ℕ, true, List, Option, Some, None, is_some, slice_get, refl, sym, ap, subst, ◌∙◌}
-use Rattle.std.specs.Prelude.{if◌then◌else◌}
+use Rattle.std.proofs.Common.{◌≡◌, ℕ, true, List, Option, Some, None, is_some, slice_get, sym, ap, subst, ◌∙◌}
+use Rattle.std.specs.Prelude.{if◌then◌else◌, Result, Ok, Err, IfOk}
 use Rattle.std.specs.Map.{values_of}
 use Rattle.std.specs.Option.{option_map}
 use Rattle.indexmap.specs.IndexMap.{set_value_at}
 use Rattle.repair_core.specs.Rounds.{Heard}
 use Rattle.resend_core.specs.ResendStore.{Past}
-use Rattle.rtx_core.specs.Resends.{created}
-use Rattle.stream_core.specs.Repairing.{SentPacket, RepairsView, RepairsRecord, RepairsStandFor, begun_anew}
+use Rattle.rtx_core.specs.Resends.{created, begun_anew}
+use Rattle.stream_core.specs.Repairing.{SentPacket, RepairsView, RepairsRecord, RepairsStandFor}
 use Rattle.stream_core.specs.StreamsRecord.{StreamsView, StreamsRecord, StandsFor, anew_from, with_anew, with_reset_tx}
-use Rattle.stream_core.specs.Tables.{place_of, value_under, with_new, without_key, change_at, renamed, rekeyed, Along}
+use Rattle.stream_core.specs.Tables.{place_of, value_under, with_value, without_key, change_at, renamed, rekeyed, Along}
 use Rattle.stream_core.specs.TxRecord.{TxRecord, anew_under}
 use Rattle.stream_core.proofs.Renaming.{rekeyed_value, set_rekeyed, rekeyed_is}
-use Rattle.stream_core.proofs.RepairSteps.{repairs_there, repairs_none, along_with_new}
+use Rattle.stream_core.proofs.RepairSteps.{repairs_there, repairs_none, along_with_value}
 use Rattle.stream_core.proofs.TableSteps.{without_along}
+
+-- what holds of a value for each record holds for each record of the value
+pub if_ok_each : {X E R : Type 0} (x : Result X E) (H : R → Type 0) (P : R → X → Type 0) → ((r : R) → H r → IfOk x (P r)) → IfOk x (λ a. (r : R) → H r → P r a)
+if_ok_each (Ok a) H P each = each
+if_ok_each (Err e) H P each = tt
 
 -- what a stream sends again begins anew, by what it had
 module _ {S : Type 0} (stands_for : S → Past SentPacket → Type 0) (vs : List (ℕ × RepairsView S)) (ssrc first : ℕ) (q : RepairsView S) where
@@ -59,16 +64,16 @@ module _ {W S : Type 0} (remembers : W → Heard → Type 0) (stands_for : S →
   pub reset_some : (rtx first : ℕ) (named : List (ℕ × TxRecord)) (x y : TxRecord) (q : RepairsView S) (both left : List (ℕ × RepairsView S)) → named ≡ renamed to inside.tx i
       → slice_get (values_of named) i ≡ Some x → y ≡ anew_under to (Some rtx) x
       → ((rs : List (ℕ × RepairsRecord)) → Along (RepairsStandFor stands_for) inside.repairs rs → RepairsStandFor stands_for q (anew_from first (value_under ssrc rs)))
-      → both ≡ with_new to q inside.repairs → left ≡ without_key ssrc both
+      → both ≡ with_value to q inside.repairs → left ≡ without_key ssrc both
       → (r : StreamsRecord) → StandsFor remembers stands_for s r
       → StandsFor remembers stands_for (record inside { tx = set_value_at named i y; repairs = left }) (with_reset_tx ssrc to (Some (rtx, first)) r)
   reset_some rtx first named x y q both left renamed at anew stands put gone r h =
       let R = RepairsStandFor stands_for in
       let m = mine r h in
       let new = anew_from first (value_under ssrc r.repairs) in
-      let all = along_with_new R inside.repairs r.repairs to q new m.repairs (stands r.repairs m.repairs) in
+      let all = along_with_value R inside.repairs r.repairs to q new m.repairs (stands r.repairs m.repairs) in
       reset_with (Some (rtx, first)) named x y left renamed at anew r h
-      (subst (λ l. Along R l (without_key ssrc (with_new to new r.repairs))) (sym (gone ∙ ap (without_key ssrc) put)) (without_along R (with_new to q inside.repairs) (with_new to new r.repairs) ssrc all))
+      (subst (λ l. Along R l (without_key ssrc (with_value to new r.repairs))) (sym (gone ∙ ap (without_key ssrc) put)) (without_along R (with_value to q inside.repairs) (with_value to new r.repairs) ssrc all))
 
   -- it has none
   pub reset_none : (named : List (ℕ × TxRecord)) (x y : TxRecord) (left : List (ℕ × RepairsView S)) → named ≡ renamed to inside.tx i

@@ -71,3 +71,8 @@ pub keys_set_value_at : {X : Type 0} (es : List (ℕ × X)) (i : ℕ) (w : X) �
 keys_set_value_at [] i w = refl
 keys_set_value_at (e ∷ es) zero w = refl
 keys_set_value_at (e ∷ es) (suc i) w = ap (λ ks. e.0 ∷ ks) (keys_set_value_at es i w)
+
+-- all but what was put behind the others
+pub all_but_new : {X : Type 0} (es : List X) (x : X) → take (length es) (es ++ x ∷ []) ≡ es
+all_but_new [] x = refl
+all_but_new (e ∷ es) x = ap (λ l. e ∷ l) (all_but_new es x)

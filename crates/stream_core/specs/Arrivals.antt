@@ -1,5 +1,5 @@
 -- What streams count of their packets for reports.
-use Rattle.std.specs.Prelude.{ℕ, ◌+◌, ◌-◌, Bool, true, false, length, Option, Some, None}
+use Rattle.std.specs.Prelude.{ℕ, ◌+◌, ◌-◌, Bool, true, length, Option, Some, None}
 use Rattle.std.specs.Option.{option_map}
 use Rattle.repair_core.specs.Counts.{no_counts, counted, after_point}
 use Rattle.repair_core.specs.declared.jitter.TimePoint.{TimePoint}

@@ -1,11 +1,11 @@
 -- Of which incoming stream a datagram is, by its SSRC and its header.
-use Rattle.std.specs.Prelude.{◌==◌, ◌||◌, not, ℕ, Bool, is_some, if◌then◌else◌, List, [], ◌∷◌, Option, Some, None}
+use Rattle.std.specs.Prelude.{◌==◌, ◌||◌, not, ℕ, Bool, if◌then◌else◌, List, [], Option, Some, None}
 use Rattle.std.specs.List.{filter}
 use Rattle.mapping_core.specs.Streams.{with_stream, with_main as with_main_known, with_repairs as with_repairs_known, without}
 use Rattle.mapping_core.specs.declared.mapping.MainChange.{MainChange}
 use Rattle.mapping_core.specs.declared.mapping.RepairsChange.{RepairsChange}
 use Rattle.mapping_core.specs.declared.stream.IncomingStream.{IncomingStream}
-use Rattle.stream_core.specs.Tables.{place_of, with_new, without_value, each}
+use Rattle.stream_core.specs.Tables.{with_new, without_value, each}
 
 -- under each SSRC of repairs that comes, the SSRC of the stream that is repaired; and what tells of each stream whether an SSRC
 -- that no table has is its own, in order of declaration

@@ -22,7 +22,7 @@ use Rattle.stream_core.specs.Queue.{next_of}
 use Rattle.stream_core.specs.Repairing.{SentPacket, RepairsView, RepairsRecord, RepairsStandFor, Polls, Stays, IsUsedUp, has_asked, state_in, repairs_of, with_repairs, size_of_sent}
 use Rattle.stream_core.specs.RxRecord.{RxView, RxRecord, expected, fresh_number, moved_to, repaired_under, StandsFor as RxStandsFor}
 use Rattle.stream_core.specs.RxRepairs.{own_number, fresh_repair, restored_for, restored}
-use Rattle.stream_core.specs.Tables.{place_of, value_under, with_new, without_key, change_place, change_at, renamed, Along, without_value, rekeyed}
+use Rattle.stream_core.specs.Tables.{place_of, value_under, with_new, with_value, without_key, change_place, change_at, renamed, Along, rekeyed}
 use Rattle.stream_core.specs.TxRecord.{TxRecord, declared, anew_under}
 
 -- the streams as their callers see them: how long nothing comes on an incoming one until it is paused, where nothing else is
@@ -127,7 +127,7 @@ anew_from first (Some q) = begun_anew first q
 -- and that of all streams, where the stream of an SSRC begins anew under another one
 abbrev pub with_anew : (ssrc to : ℕ) → Option ℕ → List (ℕ × RepairsRecord) → List (ℕ × RepairsRecord)
 with_anew ssrc to None qs = without_key ssrc qs
-with_anew ssrc to (Some first) qs = without_key ssrc (with_new to (anew_from first (value_under ssrc qs)) qs)
+with_anew ssrc to (Some first) qs = without_key ssrc (with_value to (anew_from first (value_under ssrc qs)) qs)
 
 -- the streams after the one that sends under an SSRC began anew under another one, in its place, with another SSRC and a
 -- first number of its repairs, if it has them from then on

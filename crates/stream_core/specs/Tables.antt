@@ -38,6 +38,10 @@ change_place f (e ∷ es) (suc i) = e ∷ change_place f es i
 abbrev pub change_at : {X : Type 0} → ℕ → (X → X) → List (ℕ × X) → List (ℕ × X)
 change_at k f es = option_map_or (change_place f es) (place_of k es) es
 
+-- the table with a value under a key: in the place of the one that the key has, or behind the others
+abbrev pub with_value : {X : Type 0} → ℕ → X → List (ℕ × X) → List (ℕ × X)
+with_value k x es = option_map_or (change_place (λ old. x) es) (place_of k es) (es ++ (k, x) ∷ [])
+
 -- the key at a place becomes another one
 abbrev pub renamed : {X : Type 0} → ℕ → List (ℕ × X) → ℕ → List (ℕ × X)
 renamed k [] i = []

@@ -102,11 +102,13 @@ fn put_row(
     }
     let len = claims.len();
     claims.push(row.claim())?;
-    if rows.insert(row.pt, row).is_err() {
-        claims.truncate(len);
-        return Err(AllocError);
+    match rows.insert(row.pt, row) {
+        Ok(_) => Ok(()),
+        Err(error) => {
+            claims.truncate(len);
+            Err(AllocError::from(error))
+        }
     }
-    Ok(())
 }
 
 impl PayloadTypes {

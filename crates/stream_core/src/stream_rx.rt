@@ -124,8 +124,9 @@ pub fn first_number(low: u16, remembered: Option<SeqNo>) -> Option<SeqNo>
     ensures small { IfSome result (λ n. n < 2 ^ 48) }
     ensures low { IfSome result (λ n. n % 65536 ≡ low) }
 {
-    let number = SeqNo::from(widen16(number_of(remembered), low));
-    if is_above(remembered, number) {
+    let before = &remembered;
+    let number = SeqNo::from(widen16(number_of(*before), low));
+    if is_above(*before, number) {
         Some(number)
     } else {
         None
@@ -302,6 +303,13 @@ impl<W: GapWindow> StreamRx<W> {
         Ok(())
     }
 
+    /// Forgets the numbers that were taken.
+    fn forget_numbers(&mut self)
+        ensures { self.new ≡ record self.old { window = None } }
+    {
+        self.window = None;
+    }
+
     /// Something opened at a moment: the stream is not paused until its threshold has passed.
     fn unpause(&mut self, now: Instant)
         ensures { self.new ≡ record self.old { state = unpaused now self.old.state } }
@@ -443,7 +451,7 @@ impl<W: GapWindow> StreamRx<W> {
     pub fn reset_roc(&mut self, roc: u32)
         ensures { (r : RxRecord) → StandsFor W.remembers self.old r → StandsFor W.remembers self.new (restarted roc r) }
     {
-        self.window = None;
+        self.forget_numbers();
         self.repairs = RepairWindow::new();
         self.roc = Some(roc);
         self.reports.forget();
@@ -460,7 +468,7 @@ impl<W: GapWindow> StreamRx<W> {
         self.roc = None;
         self.reports = RxReports::new();
         self.requests = RxRequests::new();
-        self.window = None;
+        self.forget_numbers();
     }
 
     /// Its repairs come under another SSRC, or for the first time under one. What was taken of them is

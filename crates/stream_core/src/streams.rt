@@ -198,11 +198,6 @@ impl<W: GapWindow, S: ResendStore<Sent>> Streams<W, S> {
         if self.rx.place(ssrc).is_some() {
             return Ok(());
         }
-        let threshold = self.pause_threshold;
-        self.next_untold = 0;
-        let len = self.rx.len();
-        let stream = StreamRx::new(self.alloc, ssrc, rtx, mid_rid, suppress_nack, threshold);
-        self.rx.add(ssrc, stream)?;
         let known = IncomingStream {
             ssrc,
             rtx,
@@ -211,6 +206,12 @@ impl<W: GapWindow, S: ResendStore<Sent>> Streams<W, S> {
             previous: None,
             suppress_nack,
         };
+        let threshold = self.pause_threshold;
+        self.next_untold = 0;
+        let len = self.rx.len();
+        let names = MidRid(known.mid, known.rid);
+        let stream = StreamRx::new(self.alloc, ssrc, known.rtx, names, suppress_nack, threshold);
+        self.rx.add(ssrc, stream)?;
         match self.known.expect(&known) {
             Ok(()) => Ok(()),
             Err(error) => {

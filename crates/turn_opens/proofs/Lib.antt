@@ -9,4 +9,3 @@ pub mod Session
 pub mod Opening
 pub mod Turning
 pub mod Turns
-pub mod Unmapped

@@ -20,8 +20,7 @@ use Rattle.stream_core.specs.StreamsRecord.{restored_on, restored_number_on}
 use Rattle.stream_core.specs.Tables.{value_under, place_of, change_place, change_at}
 use Rattle.session_core.specs.declared.datagram.Opened.{Opened as Opening}
 use Rattle.session_core.specs.Calls.{after_events}
-use Rattle.session_core.specs.Receiving.{packet_from, packet_after, packet_restored, rx_opened as real_opened, probes_opened, arrival_of, cut as cut_here, after_opened, after_repair, after_restoring, after_repaired, opening_of, Opens as OpensHere, OpensRepair as OpensRepairHere, Receives, HeaderNumbersFit, opened as opened_so, repaired as repaired_so, padding as padding_so, stays as stays_so}
-use Rattle.session_core.specs.Mapping.{taken_up_for}
+use Rattle.session_core.specs.Receiving.{packet_from, packet_after, packet_restored, rx_opened as real_opened, probes_opened, arrival_of, cut as cut_here, after_opened, after_repair, after_restoring, after_repaired, opening_of, Opens as OpensHere, OpensRepair as OpensRepairHere, Takes, takes_packet, takes_repair, takes_nothing, HeaderNumbersFit}
 use Rattle.session_core.specs.Repairs.{is_known, repair_accepted, original_number, restored_header}
 use Rattle.session_core.specs.SessionRecord.{SessionRecord}
 use Rattle.media_model.specs.declared.entry.Side.{Side}
@@ -35,7 +34,7 @@ use Rattle.run_model.specs.RxPlay.{RxRecord, lists_in, rx_first, rx_tried, rx_re
 use Rattle.run_model.specs.Whole.{Config, Session, probes, stays}
 use Rattle.session_turns.specs.Reading.{types_in, packet_told, yields_of, events_opened}
 use Rattle.session_turns.specs.Mirrors.{TxMirrors, RxMirrors, RxStands, Mirrors, IsFit}
-use Rattle.session_turns.specs.Laws.{TurnsTo, OpensTurn}
+use Rattle.session_turns.specs.Laws.{TurnsTo, MapsNothing, OpensTurn}
 use Rattle.turn_opens.proofs.Records.{low_again, where_fresh, fresh_where}
 use Rattle.turn_opens.proofs.Keyed.{place_changed, changed_again, value_changed}
 use Rattle.turn_opens.proofs.Changes.{restored_at, own_at, is_own_fresh, number_is, restored_is, restored_where, accepted_is, others_same, first_opened, repair_opened_as, original_opened, same_state}
@@ -44,7 +43,6 @@ use Rattle.turn_opens.proofs.Sealing.{plain_by}
 use Rattle.turn_opens.proofs.Session.{RxParts, repair_main, repair_rtx, repair_probes, zero_repaired, zero_number, main_repaired, main_number, rtx_repaired, rtx_number, away_repaired, away_number}
 use Rattle.turn_opens.proofs.Opening.{parts, fits, no_zero, originals, Comes, first_opens, repair_opens, opened_to, in_none, none_some, nothing_opens}
 use Rattle.turn_opens.proofs.Turning.{made, moves, Made, turn_from, moved_to, streams_at, streams_first, rx_told}
-use Rattle.turn_opens.proofs.Unmapped.{taken_same, no_padding}
 use Rattle.turn_opens.proofs.Streams.{Real, Plain, IsLine, AllAway, IsAt, in_at, at_stands, at_place, at_value, concerned, concerns_main, find_one}
 
 -- what a repair carries
@@ -553,22 +551,12 @@ module _ (cipher : CipherMeaning) (C : Config) (side : Side) (r : SessionRecord)
         runs = refl;
       })
 
-  same : (h : RtpHeader) → taken_up_for h r ≡ r
-  same h = taken_same r mirrors.sections mirrors.known h
-
-  pub turns_so : (after : SessionRecord) (o : Option Opening) → Receives cipher r bytes time after o
+  pub turns_so : (after : SessionRecord) (o : Option Opening) → Takes cipher r bytes time after o
       → TurnsTo cipher C side r a (after_events after) (got time Rtp bytes ∷ events_opened r.state.transport.exts o after.state.packet)
-  turns_so _ _ (opened_so h n payload o) =
-      subst (λ (u : SessionRecord). Turn (after_opened time h n payload u) h n payload) (sym (same h))
-      (opened_turn h n payload (subst (λ (u : SessionRecord). OpensHere cipher u bytes h n payload) (same h) o))
-  turns_so _ _ (repaired_so h original n payload o) =
-      subst (λ (u : SessionRecord). Turn (after_repaired time h original n payload u) h n payload) (sym (same h))
-      (repaired_turn h original n payload (subst (λ (u : SessionRecord). OpensRepairHere cipher u bytes h original n payload) (same h) o))
-  turns_so _ _ (padding_so h n payload o) = absurd (no_padding r mirrors.sections mirrors.known h o.early)
-  turns_so _ _ (stays_so no_first no_repair no_early) =
-      stays_turn
-      (λ h n payload o. no_first h n payload (subst (λ (u : SessionRecord). OpensHere cipher u bytes h n payload) (sym (same h)) o))
-      (λ h original n payload o. no_repair h original n payload (subst (λ (u : SessionRecord). OpensRepairHere cipher u bytes h original n payload) (sym (same h)) o))
+  turns_so _ _ (takes_packet h n payload o) = opened_turn h n payload o
+  turns_so _ _ (takes_repair h original n payload o) = repaired_turn h original n payload o
+  turns_so _ _ (takes_nothing no_first no_repair) = stays_turn no_first no_repair
 
-pub opens_turn : ReadsOwnBytes → HeaderNumbersFit → OpensTurn
-opens_turn own small cipher C side r after a time bytes o fit h le early are receives = turns_so cipher C side r a fit h own bytes time le early are small after o receives
+pub opens_turn : ReadsOwnBytes → HeaderNumbersFit → MapsNothing → OpensTurn
+opens_turn own small alone cipher C side r after a time bytes o fit h le early are receives =
+    turns_so cipher C side r a fit h own bytes time le early are small after o (alone cipher C side r after a time bytes o h receives)

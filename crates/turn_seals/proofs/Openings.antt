@@ -23,12 +23,13 @@ use Rattle.stream_core.specs.Tables.{value_under, place_of}
 use Rattle.session_core.specs.declared.datagram.Opened.{Opened as Opening}
 use Rattle.session_core.specs.Hearing.{ReceivesRtcp, RtcpOpensIn, opened as heard, stays as ignored, rtcp_opening_of}
 use Rattle.session_core.specs.Repairs.{padded_accepted, repair_accepted}
-use Rattle.session_core.specs.Receiving.{number_of, OpensIn, Receives, HeaderNumbersFit, opened, repaired, stays, opening_of}
+use Rattle.session_core.specs.Receiving.{number_of, OpensIn, Takes, takes_packet, takes_repair, takes_nothing, HeaderNumbersFit, opening_of}
 use Rattle.session_core.specs.SessionRecord.{SessionRecord}
 use Rattle.run_model.specs.Events.{Incoming}
 use Rattle.run_model.specs.RxPlay.{RxRecord as PlainRx}
 use Rattle.session_turns.specs.Reading.{len_in}
 use Rattle.session_turns.specs.Mirrors.{RxStands, RxMirror, rx_mirror}
+use Rattle.session_turns.specs.Laws.{MapsNothing}
 use Rattle.session_turns.specs.Rights.{IsRightOpening, OpeningsAreRight, IsRightRtcpOpening, RtcpOpeningsAreRight}
 use Rattle.turn_seals.proofs.Tests.{some_and_then, tested}
 
@@ -128,16 +129,16 @@ opens_with cipher o other h n bytes payload e opens = subst (λ (k : Option Srtp
 
 module _ (cipher : CipherMeaning) (r : SessionRecord) (other : SrtpState) (time : ℕ) (bytes : List ℕ) (own : ReadsOwnBytes) (fit : HeaderNumbersFit)
     (counts : AllByRecursion HasNoCount r.rx) (none : r.probes.state.roc ≡ None) (are : (i : ℕ) → get_or bytes i 0 < 256) (key : r.state.opening ≡ Some other) where
-  opened_right : (after : SessionRecord) (o : Option Opening) (p : Opening) → o ≡ Some p → Receives cipher r bytes time after o
+  opened_right : (after : SessionRecord) (o : Option Opening) (p : Opening) → o ≡ Some p → Takes cipher r bytes time after o
       → IsRightOpening cipher r.state.transport.exts other bytes p
-  opened_right _ _ p e (opened h n payload opens) =
+  opened_right _ _ p e (takes_packet h n payload opens) =
       let same : opening_of bytes h n payload ≡ p = cc in
       let lt : h.sequence_number < 65536 = fit r.state.transport.exts bytes h are opens.reads in
       let low : h.sequence_number ≡ n % 65536 = number_low (seen_of h.ssrc r.seen) r.rx r.probes h.ssrc h.sequence_number n counts none lt opens.accepts in
       subst (IsRightOpening cipher r.state.transport.exts other bytes) same
       (right_as cipher r.state.transport.exts other bytes h n payload own opens.reads low
       (opens_with cipher r.state.opening other h n bytes payload key opens.opens))
-  opened_right _ _ p e (repaired h original n payload opens) =
+  opened_right _ _ p e (takes_repair h original n payload opens) =
       let same : opening_of bytes h n payload ≡ p = cc in
       let lt : h.sequence_number < 65536 = fit r.state.transport.exts bytes h are opens.reads in
       let at = some_and_then (repair_accepted r.seen h) (value_under original r.rx) n opens.accepts in
@@ -145,16 +146,16 @@ module _ (cipher : CipherMeaning) (r : SessionRecord) (other : SrtpState) (time 
       subst (IsRightOpening cipher r.state.transport.exts other bytes) same
       (right_as cipher r.state.transport.exts other bytes h n payload own opens.reads low
       (opens_with cipher r.state.opening other h n bytes payload key opens.opens))
-  opened_right _ _ p e (stays no_packet no_repair) = absurd cc
+  opened_right _ _ p e (takes_nothing no_packet no_repair) = absurd cc
 
 mirror_counts : (threshold : ℕ) (trip : Option ℕ) (r : SessionRecord) (ss : List (Incoming × PlainRx)) → RxMirror threshold trip r ss
     → (r.probes.state.roc ≡ None) × AllByRecursion HasNoCount r.rx
 mirror_counts threshold trip r _ (rx_mirror s rest is probes stands) = (probes.roc, no_counts threshold trip r.seen r.rx rest stands)
 
-pub openings_are_right : ReadsOwnBytes → HeaderNumbersFit → OpeningsAreRight
-openings_are_right own fit cipher C side r after a other time bytes o mirrors key are receives =
+pub openings_are_right : ReadsOwnBytes → HeaderNumbersFit → MapsNothing → OpeningsAreRight
+openings_are_right own fit alone cipher C side r after a other time bytes o mirrors key are receives =
     let counts = mirror_counts C.threshold a.rx.trip r a.rx.table mirrors.rx in
-    opened_right cipher r other time bytes own fit counts.1 counts.0 are key after (Some o) o refl receives
+    opened_right cipher r other time bytes own fit counts.1 counts.0 are key after (Some o) o refl (alone cipher C side r after a time bytes (Some o) mirrors receives)
 
 -- RTCP
 rtcp_right : (cipher : CipherMeaning) (opening : Option SrtpState) (other : SrtpState) (bytes plain : List ℕ) → opening ≡ Some other → RtcpOpensIn cipher opening bytes plain

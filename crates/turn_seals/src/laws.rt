@@ -2,6 +2,7 @@ ghost use Rattle.session_turns.specs.Rights.{CallsAreRight, OpeningsAreRight, Rt
 
 use rtp_wire::{header_reads_own_bytes, written_header_is_read_again};
 use session_core::{header_numbers_fit, tick_items_fit};
+use session_turns::maps_nothing;
 
 /// All that leaves at a tick, also before an error ends it, is right: RTP of the session's own
 /// streams, whose plain reads with the SSRC and the low 16 bits of the number under which it is
@@ -25,6 +26,7 @@ pub fn openings_are_right()
 {
     header_reads_own_bytes();
     header_numbers_fit();
+    maps_nothing();
 }
 
 /// An RTCP datagram that opens is the seal of the plain that is told, under the index that it states.

@@ -13,6 +13,7 @@ pub mod keep_in_a_queue;
 pub mod map_a_datagram;
 pub mod measure_a_trip;
 pub mod pace_packets;
+pub mod place_a_block;
 pub mod play_a_run;
 pub mod put_into_order;
 pub mod queue_a_packet;

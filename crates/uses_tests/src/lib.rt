@@ -2,4 +2,6 @@
 #![tactic(auto)]
 
 #[cfg(test)]
+mod belonging;
+#[cfg(test)]
 mod callers;

@@ -121,16 +121,19 @@ impl<C: SrtpCipher, W: GapWindow, S: ResendStore<Sent>> Session<C, W, S> {
         ensures runs { self.new.state.stopped ≡ self.old.state.stopped }
         ensures err { OnErr result (self.new ≡ record self.old { rx = self.new.rx; known = self.new.known; probes = self.new.probes; seen = self.new.seen }) }
     {
-        let Some((number, repair)) = first_opening(
-            &self.types,
-            &self.streams,
-            &self.seen,
-            header,
-            mapping,
-        ) else {
+        let Some(found) = first_opening(&self.types, &self.streams, &self.seen, header, mapping)
+        else {
             return Ok(None);
         };
-        let Some(opening) = open(self.alloc, &mut self.opening, bytes, header, number, repair)?
+        let number = found.0;
+        let Some(opening) = open(
+            self.alloc,
+            &mut self.opening,
+            bytes,
+            header,
+            number,
+            found.1,
+        )?
         else {
             return Ok(None);
         };
@@ -169,9 +172,9 @@ impl<C: SrtpCipher, W: GapWindow, S: ResendStore<Sent>> Session<C, W, S> {
         ensures err { OnErr result (self.new ≡ record self.old { rx = self.new.rx; probes = self.new.probes; seen = self.new.seen }) }
     {
         match repaired_by(&self.types, &self.streams, header) {
-            Some((original, place)) => {
-                self.take_repair(now, header, place, number)?;
-                self.restore_packet(now, header, original, place, low, payload)
+            Some(found) => {
+                self.take_repair(now, header, found.1, number)?;
+                self.restore_packet(now, header, found.0, found.1, low, payload)
             }
             None => {
                 let place = self.streams.rx_place(header.ssrc);

@@ -3,7 +3,7 @@ ghost use Rattle.std.specs.Prelude.{◌≡◌, ◌<◌, ◌≤◌, ◌^◌, ℕ,
 ghost use Rattle.std.specs.Option.{ForSome};
 ghost use Rattle.stream_core.specs.Repairing.{RepairsRecord, RepairsStandFor};
 ghost use Rattle.stream_core.specs.StreamsRecord.{StreamsRecord, StandsFor, anew_from, with_reset_tx};
-ghost use Rattle.stream_core.specs.Tables.{Along, place_of, value_under, with_new, renamed};
+ghost use Rattle.stream_core.specs.Tables.{Along, place_of, value_under, with_value, renamed};
 
 use super::Streams;
 use crate::repairing::Sent;
@@ -32,7 +32,8 @@ fn repairs_from<S: ResendStore<Sent>>(
 }
 
 /// Has the value at a place of a table stand under another key, which none has, and puts another value
-/// behind those of a second table under that key, where none has it. Without memory nothing changes.
+/// under that key of a second table, in the place of the one that it has or behind the others. Without
+/// memory nothing changes.
 fn rename_with<A: Drop, B: Drop>(
     one: &mut SsrcTable<A>,
     other: &mut SsrcTable<B>,
@@ -44,11 +45,12 @@ fn rename_with<A: Drop, B: Drop>(
     requires key { place_of key one.old ≡ None }
     ensures one { OnOk result (one.new ≡ renamed key one.old place) }
     ensures len { OnOk result (length one.new ≡ length one.old) }
-    ensures other { OnOk result (other.new ≡ with_new key value other.old) }
+    ensures other { OnOk result (other.new ≡ with_value key value other.old) }
     ensures err { OnErr result ((one.new ≡ one.old) × (other.new ≡ other.old)) }
 {
-    if other.place(key).is_some() {
+    if let Some(at) = other.place(key) {
         one.rename(place, key)?;
+        *other.at_mut(at) = value;
         return Ok(());
     }
     let len = other.len();

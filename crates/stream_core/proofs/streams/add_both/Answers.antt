@@ -1,5 +1,5 @@
 use Rattle.std.proofs.Common.{take, ◌∙◌}
-use Rattle.stream_core.proofs.RepairSteps.{all_but_new}
+use Rattle.stream_core.proofs.TableSteps.{all_but_new}
 use Rattle.stream_core.proofs.streams.add_both.Goals as goal
 
 pub returns-in-Err-clause-err : goal.returns-in-Err-clause-err

@@ -15,7 +15,7 @@ use Rattle.session_core.specs.Receiving.{Unpads, OpensIn, IsOpening, Receives, c
 use Rattle.session_core.specs.Repairs.{repaired_by, original_number}
 use Rattle.session_core.specs.SessionRecord.{streams_in, with_incoming, SessionState, SessionRecord, SessionView, StandsFor}
 use Rattle.session_core.proofs.Openings.{strange, has_place}
-use Rattle.session_core.proofs.Others.{opening_kept}
+use Rattle.session_core.proofs.Others.{opening_kept, mapped_state}
 use Rattle.session_core.proofs.StreamsIn.{streams_stand}
 use Rattle.session_core.proofs.Taking.{strange_mapped, stays_closed, no_packet, no_repair, sealed_packet, sealed_repair, number_of_repair, number_of_packet}
 use Rattle.session_core.proofs.session.Session.receive_mapped.Goals as goal
@@ -79,8 +79,8 @@ returns-in_default-2-clause-received g c = λ r h reads away mapped somewhere.
     let mine = subst (λ s. StandsFor R S s r) (sym c.self.view_is) h in
     let x = c.args.header.now in
     let bytes = c.args.bytes.now in
-    let n = c.in-Some.number in
-    let b = c.in-Some.repair in
+    let n = c.in-Some.found.0 in
+    let b = c.in-Some.found.1 in
     let is = strange_mapped x r away in
     let one : opening_number x (taken_up_for x r) ≡ Some (n, b) =
     ap (λ (m : Mapping). opening_number x (with_incoming (taken_up x.ssrc m (streams_in r)) r)) (is ∙ sym mapped)
@@ -111,8 +111,8 @@ returns-clause-received g c = λ r h reads away mapped somewhere.
     let x = c.args.header.now in
     let bytes = c.args.bytes.now in
     let now = c.args.now in
-    let n = c.in-Some.number in
-    let b = c.in-Some.repair in
+    let n = c.in-Some.found.0 in
+    let b = c.in-Some.found.1 in
     let is = strange_mapped x r away in
     let u : SessionRecord = taken_up_for x r in
     let one : opening_number x u ≡ Some (n, b) =
@@ -124,7 +124,7 @@ returns-clause-received g c = λ r h reads away mapped somewhere.
     let up : StreamsStand R S c.take_up.new.self (taken_up x.ssrc (mapping_for x r) (streams_in r)) =
     subst (λ (m : Mapping). StreamsStand R S c.take_up.new.self (taken_up x.ssrc m (streams_in r))) (mapped ∙ sym is) (c.in_ok-take_up.ensures.ok (streams_in r) (streams_stand R S _ r mine)) in
     let stands : StandsFor R S _ u = record {
-      state = (λ j. record c.self.inside { pause_threshold = c.in_ok-take_up.ensures.threshold j; opening = c.open.ensures.same j; tx = c.in_ok-take_up.ensures.tx j }) ∙ mine.state;
+      state = mapped_state _ r.state c.take_up.new.self.threshold c.open.new.opening c.take_up.new.self.tx mine.state c.in_ok-take_up.ensures.threshold c.open.ensures.same c.in_ok-take_up.ensures.tx;
       rx = up.rx;
       known = up.known;
       probes = mine.probes;

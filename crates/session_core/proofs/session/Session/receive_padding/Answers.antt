@@ -67,6 +67,7 @@ returns-then-not-is_early_padding-clause-received g c = λ r now h reads away no
     let x = c.args.header.now in
     let early : is_early_padding (rids_for x r.state.medias) (claims_in r.state.types) x ≡ false =
     ap (λ (s : SessionState). is_early_padding (rids_for x s.medias) (claims_in s.types) x) (sym mine.state)
+    ∙ ap (λ l. is_early_padding (rids_for x l) (claims_in c.self.inside.types) x) (sym c.as_slice.ensures.value)
     ∙ (λ j. is_early_padding (sym c.rids_for-rids.ensures j) (sym c.claims.ensures j) x) ∙ sym c.is_early_padding.ensures ∙ c.if-not-is_early_padding.true in
     (r, closed K r c.args.bytes.now x reads away nowhere now (late K r c.args.bytes.now x reads away nowhere early), h)
 
@@ -131,6 +132,7 @@ returns-clause-received g c = λ r now h reads away nowhere.
     let number : unseen_number r.seen x ≡ Some n = sym (c.in-Some.ensures.number r.seen mine.seen) in
     let early : is_early_padding (rids_for x r.state.medias) (claims_in r.state.types) x ≡ true =
     ap (λ (s : SessionState). is_early_padding (rids_for x s.medias) (claims_in s.types) x) (sym mine.state)
+    ∙ ap (λ l. is_early_padding (rids_for x l) (claims_in c.self.inside.types) x) (sym c.as_slice.ensures.value)
     ∙ (λ j. is_early_padding (sym c.rids_for-rids.ensures j) (sym c.claims.ensures j) x) ∙ sym c.is_early_padding.ensures ∙ c.if-not-is_early_padding.false in
     let o : IsOpening K c.self.inside.opening x n false c.args.bytes.now c.in-Some-2.opening.plain c.in-Some-2.opening.original c.in-Some-2.opening.payload = rw c.in-Some-2.is at c.in_ok-opening.ensures.opened in
     let opens = subst (λ (s : SessionState). OpensIn K s.opening x n c.args.bytes.now o.payload) mine.state o.opens in

@@ -8,5 +8,5 @@ pub invariant_of-result : goal.invariant_of-result
 invariant_of-result c = (
   (λ pt fits. get_or-replicate 256 pt None None fits ∙ sym (ap (λ l. primary_type_of l pt) c.new.ensures.empty)),
   (λ pt fits. get_or-replicate 256 pt None None fits ∙ sym (ap (place_of pt) c.new.ensures.empty)),
-  c.new-2.ensures.empty ∙ sym (ap claims_in c.new.ensures.empty),
+  c.new-2.ensures.items ∙ sym (ap claims_in c.new.ensures.empty),
 )

@@ -1,5 +1,5 @@
 use Rattle.std.proofs.Common.{take, sym, ◌∙◌}
-use Rattle.stream_core.proofs.RepairSteps.{all_but_new}
+use Rattle.stream_core.proofs.TableSteps.{all_but_new}
 use Rattle.stream_core.proofs.StreamsSteps.{rx_there, rx_new}
 use Rattle.stream_core.proofs.streams.Streams.expect_stream_rx.Goals as goal
 

@@ -1,4 +1,4 @@
-use Rattle.std.proofs.Common.{◌≡◌, Some, None, sym, ap, subst, ◌∙◌}
+use Rattle.std.proofs.Common.{◌≡◌, Some, sym, ap, subst, ◌∙◌}
 use Rattle.indexmap.specs.IndexMap.{set_value_at}
 use Rattle.stream_core.specs.StreamsRecord.{StreamsView, StandsFor, with_reset_tx}
 use Rattle.stream_core.specs.Tables.{place_of}

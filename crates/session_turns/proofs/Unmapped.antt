@@ -6,13 +6,13 @@ use Rattle.std.specs.Cmp.Lexicographic.{pointwise}
 use Rattle.std.specs.Option.{option_map, option_map_or}
 use Rattle.std.proofs.lemmas.Bool.{eqb-true, false≢true, cases_Bool}
 use Rattle.mapping_core.specs.Claims.{claim_of, is_number}
-use Rattle.mapping_core.specs.Expecting.{is_specific, expects}
-use Rattle.mapping_core.specs.Mapped.{mapped, mapping_rules, first_that_applies, or_else, when, where_some, probe_rule, main_rule, repairs_rule, mid_rule, section_rule, type_rule, rid_rule, no_rid_rule, packet_rule, repair_rule, refuses, names_rid, is_unexpected, is_early_padding, repairs_expected}
+use Rattle.mapping_core.specs.Expecting.{expects}
+use Rattle.mapping_core.specs.Mapped.{or_else, when, probe_rule, main_rule, mid_rule, section_rule, type_rule, rid_rule, no_rid_rule, packet_rule, repair_rule, is_unexpected, is_early_padding, repairs_expected, has_rtx}
 use Rattle.mapping_core.specs.Streams.{has_main, has_repairs}
 use Rattle.mapping_core.specs.declared.claim.TypeClaim.{TypeClaim}
 use Rattle.mapping_core.specs.declared.mapping.Mapping.{Mapping}
 use Rattle.mapping_core.specs.declared.mapping.Mapping.TheVariants.{Main, Repairs, NewStream, NewMain, NewRepairs, Nowhere}
-use Rattle.mapping_core.specs.declared.mapping.Unmapped.TheVariants.{Probe, NoMid, UnknownMid, UnclaimedType, UnexpectedRid, RidMissing}
+use Rattle.mapping_core.specs.declared.mapping.Unmapped.TheVariants.{Probe, NoMid, UnclaimedType, UnexpectedRid, RidMissing}
 use Rattle.mapping_core.specs.declared.rids.Rids.{Rids}
 use Rattle.mapping_core.specs.declared.rids.Rids.TheVariants.{Specific}
 use Rattle.mapping_core.specs.declared.stream.IncomingStream.{IncomingStream}
@@ -20,9 +20,13 @@ use Rattle.rtp_wire.specs.declared.header.RtpHeader.{RtpHeader}
 use Rattle.stream_core.specs.Repairing.{claims_in}
 use Rattle.stream_core.specs.StreamsRecord.{taken_up}
 use Rattle.stream_core.specs.Tables.{place_of}
+use Rattle.srtp_core.specs.Cipher.{CipherMeaning}
+use Rattle.session_core.specs.declared.datagram.Opened.{Opened as Opening}
+use Rattle.session_core.specs.Receiving.{Opens, OpensRepair, opening_of, after_opened, after_repaired, Takes, takes_packet, takes_repair, takes_nothing, Receives, opened, repaired, padding, stays}
 use Rattle.session_core.specs.Mapping.{rids_for, is_standing, mapped_in, mapping_for, taken_up_for}
 use Rattle.session_core.specs.Medias.{media_of}
 use Rattle.session_core.specs.SessionRecord.{MediaRecord, SessionRecord, streams_in, with_incoming}
+use Rattle.session_turns.specs.Laws.{MapsNothing}
 use Rattle.session_turns.specs.Mirrors.{ExpectsNone, HasOriginal}
 
 -- a mapping of which nothing is taken up
@@ -101,8 +105,8 @@ module _ (r : SessionRecord) (sections : AllByRecursion ExpectsNone r.state.medi
   none_repairs : (streams : List IncomingStream) → AllByRecursion (HasOriginal r.known.originals) streams → is_some (place_of h.ssrc r.known.originals) ≡ false → find (has_repairs h.ssrc) streams ≡ None
   none_repairs [] all away = refl
   none_repairs (s ∷ ss) all away = elim (cases_Bool (is_number s.rtx h.ssrc)) [
-    | inl yes ↦ absurd (false≢true (sym away ∙ in_table s.rtx h.ssrc all.0 yes))
-    | inr no ↦ ap (λ b. cond b (Some s) (find (has_repairs h.ssrc) ss)) no ∙ none_repairs ss all.1 away
+    | inl t ↦ absurd (false≢true (sym away ∙ in_table s.rtx h.ssrc all.0 t))
+    | inr t ↦ ap (λ b. cond b (Some s) (find (has_repairs h.ssrc) ss)) t ∙ none_repairs ss all.1 away
   ]
 
   or_none : (a b : Bool) → (a || b) ≡ false → (a ≡ false) × (b ≡ false)
@@ -113,22 +117,37 @@ module _ (r : SessionRecord) (sections : AllByRecursion ExpectsNone r.state.medi
   main_quiet None rest a = a
   main_quiet (Some s) rest a = tt
 
+  -- what the rules say of an SSRC that no stream has
+  abbrev by_section : Option Mapping
+  by_section =
+      or_else (section_rule (rids_for h r.state.medias)) (or_else (type_rule (claims_in r.state.types) h) (or_else (rid_rule (rids_for h r.state.medias) h)
+      (or_else (no_rid_rule (rids_for h r.state.medias) h) (or_else (packet_rule (claims_in r.state.types) r.known.streams h) (or_else (repair_rule r.known.streams h) None)))))
+
+  abbrev by_mid : Option Mapping
+  by_mid = or_else (mid_rule h) by_section
+
+  quiet_section : Answers by_section
+  quiet_section =
+      behind_section (claims_in r.state.types) h (or_else (packet_rule (claims_in r.state.types) r.known.streams h) (or_else (repair_rule r.known.streams h) None))
+      (rids_for h r.state.medias) no_rid
+
+  quiet_mid : Answers by_mid
+  quiet_mid = before (mid_rule h) by_section (when_quiet (is_none h.ext_vals.mid) (Nowhere NoMid) tt) quiet_section
+
+  abbrev by_repairs : Option IncomingStream → Option Mapping
+  by_repairs o = or_else (option_map (λ (s : IncomingStream). Repairs s.ssrc) o) by_mid
+
   quiet_strange : is_some (place_of h.ssrc r.known.originals) ≡ false → Quiet (mapped_in h r)
   quiet_strange away =
-      let rids = rids_for h r.state.medias in
-      let types = claims_in r.state.types in
-      let streams = r.known.streams in
-      before (probe_rule h) _ (when_quiet (h.ssrc == 0) (Nowhere Probe) tt)
-      (main_quiet (find (has_main h.ssrc) streams) _
-      (subst (λ o. Answers (or_else (option_map (λ (s : IncomingStream). Repairs s.ssrc) o) _)) (sym (none_repairs streams known away))
-      (before (mid_rule h) _ (when_quiet (is_none h.ext_vals.mid) (Nowhere NoMid) tt)
-      (behind_section types h (or_else (packet_rule types streams h) (or_else (repair_rule streams h) None)) rids no_rid))))
+      before (probe_rule h) (or_else (main_rule r.known.streams h) (by_repairs (find (has_repairs h.ssrc) r.known.streams))) (when_quiet (h.ssrc == 0) (Nowhere Probe) tt)
+      (main_quiet (find (has_main h.ssrc) r.known.streams) (by_repairs (find (has_repairs h.ssrc) r.known.streams))
+      (subst (λ (o : Option IncomingStream). Answers (by_repairs o)) (sym (none_repairs r.known.streams known away)) quiet_mid))
 
   quiet_by : (b : Bool) → is_standing h.ssrc r.rx r.known.originals ≡ b → Quiet (if b then Main h.ssrc else mapped_in h r)
   quiet_by true e = tt
   quiet_by false e = quiet_strange (or_none (is_some (place_of h.ssrc r.rx)) _ (or_none (h.ssrc == 0) _ e).1).1
 
-  pub taken_same : taken_up_for h r ≡ r
+  taken_same : taken_up_for h r ≡ r
   taken_same = quiet_same h.ssrc (mapping_for h r) r (quiet_by (is_standing h.ssrc r.rx r.known.originals) refl)
 
   -- nor does anything open as padding of a stream to come
@@ -145,7 +164,30 @@ module _ (r : SessionRecord) (sections : AllByRecursion ExpectsNone r.state.medi
   and_false true false c = refl
   and_false false b c = refl
 
-  pub no_padding : is_early_padding (rids_for h r.state.medias) (claims_in r.state.types) h ≡ true → ⊥
+  no_padding : is_early_padding (rids_for h r.state.medias) (claims_in r.state.types) h ≡ true → ⊥
   no_padding e =
-      let never = ap (λ b. h.has_padding && is_none h.ext_vals.rid && b && _) (none_expected (rids_for h r.state.medias) no_rid) ∙ and_false h.has_padding (is_none h.ext_vals.rid) _ in
+      let known_type = has_rtx (claims_in r.state.types) h in
+      let never = ap (λ b. h.has_padding && is_none h.ext_vals.rid && b && known_type) (none_expected (rids_for h r.state.medias) no_rid) ∙ and_false h.has_padding (is_none h.ext_vals.rid) known_type in
       false≢true (sym never ∙ e)
+
+-- so bytes make of a session what they make of one whose tables have their SSRC
+module _ (cipher : CipherMeaning) (r : SessionRecord) (sections : AllByRecursion ExpectsNone r.state.medias) (known : AllByRecursion (HasOriginal r.known.originals) r.known.streams)
+    (bytes : List ℕ) (time : ℕ) where
+  same : (h : RtpHeader) → taken_up_for h r ≡ r
+  same h = taken_same r sections known h
+
+  takes : (after : SessionRecord) (o : Option Opening) → Receives cipher r bytes time after o → Takes cipher r bytes time after o
+  takes _ _ (opened h n payload o) =
+      subst (λ (u : SessionRecord). Takes cipher r bytes time (after_opened time h n payload u) (Some (opening_of bytes h n payload))) (sym (same h))
+      (takes_packet h n payload (subst (λ (u : SessionRecord). Opens cipher u bytes h n payload) (same h) o))
+  takes _ _ (repaired h original n payload o) =
+      subst (λ (u : SessionRecord). Takes cipher r bytes time (after_repaired time h original n payload u) (Some (opening_of bytes h n payload))) (sym (same h))
+      (takes_repair h original n payload (subst (λ (u : SessionRecord). OpensRepair cipher u bytes h original n payload) (same h) o))
+  takes _ _ (padding h n payload o) = absurd (no_padding r sections known h o.early)
+  takes _ _ (stays no_packet no_repair no_early) =
+      takes_nothing
+      (λ h n payload o. no_packet h n payload (subst (λ (u : SessionRecord). Opens cipher u bytes h n payload) (sym (same h)) o))
+      (λ h original n payload o. no_repair h original n payload (subst (λ (u : SessionRecord). OpensRepair cipher u bytes h original n payload) (sym (same h)) o))
+
+pub maps_nothing : MapsNothing
+maps_nothing cipher C side r after a time bytes o mirrors receives = takes cipher r mirrors.sections mirrors.known bytes time after o receives
