@@ -1,7 +1,11 @@
+ghost use Rattle.std.specs.Prelude.{◌≡◌, ◌<◌};
+
 use media_base::{Duration, Instant};
-use queue_store::QueueStore;
+use queue_store::{QueueStore, Steps};
 use resend_core::{EvictingBuffer, ResendStore};
 use std::alloc::{AllocError, Global};
+use std::marker::Brand;
+use std::sync::ledger::{Blank, Ledger};
 use std::test::Fail;
 
 fn seconds(count: u64) -> Instant {
@@ -92,4 +96,31 @@ fn queue_keeps(rt: HostRuntime) -> Result<(), Fail> {
     assert_eq!(rt; queue.last_position(), None);
     assert!(rt; !queue.contains(7));
     Ok(())
+}
+
+// The value of a position, found by halving, with a ledger for the steps.
+fn halved_on<L: Ledger>(queue: &QueueStore<char>, position: u64, blank: Blank) -> Option<char>
+    requires name { blank.name ≡ L.name }
+    requires parts { blank.parts ≡ L.parts }
+    requires some { 0 < L.parts }
+{
+    let mut steps: Steps<L> = Steps::new(blank);
+    queue.get_counted(position, &mut steps).copied()
+}
+
+fn halved(queue: &QueueStore<char>, position: u64) -> Option<char> {
+    halved_on::<Brand>(queue, position, Blank::new(1))
+}
+
+// What is found of three positions where two are held.
+fn halves(alloc: Global) -> Result<[Option<char>; 3], AllocError> {
+    let mut queue = QueueStore::new(alloc, 4, Duration::from_secs(10), 10)?;
+    queue.push(5, seconds(0), 'A')?;
+    queue.push(7, seconds(2), 'B')?;
+    Ok([halved(&queue, 5), halved(&queue, 6), halved(&queue, 7)])
+}
+
+#[test]
+fn queue_halves(rt: HostRuntime) {
+    assert!(rt; halves(rt.alloc()) == Ok([Some('A'), None, Some('B')]));
 }
