@@ -1,7 +1,8 @@
-use crate::ends::{End, Fault, mid, moment, rid};
+use crate::ends::{End, mid, moment, rid};
 use rtp_base::{Kind, SeqNo, Ssrc};
 use rtp_wire::ExtensionValues;
 use session_core::{Event, Opened};
+use std::test::Fail;
 use stream_core::StreamPaused;
 
 /// A packet on SSRC 42 that an end is to tell.
@@ -66,7 +67,7 @@ fn unpaused() -> Event {
 
 /// Whether bytes that come open, and nothing but this packet is told, once, behind the stream that it
 /// unpauses.
-pub fn tells(end: &mut End, bytes: &[u8], wanted: &Wanted<'_>) -> Result<bool, Fault> {
+pub fn tells(end: &mut End, bytes: &[u8], wanted: &Wanted<'_>) -> Result<bool, Fail> {
     let opened = end.handle_rtp_receive(moment(), bytes)?;
     let before = if wanted.unpauses {
         end.poll_event() == Some(unpaused())
@@ -79,7 +80,7 @@ pub fn tells(end: &mut End, bytes: &[u8], wanted: &Wanted<'_>) -> Result<bool, F
 }
 
 /// Whether bytes that come open nothing, and nothing is told.
-pub fn refuses(end: &mut End, bytes: &[u8]) -> Result<bool, Fault> {
+pub fn refuses(end: &mut End, bytes: &[u8]) -> Result<bool, Fail> {
     let opened = end.handle_rtp_receive(moment(), bytes)?;
     let told = end.poll_event();
     Ok(opened.is_none() && told.is_none())

@@ -1,11 +1,12 @@
 use crate::arriving::{Wanted, tells};
-use crate::ends::{End, Fault, mid, moment, rid};
+use crate::ends::{End, mid, moment, rid};
 use crate::leaving::write;
 use rtp_base::{Frequency, MediaTime, ReceptionReport, Rid, Ssrc};
 use rtp_wire::{
     AbsCaptureTime, AbsSendTime, Extension, ExtensionMap, ExtensionValues, VideoOrientation,
 };
 use std::alloc::Global;
+use std::test::Fail;
 
 /// All header extensions.
 pub const EXTENSIONS: [Extension; 9] = [
@@ -148,7 +149,7 @@ fn carries_one(
     b: &mut End,
     number: u64,
     values: ExtensionValues,
-) -> Result<bool, Fault> {
+) -> Result<bool, Fail> {
     write(alloc, a, number, written())?;
     let Some(sent) = a.poll_datagram(moment())? else {
         return Ok(false);
@@ -165,7 +166,7 @@ fn carries_one(
 
 /// Whether packets are told with the values of the extensions that have ids: two before the peer
 /// acknowledges the SSRC, and one after it.
-pub fn carries(alloc: Global, a: &mut End, b: &mut End, ids: Ids) -> Result<bool, Fault> {
+pub fn carries(alloc: Global, a: &mut End, b: &mut End, ids: Ids) -> Result<bool, Fail> {
     let first = carries_one(alloc, a, b, 1, told(ids, 0))?;
     let second = carries_one(alloc, a, b, 2, told(ids, 1))?;
     acknowledge(a);

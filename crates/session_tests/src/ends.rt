@@ -5,64 +5,13 @@ use media_base::{Beginning, Bytes, Duration, Instant};
 use queue_store::QueueStore;
 use rtp_base::{Frequency, Mid, MidRid, Pt, Rid, Ssrc};
 use rtp_wire::ExtensionMap;
-use session_core::{
-    DrainFault, Media, MediaKind, Mtu, ReportIntervals, RtcError, Session, SessionConfig,
-};
-use srtp_core::{KeyingMaterial, SrtpError, SrtpProfile, ToyCipher};
-use std::alloc::{AllocError, AllocFailed, Global};
-use stream_core::{PayloadTypes, Sent, TypeRow, WriteError};
+use session_core::{Media, MediaKind, Mtu, ReportIntervals, RtcError, Session, SessionConfig};
+use srtp_core::{KeyingMaterial, SrtpProfile, ToyCipher};
+use std::alloc::Global;
+use stream_core::{PayloadTypes, Sent, TypeRow};
 
 /// One end with the toy cipher.
 pub type End = Session<ToyCipher, MaskRegister, QueueStore<Sent>>;
-
-/// Why something is not made, or a call gives nothing.
-#[derive(Clone, Copy, Debug, PartialEq, Eq)]
-pub enum Fault {
-    /// There is no memory left.
-    Memory,
-    /// What seals the datagrams of a peer gives nothing.
-    Seal(SrtpError),
-    /// A stream takes no packet.
-    Write(WriteError),
-    /// A session gives nothing.
-    Session(RtcError),
-}
-
-impl From<AllocError> for Fault {
-    fn from(_: AllocError) -> Self {
-        Fault::Memory
-    }
-}
-
-impl<T: Drop> From<AllocFailed<T>> for Fault {
-    fn from(_: AllocFailed<T>) -> Self {
-        Fault::Memory
-    }
-}
-
-impl From<SrtpError> for Fault {
-    fn from(error: SrtpError) -> Self {
-        Fault::Seal(error)
-    }
-}
-
-impl From<WriteError> for Fault {
-    fn from(error: WriteError) -> Self {
-        Fault::Write(error)
-    }
-}
-
-impl From<RtcError> for Fault {
-    fn from(error: RtcError) -> Self {
-        Fault::Session(error)
-    }
-}
-
-impl From<DrainFault> for Fault {
-    fn from(fault: DrainFault) -> Self {
-        Fault::Session(fault.error)
-    }
-}
 
 /// The moment of all calls: one second and a half after the beginning.
 pub fn moment() -> Instant {

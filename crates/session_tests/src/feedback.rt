@@ -1,4 +1,4 @@
-use crate::ends::{BEFORE_TOLD, End, Fault, ended_with, give_keys, moment};
+use crate::ends::{BEFORE_TOLD, End, ended_with, give_keys, moment};
 use crate::leaving::{drains, sends, write};
 use crate::packets::{SEALED, seal_feedback};
 use media_base::Bytes;
@@ -7,6 +7,7 @@ use rtp_wire::ExtensionValues;
 use session_core::{Event, Opened, RtcError};
 use srtp_core::Counter;
 use std::alloc::Global;
+use std::test::Fail;
 
 /// Feedback of an application from SSRC 1 on SSRC 42 with the words 01020304 (RFC 4585 section 6.4),
 /// sealed: the first 8 bytes, the rest XOR the key stream, the tag, and the E bit with the index 0.
@@ -46,14 +47,14 @@ pub enum Feedback {
     LastIndex,
 }
 
-fn queue(alloc: Global, end: &mut End, words: &[u8; 20]) -> Result<(), Fault> {
+fn queue(alloc: Global, end: &mut End, words: &[u8; 20]) -> Result<(), Fail> {
     let payload = Bytes::from_slice(alloc, words)?;
     end.send_app_specific_feedback(Ssrc::from(1), Ssrc::from(42), payload)?;
     Ok(())
 }
 
 /// Queues feedback of an application from SSRC 1 on SSRC 42 with the words 01020304.
-pub fn queue_one(alloc: Global, end: &mut End) -> Result<(), Fault> {
+pub fn queue_one(alloc: Global, end: &mut End) -> Result<(), Fail> {
     let payload = Bytes::from_slice(alloc, &[1, 2, 3, 4])?;
     end.send_app_specific_feedback(Ssrc::from(1), Ssrc::from(42), payload)?;
     Ok(())
@@ -82,14 +83,14 @@ fn is_told(told: &Option<Event>) -> bool {
 }
 
 // Whether `FEEDBACK` opens, and its words are told once.
-fn tells_words(end: &mut End) -> Result<bool, Fault> {
+fn tells_words(end: &mut End) -> Result<bool, Fail> {
     let opened = end.handle_rtcp_receive(moment(), &FEEDBACK)?;
     let told = end.poll_event();
     let more = end.poll_event();
     Ok(is_opened(&opened, 1) && is_told(&told) && more.is_none())
 }
 
-fn is_exchanged(alloc: Global, a: &mut End, b: &mut End) -> Result<bool, Fault> {
+fn is_exchanged(alloc: Global, a: &mut End, b: &mut End) -> Result<bool, Fail> {
     queue_one(alloc, a)?;
     let sent = sends(a, &FEEDBACK)?;
     let first = tells_words(b)?;
@@ -97,12 +98,12 @@ fn is_exchanged(alloc: Global, a: &mut End, b: &mut End) -> Result<bool, Fault> 
     Ok(sent && first && again)
 }
 
-fn opens(end: &mut End, bytes: &[u8]) -> Result<bool, Fault> {
+fn opens(end: &mut End, bytes: &[u8]) -> Result<bool, Fail> {
     let opened = end.handle_rtcp_receive(moment(), bytes)?;
     Ok(is_opened(&opened, 1))
 }
 
-fn opens_clear(b: &mut End) -> Result<bool, Fault> {
+fn opens_clear(b: &mut End) -> Result<bool, Fail> {
     let mut forged = CLEAR;
     forged[23] = 2;
     let with_tag = opens(b, &CLEAR)?;
@@ -115,7 +116,7 @@ fn opens_clear(b: &mut End) -> Result<bool, Fault> {
 }
 
 // The sender hears the report, and its next packet has no mid.
-fn is_acknowledged(alloc: Global, a: &mut End) -> Result<bool, Fault> {
+fn is_acknowledged(alloc: Global, a: &mut End) -> Result<bool, Fail> {
     let report = seal_feedback(alloc, &REPORT)?;
     let opened = a.handle_rtcp_receive(moment(), report.as_slice())?;
     let event = a.poll_event();
@@ -124,7 +125,7 @@ fn is_acknowledged(alloc: Global, a: &mut End) -> Result<bool, Fault> {
     Ok(is_opened(&opened, 7) && event.is_none() && plain)
 }
 
-fn is_cleared(alloc: Global, a: &mut End) -> Result<bool, Fault> {
+fn is_cleared(alloc: Global, a: &mut End) -> Result<bool, Fail> {
     queue_one(alloc, a)?;
     a.clear_feedback();
     let silent = a.poll_datagram(moment())?.is_none();
@@ -133,7 +134,7 @@ fn is_cleared(alloc: Global, a: &mut End) -> Result<bool, Fault> {
     Ok(silent && then)
 }
 
-fn is_lost(alloc: Global, a: &mut End) -> Result<bool, Fault> {
+fn is_lost(alloc: Global, a: &mut End) -> Result<bool, Fail> {
     queue_one(alloc, a)?;
     let without_keys = a.poll_datagram(moment())?.is_none();
     give_keys(alloc, a, true)?;
@@ -142,7 +143,7 @@ fn is_lost(alloc: Global, a: &mut End) -> Result<bool, Fault> {
 }
 
 // Forty items of 32 bytes each leave whole, in order, in compounds cut at the target less 20 bytes.
-fn is_cut(alloc: Global, a: &mut End, target: usize) -> Result<bool, Fault> {
+fn is_cut(alloc: Global, a: &mut End, target: usize) -> Result<bool, Fail> {
     for word in 0..40 {
         queue(alloc, a, &[word; 20])?;
     }
@@ -163,7 +164,7 @@ fn is_cut(alloc: Global, a: &mut End, target: usize) -> Result<bool, Fault> {
     Ok(false)
 }
 
-fn ends_at_last_index(alloc: Global, a: &mut End) -> Result<bool, Fault> {
+fn ends_at_last_index(alloc: Global, a: &mut End) -> Result<bool, Fail> {
     queue_one(alloc, a)?;
     let sealed = match a.poll_datagram(moment())? {
         Some(sent) => sent.index == SeqNo::from(2_147_483_647),
@@ -179,7 +180,7 @@ fn ends_at_last_index(alloc: Global, a: &mut End) -> Result<bool, Fault> {
 }
 
 /// Whether two ends answer so, of which the second has keys, and the first but for `Lost`.
-pub fn holds(alloc: Global, a: &mut End, b: &mut End, asked: Feedback) -> Result<bool, Fault> {
+pub fn holds(alloc: Global, a: &mut End, b: &mut End, asked: Feedback) -> Result<bool, Fail> {
     match asked {
         Feedback::Exchanged => is_exchanged(alloc, a, b),
         Feedback::Clear => opens_clear(b),

@@ -13,15 +13,11 @@ mod feedback;
 #[cfg(test)]
 mod leaving;
 #[cfg(test)]
-mod mapped;
-#[cfg(test)]
 mod packets;
 #[cfg(test)]
 mod repairs;
 #[cfg(test)]
 mod reports;
-#[cfg(test)]
-mod resets;
 #[cfg(test)]
 mod restored;
 #[cfg(test)]
@@ -29,10 +25,6 @@ mod restoring;
 #[cfg(test)]
 mod rounds;
 #[cfg(test)]
-mod sections;
-#[cfg(test)]
 mod steps;
 #[cfg(test)]
 mod table;
-#[cfg(test)]
-mod times;

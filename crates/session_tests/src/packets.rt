@@ -1,7 +1,7 @@
-use crate::ends::Fault;
 use rtp_wire::{ExtensionMap, RtpHeader};
 use srtp_core::{KeyingMaterial, SrtpContext, SrtpProfile, ToyCipher};
 use std::alloc::Global;
+use std::test::Fail;
 
 /// The packet numbered 1 of type 96 on SSRC 42, with the payload 0102 (RFC 3550 section 5.1).
 pub const PACKET: [u8; 14] = [0x80, 0x60, 0, 1, 0, 0, 0, 0, 0, 0, 0, 0x2a, 1, 2];
@@ -34,7 +34,7 @@ pub enum Incoming {
 }
 
 // What seals as the left side, the sender, or as the right one.
-fn context(alloc: Global, left: bool) -> Result<SrtpContext<ToyCipher>, Fault> {
+fn context(alloc: Global, left: bool) -> Result<SrtpContext<ToyCipher>, Fail> {
     let material = KeyingMaterial::new(alloc, &[0; 56])?;
     let profile = SrtpProfile::AeadAes128Gcm;
     let context = SrtpContext::new(alloc, ToyCipher, profile, &material, left)?;
@@ -42,7 +42,7 @@ fn context(alloc: Global, left: bool) -> Result<SrtpContext<ToyCipher>, Fault> {
 }
 
 // Seals a packet as the sender does.
-fn seal(alloc: Global, plain: &[u8]) -> Result<Vec<u8>, Fault> {
+fn seal(alloc: Global, plain: &[u8]) -> Result<Vec<u8>, Fail> {
     let Some(header) = RtpHeader::parse(plain, &ExtensionMap::empty()) else {
         return Ok(Vec::new(alloc));
     };
@@ -55,7 +55,7 @@ fn seal(alloc: Global, plain: &[u8]) -> Result<Vec<u8>, Fault> {
 }
 
 /// Seals a packet of this number as the sender does; one that begins with another number is nothing.
-pub fn seal_numbered(alloc: Global, plain: &[u8], number: u64) -> Result<Vec<u8>, Fault> {
+pub fn seal_numbered(alloc: Global, plain: &[u8], number: u64) -> Result<Vec<u8>, Fail> {
     let Some(header) = RtpHeader::parse(plain, &ExtensionMap::empty()) else {
         return Ok(Vec::new(alloc));
     };
@@ -71,7 +71,7 @@ pub fn seal_numbered(alloc: Global, plain: &[u8], number: u64) -> Result<Vec<u8>
 }
 
 /// Seals a packet of feedback as the receiver does, under the index 0.
-pub fn seal_feedback(alloc: Global, plain: &[u8; 32]) -> Result<Vec<u8>, Fault> {
+pub fn seal_feedback(alloc: Global, plain: &[u8; 32]) -> Result<Vec<u8>, Fail> {
     let mut context = context(alloc, false)?;
     let sealed = context.protect_rtcp(plain)?;
     Ok(sealed)
@@ -79,7 +79,7 @@ pub fn seal_feedback(alloc: Global, plain: &[u8; 32]) -> Result<Vec<u8>, Fault> 
 
 /// Seals a packet of at least 8 bytes of feedback as the sender does, under the index 0; a shorter one
 /// is nothing.
-pub fn seal_report(alloc: Global, plain: &[u8]) -> Result<Vec<u8>, Fault> {
+pub fn seal_report(alloc: Global, plain: &[u8]) -> Result<Vec<u8>, Fail> {
     if plain.len() < 8 {
         return Ok(Vec::new(alloc));
     }
@@ -89,7 +89,7 @@ pub fn seal_report(alloc: Global, plain: &[u8]) -> Result<Vec<u8>, Fault> {
 }
 
 /// `PACKET` on another SSRC and of another number, sealed.
-pub fn packet_of(alloc: Global, ssrc: u8, number: u8) -> Result<Vec<u8>, Fault> {
+pub fn packet_of(alloc: Global, ssrc: u8, number: u8) -> Result<Vec<u8>, Fail> {
     let mut packet = PACKET;
     packet[11] = ssrc;
     packet[3] = number;
@@ -97,7 +97,7 @@ pub fn packet_of(alloc: Global, ssrc: u8, number: u8) -> Result<Vec<u8>, Fault> 
 }
 
 // The bytes with this byte at this place.
-fn changed(alloc: Global, bytes: &[u8], place: usize, byte: u8) -> Result<Vec<u8>, Fault> {
+fn changed(alloc: Global, bytes: &[u8], place: usize, byte: u8) -> Result<Vec<u8>, Fail> {
     let mut changed = bytes.to_vec(alloc)?;
     if place < changed.len() {
         changed[place] = byte;
@@ -106,7 +106,7 @@ fn changed(alloc: Global, bytes: &[u8], place: usize, byte: u8) -> Result<Vec<u8
 }
 
 // `PACKET` with zeros behind it, so many bytes.
-fn lengthened(alloc: Global, len: usize) -> Result<Vec<u8>, Fault> {
+fn lengthened(alloc: Global, len: usize) -> Result<Vec<u8>, Fail> {
     let mut packet = vec![in alloc; 0; len]?;
     if PACKET.len() <= len {
         packet[..PACKET.len()].copy_from_slice(&PACKET);
@@ -115,7 +115,7 @@ fn lengthened(alloc: Global, len: usize) -> Result<Vec<u8>, Fault> {
 }
 
 /// The bytes of a datagram that comes.
-pub fn bytes_of(alloc: Global, incoming: Incoming) -> Result<Vec<u8>, Fault> {
+pub fn bytes_of(alloc: Global, incoming: Incoming) -> Result<Vec<u8>, Fail> {
     match incoming {
         Incoming::SealOf(place, byte) => {
             let packet = changed(alloc, &PACKET, place, byte)?;

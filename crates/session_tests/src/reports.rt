@@ -10,7 +10,7 @@ mod steps;
 mod told;
 
 use crate::carrying::{Ids, map_of};
-use crate::ends::{End, Fault, config, give_keys};
+use crate::ends::{End, config, give_keys};
 use crate::reports::counted::COUNTED;
 use crate::reports::due::DUE;
 use crate::reports::many::{Receivers, answers_all, reports_of_64};
@@ -22,6 +22,7 @@ use crate::reports::told::TOLD;
 use media_base::Duration;
 use session_core::ReportIntervals;
 use std::alloc::Global;
+use std::test::Fail;
 
 /// What is asked of an end.
 #[derive(Clone, Copy)]
@@ -38,7 +39,7 @@ enum Asked {
     Numbers,
 }
 
-fn goes_through(alloc: Global, end: &mut End, steps: &[Step]) -> Result<bool, Fault> {
+fn goes_through(alloc: Global, end: &mut End, steps: &[Step]) -> Result<bool, Fail> {
     for step in steps {
         if !goes(alloc, end, *step)? {
             return Ok(false);
@@ -47,7 +48,7 @@ fn goes_through(alloc: Global, end: &mut End, steps: &[Step]) -> Result<bool, Fa
     Ok(true)
 }
 
-fn holds(alloc: Global, end: &mut End, asked: Asked) -> Result<bool, Fault> {
+fn holds(alloc: Global, end: &mut End, asked: Asked) -> Result<bool, Fail> {
     give_keys(alloc, end, false)?;
     match asked {
         Asked::Steps(steps) => goes_through(alloc, end, steps),
@@ -63,7 +64,7 @@ fn holds(alloc: Global, end: &mut End, asked: Asked) -> Result<bool, Fault> {
 
 // Makes an end that reports every 5 s and every 1 s, and asks it: the one function that owns a session,
 // with one exit.
-fn play(alloc: Global, asked: Asked) -> Result<bool, Fault> {
+fn play(alloc: Global, asked: Asked) -> Result<bool, Fail> {
     let mut made = config(alloc, map_of(Ids::Nothing), 1150, 0)?;
     made.intervals = ReportIntervals {
         audio: Duration::from_secs(5),
@@ -76,7 +77,7 @@ fn play(alloc: Global, asked: Asked) -> Result<bool, Fault> {
 const TABLES: [&[Row]; 5] = [&TOLD, &COUNTED, &DUE, &NEWS, &REQUESTS];
 
 #[test]
-fn reports_hold(rt: HostRuntime) -> Result<(), Fault> {
+fn reports_hold(rt: HostRuntime) -> Result<(), Fail> {
     for rows in &TABLES {
         for (name, steps) in *rows {
             let held = play(rt.alloc(), Asked::Steps(steps))?;
@@ -98,7 +99,7 @@ const MOMENTS: [Receivers; 6] = [
 ];
 
 #[test]
-fn moments_are_answered(rt: HostRuntime) -> Result<(), Fault> {
+fn moments_are_answered(rt: HostRuntime) -> Result<(), Fail> {
     for receivers in &MOMENTS {
         let held = play(rt.alloc(), Asked::Moments(*receivers))?;
         assert!(rt; held, "{}", receivers.0);
@@ -109,7 +110,7 @@ fn moments_are_answered(rt: HostRuntime) -> Result<(), Fault> {
 const LENGTHS: [usize; 5] = [0, 1, 2, 255, 256];
 
 #[test]
-fn sources_are_named(rt: HostRuntime) -> Result<(), Fault> {
+fn sources_are_named(rt: HostRuntime) -> Result<(), Fail> {
     for len in &LENGTHS {
         let held = play(rt.alloc(), Asked::Named(*len))?;
         assert!(rt; held, "{len}");
@@ -118,14 +119,14 @@ fn sources_are_named(rt: HostRuntime) -> Result<(), Fault> {
 }
 
 #[test]
-fn full_intra_requests_are_numbered(rt: HostRuntime) -> Result<(), Fault> {
+fn full_intra_requests_are_numbered(rt: HostRuntime) -> Result<(), Fail> {
     let held = play(rt.alloc(), Asked::Numbers)?;
     assert!(rt; held);
     Ok(())
 }
 
 #[test]
-fn many_streams_report(rt: HostRuntime) -> Result<(), Fault> {
+fn many_streams_report(rt: HostRuntime) -> Result<(), Fail> {
     let held = play(rt.alloc(), Asked::Many)?;
     assert!(rt; held);
     Ok(())

@@ -1,10 +1,11 @@
 //! Repairs that come (RFC 4588): what opens, and which packets are restored.
 use crate::carrying::{Ids, map_of};
-use crate::ends::{End, Fault, config, give_keys, mid, moment, rid};
+use crate::ends::{End, config, give_keys, mid, moment, rid};
 use crate::packets::seal_numbered;
 use rtp_base::{Kind, MidRid, Pt, SeqNo, Ssrc};
 use session_core::{Event, Opened};
 use std::alloc::Global;
+use std::test::Fail;
 
 /// What a datagram brings.
 #[derive(Clone, Copy)]
@@ -162,7 +163,7 @@ fn plain_of(
     pt: u8,
     number: u64,
     payload: &[u8],
-) -> Result<Vec<u8>, Fault> {
+) -> Result<Vec<u8>, Fail> {
     let low = (number % 65_536) as u16;
     let [high, low] = low.to_be_bytes();
     let mut plain = vec![in alloc; first, pt, high, low, 0, 0, 0, 0, 0, 0, 0, ssrc]?;
@@ -171,7 +172,7 @@ fn plain_of(
 }
 
 // The bytes that come.
-fn bytes_of(alloc: Global, came: Came) -> Result<Vec<u8>, Fault> {
+fn bytes_of(alloc: Global, came: Came) -> Result<Vec<u8>, Fail> {
     match came {
         Plain(ssrc, pt, number, payload) => {
             let plain = plain_of(alloc, 0x80, ssrc, pt, number, payload)?;
@@ -242,7 +243,7 @@ fn is_told(told: &Option<Event>, number: u64, payload: &[u8]) -> bool {
     }
 }
 
-fn is_brought(alloc: Global, end: &mut End, came: Came, wanted: Brings) -> Result<bool, Fault> {
+fn is_brought(alloc: Global, end: &mut End, came: Came, wanted: Brings) -> Result<bool, Fail> {
     let bytes = bytes_of(alloc, came)?;
     let opened = end.handle_rtp_receive(moment(), bytes.as_slice())?;
     let told = next_packet(end);
@@ -254,7 +255,7 @@ fn is_brought(alloc: Global, end: &mut End, came: Came, wanted: Brings) -> Resul
     Ok(right && end.poll_event().is_none())
 }
 
-fn expect_repaired(end: &mut End) -> Result<(), Fault> {
+fn expect_repaired(end: &mut End) -> Result<(), Fail> {
     let mid_rid = MidRid(mid(), Some(rid()));
     end.streams()
         .expect_stream_rx(Ssrc::from(42), Some(Ssrc::from(43)), mid_rid, false)?;
@@ -262,7 +263,7 @@ fn expect_repaired(end: &mut End) -> Result<(), Fault> {
 }
 
 // Whether a fresh end goes through all steps.
-fn goes_through(alloc: Global, end: &mut End, steps: &[(Came, Brings)]) -> Result<bool, Fault> {
+fn goes_through(alloc: Global, end: &mut End, steps: &[(Came, Brings)]) -> Result<bool, Fail> {
     give_keys(alloc, end, false)?;
     expect_repaired(end)?;
     for step in steps {
@@ -274,14 +275,14 @@ fn goes_through(alloc: Global, end: &mut End, steps: &[(Came, Brings)]) -> Resul
 }
 
 // Makes an end, and takes it through the steps: the one function that owns a session, with one exit.
-fn holds(alloc: Global, steps: &[(Came, Brings)]) -> Result<bool, Fault> {
+fn holds(alloc: Global, steps: &[(Came, Brings)]) -> Result<bool, Fail> {
     let config = config(alloc, map_of(Ids::Nothing), 1150, 0)?;
     let mut end = End::new(alloc, config);
     goes_through(alloc, &mut end, steps)
 }
 
 #[test]
-fn repairs_restore_packets(rt: HostRuntime) -> Result<(), Fault> {
+fn repairs_restore_packets(rt: HostRuntime) -> Result<(), Fail> {
     for (name, steps) in &ROWS {
         let held = holds(rt.alloc(), steps)?;
         assert!(rt; held, "{name}");

@@ -7,6 +7,7 @@ use media_base::{Duration, Instant};
 use queue_store::QueueStore;
 use rtp_base::{Frequency, MidRid, Pt, SeqNo, Ssrc};
 use std::alloc::{AllocError, Global};
+use std::test::Fail;
 use stream_core::{Arrival, PayloadTypes, Sent, StreamRx, Streams, TypeRow};
 
 /// The SSRC under which a repair comes: that of the stream, or that of its repairs.
@@ -282,7 +283,7 @@ fn play(alloc: Global, steps: &[Step]) -> Result<bool, AllocError> {
 }
 
 #[test]
-fn repairs_that_come_hold(rt: HostRuntime) -> Result<(), AllocError> {
+fn repairs_that_come_hold(rt: HostRuntime) -> Result<(), Fail> {
     for (name, steps) in &ROWS {
         let held = play(rt.alloc(), steps)?;
         assert!(rt; held, "{name}");

@@ -1,11 +1,12 @@
 use crate::carrying::{Ids, map_of};
-use crate::ends::{End, FIRST_REPORT, Fault, config, give_keys};
+use crate::ends::{End, FIRST_REPORT, config, give_keys};
 use crate::steps::Step::{
     Comes, Declare, Drains, Ends, Expect, Hears, Queues, Stale, Stream, Tells, Tick, Wakes, Words,
     Writes,
 };
 use crate::steps::{Delay, First, Step, Told, goes};
 use std::alloc::Global;
+use std::test::Fail;
 
 /// What an end begins with.
 #[derive(Clone, Copy, PartialEq, Eq)]
@@ -630,7 +631,7 @@ fn goes_through(
     end: &mut End,
     begins: Begins,
     steps: &[Step],
-) -> Result<bool, Fault> {
+) -> Result<bool, Fail> {
     if begins != Begins::Bare {
         give_keys(alloc, end, false)?;
     }
@@ -643,7 +644,7 @@ fn goes_through(
 }
 
 // Makes an end, and takes it through the steps: the one function that owns a session, with one exit.
-fn play(alloc: Global, begins: Begins, steps: &[Step]) -> Result<bool, Fault> {
+fn play(alloc: Global, begins: Begins, steps: &[Step]) -> Result<bool, Fail> {
     let index = match begins {
         Begins::UsedUp => 2_147_483_648,
         _ => 0,
@@ -656,7 +657,7 @@ fn play(alloc: Global, begins: Begins, steps: &[Step]) -> Result<bool, Fault> {
 const TABLES: [&[Row]; 3] = [&ROUNDS, &TRIPS, &PAUSES];
 
 #[test]
-fn rounds_and_pauses_hold(rt: HostRuntime) -> Result<(), Fault> {
+fn rounds_and_pauses_hold(rt: HostRuntime) -> Result<(), Fail> {
     for rows in &TABLES {
         for (name, begins, steps) in *rows {
             let held = play(rt.alloc(), *begins, steps)?;

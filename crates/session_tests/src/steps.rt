@@ -1,4 +1,4 @@
-use crate::ends::{End, Fault, ended_with, mid, rid};
+use crate::ends::{End, ended_with, mid, rid};
 use crate::feedback::{FEEDBACK, queue_one};
 use crate::packets::{packet_of, seal_report};
 use mask_register::MaskRegister;
@@ -7,6 +7,7 @@ use rtp_base::{Kind, MidRid, Pt, SeqNo, Ssrc};
 use session_core::{Event, RtcError};
 use srtp_core::Counter;
 use std::alloc::Global;
+use std::test::Fail;
 use stream_core::{Payload, RtpWrite, StreamPaused, StreamRx};
 
 /// What is told.
@@ -132,26 +133,26 @@ fn are_events(all: &[Told], events: &[Event]) -> bool {
             .all(|pair| is_event(*pair.0, pair.1))
 }
 
-fn drains(end: &mut End, now: Instant, all: &[Told]) -> Result<bool, Fault> {
+fn drains(end: &mut End, now: Instant, all: &[Told]) -> Result<bool, Fail> {
     let first = end.drain(now)?;
     let next = end.drain(now)?;
     Ok(are_events(all, first.events.as_slice()) && next.events.is_empty())
 }
 
-fn expect(end: &mut End, low: u8, suppress: bool) -> Result<(), Fault> {
+fn expect(end: &mut End, low: u8, suppress: bool) -> Result<(), Fail> {
     let mid_rid = MidRid(mid(), Some(rid()));
     end.streams()
         .expect_stream_rx(ssrc(low), None, mid_rid, suppress)?;
     Ok(())
 }
 
-fn declare(end: &mut End, low: u8) -> Result<(), Fault> {
+fn declare(end: &mut End, low: u8) -> Result<(), Fail> {
     let mid_rid = MidRid(mid(), None);
     end.streams().declare_stream_tx(ssrc(low), None, mid_rid)?;
     Ok(())
 }
 
-fn write(alloc: Global, end: &mut End) -> Result<(), Fault> {
+fn write(alloc: Global, end: &mut End) -> Result<(), Fail> {
     let payload = Payload::from_slice(alloc, &[1, 2])?;
     let write = RtpWrite::new(Pt::from(96), SeqNo::from(1), 0, at(1), payload);
     if end.streams().tx_len() > 0 {
@@ -160,14 +161,14 @@ fn write(alloc: Global, end: &mut End) -> Result<(), Fault> {
     Ok(())
 }
 
-fn opens(alloc: Global, end: &mut End, now: Instant, packet: (u8, u8)) -> Result<bool, Fault> {
+fn opens(alloc: Global, end: &mut End, now: Instant, packet: (u8, u8)) -> Result<bool, Fail> {
     let bytes = packet_of(alloc, packet.0, packet.1)?;
     let opened = end.handle_rtp_receive(now, bytes.as_slice())?;
     Ok(opened.is_some())
 }
 
 // An extended report of SSRC 9 with one block of such items (RFC 3611 sections 2 and 4.5).
-fn report(alloc: Global, delays: &[Delay]) -> Result<Vec<u8>, Fault> {
+fn report(alloc: Global, delays: &[Delay]) -> Result<Vec<u8>, Fail> {
     let words = (delays.len() % 80) as u8 * 3;
     let mut plain = vec![in alloc; 0x80, 0xcf, 0, 2 + words, 0, 0, 0, 9, 5, 0, 0, words]?;
     for delay in delays {
@@ -178,20 +179,20 @@ fn report(alloc: Global, delays: &[Delay]) -> Result<Vec<u8>, Fault> {
     Ok(plain)
 }
 
-fn hears(alloc: Global, end: &mut End, now: Instant, delays: &[Delay]) -> Result<bool, Fault> {
+fn hears(alloc: Global, end: &mut End, now: Instant, delays: &[Delay]) -> Result<bool, Fail> {
     let plain = report(alloc, delays)?;
     let sealed = seal_report(alloc, plain.as_slice())?;
     let opened = end.handle_rtcp_receive(now, sealed.as_slice())?;
     Ok(opened.is_some())
 }
 
-fn hears_words(end: &mut End, now: Instant) -> Result<bool, Fault> {
+fn hears_words(end: &mut End, now: Instant) -> Result<bool, Fail> {
     let opened = end.handle_rtcp_receive(now, &FEEDBACK)?;
     Ok(opened.is_some())
 }
 
 // A tick; whether these plain bytes leave then as feedback, and nothing else.
-fn ticks(end: &mut End, now: Instant, plain: &[u8]) -> Result<bool, Fault> {
+fn ticks(end: &mut End, now: Instant, plain: &[u8]) -> Result<bool, Fail> {
     end.handle_timeout(now)?;
     let sent = end.poll_datagram(now)?;
     let more = end.poll_datagram(now)?;
@@ -236,7 +237,7 @@ fn first_answers(end: &mut End, first: First) -> bool {
     answers(end.streams().rx_at(0), first)
 }
 
-fn ends(end: &mut End, now: Instant) -> Result<bool, Fault> {
+fn ends(end: &mut End, now: Instant) -> Result<bool, Fail> {
     end.handle_timeout(now)?;
     let ended = ended_with(
         &end.poll_datagram(now),
@@ -247,7 +248,7 @@ fn ends(end: &mut End, now: Instant) -> Result<bool, Fault> {
 }
 
 /// Does a step with an end, and tells whether it went so.
-pub fn goes(alloc: Global, end: &mut End, step: Step) -> Result<bool, Fault> {
+pub fn goes(alloc: Global, end: &mut End, step: Step) -> Result<bool, Fail> {
     match step {
         Step::Expect(low, suppress) => expect(end, low, suppress)?,
         Step::Declare(low) => declare(end, low)?,

@@ -1,8 +1,6 @@
 use crate::arriving::{Wanted, first_packet, refuses, tells};
 use crate::carrying::{EXTENSIONS, Ids, carries, map_of};
-use crate::ends::{
-    End, FIRST_REPORT, Fault, config, expect_stream, give_keys, moment, prepare_sender,
-};
+use crate::ends::{End, FIRST_REPORT, config, expect_stream, give_keys, moment, prepare_sender};
 use crate::feedback::{Feedback, holds};
 use crate::leaving::{drains, is_silent, sends, write};
 use crate::packets::Incoming::{Changed, Cut, Long, Padded, SealOf};
@@ -11,6 +9,7 @@ use media_base::already_happened;
 use rtp_base::Ssrc;
 use rtp_wire::{Extension, ExtensionValues};
 use std::alloc::Global;
+use std::test::Fail;
 
 /// What is asked of two fresh ends, one that sends and one that receives.
 #[derive(Clone, Copy)]
@@ -76,23 +75,23 @@ const ROWS: [(&str, Row); 31] = [
 ];
 
 // Writes the packet of `SEALED`.
-fn write_first(alloc: Global, a: &mut End) -> Result<(), Fault> {
+fn write_first(alloc: Global, a: &mut End) -> Result<(), Fail> {
     write(alloc, a, 1, ExtensionValues::none())
 }
 
-fn seals(alloc: Global, a: &mut End, bytes: &[u8]) -> Result<bool, Fault> {
+fn seals(alloc: Global, a: &mut End, bytes: &[u8]) -> Result<bool, Fail> {
     give_keys(alloc, a, true)?;
     write_first(alloc, a)?;
     sends(a, bytes)
 }
 
-fn gives_all(alloc: Global, a: &mut End) -> Result<bool, Fault> {
+fn gives_all(alloc: Global, a: &mut End) -> Result<bool, Fail> {
     give_keys(alloc, a, true)?;
     write_first(alloc, a)?;
     drains(a, &SEALED, FIRST_REPORT)
 }
 
-fn waits_to_send(alloc: Global, a: &mut End) -> Result<bool, Fault> {
+fn waits_to_send(alloc: Global, a: &mut End) -> Result<bool, Fail> {
     write_first(alloc, a)?;
     let without_keys = is_silent(a, moment())?;
     give_keys(alloc, a, true)?;
@@ -101,7 +100,7 @@ fn waits_to_send(alloc: Global, a: &mut End) -> Result<bool, Fault> {
     Ok(without_keys && at_0 && then)
 }
 
-fn stops_sending(alloc: Global, a: &mut End) -> Result<bool, Fault> {
+fn stops_sending(alloc: Global, a: &mut End) -> Result<bool, Fail> {
     give_keys(alloc, a, true)?;
     write_first(alloc, a)?;
     let removed = a.streams().remove_stream_tx(Ssrc::from(42));
@@ -109,13 +108,13 @@ fn stops_sending(alloc: Global, a: &mut End) -> Result<bool, Fault> {
     Ok(removed && then)
 }
 
-fn exchanges(alloc: Global, a: &mut End, b: &mut End, ids: Ids) -> Result<bool, Fault> {
+fn exchanges(alloc: Global, a: &mut End, b: &mut End, ids: Ids) -> Result<bool, Fail> {
     give_keys(alloc, a, true)?;
     give_keys(alloc, b, false)?;
     carries(alloc, a, b, ids)
 }
 
-fn is_told(alloc: Global, b: &mut End, incoming: Incoming, len: usize) -> Result<bool, Fault> {
+fn is_told(alloc: Global, b: &mut End, incoming: Incoming, len: usize) -> Result<bool, Fail> {
     give_keys(alloc, b, false)?;
     let mut all = [0; 2000];
     all[0] = 1;
@@ -128,7 +127,7 @@ fn is_told(alloc: Global, b: &mut End, incoming: Incoming, len: usize) -> Result
     tells(b, bytes.as_slice(), &wanted)
 }
 
-fn is_refused(alloc: Global, b: &mut End, incoming: Incoming) -> Result<bool, Fault> {
+fn is_refused(alloc: Global, b: &mut End, incoming: Incoming) -> Result<bool, Fail> {
     give_keys(alloc, b, false)?;
     let bytes = bytes_of(alloc, incoming)?;
     let refused = refuses(b, bytes.as_slice())?;
@@ -136,14 +135,14 @@ fn is_refused(alloc: Global, b: &mut End, incoming: Incoming) -> Result<bool, Fa
     Ok(refused && then)
 }
 
-fn waits_for_keys(alloc: Global, b: &mut End) -> Result<bool, Fault> {
+fn waits_for_keys(alloc: Global, b: &mut End) -> Result<bool, Fail> {
     let without_keys = refuses(b, &SEALED)?;
     give_keys(alloc, b, false)?;
     let then = tells(b, &SEALED, &first_packet())?;
     Ok(without_keys && then)
 }
 
-fn stops_receiving(alloc: Global, b: &mut End) -> Result<bool, Fault> {
+fn stops_receiving(alloc: Global, b: &mut End) -> Result<bool, Fail> {
     give_keys(alloc, b, false)?;
     let removed = b.streams().remove_stream_rx(Ssrc::from(42));
     let without_stream = refuses(b, &SEALED)?;
@@ -152,7 +151,7 @@ fn stops_receiving(alloc: Global, b: &mut End) -> Result<bool, Fault> {
     Ok(removed && without_stream && then)
 }
 
-fn opens_once(alloc: Global, b: &mut End) -> Result<bool, Fault> {
+fn opens_once(alloc: Global, b: &mut End) -> Result<bool, Fail> {
     give_keys(alloc, b, false)?;
     let first = tells(b, &SEALED, &first_packet())?;
     let again = refuses(b, &SEALED)?;
@@ -193,7 +192,7 @@ fn index_of(row: Row) -> u32 {
     }
 }
 
-fn hears(alloc: Global, a: &mut End, b: &mut End, asked: Feedback) -> Result<bool, Fault> {
+fn hears(alloc: Global, a: &mut End, b: &mut End, asked: Feedback) -> Result<bool, Fail> {
     match asked {
         Feedback::Lost => {}
         _ => give_keys(alloc, a, true)?,
@@ -203,7 +202,7 @@ fn hears(alloc: Global, a: &mut End, b: &mut End, asked: Feedback) -> Result<boo
 }
 
 // Whether two fresh ends answer as a row says.
-fn hold(alloc: Global, a: &mut End, b: &mut End, row: Row) -> Result<bool, Fault> {
+fn hold(alloc: Global, a: &mut End, b: &mut End, row: Row) -> Result<bool, Fail> {
     prepare_sender(alloc, a)?;
     expect_stream(b)?;
     match row {
@@ -223,7 +222,7 @@ fn hold(alloc: Global, a: &mut End, b: &mut End, row: Row) -> Result<bool, Fault
 }
 
 // Makes two ends, and asks them a row: the one function that owns sessions, with one exit.
-fn play(alloc: Global, row: Row) -> Result<bool, Fault> {
+fn play(alloc: Global, row: Row) -> Result<bool, Fail> {
     let exts = map_of(ids_of(row));
     let (target, index) = (target_of(row), index_of(row));
     let sender = config(alloc, exts, target, index)?;
@@ -234,7 +233,7 @@ fn play(alloc: Global, row: Row) -> Result<bool, Fault> {
 }
 
 #[test]
-fn rows_hold(rt: HostRuntime) -> Result<(), Fault> {
+fn rows_hold(rt: HostRuntime) -> Result<(), Fail> {
     for (name, row) in &ROWS {
         let held = play(rt.alloc(), *row)?;
         assert!(rt; held, "{name}");
@@ -243,7 +242,7 @@ fn rows_hold(rt: HostRuntime) -> Result<(), Fault> {
 }
 
 #[test]
-fn each_extension_is_carried(rt: HostRuntime) -> Result<(), Fault> {
+fn each_extension_is_carried(rt: HostRuntime) -> Result<(), Fail> {
     for extension in &EXTENSIONS {
         let held = play(rt.alloc(), Row::Carries(Ids::Only(*extension)))?;
         assert!(rt; held, "{extension:?}");
@@ -252,7 +251,7 @@ fn each_extension_is_carried(rt: HostRuntime) -> Result<(), Fault> {
 }
 
 #[test]
-fn compounds_are_cut_at_each_target(rt: HostRuntime) -> Result<(), Fault> {
+fn compounds_are_cut_at_each_target(rt: HostRuntime) -> Result<(), Fail> {
     for target in 900..1501 {
         let held = play(rt.alloc(), Row::Feedback(Feedback::Cut(target)))?;
         assert!(rt; held, "{target}");

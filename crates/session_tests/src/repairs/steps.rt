@@ -1,6 +1,6 @@
 //! What is done with two ends, of which one sends with repairs (RFC 4588).
 use crate::carrying::Ids;
-use crate::ends::{End, Fault, ended_with, expect_stream, give_keys, mid, rid};
+use crate::ends::{End, ended_with, expect_stream, give_keys, mid, rid};
 use crate::packets::seal_report;
 use mask_register::MaskRegister;
 use media_base::{Bytes, Duration, Instant};
@@ -9,6 +9,7 @@ use rtp_base::{Kind, MidRid, Pt, Rid, SeqNo, Ssrc};
 use rtp_wire::ExtensionValues;
 use session_core::{Datagram, DrainFault, Media, MediaKind, RtcError};
 use std::alloc::Global;
+use std::test::Fail;
 use stream_core::{Payload, RtpWrite, Sent, Streams};
 
 /// What a pair of ends begins with: the ids of header extensions, and the number of the first
@@ -104,7 +105,7 @@ fn packet(
     number: u64,
     between: &[u8],
     payload: &[u8],
-) -> Result<Vec<u8>, Fault> {
+) -> Result<Vec<u8>, Fail> {
     let mut plain = vec![in alloc; 0x80, pt]?;
     plain.extend_from_slice(&((number % 65536) as u16).to_be_bytes())?;
     plain.extend_from_slice(&[0, 0, 0, 0, 0, 0, 0, low])?;
@@ -128,7 +129,7 @@ fn is_first(
     low: u8,
     number: u64,
     payload: &[u8],
-) -> Result<bool, Fault> {
+) -> Result<bool, Fail> {
     let plain = packet(alloc, 96, low, number, &[], payload)?;
     Ok(is_rtp(datagram, low, number, plain.as_slice()))
 }
@@ -140,18 +141,18 @@ fn is_again(
     low: u8,
     numbers: (u64, u64),
     payload: &[u8],
-) -> Result<bool, Fault> {
+) -> Result<bool, Fail> {
     let first = ((numbers.1 % 65536) as u16).to_be_bytes();
     let plain = packet(alloc, 97, low, numbers.0, &first, payload)?;
     Ok(is_rtp(datagram, low, numbers.0, plain.as_slice()))
 }
 
 // The longest payload.
-fn longest(alloc: Global) -> Result<Vec<u8>, Fault> {
+fn longest(alloc: Global) -> Result<Vec<u8>, Fail> {
     Ok(vec![in alloc; 7; 1400]?)
 }
 
-fn is_sent(alloc: Global, out: Out, datagram: &Datagram) -> Result<bool, Fault> {
+fn is_sent(alloc: Global, out: Out, datagram: &Datagram) -> Result<bool, Fail> {
     match out {
         Out::First(low, number, payload) => is_first(alloc, datagram, low, number, payload),
         Out::Again(low, number, first, payload) => {
@@ -170,7 +171,7 @@ fn is_sent(alloc: Global, out: Out, datagram: &Datagram) -> Result<bool, Fault> 
 }
 
 // Whether the datagrams are exactly these, in order.
-fn are_sent(alloc: Global, outs: &[Out], datagrams: &[Datagram]) -> Result<bool, Fault> {
+fn are_sent(alloc: Global, outs: &[Out], datagrams: &[Datagram]) -> Result<bool, Fail> {
     for (out, datagram) in outs.iter().zip(datagrams.iter()) {
         if !is_sent(alloc, *out, datagram)? {
             return Ok(false);
@@ -179,13 +180,13 @@ fn are_sent(alloc: Global, outs: &[Out], datagrams: &[Datagram]) -> Result<bool,
     Ok(outs.len() == datagrams.len())
 }
 
-fn declare(end: &mut End, low: u8) -> Result<(), Fault> {
+fn declare(end: &mut End, low: u8) -> Result<(), Fail> {
     let mid_rid = MidRid(mid(), Some(rid()));
     end.streams().declare_stream_tx(ssrc(low), None, mid_rid)?;
     Ok(())
 }
 
-fn declare_repaired(end: &mut End, low: u8, first: u64) -> Result<(), Fault> {
+fn declare_repaired(end: &mut End, low: u8, first: u64) -> Result<(), Fail> {
     let mid_rid = MidRid(mid(), Some(rid()));
     let repairs = Ssrc::from(u32::from(low) + 1);
     let first = SeqNo::from(first.min(281_474_976_710_656));
@@ -194,7 +195,7 @@ fn declare_repaired(end: &mut End, low: u8, first: u64) -> Result<(), Fault> {
     Ok(())
 }
 
-fn keep(end: &mut End, packets: usize, age: u64, cap: Option<u32>) -> Result<(), Fault> {
+fn keep(end: &mut End, packets: usize, age: u64, cap: Option<u32>) -> Result<(), Fail> {
     let age = Duration::from_nanos(age);
     end.streams().set_rtx_cache(ssrc(42), packets, age, cap)?;
     Ok(())
@@ -205,7 +206,7 @@ fn put(
     streams: &mut Streams<MaskRegister, QueueStore<Sent>>,
     low: u8,
     write: RtpWrite,
-) -> Result<(), Fault> {
+) -> Result<(), Fail> {
     if let Some(place) = streams.tx_place(ssrc(low)) {
         streams.tx_at(place).write_rtp(write)?;
     }
@@ -223,13 +224,13 @@ fn written() -> ExtensionValues {
 }
 
 // A packet of type 96 at RTP time 0 that may be sent again.
-fn write(alloc: Global, end: &mut End, low: u8, number: u64, bytes: &[u8]) -> Result<(), Fault> {
+fn write(alloc: Global, end: &mut End, low: u8, number: u64, bytes: &[u8]) -> Result<(), Fail> {
     let payload = Payload::from_slice(alloc, bytes)?;
     let write = RtpWrite::new(Pt::from(96), SeqNo::from(number), 0, at(1), payload);
     put(end.streams(), low, write.ext_vals(written()).nackable(true))
 }
 
-fn write_long(alloc: Global, end: &mut End, number: u64) -> Result<(), Fault> {
+fn write_long(alloc: Global, end: &mut End, number: u64) -> Result<(), Fail> {
     let payload = longest(alloc)?;
     write(alloc, end, 42, number, payload.as_slice())
 }
@@ -241,24 +242,24 @@ fn write_as(
     way: (u8, bool, u32),
     number: u64,
     bytes: &[u8],
-) -> Result<(), Fault> {
+) -> Result<(), Fail> {
     let payload = Payload::from_slice(alloc, bytes)?;
     let write = RtpWrite::new(Pt::from(way.0), SeqNo::from(number), way.2, at(1), payload);
     put(end.streams(), 42, write.nackable(way.1))
 }
 
 // Whether a drain gives exactly this.
-fn drains(alloc: Global, end: &mut End, now: Instant, outs: &[Out]) -> Result<bool, Fault> {
+fn drains(alloc: Global, end: &mut End, now: Instant, outs: &[Out]) -> Result<bool, Fail> {
     let drained = end.drain(now)?;
     are_sent(alloc, outs, drained.datagrams.as_slice())
 }
 
-fn ticks(alloc: Global, end: &mut End, now: Instant, outs: &[Out]) -> Result<bool, Fault> {
+fn ticks(alloc: Global, end: &mut End, now: Instant, outs: &[Out]) -> Result<bool, Fail> {
     end.handle_timeout(now)?;
     drains(alloc, end, now, outs)
 }
 
-fn sends_three(alloc: Global, end: &mut End) -> Result<bool, Fault> {
+fn sends_three(alloc: Global, end: &mut End) -> Result<bool, Fail> {
     write(alloc, end, 42, 1, &[1])?;
     write(alloc, end, 42, 2, &[2])?;
     write(alloc, end, 42, 3, &[3])?;
@@ -288,7 +289,7 @@ fn sends_many(
     now: Instant,
     from: u64,
     to: u64,
-) -> Result<bool, Fault> {
+) -> Result<bool, Fail> {
     for number in from..to {
         write(alloc, end, 42, number, &[(number % 256) as u8])?;
     }
@@ -298,7 +299,7 @@ fn sends_many(
 }
 
 // Whether plain bytes of RTCP from the peer open.
-fn hears(alloc: Global, end: &mut End, now: Instant, plain: &[u8]) -> Result<bool, Fault> {
+fn hears(alloc: Global, end: &mut End, now: Instant, plain: &[u8]) -> Result<bool, Fail> {
     let sealed = seal_report(alloc, plain)?;
     let opened = end.handle_rtcp_receive(now, sealed.as_slice())?;
     Ok(opened.is_some())
@@ -311,7 +312,7 @@ fn is_asked(
     now: Instant,
     low: u8,
     entry: (u16, u16),
-) -> Result<bool, Fault> {
+) -> Result<bool, Fail> {
     let mut plain = vec![in alloc; 0x81, 0xcd, 0, 3, 0, 0, 0, 2, 0, 0, 0, low]?;
     plain.extend_from_slice(&entry.0.to_be_bytes())?;
     plain.extend_from_slice(&entry.1.to_be_bytes())?;
@@ -319,7 +320,7 @@ fn is_asked(
 }
 
 // Whether all datagrams but that of a number open at the peer.
-fn arrive(peer: &mut End, now: Instant, lost: u64, datagrams: &[Datagram]) -> Result<bool, Fault> {
+fn arrive(peer: &mut End, now: Instant, lost: u64, datagrams: &[Datagram]) -> Result<bool, Fail> {
     for datagram in datagrams {
         if datagram.index != SeqNo::from(lost) {
             let opened = peer.handle_rtp_receive(now, datagram.bytes.as_slice())?;
@@ -338,7 +339,7 @@ fn loses(
     now: Instant,
     lost: u64,
     outs: &[Out],
-) -> Result<bool, Fault> {
+) -> Result<bool, Fail> {
     end.handle_timeout(now)?;
     let drained = end.drain(now)?;
     let sent = are_sent(alloc, outs, drained.datagrams.as_slice())?;
@@ -346,7 +347,7 @@ fn loses(
     Ok(sent && opened)
 }
 
-fn peer_asks(end: &mut End, peer: &mut End, now: Instant, plain: &[u8]) -> Result<bool, Fault> {
+fn peer_asks(end: &mut End, peer: &mut End, now: Instant, plain: &[u8]) -> Result<bool, Fail> {
     peer.handle_timeout(now)?;
     let Some(sent) = peer.poll_datagram(now)? else {
         return Ok(false);
@@ -369,12 +370,12 @@ fn is_stopped(end: &mut End, now: Instant) -> bool {
 }
 
 // Whether a drain gave exactly this, and then there was no number of repairs.
-fn is_used_up(alloc: Global, fault: &DrainFault, outs: &[Out]) -> Result<bool, Fault> {
+fn is_used_up(alloc: Global, fault: &DrainFault, outs: &[Out]) -> Result<bool, Fail> {
     let sent = are_sent(alloc, outs, fault.sofar.datagrams.as_slice())?;
     Ok(sent && fault.error == RtcError::RepairsExhausted(ssrc(43)))
 }
 
-fn ends(alloc: Global, end: &mut End, now: Instant, outs: &[Out]) -> Result<bool, Fault> {
+fn ends(alloc: Global, end: &mut End, now: Instant, outs: &[Out]) -> Result<bool, Fail> {
     end.handle_timeout(now)?;
     let ended = match end.drain(now) {
         Err(fault) => is_used_up(alloc, &fault, outs)?,
@@ -383,7 +384,7 @@ fn ends(alloc: Global, end: &mut End, now: Instant, outs: &[Out]) -> Result<bool
     Ok(ended && is_stopped(end, now))
 }
 
-fn ends_at_once(end: &mut End, now: Instant) -> Result<bool, Fault> {
+fn ends_at_once(end: &mut End, now: Instant) -> Result<bool, Fail> {
     end.handle_timeout(now)?;
     let ended = ended_with(
         &end.poll_datagram(now),
@@ -393,7 +394,7 @@ fn ends_at_once(end: &mut End, now: Instant) -> Result<bool, Fault> {
 }
 
 // Does a step, and tells whether it went so.
-fn goes(alloc: Global, end: &mut End, peer: &mut End, step: Step) -> Result<bool, Fault> {
+fn goes(alloc: Global, end: &mut End, peer: &mut End, step: Step) -> Result<bool, Fail> {
     match step {
         Step::Declares(low) => declare(end, low)?,
         Step::Repairs(low, first) => declare_repaired(end, low, first)?,
@@ -429,7 +430,7 @@ pub fn go_through(
     peer: &mut End,
     first: u64,
     steps: &[Step],
-) -> Result<bool, Fault> {
+) -> Result<bool, Fail> {
     let cname = Bytes::from_slice(alloc, b"cam")?;
     end.add_media(Media::new(mid(), MediaKind::Video, cname))?;
     declare_repaired(end, 42, first)?;

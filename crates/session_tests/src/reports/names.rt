@@ -1,8 +1,9 @@
 //! The names of sources (RFC 3550 section 6.5).
-use crate::ends::{End, Fault};
+use crate::ends::End;
 use crate::reports::steps::{add, at, declare, leaves};
 use session_core::MediaKind;
 use std::alloc::Global;
+use std::test::Fail;
 
 // The report of SSRC 42 after 1 s, of which nothing was sent.
 const REPORT: [u8; 28] = [
@@ -11,7 +12,7 @@ const REPORT: [u8; 28] = [
 ];
 
 // The name of SSRC 42, so many letters: its chunk ends with one to four zeros, at a whole word.
-fn push_name(bytes: &mut Vec<u8>, len: u8) -> Result<(), Fault> {
+fn push_name(bytes: &mut Vec<u8>, len: u8) -> Result<(), Fail> {
     let words = (u16::from(len) + 2) / 4 + 2;
     let zeros = 4 - (usize::from(len) + 2) % 4;
     bytes.extend_from_slice(&[0x81, 0xca])?;
@@ -28,7 +29,7 @@ fn push_name(bytes: &mut Vec<u8>, len: u8) -> Result<(), Fault> {
 
 /// Whether an end reports on a stream whose source has a name of so many letters, and names it where
 /// these are from 1 to 255.
-pub fn names_itself(alloc: Global, end: &mut End, len: usize) -> Result<bool, Fault> {
+pub fn names_itself(alloc: Global, end: &mut End, len: usize) -> Result<bool, Fail> {
     let name = vec![in alloc; b'a'; len]?;
     add(alloc, end, b'v', MediaKind::Video, name.as_slice())?;
     declare(end, (42, 0, b'v'))?;

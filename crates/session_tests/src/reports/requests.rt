@@ -1,10 +1,11 @@
 //! What streams ask of their senders: a key frame by PLI (RFC 4585 section 6.3.1) or FIR (RFC 5104 section
 //! 4.3.1.1), and a rate by REMB (draft-alvestrand-rmcat-remb section 2.2). SSRC 2, that of an end while it
 //! sends nothing, asks on SSRC 42.
-use crate::ends::{End, Fault};
+use crate::ends::End;
 use crate::reports::steps::Step::{Asks, Comes, Expects, Frames, Rates, Seals, Tick, Wakes};
 use crate::reports::steps::{Row, ask_frame, at, ticks};
 use rtp_base::KeyframeRequestKind::{Fir, Pli};
+use std::test::Fail;
 
 const PICTURE: &[u8] = &[0x81, 0xce, 0, 2, 0, 0, 0, 2, 0, 0, 0, 42];
 
@@ -95,7 +96,7 @@ pub const REQUESTS: [Row; 5] = [
 ];
 
 /// Whether an end numbers 257 full intra requests from 0 on: 0 follows on 255.
-pub fn numbers_requests(end: &mut End) -> Result<bool, Fault> {
+pub fn numbers_requests(end: &mut End) -> Result<bool, Fail> {
     for count in 0..257u64 {
         ask_frame(end, 42, Fir);
         let number = (count % 256) as u8;

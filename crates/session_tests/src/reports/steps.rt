@@ -1,11 +1,12 @@
 //! What is done with an end that reports.
-use crate::ends::{End, Fault, mid};
+use crate::ends::{End, mid};
 use crate::packets::{seal_numbered, seal_report};
 use crate::reports::news::{News, tells};
 use media_base::{Bitrate, Bytes, Instant};
 use rtp_base::{KeyframeRequestKind, Kind, Mid, MidRid, Pt, SeqNo, Ssrc};
 use session_core::{Media, MediaKind};
 use std::alloc::Global;
+use std::test::Fail;
 use stream_core::{Payload, RtpWrite};
 
 /// What is done with an end, or asked of it. Moments are in nanoseconds; a mid is one letter; an SSRC of
@@ -74,14 +75,14 @@ pub fn add(
     letter: u8,
     kind: MediaKind,
     cname: &[u8],
-) -> Result<(), Fault> {
+) -> Result<(), Fail> {
     let cname = Bytes::from_slice(alloc, cname)?;
     end.add_media(Media::new(mid_of(letter), kind, cname))?;
     Ok(())
 }
 
 /// Has an end receive on an SSRC, with repairs on another, of a mid.
-pub fn expect(end: &mut End, way: (u8, u8, u8), suppress: bool) -> Result<(), Fault> {
+pub fn expect(end: &mut End, way: (u8, u8, u8), suppress: bool) -> Result<(), Fail> {
     let mid_rid = MidRid(mid_of(way.2), None);
     end.streams()
         .expect_stream_rx(ssrc(way.0), rtx_of(way.1), mid_rid, suppress)?;
@@ -89,7 +90,7 @@ pub fn expect(end: &mut End, way: (u8, u8, u8), suppress: bool) -> Result<(), Fa
 }
 
 /// Declares a stream that sends on an SSRC, with repairs on another, of a mid.
-pub fn declare(end: &mut End, way: (u8, u8, u8)) -> Result<(), Fault> {
+pub fn declare(end: &mut End, way: (u8, u8, u8)) -> Result<(), Fail> {
     let repairs = match rtx_of(way.1) {
         Some(rtx) => Some((rtx, SeqNo::from(1))),
         None => None,
@@ -100,7 +101,7 @@ pub fn declare(end: &mut End, way: (u8, u8, u8)) -> Result<(), Fault> {
     Ok(())
 }
 
-fn write(alloc: Global, end: &mut End, low: u8, time: u32, moment: u64) -> Result<(), Fault> {
+fn write(alloc: Global, end: &mut End, low: u8, time: u32, moment: u64) -> Result<(), Fail> {
     let payload = Payload::from_slice(alloc, &[1, 2])?;
     let write = RtpWrite::new(Pt::from(96), SeqNo::from(1), time, at(moment), payload);
     let streams = end.streams();
@@ -132,7 +133,7 @@ fn opens(
     now: Instant,
     way: (u8, u8, u64, u32),
     payload: &[u8],
-) -> Result<bool, Fault> {
+) -> Result<bool, Fail> {
     let [high, low] = ((way.2 % 65_536) as u16).to_be_bytes();
     let mut plain = vec![in alloc; 0x80, way.0, high, low]?;
     plain.extend_from_slice(&way.3.to_be_bytes())?;
@@ -144,7 +145,7 @@ fn opens(
 }
 
 /// Whether reports open that come.
-pub fn hears(alloc: Global, end: &mut End, now: Instant, plain: &[u8]) -> Result<bool, Fault> {
+pub fn hears(alloc: Global, end: &mut End, now: Instant, plain: &[u8]) -> Result<bool, Fail> {
     let sealed = seal_report(alloc, plain)?;
     let opened = end.handle_rtcp_receive(now, sealed.as_slice())?;
     Ok(opened.is_some())
@@ -152,7 +153,7 @@ pub fn hears(alloc: Global, end: &mut End, now: Instant, plain: &[u8]) -> Result
 
 /// Whether this compound leaves next, or no feedback where there are no bytes, and behind it packets
 /// alone, at most three.
-pub fn leaves(end: &mut End, now: Instant, plain: &[u8]) -> Result<bool, Fault> {
+pub fn leaves(end: &mut End, now: Instant, plain: &[u8]) -> Result<bool, Fail> {
     if !plain.is_empty() {
         let right = match end.poll_datagram(now)? {
             Some(sent) => sent.kind == Kind::Rtcp && sent.plain.as_slice() == plain,
@@ -175,7 +176,7 @@ pub fn leaves(end: &mut End, now: Instant, plain: &[u8]) -> Result<bool, Fault> 
     Ok(false)
 }
 
-fn seals(end: &mut End, now: Instant, bytes: &[u8]) -> Result<bool, Fault> {
+fn seals(end: &mut End, now: Instant, bytes: &[u8]) -> Result<bool, Fail> {
     end.handle_timeout(now)?;
     match end.poll_datagram(now)? {
         Some(sent) => Ok(sent.bytes.as_slice() == bytes),
@@ -184,7 +185,7 @@ fn seals(end: &mut End, now: Instant, bytes: &[u8]) -> Result<bool, Fault> {
 }
 
 /// Whether this compound leaves at a tick, as `leaves` says.
-pub fn ticks(end: &mut End, now: Instant, plain: &[u8]) -> Result<bool, Fault> {
+pub fn ticks(end: &mut End, now: Instant, plain: &[u8]) -> Result<bool, Fail> {
     end.handle_timeout(now)?;
     leaves(end, now, plain)
 }
@@ -197,7 +198,7 @@ fn wakes(end: &End, moment: Option<u64>) -> bool {
 }
 
 /// Does a step with an end, and tells whether it went so.
-pub fn goes(alloc: Global, end: &mut End, step: Step) -> Result<bool, Fault> {
+pub fn goes(alloc: Global, end: &mut End, step: Step) -> Result<bool, Fail> {
     match step {
         Step::Adds(letter, kind, cname) => add(alloc, end, letter, kind, cname)?,
         Step::Expects(low, rtx, letter) => expect(end, (low, rtx, letter), true)?,
