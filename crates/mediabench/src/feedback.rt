@@ -28,7 +28,7 @@ const REPORT: [u8; 32] = [
 // Makes the report of what came, and tells how many rows it has.
 fn report(alloc: Global, register: &mut TwccRecvRegister) -> Result<u64, AllocError> {
     match register.build_report(alloc, Ssrc::from(1), Ssrc::from(42), 1_200)? {
-        Some(report) => Ok(report.rows.as_slice().len() as u64),
+        Some(report) => Ok(report.rows.len() as u64),
         None => Ok(0),
     }
 }
@@ -53,7 +53,7 @@ fn read(alloc: Global, count: u64) -> Result<u64, AllocError> {
     for i in 0..count {
         bytes[15] = (i % 256) as u8;
         if let Some(report) = read_twcc(alloc, &bytes)? {
-            rows = rows.wrapping_add(report.rows.as_slice().len() as u64);
+            rows = rows.wrapping_add(report.rows.len() as u64);
         }
     }
     Ok(rows)
@@ -64,7 +64,7 @@ fn write_all(report: &Twcc, count: u64) -> u64 {
     let mut bytes = [0; 64];
     let mut written: u64 = 0;
     for _i in 0..count {
-        if report.rows.as_slice().len() < 65_536 {
+        if report.rows.len() < 65_536 {
             let len = write_twcc(report, &mut bytes).unwrap_or(0);
             written = written.wrapping_add(len as u64);
         }

@@ -5,8 +5,8 @@ use media_base::{Bitrate, Bytes, Listed, SystemTime};
 use rtcp_wire::{
     AppSpecificFeedback, Descriptions, Dlrr, DlrrItem, ExtendedReport, Fir, FirEntry, Goodbye,
     Nack, NackEntry, PacketStatus, Pli, ReceiverReport, ReceptionReport, Remb, ReportBlock,
-    ReportList, Rrtr, Rtcp, RtcpFb, Sdes, SdesItem, SdesType, SenderInfo, SenderReport, Twcc,
-    items_fit_by_lengths,
+    ReportList, Rrtr, Rtcp, RtcpFb, Sdes, SdesItem, SdesType, SenderInfo, SenderReport, StatusList,
+    Twcc, items_fit_by_lengths,
 };
 use rtp_base::{SeqNo, Ssrc};
 use std::alloc::{AllocError, Global};
@@ -232,7 +232,7 @@ fn requests(rt: HostRuntime) {
 }
 
 fn transport_feedback(alloc: Global) -> Result<Twcc, AllocError> {
-    let mut rows = Listed::new(alloc);
+    let mut rows = StatusList::new(alloc);
     for delta in [4, 4, 4, 4, 4, 4, 4, -1] {
         rows.push(PacketStatus::Received(delta))?;
     }
@@ -291,7 +291,7 @@ fn three_items(alloc: Global) -> Result<Vec<u8>, AllocError> {
 
 // Whether feedback is read and written so between an empty report and a goodbye.
 fn is_between(alloc: Global, twcc: Twcc, bytes: &[u8]) -> Result<bool, AllocError> {
-    if twcc.rows.as_slice().len() >= 65_536 {
+    if twcc.rows.len() >= 65_536 {
         return Ok(false);
     }
     let item = writable(twcc);

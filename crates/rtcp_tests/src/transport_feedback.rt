@@ -3,8 +3,8 @@ use media_base::{DataSize, Duration, Instant, Listed};
 use rtp_base::{SeqNo, Ssrc, TwccPacketId};
 use std::alloc::{AllocError, Global};
 use twcc_core::{
-    PacketStatus, Share, Twcc, TwccRecvRegister, TwccSendRecord, TwccSendRegister, arrivals,
-    read_twcc, twcc_len, write_twcc,
+    PacketStatus, Share, StatusList, Twcc, TwccRecvRegister, TwccSendRecord, TwccSendRegister,
+    arrivals, read_twcc, twcc_len, write_twcc,
 };
 
 /// Of feedback its first number, its reference time, its count, and what became of each packet.
@@ -34,8 +34,8 @@ const WORKED_FEEDBACK: Feedback = (
     ],
 );
 
-fn rows_of(alloc: Global, statuses: &[PacketStatus]) -> Result<Listed<PacketStatus>, AllocError> {
-    let mut rows = Listed::new(alloc);
+fn rows_of(alloc: Global, statuses: &[PacketStatus]) -> Result<StatusList, AllocError> {
+    let mut rows = StatusList::new(alloc);
     for status in statuses {
         rows.push(*status)?;
     }
@@ -56,7 +56,7 @@ fn feedback_of(alloc: Global, feedback: &Feedback) -> Result<Twcc, AllocError> {
 
 // How many bytes feedback takes that is written, if they are as many as were told before.
 fn write(twcc: &Twcc, out: &mut [u8]) -> Option<usize> {
-    if twcc.rows.as_slice().len() >= 65_536 {
+    if twcc.rows.len() >= 65_536 {
         return None;
     }
     let len = twcc_len(twcc);
@@ -205,6 +205,28 @@ fn gaps(rt: HostRuntime) {
     }
 }
 
+// Nine runs that tell 65,535 missing packets, which is as many as feedback can tell of.
+const WIDE: [u8; 36] = [
+    0, 0, 0, 1, 0, 0, 0, 42, 0, 5, 0xff, 0xff, 0, 0, 1, 7, 0x1f, 0xff, 0x1f, 0xff, 0x1f, 0xff,
+    0x1f, 0xff, 0x1f, 0xff, 0x1f, 0xff, 0x1f, 0xff, 0x1f, 0xff, 0, 7, 0, 0,
+];
+
+fn is_wide(alloc: Global) -> Result<bool, AllocError> {
+    let gap = gap_of(alloc, 65_535)?;
+    let Some(read) = read_twcc(alloc, &WIDE)? else {
+        return Ok(false);
+    };
+    let mut out = [1; 36];
+    let written = write(&read, &mut out) == Some(36) && out == WIDE;
+    Ok(written && read.rows.len() == 65_535 && read == gap)
+}
+
+// Few bytes tell of many packets.
+#[test]
+fn wide_gap(rt: HostRuntime) {
+    assert!(rt; is_wide(rt.alloc()) == Ok(true));
+}
+
 /// What comes to a register of packets that are received, or is asked of it.
 #[derive(Clone, Copy)]
 enum Receiving {
@@ -255,7 +277,7 @@ fn reported(
 ) -> Result<Option<(u16, usize)>, AllocError> {
     let report = build(alloc, register, limit)?;
     Ok(match &report {
-        Some(report) => Some((report.base_seq, report.rows.as_slice().len())),
+        Some(report) => Some((report.base_seq, report.rows.len())),
         None => None,
     })
 }

@@ -29,5 +29,6 @@ pub use rtcp_fb::RtcpFb;
 pub use rtp_base::{NackEntry, ReceptionReport, ReportList};
 pub use source::{Descriptions, Goodbye, Sdes, SdesItem, SdesType};
 pub use twcc_core::{
-    PacketStatus, Share, Twcc, TwccRecvRegister, TwccSendRecord, TwccSendRegister,
+    PacketStatus, Share, StatusIter, StatusList, Twcc, TwccRecvRegister, TwccSendRecord,
+    TwccSendRegister,
 };

@@ -1,4 +1,5 @@
 pub mod Rows
+pub mod Runs
 pub mod Symbols
 pub mod Chunks
 pub mod ReadBack
@@ -9,6 +10,7 @@ pub mod Reporting
 pub mod Reported
 pub mod Telling
 pub mod Nothing
+pub mod Cursor
 pub mod Marking
 pub mod Rising
 pub mod Within

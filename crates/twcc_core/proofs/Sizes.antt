@@ -1,9 +1,9 @@
 -- How the size of rows is counted.
-use Rattle.std.proofs.Common.{◌≡◌, ℕ, zero, suc, ◌+◌, ◌-◌, ◌*◌, ◌<◌, ◌≤◌, Bool, true, false, cond, eqb, ltb, leb, List, [], ◌∷◌, ◌++◌, length, get_or, take, drop, refl, sym, ap, ◌∙◌, append_assoc, arith, length-append, length-drop, inl, inr}
+use Rattle.std.proofs.Common.{◌≡◌, ℕ, zero, suc, ◌+◌, ◌-◌, ◌*◌, ◌<◌, ◌≤◌, Bool, true, false, cond, eqb, ltb, leb, List, [], ◌∷◌, ◌++◌, length, take, drop, refl, sym, ap, ◌∙◌, append_assoc, arith, length-append, length-drop, inl, inr}
 use Rattle.std.specs.Prelude.{min, ◌&&◌, ◌||◌, ◌⊎◌}
 use Rattle.std.specs.List.{flat_map, prefix_len}
 use Rattle.std.proofs.lemmas.Bool.{le-ltb, lt-ltb, ltb-true, ltb-false, leb-true, leb-false, eqb-true, eq-eqb}
-use Rattle.std.proofs.lemmas.List.{append-nil, drop_at, take_more}
+use Rattle.std.proofs.lemmas.List.{append-nil, drop_at}
 use Rattle.std.proofs.lemmas.List.Concat.{flat_map-append}
 use Rattle.twcc_core.specs.declared.status.PacketStatus.{PacketStatus}
 use Rattle.twcc_core.specs.declared.size.Size.{Size}
@@ -323,7 +323,3 @@ size_grows (row ∷ later) s rows h =
     let e : (rows ++ row ∷ []) ++ later ≡ rows ++ (row ∷ later) = append_assoc rows (row ∷ []) later in
     let others = rw e at (size_grows later (after_row s row) (rows ++ row ∷ []) (next_counted s row rows h)) in
     omega (arith, one, others)
-
--- the next of some rows
-pub counted_more : (s s' : Size) (rows : List PacketStatus) (i : ℕ) (d : PacketStatus) → i < length rows → s' ≡ after_row s (get_or rows i d) → IsCounted s (take i rows) → IsCounted s' (take (i + 1) rows)
-counted_more s s' rows i d lt e h = rw (take_more rows i d lt, e) (next_counted s (get_or rows i d) (take i rows) h)

@@ -1,26 +1,126 @@
--- The loop that reads chunks, and the one over symbols.
-use Rattle.std.proofs.Common.{◌≡◌, ℕ, zero, suc, ◌+◌, ◌-◌, ◌/◌, ◌<◌, ◌≤◌, true, false, ltb, min, List, [], ◌∷◌, ◌++◌, length, get_or, take, drop, Option, Some, None, refl, sym, ap, ◌∙◌, append_assoc, arith, length-append, length-drop}
-use Rattle.std.specs.Option.{option_map}
-use Rattle.std.proofs.lemmas.List.{append-nil, length-take, take_min}
+-- The loops over chunks that are read, and those over symbols.
+use Rattle.std.proofs.Common.{◌≡◌, ℕ, zero, suc, ◌+◌, ◌-◌, ◌/◌, ◌%◌, ◌<◌, ◌≤◌, true, false, ltb, min, List, [], ◌∷◌, ◌++◌, length, get_or, take, drop, replicate, Option, Some, None, refl, sym, ap, subst, ◌∙◌, append_assoc, arith, length-drop}
+use Rattle.std.specs.Option.{option_map, option_and_then}
+use Rattle.std.proofs.lemmas.List.{append-nil, take_more, take_all, take_min, take-replicate, take-append-drop, length-replicate}
 use Rattle.std.proofs.lemmas.Bool.{le-ltb, lt-ltb}
-use Rattle.std.proofs.Math.ListN.{drop_of_length-le}
 use Rattle.twcc_core.specs.declared.status.PacketStatus.{PacketStatus}
 use Rattle.rtp_base.specs.Wire.{half_at}
 use Rattle.twcc_core.specs.Statuses.{status_at, statuses_of}
-use Rattle.twcc_core.specs.Chunks.{one_bit_symbols, chunk_symbols, with_symbols, symbols_within, symbols_of}
+use Rattle.twcc_core.specs.Chunks.{one_bit_symbols, two_bit_symbols, chunk_symbols, with_symbols, symbols_within, symbols_of}
+use Rattle.twcc_core.specs.Reading.{with_front, Says}
 
--- the symbols read so far stand before those of the rest
-pub record IsRead (now : List ℕ) (count : ℕ) (rest : List ℕ) (all : Option (List ℕ × List ℕ)) : Type 0 where
-  pub within : length now ≤ count
-  pub so_far : option_map (with_symbols now) (symbols_within (length rest / 2) (count - length now) rest) ≡ all
+-- ---- symbols
 
-front_none : (o : Option (List ℕ × List ℕ)) → option_map (with_symbols []) o ≡ o
-front_none None = refl
-front_none (Some x) = refl
+rows_regroup : (now : List PacketStatus) (s : PacketStatus) (o : Option (List PacketStatus)) → with_front now (option_map (λ later. s ∷ later) o) ≡ with_front (now ++ s ∷ []) o
+rows_regroup now s None = refl
+rows_regroup now s (Some x) = ap (λ (t : List PacketStatus). Some t) (sym (append_assoc now (s ∷ []) x))
 
-regroup : (now new : List ℕ) (o : Option (List ℕ × List ℕ)) → option_map (with_symbols now) (option_map (with_symbols new) o) ≡ option_map (with_symbols (now ++ new)) o
-regroup now new None = refl
-regroup now new (Some x) = ap (λ (t : List ℕ). let y : List ℕ × List ℕ = (t, x.1) in Some y) (sym (append_assoc now new x.0))
+pub says_nothing : (front : List PacketStatus) (bytes : List ℕ) → Says front [] bytes front (Some bytes)
+says_nothing front bytes = record { so_far = λ later. refl }
+
+says_one : (front : List PacketStatus) (symbol : ℕ) (bytes : List ℕ) (s : PacketStatus) (after : List ℕ) → Some (s, after) ≡ status_at symbol bytes → Says front (symbol ∷ []) bytes (front ++ s ∷ []) (Some after)
+says_one front symbol bytes s after e = record { so_far = λ later. rw (← e) (rows_regroup front s (statuses_of later after)) }
+
+says_more : (front : List PacketStatus) (xs ys bytes : List ℕ) (now new : List PacketStatus) (rest : List ℕ) (after : Option (List ℕ)) → Says front xs bytes now (Some rest) → Says now ys rest new after → Says front (xs ++ ys) bytes new after
+says_more front xs ys bytes now new rest after p q = record { so_far = λ later. rw (append_assoc xs ys later) (p.so_far (ys ++ later) ∙ q.so_far later) }
+
+ends_there : (front : List PacketStatus) (symbol : ℕ) (symbols bytes : List ℕ) (rows : List PacketStatus) → None ≡ status_at symbol bytes → Says front (symbol ∷ symbols) bytes rows None
+ends_there front symbol symbols bytes rows e = record { so_far = λ later. rw (← e) refl }
+
+pub says_next : (front : List PacketStatus) (symbols : List ℕ) (i symbol : ℕ) (bytes : List ℕ) (now new : List PacketStatus) (s : PacketStatus) (rest after : List ℕ) → i < length symbols → symbol ≡ get_or symbols i 0
+    → Some (s, after) ≡ status_at symbol rest → new ≡ now ++ s ∷ []
+    → Says front (take i symbols) bytes now (Some rest) → Says front (take (i + 1) symbols) bytes new (Some after)
+says_next front symbols i symbol bytes now new s rest after lt is e n h =
+    rw (take_more symbols i 0 lt, ← is, n) (says_more front (take i symbols) (symbol ∷ []) bytes now (now ++ s ∷ []) rest (Some after) h (says_one now symbol rest s after e))
+
+first_and_rest : (xs : List ℕ) (i : ℕ) → i < length xs → drop i xs ≡ get_or xs i 0 ∷ drop (i + 1) xs
+first_and_rest [] i lt = absurd (omega (arith, lt))
+first_and_rest (x ∷ xs) zero lt = refl
+first_and_rest (x ∷ xs) (suc i) lt = let k : suc i + 1 ≡ suc (i + 1) = omega arith in rw k (first_and_rest xs i (omega (arith, lt)))
+
+pub says_none : (front : List PacketStatus) (symbols : List ℕ) (i symbol : ℕ) (bytes : List ℕ) (now new : List PacketStatus) (rest : List ℕ) → i < length symbols → symbol ≡ get_or symbols i 0
+    → None ≡ status_at symbol rest
+    → Says front (take i symbols) bytes now (Some rest) → Says front symbols bytes new None
+says_none front symbols i symbol bytes now new rest lt is e h =
+    let split : take i symbols ++ symbol ∷ drop (i + 1) symbols ≡ symbols = rw is (ap (λ (t : List ℕ). take i symbols ++ t) (sym (first_and_rest symbols i lt)) ∙ take-append-drop i symbols) in
+    subst (λ (xs : List ℕ). Says front xs bytes new None) split (says_more front (take i symbols) (symbol ∷ drop (i + 1) symbols) bytes now new rest None h (ends_there now symbol (drop (i + 1) symbols) rest new e))
+
+pub says_all : (front : List PacketStatus) (symbols : List ℕ) (i : ℕ) (bytes : List ℕ) (now : List PacketStatus) (rest : List ℕ) → length symbols ≤ i → Says front (take i symbols) bytes now (Some rest) → Says front symbols bytes now (Some rest)
+says_all front symbols i bytes now rest le h = subst (λ (xs : List ℕ). Says front xs bytes now (Some rest)) (take_all i symbols le) h
+
+-- the first symbols are read
+pub record IsRead (front : List PacketStatus) (symbols : List ℕ) (i : ℕ) (bytes : List ℕ) (now : List PacketStatus) (rest : List ℕ) : Type 0 where
+  pub says : Says front (take i symbols) bytes now (Some rest)
+
+pub read_starts : (front : List PacketStatus) (symbols bytes : List ℕ) → IsRead front symbols 0 bytes front bytes
+read_starts front symbols bytes = record { says = says_nothing front bytes }
+
+pub read_more : (front : List PacketStatus) (symbols : List ℕ) (i symbol : ℕ) (bytes : List ℕ) (now new : List PacketStatus) (s : PacketStatus) (rest after : List ℕ) → i < length symbols → symbol ≡ get_or symbols i 0
+    → Some (s, after) ≡ status_at symbol rest → new ≡ now ++ s ∷ []
+    → IsRead front symbols i bytes now rest → IsRead front symbols (i + 1) bytes new after
+read_more front symbols i symbol bytes now new s rest after lt is e n h = record { says = says_next front symbols i symbol bytes now new s rest after lt is e n h.says }
+
+pub read_fails : (front : List PacketStatus) (symbols : List ℕ) (i symbol : ℕ) (bytes : List ℕ) (now : List PacketStatus) (rest : List ℕ) → i < length symbols → symbol ≡ get_or symbols i 0
+    → None ≡ status_at symbol rest → IsRead front symbols i bytes now rest → Says front symbols bytes now None
+read_fails front symbols i symbol bytes now rest lt is e h = says_none front symbols i symbol bytes now now rest lt is e h.says
+
+pub read_ends : (front : List PacketStatus) (symbols : List ℕ) (i : ℕ) (bytes : List ℕ) (now : List PacketStatus) (rest : List ℕ) → length symbols ≤ i → IsRead front symbols i bytes now rest → Says front symbols bytes now (Some rest)
+read_ends front symbols i bytes now rest le h = says_all front symbols i bytes now rest le h.says
+
+-- ---- a symbol that comes again and again
+
+get_or_replicate : (count i symbol : ℕ) → i < count → get_or (replicate count symbol) i 0 ≡ symbol
+get_or_replicate zero i symbol lt = absurd (omega (arith, lt))
+get_or_replicate (suc count) zero symbol lt = refl
+get_or_replicate (suc count) (suc i) symbol lt = get_or_replicate count i symbol (omega (arith, lt))
+
+-- a symbol was read so often
+pub record IsRun (front : List PacketStatus) (symbol count i : ℕ) (bytes : List ℕ) (now : List PacketStatus) (rest : List ℕ) : Type 0 where
+  pub read : IsRead front (replicate count symbol) i bytes now rest
+
+pub run_starts : (front : List PacketStatus) (symbol count : ℕ) (bytes : List ℕ) → IsRun front symbol count 0 bytes front bytes
+run_starts front symbol count bytes = record { read = read_starts front (replicate count symbol) bytes }
+
+pub run_more : (front : List PacketStatus) (symbol count i : ℕ) (bytes : List ℕ) (now new : List PacketStatus) (s : PacketStatus) (rest after : List ℕ) → i < count
+    → Some (s, after) ≡ status_at symbol rest → new ≡ now ++ s ∷ []
+    → IsRun front symbol count i bytes now rest → IsRun front symbol count (i + 1) bytes new after
+run_more front symbol count i bytes now new s rest after lt e n h =
+    record { read = read_more front (replicate count symbol) i symbol bytes now new s rest after (omega (arith, lt, length-replicate count symbol)) (sym (get_or_replicate count i symbol lt)) e n h.read }
+
+pub run_fails : (front : List PacketStatus) (symbol count i : ℕ) (bytes : List ℕ) (now : List PacketStatus) (rest : List ℕ) → i < count
+    → None ≡ status_at symbol rest → IsRun front symbol count i bytes now rest → Says front (replicate count symbol) bytes now None
+run_fails front symbol count i bytes now rest lt e h =
+    read_fails front (replicate count symbol) i symbol bytes now rest (omega (arith, lt, length-replicate count symbol)) (sym (get_or_replicate count i symbol lt)) e h.read
+
+pub run_ends : (front : List PacketStatus) (symbol count i : ℕ) (bytes : List ℕ) (now : List PacketStatus) (rest : List ℕ) → count ≤ i → IsRun front symbol count i bytes now rest → Says front (replicate count symbol) bytes now (Some rest)
+run_ends front symbol count i bytes now rest le h = read_ends front (replicate count symbol) i bytes now rest (omega (arith, le, length-replicate count symbol)) h.read
+
+-- ---- what a chunk tells
+
+pub run_taken : (chunk most : ℕ) → chunk < 32768 → take most (chunk_symbols chunk) ≡ replicate (min (chunk % 8192) most) (chunk / 8192)
+unfolding chunk_symbols
+run_taken chunk most low =
+    let a : ltb chunk 32768 ≡ true = lt-ltb _ _ low in
+    let run : List ℕ = replicate (chunk % 8192) (chunk / 8192) in
+    let len : length run ≡ chunk % 8192 = length-replicate (chunk % 8192) (chunk / 8192) in
+    rw a (sym (take_min most run) ∙ rw len (take-replicate (min most (chunk % 8192)) (chunk % 8192) (chunk / 8192) (omega arith) ∙ ap (λ (n : ℕ). replicate n (chunk / 8192)) (omega arith)))
+
+-- of a vector no more than 14 are taken, or 7
+pub bits_taken : (chunk most : ℕ) → 32768 ≤ chunk → chunk < 49152 → take most (chunk_symbols chunk) ≡ take (min most 14) (one_bit_symbols chunk)
+unfolding chunk_symbols
+bits_taken chunk most low high =
+    let a : ltb chunk 32768 ≡ false = le-ltb _ _ low in
+    let b : ltb chunk 49152 ≡ true = lt-ltb _ _ high in
+    rw (a, b) (sym (take_min most (one_bit_symbols chunk)))
+
+pub pairs_taken : (chunk most : ℕ) → 49152 ≤ chunk → take most (chunk_symbols chunk) ≡ take (min most 7) (two_bit_symbols chunk)
+unfolding chunk_symbols
+pairs_taken chunk most high =
+    let a : ltb chunk 32768 ≡ false = le-ltb _ _ (omega (arith, high)) in
+    let b : ltb chunk 49152 ≡ false = le-ltb _ _ high in
+    rw (a, b) (sym (take_min most (two_bit_symbols chunk)))
+
+-- ---- chunks
 
 pub some_left : (n count : ℕ) (bytes : List ℕ) → 0 < count
     → symbols_within (suc n) count bytes ≡ option_map (with_symbols (take count (chunk_symbols (half_at bytes 0)))) (symbols_within n (count - length (chunk_symbols (half_at bytes 0))) (drop 2 bytes))
@@ -35,84 +135,97 @@ no_bytes : (count : ℕ) (bytes : List ℕ) → 0 < count → symbols_within 0 c
 no_bytes zero bytes lt = absurd (omega arith)
 no_bytes (suc count) bytes lt = refl
 
-pub read_starts : (count : ℕ) (bytes : List ℕ) → IsRead [] count bytes (symbols_of count bytes)
-unfolding symbols_of
-read_starts count bytes =
-    let k : count - 0 ≡ count = omega arith in
-    record { within = omega arith; so_far = rw k (front_none (symbols_within (length bytes / 2) count bytes)) }
-
-pub read_more : (now new : List ℕ) (count : ℕ) (rest after : List ℕ) (all : Option (List ℕ × List ℕ)) → length now < count → 2 ≤ length rest
-    → new ≡ now ++ take (count - length now) (chunk_symbols (half_at rest 0)) → after ≡ drop 2 rest
-    → IsRead now count rest all → IsRead new count after all
-read_more now new count rest after all lt long e d h =
-    let symbols : List ℕ = chunk_symbols (half_at rest 0) in
-    let left : ℕ = count - length now in
+-- where the bytes are whole the first of them tells symbols
+one_more : (left left' : ℕ) (rest after : List ℕ) → 0 < left → 2 ≤ length rest → left' ≡ left - length (chunk_symbols (half_at rest 0)) → after ≡ drop 2 rest
+    → symbols_within (length rest / 2) left rest ≡ option_map (with_symbols (take left (chunk_symbols (half_at rest 0)))) (symbols_within (length after / 2) left' after)
+one_more left left' rest after lt long e d =
     let n : length rest / 2 ≡ suc (length (drop 2 rest) / 2) = omega (arith, length-drop 2 rest) in
-    let so_far = rw (n, some_left (length (drop 2 rest) / 2) (count - length now) rest (omega arith)) at h.so_far in
-    let len : length (now ++ take left symbols) ≡ length now + length (take left symbols) = length-append now (take left symbols) in
-    let k : count - length (now ++ take left symbols) ≡ left - length symbols = omega (arith, len, length-take left symbols) in
-    let w : length (now ++ take left symbols) ≤ count = omega (arith, len, length-take left symbols) in
-    rw (e, d) (record { within = w; so_far = rw k (sym (regroup now (take left symbols) (symbols_within (length (drop 2 rest) / 2) (left - length symbols) (drop 2 rest))) ∙ so_far) })
+    rw (e, d, n) (some_left (length (drop 2 rest) / 2) left rest lt)
 
-pub read_fails : (now : List ℕ) (count : ℕ) (rest : List ℕ) (all : Option (List ℕ × List ℕ)) → length now < count → length rest < 2
-    → IsRead now count rest all → None ≡ all
-read_fails now count rest all lt short h =
-    let n : length rest / 2 ≡ 0 = omega arith in
-    let so_far = rw (n, no_bytes (count - length now) rest (omega arith)) at h.so_far in
-    so_far
+too_short : (left : ℕ) (rest : List ℕ) → 0 < left → length rest < 2 → symbols_within (length rest / 2) left rest ≡ None
+too_short left rest lt short = let n : length rest / 2 ≡ 0 = omega arith in rw n (no_bytes left rest lt)
 
-pub read_ends : (now : List ℕ) (count : ℕ) (rest : List ℕ) (all : Option (List ℕ × List ℕ)) → count ≤ length now
-    → IsRead now count rest all → Some (now, rest) ≡ all
-read_ends now count rest all le h =
-    let k : count - length now ≡ 0 = omega arith in
-    let so_far = rw (k, none_left (length rest / 2) rest) at h.so_far in
-    ap (λ (t : List ℕ). let y : List ℕ × List ℕ = (t, rest) in Some y) (sym (append-nil now)) ∙ so_far
+-- what follows the chunks
+abbrev behind : Option (List ℕ × List ℕ) → Option (List ℕ)
+behind o = option_map (λ told. told.1) o
 
--- what the symbols so far say, and what the others say of the rest
-abbrev pub with_rows : List PacketStatus → Option (List PacketStatus) → Option (List PacketStatus)
-with_rows front o = option_map (λ later. front ++ later) o
+pub record IsPassed (left : ℕ) (rest : List ℕ) (all : Option (List ℕ × List ℕ)) : Type 0 where
+  pub same : option_map (λ told. told.1) (symbols_within (length rest / 2) left rest) ≡ option_map (λ told. told.1) all
 
-pub record IsTold (now : List PacketStatus) (i : ℕ) (symbols rest : List ℕ) (all : Option (List PacketStatus)) : Type 0 where
-  pub so_far : with_rows now (statuses_of (drop i symbols) rest) ≡ all
+pub passed_starts : (count : ℕ) (bytes : List ℕ) → IsPassed count bytes (symbols_of count bytes)
+unfolding symbols_of
+passed_starts count bytes = record { same = refl }
 
-rows_none : (o : Option (List PacketStatus)) → with_rows [] o ≡ o
-rows_none None = refl
-rows_none (Some x) = refl
+still_behind : (symbols : List ℕ) (o : Option (List ℕ × List ℕ)) → behind (option_map (with_symbols symbols) o) ≡ behind o
+still_behind symbols None = refl
+still_behind symbols (Some x) = refl
 
-pub told_starts : (symbols bytes : List ℕ) → IsTold [] 0 symbols bytes (statuses_of symbols bytes)
-told_starts symbols bytes = record { so_far = rows_none (statuses_of symbols bytes) }
+pub passed_more : (left left' : ℕ) (rest after : List ℕ) (all : Option (List ℕ × List ℕ)) → 0 < left → 2 ≤ length rest → left' ≡ left - length (chunk_symbols (half_at rest 0)) → after ≡ drop 2 rest
+    → IsPassed left rest all → IsPassed left' after all
+passed_more left left' rest after all lt long e d h =
+    record { same = sym (still_behind (take left (chunk_symbols (half_at rest 0))) (symbols_within (length after / 2) left' after)) ∙ sym (ap behind (one_more left left' rest after lt long e d)) ∙ h.same }
 
-rows_regroup : (now : List PacketStatus) (s : PacketStatus) (o : Option (List PacketStatus)) → with_rows now (option_map (λ later. s ∷ later) o) ≡ with_rows (now ++ s ∷ []) o
-rows_regroup now s None = refl
-rows_regroup now s (Some x) = ap (λ (t : List PacketStatus). Some t) (sym (append_assoc now (s ∷ []) x))
+pub passed_fails : (left : ℕ) (rest : List ℕ) (all : Option (List ℕ × List ℕ)) → 0 < left → length rest < 2 → IsPassed left rest all → None ≡ option_map (λ told. told.1) all
+passed_fails left rest all lt short h = sym (ap behind (too_short left rest lt short)) ∙ h.same
 
-first_and_rest : (xs : List ℕ) (i : ℕ) → i < length xs → drop i xs ≡ get_or xs i 0 ∷ drop (i + 1) xs
-first_and_rest [] i lt = absurd (omega arith)
-first_and_rest (x ∷ xs) zero lt = refl
-first_and_rest (x ∷ xs) (suc i) lt = let k : suc i + 1 ≡ suc (i + 1) = omega arith in rw k (first_and_rest xs i (omega arith))
+pub passed_ends : (left : ℕ) (rest : List ℕ) (all : Option (List ℕ × List ℕ)) → left ≡ 0 → IsPassed left rest all → Some rest ≡ option_map (λ told. told.1) all
+passed_ends left rest all e h = sym (ap behind (ap (λ (n : ℕ). symbols_within (length rest / 2) n rest) e ∙ none_left (length rest / 2) rest)) ∙ h.same
 
-pub told_more : (now new : List PacketStatus) (i symbol : ℕ) (s : PacketStatus) (symbols rest after : List ℕ) (all : Option (List PacketStatus)) → i < length symbols → symbol ≡ get_or symbols i 0
-    → Some (s, after) ≡ status_at symbol rest → new ≡ now ++ s ∷ []
-    → IsTold now i symbols rest all → IsTold new (i + 1) symbols after all
-told_more now new i symbol s symbols rest after all lt is e n h =
-    let so_far = rw (first_and_rest symbols i lt, ← is, ← e) at h.so_far in
-    rw n (record { so_far = sym (rows_regroup now s (statuses_of (drop (i + 1) symbols) after)) ∙ so_far })
+-- what the symbols of chunks say
+abbrev pub said_by : List ℕ → Option (List ℕ × List ℕ) → Option (List PacketStatus)
+said_by deltas o = option_and_then (λ told. statuses_of told.0 deltas) o
 
-pub told_fails : (now : List PacketStatus) (i symbol : ℕ) (symbols rest : List ℕ) (all : Option (List PacketStatus)) → i < length symbols → symbol ≡ get_or symbols i 0
-    → None ≡ status_at symbol rest → IsTold now i symbols rest all → None ≡ all
-told_fails now i symbol symbols rest all lt is e h =
-    let so_far = rw (first_and_rest symbols i lt, ← is, ← e) at h.so_far in
-    so_far
+pub record IsSaid (now : List PacketStatus) (left : ℕ) (rest deltas : List ℕ) (all : Option (List PacketStatus)) : Type 0 where
+  pub same : with_front now (said_by deltas (symbols_within (length rest / 2) left rest)) ≡ all
 
-pub told_ends : (now : List PacketStatus) (i : ℕ) (symbols rest : List ℕ) (all : Option (List PacketStatus)) → length symbols ≤ i → IsTold now i symbols rest all → Some now ≡ all
-told_ends now i symbols rest all le h =
-    let so_far = rw (drop_of_length-le symbols le) at h.so_far in
-    ap (λ (t : List PacketStatus). Some t) (sym (append-nil now)) ∙ so_far
+front_none : (o : Option (List PacketStatus)) → with_front [] o ≡ o
+front_none None = refl
+front_none (Some x) = refl
 
--- of a vector of one bit a symbol no more than 14 are taken
-pub bits_taken : (chunk most : ℕ) → 32768 ≤ chunk → chunk < 49152 → take most (chunk_symbols chunk) ≡ take (min most 14) (one_bit_symbols chunk)
-unfolding chunk_symbols
-bits_taken chunk most low high =
-    let a : ltb chunk 32768 ≡ false = le-ltb _ _ low in
-    let b : ltb chunk 49152 ≡ true = lt-ltb _ _ high in
-    rw (a, b) (sym (take_min most (one_bit_symbols chunk)))
+pub said_starts : (count : ℕ) (bytes deltas : List ℕ) → IsSaid [] count bytes deltas (said_by deltas (symbols_of count bytes))
+unfolding symbols_of
+said_starts count bytes deltas = record { same = front_none (said_by deltas (symbols_within (length bytes / 2) count bytes)) }
+
+say_on : (now new : List PacketStatus) (symbols deltas rest : List ℕ) (o : Option (List ℕ × List ℕ)) → Says now symbols deltas new (Some rest)
+    → with_front now (said_by deltas (option_map (with_symbols symbols) o)) ≡ with_front new (said_by rest o)
+say_on now new symbols deltas rest None h = refl
+say_on now new symbols deltas rest (Some x) h = h.so_far x.0
+
+say_none : (now new : List PacketStatus) (symbols deltas : List ℕ) (o : Option (List ℕ × List ℕ)) → Says now symbols deltas new None
+    → with_front now (said_by deltas (option_map (with_symbols symbols) o)) ≡ None
+say_none now new symbols deltas None h = refl
+say_none now new symbols deltas (Some x) h = h.so_far x.0
+
+pub said_more : (now new : List PacketStatus) (left left' : ℕ) (rest after deltas later : List ℕ) (all : Option (List PacketStatus)) → 0 < left → 2 ≤ length rest
+    → Says now (take left (chunk_symbols (half_at rest 0))) deltas new (Some later) → left' ≡ left - length (chunk_symbols (half_at rest 0)) → after ≡ drop 2 rest
+    → IsSaid now left rest deltas all → IsSaid new left' after later all
+said_more now new left left' rest after deltas later all lt long says e d h =
+    let symbols : List ℕ = take left (chunk_symbols (half_at rest 0)) in
+    record { same = sym (say_on now new symbols deltas later (symbols_within (length after / 2) left' after) says) ∙ sym (ap (λ (o : Option (List ℕ × List ℕ)). with_front now (said_by deltas o)) (one_more left left' rest after lt long e d)) ∙ h.same }
+
+pub said_fails : (now new : List PacketStatus) (left : ℕ) (rest deltas : List ℕ) (all : Option (List PacketStatus)) → 0 < left → 2 ≤ length rest
+    → Says now (take left (chunk_symbols (half_at rest 0))) deltas new None
+    → IsSaid now left rest deltas all → None ≡ all
+said_fails now new left rest deltas all lt long says h =
+    let symbols : List ℕ = take left (chunk_symbols (half_at rest 0)) in
+    let left' : ℕ = left - length (chunk_symbols (half_at rest 0)) in
+    let o : Option (List ℕ × List ℕ) = symbols_within (length (drop 2 rest) / 2) left' (drop 2 rest) in
+    sym (say_none now new symbols deltas o says) ∙ sym (ap (λ (p : Option (List ℕ × List ℕ)). with_front now (said_by deltas p)) (one_more left left' rest (drop 2 rest) lt long refl refl)) ∙ h.same
+
+pub said_short : (now : List PacketStatus) (left : ℕ) (rest deltas : List ℕ) (all : Option (List PacketStatus)) → 0 < left → length rest < 2 → IsSaid now left rest deltas all → None ≡ all
+said_short now left rest deltas all lt short h = sym (ap (λ (o : Option (List ℕ × List ℕ)). with_front now (said_by deltas o)) (too_short left rest lt short)) ∙ h.same
+
+pub said_ends : (now : List PacketStatus) (left : ℕ) (rest deltas : List ℕ) (all : Option (List PacketStatus)) → left ≡ 0 → IsSaid now left rest deltas all → Some now ≡ all
+said_ends now left rest deltas all e h =
+    ap (λ (t : List PacketStatus). Some t) (sym (append-nil now))
+    ∙ sym (ap (λ (o : Option (List ℕ × List ℕ)). with_front now (said_by deltas o)) (ap (λ (n : ℕ). symbols_within (length rest / 2) n rest) e ∙ none_left (length rest / 2) rest)) ∙ h.same
+
+-- ---- both together
+
+pub both_read : (deltas : List ℕ) (o : Option (List ℕ × List ℕ)) → Some deltas ≡ option_map (λ told. told.1) o → said_by deltas o ≡ option_and_then (λ told. statuses_of told.0 told.1) o
+both_read deltas None e = refl
+both_read deltas (Some x) e = ap (λ (o : Option (List ℕ)). option_and_then (λ d. statuses_of x.0 d) o) e
+
+pub nothing_read : (o : Option (List ℕ × List ℕ)) → None ≡ option_map (λ told. told.1) o → option_and_then (λ told. statuses_of told.0 told.1) o ≡ None
+nothing_read None e = refl
+nothing_read (Some x) e = ap (λ (o : Option (List ℕ)). option_and_then (λ d. statuses_of x.0 x.1) o) (sym e)

@@ -1,12 +1,11 @@
 -- Reports tell which numbers came, and when.
-use Rattle.std.proofs.Common.{◌≡◌, ℕ, zero, suc, ◌+◌, ◌-◌, ◌*◌, ◌%◌, ◌^◌, ◌<◌, ◌≤◌, true, false, cond, leb, ltb, List, [], ◌∷◌, ◌++◌, length, get_or, take, drop, append_assoc, Option, Some, None, refl, sym, ap, ◌∙◌, arith}
+use Rattle.std.proofs.Common.{◌≡◌, ℕ, zero, suc, ◌+◌, ◌-◌, ◌*◌, ◌%◌, ◌^◌, ◌<◌, ◌≤◌, true, false, cond, leb, ltb, List, [], ◌∷◌, length, take, Option, Some, None, refl, sym, ap, ◌∙◌, arith}
 use Rattle.std.specs.Prelude.{ℤ, pos, negsuc, min, slice_get, unwrap_or, FitsSigned}
 use Rattle.std.specs.Int.{w16}
 use Rattle.std.specs.Option.{option_map, option_map_or}
 use Rattle.std.specs.List.{AllByRecursion}
 use Rattle.std.proofs.lemmas.Bool.{lt-ltb, leb-true, leb-false, ltb-true, ltb-false}
-use Rattle.std.proofs.lemmas.List.{length-take, append-nil}
-use Rattle.std.proofs.Math.ListN.{drop_of_length-le}
+use Rattle.std.proofs.lemmas.List.{length-take}
 use Rattle.twcc_core.specs.declared.status.PacketStatus.{PacketStatus}
 use Rattle.twcc_core.specs.declared.status.PacketStatus.TheVariants.{NotReceived, Received}
 use Rattle.twcc_core.specs.declared.feedback.Twcc.{Twcc}
@@ -15,7 +14,7 @@ use Rattle.rtp_base.specs.Fields.{signed24, bits24}
 use Rattle.twcc_core.specs.Laws.{IsStatus, IsFeedback}
 use Rattle.rtp_base.specs.Fields.{IsSigned24}
 use Rattle.twcc_core.specs.Reports.{Receiving, unreported, arrival_of, steps_of, reference_of, delta_of, row_of, last_after, rows_from, fitting, greatest_of, report_rows, report_with, report_if, report_of}
-use Rattle.twcc_core.specs.Times.{moment_after, row_moment, moments_from, moments_of, held, held_from, AreMoments}
+use Rattle.twcc_core.specs.Times.{moment_after, moments_from, moments_of, held, held_from, AreMoments}
 use Rattle.twcc_core.proofs.ReadBack.{twcc_again}
 use Rattle.twcc_core.proofs.Reporting.{something_due}
 
@@ -169,28 +168,3 @@ reports_tell r sender ssrc limit t first s m count w due early e =
     let tells : moments_of (report_with r.reports sender ssrc first rows) ≡ held_from r.arrivals first.0 (length rows) =
     ap (λ (x : ℕ). moments_from x rows) start ∙ taken_tell r.arrivals n first.0 (256 * reference_of first.1) (fitting limit all (length all)) w in
     rw (← is) (twcc_again (report_with r.reports sender ssrc first rows) fits, tells)
-
--- ---- the loop over rows
-
--- the moments so far stand before those of the other rows
-pub record IsTimed (now : List (Option ℕ)) (i last : ℕ) (rows : List PacketStatus) (all : List (Option ℕ)) : Type 0 where
-  pub so_far : now ++ moments_from last (drop i rows) ≡ all
-
-pub timed_starts : (last : ℕ) (rows : List PacketStatus) → IsTimed [] 0 last rows (moments_from last rows)
-timed_starts last rows = record { so_far = refl }
-
-first_and_rest : (rows : List PacketStatus) (i : ℕ) (d : PacketStatus) → i < length rows → drop i rows ≡ get_or rows i d ∷ drop (i + 1) rows
-first_and_rest [] i d lt = absurd (omega arith)
-first_and_rest (x ∷ xs) zero d lt = refl
-first_and_rest (x ∷ xs) (suc i) d lt = let k : suc i + 1 ≡ suc (i + 1) = omega arith in rw k (first_and_rest xs i d (omega arith))
-
-pub timed_more : (now new : List (Option ℕ)) (i last last' : ℕ) (rows : List PacketStatus) (all : List (Option ℕ)) (d : PacketStatus) (m : Option ℕ) → i < length rows → m ≡ row_moment last (get_or rows i d)
-    → new ≡ now ++ m ∷ [] → last' ≡ unwrap_or m last → IsTimed now i last rows all → IsTimed new (i + 1) last' rows all
-timed_more now new i last last' rows all d m lt e n l h =
-    let so_far = rw (first_and_rest rows i d lt, ← e) at h.so_far in
-    rw (n, l) (record { so_far = append_assoc now (m ∷ []) (moments_from (unwrap_or m last) (drop (i + 1) rows)) ∙ so_far })
-
-pub timed_ends : (now : List (Option ℕ)) (i last : ℕ) (rows : List PacketStatus) (all : List (Option ℕ)) → length rows ≤ i → IsTimed now i last rows all → now ≡ all
-timed_ends now i last rows all le h =
-    let so_far = rw (drop_of_length-le rows le) at h.so_far in
-    sym (append-nil now) ∙ so_far

@@ -6,7 +6,6 @@ use Rattle.std.specs.Option.{option_map, option_map_or}
 use Rattle.rtp_base.specs.Wire.{half_at}
 use Rattle.twcc_core.specs.Statuses.{symbol_of}
 use Rattle.twcc_core.specs.declared.status.PacketStatus.{PacketStatus}
-use Rattle.twcc_core.specs.declared.chunk.Told.{Told}
 
 -- a vector of one bit a symbol, and one of two bits a symbol, the first symbol in the highest bits
 abbrev pub one_bit_symbols : ℕ → List ℕ
@@ -70,7 +69,3 @@ chunks_within (suc n) (row ∷ rows) = chunk_of (row ∷ rows) ∷ chunks_within
 -- all chunks; each tells one at least
 unfoldable pub chunks_of : List PacketStatus → List ℕ
 chunks_of rows = chunks_within (length rows) rows
-
--- what was read of symbols, without where it lies in memory
-abbrev pub view : Told → List ℕ × List ℕ
-view t = (t.symbols.items, t.deltas.now)

@@ -1,4 +1,6 @@
 pub mod Statuses
+pub mod Runs
+pub mod Reading
 pub mod Chunks
 pub mod Feedback
 pub mod Laws

@@ -1,20 +1,17 @@
 // The chunks that tell the symbols of packets (draft-holmer-rmcat-transport-wide-cc-extensions-01
 // sections 3.1.3 and 3.1.4).
-ghost use Rattle.std.specs.Prelude.{◌≡◌, ◌<◌, ◌≤◌, ◌++◌, length, take, replicate, IfOk, OnOk};
-ghost use Rattle.std.specs.Option.{option_map};
+ghost use Rattle.std.specs.Prelude.{◌≡◌, ◌<◌, ◌≤◌, length, take, drop, IfOk};
+ghost use Rattle.std.specs.Option.{option_map, option_and_then};
 ghost use Rattle.rtp_base.specs.Wire.{halves, Puts, LeavesBehind};
-ghost use Rattle.twcc_core.specs.Chunks.{view, one_bit_symbols, two_bit_symbols, chunk_symbols, symbols_of, symbol_at, run_of, vector_of, chunk_of, told_by, chunks_of};
+ghost use Rattle.twcc_core.specs.Statuses.{statuses_of};
+ghost use Rattle.twcc_core.specs.Runs.{left_of};
+ghost use Rattle.twcc_core.specs.Reading.{Says};
+ghost use Rattle.twcc_core.specs.Chunks.{one_bit_symbols, two_bit_symbols, chunk_symbols, symbols_of, symbol_at, run_of, vector_of, chunk_of, told_by, chunks_of};
 
-use crate::PacketStatus;
+use crate::status::{read_run, read_statuses};
+use crate::{StatusIter, StatusList};
 use rtp_base::wire::{half, put};
 use std::alloc::{AllocError, Global};
-
-// The symbols that chunks tell, and the bytes after those chunks.
-#[derive(Drop)]
-pub struct Told<'a> {
-    pub symbols: Vec<u8>,
-    pub deltas: &'a [u8],
-}
 
 fn single_bits(chunk: u16) -> [u8; 14]
     ensures { result ≡ one_bit_symbols chunk }
@@ -51,113 +48,163 @@ fn bit_pairs(chunk: u16) -> [u8; 7]
     ]
 }
 
-fn push_run(symbols: &mut Vec<u8>, symbol: u8, count: usize) -> Result<(), AllocError>
-    ensures { OnOk result (symbols.new.items ≡ symbols.old.items ++ replicate count symbol) }
-{
-    for _ in 0..count {
-        symbols.push(symbol)?;
-    }
-    Ok(())
-}
-
-// Adds the first symbols that a chunk tells, so many at most.
+// How many symbols a chunk tells.
 #[tactic(auto, unfolding(crate::specs::Chunks::chunk_symbols))]
-fn push_chunk(symbols: &mut Vec<u8>, chunk: u16, most: usize) -> Result<(), AllocError>
-    ensures { OnOk result (symbols.new.items ≡ symbols.old.items ++ take most (chunk_symbols chunk)) }
+fn symbol_count(chunk: u16) -> usize
+    ensures { result ≡ length (chunk_symbols chunk) }
 {
     if chunk < 0x8000 {
-        let run = usize::from(chunk % 0x2000);
-        push_run(symbols, (chunk / 0x2000) as u8, run.min(most))?;
+        usize::from(chunk % 0x2000)
     } else if chunk < 0xc000 {
-        symbols.extend_from_slice(&single_bits(chunk)[..most.min(14)])?;
+        14
     } else {
-        symbols.extend_from_slice(&bit_pairs(chunk)[..most.min(7)])?;
+        7
     }
-    Ok(())
 }
 
-// So many symbols, and what follows their chunks, or None where the bytes end before.
-pub fn read_symbols(
-    alloc: Global,
-    bytes: &[u8],
-    count: usize,
-) -> Result<Option<Told<'_>>, AllocError>
-    ensures { IfOk result (λ told. option_map view told ≡ symbols_of count bytes.now) }
+// What follows the chunks of so many symbols, or None where the bytes end before.
+pub fn after_chunks(bytes: &[u8], count: usize) -> Option<&[u8]>
+    ensures { option_map (λ after. after.now) result ≡ option_map (λ told. told.1) (symbols_of count bytes.now) }
 {
-    let mut symbols = Vec::new(alloc);
+    let mut left = count;
     let mut rest = bytes;
-    while symbols.len() < count {
+    while left > 0 {
         if rest.len() < 2 {
-            return Ok(None);
+            return None;
         }
-        let left = count - symbols.len();
-        push_chunk(&mut symbols, half(rest, 0), left)?;
+        left = left.saturating_sub(symbol_count(half(rest, 0)));
         let (_, after) = rest.split_at(2);
         rest = after;
     }
-    Ok(Some(Told {
-        symbols,
-        deltas: rest,
-    }))
+    Some(rest)
 }
 
-// The symbol at a place, 0 past the end.
-fn symbol_in(rows: &[PacketStatus], place: usize) -> u8
-    ensures value { result ≡ symbol_at rows.now place }
-    ensures small { result < 3 }
+// Adds what the first symbols of a chunk say, so many at most, with the deltas one after another, and
+// gives what follows them, or None where the bytes end before.
+#[tactic(auto, unfolding(crate::specs::Chunks::chunk_symbols))]
+fn read_chunk<'a>(
+    rows: &mut StatusList,
+    chunk: u16,
+    most: usize,
+    bytes: &'a [u8],
+) -> Result<Option<&'a [u8]>, AllocError>
+    ensures { IfOk result (λ after. Says rows.old (take most (chunk_symbols chunk)) bytes.now rows.new (option_map (λ rest. rest.now) after)) }
 {
-    match rows.get(place) {
-        Some(row) => row.symbol(),
-        None => 0,
+    if chunk < 0x8000 {
+        let run = usize::from(chunk % 0x2000);
+        read_run(rows, (chunk / 0x2000) as u8, run.min(most), bytes)
+    } else if chunk < 0xc000 {
+        read_statuses(rows, &single_bits(chunk)[..most.min(14)], bytes)
+    } else {
+        read_statuses(rows, &bit_pairs(chunk)[..most.min(7)], bytes)
     }
 }
 
-// How many at the front have the symbol of the first, of as many as a run can tell.
-fn first_run(rows: &[PacketStatus]) -> usize
-    ensures value { result ≡ run_of rows.now }
-    ensures most { result ≤ 8191 }
-    ensures within { result ≤ length rows.now }
+// What so many symbols say that chunks tell, with the deltas one after another, or None where either
+// bytes end before.
+pub fn read_rows(
+    alloc: Global,
+    chunks: &[u8],
+    count: usize,
+    deltas: &[u8],
+) -> Result<Option<StatusList>, AllocError>
+    ensures { IfOk result (λ rows. rows ≡ option_and_then (λ told. statuses_of told.0 deltas.now) (symbols_of count chunks.now)) }
 {
-    let symbol = symbol_in(rows, 0);
-    rows.iter()
-        .take(8191)
-        .take_while(|row| row.symbol() == symbol)
-        .count()
+    let mut rows = StatusList::new(alloc);
+    let mut left = count;
+    let mut rest = chunks;
+    let mut unread = deltas;
+    while left > 0 {
+        if rest.len() < 2 {
+            return Ok(None);
+        }
+        let chunk = half(rest, 0);
+        match read_chunk(&mut rows, chunk, left, unread)? {
+            Some(after) => unread = after,
+            None => return Ok(None),
+        }
+        left = left.saturating_sub(symbol_count(chunk));
+        let (_, after) = rest.split_at(2);
+        rest = after;
+    }
+    Ok(Some(rows))
 }
 
-fn first_vector(rows: &[PacketStatus]) -> u16
-    ensures { result ≡ vector_of rows.now }
+// The symbol of the first row, 0 where there is none, and the rows behind it.
+fn split_symbol(rows: StatusIter<'_>) -> (u8, StatusIter<'_>)
+    ensures value { result.0 ≡ symbol_at (left_of rows.entry) 0 }
+    ensures small { result.0 < 3 }
+    ensures rest { left_of result.1 ≡ drop 1 (left_of rows.entry) }
 {
-    0xc000
-        + u16::from(symbol_in(rows, 0)) * 0x1000
-        + u16::from(symbol_in(rows, 1)) * 0x400
-        + u16::from(symbol_in(rows, 2)) * 0x100
-        + u16::from(symbol_in(rows, 3)) * 0x40
-        + u16::from(symbol_in(rows, 4)) * 0x10
-        + u16::from(symbol_in(rows, 5)) * 4
-        + u16::from(symbol_in(rows, 6))
+    let mut rest = rows;
+    let symbol = match rest.next() {
+        Some(row) => row.symbol(),
+        None => 0,
+    };
+    (symbol, rest)
 }
 
-// The first chunk that is written, and how many rows it tells.
-#[tactic(auto, unfolding(crate::specs::Chunks::chunk_of, crate::specs::Chunks::told_by))]
-fn first_chunk(rows: &[PacketStatus]) -> (u16, usize)
-    requires { 0 < length rows.now }
-    ensures chunk { result.0 ≡ chunk_of rows.now }
-    ensures told { result.1 ≡ told_by rows.now }
-    ensures some { 0 < result.1 }
-    ensures within { result.1 ≤ length rows.now }
+// How many rows at the front have the symbol of the first, of as many as a run can tell, and the rows
+// behind them.
+fn first_run(rows: StatusIter<'_>) -> (usize, StatusIter<'_>)
+    ensures value { result.0 ≡ run_of (left_of rows.entry) }
+    ensures most { result.0 ≤ 8191 }
+    ensures rest { left_of result.1 ≡ drop result.0 (left_of rows.entry) }
 {
-    let run = first_run(rows);
+    let (symbol, _) = split_symbol(rows);
+    let mut run = 0;
+    let mut rest = rows;
+    while run < 8_191 {
+        let mut after = rest;
+        match after.next() {
+            Some(row) if row.symbol() == symbol => rest = after,
+            _ => return (run, rest),
+        }
+        run += 1;
+    }
+    (run, rest)
+}
+
+// A vector of the first seven symbols, and the rows behind them.
+fn first_vector(rows: StatusIter<'_>) -> (u16, StatusIter<'_>)
+    ensures value { result.0 ≡ vector_of (left_of rows.entry) }
+    ensures rest { left_of result.1 ≡ drop 7 (left_of rows.entry) }
+{
+    let (first, rest) = split_symbol(rows);
+    let (second, rest) = split_symbol(rest);
+    let (third, rest) = split_symbol(rest);
+    let (fourth, rest) = split_symbol(rest);
+    let (fifth, rest) = split_symbol(rest);
+    let (sixth, rest) = split_symbol(rest);
+    let (seventh, rest) = split_symbol(rest);
+    let vector = 0xc000
+        + u16::from(first) * 0x1000
+        + u16::from(second) * 0x400
+        + u16::from(third) * 0x100
+        + u16::from(fourth) * 0x40
+        + u16::from(fifth) * 0x10
+        + u16::from(sixth) * 4
+        + u16::from(seventh);
+    (vector, rest)
+}
+
+// The first chunk that is written, and the rows that it does not tell.
+fn first_chunk(rows: StatusIter<'_>) -> (u16, StatusIter<'_>)
+    ensures chunk { result.0 ≡ chunk_of (left_of rows.entry) }
+    ensures rest { left_of result.1 ≡ drop (told_by (left_of rows.entry)) (left_of rows.entry) }
+{
+    let (run, behind) = first_run(rows);
     if run >= 7 {
-        (u16::from(symbol_in(rows, 0)) * 0x2000 + run as u16, run)
+        let (symbol, _) = split_symbol(rows);
+        (u16::from(symbol) * 0x2000 + run as u16, behind)
     } else {
-        (first_vector(rows), rows.len().min(7))
+        first_vector(rows)
     }
 }
 
 // Puts the chunks of rows, or says that there is no room for them.
-pub fn write_chunks(rows: &[PacketStatus], out: &mut [u8], at: usize) -> Option<usize>
-    ensures text { Puts out.old at (halves (chunks_of rows.now)) out.new result }
+pub fn write_chunks(rows: StatusIter<'_>, out: &mut [u8], at: usize) -> Option<usize>
+    ensures text { Puts out.old at (halves (chunks_of (left_of rows.entry))) out.new result }
     ensures behind { LeavesBehind out.old out.new result }
 {
     if out.len() < at {
@@ -166,12 +213,11 @@ pub fn write_chunks(rows: &[PacketStatus], out: &mut [u8], at: usize) -> Option<
     let mut rest = rows;
     let mut end = at;
     while !rest.is_empty() {
-        let (chunk, told) = first_chunk(rest);
+        let (chunk, after) = first_chunk(rest);
         match put(out, end, &chunk.to_be_bytes()) {
             Some(next) => end = next,
             None => return None,
         }
-        let (_, after) = rest.split_at(told);
         rest = after;
     }
     Some(end)

@@ -5,10 +5,9 @@ ghost use Rattle.rtp_base.specs.Wire.{words, Puts, LeavesBehind};
 ghost use Rattle.twcc_core.specs.Feedback.{twcc_of, twcc_bytes};
 ghost use Rattle.rtp_base.specs.Fields.{signed24, bits24};
 
-use crate::PacketStatus;
-use crate::chunk::{read_symbols, write_chunks};
-use crate::status::{read_statuses, write_deltas};
-use media_base::Listed;
+use crate::StatusList;
+use crate::chunk::{after_chunks, read_rows, write_chunks};
+use crate::status::write_deltas;
 use rtp_base::Ssrc;
 use rtp_base::wire::{half, put, word};
 use std::alloc::{AllocError, Global};
@@ -27,7 +26,7 @@ pub struct Twcc {
     /// How many reports were made before this one, modulo 256.
     pub feedback_count: u8,
     /// What is said of each packet from the first on; at most 65,535 have room.
-    pub rows: Listed<PacketStatus>,
+    pub rows: StatusList,
 }
 
 // The signed number of 24 bits.
@@ -42,8 +41,10 @@ pub(crate) fn signed(bits: u32) -> i32
     }
 }
 
-/// Reads feedback from the bytes after the header of an item of type 205 and format 15. Without memory
-/// there is an error, and None where the bytes end before the chunks or the deltas that they tell.
+/// Reads feedback from the bytes after the header of an item of type 205 and format 15. It takes a few
+/// bytes of memory for each byte that is read, however many packets these tell, and time for each packet.
+/// Without memory there is an error, and None where the bytes end before the chunks or the deltas that
+/// they tell.
 #[tactic(auto, unfolding(crate::specs::Feedback::twcc_of))]
 pub fn read_twcc(alloc: Global, body: &[u8]) -> Result<Option<Twcc>, AllocError>
     ensures { IfOk result (λ t. t ≡ twcc_of body.now) }
@@ -52,10 +53,11 @@ pub fn read_twcc(alloc: Global, body: &[u8]) -> Result<Option<Twcc>, AllocError>
         return Ok(None);
     }
     let (_, chunks) = body.split_at(16);
-    let Some(told) = read_symbols(alloc, chunks, usize::from(half(body, 10)))? else {
+    let count = usize::from(half(body, 10));
+    let Some(deltas) = after_chunks(chunks, count) else {
         return Ok(None);
     };
-    let Some(rows) = read_statuses(alloc, &told.symbols, told.deltas)? else {
+    let Some(rows) = read_rows(alloc, chunks, count, deltas)? else {
         return Ok(None);
     };
     let last = word(body, 12);
@@ -112,16 +114,15 @@ pub fn write_twcc(twcc: &Twcc, out: &mut [u8]) -> Option<usize>
     ensures text { Puts out.old 0 (twcc_bytes twcc.now) out.new result }
     ensures behind { LeavesBehind out.old out.new result }
 {
-    let rows = twcc.rows.as_slice();
     let words = [
         twcc.sender_ssrc.into(),
         twcc.ssrc.into(),
-        u32::from(twcc.base_seq) * 0x1_0000 + rows.len() as u32,
+        u32::from(twcc.base_seq) * 0x1_0000 + twcc.rows.len() as u32,
         word_of(reference_bits(twcc), twcc.feedback_count),
     ];
     let at = write_words(&words, out, 0)?;
-    let at = write_chunks(rows, out, at)?;
-    let at = write_deltas(rows, out, at)?;
+    let at = write_chunks(twcc.rows.iter(), out, at)?;
+    let at = write_deltas(twcc.rows.iter(), out, at)?;
     let zeros = [0; 3];
     put(out, at, &zeros[..(4 - at % 4) % 4])
 }

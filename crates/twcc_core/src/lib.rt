@@ -11,6 +11,7 @@ mod send;
 mod share;
 mod size;
 mod status;
+mod status_list;
 
 pub use feedback::{Twcc, read_twcc, write_twcc};
 pub use laws::{
@@ -23,3 +24,4 @@ pub use send::{TwccSendRecord, TwccSendRegister};
 pub use share::Share;
 pub use size::twcc_len;
 pub use status::PacketStatus;
+pub use status_list::{StatusIter, StatusList};

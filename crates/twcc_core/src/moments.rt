@@ -1,9 +1,10 @@
 // The arrivals that feedback tells.
 ghost use Rattle.std.specs.Prelude.{◌≡◌, IfOk};
 ghost use Rattle.twcc_core.specs.Times.{moment_after, row_moment, moments_from, moments_of};
+ghost use Rattle.twcc_core.specs.Runs.{left_of};
 
 use crate::feedback::reference_bits;
-use crate::{PacketStatus, Twcc};
+use crate::{PacketStatus, StatusIter, Twcc};
 use media_base::{Instant, Listed};
 use std::alloc::{AllocError, Global};
 
@@ -40,14 +41,14 @@ fn instant_at(nanos: Option<u64>) -> Option<Instant>
 fn moments_after(
     alloc: Global,
     start: u64,
-    rows: &[PacketStatus],
+    rows: StatusIter<'_>,
 ) -> Result<Listed<Option<Instant>>, AllocError>
-    ensures { IfOk result (λ moments. moments ≡ moments_from start rows.now) }
+    ensures { IfOk result (λ moments. moments ≡ moments_from start (left_of rows.entry)) }
 {
     let mut moments = Listed::new(alloc);
     let mut last = start;
     for row in rows {
-        let moment = moment_of(last, *row);
+        let moment = moment_of(last, row);
         moments.push(instant_at(moment))?;
         last = moment.unwrap_or(last);
     }
@@ -61,5 +62,5 @@ pub fn arrivals(alloc: Global, twcc: &Twcc) -> Result<Listed<Option<Instant>>, A
     ensures { IfOk result (λ moments. moments ≡ moments_of twcc.now) }
 {
     let start = u64::from(reference_bits(twcc)) * 64_000_000;
-    moments_after(alloc, start, twcc.rows.as_slice())
+    moments_after(alloc, start, twcc.rows.iter())
 }

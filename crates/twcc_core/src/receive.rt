@@ -8,8 +8,8 @@ ghost use Rattle.twcc_core.specs.Reports.{arrival_of, greatest_of, first_counted
 
 use crate::feedback::signed;
 use crate::size::Size;
-use crate::{PacketStatus, Share, Twcc};
-use media_base::{Instant, Listed};
+use crate::{PacketStatus, Share, StatusList, Twcc};
+use media_base::Instant;
 use rtp_base::{SeqNo, Ssrc};
 use std::alloc::{AllocError, Global};
 use std::collections::BTreeMap;
@@ -214,13 +214,13 @@ impl TwccRecvRegister {
         count: u64,
         reference: u64,
         limit: usize,
-    ) -> Result<Listed<PacketStatus>, AllocError>
+    ) -> Result<StatusList, AllocError>
         requires within { base + count ≤ 2 ^ 64 }
         requires few { count ≤ 65535 }
         ensures rows { IfOk result (λ rows. rows ≡ rows_within limit (rows_from self.now.arrivals count base reference)) }
         ensures most { IfOk result (λ rows. length rows ≤ count) }
     {
-        let mut rows = Listed::new(alloc);
+        let mut rows = StatusList::new(alloc);
         let mut size = Size::new();
         let mut last = reference;
         for i in 0..count {
@@ -244,7 +244,7 @@ impl TwccRecvRegister {
         base: u64,
         moment: u64,
         limit: usize,
-    ) -> Result<Listed<PacketStatus>, AllocError>
+    ) -> Result<StatusList, AllocError>
         ensures rows { IfOk result (λ rows. rows ≡ report_rows self.now.arrivals limit (base, moment)) }
         ensures most { IfOk result (λ rows. base + length rows ≤ 2 ^ 64) }
     {
@@ -260,7 +260,7 @@ impl TwccRecvRegister {
         ssrc: Ssrc,
         base: u64,
         moment: u64,
-        rows: Listed<PacketStatus>,
+        rows: StatusList,
     ) -> Twcc
         ensures { result ≡ report_with self.now.reports sender_ssrc ssrc (base, moment) rows }
     {
@@ -297,7 +297,7 @@ impl TwccRecvRegister {
         };
         let rows = self.rows_after(alloc, base, moment, limit)?;
         let report = self.report(sender_ssrc, ssrc, base, moment, rows);
-        let len = report.rows.as_slice().len() as u64;
+        let len = report.rows.len() as u64;
         if len == 0 {
             return Ok(None);
         }

@@ -66,10 +66,9 @@ pub fn twcc_len(twcc: &Twcc) -> usize
     requires { length twcc.now.rows < 65536 }
     ensures { result ≡ length (twcc_bytes twcc.now) }
 {
-    let rows = twcc.rows.as_slice();
     let mut size = Size::new();
-    for row in rows {
-        size.add(*row);
+    for row in twcc.rows.iter() {
+        size.add(row);
     }
     size.bytes() - 4
 }

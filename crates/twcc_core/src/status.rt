@@ -1,12 +1,14 @@
-ghost use Rattle.std.specs.Prelude.{◌≡◌, ◌<◌, ◌≤◌, length, IfOk};
+ghost use Rattle.std.specs.Prelude.{◌≡◌, ◌<◌, ◌≤◌, length, replicate, IfOk};
 ghost use Rattle.std.specs.Option.{option_map};
 ghost use Rattle.std.specs.List.{flat_map};
 ghost use Rattle.rtp_base.specs.Wire.{Puts, LeavesBehind};
-ghost use Rattle.twcc_core.specs.Statuses.{delta_text, status_at, statuses_of};
+ghost use Rattle.twcc_core.specs.Statuses.{delta_text, status_at};
+ghost use Rattle.twcc_core.specs.Runs.{left_of};
+ghost use Rattle.twcc_core.specs.Reading.{Says};
 
-use media_base::Listed;
+use crate::{StatusIter, StatusList};
 use rtp_base::wire::{half, put};
-use std::alloc::{AllocError, Global};
+use std::alloc::AllocError;
 
 /// What feedback says of a packet (draft-holmer-rmcat-transport-wide-cc-extensions-01 section 3.1.1).
 #[derive(Clone, Copy, Debug, PartialEq, Eq)]
@@ -82,15 +84,36 @@ fn read_status(symbol: u8, bytes: &[u8]) -> Option<(PacketStatus, &[u8])>
     }
 }
 
-// What symbols say, with the deltas one after another, or None where the bytes end before.
-pub(crate) fn read_statuses(
-    alloc: Global,
-    symbols: &[u8],
-    bytes: &[u8],
-) -> Result<Option<Listed<PacketStatus>>, AllocError>
-    ensures { IfOk result (λ rows. rows ≡ statuses_of symbols.now bytes.now) }
+// Adds what a symbol says so often, with the deltas one after another, and gives what follows them, or
+// None where the bytes end before.
+pub(crate) fn read_run<'a>(
+    rows: &mut StatusList,
+    symbol: u8,
+    count: usize,
+    bytes: &'a [u8],
+) -> Result<Option<&'a [u8]>, AllocError>
+    ensures { IfOk result (λ after. Says rows.old (replicate count symbol) bytes.now rows.new (option_map (λ rest. rest.now) after)) }
 {
-    let mut rows = Listed::new(alloc);
+    let mut rest = bytes;
+    for _ in 0..count {
+        let Some((status, after)) = read_status(symbol, rest) else {
+            return Ok(None);
+        };
+        rows.push(status)?;
+        rest = after;
+    }
+    Ok(Some(rest))
+}
+
+// Adds what symbols say, with the deltas one after another, and gives what follows them, or None where
+// the bytes end before.
+pub(crate) fn read_statuses<'a>(
+    rows: &mut StatusList,
+    symbols: &[u8],
+    bytes: &'a [u8],
+) -> Result<Option<&'a [u8]>, AllocError>
+    ensures { IfOk result (λ after. Says rows.old symbols.now bytes.now rows.new (option_map (λ rest. rest.now) after)) }
+{
     let mut rest = bytes;
     for symbol in symbols {
         let Some((status, after)) = read_status(*symbol, rest) else {
@@ -99,12 +122,12 @@ pub(crate) fn read_statuses(
         rows.push(status)?;
         rest = after;
     }
-    Ok(Some(rows))
+    Ok(Some(rest))
 }
 
 // Puts deltas one after another, or says that there is no room for them.
-pub(crate) fn write_deltas(rows: &[PacketStatus], out: &mut [u8], at: usize) -> Option<usize>
-    ensures text { Puts out.old at (flat_map delta_text rows.now) out.new result }
+pub(crate) fn write_deltas(rows: StatusIter<'_>, out: &mut [u8], at: usize) -> Option<usize>
+    ensures text { Puts out.old at (flat_map delta_text (left_of rows.entry)) out.new result }
     ensures behind { LeavesBehind out.old out.new result }
 {
     if out.len() < at {
