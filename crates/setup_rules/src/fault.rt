@@ -21,7 +21,8 @@ pub enum SetupFault {
     /// twice.
     #[error("an id of a header extension is out of bounds, or an id or an extension stands twice")]
     ExtId,
-    /// A payload type, of packets or of their repairs, is claimed twice, or is above 127.
+    /// A payload type, of packets, of their repairs or of their redundant data, is claimed twice, or is
+    /// above 127.
     #[error("a payload type is claimed twice or above 127")]
     TypeTwice,
     /// An SSRC among the main, RTX and local ones of both sides is 0.
