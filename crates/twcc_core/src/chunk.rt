@@ -110,7 +110,7 @@ pub fn read_rows(
 ) -> Result<Option<StatusList>, AllocError>
     ensures { IfOk result (λ rows. rows ≡ option_and_then (λ told. statuses_of told.0 deltas.now) (symbols_of count chunks.now)) }
 {
-    let mut rows = StatusList::new(alloc);
+    let mut rows = StatusList::with_capacity(alloc, count.min(chunks.len()))?;
     let mut left = count;
     let mut rest = chunks;
     let mut unread = deltas;

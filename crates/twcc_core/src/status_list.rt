@@ -1,5 +1,5 @@
 //! What feedback says of packets in a row, in runs.
-ghost use Rattle.std.specs.Prelude.{◌≡◌, ◌==◌, ◌∷◌, ◌++◌, [], length, OnOk, OnErr};
+ghost use Rattle.std.specs.Prelude.{◌≡◌, ◌==◌, ◌∷◌, ◌++◌, [], length, IfOk, OnOk, OnErr};
 ghost use Rattle.std.specs.Option.{IfSome};
 ghost use Rattle.std.specs.Cmp.Lexicographic.{pointwise};
 ghost use Rattle.twcc_core.specs.Runs.{rows_of, rows_of_run, left_of};
@@ -85,6 +85,16 @@ impl StatusList {
             runs: Vec::new(alloc),
             len: 0,
         }
+    }
+
+    /// No rows, with room for so many arrivals and gaps.
+    pub fn with_capacity(alloc: Global, runs: usize) -> Result<Self, AllocError>
+        ensures { IfOk result (λ rows. rows ≡ []) }
+    {
+        Ok(StatusList {
+            runs: Vec::with_capacity(alloc, runs)?,
+            len: 0,
+        })
     }
 
     /// Adds a row at the end. Without memory, or above `usize::MAX` rows, nothing is added.

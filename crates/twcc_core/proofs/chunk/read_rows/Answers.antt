@@ -4,7 +4,7 @@ use Rattle.twcc_core.proofs.Symbols.{said_starts, said_more}
 use Rattle.twcc_core.proofs.chunk.read_rows.Goals as goal
 
 pub loop-left-init : goal.loop-left-init
-loop-left-init c = rw c.new-rows.ensures (said_starts c.args.count c.args.chunks.now c.args.deltas.now)
+loop-left-init c = rw c.in_ok-rows.ensures (said_starts c.args.count c.args.chunks.now c.args.deltas.now)
 
 pub loop-left-preserved : goal.loop-left-preserved
 loop-left-preserved c =
