@@ -1,3 +1,4 @@
 pub mod HoleLaws
 pub mod Lasting
+pub mod RingSteps
 pub mod Sides

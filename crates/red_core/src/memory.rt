@@ -14,20 +14,29 @@ use std::marker::Model;
 // How many packets back a block may be placed.
 const MAX_DEPTH: u64 = 8;
 
+// How many numbers are remembered.
+const ROOM: usize = 32;
+
 /// The last 32 numbers that were taken on a stream, and their times. Contracts see the list of
 /// them, the last one first. No call takes memory.
 #[derive(Debug, Drop)]
 pub struct RedMemory {
     known: ArrayVec<KnownNumber, 32>,
+    // The place behind the number that came last. Once all places are taken, the next number takes
+    // that of the one that came first.
+    next: usize,
 }
 
 impl Model for RedMemory {
     ghost use Rattle.std.specs.Prelude.{List};
     ghost use Rattle.red_core.specs.Known.{Known};
+    ghost use Rattle.red_core.specs.Ring.{last_first, IsRing};
 
     ghost Value = { List Known };
 
-    ghost view = { λ m. m.known.items };
+    ghost view = { λ m. last_first m.known.items m.next };
+
+    ghost invariant = { λ m. IsRing 32 m.known.items m.next };
 }
 
 impl RedMemory {
@@ -37,6 +46,7 @@ impl RedMemory {
     {
         RedMemory {
             known: ArrayVec::new(),
+            next: 0,
         }
     }
 
@@ -45,17 +55,36 @@ impl RedMemory {
         ensures { self.new ≡ [] }
     {
         self.known.clear();
+        self.next = 0;
+    }
+
+    // The numbers, the last one first.
+    fn last_first(&self) -> ArrayVec<KnownNumber, 32>
+        ensures { result.items ≡ self.now }
+    {
+        let (newer, older) = self.known.as_slice().split_at(self.next);
+        let mut known = ArrayVec::new();
+        let _ = known.try_extend_from_slice(older);
+        let _ = known.try_extend_from_slice(newer);
+        known.as_mut_slice().reverse();
+        known
     }
 
     /// Remembers a number of the stream that its window took, below 2^48, and its time, widened,
-    /// in ticks of the RTP clock. What was known before the last 32 is forgotten. Moves at most 32
-    /// entries.
+    /// in ticks of the RTP clock. What was known before the last 32 is forgotten. Constant time.
     pub fn took(&mut self, number: SeqNo, time: u64)
         requires { number < 2 ^ 48 }
         ensures { self.new ≡ with_known self.old (record { number = number; time = time }) }
     {
-        self.known.truncate(31);
-        self.known.insert(0, KnownNumber::new(number, time));
+        let known = KnownNumber::new(number, time);
+        if self.known.len() < ROOM {
+            self.known.push(known);
+            self.next += 1;
+            return;
+        }
+        let place = if self.next < ROOM { self.next } else { 0 };
+        self.known[place] = known;
+        self.next = place + 1;
     }
 
     /// A block was placed: the window takes its number, below 2^48, which is then neither asked
@@ -87,7 +116,8 @@ impl RedMemory {
         ensures near { IfSome result (λ p. (p ≤ datagram) × (datagram ≤ p + 8)) }
     {
         let datagram = u64::from(datagram);
-        let known = self.known.as_slice();
+        let last_first = self.last_first();
+        let known = last_first.as_slice();
         if is_at(known, time) {
             return None;
         }

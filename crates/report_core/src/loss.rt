@@ -93,7 +93,7 @@ fn weigh(reports: &[ReportedLoss], number: u64) -> Weighed
 
 /// What receivers reported as lost of an outgoing stream, in order of the numbers that they had
 /// received. Contracts see the list of it. It grows with each report, until it is visited.
-#[derive(Drop)]
+#[derive(Debug, Drop)]
 pub struct LossLog {
     reports: Vec<ReportedLoss>,
 }

@@ -325,6 +325,13 @@ impl<P: Cached, S: ResendStore<P>> ResendQueue<P, S> {
         SeqNo::from(self.next_seq_no)
     }
 
+    /// Whether there is a cap of how much of what is sent may be repairs.
+    pub fn has_cap(&self) -> bool
+        ensures { result ≡ is_some self.now.state.cap }
+    {
+        self.cap.is_some()
+    }
+
     /// Whether the cap is met at a moment.
     fn is_capped(&self, now: Instant) -> bool
         ensures { result ≡ is_capped now self.now.state.cap }
