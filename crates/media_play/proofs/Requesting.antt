@@ -95,7 +95,7 @@ requests_stand f [] [] place h = h
 requests_stand f [] (y ∷ ys) place h = absurd h
 requests_stand f (x ∷ xs) [] place h = absurd h
 requests_stand f (x ∷ xs) (y ∷ ys) zero h =
-    ((h.0.0, record { state = ap (requesting f) h.0.1.state; window = h.0.1.window; repairs = h.0.1.repairs }), h.1)
+    ((h.0.0, record { state = ap (requesting f) h.0.1.state; window = h.0.1.window; repairs = h.0.1.repairs; recent = h.0.1.recent }), h.1)
 requests_stand f (x ∷ xs) (y ∷ ys) (suc place) h = (h.0, requests_stand f xs ys place h.1)
 
 pub turned_requested : {cipher : CipherMeaning} {setup : Setup} {side : Side} {end : EndState} {a : Session} {entries : List Entry} {time : ℕ} → RequestsTurn

@@ -1,5 +1,5 @@
 -- One more number in a ring.
-use Rattle.std.proofs.Common.{◌≡◌, ◌∙◌, ℕ, suc, ◌+◌, ◌-◌, ◌<◌, ◌≤◌, List, [], ◌∷◌, ◌++◌, length, take, drop, refl, sym, ap, subst, add-one, arith}
+use Rattle.std.proofs.Common.{◌≡◌, ◌∙◌, ℕ, ◌+◌, ◌<◌, ◌≤◌, List, [], ◌∷◌, ◌++◌, length, take, drop, sym, ap, add-one, arith}
 use Rattle.std.specs.Prelude.{reverse, slice_set}
 use Rattle.std.specs.List.{refill}
 use Rattle.std.proofs.lemmas.List.{reverse-append, length-reverse, length-append, length-take-le, length-drop, take_all, drop_all, drop-set-lt, take_more_set, take-append-le, append-nil, append_assoc, length-set}

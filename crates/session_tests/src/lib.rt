@@ -15,6 +15,8 @@ mod leaving;
 #[cfg(test)]
 mod packets;
 #[cfg(test)]
+mod redundant;
+#[cfg(test)]
 mod repairs;
 #[cfg(test)]
 mod reports;

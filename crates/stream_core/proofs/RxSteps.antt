@@ -28,7 +28,7 @@ pause_more first rs i r at = ap (λ n. pause_before (sooner first r.state.pause_
 module _ {W : Type 0} (remembers : W → Heard → Type 0) where
   -- all but the window changes
   pub state_step : (f : RxState → RxState) (x : RxView W) (r : RxRecord) → StandsFor remembers x r → StandsFor remembers (on_view f x) (on_record f r)
-  state_step f x r h = record { state = ap f h.state; window = h.window; repairs = h.repairs }
+  state_step f x r h = record { state = ap f h.state; window = h.window; repairs = h.repairs; recent = h.recent }
 
   -- on each stream
   pub states_along : (f : RxState → RxState) (xs : List (ℕ × RxView W)) (rs : List (ℕ × RxRecord)) → Along (StandsFor remembers) xs rs

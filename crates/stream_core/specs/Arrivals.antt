@@ -49,6 +49,7 @@ no_tx_reports = record {
   clock = record { last = 0; is_audio = None };
   written = None;
   sealed_type = None;
+  last_sent = 0;
   sent = no_traffic;
   resent = no_traffic;
   nacks = 0;
@@ -67,7 +68,11 @@ with_write time wallclock x = record x { written = Some (record { rtp_time = tim
 -- a packet is sealed for the first time, if there is one
 abbrev pub with_first_of : Option RtpPacket → TxReports → TxReports
 with_first_of None x = x
-with_first_of (Some p) x = record x { sealed_type = Some p.header.payload_type; sent = with_packet (length p.payload) x.sent }
+with_first_of (Some p) x = record x {
+  sealed_type = Some p.header.payload_type;
+  last_sent = p.seq_no;
+  sent = with_packet (length p.payload) x.sent;
+}
 
 -- a packet is sent again: its payload stands behind the header and the two bytes of the original number (RFC 4588 section 4)
 abbrev pub with_repair : PacketReceipt → TxReports → TxReports

@@ -4,6 +4,7 @@ pub mod Known
 pub mod Lending
 pub mod LendingStreams
 pub mod Missing
+pub mod Names
 pub mod Pauses
 pub mod Queue
 pub mod Repairing

@@ -1,5 +1,8 @@
 -- The record of an incoming stream, and what each call makes of it.
-use Rattle.std.specs.Prelude.{◌≡◌, ℕ, ◌+◌, ◌-◌, ◌*◌, ◌^◌, ◌||◌, Bool, false, min, is_none, if◌then◌else◌, List, Option, Some, None, unwrap_or}
+use Rattle.std.specs.Prelude.{◌≡◌, ℕ, ◌+◌, ◌-◌, ◌*◌, ◌^◌, ◌||◌, Bool, false, min, is_none, if◌then◌else◌, List, [], Option, Some, None, unwrap_or, option_and_then}
+use Rattle.std.specs.Option.{option_map_or}
+use Rattle.red_core.specs.Known.{Known, with_known}
+use Rattle.red_core.specs.Placing.{place_of}
 use Rattle.rtp_base.specs.Widen.{widen16}
 use Rattle.repair_core.specs.Fresh.{is_fresh, greatest_of}
 use Rattle.rtp_base.specs.declared.window.SeqNoWindow.{SeqNoWindow}
@@ -15,8 +18,8 @@ use Rattle.stream_core.specs.Requests.{no_requests}
 -- all of an incoming stream but its window: its SSRC and that of its repairs, the media section and the stream in it; the
 -- rollover count that the next datagram is taken to have, if one was set; whether it asks for nothing that is missing; how
 -- long nothing comes on it until it is paused; from which moment on it is paused unless something comes, None while it is
--- paused; whether it was paused or unpaused since that was told; the round trip to its sender, where one is known; what it
--- keeps for its reports; and what it asks of its sender at the next tick
+-- paused; whether it was paused or unpaused since that was told; the round trip to its sender, where one is known; the name of
+-- its source, once that was told; what it keeps for its reports; and what it asks of its sender at the next tick
 pub record RxState : Type 0 where
   pub ssrc : ℕ
   pub rtx : Option ℕ
@@ -28,14 +31,17 @@ pub record RxState : Type 0 where
   pub pause_at : Option ℕ
   pub untold : Bool
   pub trip : Option ℕ
+  pub cname : Option (List ℕ)
   pub reports : RxReports
   pub requests : RxRequests
 
--- an incoming stream as its callers see it: the windows of its packets and of its repairs
+-- an incoming stream as its callers see it: the windows of its packets and of its repairs; and the last 32 numbers that were
+-- taken, each with the RTP time of its packet, the last one first
 pub record RxView (W : Type 0) : Type 0 where
   pub state : RxState
   pub window : Option W
   pub repairs : Option SeqNoWindow
+  pub recent : List Known
 
 -- an incoming stream: what its window was told is None before the first number was taken, and what is known of its repairs
 -- before the first one opened
@@ -43,6 +49,7 @@ pub record RxRecord : Type 0 where
   pub state : RxState
   pub numbers : Option Heard
   pub repairs : Option RepairPast
+  pub recent : List Known
 
 -- a stream on which nothing was opened: it is paused
 abbrev pub expected : ℕ → Option ℕ → List ℕ → Option (List ℕ) → Bool → ℕ → RxRecord
@@ -58,11 +65,13 @@ expected ssrc rtx mid rid suppressed threshold = record {
     pause_at = None;
     untold = false;
     trip = None;
+    cname = None;
     reports = no_rx_reports;
     requests = no_requests;
   };
   numbers = None;
   repairs = None;
+  recent = [];
 }
 
 -- what a window was told, or will have been told once the first number is taken: a window begins with the greatest number
@@ -106,19 +115,44 @@ abbrev pub came_at : Arrival → ℕ → RxState → RxState
 came_at a n s =
     record (unpaused a.now s) { roc = None; reports = with_time (is_none s.pause_at) a (with_arrival a n s.reports) }
 
+-- one more number was taken, with the time of its packet
+abbrev pub remembered_at : ℕ → ℕ → List Known → List Known
+remembered_at n time recent = with_known recent (record { number = n; time = time })
+
 abbrev pub opened_as : Option ℕ → Arrival → ℕ → RxRecord → RxRecord
-opened_as remembered a n r = record r { state = came_at a n r.state; numbers = Some (came (heard remembered r) n) }
+opened_as remembered a n r = record r {
+  state = came_at a n r.state;
+  numbers = Some (came (heard remembered r) n);
+  recent = remembered_at n (taken_time a r.state).numer r.recent;
+}
 
--- the numbers are forgotten, those of the repairs too, with what was counted, and a rollover count was set
+-- the number of a redundant block (RFC 2198) of a time that came in a datagram that was taken under a number: the place among
+-- the numbers that may still be taken that the times of the last 32 tell
+abbrev pub placed : (datagram time : ℕ) → RxRecord → Option ℕ
+placed datagram time r = option_and_then (λ past. place_of r.recent (taken past) datagram time) r.numbers
+
+-- a block was recovered: its number is taken, and counts as none that came
+abbrev pub recovered_as : (number time : ℕ) → RxRecord → RxRecord
+recovered_as n time r =
+    option_map_or (λ past. record r { numbers = Some (came past n); recent = remembered_at n time r.recent }) r.numbers r
+
+-- the numbers are forgotten, those of the repairs too, with their times and what was counted, and a rollover count was set
 abbrev pub restarted : ℕ → RxRecord → RxRecord
-restarted roc r = record { state = record r.state { roc = Some roc; reports = forgotten r.state.reports }; numbers = None; repairs = None }
+restarted roc r = record {
+  state = record r.state { roc = Some roc; reports = forgotten r.state.reports };
+  numbers = None;
+  repairs = None;
+  recent = [];
+}
 
--- the packets of a stream come under another SSRC: what was taken of them, how they came, what their sender reported and what it
--- is asked are forgotten, and the next report is due as that of a stream that never reported; what was taken of repairs stays
+-- the packets of a stream come under another SSRC: what was taken of them and their times, how they came, what their sender
+-- reported and what it is asked are forgotten, and the next report is due as that of a stream that never reported; what was taken
+-- of repairs stays
 abbrev pub moved_to : ℕ → RxRecord → RxRecord
 moved_to ssrc r = record r {
   state = record r.state { ssrc = ssrc; roc = None; reports = no_rx_reports; requests = no_requests };
   numbers = None;
+  recent = [];
 }
 
 -- the repairs of a stream come under another SSRC, or for the first time under one: what was taken of them is forgotten
@@ -136,3 +170,4 @@ pub record StandsFor {W : Type 0} (remembers : W → Heard → Type 0) (s : RxVi
   pub state : s.state ≡ r.state
   pub window : Remembers remembers s.window r.numbers
   pub repairs : RepairsRemember s.repairs r.repairs
+  pub recent : s.recent ≡ r.recent

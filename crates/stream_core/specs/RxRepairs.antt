@@ -6,7 +6,7 @@ use Rattle.repair_core.specs.Rounds.{came}
 use Rattle.rtx_core.specs.Repairs.{repair_number, is_fresh_repair, repair_opened}
 use Rattle.stream_core.specs.declared.reports.Arrival.{Arrival}
 use Rattle.stream_core.specs.Arrivals.{with_arrival, with_late}
-use Rattle.stream_core.specs.RxRecord.{RxRecord, heard, taken_of, unpaused}
+use Rattle.stream_core.specs.RxRecord.{RxRecord, heard, taken_of, unpaused, restored_time, remembered_at}
 
 -- a repair's own number with these low 16 bits: near the greatest repair that was taken, before the first one near the
 -- greatest number that was seen on the SSRC of its datagram
@@ -35,11 +35,14 @@ restored remembered r low =
 abbrev pub with_number : Option ℕ → ℕ → RxRecord → RxRecord
 with_number remembered n r = record r { numbers = Some (came (heard remembered r) n) }
 
--- a packet came in a repair: its number is taken, if it is fresh, and else it enters the jitter alone
+-- a packet came in a repair: its number is taken and its time remembered, if it is fresh, and else it enters the jitter alone
 abbrev pub with_packet : Option ℕ → Arrival → Option ℕ → RxRecord → RxRecord
 with_packet remembered a None r = record r { state = record r.state { reports = with_late a r.state.reports } }
 with_packet remembered a (Some n) r =
-    with_number remembered n (record r { state = record r.state { reports = with_arrival a n r.state.reports } })
+    with_number remembered n (record r {
+      state = record r.state { reports = with_arrival a n r.state.reports };
+      recent = remembered_at n (restored_time a r.state).numer r.recent;
+    })
 
 -- the stream after the packet was restored
 abbrev pub after_restored : Option ℕ → Arrival → ℕ → RxRecord → RxRecord

@@ -1,5 +1,5 @@
 -- The streams of a session as a record, and what each call makes of it.
-use Rattle.std.specs.Prelude.{◌≡◌, ℕ, ◌+◌, ◌||◌, Bool, is_some, if◌then◌else◌, List, [], ◌∷◌, Option, Some, None, slice_get, length, option_and_then}
+use Rattle.std.specs.Prelude.{◌≡◌, ℕ, ◌+◌, ◌||◌, Bool, true, is_some, if◌then◌else◌, List, [], ◌∷◌, Option, Some, None, slice_get, length, option_and_then}
 use Rattle.std.specs.Map.{values_of}
 use Rattle.std.specs.Option.{option_map, option_map_or}
 use Rattle.mapping_core.specs.Streams.{with_stream}
@@ -129,11 +129,17 @@ abbrev pub with_anew : (ssrc to : ℕ) → Option ℕ → List (ℕ × RepairsRe
 with_anew ssrc to None qs = without_key ssrc qs
 with_anew ssrc to (Some first) qs = without_key ssrc (with_value to (anew_from first (value_under ssrc qs)) qs)
 
+-- whether there is a cap of how much of what a stream sends may be repairs; one without repairs has that of the beginning
+abbrev pub has_cap : Option RepairsRecord → Bool
+has_cap None = true
+has_cap (Some q) = is_some q.state.cap
+
 -- the streams after the one that sends under an SSRC began anew under another one, in its place, with another SSRC and a
--- first number of its repairs, if it has them from then on
+-- first number of its repairs, if it has them from then on. What its receivers report as lost is kept from then on exactly where
+-- there is a cap
 abbrev pub with_reset_tx : (ssrc to : ℕ) → Option (ℕ × ℕ) → StreamsRecord → StreamsRecord
 with_reset_tx ssrc to rtx r = if is_some (place_of ssrc r.tx) then record r {
-  tx = rekeyed ssrc to (change_at ssrc (anew_under to (option_map (λ x. x.0) rtx)) r.tx);
+  tx = rekeyed ssrc to (change_at ssrc (anew_under to (option_map (λ x. x.0) rtx) (has_cap (value_under ssrc r.repairs))) r.tx);
   repairs = with_anew ssrc to (option_map (λ x. x.1) rtx) r.repairs;
 } else r
 

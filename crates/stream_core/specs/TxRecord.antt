@@ -1,7 +1,10 @@
 -- The record of an outgoing stream, and what each call makes of it.
-use Rattle.std.specs.Prelude.{◌≡◌, ℕ, ◌<◌, ◌≤◌, ◌^◌, ◌%◌, Bool, false, Option, List, [], ◌∷◌, ◌++◌, length, map, ◌==◌, ◌&&◌, ◌||◌, is_some, is_none, if◌then◌else◌}
+use Rattle.std.specs.Prelude.{◌≡◌, ℕ, ◌<◌, ◌≤◌, ◌^◌, ◌%◌, Bool, false, Option, Some, None, unwrap_or, List, [], ◌∷◌, ◌++◌, length, map, ◌==◌, ◌&&◌, ◌||◌, is_some, is_none, if◌then◌else◌}
 use Rattle.std.specs.List.{list_any}
 use Rattle.std.specs.Option.{option_map}
+use Rattle.report_core.specs.Loss.{loss_told, with_loss}
+use Rattle.report_core.specs.TxStats.{TxStats, after_seen}
+use Rattle.report_core.specs.declared.loss.ReportedLoss.{ReportedLoss}
 use Rattle.rtp_base.specs.declared.reception_report.ReceptionReport.{ReceptionReport}
 use Rattle.rtp_wire.specs.declared.header.RtpHeader.{RtpHeader}
 use Rattle.rtp_wire.specs.Header.{header_bytes}
@@ -9,13 +12,14 @@ use Rattle.stream_core.specs.declared.packet.RtpPacket.{RtpPacket}
 use Rattle.stream_core.specs.declared.stream_tx.PacketReceipt.{PacketReceipt}
 use Rattle.stream_core.specs.declared.reports.TxReports.{TxReports}
 use Rattle.stream_core.specs.declared.transport.Transport.{Transport}
-use Rattle.stream_core.specs.Arrivals.{no_tx_reports, tx_reports_anew, with_write, with_first_of, with_repair}
+use Rattle.stream_core.specs.Arrivals.{no_tx_reports, tx_reports_anew, with_write, with_first_of, with_repair, stats_of}
 use Rattle.stream_core.specs.Queue.{needs_tick, with_stamp, next_of, rest_of}
 use Rattle.stream_core.specs.Sealing.{sealed_values, with_values, after_packet}
 use Rattle.stream_core.specs.Write.{WriteRecord, packet_of}
 
 -- an outgoing stream: its SSRC and that of its repairs, the media section and the stream in it, whether the peer has
--- acknowledged its SSRC, the packets that wait, in order, and what it keeps for its reports
+-- acknowledged its SSRC, the packets that wait, in order, what it keeps for its reports, and what its receivers reported as lost
+-- since that was last looked at, where that is kept
 pub record TxRecord : Type 0 where
   pub ssrc : ℕ
   pub rtx : Option ℕ
@@ -24,10 +28,12 @@ pub record TxRecord : Type 0 where
   pub acknowledged : Bool
   pub queue : List RtpPacket
   pub reports : TxReports
+  pub losses : Option (List ReportedLoss)
 
 -- a stream on which nothing was written
 abbrev pub declared : ℕ → Option ℕ → List ℕ → Option (List ℕ) → TxRecord
-declared ssrc rtx mid rid = record { ssrc = ssrc; rtx = rtx; mid = mid; rid = rid; acknowledged = false; queue = []; reports = no_tx_reports }
+declared ssrc rtx mid rid =
+    record { ssrc = ssrc; rtx = rtx; mid = mid; rid = rid; acknowledged = false; queue = []; reports = no_tx_reports; losses = None }
 
 -- a write puts its packet behind those that wait
 abbrev pub written : WriteRecord → TxRecord → TxRecord
@@ -44,11 +50,33 @@ acknowledges ssrc r = is_none r.rtx && ssrc == r.ssrc
 abbrev pub after_reception : ReceptionReport → TxRecord → TxRecord
 after_reception b r = record r { acknowledged = r.acknowledged || acknowledges b.ssrc r }
 
+-- what is counted of it
+abbrev pub tx_stats_of : TxRecord → TxStats
+tx_stats_of r = record { counted = stats_of r.reports; resent = r.reports.resent; losses = r.losses }
+
+-- from now on it keeps what its receivers report as lost, if it did not yet
+abbrev pub with_stats : TxRecord → TxRecord
+with_stats r = record r { losses = Some (unwrap_or r.losses []) }
+
+-- a reception block tells what was lost of its packets, where that is kept: its number is widened by the last one sealed
+abbrev pub lost_by : ReceptionReport → TxRecord → TxRecord
+lost_by b r = if b.ssrc == r.ssrc then record r { losses = option_map (with_loss (loss_told r.reports.last_sent b)) r.losses } else r
+
+-- what was lost was looked at
+abbrev pub after_visit : TxRecord → TxRecord
+after_visit r = record r { losses = (after_seen (tx_stats_of r)).losses }
+
 -- the stream begins anew under another SSRC, and another one of its repairs, if it has them from then on: nothing waits, its
--- reports begin anew, and the peer has not acknowledged the SSRC
-abbrev pub anew_under : ℕ → Option ℕ → TxRecord → TxRecord
-anew_under ssrc rtx r =
-    record r { ssrc = ssrc; rtx = rtx; acknowledged = false; queue = []; reports = tx_reports_anew r.reports }
+-- reports begin anew, the peer has not acknowledged the SSRC, and what its receivers report as lost is kept anew or not at all
+abbrev pub anew_under : ℕ → Option ℕ → (keeps_losses : Bool) → TxRecord → TxRecord
+anew_under ssrc rtx keeps_losses r = record r {
+  ssrc = ssrc;
+  rtx = rtx;
+  acknowledged = false;
+  queue = [];
+  reports = tx_reports_anew r.reports;
+  losses = if keeps_losses then Some [] else None;
+}
 
 -- the causes for which a packet is not written, the first of them
 abbrev pub IsTooBig : WriteRecord → Type 0

@@ -121,11 +121,12 @@ impl RxReports {
         MediaTime::new(numer, arrival.clock)
     }
 
-    /// That time is the last one from now on.
-    pub(crate) fn timed(&mut self, arrival: &Arrival, was_paused: bool)
-        ensures { self.new ≡ with_time was_paused arrival.entry.now self.old }
+    /// That time, which is the last one from now on.
+    pub(crate) fn timed(&mut self, arrival: &Arrival, was_paused: bool) -> MediaTime
+        ensures time { result ≡ time_of was_paused arrival.entry.now self.old }
+        ensures last { self.new ≡ with_time was_paused arrival.entry.now self.old }
     {
-        self.times.take(arrival.rtp_time, was_paused, arrival.clock);
+        self.times.take(arrival.rtp_time, was_paused, arrival.clock)
     }
 
     /// A packet came under a number that is not fresh: it enters the jitter alone.
@@ -145,6 +146,8 @@ pub struct TxReports {
     pub written: Option<Written>,
     /// The type of the packet that was last sealed for the first time, None before any was.
     pub sealed_type: Option<Pt>,
+    /// The number of that packet, 0 before any was.
+    pub last_sent: SeqNo,
     /// The packets that were sealed, repairs among them, and the bytes of their payloads.
     pub sent: Traffic,
     /// The repairs among them.
@@ -166,6 +169,7 @@ impl TxReports {
             clock: SenderClock::new(),
             written: None,
             sealed_type: None,
+            last_sent: SeqNo::from(0),
             sent: Traffic::new(),
             resent: Traffic::new(),
             nacks: 0,
@@ -198,6 +202,7 @@ impl TxReports {
         ensures { self.new ≡ with_first_of (Some packet.now) self.old }
     {
         self.sealed_type = Some(packet.header.payload_type);
+        self.last_sent = packet.seq_no;
         self.sent.count(packet.payload.len());
     }
 

@@ -1,5 +1,5 @@
-ghost use Rattle.std.specs.Prelude.{◌≡◌, ◌<◌, ◌≤◌, ◌+◌, ◌^◌, ◌%◌, ◌++◌, None, Some, length, is_none, IfOk, IfSome, OnOk, OnErr};
-ghost use Rattle.std.specs.Option.{ForSome};
+ghost use Rattle.std.specs.Prelude.{◌≡◌, ◌<◌, ◌≤◌, ◌+◌, ◌^◌, ◌%◌, ◌++◌, ℕ, true, Option, None, Some, length, position, is_none, IfOk, IfSome, OnOk, OnErr};
+ghost use Rattle.std.specs.Option.{ForSome, option_map};
 ghost use Rattle.std.specs.VecDeque.{deque_len};
 ghost use Rattle.repair_core.specs.Fresh.{is_fresh, started_from, greatest_of};
 ghost use Rattle.repair_core.specs.Entries.{packed};
@@ -8,18 +8,20 @@ ghost use Rattle.stream_core.specs.Missing.{is_enabled, due_of, after_round};
 ghost use Rattle.stream_core.specs.Pauses.{checked, told_of, told};
 ghost use Rattle.report_core.specs.Receiver.{receiver_report_of};
 ghost use Rattle.stream_core.specs.Reporting.{report_at, is_report_due, block_at, greatest_in, reported, with_told, front_count, with_news};
+ghost use Rattle.stream_core.specs.Names.{is_name, name_in, described_by};
 ghost use Rattle.stream_core.specs.Requests.{is_request, request_count, request_items, with_keyframe, with_bitrate};
 ghost use Rattle.repair_core.specs.Counts.{counts_report, counts_after};
-ghost use Rattle.stream_core.specs.RxRecord.{RxRecord, StandsFor, expected, taken_of, number_for, fresh_number, unpaused, came_at, opened_as, restarted, moved_to, repaired_under, taken_time, restored_time};
+ghost use Rattle.stream_core.specs.RxRecord.{RxRecord, StandsFor, expected, taken_of, number_for, fresh_number, unpaused, came_at, opened_as, restarted, moved_to, repaired_under, taken_time, restored_time, remembered_at, placed, recovered_as};
 ghost use Rattle.stream_core.specs.RxRepairs.{own_number, fresh_repair, repair_came, restored_for, restored, with_number, after_restored};
 
 use crate::reports::{Arrival, RxReports};
 use crate::requests::RxRequests;
 use crate::stream_paused::StreamPaused;
-use media_base::{Bitrate, Duration, Instant};
+use media_base::{Bitrate, Bytes, Duration, Instant, Listed};
+use red_core::RedMemory;
 use repair_core::{GapWindow, ReceptionCounts};
 use report_core::{LastSenderReport, ReportIntervals, receiver_report};
-use rtcp_wire::{ReceiverReport, Rtcp, SenderInfo};
+use rtcp_wire::{ReceiverReport, Rtcp, Sdes, SdesItem, SdesType, SenderInfo};
 use rtp_base::{
     KeyframeRequestKind, MediaTime, Mid, MidRid, NackEntry, ReceptionReport, ReportList, Rid,
     SeqNo, Ssrc, widen16,
@@ -50,11 +52,15 @@ pub struct StreamRx<W: GapWindow> {
     untold: bool,
     // The round trip to its sender.
     trip: Option<Duration>,
+    // The name of its source, once that was told.
+    cname: Option<Bytes>,
     reports: RxReports,
     // What it asks of its sender at the next tick.
     requests: RxRequests,
     window: Option<W>,
     repairs: RepairWindow,
+    // The last numbers that were taken, and their times.
+    recent: RedMemory,
 }
 
 impl<W: GapWindow> Model for StreamRx<W> {
@@ -74,11 +80,13 @@ impl<W: GapWindow> Model for StreamRx<W> {
         pause_at = s.pause_at;
         untold = s.untold;
         trip = s.trip;
+        cname = s.cname;
         reports = s.reports;
         requests = s.requests;
       };
       window = s.window;
       repairs = s.repairs;
+      recent = s.recent;
     } };
 }
 
@@ -160,6 +168,32 @@ pub fn first_repair(low: u16, seen: Option<SeqNo>) -> Option<SeqNo>
     }
 }
 
+/// Whether an item of a description is the name of the source.
+fn is_name(item: &SdesItem) -> bool
+    ensures { result ≡ is_name item.now }
+{
+    matches!(item.kind, SdesType::CNAME)
+}
+
+/// The place of the first name among the items of a description.
+fn name_place(items: &[SdesItem]) -> Option<usize>
+    ensures place { result ≡ position is_name items.now }
+    ensures within { IfSome result (λ i. i < length items.now) }
+{
+    items.iter().position(|item| is_name(item))
+}
+
+/// The first name that a description tells. The time grows with its items.
+fn name_in(items: Listed<SdesItem>) -> Option<Bytes>
+    ensures { result ≡ name_in items }
+{
+    let mut items = items.into_vec();
+    match name_place(items.as_slice()) {
+        Some(place) => Some(items.swap_remove(place).text),
+        None => None,
+    }
+}
+
 impl<W: GapWindow> StreamRx<W> {
     /// A stream of an SSRC and of that of its repairs, for a media section or one stream of it, on which
     /// nothing was opened. With `suppress_nack` it asks for nothing that is missing. It is paused where
@@ -186,10 +220,12 @@ impl<W: GapWindow> StreamRx<W> {
             pause_at: None,
             untold: false,
             trip: None,
+            cname: None,
             reports: RxReports::new(),
             requests: RxRequests::new(),
             window: None,
             repairs: RepairWindow::new(),
+            recent: RedMemory::new(),
         }
     }
 
@@ -290,6 +326,7 @@ impl<W: GapWindow> StreamRx<W> {
         requires remembered { ForSome remembered (λ n. n < 2 ^ 48) }
         ensures ok { OnOk result ((r : RxRecord) → StandsFor W.remembers self.old r → StandsFor W.remembers self.new (with_number remembered number r)) }
         ensures state { self.new.state ≡ self.old.state }
+        ensures recent { self.new.recent ≡ self.old.recent }
         ensures err { OnErr result (self.new ≡ self.old) }
     {
         match &mut self.window {
@@ -318,8 +355,8 @@ impl<W: GapWindow> StreamRx<W> {
         self.pause_at = Some(now.saturating_add(self.pause_threshold));
     }
 
-    /// Takes a number under which a datagram opened: the stream is not paused until its threshold has
-    /// passed. Without memory nothing changes.
+    /// Takes a number under which a datagram opened, and remembers it with its time: the stream is not
+    /// paused until its threshold has passed. Without memory nothing changes.
     pub fn take(
         &mut self,
         arrival: &Arrival,
@@ -337,7 +374,8 @@ impl<W: GapWindow> StreamRx<W> {
         self.unpause(arrival.now);
         self.roc = None;
         self.reports.arrived(number, arrival);
-        self.reports.timed(arrival, was_paused);
+        let time = self.reports.timed(arrival, was_paused);
+        self.recent.took(number, time.numer);
         Ok(())
     }
 
@@ -418,9 +456,9 @@ impl<W: GapWindow> StreamRx<W> {
         SeqNo::from(widen16(number_of(self.max_seq(*remembered)), low))
     }
 
-    /// Takes the number of the packet that a repair repairs, and gives it: the payload of the repair
-    /// begins with its low 16 bits (RFC 4588 section 4). None where it is not fresh: the packet then enters
-    /// the jitter alone. Without memory nothing changes.
+    /// Takes the number of the packet that a repair repairs, remembers it with its time, and gives it: the
+    /// payload of the repair begins with its low 16 bits (RFC 4588 section 4). None where it is not fresh:
+    /// the packet then enters the jitter alone. Without memory nothing changes.
     pub fn restore(
         &mut self,
         low: u16,
@@ -441,26 +479,61 @@ impl<W: GapWindow> StreamRx<W> {
             return Ok(None);
         }
         self.put(number, remembered)?;
+        let time = self.restored_time(arrival);
+        self.recent.took(number, time.numer);
         self.reports.arrived(number, arrival);
         Ok(Some(number))
     }
 
-    /// Forgets the numbers that were taken, those of repairs too, and what was counted of packets, and takes
-    /// the rollover count for granted that the next datagram has that opens and is no repair (RFC 3711
-    /// section 3.3.1).
+    /// The number of a redundant block (RFC 2198) of this time, widened as those of packets are, that came in
+    /// a datagram that was taken under this number. None where a remembered number has that time, where it
+    /// cannot be told, and before a number was taken. It is between L, the greatest of the last 32 numbers
+    /// with an earlier time, and U, the least with a later time: the only number there that may still be
+    /// taken, or of several the one at the block's time, where times rise from L to U by whole and equal
+    /// steps, if it may still be taken. L is 0 to 9 below the datagram, and the number 0 to 8. At most 32
+    /// entries are looked at, and each number from L to U: at most 8 where the datagram is remembered with a
+    /// later time.
+    pub fn place_redundant(&self, datagram: SeqNo, time: u64) -> Option<SeqNo>
+        ensures place { (r : RxRecord) → StandsFor W.remembers self.now r → result ≡ placed datagram time r }
+        ensures fresh { (r : RxRecord) (remembered : Option ℕ) → StandsFor W.remembers self.now r → IfSome result (λ n. is_fresh (taken_of remembered r) n ≡ true) }
+        ensures near { IfSome result (λ n. (n ≤ datagram) × (datagram ≤ n + 8)) }
+    {
+        match &self.window {
+            Some(window) => self.recent.place(window, datagram, time),
+            None => None,
+        }
+    }
+
+    /// A redundant block was recovered under its number, below 2^48: the number is taken, and neither asked
+    /// for nor taken again. It counts as none that came. It is remembered with its time, so no other block
+    /// of that time has a place. Before a number was taken nothing changes.
+    pub fn mark_recovered(&mut self, number: SeqNo, time: u64)
+        requires { number < 2 ^ 48 }
+        ensures recovered { (r : RxRecord) → StandsFor W.remembers self.old r → StandsFor W.remembers self.new (recovered_as number time r) }
+        ensures state { self.new.state ≡ self.old.state }
+    {
+        if let Some(window) = &mut self.window {
+            self.recent.recovered(window, number, time);
+        }
+    }
+
+    /// Forgets the numbers that were taken, those of repairs too, their times, and what was counted of
+    /// packets, and takes the rollover count for granted that the next datagram has that opens and is no
+    /// repair (RFC 3711 section 3.3.1).
     pub fn reset_roc(&mut self, roc: u32)
         ensures { (r : RxRecord) → StandsFor W.remembers self.old r → StandsFor W.remembers self.new (restarted roc r) }
     {
         self.forget_numbers();
         self.repairs = RepairWindow::new();
+        self.recent.clear();
         self.roc = Some(roc);
         self.reports.forget();
     }
 
-    /// Its packets come under another SSRC. What was taken of them and how they came, a rollover count that
-    /// was set, what its sender reported and what it is asked are forgotten, its next full intra request has
-    /// the number 0, and its next report is due as that of a stream that never reported. What was taken of
-    /// its repairs stays.
+    /// Its packets come under another SSRC. What was taken of them, their times and how they came, a
+    /// rollover count that was set, what its sender reported and what it is asked are forgotten, its next
+    /// full intra request has the number 0, and its next report is due as that of a stream that never
+    /// reported. What was taken of its repairs stays.
     pub fn change_ssrc(&mut self, ssrc: Ssrc)
         ensures { (r : RxRecord) → StandsFor W.remembers self.old r → StandsFor W.remembers self.new (moved_to ssrc r) }
     {
@@ -468,6 +541,7 @@ impl<W: GapWindow> StreamRx<W> {
         self.roc = None;
         self.reports = RxReports::new();
         self.requests = RxRequests::new();
+        self.recent = RedMemory::new();
         self.forget_numbers();
     }
 
@@ -694,6 +768,30 @@ impl<W: GapWindow> StreamRx<W> {
         ensures { self.new ≡ record self.old { state = with_news info.now now self.old.state } }
     {
         self.reports.news.take(*info, now);
+    }
+
+    /// Its source described itself (RFC 3550 section 6.5): the first name that it tells is known from then
+    /// on, unless it is empty. The time grows with the items of the description.
+    pub fn handle_description(&mut self, description: Sdes)
+        ensures { self.new ≡ record self.old { state = described_by description self.old.state } }
+    {
+        let Some(name) = name_in(description.values) else {
+            return;
+        };
+        if !name.is_empty() {
+            self.cname = Some(name);
+        }
+    }
+
+    /// The name of its source (RFC 3550 section 6.5.1), None before that was told. A change of the SSRC
+    /// leaves it.
+    pub fn cname(&self) -> Option<&[u8]>
+        ensures { option_map (λ name. name.now) result ≡ self.now.state.cname }
+    {
+        match &self.cname {
+            Some(name) => Some(name.as_slice()),
+            None => None,
+        }
     }
 
     /// What its sender reported last, None before it did.

@@ -1,4 +1,4 @@
-ghost use Rattle.std.specs.Prelude.{◌≡◌, ◌↔◌, ◌++◌, ◌==◌, ◌≤◌, length, is_some, None, IfOk, IfSome, OnOk, OnErr, IsErrOf};
+ghost use Rattle.std.specs.Prelude.{◌≡◌, ◌↔◌, ◌++◌, ◌==◌, ◌≤◌, ◌<◌, true, length, is_some, None, IfOk, IfSome, OnOk, OnErr, IsErrOf};
 ghost use Rattle.rtp_wire.specs.Header.{header_bytes};
 ghost use Rattle.rtp_wire.specs.HeaderLaws.{IsReadAgain};
 ghost use Rattle.std.specs.Option.{option_copied};
@@ -14,12 +14,13 @@ use crate::transport::Transport;
 use crate::write::{RtpWrite, WriteError};
 use media_base::{Beginning, Bytes, Instant};
 use pace_units::QueueSnapshot;
-use report_core::{ReportIntervals, RtpClock, StreamStats, Traffic, sender_info};
+use report_core::{LossLog, ReportIntervals, RtpClock, StreamStats, Traffic, sender_info};
 use rtcp_wire::SenderInfo;
 use rtp_base::{Mid, MidRid, ReceptionReport, Rid, SeqNo, Ssrc};
 use rtp_wire::{ExtensionMap, ExtensionValues, RtpHeader};
 use std::alloc::{AllocError, Global};
 use std::marker::Model;
+use twcc_core::Share;
 
 /// Extended sequence numbers are below it.
 const NUMBER_LIMIT: u64 = 1 << 48;
@@ -52,6 +53,8 @@ pub struct StreamTx {
     acknowledged: bool,
     queue: SendQueue,
     reports: TxReports,
+    // What its receivers reported as lost, where that is kept.
+    losses: Option<LossLog>,
 }
 
 impl Model for StreamTx {
@@ -59,7 +62,7 @@ impl Model for StreamTx {
 
     ghost Value = { TxRecord };
 
-    ghost view = { λ s. record { ssrc = s.ssrc; rtx = s.rtx; mid = s.mid; rid = s.rid; acknowledged = s.acknowledged; queue = s.queue; reports = s.reports } };
+    ghost view = { λ s. record { ssrc = s.ssrc; rtx = s.rtx; mid = s.mid; rid = s.rid; acknowledged = s.acknowledged; queue = s.queue; reports = s.reports; losses = s.losses } };
 }
 
 /// The header and its length, and the header's bytes with bytes behind them, and the payload behind those.
@@ -96,7 +99,8 @@ pub(crate) fn receipt(
 }
 
 impl StreamTx {
-    ghost use Rattle.stream_core.specs.TxRecord.{declared, written, after_timeout, after_reception, anew_under, IsTooBig, IsTooLong, Fits, polled, after_poll, after_resend, transport_after_poll, IsSealable};
+    ghost use Rattle.stream_core.specs.TxRecord.{declared, written, after_timeout, after_reception, anew_under, tx_stats_of, with_stats, lost_by, after_visit, IsTooBig, IsTooLong, Fits, polled, after_poll, after_resend, transport_after_poll, IsSealable};
+    ghost use Rattle.report_core.specs.TxStats.{seen_of};
     ghost use Rattle.stream_core.specs.Arrivals.{with_nack, with_pli, with_fir, stats_of};
     ghost use Rattle.stream_core.specs.Reporting.{rtp_clock_of, sender_info_at, tx_report_at, is_tx_report_due, tx_reported, with_kind};
 
@@ -113,6 +117,7 @@ impl StreamTx {
             acknowledged: false,
             queue: SendQueue::new(alloc),
             reports: TxReports::new(),
+            losses: None,
         }
     }
 
@@ -197,16 +202,72 @@ impl StreamTx {
         }
     }
 
+    /// Keeps what its receivers report as lost from now on, if it did not yet. That grows with each report
+    /// until it is looked at.
+    pub fn enable_stats(&mut self, alloc: Global)
+        ensures { self.new ≡ with_stats self.old }
+    {
+        if self.losses.is_none() {
+            self.losses = Some(LossLog::new(alloc));
+        }
+    }
+
+    /// Takes in a reception block (RFC 3550 section 6.4.1) on the stream's SSRC, where losses are kept: its
+    /// number is widened by that of the packet that was last sealed for the first time. Without memory
+    /// nothing changes. The time grows with the blocks since the losses were last looked at.
+    pub fn update_with_rr(&mut self, report: &ReceptionReport) -> Result<(), AllocError>
+        ensures ok { OnOk result (self.new ≡ lost_by report.now self.old) }
+        ensures err { OnErr result (self.new ≡ self.old) }
+        ensures cause { OnErr result (is_some self.old.losses ≡ true) }
+    {
+        if report.ssrc != self.ssrc {
+            return Ok(());
+        }
+        match &mut self.losses {
+            Some(losses) => losses.update_with_rr(self.reports.last_sent, report),
+            None => Ok(()),
+        }
+    }
+
+    /// The share that was lost since this was last asked: each report counts by the distance of its number
+    /// from that of the report before. None where losses are not kept, no byte was sealed, or no report came
+    /// whose number is above another's. The time grows with the reports since then.
+    pub fn visit_loss(&mut self) -> Option<Share>
+        ensures share { result ≡ seen_of (tx_stats_of self.old) }
+        ensures within { IfSome result (λ s. (s.missing ≤ s.total) × (0 < s.total)) }
+        ensures after { self.new ≡ after_visit self.old }
+    {
+        if self.reports.sent.bytes == 0 {
+            return None;
+        }
+        match &mut self.losses {
+            Some(losses) => losses.visit(),
+            None => None,
+        }
+    }
+
     /// Begins anew under another SSRC, and another one of its repairs, if it has them from then on. What
-    /// waits is dropped, its reports begin anew, and the peer has not acknowledged the SSRC.
-    pub(crate) fn reset_ssrc(&mut self, ssrc: Ssrc, rtx: Option<Ssrc>)
-        ensures { self.new ≡ anew_under ssrc rtx self.old }
+    /// waits is dropped, its reports begin anew, the peer has not acknowledged the SSRC, and losses are kept
+    /// anew, or not any more.
+    pub(crate) fn reset_ssrc(
+        &mut self,
+        alloc: Global,
+        ssrc: Ssrc,
+        rtx: Option<Ssrc>,
+        keeps_losses: bool,
+    )
+        ensures { self.new ≡ anew_under ssrc rtx keeps_losses self.old }
     {
         self.ssrc = ssrc;
         self.rtx = rtx;
         self.acknowledged = false;
         self.queue.clear();
         self.reports.reset();
+        self.losses = if keeps_losses {
+            Some(LossLog::new(alloc))
+        } else {
+            None
+        };
     }
 
     /// Puts what a packet that is sealed at a moment says among its values.

@@ -4,6 +4,7 @@ ghost use Rattle.std.specs.List.{AllByRecursion};
 ghost use Rattle.std.specs.VecDeque.{deque_len, deque_capacity};
 ghost use Rattle.rtcp_wire.specs.declared.packet.Rtcp.{Rtcp as Item};
 ghost use Rattle.stream_core.specs.Missing.{nack_of, nack_with};
+ghost use Rattle.stream_core.specs.Names.{described_by};
 ghost use Rattle.stream_core.specs.Pauses.{on_record};
 ghost use Rattle.stream_core.specs.Reporting.{
   due_mids,
@@ -38,7 +39,7 @@ use media_base::Instant;
 use repair_core::GapWindow;
 use report_core::{ReportIntervals, moment_report};
 use resend_core::ResendStore;
-use rtcp_wire::{Nack, Rtcp, SenderInfo};
+use rtcp_wire::{Nack, Rtcp, Sdes, SenderInfo};
 use rtp_base::{Mid, NackEntry, ReportList, Ssrc};
 use std::alloc::{AllocError, Global};
 use std::collections::VecDeque;
@@ -353,6 +354,22 @@ impl<W: GapWindow, S: ResendStore<Sent>> Streams<W, S> {
     {
         if let Some(place) = self.rx.place(info.ssrc) {
             self.rx.at_mut(place).handle_sender_info(info, now);
+        }
+    }
+
+    /// The source of an incoming stream described itself (RFC 3550 section 6.5): one look-up in a hash table,
+    /// and the time grows with the items of the description.
+    #[tactic(auto, using(crate::proofs::Alongside::set_same))]
+    pub fn handle_description(&mut self, description: Sdes)
+        ensures heard { (r : StreamsRecord) → StandsFor W.remembers S.stands_for self.old r
+            → StandsFor W.remembers S.stands_for self.new (record r { rx = change_at description.ssrc (on_record (described_by description)) r.rx }) }
+        ensures tx { self.new.tx ≡ self.old.tx }
+        ensures repairs { self.new.repairs ≡ self.old.repairs }
+        ensures threshold { self.new.threshold ≡ self.old.threshold }
+        ensures known { self.new.known ≡ self.old.known }
+    {
+        if let Some(place) = self.rx.place(description.ssrc) {
+            self.rx.at_mut(place).handle_description(description);
         }
     }
 }

@@ -2,7 +2,7 @@
 ghost use Rattle.std.specs.Prelude.{◌≡◌, ◌<◌, ◌≤◌, ◌^◌, ℕ, List, None, Some, length, IfOk, OnOk, OnErr};
 ghost use Rattle.std.specs.Option.{ForSome};
 ghost use Rattle.stream_core.specs.Repairing.{RepairsRecord, RepairsStandFor};
-ghost use Rattle.stream_core.specs.StreamsRecord.{StreamsRecord, StandsFor, anew_from, with_reset_tx};
+ghost use Rattle.stream_core.specs.StreamsRecord.{StreamsRecord, StandsFor, anew_from, has_cap, with_reset_tx};
 ghost use Rattle.stream_core.specs.Tables.{Along, place_of, value_under, with_value, renamed};
 
 use super::Streams;
@@ -28,6 +28,17 @@ fn repairs_from<S: ResendStore<Sent>>(
     match repairs.place(ssrc) {
         Some(at) => repairs.at(at).anew(first),
         None => ResendQueue::new(alloc, first),
+    }
+}
+
+/// Whether there is a cap of how much of what the stream of an SSRC sends may be repairs; one without
+/// repairs has that of the beginning.
+fn has_cap<S: ResendStore<Sent>>(repairs: &SsrcTable<ResendQueue<Sent, S>>, ssrc: Ssrc) -> bool
+    ensures { (rs : List (ℕ × RepairsRecord)) → Along (RepairsStandFor S.stands_for) repairs.now rs → result ≡ has_cap (value_under ssrc rs) }
+{
+    match repairs.place(ssrc) {
+        Some(at) => repairs.at(at).has_cap(),
+        None => true,
     }
 }
 
@@ -84,19 +95,21 @@ impl<W: GapWindow, S: ResendStore<Sent>> Streams<W, S> {
         ensures known { self.new.known ≡ self.old.known }
         ensures err { OnErr result (self.new ≡ self.old) }
     {
+        let alloc = self.alloc;
+        let capped = has_cap(&self.repairs, ssrc);
         match rtx {
             Some(start) => {
                 let repairs = repairs_from(self.alloc, &self.repairs, ssrc, start.1)?;
                 rename_with(&mut self.tx, &mut self.repairs, place, new_ssrc, repairs)?;
                 let stream = self.tx.at_mut(place);
-                stream.reset_ssrc(new_ssrc, Some(start.0));
+                stream.reset_ssrc(alloc, new_ssrc, Some(start.0), capped);
                 self.repairs.remove(ssrc);
                 Ok(())
             }
             None => {
                 self.tx.rename(place, new_ssrc)?;
                 let alone = self.tx.at_mut(place);
-                alone.reset_ssrc(new_ssrc, None);
+                alone.reset_ssrc(alloc, new_ssrc, None, capped);
                 self.repairs.remove(ssrc);
                 Ok(())
             }
@@ -107,6 +120,8 @@ impl<W: GapWindow, S: ResendStore<Sent>> Streams<W, S> {
     /// streams: its reports begin anew, the peer has not acknowledged it, and what waits, what is kept and
     /// what is asked for is dropped. With `rtx` its repairs come under that SSRC with numbers from that one
     /// on; at 2^48 there is none. Its media section and rid, its kind and the limits of what it keeps stay.
+    /// What its receivers report as lost is kept anew exactly where there is a cap of how much of what it
+    /// sends may be repairs; one without repairs has that of the beginning.
     /// Where no stream sends under the SSRC nothing changes; without memory neither. The time grows with the
     /// number of streams declared after it.
     ///

@@ -1,4 +1,4 @@
-use Rattle.std.proofs.Common.{◌≡◌, ◌∙◌, ℕ, ◌+◌, ◌<◌, ◌≤◌, length, take, List, [], ◌∷◌, ◌++◌, slice_set, sym, ap, subst, arith}
+use Rattle.std.proofs.Common.{◌≡◌, ◌∙◌, ◌+◌, ◌<◌, length, take, ◌∷◌, slice_set, ap, arith}
 use Rattle.std.specs.List.{refill}
 use Rattle.red_core.specs.Ring.{last_first}
 use Rattle.red_core.proofs.RingSteps.{pushed, replaced, turned, rewritten}

@@ -17,7 +17,7 @@ returns-in_ok-rename_with-in-Some-clause-ok g c = λ r h.
       repairs = c.remove.new.self;
     } in
     subst (λ o. StandsFor g.W.GapWindow.remembers g.S.ResendStore.stands_for view (with_reset_tx c.args.ssrc c.args.new_ssrc o r)) (sym c.in-Some.is)
-    (reset_some g.W.GapWindow.remembers g.S.ResendStore.stands_for c.args.self.now _ c.self.view_is c.args.ssrc c.args.new_ssrc c.args.place here c.in-Some.start.0 c.in-Some.start.1
+    (reset_some g.W.GapWindow.remembers g.S.ResendStore.stands_for c.args.self.now _ c.self.view_is c.args.ssrc c.args.new_ssrc c.args.place here c.has_cap-capped.result c.has_cap-capped.ensures c.in-Some.start.0 c.in-Some.start.1
     c.rename_with.new.one c.at_mut-stream.result.now c.reset_ssrc.new.self c.in_ok-repairs-in-Some.repairs c.rename_with.new.other c.remove.new.self
     said.one c.at_mut-stream.ensures.value c.reset_ssrc.ensures c.in_ok-repairs-in-Some.ensures said.other c.remove.ensures.removed r h)
 
@@ -32,6 +32,6 @@ returns-in_ok-rename-in-None-clause-ok g c = λ r h.
       repairs = c.remove-in-None.new.self;
     } in
     subst (λ o. StandsFor g.W.GapWindow.remembers g.S.ResendStore.stands_for view (with_reset_tx c.args.ssrc c.args.new_ssrc o r)) (sym c.in-None.is)
-    (reset_none g.W.GapWindow.remembers g.S.ResendStore.stands_for c.args.self.now _ c.self.view_is c.args.ssrc c.args.new_ssrc c.args.place here
+    (reset_none g.W.GapWindow.remembers g.S.ResendStore.stands_for c.args.self.now _ c.self.view_is c.args.ssrc c.args.new_ssrc c.args.place here c.has_cap-capped.result c.has_cap-capped.ensures
     c.rename.new.self c.at_mut-alone.result.now c.reset_ssrc-in-None.new.self c.remove-in-None.new.self
     c.in_ok-rename-in-None.ensures.ok c.at_mut-alone.ensures.value c.reset_ssrc-in-None.ensures c.remove-in-None.ensures.removed r h)
