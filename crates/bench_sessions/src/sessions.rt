@@ -26,12 +26,7 @@ fn section() -> Option<MidRid> {
 }
 
 // Gives an end its media section, its keys and its stream.
-fn set_up<P: Peer>(
-    alloc: Global,
-    peer: &mut P,
-    role: Role,
-    at: &MidRid,
-) -> Result<(), AllocError> {
+fn set_up<P: Peer>(alloc: Global, peer: &mut P, role: Role, at: &MidRid) -> Result<(), AllocError> {
     let left = !matches!(role, Role::Receiver);
     peer.add_media(alloc, at)?;
     peer.give_keys(alloc, left)?;
@@ -73,12 +68,7 @@ fn send_all<P: Peer>(
     Ok(sent)
 }
 
-fn send<P: Peer>(
-    alloc: Global,
-    at: &MidRid,
-    bytes: &[u8],
-    count: u64,
-) -> Result<u64, AllocError> {
+fn send<P: Peer>(alloc: Global, at: &MidRid, bytes: &[u8], count: u64) -> Result<u64, AllocError> {
     let mut peer: P = ready(alloc, Role::Sender, at)?;
     send_all(alloc, &mut peer, bytes, count)
 }
