@@ -3,19 +3,9 @@
 #![tactic(auto)]
 
 mod bench_main;
-mod ciphers;
 mod command;
-mod compounds;
 mod error;
-mod feedback;
-mod headers;
-mod memory;
-mod pacing;
-mod queues;
-mod registers;
 mod report;
-mod sessions;
-mod stores;
 mod table;
 mod timing;
 
@@ -23,21 +13,25 @@ use media_base::WriterSink;
 use std::process::ExitCode;
 use std::{env, io};
 
-// The words behind the program's name.
-fn words(rt: &HostRuntime) -> io::Result<Vec<String>> {
-    let mut words = Vec::new(rt.alloc());
+// Puts the words behind the program's name behind others.
+fn put_words(rt: &HostRuntime, words: &mut Vec<String>) -> io::Result<()> {
     for word in env::args(rt)?.skip(1) {
         words.push(word)?;
     }
-    Ok(words)
+    Ok(())
+}
+
+// The words behind the program's name. Words that cannot be read are no command.
+fn words(rt: &HostRuntime) -> Vec<String> {
+    let mut words = Vec::new(rt.alloc());
+    if put_words(rt, &mut words).is_err() {
+        words.clear();
+    }
+    words
 }
 
 fn main(rt: HostRuntime) -> ExitCode {
-    // Words that cannot be read are no command.
-    let words = match words(&rt) {
-        Ok(words) => words,
-        Err(_) => Vec::new(rt.alloc()),
-    };
+    let words = words(&rt);
     let mut sink = WriterSink::new(io::writer(&rt));
     let end = bench_main::bench_main(rt.alloc(), &rt, &table::ROWS, &words, &mut sink);
     ExitCode::from(end.status())

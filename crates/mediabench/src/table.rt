@@ -1,13 +1,14 @@
 // The table of rows.
-use crate::ciphers::CipherWork;
-use crate::compounds::CompoundWork;
-use crate::feedback::FeedbackWork;
-use crate::headers::HeaderWork;
-use crate::pacing::PacerWork;
-use crate::queues;
-use crate::registers::{Numbers, RegisterWork};
-use crate::sessions::SessionWork;
-use crate::stores::{CacheWork, Packet, StoreWork};
+use bench_rounds::ciphers::CipherWork;
+use bench_rounds::compounds::CompoundWork;
+use bench_rounds::feedback::FeedbackWork;
+use bench_rounds::headers::HeaderWork;
+use bench_rounds::pacing::PacerWork;
+use bench_rounds::registers::{Numbers, RegisterWork};
+use bench_rounds::stores::{CacheWork, Packet, StoreWork};
+use bench_rounds::texts::TextWork;
+use bench_sessions::queues;
+use bench_sessions::sessions::SessionWork;
 use mask_register::MaskRegister;
 use queue_store::QueueStore;
 use repair_core::NackRegister;
@@ -43,6 +44,8 @@ pub enum Work {
     Waiting,
     /// Calls of sessions.
     Session(SessionWork),
+    /// Text of scripts and transcripts.
+    Text(TextWork),
 }
 
 impl Work {
@@ -63,6 +66,7 @@ impl Work {
             Work::Rtcp(work) => work.play(alloc, count),
             Work::Waiting => queues::pass_all(alloc, count),
             Work::Session(work) => work.play(alloc, count),
+            Work::Text(work) => work.play(alloc, count),
         }
     }
 }
@@ -79,7 +83,7 @@ pub struct Row {
 }
 
 /// The rows, in the order in which they are timed.
-pub const ROWS: [Row; 61] = [
+pub const ROWS: [Row; 63] = [
     Row {
         name: "take-in-order-slots",
         work: Work::Slots(RegisterWork::Take(Numbers::InOrder)),
@@ -384,5 +388,15 @@ pub const ROWS: [Row; 61] = [
         name: "session-repair-1200",
         work: Work::Session(SessionWork::Repair(1_200)),
         count: 50_000,
+    },
+    Row {
+        name: "hex-text-1200",
+        work: Work::Text(TextWork::Hex(1_200)),
+        count: 100_000,
+    },
+    Row {
+        name: "next-space-2480",
+        work: Work::Text(TextWork::Space(2_480)),
+        count: 400_000,
     },
 ];

@@ -1,4 +1,4 @@
-// Rounds on the stores of sent packets.
+//! Rounds on the stores of sent packets.
 ghost use Rattle.std.specs.Prelude.{◌<◌};
 
 use media_base::{Duration, Instant};
@@ -53,43 +53,63 @@ fn age(seconds: u64) -> Duration {
     Duration::from_nanos(seconds.wrapping_mul(1_000_000_000))
 }
 
-// A store of the values of the first 2,000 positions.
-fn filled<S: ResendStore<u64>>(alloc: Global) -> Result<S, AllocError> {
-    let mut store = S::new(alloc, 10, age(3), 2_000)?;
+// Pushes the values of the first 2,000 positions.
+fn fill<S: ResendStore<u64>>(store: &mut S) -> Result<(), AllocError> {
     for i in 0..2_000u64 {
         store.push(i, Instant::from_nanos(i.wrapping_mul(1_000)), i)?;
     }
+    Ok(())
+}
+
+// A store of the values of the first 2,000 positions.
+fn filled<S: ResendStore<u64>>(alloc: Global) -> Result<S, AllocError> {
+    let mut store = S::new(alloc, 10, age(3), 2_000)?;
+    fill(&mut store)?;
     Ok(store)
+}
+
+// Fills a store; tells whether it holds the value of position 1,000.
+fn push_one<S: ResendStore<u64>>(alloc: Global) -> Result<bool, AllocError> {
+    let store: S = filled(alloc)?;
+    Ok(store.contains(1_000))
 }
 
 fn push<S: ResendStore<u64>>(alloc: Global, count: u64) -> Result<u64, AllocError> {
     let mut held: u64 = 0;
     for _i in 0..count / 2_000 {
-        let store: S = filled(alloc)?;
-        held = held.wrapping_add(u64::from(store.contains(1_000)));
+        held = held.wrapping_add(u64::from(push_one::<S>(alloc)?));
     }
     Ok(held)
 }
 
-fn push_and_evict<S: ResendStore<u64>>(alloc: Global, count: u64) -> Result<u64, AllocError> {
-    let mut store = S::new(alloc, 10, age(1), 2_000)?;
+fn evict_all<S: ResendStore<u64>>(store: &mut S, count: u64) -> Result<bool, AllocError> {
     for i in 0..count {
         let now = Instant::from_nanos(i.wrapping_mul(1_000_000));
         store.push(i, now, i)?;
         store.maybe_evict(now);
     }
-    Ok(u64::from(store.contains(count.wrapping_sub(1))))
+    Ok(store.contains(count.wrapping_sub(1)))
 }
 
-fn get<S: ResendStore<u64>>(alloc: Global, count: u64) -> Result<u64, AllocError> {
-    let store: S = filled(alloc)?;
+fn push_and_evict<S: ResendStore<u64>>(alloc: Global, count: u64) -> Result<u64, AllocError> {
+    let mut store = S::new(alloc, 10, age(1), 2_000)?;
+    let holds_last = evict_all(&mut store, count)?;
+    Ok(u64::from(holds_last))
+}
+
+fn get_all<S: ResendStore<u64>>(store: &S, count: u64) -> u64 {
     let mut sum: u64 = 0;
     for i in 0..count {
         if let Some(value) = store.get(i.wrapping_mul(7) % 2_000) {
             sum = sum.wrapping_add(*value);
         }
     }
-    Ok(sum)
+    sum
+}
+
+fn get<S: ResendStore<u64>>(alloc: Global, count: u64) -> Result<u64, AllocError> {
+    let store: S = filled(alloc)?;
+    Ok(get_all(&store, count))
 }
 
 impl StoreWork {
@@ -113,6 +133,18 @@ fn sent_packet(count: u64) -> Packet
     }
 }
 
+// Gives a cache so many packets.
+fn cache_all<S: ResendStore<Packet>>(
+    cache: &mut RtxCache<Packet, S>,
+    count: u64,
+) -> Result<(), AllocError> {
+    for i in 0..count {
+        let now = Instant::from_nanos(i.wrapping_mul(1_000_000));
+        cache.cache_sent_packet(sent_packet(i), now)?;
+    }
+    Ok(())
+}
+
 // A cache of so much room that was given so many packets.
 fn cached<S: ResendStore<Packet>>(
     alloc: Global,
@@ -120,12 +152,7 @@ fn cached<S: ResendStore<Packet>>(
     count: u64,
 ) -> Result<RtxCache<Packet, S>, AllocError> {
     let mut cache: RtxCache<Packet, S> = RtxCache::new(alloc, room, age(3))?;
-    for i in 0..count {
-        cache.cache_sent_packet(
-            sent_packet(i),
-            Instant::from_nanos(i.wrapping_mul(1_000_000)),
-        )?;
-    }
+    cache_all(&mut cache, count)?;
     Ok(cache)
 }
 
@@ -134,8 +161,7 @@ fn put<S: ResendStore<Packet>>(alloc: Global, room: usize, count: u64) -> Result
     Ok(u64::from(cache.last_packet().is_some()))
 }
 
-fn by_number<S: ResendStore<Packet>>(alloc: Global, count: u64) -> Result<u64, AllocError> {
-    let cache: RtxCache<Packet, S> = cached(alloc, 2_000, 2_000)?;
+fn all_by_number<S: ResendStore<Packet>>(cache: &RtxCache<Packet, S>, count: u64) -> u64 {
     let mut sum: u64 = 0;
     for i in 0..count {
         let seq = SeqNo::from(i.wrapping_mul(7) % 2_000);
@@ -143,18 +169,27 @@ fn by_number<S: ResendStore<Packet>>(alloc: Global, count: u64) -> Result<u64, A
             sum = sum.wrapping_add(packet.number);
         }
     }
-    Ok(sum)
+    sum
 }
 
-fn by_size<S: ResendStore<Packet>>(alloc: Global, count: u64) -> Result<u64, AllocError> {
+fn by_number<S: ResendStore<Packet>>(alloc: Global, count: u64) -> Result<u64, AllocError> {
     let cache: RtxCache<Packet, S> = cached(alloc, 2_000, 2_000)?;
+    Ok(all_by_number(&cache, count))
+}
+
+fn all_by_size<S: ResendStore<Packet>>(cache: &RtxCache<Packet, S>, count: u64) -> u64 {
     let mut sum: u64 = 0;
     for i in 0..count {
         if let Some(packet) = cache.get_cached_packet_smaller_than((i % 2_000) as usize) {
             sum = sum.wrapping_add(packet.number);
         }
     }
-    Ok(sum)
+    sum
+}
+
+fn by_size<S: ResendStore<Packet>>(alloc: Global, count: u64) -> Result<u64, AllocError> {
+    let cache: RtxCache<Packet, S> = cached(alloc, 2_000, 2_000)?;
+    Ok(all_by_size(&cache, count))
 }
 
 impl CacheWork {

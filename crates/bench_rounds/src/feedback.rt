@@ -1,4 +1,4 @@
-// Rounds on transport-wide feedback.
+//! Rounds on transport-wide feedback.
 use media_base::{DataSize, Instant};
 use rtp_base::{SeqNo, Ssrc, TwccPacketId};
 use std::alloc::{AllocError, Global};
@@ -34,16 +34,28 @@ fn report(alloc: Global, register: &mut TwccRecvRegister) -> Result<u64, AllocEr
 }
 
 // So many packets come, one each 250 us; tells how many rows were reported.
-fn take(alloc: Global, count: u64) -> Result<u64, AllocError> {
-    let mut register = TwccRecvRegister::new(alloc);
+fn take_all(alloc: Global, register: &mut TwccRecvRegister, count: u64) -> Result<u64, AllocError> {
     let mut rows: u64 = 0;
     for i in 0..count {
         register.update_seq(SeqNo::from(i), Instant::from_nanos(i.wrapping_mul(250_000)))?;
         if i % 32 == 31 {
-            rows = rows.wrapping_add(report(alloc, &mut register)?);
+            rows = rows.wrapping_add(report(alloc, register)?);
         }
     }
     Ok(rows)
+}
+
+fn take(alloc: Global, count: u64) -> Result<u64, AllocError> {
+    let mut register = TwccRecvRegister::new(alloc);
+    take_all(alloc, &mut register, count)
+}
+
+// Reads a report; tells how many rows that gave.
+fn read_one(alloc: Global, bytes: &[u8]) -> Result<u64, AllocError> {
+    match read_twcc(alloc, bytes)? {
+        Some(report) => Ok(report.rows.len() as u64),
+        None => Ok(0),
+    }
 }
 
 // Reads a report so often; tells how many rows that gave.
@@ -52,9 +64,7 @@ fn read(alloc: Global, count: u64) -> Result<u64, AllocError> {
     let mut rows: u64 = 0;
     for i in 0..count {
         bytes[15] = (i % 256) as u8;
-        if let Some(report) = read_twcc(alloc, &bytes)? {
-            rows = rows.wrapping_add(report.rows.len() as u64);
-        }
+        rows = rows.wrapping_add(read_one(alloc, &bytes)?);
     }
     Ok(rows)
 }
@@ -79,14 +89,46 @@ fn write(alloc: Global, count: u64) -> Result<u64, AllocError> {
     }
 }
 
-// A register of the packets from 0 to 999, one each 250 us.
-fn sent(alloc: Global) -> Result<TwccSendRegister, AllocError> {
-    let mut register = TwccSendRegister::new(alloc);
+// The packets from 0 to 999 are sent, one each 250 us.
+fn send_all(register: &mut TwccSendRegister) -> Result<(), AllocError> {
     for i in 0..1_000u64 {
         let id = TwccPacketId::new(SeqNo::from(i));
         register.register_seq(id, DataSize::bytes(1_200), Instant::from_nanos(i * 250_000))?;
     }
-    Ok(register)
+    Ok(())
+}
+
+// Takes a report in; tells how many records it told.
+fn apply_one(
+    alloc: Global,
+    register: &mut TwccSendRegister,
+    report: &Twcc,
+    now: Instant,
+) -> Result<u64, AllocError> {
+    let records = register.apply_report(alloc, now, report)?;
+    Ok(records.as_slice().len() as u64)
+}
+
+// Takes a report in so often; tells how many records it told.
+fn apply_all(
+    alloc: Global,
+    register: &mut TwccSendRegister,
+    report: &Twcc,
+    count: u64,
+) -> Result<u64, AllocError> {
+    let mut told: u64 = 0;
+    for i in 0..count {
+        let next = apply_one(alloc, register, report, Instant::from_nanos(i))?;
+        told = told.wrapping_add(next);
+    }
+    Ok(told)
+}
+
+// Sends, and takes a report in so often.
+fn send_and_apply(alloc: Global, report: &Twcc, count: u64) -> Result<u64, AllocError> {
+    let mut register = TwccSendRegister::new(alloc);
+    send_all(&mut register)?;
+    apply_all(alloc, &mut register, report, count)
 }
 
 // Takes the report in so often, as one of the packets from 980 on; tells how many records it told.
@@ -94,16 +136,10 @@ fn apply(alloc: Global, count: u64) -> Result<u64, AllocError> {
     let mut bytes = REPORT;
     bytes[8] = 3;
     bytes[9] = 0xd4;
-    let mut register = sent(alloc)?;
-    let Some(report) = read_twcc(alloc, &bytes)? else {
-        return Ok(0);
-    };
-    let mut told: u64 = 0;
-    for i in 0..count {
-        let records = register.apply_report(alloc, Instant::from_nanos(i), &report)?;
-        told = told.wrapping_add(records.as_slice().len() as u64);
+    match read_twcc(alloc, &bytes)? {
+        Some(report) => send_and_apply(alloc, &report, count),
+        None => Ok(0),
     }
-    Ok(told)
 }
 
 impl FeedbackWork {

@@ -1,4 +1,4 @@
-// Rounds on compound RTCP.
+//! Rounds on compound RTCP.
 use rtcp_wire::Rtcp;
 use std::alloc::{AllocError, Global};
 use std::collections::VecDeque;

@@ -1,4 +1,4 @@
-// Rounds on the pacers.
+//! Rounds on the pacers.
 use media_base::{Bitrate, DataSize, Duration, Instant};
 use pace_core::{LeakyBucketPacer, NullPacer, Pacer};
 use pace_units::{QueuePriority, QueueSnapshot, QueueState};
@@ -61,12 +61,17 @@ fn push_queue(states: &mut Vec<QueueState>, number: u16, packets: u32) -> Result
     Ok(())
 }
 
-// So many queues of so many packets each.
+// Puts so many queues of so many packets each behind others.
+fn push_queues(states: &mut Vec<QueueState>, count: u16, packets: u32) -> Result<(), AllocError> {
+    for number in 0..count {
+        push_queue(states, number, packets)?;
+    }
+    Ok(())
+}
+
 fn filled(alloc: Global, count: u16, packets: u32) -> Result<Vec<QueueState>, AllocError> {
     let mut states = Vec::new(alloc);
-    for number in 0..count {
-        push_queue(&mut states, number, packets)?;
-    }
+    push_queues(&mut states, count, packets)?;
     Ok(states)
 }
 
@@ -104,31 +109,48 @@ fn polls<P: Pacer>(pacer: &mut P, queues: &[QueueState], count: u64) -> Result<u
     Ok(quiet)
 }
 
-fn leaky(alloc: Global, size: u16, count: u64) -> Result<u64, AllocError> {
-    let queues = filled(alloc, size, 1)?;
+fn leaky(alloc: Global, queues: &[QueueState], count: u64) -> Result<u64, AllocError> {
     let mut pacer = LeakyBucketPacer::new(alloc, Bitrate::mbps(10));
-    cycles(&mut pacer, &queues, count)
+    cycles(&mut pacer, queues, count)
 }
 
-fn null(alloc: Global, size: u16, count: u64) -> Result<u64, AllocError> {
-    let queues = filled(alloc, size, 1)?;
+fn null(alloc: Global, queues: &[QueueState], count: u64) -> Result<u64, AllocError> {
     let mut pacer = NullPacer::new(alloc);
-    cycles(&mut pacer, &queues, count)
+    cycles(&mut pacer, queues, count)
 }
 
-fn null_polls(alloc: Global, size: u16, count: u64) -> Result<u64, AllocError> {
-    let queues = filled(alloc, size, 0)?;
+fn null_polls(alloc: Global, queues: &[QueueState], count: u64) -> Result<u64, AllocError> {
     let mut pacer = NullPacer::new(alloc);
-    polls(&mut pacer, &queues, count)
+    polls(&mut pacer, queues, count)
+}
+
+// Does it so often over these queues.
+fn play_on(
+    alloc: Global,
+    work: PacerWork,
+    queues: &[QueueState],
+    count: u64,
+) -> Result<u64, AllocError> {
+    match work {
+        PacerWork::Leaky(_) => leaky(alloc, queues, count),
+        PacerWork::Null(_) => null(alloc, queues, count),
+        PacerWork::NullPoll(_) => null_polls(alloc, queues, count),
+    }
 }
 
 impl PacerWork {
+    // How many queues there are, and how many packets each of them holds.
+    fn sizes(self) -> (u16, u32) {
+        match self {
+            PacerWork::Leaky(size) | PacerWork::Null(size) => (size, 1),
+            PacerWork::NullPoll(size) => (size, 0),
+        }
+    }
+
     /// Does it so often.
     pub fn play(self, alloc: Global, count: u64) -> Result<u64, AllocError> {
-        match self {
-            PacerWork::Leaky(size) => leaky(alloc, size, count),
-            PacerWork::Null(size) => null(alloc, size, count),
-            PacerWork::NullPoll(size) => null_polls(alloc, size, count),
-        }
+        let (size, packets) = self.sizes();
+        let queues = filled(alloc, size, packets)?;
+        play_on(alloc, self, &queues, count)
     }
 }

@@ -1,4 +1,4 @@
-// Rounds on RTP headers.
+//! Rounds on RTP headers.
 use rtp_wire::{ExtensionMap, RtpHeader};
 
 /// What is done with a header.

@@ -1,4 +1,4 @@
-// Rounds on the registers of received numbers.
+//! Rounds on the registers of received numbers.
 ghost use Rattle.std.specs.Prelude.{◌<◌, ◌^◌};
 
 use media_base::Instant;
@@ -64,13 +64,17 @@ fn take_next<W: GapWindow>(window: &mut W, numbers: Numbers, count: u64) -> bool
 }
 
 // Takes so many numbers, and tells how many were fresh.
-fn take<W: GapWindow>(alloc: Global, numbers: Numbers, count: u64) -> Result<u64, AllocError> {
-    let mut window = W::new(alloc, None)?;
+fn take_all<W: GapWindow>(window: &mut W, numbers: Numbers, count: u64) -> u64 {
     let mut fresh: u64 = 0;
     for i in 0..count {
-        fresh = fresh.wrapping_add(u64::from(take_next(&mut window, numbers, i)));
+        fresh = fresh.wrapping_add(u64::from(take_next(window, numbers, i)));
     }
-    Ok(fresh)
+    fresh
+}
+
+fn take<W: GapWindow>(alloc: Global, numbers: Numbers, count: u64) -> Result<u64, AllocError> {
+    let mut window = W::new(alloc, None)?;
+    Ok(take_all(&mut window, numbers, count))
 }
 
 // Asks for what is missing after 33 numbers, and tells how many entries that takes.
@@ -87,31 +91,35 @@ fn round<W: GapWindow>(window: &mut W, numbers: Numbers, round: u64) -> u64 {
 }
 
 // Plays so many rounds, and tells how many entries they took.
-fn rounds<W: GapWindow>(alloc: Global, numbers: Numbers, count: u64) -> Result<u64, AllocError> {
-    let mut window = W::new(alloc, None)?;
+fn round_all<W: GapWindow>(window: &mut W, numbers: Numbers, count: u64) -> u64 {
     let mut entries: u64 = 0;
     for i in 0..count {
-        entries = entries.wrapping_add(round(&mut window, numbers, i));
+        entries = entries.wrapping_add(round(window, numbers, i));
     }
-    Ok(entries)
+    entries
 }
 
-// Registers that took 200 numbers each.
-fn full<W: GapWindow>(alloc: Global) -> Result<Vec<W>, AllocError> {
-    let mut windows = Vec::new(alloc);
+fn rounds<W: GapWindow>(alloc: Global, numbers: Numbers, count: u64) -> Result<u64, AllocError> {
+    let mut window = W::new(alloc, None)?;
+    Ok(round_all(&mut window, numbers, count))
+}
+
+// A register that took 200 numbers.
+fn full<W: GapWindow>(alloc: Global) -> Result<W, AllocError> {
+    let mut window = W::new(alloc, None)?;
+    take_all(&mut window, Numbers::InOrder, 200);
+    Ok(window)
+}
+
+fn push_full<W: GapWindow>(alloc: Global, windows: &mut Vec<W>) -> Result<(), AllocError> {
     for _r in 0..REGISTERS {
-        let mut window = W::new(alloc, None)?;
-        for i in 0..200u64 {
-            let _ = window.update(at(i));
-        }
-        windows.push(window)?;
+        windows.push(full(alloc)?)?;
     }
-    Ok(windows)
+    Ok(())
 }
 
 // Asks registers in turn, so often, whether anything is missing; tells how often nothing was.
-fn pending<W: GapWindow>(alloc: Global, count: u64) -> Result<u64, AllocError> {
-    let windows: Vec<W> = full(alloc)?;
+fn ask_all<W: GapWindow>(windows: &[W], count: u64) -> u64 {
     let mut quiet: u64 = 0;
     for i in 0..count {
         if let Some(window) = windows.get((i % REGISTERS) as usize) {
@@ -120,7 +128,13 @@ fn pending<W: GapWindow>(alloc: Global, count: u64) -> Result<u64, AllocError> {
             }
         }
     }
-    Ok(quiet)
+    quiet
+}
+
+fn pending<W: GapWindow>(alloc: Global, count: u64) -> Result<u64, AllocError> {
+    let mut windows: Vec<W> = Vec::new(alloc);
+    push_full(alloc, &mut windows)?;
+    Ok(ask_all(&windows, count))
 }
 
 // A packet comes every millisecond.
@@ -130,26 +144,34 @@ fn receive_next<W: GapWindow>(register: &mut ReceiverRegister<W>, count: u64) ->
 }
 
 // So many packets come; tells how many were fresh.
-fn receive<W: GapWindow>(alloc: Global, count: u64) -> Result<u64, AllocError> {
-    let mut register: ReceiverRegister<W> = ReceiverRegister::new(alloc, None)?;
+fn receive_all<W: GapWindow>(register: &mut ReceiverRegister<W>, count: u64) -> u64 {
     let mut fresh: u64 = 0;
     for i in 0..count {
-        fresh = fresh.wrapping_add(u64::from(receive_next(&mut register, i)));
+        fresh = fresh.wrapping_add(u64::from(receive_next(register, i)));
     }
-    Ok(fresh)
+    fresh
 }
 
-// Receiver's registers that took 200 packets each.
-fn receivers<W: GapWindow>(alloc: Global) -> Result<Vec<ReceiverRegister<W>>, AllocError> {
-    let mut registers = Vec::new(alloc);
+fn receive<W: GapWindow>(alloc: Global, count: u64) -> Result<u64, AllocError> {
+    let mut register: ReceiverRegister<W> = ReceiverRegister::new(alloc, None)?;
+    Ok(receive_all(&mut register, count))
+}
+
+// A receiver's register that took 200 packets.
+fn receiver<W: GapWindow>(alloc: Global) -> Result<ReceiverRegister<W>, AllocError> {
+    let mut register: ReceiverRegister<W> = ReceiverRegister::new(alloc, None)?;
+    receive_all(&mut register, 200);
+    Ok(register)
+}
+
+fn push_receivers<W: GapWindow>(
+    alloc: Global,
+    registers: &mut Vec<ReceiverRegister<W>>,
+) -> Result<(), AllocError> {
     for _r in 0..REGISTERS {
-        let mut register: ReceiverRegister<W> = ReceiverRegister::new(alloc, None)?;
-        for i in 0..200u64 {
-            let _ = receive_next(&mut register, i);
-        }
-        registers.push(register)?;
+        registers.push(receiver(alloc)?)?;
     }
-    Ok(registers)
+    Ok(())
 }
 
 // The greatest number of a register's report.
@@ -161,8 +183,7 @@ fn report_of<W: GapWindow>(register: &mut ReceiverRegister<W>) -> u64 {
 }
 
 // Has registers make their reports in turn, so often; tells the sum of the greatest numbers.
-fn reports<W: GapWindow>(alloc: Global, count: u64) -> Result<u64, AllocError> {
-    let mut registers: Vec<ReceiverRegister<W>> = receivers(alloc)?;
+fn report_all<W: GapWindow>(registers: &mut [ReceiverRegister<W>], count: u64) -> u64 {
     let mut sum: u64 = 0;
     for i in 0..count {
         let place = (i % REGISTERS) as usize;
@@ -170,7 +191,13 @@ fn reports<W: GapWindow>(alloc: Global, count: u64) -> Result<u64, AllocError> {
             sum = sum.wrapping_add(report_of(&mut registers[place]));
         }
     }
-    Ok(sum)
+    sum
+}
+
+fn reports<W: GapWindow>(alloc: Global, count: u64) -> Result<u64, AllocError> {
+    let mut registers: Vec<ReceiverRegister<W>> = Vec::new(alloc);
+    push_receivers(alloc, &mut registers)?;
+    Ok(report_all(&mut registers, count))
 }
 
 impl RegisterWork {
