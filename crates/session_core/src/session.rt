@@ -202,6 +202,18 @@ impl<C: SrtpCipher, W: GapWindow, S: ResendStore<Sent>> Session<C, W, S> {
             next_stream: 0,
         })
     }
+
+    /// The same in a box, which is handed on by its address: a session has some kilobytes.
+    pub fn boxed(alloc: Global, config: SessionConfig) -> Result<Box<Self>, AllocError>
+        requires target { 900 ≤ config.mtu.target }
+        requires order { config.mtu.target ≤ config.mtu.warn }
+        requires warn { config.mtu.warn ≤ 1500 }
+        requires index { config.srtcp_index ≤ 2 ^ 31 }
+        ensures { IfOk result (λ s. StandsFor W.remembers S.stands_for s.value (fresh_session config)) }
+    {
+        let session = Session::new(alloc, config)?;
+        Ok(Box::new(alloc, session)?)
+    }
 }
 
 impl<C: SrtpCipher, W: GapWindow, S: ResendStore<Sent>> Session<C, W, S> {
