@@ -3,7 +3,9 @@ use Rattle.std.specs.Prelude.{ℕ, List, [], ◌∷◌, ◌++◌, length, codes,
 use Rattle.std.specs.List.{flat_map, join_with_byte}
 use Rattle.std.specs.Fmt.{decimal, digit_glyph}
 use Rattle.media_model.specs.declared.entry.Side.{Side}
+use Rattle.media_model.specs.declared.entry.Call.{Call}
 use Rattle.media_model.specs.declared.entry.Packet.{Packet}
+use Rattle.media_model.specs.declared.entry.Write.{Write as Written}
 use Rattle.media_model.specs.declared.entry.Got.{Got as GotEntry}
 use Rattle.media_model.specs.declared.entry.Sealed.{Sealed as SealedEntry}
 use Rattle.media_model.specs.declared.entry.Opened.{Opened as OpenedEntry}
@@ -24,7 +26,16 @@ hex_text bytes = if length bytes == 0 then codes "-" else flat_map byte_text byt
 abbrev pub words : List (List ℕ) → List ℕ
 words ws = join_with_byte 32 ws
 
--- the lines of entries with fields of their own
+-- the line of each kind of entry
+abbrev pub wrote_text : Side → Written → List ℕ
+wrote_text side write = words (codes "wrote" ∷ side_text side ∷ decimal write.ssrc ∷ decimal write.number ∷ [])
+
+abbrev pub ticked_text : Side → ℕ → List ℕ
+ticked_text side time = words (codes "ticked" ∷ side_text side ∷ decimal time ∷ [])
+
+abbrev pub called_text : Side → Call → List ℕ
+called_text side call = words (codes "called" ∷ side_text side ∷ call_text call ∷ [])
+
 abbrev pub got_text : GotEntry → List ℕ
 got_text got = words (codes "got" ∷ side_text got.side ∷ kind_text got.kind ∷ decimal (length got.bytes) ∷ [])
 
@@ -41,9 +52,9 @@ yielded_text side packet =
     ∷ flag_text packet.marker ∷ decimal packet.rtp_time ∷ hex_text packet.payload ∷ [])
 
 abbrev pub line_text : Entry → List ℕ
-line_text (Wrote side time write) = words (codes "wrote" ∷ side_text side ∷ decimal write.ssrc ∷ decimal write.number ∷ [])
-line_text (Ticked side time) = words (codes "ticked" ∷ side_text side ∷ decimal time ∷ [])
-line_text (Called side time call) = words (codes "called" ∷ side_text side ∷ call_text call ∷ [])
+line_text (Wrote side time write) = wrote_text side write
+line_text (Ticked side time) = ticked_text side time
+line_text (Called side time call) = called_text side call
 line_text (Got got) = got_text got
 line_text (Sealed sealed) = sealed_text sealed
 line_text (Opened opened) = opened_text opened

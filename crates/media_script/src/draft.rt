@@ -1,9 +1,7 @@
 // What setup lines say together.
-ghost use Rattle.std.specs.Prelude.{◌≡◌};
-ghost use Rattle.media_script.specs.Gives.{Gives};
+ghost use Rattle.std.specs.Prelude.{◌≡◌, OnOk};
 ghost use Rattle.media_script.specs.Draft.{blank, with_index, with_ssrc, told, setup_of};
 
-use crate::error::LineError;
 use crate::media_list::MediaList;
 use crate::setup_line::SetupLine;
 use media_base::{Beginning, Duration, Listed};
@@ -13,7 +11,7 @@ use media_model::{
 };
 use rtp_wire::Ssrc;
 use srtp_core::SrtpProfile;
-use std::alloc::Global;
+use std::alloc::{AllocError, Global};
 
 // The Unix time at which a run begins where no line says it, in November 2023.
 const DEFAULT_UNIX_SECS: u64 = 1_700_000_000;
@@ -28,7 +26,7 @@ const DEFAULT_MTU: Mtu = Mtu {
 const DEFAULT_PAUSE_NANOS: u64 = 1_500_000_000;
 
 /// What the setup lines so far say, and the default of each that does not stand.
-#[derive(Debug, Drop)]
+#[derive(Drop)]
 pub struct Draft {
     pub cipher: CipherName,
     pub profile: SrtpProfile,
@@ -105,8 +103,8 @@ impl Draft {
     }
 
     /// What one line more says.
-    pub fn told(mut self, alloc: Global, line: SetupLine) -> Result<Draft, LineError>
-        ensures { Gives (λ d. d) result (Some (told self line)) }
+    pub fn tell(&mut self, alloc: Global, line: SetupLine) -> Result<(), AllocError>
+        ensures { OnOk result (self.new ≡ told self.old line) }
     {
         match line {
             SetupLine::Cipher(cipher) => self.cipher = cipher,
@@ -130,7 +128,7 @@ impl Draft {
             SetupLine::Start(start) => self.starts.push(start)?,
             SetupLine::Cache(named) => self.caches.push(named)?,
         }
-        Ok(self)
+        Ok(())
     }
 
     /// The setup, if the key stands.

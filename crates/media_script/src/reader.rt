@@ -3,6 +3,7 @@ ghost use Rattle.std.specs.Prelude.{◌≡◌, List, IfOk, Ok};
 ghost use Rattle.media_script.specs.FirstWrong.{StopsRightly};
 ghost use Rattle.media_script.specs.Gives.{Gives, GivesScript, error_at};
 ghost use Rattle.media_script.specs.Grammar.{read_on, line_taken, whole_of, script_of};
+ghost use Rattle.media_script.specs.declared.reader.Reader.TheVariants.{Head, InSetup, InSteps};
 ghost use Rattle.media_script.specs.Spelling.{IsScript};
 ghost use Rattle.media_model.specs.declared.setup.Setup.{Setup};
 ghost use Rattle.media_model.specs.declared.step.Step.{Step};
@@ -17,7 +18,7 @@ use media_model::{Setup, Step};
 use std::alloc::Global;
 
 /// What was read so far.
-#[derive(Debug, Drop)]
+#[derive(Drop)]
 pub enum Reader {
     Head,
     InSetup(Said),
@@ -41,26 +42,9 @@ impl Reader {
         ensures { Gives (λ r. r) result (read_on self line.now) }
     {
         match self {
-            Reader::Head => {
-                if line != b"str0m-media 1".as_slice() {
-                    return Err(LineError::Outside);
-                }
-                Ok(Reader::InSetup(Said::new(alloc)))
-            }
-            Reader::InSetup(said) => {
-                if line == b"begin".as_slice() {
-                    return Ok(Reader::InSteps(said, Listed::new(alloc)));
-                }
-                let more = setup_line(alloc, line)?;
-                Ok(Reader::InSetup(said.with_line(alloc, more)?))
-            }
-            Reader::InSteps(said, mut steps) => {
-                if line == b"end".as_slice() {
-                    return Ok(Reader::Ended(said, steps));
-                }
-                steps.push(step(alloc, line)?)?;
-                Ok(Reader::InSteps(said, steps))
-            }
+            Reader::Head => head(alloc, line),
+            Reader::InSetup(said) => behind_setup(alloc, said, line),
+            Reader::InSteps(said, steps) => behind_steps(alloc, said, steps, line),
             Reader::Ended(_, _) => Err(LineError::Outside),
         }
     }
@@ -78,6 +62,46 @@ impl Reader {
             _ => Err(ScriptError::Syntax(line)),
         }
     }
+}
+
+// The first line.
+#[tactic(auto, unfolding(crate::specs::Grammar::read_on))]
+fn head(alloc: Global, line: &[u8]) -> Result<Reader, LineError>
+    ensures { Gives (λ r. r) result (read_on Head line.now) }
+{
+    if line != b"str0m-media 1".as_slice() {
+        return Err(LineError::Outside);
+    }
+    Ok(Reader::InSetup(Said::new(alloc)))
+}
+
+// A line behind setup lines that say this.
+#[tactic(auto, unfolding(crate::specs::Grammar::read_on))]
+fn behind_setup(alloc: Global, mut said: Said, line: &[u8]) -> Result<Reader, LineError>
+    ensures { Gives (λ r. r) result (read_on (InSetup said) line.now) }
+{
+    if line == b"begin".as_slice() {
+        return Ok(Reader::InSteps(said, Listed::new(alloc)));
+    }
+    said.add(alloc, setup_line(alloc, line)?)?;
+    Ok(Reader::InSetup(said))
+}
+
+// A line behind these steps.
+#[tactic(auto, unfolding(crate::specs::Grammar::read_on))]
+fn behind_steps(
+    alloc: Global,
+    said: Said,
+    mut steps: Listed<Step>,
+    line: &[u8],
+) -> Result<Reader, LineError>
+    ensures { Gives (λ r. r) result (read_on (InSteps said steps) line.now) }
+{
+    if line == b"end".as_slice() {
+        return Ok(Reader::Ended(said, steps));
+    }
+    steps.push(step(alloc, line)?)?;
+    Ok(Reader::InSteps(said, steps))
 }
 
 fn at_line(error: LineError, line: u64) -> ScriptError

@@ -10,7 +10,7 @@ use media_base::Listed;
 use std::alloc::Global;
 
 /// What the setup lines so far say, and what they leave to later ones.
-#[derive(Debug, Drop)]
+#[derive(Drop)]
 pub struct Said {
     /// The slots that are taken.
     pub taken: Listed<Slot>,
@@ -43,8 +43,8 @@ impl Said {
     }
 
     /// One line more.
-    pub fn with_line(mut self, alloc: Global, line: SetupLine) -> Result<Said, LineError>
-        ensures { Gives (λ s. s) result (with_line self line) }
+    pub fn add(&mut self, alloc: Global, line: SetupLine) -> Result<(), LineError>
+        ensures { Gives (λ _. self.new) result (with_line self.old line) }
     {
         if !self.fits(&line) {
             return Err(LineError::Outside);
@@ -55,7 +55,7 @@ impl Said {
         if let Some(name) = line.gives() {
             self.known.push(name)?;
         }
-        self.draft = self.draft.told(alloc, line)?;
-        Ok(self)
+        self.draft.tell(alloc, line)?;
+        Ok(())
     }
 }

@@ -11,7 +11,7 @@ use srtp_core::SrtpProfile;
 use std::marker::Model;
 
 /// What one setup line says.
-#[derive(Debug, Drop)]
+#[derive(Drop)]
 pub enum SetupLine {
     Cipher(CipherName),
     Profile(SrtpProfile),
@@ -44,7 +44,7 @@ pub enum SetupLine {
 }
 
 /// For what a line may stand once.
-#[derive(Clone, Copy, Debug)]
+#[derive(Clone, Copy)]
 pub enum Per {
     Script,
     Side(Side),
@@ -53,7 +53,7 @@ pub enum Per {
 
 /// What two lines may not share: a first word, and what the line stands for once. Contracts see
 /// the two.
-#[derive(Debug, Drop)]
+#[derive(Drop)]
 pub struct Slot {
     pub word: &'static [u8],
     pub per: Per,
@@ -69,7 +69,7 @@ impl Model for Slot {
 }
 
 /// What a line brings, and later lines may need.
-#[derive(Clone, Copy, Debug)]
+#[derive(Clone, Copy)]
 pub enum Name {
     /// A media section.
     Media(Mid),

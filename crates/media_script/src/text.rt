@@ -1,8 +1,9 @@
 // The text of a transcript.
 ghost use Rattle.std.specs.Prelude.{◌≡◌, ◌++◌, IfOk, OnOk, string_bytes};
 ghost use Rattle.media_script.specs.Names.{side_text, kind_text, call_text, flag_text};
-ghost use Rattle.media_script.specs.Text.{hex_text, answer_text, got_text, sealed_text, opened_text, yielded_text, line_text, entries_text, end_text, text_of};
+ghost use Rattle.media_script.specs.Text.{hex_text, answer_text, wrote_text, ticked_text, called_text, got_text, sealed_text, opened_text, yielded_text, line_text, entries_text, end_text, text_of};
 
+use media_base::Instant;
 use media_model::{Call, Entry, Got, Kind, Opened, Packet, Sealed, Side, Transcript};
 use std::alloc::{AllocError, Global};
 use std::fmt::Write;
@@ -110,26 +111,38 @@ fn put_yielded(text: &mut String, side: Side, packet: &Packet) -> Result<(), All
     put_hex(text, packet.payload.as_slice())
 }
 
+fn put_wrote(text: &mut String, side: Side, write: &media_model::Write) -> Result<(), AllocError>
+    ensures { OnOk result (string_bytes text.new ≡ string_bytes text.old ++ wrote_text side write.now) }
+{
+    let side = side_word(side);
+    let ssrc = write.ssrc;
+    let number = write.number;
+    write!(text, "wrote {side} {ssrc} {number}")
+}
+
+fn put_ticked(text: &mut String, side: Side, time: Instant) -> Result<(), AllocError>
+    ensures { OnOk result (string_bytes text.new ≡ string_bytes text.old ++ ticked_text side time) }
+{
+    let side = side_word(side);
+    let time = time.as_nanos();
+    write!(text, "ticked {side} {time}")
+}
+
+fn put_called(text: &mut String, side: Side, call: Call) -> Result<(), AllocError>
+    ensures { OnOk result (string_bytes text.new ≡ string_bytes text.old ++ called_text side call) }
+{
+    let side = side_word(side);
+    let call = call_word(call);
+    write!(text, "called {side} {call}")
+}
+
 pub fn put_entry(text: &mut String, entry: &Entry) -> Result<(), AllocError>
     ensures { OnOk result (string_bytes text.new ≡ string_bytes text.old ++ line_text entry.now) }
 {
     match entry {
-        Entry::Wrote(side, _, packet) => {
-            let side = side_word(*side);
-            let ssrc = packet.ssrc;
-            let number = packet.number;
-            write!(text, "wrote {side} {ssrc} {number}")
-        }
-        Entry::Ticked(side, time) => {
-            let side = side_word(*side);
-            let time = time.as_nanos();
-            write!(text, "ticked {side} {time}")
-        }
-        Entry::Called(side, _, call) => {
-            let side = side_word(*side);
-            let call = call_word(*call);
-            write!(text, "called {side} {call}")
-        }
+        Entry::Wrote(side, _, write) => put_wrote(text, *side, write),
+        Entry::Ticked(side, time) => put_ticked(text, *side, *time),
+        Entry::Called(side, _, call) => put_called(text, *side, *call),
         Entry::Got(got) => put_got(text, got),
         Entry::Sealed(sealed) => put_sealed(text, sealed),
         Entry::Opened(opened) => put_opened(text, opened),
