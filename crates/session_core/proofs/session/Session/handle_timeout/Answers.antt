@@ -33,5 +33,5 @@ returns-clause-ok g c = λ r h.
       repairs = subst (λ (v : StreamsView g.row.W.Denot g.row.S.Denot). Along (RepairsStandFor g.S.ResendStore.stands_for) v.repairs s.repairs) (sym told) ticked.repairs;
       seen = mine.seen;
       probes = subst (λ (v : RxView g.row.W.Denot). RxStandsFor m v (on_record (checked now) s.probes)) (sym c.handle_timeout.ensures)
-          (record { state = ap (checked now) mine.probes.state; window = mine.probes.window; repairs = mine.probes.repairs });
+          (record { state = ap (checked now) mine.probes.state; window = mine.probes.window; repairs = mine.probes.repairs; recent = mine.probes.recent });
     }
