@@ -1,8 +1,8 @@
-use crate::ends::{End, mid, moment, rid};
-use rtp_base::{Kind, SeqNo, Ssrc};
+use crate::ends::{End, mid, moment, rid, ssrc};
+use crate::packets::is_opened;
+use rtp_base::{Kind, SeqNo};
 use rtp_wire::ExtensionValues;
-use session_core::{Event, Opened};
-use std::test::Fail;
+use session_core::Event;
 use stream_core::StreamPaused;
 
 /// A packet on SSRC 42 that an end is to tell.
@@ -18,33 +18,6 @@ pub struct Wanted<'a> {
     pub unpauses: bool,
 }
 
-impl Wanted<'_> {
-    // Whether it is what a datagram opened to.
-    fn is_opened(&self, opened: &Option<Opened>) -> bool {
-        match opened {
-            Some(opened) => {
-                opened.kind == Kind::Rtp
-                    && opened.ssrc == Ssrc::from(42)
-                    && opened.index == SeqNo::from(self.number)
-            }
-            None => false,
-        }
-    }
-
-    // Whether it is what is told.
-    fn is_told(&self, told: &Option<Event>) -> bool {
-        match told {
-            Some(Event::RtpPacket(packet)) => {
-                packet.seq_no == SeqNo::from(self.number)
-                    && packet.payload.as_slice() == self.payload
-                    && packet.header.ext_vals == self.values
-                    && packet.timestamp == Some(moment())
-            }
-            _ => false,
-        }
-    }
-}
-
 /// The packet numbered 1 with the payload 0102.
 pub fn first_packet() -> Wanted<'static> {
     Wanted {
@@ -55,33 +28,58 @@ pub fn first_packet() -> Wanted<'static> {
     }
 }
 
-// That the stream was unpaused.
-fn unpaused() -> Event {
-    Event::StreamPaused(StreamPaused {
-        ssrc: Ssrc::from(42),
+/// Whether it is told that the stream of an SSRC was paused, or unpaused.
+pub fn is_pause(told: &StreamPaused, low: u8, paused: bool) -> bool {
+    let wanted = StreamPaused {
+        ssrc: ssrc(low),
         mid: mid(),
         rid: Some(rid()),
-        paused: false,
-    })
+        paused,
+    };
+    *told == wanted
+}
+
+// Whether the stream that is unpaused, if any, is told next.
+fn tells_unpaused(end: &mut End, unpauses: bool) -> bool {
+    if !unpauses {
+        return true;
+    }
+    match end.poll_event() {
+        Some(Event::StreamPaused(told)) => is_pause(&told, 42, false),
+        _ => false,
+    }
+}
+
+// Whether the packet is what is told.
+fn is_told(wanted: &Wanted<'_>, told: &Option<Event>) -> bool {
+    match told {
+        Some(Event::RtpPacket(packet)) => {
+            packet.seq_no == SeqNo::from(wanted.number)
+                && packet.payload.as_slice() == wanted.payload
+                && packet.header.ext_vals == wanted.values
+                && packet.timestamp == Some(moment())
+        }
+        _ => false,
+    }
 }
 
 /// Whether bytes that come open, and nothing but this packet is told, once, behind the stream that it
 /// unpauses.
-pub fn tells(end: &mut End, bytes: &[u8], wanted: &Wanted<'_>) -> Result<bool, Fail> {
-    let opened = end.handle_rtp_receive(moment(), bytes)?;
-    let before = if wanted.unpauses {
-        end.poll_event() == Some(unpaused())
-    } else {
-        true
+pub fn tells(end: &mut End, bytes: &[u8], wanted: &Wanted<'_>) -> bool {
+    let Ok(opened) = end.handle_rtp_receive(moment(), bytes) else {
+        return false;
     };
-    let told = end.poll_event();
-    let more = end.poll_event();
-    Ok(before && wanted.is_opened(&opened) && wanted.is_told(&told) && more.is_none())
+    let right = is_opened(&opened, Kind::Rtp, 42, wanted.number);
+    let before = tells_unpaused(end, wanted.unpauses);
+    let told = is_told(wanted, &end.poll_event());
+    right & before & told & end.poll_event().is_none()
 }
 
 /// Whether bytes that come open nothing, and nothing is told.
-pub fn refuses(end: &mut End, bytes: &[u8]) -> Result<bool, Fail> {
-    let opened = end.handle_rtp_receive(moment(), bytes)?;
-    let told = end.poll_event();
-    Ok(opened.is_none() && told.is_none())
+pub fn refuses(end: &mut End, bytes: &[u8]) -> bool {
+    let refused = match end.handle_rtp_receive(moment(), bytes) {
+        Ok(opened) => opened.is_none(),
+        Err(_) => false,
+    };
+    refused & end.poll_event().is_none()
 }

@@ -1,19 +1,26 @@
-ghost use Rattle.std.specs.Prelude.{◌≤◌, ◌^◌, IfOk};
+//! Ends, and what the tests of all subjects do with one.
+ghost use Rattle.std.specs.Prelude.{◌≤◌, ◌^◌, IfSome};
+ghost use Rattle.std.specs.Option.{ForSome};
 
 use mask_register::MaskRegister;
 use media_base::{Beginning, Bytes, Duration, Instant};
 use queue_store::QueueStore;
-use rtp_base::{Frequency, Mid, MidRid, Pt, Rid, Ssrc};
+use rtp_base::{Frequency, Mid, MidRid, Pt, Rid, SeqNo, Ssrc};
 use rtp_wire::ExtensionMap;
 use session_core::{Media, MediaKind, Mtu, ReportIntervals, RtcError, Session, SessionConfig};
 use srtp_core::{KeyingMaterial, SrtpProfile, ToyCipher};
 use std::alloc::Global;
-use stream_core::{PayloadTypes, Sent, TypeRow};
+use stream_core::{PayloadTypes, RtpWrite, Sent, TypeRow};
 
 /// One end with the toy cipher.
 pub type End = Session<ToyCipher, MaskRegister, QueueStore<Sent>>;
 
-/// The moment of all calls: one second and a half after the beginning.
+/// A moment in nanoseconds.
+pub fn at(moment: u64) -> Instant {
+    Instant::from_nanos(moment)
+}
+
+/// The moment of calls whose moment does not matter: one second and a half after the beginning.
 pub fn moment() -> Instant {
     Instant::from_nanos(1_500_000_000)
 }
@@ -25,7 +32,7 @@ pub const FIRST_REPORT: u64 = 10_000_000_000_000_000;
 /// The same of a stream that sends before its first tick: 100 years of 365 days after moment 0.
 pub const BEFORE_TOLD: u64 = 3_153_600_000_000_000_000;
 
-/// The media section of the stream.
+/// The media section v.
 pub fn mid() -> Mid {
     match Mid::from_slice(b"v") {
         Some(mid) => mid,
@@ -41,28 +48,47 @@ pub fn rid() -> Rid {
     }
 }
 
-/// What both ends are made with: they know type 96. The target for their feedback is cut to 900 to 1,500
-/// bytes, the first index of SRTCP datagrams to at most 2^31. Their own SSRC is 2. Their reports are so far
-/// apart that none is due.
+/// The SSRC of these low 8 bits.
+pub fn ssrc(low: u8) -> Ssrc {
+    Ssrc::from(u32::from(low))
+}
+
+fn type_row(pt: u8, rtx: Option<Pt>, red: Option<Pt>) -> TypeRow {
+    TypeRow {
+        pt: Pt::from(pt),
+        clock: Frequency::NINETY_KHZ,
+        rtx,
+        red,
+    }
+}
+
+// Type 97 repairs type 96, which is sent under type 98 with older frames; type 100 has no repairs.
+fn add_types(types: &mut PayloadTypes) -> bool {
+    let first = types.add(type_row(96, Some(Pt::from(97)), Some(Pt::from(98))));
+    let older = types.add(type_row(98, None, None));
+    let bare = types.add(type_row(100, None, None));
+    first.is_ok() && older.is_ok() && bare.is_ok()
+}
+
+/// What both ends are made with: the types that they know, and header extensions. The target for their
+/// feedback is cut to 900 to 1,500 bytes, the first index of SRTCP datagrams to at most 2^31. Their own SSRC
+/// is 2. Their reports are so far apart that none is due.
 pub fn config(
     alloc: Global,
     exts: ExtensionMap,
     target: u16,
     srtcp_index: u32,
-) -> Result<SessionConfig, RtcError>
-    ensures target { IfOk result (λ c. 900 ≤ c.mtu.target) }
-    ensures order { IfOk result (λ c. c.mtu.target ≤ c.mtu.warn) }
-    ensures warn { IfOk result (λ c. c.mtu.warn ≤ 1500) }
-    ensures index { IfOk result (λ c. c.srtcp_index ≤ 2 ^ 31) }
+) -> Option<SessionConfig>
+    ensures target { IfSome result (λ c. 900 ≤ c.mtu.target) }
+    ensures order { IfSome result (λ c. c.mtu.target ≤ c.mtu.warn) }
+    ensures warn { IfSome result (λ c. c.mtu.warn ≤ 1500) }
+    ensures index { IfSome result (λ c. c.srtcp_index ≤ 2 ^ 31) }
 {
     let mut types = PayloadTypes::new(alloc);
-    types.add(TypeRow {
-        pt: Pt::from(96),
-        clock: Frequency::NINETY_KHZ,
-        rtx: Some(Pt::from(97)),
-        red: None,
-    })?;
-    Ok(SessionConfig {
+    if !add_types(&mut types) {
+        return None;
+    }
+    Some(SessionConfig {
         id: 1,
         beginning: Beginning {
             unix_secs: 1_700_000_000,
@@ -84,27 +110,72 @@ pub fn config(
 }
 
 /// Gives an end keys of zeros.
-pub fn give_keys(alloc: Global, end: &mut End, left: bool) -> Result<(), RtcError> {
-    let material = KeyingMaterial::new(alloc, &[0; 56])?;
-    end.set_keying_material(ToyCipher, SrtpProfile::AeadAes128Gcm, &material, left)
+pub fn give_keys(alloc: Global, end: &mut End, left: bool) -> bool {
+    let Ok(material) = KeyingMaterial::new(alloc, &[0; 56]) else {
+        return false;
+    };
+    let profile = SrtpProfile::AeadAes128Gcm;
+    end.set_keying_material(ToyCipher, profile, &material, left)
+        .is_ok()
+}
+
+/// Adds a media section.
+pub fn add_section(alloc: Global, end: &mut End, mid: Mid, kind: MediaKind, cname: &[u8]) -> bool {
+    let Ok(cname) = Bytes::from_slice(alloc, cname) else {
+        return false;
+    };
+    end.add_media(Media::new(mid, kind, cname)).is_ok()
+}
+
+/// Has an end receive on an SSRC, with repairs on another. It asks for what is missing, or does not.
+pub fn expect(end: &mut End, low: u8, rtx: Option<Ssrc>, mid_rid: MidRid, suppress: bool) -> bool {
+    end.streams()
+        .expect_stream_rx(ssrc(low), rtx, mid_rid, suppress)
+        .is_ok()
+}
+
+/// The SSRC of repairs and the number of the first, at most 2^48.
+pub fn repairs_from(low: u8, first: u64) -> Option<(Ssrc, SeqNo)>
+    ensures { ForSome result (λ x. x.1 ≤ 2 ^ 48) }
+{
+    let first = first.min(281_474_976_710_656);
+    Some((ssrc(low), SeqNo::from(first)))
+}
+
+/// Has an end send on an SSRC without repairs.
+pub fn declare(end: &mut End, low: u8, mid_rid: MidRid) -> bool {
+    end.streams()
+        .declare_stream_tx(ssrc(low), None, mid_rid)
+        .is_ok()
+}
+
+/// Has an end send on an SSRC, with repairs on another from a number on.
+pub fn declare_repaired(end: &mut End, low: u8, repairs: (u8, u64), mid_rid: MidRid) -> bool {
+    let repairs = repairs_from(repairs.0, repairs.1);
+    end.streams()
+        .declare_stream_tx(ssrc(low), repairs, mid_rid)
+        .is_ok()
+}
+
+/// Writes a packet on the stream of this SSRC; whether there is one.
+pub fn put(end: &mut End, low: u8, write: RtpWrite) -> bool {
+    let streams = end.streams();
+    match streams.tx_place(ssrc(low)) {
+        Some(place) => streams.tx_at(place).write_rtp(write).is_ok(),
+        None => false,
+    }
 }
 
 /// Has a fresh end send on SSRC 42.
-pub fn prepare_sender(alloc: Global, end: &mut End) -> Result<(), RtcError> {
-    let cname = Bytes::from_slice(alloc, b"cam")?;
-    end.add_media(Media::new(mid(), MediaKind::Video, cname))?;
-    let mid_rid = MidRid(mid(), Some(rid()));
-    end.streams()
-        .declare_stream_tx(Ssrc::from(42), None, mid_rid)?;
-    Ok(())
+pub fn prepare_sender(alloc: Global, end: &mut End) -> bool {
+    let added = add_section(alloc, end, mid(), MediaKind::Video, b"cam");
+    let declared = declare(end, 42, MidRid(mid(), Some(rid())));
+    added && declared
 }
 
 /// Has an end receive on SSRC 42.
-pub fn expect_stream(end: &mut End) -> Result<(), RtcError> {
-    let mid_rid = MidRid(mid(), Some(rid()));
-    end.streams()
-        .expect_stream_rx(Ssrc::from(42), None, mid_rid, false)?;
-    Ok(())
+pub fn expect_stream(end: &mut End) -> bool {
+    expect(end, 42, None, MidRid(mid(), Some(rid())), false)
 }
 
 /// Whether a call ended with this error.

@@ -7,11 +7,17 @@ mod arriving;
 #[cfg(test)]
 mod carrying;
 #[cfg(test)]
+mod coming;
+#[cfg(test)]
+mod drawn;
+#[cfg(test)]
 mod ends;
 #[cfg(test)]
 mod feedback;
 #[cfg(test)]
 mod leaving;
+#[cfg(test)]
+mod mapped;
 #[cfg(test)]
 mod packets;
 #[cfg(test)]
@@ -21,10 +27,14 @@ mod reports;
 #[cfg(test)]
 mod restored;
 #[cfg(test)]
-mod restoring;
-#[cfg(test)]
 mod rounds;
+#[cfg(test)]
+mod sections;
 #[cfg(test)]
 mod steps;
 #[cfg(test)]
 mod table;
+#[cfg(test)]
+mod telling;
+#[cfg(test)]
+mod types;
