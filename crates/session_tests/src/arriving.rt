@@ -1,9 +1,9 @@
-use crate::ends::{End, mid, moment, rid, ssrc};
+use crate::ends::{End, moment};
 use crate::packets::is_opened;
+use crate::telling::is_paused;
 use rtp_base::{Kind, SeqNo};
 use rtp_wire::ExtensionValues;
 use session_core::Event;
-use stream_core::StreamPaused;
 
 /// A packet on SSRC 42 that an end is to tell.
 #[derive(Clone, Copy)]
@@ -28,25 +28,14 @@ pub fn first_packet() -> Wanted<'static> {
     }
 }
 
-/// Whether it is told that the stream of an SSRC was paused, or unpaused.
-pub fn is_pause(told: &StreamPaused, low: u8, paused: bool) -> bool {
-    let wanted = StreamPaused {
-        ssrc: ssrc(low),
-        mid: mid(),
-        rid: Some(rid()),
-        paused,
-    };
-    *told == wanted
-}
-
 // Whether the stream that is unpaused, if any, is told next.
 fn tells_unpaused(end: &mut End, unpauses: bool) -> bool {
     if !unpauses {
         return true;
     }
     match end.poll_event() {
-        Some(Event::StreamPaused(told)) => is_pause(&told, 42, false),
-        _ => false,
+        Some(event) => is_paused(&event, 42, false),
+        None => false,
     }
 }
 

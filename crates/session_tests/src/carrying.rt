@@ -1,7 +1,8 @@
 use crate::arriving::{Wanted, tells};
 use crate::ends::{End, mid, moment, rid};
+use crate::feedback::acknowledge;
 use crate::leaving::{next, write};
-use rtp_base::{Frequency, MediaTime, ReceptionReport, Rid, Ssrc};
+use rtp_base::{Frequency, MediaTime, Rid};
 use rtp_wire::{
     AbsCaptureTime, AbsSendTime, Extension, ExtensionMap, ExtensionValues, VideoOrientation,
 };
@@ -125,22 +126,6 @@ fn told_after(ids: Ids, before: u16) -> ExtensionValues {
     }
 }
 
-// Tells a sender that the peer knows its SSRC.
-fn acknowledge(end: &mut End) {
-    let report = ReceptionReport {
-        ssrc: Ssrc::from(42),
-        fraction_lost: 0,
-        packets_lost: 0,
-        max_seq: 2,
-        jitter: 0,
-        last_sr_time: 0,
-        last_sr_delay: 0,
-    };
-    if end.streams().tx_len() > 0 {
-        end.streams().tx_at(0).handle_reception_report(&report);
-    }
-}
-
 // Whether a packet of this number is told with these values.
 fn carries_one(
     alloc: Global,
@@ -167,7 +152,7 @@ fn carries_one(
 pub fn carries(alloc: Global, a: &mut End, b: &mut End, ids: Ids) -> bool {
     let first = carries_one(alloc, a, b, 1, told(ids, 0));
     let second = carries_one(alloc, a, b, 2, told(ids, 1));
-    acknowledge(a);
+    let known = acknowledge(alloc, a);
     let third = carries_one(alloc, a, b, 3, told_after(ids, 2));
-    first & second & third
+    first & second & known & third
 }

@@ -1,6 +1,6 @@
 //! Datagrams that come to an end which receives: what opens, what is told, and which streams stand then.
 use crate::carrying::{Ids, map_of};
-use crate::ends::{End, at, config, expect, give_keys, mid, moment, rid, ssrc};
+use crate::ends::{End, ask_frame, at, config, expect, give_keys, mid, moment, rid, ssrc};
 use crate::leaving::leaves;
 use crate::mapped::MAPPED;
 use crate::packets::{head, is_opened, joined, seal_numbered};
@@ -138,7 +138,7 @@ fn is_brought(came: &Came, wanted: Brings, opened: &Option<Opened>, told: &Optio
     }
 }
 
-fn brings(alloc: Global, end: &mut End, came: &Came, wanted: Brings) -> bool {
+fn arrives(alloc: Global, end: &mut End, came: &Came, wanted: Brings) -> bool {
     let Some(bytes) = bytes_of(alloc, came) else {
         return false;
     };
@@ -179,19 +179,6 @@ fn rolls(end: &mut End, low: u8, roc: u32) -> bool {
     }
 }
 
-fn asks_frame(end: &mut End, low: u8) -> bool {
-    let streams = end.streams();
-    match streams.rx_place(ssrc(low)) {
-        Some(place) => {
-            streams
-                .rx_at(place)
-                .request_keyframe(KeyframeRequestKind::Fir);
-            true
-        }
-        None => false,
-    }
-}
-
 fn ticks(end: &mut End, now: Instant, plain: &[u8]) -> bool {
     let ticked = end.handle_timeout(now).is_ok();
     ticked & leaves(end, now, plain)
@@ -199,7 +186,7 @@ fn ticks(end: &mut End, now: Instant, plain: &[u8]) -> bool {
 
 fn goes(alloc: Global, end: &mut End, step: &Step) -> bool {
     match step {
-        Step::Comes(came, wanted) => brings(alloc, end, came, *wanted),
+        Step::Comes(came, wanted) => arrives(alloc, end, came, *wanted),
         Step::Has(low, place, rtx) => has(end, *low, *place, *rtx),
         Step::Lacks(low) => lacks(end, *low),
         Step::Receives(low, rtx) => {
@@ -208,7 +195,7 @@ fn goes(alloc: Global, end: &mut End, step: &Step) -> bool {
         }
         Step::Removes(low) => end.streams().remove_stream_rx(ssrc(*low)),
         Step::Rolls(low, roc) => rolls(end, *low, *roc),
-        Step::Frames(low) => asks_frame(end, *low),
+        Step::Frames(low) => ask_frame(end, *low, KeyframeRequestKind::Fir),
         Step::Ticks(now, plain) => ticks(end, at(*now), plain),
     }
 }

@@ -4,7 +4,7 @@ ghost use Rattle.rand_core.specs.Steps.{stream_of, steps_u32};
 ghost use Rattle.session_tests.specs.declared.drawn.Draws.{Draws as Drawn};
 
 use crate::carrying::{Ids, map_of};
-use crate::ends::{End, config, declare_repaired, expect, mid, ssrc};
+use crate::ends::{End, config, declare, expect, mid, ssrc};
 use mapping_core::SsrcError;
 use rand_core::utils::NextWord;
 use rand_core::{Rng, utils};
@@ -69,7 +69,7 @@ fn is_drawn(end: &mut End, numbers: [u32; 4], wanted: Option<(u32, u32)>) -> boo
 
 // Whether each pair is drawn.
 fn are_drawn(end: &mut End) -> bool {
-    let sends = declare_repaired(end, 42, (43, 0), MidRid(mid(), None));
+    let sends = declare(end, 42, Some((43, 0)), MidRid(mid(), None));
     let receives = expect(end, 50, Some(ssrc(51)), MidRid(mid(), None), false);
     let mut held = sends & receives;
     for (numbers, wanted) in PAIRS {

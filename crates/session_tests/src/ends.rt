@@ -5,7 +5,7 @@ ghost use Rattle.std.specs.Option.{ForSome};
 use mask_register::MaskRegister;
 use media_base::{Beginning, Bytes, Duration, Instant};
 use queue_store::QueueStore;
-use rtp_base::{Frequency, Mid, MidRid, Pt, Rid, SeqNo, Ssrc};
+use rtp_base::{Frequency, KeyframeRequestKind, Mid, MidRid, Pt, Rid, SeqNo, Ssrc};
 use rtp_wire::ExtensionMap;
 use session_core::{Media, MediaKind, Mtu, ReportIntervals, RtcError, Session, SessionConfig};
 use srtp_core::{KeyingMaterial, SrtpProfile, ToyCipher};
@@ -134,27 +134,36 @@ pub fn expect(end: &mut End, low: u8, rtx: Option<Ssrc>, mid_rid: MidRid, suppre
         .is_ok()
 }
 
-/// The SSRC of repairs and the number of the first, at most 2^48.
-pub fn repairs_from(low: u8, first: u64) -> Option<(Ssrc, SeqNo)>
+// The SSRC of repairs and the number of the first, at most 2^48.
+fn repairs_of(repairs: Option<(u8, u64)>) -> Option<(Ssrc, SeqNo)>
     ensures { ForSome result (λ x. x.1 ≤ 2 ^ 48) }
 {
-    let first = first.min(281_474_976_710_656);
-    Some((ssrc(low), SeqNo::from(first)))
+    match repairs {
+        Some((low, first)) => {
+            let first = first.min(281_474_976_710_656);
+            Some((ssrc(low), SeqNo::from(first)))
+        }
+        None => None,
+    }
 }
 
-/// Has an end send on an SSRC without repairs.
-pub fn declare(end: &mut End, low: u8, mid_rid: MidRid) -> bool {
-    end.streams()
-        .declare_stream_tx(ssrc(low), None, mid_rid)
-        .is_ok()
-}
-
-/// Has an end send on an SSRC, with repairs on another from a number on.
-pub fn declare_repaired(end: &mut End, low: u8, repairs: (u8, u64), mid_rid: MidRid) -> bool {
-    let repairs = repairs_from(repairs.0, repairs.1);
+/// Has an end send on an SSRC, with repairs on another from a number on, or without repairs.
+pub fn declare(end: &mut End, low: u8, repairs: Option<(u8, u64)>, mid_rid: MidRid) -> bool {
+    let repairs = repairs_of(repairs);
     end.streams()
         .declare_stream_tx(ssrc(low), repairs, mid_rid)
         .is_ok()
+}
+
+/// Has an end send what it sends on an SSRC under another one, which it does not use yet, with repairs on a
+/// third from a number on, or without repairs.
+pub fn reset(end: &mut End, low: u8, other: u8, repairs: Option<(u8, u64)>) -> bool {
+    let repairs = repairs_of(repairs);
+    let streams = end.streams();
+    if streams.tx_place(ssrc(other)).is_some() {
+        return false;
+    }
+    streams.reset_ssrc(ssrc(low), ssrc(other), repairs).is_ok()
 }
 
 /// Writes a packet on the stream of this SSRC; whether there is one.
@@ -166,10 +175,20 @@ pub fn put(end: &mut End, low: u8, write: RtpWrite) -> bool {
     }
 }
 
+/// Has the stream that receives on an SSRC ask for a key frame; whether there is one.
+pub fn ask_frame(end: &mut End, low: u8, kind: KeyframeRequestKind) -> bool {
+    let streams = end.streams();
+    let Some(place) = streams.rx_place(ssrc(low)) else {
+        return false;
+    };
+    streams.rx_at(place).request_keyframe(kind);
+    true
+}
+
 /// Has a fresh end send on SSRC 42.
 pub fn prepare_sender(alloc: Global, end: &mut End) -> bool {
     let added = add_section(alloc, end, mid(), MediaKind::Video, b"cam");
-    let declared = declare(end, 42, MidRid(mid(), Some(rid())));
+    let declared = declare(end, 42, None, MidRid(mid(), Some(rid())));
     added && declared
 }
 

@@ -116,16 +116,20 @@ fn opens_clear(b: &mut End) -> bool {
     answers == [true, false, false, false, false, false]
 }
 
-// The sender hears the report, and its next packet has no mid.
-fn is_acknowledged(alloc: Global, a: &mut End) -> bool {
+/// Has a sender hear a report of its SSRC, which acknowledges it; whether that opens and nothing is told.
+pub fn acknowledge(alloc: Global, a: &mut End) -> bool {
     let Some(report) = seal_rtcp(alloc, &REPORT, false) else {
         return false;
     };
     let opened = opens(a, report.as_slice(), 7);
-    let untold = a.poll_event().is_none();
+    opened & a.poll_event().is_none()
+}
+
+// The sender hears the report, and its next packet has no mid.
+fn is_acknowledged(alloc: Global, a: &mut End) -> bool {
+    let heard = acknowledge(alloc, a);
     let written = write(alloc, a, 1, ExtensionValues::none());
-    let sent = sends(a, &SEALED);
-    opened & untold & written & sent
+    heard & written & sends(a, &SEALED)
 }
 
 fn is_cleared(alloc: Global, a: &mut End) -> bool {

@@ -66,7 +66,9 @@ fn context(alloc: Global, left: bool) -> Option<SrtpContext<ToyCipher>> {
 
 /// Seals a packet of this number as the sender does, if it begins with the low 16 bits of the number.
 pub fn seal_numbered(alloc: Global, plain: &[u8], number: u64) -> Option<Vec<u8>> {
-    let header = RtpHeader::parse(plain, &ExtensionMap::empty())?;
+    let Some(header) = RtpHeader::parse(plain, &ExtensionMap::empty()) else {
+        return None;
+    };
     if header.header_len > plain.len() || number >= 1 << 48 {
         return None;
     }
@@ -151,7 +153,7 @@ pub fn bytes_of(alloc: Global, incoming: Incoming) -> Option<Vec<u8>> {
         }
         Incoming::Long(len) => {
             let zeros = [0; 2000];
-            let behind = &zeros[..len.clamp(30, 2030) - 30];
+            let behind = &zeros[..len.saturating_sub(30).min(2000)];
             let packet = joined(alloc, &[&PACKET, behind])?;
             seal(alloc, packet.as_slice())
         }

@@ -1,9 +1,8 @@
-use crate::arriving::is_pause;
 use crate::ends::{End, at, declare, ended_with, expect, mid, put, rid, ssrc};
 use crate::feedback::{FEEDBACK, queue_one};
 use crate::leaving::leaves;
 use crate::packets::{hears, joined, opens, opens_rtcp, packet_of};
-use crate::telling::{Told, drains, tells};
+use crate::telling::{Told, drains, is_pause, tells};
 use mask_register::MaskRegister;
 use media_base::{Duration, Instant};
 use rtp_base::{MidRid, Pt, SeqNo};
@@ -149,7 +148,7 @@ pub fn goes(alloc: Global, end: &mut End, step: Step) -> bool {
     let way = MidRid(mid(), Some(rid()));
     match step {
         Step::Expect(low, suppress) => expect(end, low, None, way, suppress),
-        Step::Declare(low) => declare(end, low, way),
+        Step::Declare(low) => declare(end, low, None, way),
         Step::Writes => writes(alloc, end),
         Step::Queues => queue_one(alloc, end),
         Step::Comes(now, low, number) => comes(alloc, end, now, low, number),

@@ -1,9 +1,9 @@
 //! What an end tells.
-use crate::arriving::is_pause;
-use crate::ends::{End, at, rid, ssrc};
+use crate::ends::{End, at, mid, rid, ssrc};
 use crate::feedback::is_words;
 use rtp_base::{KeyframeRequestKind, Mid, SeqNo};
 use session_core::Event;
+use stream_core::StreamPaused;
 
 /// An event. A media section is named by the letter of its mid; its streams are those of the rid hi.
 #[derive(Clone, Copy)]
@@ -28,7 +28,7 @@ pub enum Told {
 pub fn mid_of(letter: u8) -> Mid {
     match Mid::from_slice(&[letter]) {
         Some(mid) => mid,
-        None => unreachable!(),
+        None => mid(),
     }
 }
 
@@ -64,7 +64,19 @@ fn is_rate(event: &Event, letter: u8, rate: u64) -> bool {
     }
 }
 
-fn is_paused(event: &Event, low: u8, paused: bool) -> bool {
+/// Whether it is told that the stream of this SSRC, of the media section v, was paused, or unpaused.
+pub fn is_pause(told: &StreamPaused, low: u8, paused: bool) -> bool {
+    let wanted = StreamPaused {
+        ssrc: ssrc(low),
+        mid: mid(),
+        rid: Some(rid()),
+        paused,
+    };
+    *told == wanted
+}
+
+/// Whether an event tells so.
+pub fn is_paused(event: &Event, low: u8, paused: bool) -> bool {
     match event {
         Event::StreamPaused(told) => is_pause(told, low, paused),
         _ => false,

@@ -1,8 +1,7 @@
 //! What is done with two ends, of which one sends with repairs (RFC 4588).
 use crate::carrying::Ids;
 use crate::ends::{
-    End, add_section, at, declare, declare_repaired, ended_with, expect_stream, give_keys, mid,
-    put, repairs_from, rid, ssrc,
+    End, add_section, at, declare, ended_with, expect_stream, give_keys, mid, put, reset, rid, ssrc,
 };
 use crate::leaving::next;
 use crate::packets::{head, hears, joined, opens, opens_rtcp};
@@ -150,19 +149,17 @@ fn keeps(end: &mut End, packets: usize, age: u64, cap: Option<u32>) -> bool {
         .is_ok()
 }
 
+// The SSRC of repairs of a stream: the next one; and the number of the first.
+fn repairs_of(low: u8, first: u64) -> Option<(u8, u64)> {
+    Some((low.saturating_add(1), first))
+}
+
 fn resets(end: &mut End, low: u8, other: u8, first: Option<u64>) -> bool {
-    let streams = end.streams();
-    if streams.tx_place(ssrc(other)).is_some() {
-        return false;
-    }
-    let reset = match first {
-        Some(first) => {
-            let repairs = repairs_from(other.saturating_add(1), first);
-            streams.reset_ssrc(ssrc(low), ssrc(other), repairs)
-        }
-        None => streams.reset_ssrc(ssrc(low), ssrc(other), None),
+    let repairs = match first {
+        Some(first) => repairs_of(other, first),
+        None => None,
     };
-    reset.is_ok()
+    reset(end, low, other, repairs)
 }
 
 // What a packet is written with: values that are the sender's to give, and that do not leave.
@@ -331,10 +328,9 @@ fn ends_at_once(alloc: Global, end: &mut End, now: Instant) -> bool {
 fn streams_go(alloc: Global, end: &mut End, step: Step) -> bool {
     let way = MidRid(mid(), Some(rid()));
     match step {
-        Step::Declares(low) => declare(end, low, way),
-        Step::Repairs(low, first) => {
-            declare_repaired(end, low, (low.saturating_add(1), first), way)
-        }
+        Step::Declares(low) => declare(end, low, None, way),
+        Step::Repairs(low, first) => declare(end, low, repairs_of(low, first), way),
+
         Step::Resets(low, other, first) => resets(end, low, other, first),
         Step::Keeps(packets, age, cap) => keeps(end, packets, age, cap),
         Step::Writes(low, number, bytes) => writes(alloc, end, low, number, bytes),
@@ -365,7 +361,7 @@ fn goes(alloc: Global, end: &mut End, peer: &mut End, step: Step) -> bool {
 // Has an end send on SSRC 42, with repairs on SSRC 43 from a number on, and a peer receive on SSRC 42.
 fn prepare(alloc: Global, end: &mut End, peer: &mut End, first: u64) -> bool {
     let added = add_section(alloc, end, mid(), MediaKind::Video, b"cam");
-    let declared = declare_repaired(end, 42, (43, first), MidRid(mid(), Some(rid())));
+    let declared = declare(end, 42, Some((43, first)), MidRid(mid(), Some(rid())));
     let expected = expect_stream(peer);
     let keyed = give_keys(alloc, end, false);
     added & declared & expected & keyed & give_keys(alloc, peer, true)

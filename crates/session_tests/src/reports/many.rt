@@ -26,7 +26,7 @@ fn report_of(low: u8, second: u8) -> [u8; 44] {
 fn declare_64(end: &mut End, reports: &mut Vec<u8>) -> bool {
     let mut held = true;
     for low in 1..65 {
-        held &= declare(end, low, way(b'v'));
+        held &= declare(end, low, None, way(b'v'));
         held &= reports.extend_from_slice(&report_of(low, 1)).is_ok();
     }
     held
@@ -114,7 +114,7 @@ fn answers(alloc: Global, end: &mut End, second: u8, first: u16, count: u16) -> 
 /// Whether the reports of an end from 2 s on answer the moments of receivers.
 pub fn answers_all(alloc: Global, end: &mut End, receivers: Receivers) -> bool {
     let added = add_section(alloc, end, mid(), MediaKind::Video, b"cam");
-    let declared = declare(end, 42, way(b'v'));
+    let declared = declare(end, 42, None, way(b'v'));
     let ticked = end.handle_timeout(at(1)).is_ok();
     let mut held = added & declared & ticked & hears_moments(alloc, end, receivers.0);
     let mut second = 2;

@@ -19,9 +19,9 @@ fn report_of(alloc: Global, name: &[u8]) -> Option<Vec<u8>> {
     }
     let len = (name.len() % 256) as u8;
     let [high, low] = ((u16::from(len) + 2) / 4 + 2).to_be_bytes();
-    let zeros = &[0; 4][..4 - (usize::from(len) + 2) % 4];
+    let zeros = 4 - (usize::from(len) + 2) % 4;
     let head = [0x81, 0xca, high, low, 0, 0, 0, 42, 1, len];
-    joined(alloc, &[&REPORT, &head, name, zeros])
+    joined(alloc, &[&REPORT, &head, name, &[0; 4][..zeros.min(4)]])
 }
 
 /// Whether an end reports on a stream whose source has a name of so many letters, at most 256, and names it
@@ -29,7 +29,7 @@ fn report_of(alloc: Global, name: &[u8]) -> Option<Vec<u8>> {
 pub fn names_itself(alloc: Global, end: &mut End, len: usize) -> bool {
     let name = &[b'a'; 256][..len.min(256)];
     let added = add_section(alloc, end, mid(), MediaKind::Video, name);
-    let declared = declare(end, 42, way(b'v'));
+    let declared = declare(end, 42, None, way(b'v'));
     let first = end.handle_timeout(at(1)).is_ok();
     let then = end.handle_timeout(at(1_000_000_000)).is_ok();
     let Some(wanted) = report_of(alloc, name) else {

@@ -1,9 +1,9 @@
 //! What streams ask of their senders: a key frame by PLI (RFC 4585 section 6.3.1) or FIR (RFC 5104 section
 //! 4.3.1.1), and a rate by REMB (draft-alvestrand-rmcat-remb section 2.2). SSRC 2, that of an end while it
 //! sends nothing, asks on SSRC 42.
-use crate::ends::{End, at};
+use crate::ends::{End, ask_frame, at};
 use crate::reports::steps::Step::{Asks, Comes, Expects, Frames, Rates, Seals, Tick, Wakes};
-use crate::reports::steps::{Row, ask_frame, ticks};
+use crate::reports::steps::{Row, ticks};
 use rtp_base::KeyframeRequestKind::{Fir, Pli};
 
 const PICTURE: &[u8] = &[0x81, 0xce, 0, 2, 0, 0, 0, 2, 0, 0, 0, 42];

@@ -1,5 +1,5 @@
 //! What is done with an end that reports.
-use crate::ends::{End, add_section, at, declare, declare_repaired, expect, put, rid, ssrc};
+use crate::ends::{End, add_section, ask_frame, at, declare, expect, put, reset, rid, ssrc};
 use crate::leaving::{is_next, is_silent, next};
 use crate::packets::{head, hears, joined, opens, seal_numbered};
 use crate::telling::{Told, drains, mid_of, tells};
@@ -66,11 +66,8 @@ fn rtx_of(low: u8) -> Option<Ssrc> {
 }
 
 fn sends(end: &mut End, low: u8, rtx: u8, letter: u8) -> bool {
-    if rtx == 0 {
-        declare(end, low, way(letter))
-    } else {
-        declare_repaired(end, low, (rtx, 1), way(letter))
-    }
+    let repairs = if rtx == 0 { None } else { Some((rtx, 1)) };
+    declare(end, low, repairs, way(letter))
 }
 
 fn writes(alloc: Global, end: &mut End, low: u8, time: u32, moment: u64) -> bool {
@@ -79,16 +76,6 @@ fn writes(alloc: Global, end: &mut End, low: u8, time: u32, moment: u64) -> bool
     };
     let write = RtpWrite::new(Pt::from(96), SeqNo::from(1), time, at(moment), payload);
     put(end, low, write)
-}
-
-/// Has the stream that receives on an SSRC ask for a key frame; whether there is one.
-pub fn ask_frame(end: &mut End, low: u8, kind: KeyframeRequestKind) -> bool {
-    let streams = end.streams();
-    let Some(place) = streams.rx_place(ssrc(low)) else {
-        return false;
-    };
-    streams.rx_at(place).request_keyframe(kind);
-    true
 }
 
 fn tell_rate(end: &mut End, low: u8, rate: u64) -> bool {
@@ -108,14 +95,6 @@ fn moves(end: &mut End, low: u8, other: u8) -> bool {
     end.streams()
         .take_up(ssrc(other), &Mapping::NewMain(change))
         .is_ok()
-}
-
-fn resets(end: &mut End, low: u8, other: u8) -> bool {
-    let streams = end.streams();
-    if streams.tx_place(ssrc(other)).is_some() {
-        return false;
-    }
-    streams.reset_ssrc(ssrc(low), ssrc(other), None).is_ok()
 }
 
 fn is_timed(end: &mut End, low: u8, time: Option<u64>) -> bool {
@@ -195,7 +174,7 @@ fn streams_go(alloc: Global, end: &mut End, step: Step) -> bool {
         Step::Frames(low, kind) => ask_frame(end, low, kind),
         Step::Rates(low, rate) => tell_rate(end, low, rate),
         Step::Moves(low, other) => moves(end, low, other),
-        Step::Resets(low, other) => resets(end, low, other),
+        Step::Resets(low, other) => reset(end, low, other, None),
         Step::Timed(low, time) => is_timed(end, low, time),
         _ => false,
     }
