@@ -1,3 +1,4 @@
+use crate::calls::{event, receive};
 use crate::ends::{End, moment};
 use crate::packets::is_opened;
 use crate::telling::is_paused;
@@ -33,7 +34,7 @@ fn tells_unpaused(end: &mut End, unpauses: bool) -> bool {
     if !unpauses {
         return true;
     }
-    match end.poll_event() {
+    match event(end) {
         Some(event) => is_paused(&event, 42, false),
         None => false,
     }
@@ -55,20 +56,20 @@ fn is_told(wanted: &Wanted<'_>, told: &Option<Event>) -> bool {
 /// Whether bytes that come open, and nothing but this packet is told, once, behind the stream that it
 /// unpauses.
 pub fn tells(end: &mut End, bytes: &[u8], wanted: &Wanted<'_>) -> bool {
-    let Ok(opened) = end.handle_rtp_receive(moment(), bytes) else {
+    let Ok(opened) = receive(end, moment(), bytes) else {
         return false;
     };
     let right = is_opened(&opened, Kind::Rtp, 42, wanted.number);
     let before = tells_unpaused(end, wanted.unpauses);
-    let told = is_told(wanted, &end.poll_event());
-    right & before & told & end.poll_event().is_none()
+    let told = is_told(wanted, &event(end));
+    right & before & told & event(end).is_none()
 }
 
 /// Whether bytes that come open nothing, and nothing is told.
 pub fn refuses(end: &mut End, bytes: &[u8]) -> bool {
-    let refused = match end.handle_rtp_receive(moment(), bytes) {
+    let refused = match receive(end, moment(), bytes) {
         Ok(opened) => opened.is_none(),
         Err(_) => false,
     };
-    refused & end.poll_event().is_none()
+    refused & event(end).is_none()
 }

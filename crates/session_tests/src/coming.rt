@@ -1,4 +1,5 @@
 //! Datagrams that come to an end which receives: what opens, what is told, and which streams stand then.
+use crate::calls::{event, receive, streams, tick};
 use crate::carrying::{Ids, map_of};
 use crate::ends::{End, ask_frame, at, config, expect, give_keys, mid, moment, rid, ssrc};
 use crate::leaving::leaves;
@@ -108,8 +109,8 @@ fn bytes_of(alloc: Global, came: &Came) -> Option<Vec<u8>> {
 
 // The packet that is told next, behind what is told of a pause.
 fn next_packet(end: &mut End) -> Option<Event> {
-    match end.poll_event() {
-        Some(Event::StreamPaused(_)) => end.poll_event(),
+    match event(end) {
+        Some(Event::StreamPaused(_)) => event(end),
         told => told,
     }
 }
@@ -142,16 +143,16 @@ fn arrives(alloc: Global, end: &mut End, came: &Came, wanted: Brings) -> bool {
     let Some(bytes) = bytes_of(alloc, came) else {
         return false;
     };
-    let Ok(opened) = end.handle_rtp_receive(moment(), bytes.as_slice()) else {
+    let Ok(opened) = receive(end, moment(), bytes.as_slice()) else {
         return false;
     };
     let right = is_brought(came, wanted, &opened, &next_packet(end));
-    right & end.poll_event().is_none()
+    right & event(end).is_none()
 }
 
 // Whether a stream stands so.
 fn has(end: &mut End, low: u8, place: usize, rtx: u8) -> bool {
-    let streams = end.streams();
+    let streams = streams(end);
     let Some(found) = streams.rx_place(ssrc(low)) else {
         return false;
     };
@@ -164,12 +165,12 @@ fn has(end: &mut End, low: u8, place: usize, rtx: u8) -> bool {
 }
 
 fn lacks(end: &mut End, low: u8) -> bool {
-    let streams = end.streams();
+    let streams = streams(end);
     streams.rx_place(ssrc(low)).is_none() & streams.original(ssrc(low)).is_none()
 }
 
 fn rolls(end: &mut End, low: u8, roc: u32) -> bool {
-    let streams = end.streams();
+    let streams = streams(end);
     match streams.rx_place(ssrc(low)) {
         Some(place) => {
             streams.rx_at(place).reset_roc(roc);
@@ -180,7 +181,7 @@ fn rolls(end: &mut End, low: u8, roc: u32) -> bool {
 }
 
 fn ticks(end: &mut End, now: Instant, plain: &[u8]) -> bool {
-    let ticked = end.handle_timeout(now).is_ok();
+    let ticked = tick(end, now).is_ok();
     ticked & leaves(end, now, plain)
 }
 
@@ -193,7 +194,7 @@ fn goes(alloc: Global, end: &mut End, step: &Step) -> bool {
             let mid_rid = MidRid(mid(), Some(rid()));
             expect(end, *low, Some(ssrc(*rtx)), mid_rid, false)
         }
-        Step::Removes(low) => end.streams().remove_stream_rx(ssrc(*low)),
+        Step::Removes(low) => streams(end).remove_stream_rx(ssrc(*low)),
         Step::Rolls(low, roc) => rolls(end, *low, *roc),
         Step::Frames(low) => ask_frame(end, *low, KeyframeRequestKind::Fir),
         Step::Ticks(now, plain) => ticks(end, at(*now), plain),

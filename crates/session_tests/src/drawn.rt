@@ -3,6 +3,7 @@ ghost use Rattle.std.specs.Prelude.{◌+◌, ◌%◌, slice_index};
 ghost use Rattle.rand_core.specs.Steps.{stream_of, steps_u32};
 ghost use Rattle.session_tests.specs.declared.drawn.Draws.{Draws as Drawn};
 
+use crate::calls::streams;
 use crate::carrying::{Ids, map_of};
 use crate::ends::{End, config, declare, expect, mid, ssrc};
 use mapping_core::SsrcError;
@@ -60,7 +61,7 @@ const PAIRS: [([u32; 4], Option<(u32, u32)>); 8] = [
 
 fn is_drawn(end: &mut End, numbers: [u32; 4], wanted: Option<(u32, u32)>) -> bool {
     let mut draws = Draws { numbers, at: 0 };
-    let pair = end.streams().new_ssrc_pair(&mut draws);
+    let pair = streams(end).new_ssrc_pair(&mut draws);
     match wanted {
         Some((first, rtx)) => pair == Ok((Ssrc::from(first), Ssrc::from(rtx))),
         None => pair == Err(SsrcError::NoFreeSsrc),

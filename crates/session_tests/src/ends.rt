@@ -2,6 +2,7 @@
 ghost use Rattle.std.specs.Prelude.{◌≤◌, ◌^◌, IfSome};
 ghost use Rattle.std.specs.Option.{ForSome};
 
+use crate::calls::streams;
 use mask_register::MaskRegister;
 use media_base::{Beginning, Bytes, Duration, Instant};
 use queue_store::QueueStore;
@@ -129,7 +130,7 @@ pub fn add_section(alloc: Global, end: &mut End, mid: Mid, kind: MediaKind, cnam
 
 /// Has an end receive on an SSRC, with repairs on another. It asks for what is missing, or does not.
 pub fn expect(end: &mut End, low: u8, rtx: Option<Ssrc>, mid_rid: MidRid, suppress: bool) -> bool {
-    end.streams()
+    streams(end)
         .expect_stream_rx(ssrc(low), rtx, mid_rid, suppress)
         .is_ok()
 }
@@ -150,7 +151,7 @@ fn repairs_of(repairs: Option<(u8, u64)>) -> Option<(Ssrc, SeqNo)>
 /// Has an end send on an SSRC, with repairs on another from a number on, or without repairs.
 pub fn declare(end: &mut End, low: u8, repairs: Option<(u8, u64)>, mid_rid: MidRid) -> bool {
     let repairs = repairs_of(repairs);
-    end.streams()
+    streams(end)
         .declare_stream_tx(ssrc(low), repairs, mid_rid)
         .is_ok()
 }
@@ -159,7 +160,7 @@ pub fn declare(end: &mut End, low: u8, repairs: Option<(u8, u64)>, mid_rid: MidR
 /// third from a number on, or without repairs.
 pub fn reset(end: &mut End, low: u8, other: u8, repairs: Option<(u8, u64)>) -> bool {
     let repairs = repairs_of(repairs);
-    let streams = end.streams();
+    let streams = streams(end);
     if streams.tx_place(ssrc(other)).is_some() {
         return false;
     }
@@ -168,7 +169,7 @@ pub fn reset(end: &mut End, low: u8, other: u8, repairs: Option<(u8, u64)>) -> b
 
 /// Writes a packet on the stream of this SSRC; whether there is one.
 pub fn put(end: &mut End, low: u8, write: RtpWrite) -> bool {
-    let streams = end.streams();
+    let streams = streams(end);
     match streams.tx_place(ssrc(low)) {
         Some(place) => streams.tx_at(place).write_rtp(write).is_ok(),
         None => false,
@@ -177,7 +178,7 @@ pub fn put(end: &mut End, low: u8, write: RtpWrite) -> bool {
 
 /// Has the stream that receives on an SSRC ask for a key frame; whether there is one.
 pub fn ask_frame(end: &mut End, low: u8, kind: KeyframeRequestKind) -> bool {
-    let streams = end.streams();
+    let streams = streams(end);
     let Some(place) = streams.rx_place(ssrc(low)) else {
         return false;
     };

@@ -1,3 +1,4 @@
+use crate::calls::{event, poll, receive_rtcp};
 use crate::ends::{BEFORE_TOLD, End, ended_with, give_keys, moment};
 use crate::leaving::{drains, is_silent, next, sends, write};
 use crate::packets::{SEALED, is_opened, seal_rtcp};
@@ -79,11 +80,11 @@ pub fn is_words(event: &Event) -> bool {
 // Whether `FEEDBACK` opens, and its words are told once.
 fn tells_words(end: &mut End) -> bool {
     let opened = opens(end, &FEEDBACK, 1);
-    let told = match end.poll_event() {
+    let told = match event(end) {
         Some(event) => is_words(&event),
         None => false,
     };
-    opened & told & end.poll_event().is_none()
+    opened & told & event(end).is_none()
 }
 
 fn is_exchanged(alloc: Global, a: &mut End, b: &mut End) -> bool {
@@ -96,7 +97,7 @@ fn is_exchanged(alloc: Global, a: &mut End, b: &mut End) -> bool {
 
 // Whether bytes open as RTCP of this SSRC, under the index 0.
 fn opens(end: &mut End, bytes: &[u8], low: u8) -> bool {
-    match end.handle_rtcp_receive(moment(), bytes) {
+    match receive_rtcp(end, moment(), bytes) {
         Ok(opened) => is_opened(&opened, Kind::Rtcp, low, 0),
         Err(_) => false,
     }
@@ -122,7 +123,7 @@ pub fn acknowledge(alloc: Global, a: &mut End) -> bool {
         return false;
     };
     let opened = opens(a, report.as_slice(), 7);
-    opened & a.poll_event().is_none()
+    opened & event(a).is_none()
 }
 
 // The sender hears the report, and its next packet has no mid.
@@ -189,8 +190,8 @@ fn ends_at_last_index(alloc: Global, a: &mut End) -> bool {
     };
     let second = queue_one(alloc, a);
     let exhausted = RtcError::KeyExhausted(Counter::Rtcp);
-    let ended = ended_with(&a.poll_datagram(moment()), &exhausted);
-    let stopped = ended_with(&a.poll_datagram(moment()), &RtcError::Stopped);
+    let ended = ended_with(&poll(a, moment()), &exhausted);
+    let stopped = ended_with(&poll(a, moment()), &RtcError::Stopped);
     first & sealed & second & ended & stopped
 }
 

@@ -1,3 +1,4 @@
+use crate::calls::{drain, poll, tick};
 use crate::ends::{End, at, moment, put};
 use media_base::Instant;
 use rtp_base::{Kind, Pt, SeqNo};
@@ -13,12 +14,12 @@ pub fn write(alloc: Global, end: &mut End, number: u64, values: ExtensionValues)
     };
     let write = RtpWrite::new(Pt::from(96), SeqNo::from(number), 0, moment(), payload);
     let written = put(end, 42, write.ext_vals(values));
-    written & end.handle_timeout(moment()).is_ok()
+    written & tick(end, moment()).is_ok()
 }
 
 /// The datagram that leaves next at a moment.
 pub fn next(end: &mut End, now: Instant) -> Option<Datagram> {
-    match end.poll_datagram(now) {
+    match poll(end, now) {
         Ok(sent) => sent,
         Err(_) => None,
     }
@@ -49,7 +50,7 @@ pub fn leaves(end: &mut End, now: Instant, plain: &[u8]) -> bool {
 
 /// Whether nothing leaves at this moment.
 pub fn is_silent(end: &mut End, now: Instant) -> bool {
-    match end.poll_datagram(now) {
+    match poll(end, now) {
         Ok(sent) => sent.is_none(),
         Err(_) => false,
     }
@@ -57,7 +58,7 @@ pub fn is_silent(end: &mut End, now: Instant) -> bool {
 
 /// Whether a drain gives the datagram with these bytes alone, and this wake in nanoseconds.
 pub fn drains(end: &mut End, bytes: &[u8], wake: u64) -> bool {
-    let Ok(drained) = end.drain(moment()) else {
+    let Ok(drained) = drain(end, moment()) else {
         return false;
     };
     let sent = match drained.datagrams.as_slice() {

@@ -1,4 +1,5 @@
 //! Datagrams that come, sealed as a peer does.
+use crate::calls::{receive, receive_rtcp};
 use crate::ends::{End, ssrc};
 use media_base::Instant;
 use rtp_base::{Kind, SeqNo};
@@ -107,7 +108,7 @@ pub fn seal_rtcp(alloc: Global, plain: &[u8], left: bool) -> Option<Vec<u8>> {
 
 /// Whether bytes of RTP that come open.
 pub fn opens(end: &mut End, now: Instant, bytes: &[u8]) -> bool {
-    match end.handle_rtp_receive(now, bytes) {
+    match receive(end, now, bytes) {
         Ok(opened) => opened.is_some(),
         Err(_) => false,
     }
@@ -123,7 +124,7 @@ pub fn hears(alloc: Global, end: &mut End, now: Instant, plain: &[u8]) -> bool {
 
 /// Whether bytes of RTCP that come open.
 pub fn opens_rtcp(end: &mut End, now: Instant, bytes: &[u8]) -> bool {
-    match end.handle_rtcp_receive(now, bytes) {
+    match receive_rtcp(end, now, bytes) {
         Ok(opened) => opened.is_some(),
         Err(_) => false,
     }

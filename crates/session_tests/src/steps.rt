@@ -1,3 +1,4 @@
+use crate::calls::{poll, streams, tick};
 use crate::ends::{End, at, declare, ended_with, expect, mid, put, rid, ssrc};
 use crate::feedback::{FEEDBACK, queue_one};
 use crate::leaving::leaves;
@@ -93,7 +94,7 @@ fn hears_delays(alloc: Global, end: &mut End, now: u64, items: &[&[u8]]) -> bool
 
 // A tick; whether these plain bytes leave then as feedback, and nothing else.
 fn ticks(end: &mut End, now: Instant, plain: &[u8]) -> bool {
-    let ticked = end.handle_timeout(now).is_ok();
+    let ticked = tick(end, now).is_ok();
     ticked & leaves(end, now, plain)
 }
 
@@ -129,17 +130,17 @@ fn answers(stream: &mut StreamRx<MaskRegister>, first: First) -> bool {
 }
 
 fn first_answers(end: &mut End, first: First) -> bool {
-    if end.streams().rx_len() == 0 {
+    if streams(end).rx_len() == 0 {
         return false;
     }
-    answers(end.streams().rx_at(0), first)
+    answers(streams(end).rx_at(0), first)
 }
 
 fn ends(end: &mut End, now: Instant) -> bool {
-    let ticked = end.handle_timeout(now).is_ok();
+    let ticked = tick(end, now).is_ok();
     let exhausted = RtcError::KeyExhausted(Counter::Rtcp);
-    let ended = ended_with(&end.poll_datagram(now), &exhausted);
-    let stopped = ended_with(&end.handle_timeout(now), &RtcError::Stopped);
+    let ended = ended_with(&poll(end, now), &exhausted);
+    let stopped = ended_with(&tick(end, now), &RtcError::Stopped);
     ticked & ended & stopped
 }
 

@@ -1,4 +1,5 @@
 use crate::arriving::{Wanted, first_packet, refuses, tells};
+use crate::calls::streams;
 use crate::carrying::{EXTENSIONS, Ids, carries, map_of};
 use crate::ends::{End, FIRST_REPORT, config, expect_stream, give_keys, moment, prepare_sender};
 use crate::feedback::{Feedback, holds};
@@ -112,7 +113,7 @@ fn waits_to_send(alloc: Global, a: &mut End) -> bool {
 
 fn stops_sending(alloc: Global, a: &mut End) -> bool {
     let written = has_written(alloc, a);
-    let removed = a.streams().remove_stream_tx(Ssrc::from(42));
+    let removed = streams(a).remove_stream_tx(Ssrc::from(42));
     written & removed & is_silent(a, moment())
 }
 
@@ -159,7 +160,7 @@ fn waits_for_keys(alloc: Global, b: &mut End) -> bool {
 
 fn stops_receiving(alloc: Global, b: &mut End) -> bool {
     let keyed = give_keys(alloc, b, false);
-    let removed = b.streams().remove_stream_rx(Ssrc::from(42));
+    let removed = streams(b).remove_stream_rx(Ssrc::from(42));
     let without_stream = refuses(b, &SEALED);
     let expected = expect_stream(b);
     keyed & removed & without_stream & expected & tells_first(b)

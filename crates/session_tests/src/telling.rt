@@ -1,4 +1,5 @@
 //! What an end tells.
+use crate::calls::{drain, event};
 use crate::ends::{End, at, mid, rid, ssrc};
 use crate::feedback::is_words;
 use rtp_base::{KeyframeRequestKind, Mid, SeqNo};
@@ -107,7 +108,7 @@ fn is_told(wanted: Told, event: &Event) -> bool {
 }
 
 fn tells_next(end: &mut End, wanted: Told) -> bool {
-    match end.poll_event() {
+    match event(end) {
         Some(event) => is_told(wanted, &event),
         None => false,
     }
@@ -119,7 +120,7 @@ pub fn tells(end: &mut End, all: &[Told]) -> bool {
     for wanted in all {
         held &= tells_next(end, *wanted);
     }
-    held & end.poll_event().is_none()
+    held & event(end).is_none()
 }
 
 fn are_told(all: &[Told], events: &[Event]) -> bool {
@@ -132,11 +133,11 @@ fn are_told(all: &[Told], events: &[Event]) -> bool {
 
 /// Whether a drain at a moment tells this in order, and the next drain nothing.
 pub fn drains(end: &mut End, now: u64, all: &[Told]) -> bool {
-    let Ok(first) = end.drain(at(now)) else {
+    let Ok(first) = drain(end, at(now)) else {
         return false;
     };
     let told = are_told(all, first.events.as_slice());
-    match end.drain(at(now)) {
+    match drain(end, at(now)) {
         Ok(next) => told & next.events.is_empty(),
         Err(_) => false,
     }

@@ -1,4 +1,5 @@
 //! What is done with two ends, of which one sends with repairs (RFC 4588).
+use crate::calls::{drain, poll, receive_rtcp, streams, tick};
 use crate::carrying::Ids;
 use crate::ends::{
     End, add_section, at, declare, ended_with, expect_stream, give_keys, mid, put, reset, rid, ssrc,
@@ -144,7 +145,7 @@ fn are_sent(alloc: Global, outs: &[Out], datagrams: &[Datagram]) -> bool {
 
 fn keeps(end: &mut End, packets: usize, age: u64, cap: Option<u32>) -> bool {
     let age = Duration::from_nanos(age);
-    end.streams()
+    streams(end)
         .set_rtx_cache(ssrc(42), packets, age, cap)
         .is_ok()
 }
@@ -198,14 +199,14 @@ fn writes_as(
 
 // Whether a drain gives exactly this.
 fn drains(alloc: Global, end: &mut End, now: Instant, outs: &[Out]) -> bool {
-    let Ok(drained) = end.drain(now) else {
+    let Ok(drained) = drain(end, now) else {
         return false;
     };
     are_sent(alloc, outs, drained.datagrams.as_slice())
 }
 
 fn ticks(alloc: Global, end: &mut End, now: Instant, outs: &[Out]) -> bool {
-    let ticked = end.handle_timeout(now).is_ok();
+    let ticked = tick(end, now).is_ok();
     ticked & drains(alloc, end, now, outs)
 }
 
@@ -237,8 +238,8 @@ fn writes_many(alloc: Global, end: &mut End, from: u64, to: u64) -> bool {
 
 fn sends_many(alloc: Global, end: &mut End, now: Instant, from: u64, to: u64) -> bool {
     let written = writes_many(alloc, end, from, to);
-    let ticked = end.handle_timeout(now).is_ok();
-    let Ok(drained) = end.drain(now) else {
+    let ticked = tick(end, now).is_ok();
+    let Ok(drained) = drain(end, now) else {
         return false;
     };
     written & ticked & are_numbered(drained.datagrams.as_slice(), from, to)
@@ -270,8 +271,8 @@ fn loses(
     lost: u64,
     outs: &[Out],
 ) -> bool {
-    let ticked = end.handle_timeout(now).is_ok();
-    let Ok(drained) = end.drain(now) else {
+    let ticked = tick(end, now).is_ok();
+    let Ok(drained) = drain(end, now) else {
         return false;
     };
     let sent = are_sent(alloc, outs, drained.datagrams.as_slice());
@@ -279,7 +280,7 @@ fn loses(
 }
 
 fn peer_asks(end: &mut End, peer: &mut End, now: Instant, plain: &[u8]) -> bool {
-    let ticked = peer.handle_timeout(now).is_ok();
+    let ticked = tick(peer, now).is_ok();
     let Some(sent) = next(peer, now) else {
         return false;
     };
@@ -289,7 +290,7 @@ fn peer_asks(end: &mut End, peer: &mut End, now: Instant, plain: &[u8]) -> bool 
 
 // Whether a drain ends with this error, behind exactly this.
 fn drain_ends(alloc: Global, end: &mut End, now: Instant, error: RtcError, outs: &[Out]) -> bool {
-    match end.drain(now) {
+    match drain(end, now) {
         Err(fault) => {
             let sent = are_sent(alloc, outs, fault.sofar.datagrams.as_slice());
             sent & (fault.error == error)
@@ -301,9 +302,9 @@ fn drain_ends(alloc: Global, end: &mut End, now: Instant, error: RtcError, outs:
 // Whether each call answers that the session is stopped.
 fn is_stopped(alloc: Global, end: &mut End, now: Instant) -> bool {
     let drain = drain_ends(alloc, end, now, RtcError::Stopped, &[]);
-    let poll = ended_with(&end.poll_datagram(now), &RtcError::Stopped);
-    let tick = ended_with(&end.handle_timeout(now), &RtcError::Stopped);
-    let rtcp = ended_with(&end.handle_rtcp_receive(now, &[]), &RtcError::Stopped);
+    let poll = ended_with(&poll(end, now), &RtcError::Stopped);
+    let tick = ended_with(&tick(end, now), &RtcError::Stopped);
+    let rtcp = ended_with(&receive_rtcp(end, now, &[]), &RtcError::Stopped);
     drain & poll & tick & rtcp
 }
 
@@ -313,14 +314,14 @@ fn used_up() -> RtcError {
 }
 
 fn ends(alloc: Global, end: &mut End, now: Instant, outs: &[Out]) -> bool {
-    let ticked = end.handle_timeout(now).is_ok();
+    let ticked = tick(end, now).is_ok();
     let ended = drain_ends(alloc, end, now, used_up(), outs);
     ticked & ended & is_stopped(alloc, end, now)
 }
 
 fn ends_at_once(alloc: Global, end: &mut End, now: Instant) -> bool {
-    let ticked = end.handle_timeout(now).is_ok();
-    let ended = ended_with(&end.poll_datagram(now), &used_up());
+    let ticked = tick(end, now).is_ok();
+    let ended = ended_with(&poll(end, now), &used_up());
     ticked & ended & is_stopped(alloc, end, now)
 }
 

@@ -1,4 +1,5 @@
 //! The reports of many streams, and the answers to the moments of many receivers.
+use crate::calls::tick;
 use crate::ends::{End, add_section, at, declare, mid};
 use crate::leaving::{is_silent, next};
 use crate::packets::{hears, joined};
@@ -48,8 +49,8 @@ pub fn reports_of_64(alloc: Global, end: &mut End) -> bool {
     let added = add_section(alloc, end, mid(), MediaKind::Video, b"cam");
     let mut wanted = Vec::new(alloc);
     let declared = declare_64(end, &mut wanted);
-    let first = end.handle_timeout(at(1)).is_ok();
-    let then = end.handle_timeout(at(1_000_000_000)).is_ok();
+    let first = tick(end, at(1)).is_ok();
+    let then = tick(end, at(1_000_000_000)).is_ok();
     let mut held = added & declared & first & then;
     let mut all = Vec::new(alloc);
     for len in [1128, 1116, 572] {
@@ -107,7 +108,7 @@ fn answers(alloc: Global, end: &mut End, second: u8, first: u16, count: u16) -> 
         return false;
     };
     let now = at(u64::from(second) * 1_000_000_000);
-    let ticked = end.handle_timeout(now).is_ok();
+    let ticked = tick(end, now).is_ok();
     ticked & leaves(end, now, wanted.as_slice())
 }
 
@@ -115,7 +116,7 @@ fn answers(alloc: Global, end: &mut End, second: u8, first: u16, count: u16) -> 
 pub fn answers_all(alloc: Global, end: &mut End, receivers: Receivers) -> bool {
     let added = add_section(alloc, end, mid(), MediaKind::Video, b"cam");
     let declared = declare(end, 42, None, way(b'v'));
-    let ticked = end.handle_timeout(at(1)).is_ok();
+    let ticked = tick(end, at(1)).is_ok();
     let mut held = added & declared & ticked & hears_moments(alloc, end, receivers.0);
     let mut second = 2;
     let mut first = receivers.1;

@@ -1,4 +1,5 @@
 //! The names of sources (RFC 3550 section 6.5).
+use crate::calls::tick;
 use crate::ends::{End, add_section, at, declare, mid};
 use crate::packets::joined;
 use crate::reports::steps::{leaves, way};
@@ -30,8 +31,8 @@ pub fn names_itself(alloc: Global, end: &mut End, len: usize) -> bool {
     let name = &[b'a'; 256][..len.min(256)];
     let added = add_section(alloc, end, mid(), MediaKind::Video, name);
     let declared = declare(end, 42, None, way(b'v'));
-    let first = end.handle_timeout(at(1)).is_ok();
-    let then = end.handle_timeout(at(1_000_000_000)).is_ok();
+    let first = tick(end, at(1)).is_ok();
+    let then = tick(end, at(1_000_000_000)).is_ok();
     let Some(wanted) = report_of(alloc, name) else {
         return false;
     };

@@ -1,4 +1,5 @@
 //! What is done with an end that reports.
+use crate::calls::{streams, tick};
 use crate::ends::{End, add_section, ask_frame, at, declare, expect, put, reset, rid, ssrc};
 use crate::leaving::{is_next, is_silent, next};
 use crate::packets::{head, hears, joined, opens, seal_numbered};
@@ -79,7 +80,7 @@ fn writes(alloc: Global, end: &mut End, low: u8, time: u32, moment: u64) -> bool
 }
 
 fn tell_rate(end: &mut End, low: u8, rate: u64) -> bool {
-    let streams = end.streams();
+    let streams = streams(end);
     let Some(place) = streams.rx_place(ssrc(low)) else {
         return false;
     };
@@ -92,7 +93,7 @@ fn moves(end: &mut End, low: u8, other: u8) -> bool {
         from: ssrc(low),
         to: ssrc(other),
     };
-    end.streams()
+    streams(end)
         .take_up(ssrc(other), &Mapping::NewMain(change))
         .is_ok()
 }
@@ -102,7 +103,7 @@ fn is_timed(end: &mut End, low: u8, time: Option<u64>) -> bool {
         Some(time) => Some(MediaTime::new(time, Frequency::NINETY_KHZ)),
         None => None,
     };
-    let streams = end.streams();
+    let streams = streams(end);
     let Some(place) = streams.rx_place(ssrc(low)) else {
         return false;
     };
@@ -144,7 +145,7 @@ pub fn leaves(end: &mut End, now: Instant, plain: &[u8]) -> bool {
 }
 
 fn seals(end: &mut End, now: Instant, bytes: &[u8]) -> bool {
-    let ticked = end.handle_timeout(now).is_ok();
+    let ticked = tick(end, now).is_ok();
     let Some(sent) = next(end, now) else {
         return false;
     };
@@ -153,7 +154,7 @@ fn seals(end: &mut End, now: Instant, bytes: &[u8]) -> bool {
 
 /// Whether this compound leaves at a tick, as `leaves` says.
 pub fn ticks(end: &mut End, now: Instant, plain: &[u8]) -> bool {
-    let ticked = end.handle_timeout(now).is_ok();
+    let ticked = tick(end, now).is_ok();
     ticked & leaves(end, now, plain)
 }
 
