@@ -9,7 +9,7 @@ use crate::mapped::MAPPED;
 use crate::packets::{head, is_opened, joined, seal_numbered};
 use crate::restored::RESTORED;
 use mapping_core::Rids;
-use media_base::{Bytes, Instant, Listed};
+use media_base::{Instant, Listed};
 use rtp_base::{KeyframeRequestKind, Kind, MidRid, Pt, Rid, SeqNo};
 use session_core::{Event, Media, MediaKind, Opened};
 use std::alloc::Global;
