@@ -1,9 +1,10 @@
-use crate::ends::{End, mid, moment, rid};
-use rtp_base::{Kind, SeqNo, Ssrc};
+use crate::calls::{event, receive};
+use crate::ends::{End, moment};
+use crate::packets::is_opened;
+use crate::telling::is_paused;
+use rtp_base::{Kind, SeqNo};
 use rtp_wire::ExtensionValues;
-use session_core::{Event, Opened};
-use std::test::Fail;
-use stream_core::StreamPaused;
+use session_core::Event;
 
 /// A packet on SSRC 42 that an end is to tell.
 #[derive(Clone, Copy)]
@@ -18,33 +19,6 @@ pub struct Wanted<'a> {
     pub unpauses: bool,
 }
 
-impl Wanted<'_> {
-    // Whether it is what a datagram opened to.
-    fn is_opened(&self, opened: &Option<Opened>) -> bool {
-        match opened {
-            Some(opened) => {
-                opened.kind == Kind::Rtp
-                    && opened.ssrc == Ssrc::from(42)
-                    && opened.index == SeqNo::from(self.number)
-            }
-            None => false,
-        }
-    }
-
-    // Whether it is what is told.
-    fn is_told(&self, told: &Option<Event>) -> bool {
-        match told {
-            Some(Event::RtpPacket(packet)) => {
-                packet.seq_no == SeqNo::from(self.number)
-                    && packet.payload.as_slice() == self.payload
-                    && packet.header.ext_vals == self.values
-                    && packet.timestamp == Some(moment())
-            }
-            _ => false,
-        }
-    }
-}
-
 /// The packet numbered 1 with the payload 0102.
 pub fn first_packet() -> Wanted<'static> {
     Wanted {
@@ -55,33 +29,47 @@ pub fn first_packet() -> Wanted<'static> {
     }
 }
 
-// That the stream was unpaused.
-fn unpaused() -> Event {
-    Event::StreamPaused(StreamPaused {
-        ssrc: Ssrc::from(42),
-        mid: mid(),
-        rid: Some(rid()),
-        paused: false,
-    })
+// Whether the stream that is unpaused, if any, is told next.
+fn tells_unpaused(end: &mut End, unpauses: bool) -> bool {
+    if !unpauses {
+        return true;
+    }
+    match event(end) {
+        Some(event) => is_paused(&event, 42, false),
+        None => false,
+    }
+}
+
+// Whether the packet is what is told.
+fn is_told(wanted: &Wanted<'_>, told: &Option<Event>) -> bool {
+    match told {
+        Some(Event::RtpPacket(packet)) => {
+            packet.seq_no == SeqNo::from(wanted.number)
+                && packet.payload.as_slice() == wanted.payload
+                && packet.header.ext_vals == wanted.values
+                && packet.timestamp == Some(moment())
+        }
+        _ => false,
+    }
 }
 
 /// Whether bytes that come open, and nothing but this packet is told, once, behind the stream that it
 /// unpauses.
-pub fn tells(end: &mut End, bytes: &[u8], wanted: &Wanted<'_>) -> Result<bool, Fail> {
-    let opened = end.handle_rtp_receive(moment(), bytes)?;
-    let before = if wanted.unpauses {
-        end.poll_event() == Some(unpaused())
-    } else {
-        true
+pub fn tells(end: &mut End, bytes: &[u8], wanted: &Wanted<'_>) -> bool {
+    let Ok(opened) = receive(end, moment(), bytes) else {
+        return false;
     };
-    let told = end.poll_event();
-    let more = end.poll_event();
-    Ok(before && wanted.is_opened(&opened) && wanted.is_told(&told) && more.is_none())
+    let right = is_opened(&opened, Kind::Rtp, 42, wanted.number);
+    let before = tells_unpaused(end, wanted.unpauses);
+    let told = is_told(wanted, &event(end));
+    right & before & told & event(end).is_none()
 }
 
 /// Whether bytes that come open nothing, and nothing is told.
-pub fn refuses(end: &mut End, bytes: &[u8]) -> Result<bool, Fail> {
-    let opened = end.handle_rtp_receive(moment(), bytes)?;
-    let told = end.poll_event();
-    Ok(opened.is_none() && told.is_none())
+pub fn refuses(end: &mut End, bytes: &[u8]) -> bool {
+    let refused = match receive(end, moment(), bytes) {
+        Ok(opened) => opened.is_none(),
+        Err(_) => false,
+    };
+    refused & event(end).is_none()
 }

@@ -1,12 +1,12 @@
 use crate::arriving::{Wanted, tells};
 use crate::ends::{End, mid, moment, rid};
-use crate::leaving::write;
-use rtp_base::{Frequency, MediaTime, ReceptionReport, Rid, Ssrc};
+use crate::feedback::acknowledge;
+use crate::leaving::{next, write};
+use rtp_base::{Frequency, MediaTime, Rid};
 use rtp_wire::{
     AbsCaptureTime, AbsSendTime, Extension, ExtensionMap, ExtensionValues, VideoOrientation,
 };
 use std::alloc::Global;
-use std::test::Fail;
 
 /// All header extensions.
 pub const EXTENSIONS: [Extension; 9] = [
@@ -126,22 +126,6 @@ fn told_after(ids: Ids, before: u16) -> ExtensionValues {
     }
 }
 
-// Tells a sender that the peer knows its SSRC.
-fn acknowledge(end: &mut End) {
-    let report = ReceptionReport {
-        ssrc: Ssrc::from(42),
-        fraction_lost: 0,
-        packets_lost: 0,
-        max_seq: 2,
-        jitter: 0,
-        last_sr_time: 0,
-        last_sr_delay: 0,
-    };
-    if end.streams().tx_len() > 0 {
-        end.streams().tx_at(0).handle_reception_report(&report);
-    }
-}
-
 // Whether a packet of this number is told with these values.
 fn carries_one(
     alloc: Global,
@@ -149,27 +133,26 @@ fn carries_one(
     b: &mut End,
     number: u64,
     values: ExtensionValues,
-) -> Result<bool, Fail> {
-    write(alloc, a, number, written())?;
-    let Some(sent) = a.poll_datagram(moment())? else {
-        return Ok(false);
+) -> bool {
+    let written = write(alloc, a, number, written());
+    let Some(sent) = next(a, moment()) else {
+        return false;
     };
-    let payload = &[1, 2];
     let wanted = Wanted {
         number,
-        payload,
+        payload: &[1, 2],
         values,
         unpauses: number == 1,
     };
-    tells(b, sent.bytes.as_slice(), &wanted)
+    written & tells(b, sent.bytes.as_slice(), &wanted)
 }
 
 /// Whether packets are told with the values of the extensions that have ids: two before the peer
 /// acknowledges the SSRC, and one after it.
-pub fn carries(alloc: Global, a: &mut End, b: &mut End, ids: Ids) -> Result<bool, Fail> {
-    let first = carries_one(alloc, a, b, 1, told(ids, 0))?;
-    let second = carries_one(alloc, a, b, 2, told(ids, 1))?;
-    acknowledge(a);
-    let third = carries_one(alloc, a, b, 3, told_after(ids, 2))?;
-    Ok(first && second && third)
+pub fn carries(alloc: Global, a: &mut End, b: &mut End, ids: Ids) -> bool {
+    let first = carries_one(alloc, a, b, 1, told(ids, 0));
+    let second = carries_one(alloc, a, b, 2, told(ids, 1));
+    let known = acknowledge(alloc, a);
+    let third = carries_one(alloc, a, b, 3, told_after(ids, 2));
+    first & second & known & third
 }

@@ -1,20 +1,28 @@
-ghost use Rattle.std.specs.Prelude.{◌≤◌, ◌^◌, IfOk};
+//! Ends, and what the tests of all subjects do with one.
+ghost use Rattle.std.specs.Prelude.{◌≤◌, ◌^◌, IfSome};
+ghost use Rattle.std.specs.Option.{ForSome};
 
+use crate::calls::streams;
 use mask_register::MaskRegister;
 use media_base::{Beginning, Bytes, Duration, Instant, Listed};
 use payload_core::{Codec, CodecConfig, CodecSpec, FormatParams, PayloadParams};
 use queue_store::QueueStore;
-use rtp_base::{Frequency, Mid, MidRid, Pt, Rid, Ssrc};
+use rtp_base::{Frequency, KeyframeRequestKind, Mid, MidRid, Pt, Rid, SeqNo, Ssrc};
 use rtp_wire::ExtensionMap;
 use session_core::{Media, MediaKind, Mtu, ReportIntervals, RtcError, Session, SessionConfig};
 use srtp_core::{KeyingMaterial, SrtpProfile, ToyCipher};
-use std::alloc::{AllocError, Global};
-use stream_core::Sent;
+use std::alloc::Global;
+use stream_core::{RtpWrite, Sent};
 
 /// One end with the toy cipher.
 pub type End = Session<ToyCipher, MaskRegister, QueueStore<Sent>>;
 
-/// The moment of all calls: one second and a half after the beginning.
+/// A moment in nanoseconds.
+pub fn at(moment: u64) -> Instant {
+    Instant::from_nanos(moment)
+}
+
+/// The moment of calls whose moment does not matter: one second and a half after the beginning.
 pub fn moment() -> Instant {
     Instant::from_nanos(1_500_000_000)
 }
@@ -26,7 +34,7 @@ pub const FIRST_REPORT: u64 = 10_000_000_000_000_000;
 /// The same of a stream that sends before its first tick: 100 years of 365 days after moment 0.
 pub const BEFORE_TOLD: u64 = 3_153_600_000_000_000_000;
 
-/// The media section of the stream.
+/// The media section v.
 pub fn mid() -> Mid {
     match Mid::from_slice(b"v") {
         Some(mid) => mid,
@@ -42,45 +50,50 @@ pub fn rid() -> Rid {
     }
 }
 
-// VP8 as type 96, whose repairs have type 97.
-fn codecs(alloc: Global) -> Result<CodecConfig, AllocError> {
+/// The SSRC of these low 8 bits.
+pub fn ssrc(low: u8) -> Ssrc {
+    Ssrc::from(u32::from(low))
+}
+
+// A type of video.
+fn video(pt: u8, resend: Option<Pt>, red: Option<Pt>) -> PayloadParams {
     let spec = CodecSpec {
         codec: Codec::Vp8,
         clock_rate: Frequency::NINETY_KHZ,
         channels: None,
         format: FormatParams::default(),
     };
-    let params = PayloadParams::new(Pt::from(96), Some(Pt::from(97)), spec);
-    CodecConfig::new(alloc, vec![in alloc; params]?)
+    PayloadParams {
+        red,
+        ..PayloadParams::new(Pt::from(pt), resend, spec)
+    }
 }
 
-/// A media section whose peer takes type 96.
-pub fn section(
-    alloc: Global,
-    mid: Mid,
-    kind: MediaKind,
-    cname: &[u8],
-) -> Result<Media, AllocError> {
-    let cname = Bytes::from_slice(alloc, cname)?;
-    let remote_pts = Listed::from_vec(vec![in alloc; Pt::from(96)]?);
-    Ok(Media::new(mid, kind, cname, remote_pts))
+// Type 97 repairs type 96, which is sent under type 98 with older frames; type 100 has no repairs.
+fn codecs(alloc: Global) -> Option<CodecConfig> {
+    let first = video(96, Some(Pt::from(97)), Some(Pt::from(98)));
+    let Ok(params) = vec![in alloc; first, video(100, None, None)] else {
+        return None;
+    };
+    CodecConfig::new(alloc, params).ok()
 }
 
-/// What both ends are made with: they know type 96. The target for their feedback is cut to 900 to 1,500
-/// bytes, the first index of SRTCP datagrams to at most 2^31. Their own SSRC is 2. Their reports are so far
-/// apart that none is due.
+/// What both ends are made with: the types that they know, and header extensions. The target for their
+/// feedback is cut to 900 to 1,500 bytes, the first index of SRTCP datagrams to at most 2^31. Their own SSRC
+/// is 2. Their reports are so far apart that none is due.
 pub fn config(
     alloc: Global,
     exts: ExtensionMap,
     target: u16,
     srtcp_index: u32,
-) -> Result<SessionConfig, RtcError>
-    ensures target { IfOk result (λ c. 900 ≤ c.mtu.target) }
-    ensures order { IfOk result (λ c. c.mtu.target ≤ c.mtu.warn) }
-    ensures warn { IfOk result (λ c. c.mtu.warn ≤ 1500) }
-    ensures index { IfOk result (λ c. c.srtcp_index ≤ 2 ^ 31) }
+) -> Option<SessionConfig>
+    ensures target { IfSome result (λ c. 900 ≤ c.mtu.target) }
+    ensures order { IfSome result (λ c. c.mtu.target ≤ c.mtu.warn) }
+    ensures warn { IfSome result (λ c. c.mtu.warn ≤ 1500) }
+    ensures index { IfSome result (λ c. c.srtcp_index ≤ 2 ^ 31) }
 {
-    Ok(SessionConfig {
+    let codecs = codecs(alloc)?;
+    Some(SessionConfig {
         id: 1,
         beginning: Beginning {
             unix_secs: 1_700_000_000,
@@ -97,31 +110,117 @@ pub fn config(
         },
         srtcp_index: u64::from(srtcp_index).min(2_147_483_648),
         exts,
-        codecs: codecs(alloc)?,
+        codecs,
     })
 }
 
 /// Gives an end keys of zeros.
-pub fn give_keys(alloc: Global, end: &mut End, left: bool) -> Result<(), RtcError> {
-    let material = KeyingMaterial::new(alloc, &[0; 56])?;
-    end.set_keying_material(ToyCipher, SrtpProfile::AeadAes128Gcm, &material, left)
+pub fn give_keys(alloc: Global, end: &mut End, left: bool) -> bool {
+    let Ok(material) = KeyingMaterial::new(alloc, &[0; 56]) else {
+        return false;
+    };
+    let profile = SrtpProfile::AeadAes128Gcm;
+    end.set_keying_material(ToyCipher, profile, &material, left)
+        .is_ok()
+}
+
+/// A new end.
+pub fn new_end(alloc: Global, config: SessionConfig) -> Option<Box<End>>
+    requires target { 900 ≤ config.mtu.target }
+    requires order { config.mtu.target ≤ config.mtu.warn }
+    requires warn { config.mtu.warn ≤ 1500 }
+    requires index { config.srtcp_index ≤ 2 ^ 31 }
+{
+    End::boxed(alloc, config).ok()
+}
+
+/// A media section, whose peer takes type 96.
+pub fn section(alloc: Global, mid: Mid, kind: MediaKind, cname: &[u8]) -> Option<Media> {
+    let Ok(cname) = Bytes::from_slice(alloc, cname) else {
+        return None;
+    };
+    let Ok(remote_pts) = vec![in alloc; Pt::from(96)] else {
+        return None;
+    };
+    Some(Media::new(mid, kind, cname, Listed::from_vec(remote_pts)))
+}
+
+/// Adds a media section, whose peer takes type 96.
+pub fn add_section(alloc: Global, end: &mut End, mid: Mid, kind: MediaKind, cname: &[u8]) -> bool {
+    match section(alloc, mid, kind, cname) {
+        Some(media) => end.add_media(media).is_ok(),
+        None => false,
+    }
+}
+
+/// Has an end receive on an SSRC, with repairs on another. It asks for what is missing, or does not.
+pub fn expect(end: &mut End, low: u8, rtx: Option<Ssrc>, mid_rid: MidRid, suppress: bool) -> bool {
+    streams(end)
+        .expect_stream_rx(ssrc(low), rtx, mid_rid, suppress)
+        .is_ok()
+}
+
+// The SSRC of repairs and the number of the first, at most 2^48.
+fn repairs_of(repairs: Option<(u8, u64)>) -> Option<(Ssrc, SeqNo)>
+    ensures { ForSome result (λ x. x.1 ≤ 2 ^ 48) }
+{
+    match repairs {
+        Some((low, first)) => {
+            let first = first.min(281_474_976_710_656);
+            Some((ssrc(low), SeqNo::from(first)))
+        }
+        None => None,
+    }
+}
+
+/// Has an end send on an SSRC, with repairs on another from a number on, or without repairs.
+pub fn declare(end: &mut End, low: u8, repairs: Option<(u8, u64)>, mid_rid: MidRid) -> bool {
+    let repairs = repairs_of(repairs);
+    streams(end)
+        .declare_stream_tx(ssrc(low), repairs, mid_rid)
+        .is_ok()
+}
+
+/// Has an end send what it sends on an SSRC under another one, which it does not use yet, with repairs on a
+/// third from a number on, or without repairs.
+pub fn reset(end: &mut End, low: u8, other: u8, repairs: Option<(u8, u64)>) -> bool {
+    let repairs = repairs_of(repairs);
+    let streams = streams(end);
+    if streams.tx_place(ssrc(other)).is_some() {
+        return false;
+    }
+    streams.reset_ssrc(ssrc(low), ssrc(other), repairs).is_ok()
+}
+
+/// Writes a packet on the stream of this SSRC; whether there is one.
+pub fn put(end: &mut End, low: u8, write: RtpWrite) -> bool {
+    let streams = streams(end);
+    match streams.tx_place(ssrc(low)) {
+        Some(place) => streams.tx_at(place).write_rtp(write).is_ok(),
+        None => false,
+    }
+}
+
+/// Has the stream that receives on an SSRC ask for a key frame; whether there is one.
+pub fn ask_frame(end: &mut End, low: u8, kind: KeyframeRequestKind) -> bool {
+    let streams = streams(end);
+    let Some(place) = streams.rx_place(ssrc(low)) else {
+        return false;
+    };
+    streams.rx_at(place).request_keyframe(kind);
+    true
 }
 
 /// Has a fresh end send on SSRC 42.
-pub fn prepare_sender(alloc: Global, end: &mut End) -> Result<(), RtcError> {
-    end.add_media(section(alloc, mid(), MediaKind::Video, b"cam")?)?;
-    let mid_rid = MidRid(mid(), Some(rid()));
-    end.streams()
-        .declare_stream_tx(Ssrc::from(42), None, mid_rid)?;
-    Ok(())
+pub fn prepare_sender(alloc: Global, end: &mut End) -> bool {
+    let added = add_section(alloc, end, mid(), MediaKind::Video, b"cam");
+    let declared = declare(end, 42, None, MidRid(mid(), Some(rid())));
+    added && declared
 }
 
 /// Has an end receive on SSRC 42.
-pub fn expect_stream(end: &mut End) -> Result<(), RtcError> {
-    let mid_rid = MidRid(mid(), Some(rid()));
-    end.streams()
-        .expect_stream_rx(Ssrc::from(42), None, mid_rid, false)?;
-    Ok(())
+pub fn expect_stream(end: &mut End) -> bool {
+    expect(end, 42, None, MidRid(mid(), Some(rid())), false)
 }
 
 /// Whether a call ended with this error.

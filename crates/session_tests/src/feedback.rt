@@ -1,13 +1,13 @@
+use crate::calls::{event, poll, receive_rtcp};
 use crate::ends::{BEFORE_TOLD, End, ended_with, give_keys, moment};
-use crate::leaving::{drains, sends, write};
-use crate::packets::{SEALED, seal_feedback};
+use crate::leaving::{drains, is_silent, next, sends, write};
+use crate::packets::{SEALED, is_opened, seal_rtcp};
 use media_base::Bytes;
 use rtp_base::{Kind, SeqNo, Ssrc};
 use rtp_wire::ExtensionValues;
-use session_core::{Event, Opened, RtcError};
+use session_core::{Event, RtcError};
 use srtp_core::Counter;
 use std::alloc::Global;
-use std::test::Fail;
 
 /// Feedback of an application from SSRC 1 on SSRC 42 with the words 01020304 (RFC 4585 section 6.4),
 /// sealed: the first 8 bytes, the rest XOR the key stream, the tag, and the E bit with the index 0.
@@ -47,33 +47,28 @@ pub enum Feedback {
     LastIndex,
 }
 
-fn queue(alloc: Global, end: &mut End, words: &[u8; 20]) -> Result<(), Fail> {
-    let payload = Bytes::from_slice(alloc, words)?;
-    end.send_app_specific_feedback(Ssrc::from(1), Ssrc::from(42), payload)?;
-    Ok(())
+// Queues feedback of an application from SSRC 1 on SSRC 42 with these words.
+fn queue(alloc: Global, end: &mut End, words: &[u8; 20]) -> bool {
+    let Ok(payload) = Bytes::from_slice(alloc, words) else {
+        return false;
+    };
+    end.send_app_specific_feedback(Ssrc::from(1), Ssrc::from(42), payload)
+        .is_ok()
 }
 
 /// Queues feedback of an application from SSRC 1 on SSRC 42 with the words 01020304.
-pub fn queue_one(alloc: Global, end: &mut End) -> Result<(), Fail> {
-    let payload = Bytes::from_slice(alloc, &[1, 2, 3, 4])?;
-    end.send_app_specific_feedback(Ssrc::from(1), Ssrc::from(42), payload)?;
-    Ok(())
+pub fn queue_one(alloc: Global, end: &mut End) -> bool {
+    let Ok(payload) = Bytes::from_slice(alloc, &[1, 2, 3, 4]) else {
+        return false;
+    };
+    end.send_app_specific_feedback(Ssrc::from(1), Ssrc::from(42), payload)
+        .is_ok()
 }
 
-fn is_opened(opened: &Option<Opened>, ssrc: u32) -> bool {
-    match opened {
-        Some(opened) => {
-            opened.kind == Kind::Rtcp
-                && opened.ssrc == Ssrc::from(ssrc)
-                && opened.index == SeqNo::from(0)
-        }
-        None => false,
-    }
-}
-
-fn is_told(told: &Option<Event>) -> bool {
-    match told {
-        Some(Event::AppSpecificFeedback(feedback)) => {
+/// Whether an event is feedback of an application from SSRC 1 on SSRC 42 with the words 01020304.
+pub fn is_words(event: &Event) -> bool {
+    match event {
+        Event::AppSpecificFeedback(feedback) => {
             feedback.sender_ssrc == Ssrc::from(1)
                 && feedback.media_ssrc == Ssrc::from(42)
                 && feedback.payload.as_slice() == [1, 2, 3, 4].as_slice()
@@ -83,104 +78,125 @@ fn is_told(told: &Option<Event>) -> bool {
 }
 
 // Whether `FEEDBACK` opens, and its words are told once.
-fn tells_words(end: &mut End) -> Result<bool, Fail> {
-    let opened = end.handle_rtcp_receive(moment(), &FEEDBACK)?;
-    let told = end.poll_event();
-    let more = end.poll_event();
-    Ok(is_opened(&opened, 1) && is_told(&told) && more.is_none())
+fn tells_words(end: &mut End) -> bool {
+    let opened = opens(end, &FEEDBACK, 1);
+    let told = match event(end) {
+        Some(event) => is_words(&event),
+        None => false,
+    };
+    opened & told & event(end).is_none()
 }
 
-fn is_exchanged(alloc: Global, a: &mut End, b: &mut End) -> Result<bool, Fail> {
-    queue_one(alloc, a)?;
-    let sent = sends(a, &FEEDBACK)?;
-    let first = tells_words(b)?;
-    let again = tells_words(b)?;
-    Ok(sent && first && again)
+fn is_exchanged(alloc: Global, a: &mut End, b: &mut End) -> bool {
+    let queued = queue_one(alloc, a);
+    let sent = sends(a, &FEEDBACK);
+    let first = tells_words(b);
+    let again = tells_words(b);
+    queued & sent & first & again
 }
 
-fn opens(end: &mut End, bytes: &[u8]) -> Result<bool, Fail> {
-    let opened = end.handle_rtcp_receive(moment(), bytes)?;
-    Ok(is_opened(&opened, 1))
+// Whether bytes open as RTCP of this SSRC, under the index 0.
+fn opens(end: &mut End, bytes: &[u8], low: u8) -> bool {
+    match receive_rtcp(end, moment(), bytes) {
+        Ok(opened) => is_opened(&opened, Kind::Rtcp, low, 0),
+        Err(_) => false,
+    }
 }
 
-fn opens_clear(b: &mut End) -> Result<bool, Fail> {
+fn opens_clear(b: &mut End) -> bool {
     let mut forged = CLEAR;
     forged[23] = 2;
-    let with_tag = opens(b, &CLEAR)?;
-    let without = opens(b, &forged)?;
-    let cut = opens(b, &CLEAR[..27])?;
-    let short = opens(b, &CLEAR[..8])?;
-    let shorter = opens(b, &CLEAR[..7])?;
-    let nothing = opens(b, &[])?;
-    Ok(with_tag && !without && !cut && !short && !shorter && !nothing)
+    let answers = [
+        opens(b, &CLEAR, 1),
+        opens(b, &forged, 1),
+        opens(b, &CLEAR[..27], 1),
+        opens(b, &CLEAR[..8], 1),
+        opens(b, &CLEAR[..7], 1),
+        opens(b, &[], 1),
+    ];
+    answers == [true, false, false, false, false, false]
+}
+
+/// Has a sender hear a report of its SSRC, which acknowledges it; whether that opens and nothing is told.
+pub fn acknowledge(alloc: Global, a: &mut End) -> bool {
+    let Some(report) = seal_rtcp(alloc, &REPORT, false) else {
+        return false;
+    };
+    let opened = opens(a, report.as_slice(), 7);
+    opened & event(a).is_none()
 }
 
 // The sender hears the report, and its next packet has no mid.
-fn is_acknowledged(alloc: Global, a: &mut End) -> Result<bool, Fail> {
-    let report = seal_feedback(alloc, &REPORT)?;
-    let opened = a.handle_rtcp_receive(moment(), report.as_slice())?;
-    let event = a.poll_event();
-    write(alloc, a, 1, ExtensionValues::none())?;
-    let plain = sends(a, &SEALED)?;
-    Ok(is_opened(&opened, 7) && event.is_none() && plain)
+fn is_acknowledged(alloc: Global, a: &mut End) -> bool {
+    let heard = acknowledge(alloc, a);
+    let written = write(alloc, a, 1, ExtensionValues::none());
+    heard & written & sends(a, &SEALED)
 }
 
-fn is_cleared(alloc: Global, a: &mut End) -> Result<bool, Fail> {
-    queue_one(alloc, a)?;
+fn is_cleared(alloc: Global, a: &mut End) -> bool {
+    let first = queue_one(alloc, a);
     a.clear_feedback();
-    let silent = a.poll_datagram(moment())?.is_none();
-    queue_one(alloc, a)?;
-    let then = drains(a, &FEEDBACK, BEFORE_TOLD)?;
-    Ok(silent && then)
+    let silent = is_silent(a, moment());
+    let second = queue_one(alloc, a);
+    let then = drains(a, &FEEDBACK, BEFORE_TOLD);
+    first & silent & second & then
 }
 
-fn is_lost(alloc: Global, a: &mut End) -> Result<bool, Fail> {
-    queue_one(alloc, a)?;
-    let without_keys = a.poll_datagram(moment())?.is_none();
-    give_keys(alloc, a, true)?;
-    let then = a.poll_datagram(moment())?.is_none();
-    Ok(without_keys && then)
+fn is_lost(alloc: Global, a: &mut End) -> bool {
+    let queued = queue_one(alloc, a);
+    let without_keys = is_silent(a, moment());
+    let keyed = give_keys(alloc, a, true);
+    let then = is_silent(a, moment());
+    queued & without_keys & keyed & then
+}
+
+// Queues forty items of 32 bytes each, numbered by their words.
+fn queue_forty(alloc: Global, a: &mut End) -> bool {
+    let mut queued = true;
+    for word in 0..40 {
+        queued &= queue(alloc, a, &[word; 20]);
+    }
+    queued
+}
+
+// Whether so many items leave next in one compound within the target, from the item of a number on.
+fn leaves_few(a: &mut End, target: usize, from: usize, count: usize) -> bool {
+    match next(a, moment()) {
+        Some(sent) => {
+            let plain = sent.plain.as_slice();
+            let whole = plain.len() == count.saturating_mul(32);
+            let begins = plain.get(12).copied().map(usize::from) == Some(from);
+            whole & begins & (sent.bytes.len() <= target)
+        }
+        None => false,
+    }
 }
 
 // Forty items of 32 bytes each leave whole, in order, in compounds cut at the target less 20 bytes.
-fn is_cut(alloc: Global, a: &mut End, target: usize) -> Result<bool, Fail> {
-    for word in 0..40 {
-        queue(alloc, a, &[word; 20])?;
-    }
-    let fit = target.saturating_sub(20) / 32;
-    let mut left = 0;
-    for _ in 0..40 {
-        let Some(sent) = a.poll_datagram(moment())? else {
-            return Ok(left == 40);
-        };
-        let plain = sent.plain.as_slice();
-        let next = fit.min(40usize.saturating_sub(left));
-        let whole = plain.len() == next.saturating_mul(32) && sent.bytes.len() <= target;
-        if !whole || plain.get(12).copied().map(usize::from) != Some(left) {
-            return Ok(false);
-        }
-        left = left.saturating_add(next);
-    }
-    Ok(false)
+fn is_cut(alloc: Global, a: &mut End, target: usize) -> bool {
+    let queued = queue_forty(alloc, a);
+    let first = (target.saturating_sub(20) / 32).min(40);
+    let rest = 40usize.saturating_sub(first);
+    let begun = leaves_few(a, target, 0, first);
+    let ended = rest == 0 || leaves_few(a, target, first, rest);
+    queued & begun & ended & is_silent(a, moment())
 }
 
-fn ends_at_last_index(alloc: Global, a: &mut End) -> Result<bool, Fail> {
-    queue_one(alloc, a)?;
-    let sealed = match a.poll_datagram(moment())? {
+fn ends_at_last_index(alloc: Global, a: &mut End) -> bool {
+    let first = queue_one(alloc, a);
+    let sealed = match next(a, moment()) {
         Some(sent) => sent.index == SeqNo::from(2_147_483_647),
         None => false,
     };
-    queue_one(alloc, a)?;
-    let ended = ended_with(
-        &a.poll_datagram(moment()),
-        &RtcError::KeyExhausted(Counter::Rtcp),
-    );
-    let stopped = ended_with(&a.poll_datagram(moment()), &RtcError::Stopped);
-    Ok(sealed && ended && stopped)
+    let second = queue_one(alloc, a);
+    let exhausted = RtcError::KeyExhausted(Counter::Rtcp);
+    let ended = ended_with(&poll(a, moment()), &exhausted);
+    let stopped = ended_with(&poll(a, moment()), &RtcError::Stopped);
+    first & sealed & second & ended & stopped
 }
 
 /// Whether two ends answer so, of which the second has keys, and the first but for `Lost`.
-pub fn holds(alloc: Global, a: &mut End, b: &mut End, asked: Feedback) -> Result<bool, Fail> {
+pub fn holds(alloc: Global, a: &mut End, b: &mut End, asked: Feedback) -> bool {
     match asked {
         Feedback::Exchanged => is_exchanged(alloc, a, b),
         Feedback::Clear => opens_clear(b),

@@ -5,13 +5,21 @@
 #[cfg(test)]
 mod arriving;
 #[cfg(test)]
+mod calls;
+#[cfg(test)]
 mod carrying;
+#[cfg(test)]
+mod coming;
+#[cfg(test)]
+mod drawn;
 #[cfg(test)]
 mod ends;
 #[cfg(test)]
 mod feedback;
 #[cfg(test)]
 mod leaving;
+#[cfg(test)]
+mod mapped;
 #[cfg(test)]
 mod packets;
 #[cfg(test)]
@@ -23,10 +31,14 @@ mod reports;
 #[cfg(test)]
 mod restored;
 #[cfg(test)]
-mod restoring;
-#[cfg(test)]
 mod rounds;
+#[cfg(test)]
+mod sections;
 #[cfg(test)]
 mod steps;
 #[cfg(test)]
 mod table;
+#[cfg(test)]
+mod telling;
+#[cfg(test)]
+mod types;

@@ -1,7 +1,12 @@
+//! Datagrams that come, sealed as a peer does.
+use crate::calls::{receive, receive_rtcp};
+use crate::ends::{End, ssrc};
+use media_base::Instant;
+use rtp_base::{Kind, SeqNo};
 use rtp_wire::{ExtensionMap, RtpHeader};
+use session_core::Opened;
 use srtp_core::{KeyingMaterial, SrtpContext, SrtpProfile, ToyCipher};
 use std::alloc::Global;
-use std::test::Fail;
 
 /// The packet numbered 1 of type 96 on SSRC 42, with the payload 0102 (RFC 3550 section 5.1).
 pub const PACKET: [u8; 14] = [0x80, 0x60, 0, 1, 0, 0, 0, 0, 0, 0, 0, 0x2a, 1, 2];
@@ -33,104 +38,136 @@ pub enum Incoming {
     Long(usize),
 }
 
-// What seals as the left side, the sender, or as the right one.
-fn context(alloc: Global, left: bool) -> Result<SrtpContext<ToyCipher>, Fail> {
-    let material = KeyingMaterial::new(alloc, &[0; 56])?;
-    let profile = SrtpProfile::AeadAes128Gcm;
-    let context = SrtpContext::new(alloc, ToyCipher, profile, &material, left)?;
-    Ok(context)
-}
-
-// Seals a packet as the sender does.
-fn seal(alloc: Global, plain: &[u8]) -> Result<Vec<u8>, Fail> {
-    let Some(header) = RtpHeader::parse(plain, &ExtensionMap::empty()) else {
-        return Ok(Vec::new(alloc));
-    };
-    if header.header_len > plain.len() {
-        return Ok(Vec::new(alloc));
+/// The bytes of all parts, one after the other.
+pub fn joined(alloc: Global, parts: &[&[u8]]) -> Option<Vec<u8>> {
+    let mut bytes = Vec::new(alloc);
+    for part in parts {
+        if bytes.extend_from_slice(part).is_err() {
+            return None;
+        }
     }
-    let mut context = context(alloc, true)?;
-    let sealed = context.protect_rtp(plain, &header, u64::from(header.sequence_number))?;
-    Ok(sealed)
+    Some(bytes)
 }
 
-/// Seals a packet of this number as the sender does; one that begins with another number is nothing.
-pub fn seal_numbered(alloc: Global, plain: &[u8], number: u64) -> Result<Vec<u8>, Fail> {
+/// The head of an RTP packet (RFC 3550 section 5.1): its first byte, its type, number, RTP time and SSRC.
+pub fn head(first: u8, pt: u8, number: u64, time: u32, low: u8) -> [u8; 12] {
+    let [high, lower] = ((number % 65_536) as u16).to_be_bytes();
+    let [a, b, c, d] = time.to_be_bytes();
+    [first, pt, high, lower, a, b, c, d, 0, 0, 0, low]
+}
+
+// What seals as the left side, the sender, or as the right one.
+fn context(alloc: Global, left: bool) -> Option<SrtpContext<ToyCipher>> {
+    let Ok(material) = KeyingMaterial::new(alloc, &[0; 56]) else {
+        return None;
+    };
+    let profile = SrtpProfile::AeadAes128Gcm;
+    SrtpContext::new(alloc, ToyCipher, profile, &material, left).ok()
+}
+
+/// Seals a packet of this number as the sender does, if it begins with the low 16 bits of the number.
+pub fn seal_numbered(alloc: Global, plain: &[u8], number: u64) -> Option<Vec<u8>> {
     let Some(header) = RtpHeader::parse(plain, &ExtensionMap::empty()) else {
-        return Ok(Vec::new(alloc));
+        return None;
     };
     if header.header_len > plain.len() || number >= 1 << 48 {
-        return Ok(Vec::new(alloc));
+        return None;
     }
     if number % 65_536 != u64::from(header.sequence_number) {
-        return Ok(Vec::new(alloc));
+        return None;
     }
     let mut context = context(alloc, true)?;
-    let sealed = context.protect_rtp(plain, &header, number)?;
-    Ok(sealed)
+    context.protect_rtp(plain, &header, number).ok()
 }
 
-/// Seals a packet of feedback as the receiver does, under the index 0.
-pub fn seal_feedback(alloc: Global, plain: &[u8; 32]) -> Result<Vec<u8>, Fail> {
-    let mut context = context(alloc, false)?;
-    let sealed = context.protect_rtcp(plain)?;
-    Ok(sealed)
-}
-
-/// Seals a packet of at least 8 bytes of feedback as the sender does, under the index 0; a shorter one
-/// is nothing.
-pub fn seal_report(alloc: Global, plain: &[u8]) -> Result<Vec<u8>, Fail> {
-    if plain.len() < 8 {
-        return Ok(Vec::new(alloc));
+// Seals a packet of the number that it begins with, below 2^16, as the sender does.
+fn seal(alloc: Global, plain: &[u8]) -> Option<Vec<u8>> {
+    if plain.len() < 4 {
+        return None;
     }
-    let mut context = context(alloc, true)?;
-    let sealed = context.protect_rtcp(plain)?;
-    Ok(sealed)
+    let number = u16::from_be_bytes([plain[2], plain[3]]);
+    seal_numbered(alloc, plain, u64::from(number))
 }
 
 /// `PACKET` on another SSRC and of another number, sealed.
-pub fn packet_of(alloc: Global, ssrc: u8, number: u8) -> Result<Vec<u8>, Fail> {
+pub fn packet_of(alloc: Global, low: u8, number: u8) -> Option<Vec<u8>> {
     let mut packet = PACKET;
-    packet[11] = ssrc;
+    packet[11] = low;
     packet[3] = number;
-    seal(alloc, &packet)
+    seal_numbered(alloc, &packet, u64::from(number))
+}
+
+/// Seals a packet of at least 8 bytes of RTCP as the sender does, or as the receiver, under the index 0.
+pub fn seal_rtcp(alloc: Global, plain: &[u8], left: bool) -> Option<Vec<u8>> {
+    if plain.len() < 8 {
+        return None;
+    }
+    let mut context = context(alloc, left)?;
+    context.protect_rtcp(plain).ok()
+}
+
+/// Whether bytes of RTP that come open.
+pub fn opens(end: &mut End, now: Instant, bytes: &[u8]) -> bool {
+    match receive(end, now, bytes) {
+        Ok(opened) => opened.is_some(),
+        Err(_) => false,
+    }
+}
+
+/// Whether plain RTCP of the sender opens that comes sealed.
+pub fn hears(alloc: Global, end: &mut End, now: Instant, plain: &[u8]) -> bool {
+    match seal_rtcp(alloc, plain, true) {
+        Some(sealed) => opens_rtcp(end, now, sealed.as_slice()),
+        None => false,
+    }
+}
+
+/// Whether bytes of RTCP that come open.
+pub fn opens_rtcp(end: &mut End, now: Instant, bytes: &[u8]) -> bool {
+    match receive_rtcp(end, now, bytes) {
+        Ok(opened) => opened.is_some(),
+        Err(_) => false,
+    }
 }
 
 // The bytes with this byte at this place.
-fn changed(alloc: Global, bytes: &[u8], place: usize, byte: u8) -> Result<Vec<u8>, Fail> {
-    let mut changed = bytes.to_vec(alloc)?;
+fn changed(alloc: Global, bytes: &[u8], place: usize, byte: u8) -> Option<Vec<u8>> {
+    let mut changed = joined(alloc, &[bytes])?;
     if place < changed.len() {
         changed[place] = byte;
     }
-    Ok(changed)
-}
-
-// `PACKET` with zeros behind it, so many bytes.
-fn lengthened(alloc: Global, len: usize) -> Result<Vec<u8>, Fail> {
-    let mut packet = vec![in alloc; 0; len]?;
-    if PACKET.len() <= len {
-        packet[..PACKET.len()].copy_from_slice(&PACKET);
-    }
-    Ok(packet)
+    Some(changed)
 }
 
 /// The bytes of a datagram that comes.
-pub fn bytes_of(alloc: Global, incoming: Incoming) -> Result<Vec<u8>, Fail> {
+pub fn bytes_of(alloc: Global, incoming: Incoming) -> Option<Vec<u8>> {
     match incoming {
         Incoming::SealOf(place, byte) => {
             let packet = changed(alloc, &PACKET, place, byte)?;
             seal(alloc, packet.as_slice())
         }
         Incoming::Changed(place, byte) => changed(alloc, &SEALED, place, byte),
-        Incoming::Cut(len) => Ok(SEALED[..len.min(30)].to_vec(alloc)?),
+        Incoming::Cut(len) => joined(alloc, &[&SEALED[..len.min(30)]]),
         Incoming::Padded(behind) => {
-            let mut packet = changed(alloc, &PACKET, 0, 0xa0)?;
-            packet.extend_from_slice(&behind)?;
+            let packet = joined(alloc, &[&head(0xa0, 96, 1, 0, 42), &[1, 2], &behind])?;
             seal(alloc, packet.as_slice())
         }
         Incoming::Long(len) => {
-            let packet = lengthened(alloc, len.saturating_sub(16))?;
+            let zeros = [0; 2000];
+            let behind = &zeros[..len.saturating_sub(30).min(2000)];
+            let packet = joined(alloc, &[&PACKET, behind])?;
             seal(alloc, packet.as_slice())
         }
+    }
+}
+
+/// Whether a datagram of this kind, SSRC and index opened.
+pub fn is_opened(opened: &Option<Opened>, kind: Kind, low: u8, index: u64) -> bool {
+    match opened {
+        Some(opened) => {
+            let same = opened.kind == kind && opened.ssrc == ssrc(low);
+            same && opened.index == SeqNo::from(index)
+        }
+        None => false,
     }
 }

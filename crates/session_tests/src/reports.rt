@@ -7,22 +7,23 @@ mod names;
 mod news;
 mod requests;
 mod steps;
+mod times;
 mod told;
 
 use crate::carrying::{Ids, map_of};
-use crate::ends::{End, config, give_keys};
+use crate::ends::{End, config, expect_stream, give_keys, new_end};
 use crate::reports::counted::COUNTED;
 use crate::reports::due::DUE;
 use crate::reports::many::{Receivers, answers_all, reports_of_64};
 use crate::reports::names::names_itself;
 use crate::reports::news::NEWS;
 use crate::reports::requests::{REQUESTS, numbers_requests};
-use crate::reports::steps::{Row, Step, expect, goes};
+use crate::reports::steps::{Row, Step, goes};
+use crate::reports::times::TIMES;
 use crate::reports::told::TOLD;
 use media_base::Duration;
 use session_core::ReportIntervals;
 use std::alloc::Global;
-use std::test::Fail;
 
 /// What is asked of an end.
 #[derive(Clone, Copy)]
@@ -39,52 +40,51 @@ enum Asked {
     Numbers,
 }
 
-fn goes_through(alloc: Global, end: &mut End, steps: &[Step]) -> Result<bool, Fail> {
+fn goes_through(alloc: Global, end: &mut End, steps: &[Step]) -> bool {
+    let mut held = true;
     for step in steps {
-        if !goes(alloc, end, *step)? {
-            return Ok(false);
-        }
+        held = held && goes(alloc, end, *step);
     }
-    Ok(true)
+    held
 }
 
-fn holds(alloc: Global, end: &mut End, asked: Asked) -> Result<bool, Fail> {
-    give_keys(alloc, end, false)?;
-    match asked {
+fn holds(alloc: Global, end: &mut End, asked: Asked) -> bool {
+    let keyed = give_keys(alloc, end, false);
+    let held = match asked {
         Asked::Steps(steps) => goes_through(alloc, end, steps),
         Asked::Many => reports_of_64(alloc, end),
         Asked::Moments(receivers) => answers_all(alloc, end, receivers),
         Asked::Named(len) => names_itself(alloc, end, len),
-        Asked::Numbers => {
-            expect(end, (42, 0, b'v'), true)?;
-            numbers_requests(end)
-        }
-    }
+        Asked::Numbers => expect_stream(end) & numbers_requests(end),
+    };
+    keyed & held
 }
 
 // Makes an end that reports every 5 s and every 1 s, and asks it: the one function that owns a session,
 // with one exit.
-fn play(alloc: Global, asked: Asked) -> Result<bool, Fail> {
-    let mut made = config(alloc, map_of(Ids::Nothing), 1150, 0)?;
+fn play(alloc: Global, asked: Asked) -> bool {
+    let Some(mut made) = config(alloc, map_of(Ids::Nothing), 1150, 0) else {
+        return false;
+    };
     made.intervals = ReportIntervals {
         audio: Duration::from_secs(5),
         video: Duration::from_secs(1),
     };
-    let mut end = End::new(alloc, made)?;
+    let Some(mut end) = new_end(alloc, made) else {
+        return false;
+    };
     holds(alloc, &mut end, asked)
 }
 
-const TABLES: [&[Row]; 5] = [&TOLD, &COUNTED, &DUE, &NEWS, &REQUESTS];
+const TABLES: [&[Row]; 6] = [&TOLD, &COUNTED, &DUE, &NEWS, &REQUESTS, &TIMES];
 
 #[test]
-fn reports_hold(rt: HostRuntime) -> Result<(), Fail> {
+fn reports_hold(rt: HostRuntime) {
     for rows in &TABLES {
         for (name, steps) in *rows {
-            let held = play(rt.alloc(), Asked::Steps(steps))?;
-            assert!(rt; held, "{name}");
+            assert!(rt; play(rt.alloc(), Asked::Steps(steps)), "{name}");
         }
     }
-    Ok(())
 }
 
 // Of how many receivers moments came, and how many the reports answer, one after the other: each at most
@@ -99,35 +99,31 @@ const MOMENTS: [Receivers; 6] = [
 ];
 
 #[test]
-fn moments_are_answered(rt: HostRuntime) -> Result<(), Fail> {
+fn moments_are_answered(rt: HostRuntime) {
     for receivers in &MOMENTS {
-        let held = play(rt.alloc(), Asked::Moments(*receivers))?;
-        assert!(rt; held, "{}", receivers.0);
+        assert!(rt;
+            play(rt.alloc(), Asked::Moments(*receivers)),
+            "{}",
+            receivers.0
+        );
     }
-    Ok(())
 }
 
 const LENGTHS: [usize; 5] = [0, 1, 2, 255, 256];
 
 #[test]
-fn sources_are_named(rt: HostRuntime) -> Result<(), Fail> {
+fn sources_are_named(rt: HostRuntime) {
     for len in &LENGTHS {
-        let held = play(rt.alloc(), Asked::Named(*len))?;
-        assert!(rt; held, "{len}");
+        assert!(rt; play(rt.alloc(), Asked::Named(*len)), "{len}");
     }
-    Ok(())
 }
 
 #[test]
-fn full_intra_requests_are_numbered(rt: HostRuntime) -> Result<(), Fail> {
-    let held = play(rt.alloc(), Asked::Numbers)?;
-    assert!(rt; held);
-    Ok(())
+fn full_intra_requests_are_numbered(rt: HostRuntime) {
+    assert!(rt; play(rt.alloc(), Asked::Numbers));
 }
 
 #[test]
-fn many_streams_report(rt: HostRuntime) -> Result<(), Fail> {
-    let held = play(rt.alloc(), Asked::Many)?;
-    assert!(rt; held);
-    Ok(())
+fn many_streams_report(rt: HostRuntime) {
+    assert!(rt; play(rt.alloc(), Asked::Many));
 }

@@ -1,15 +1,18 @@
 use crate::arriving::{Wanted, first_packet, refuses, tells};
+use crate::calls::streams;
 use crate::carrying::{EXTENSIONS, Ids, carries, map_of};
-use crate::ends::{End, FIRST_REPORT, config, expect_stream, give_keys, moment, prepare_sender};
+use crate::ends::{
+    End, FIRST_REPORT, config, expect_stream, give_keys, moment, new_end, prepare_sender,
+};
 use crate::feedback::{Feedback, holds};
 use crate::leaving::{drains, is_silent, sends, write};
 use crate::packets::Incoming::{Changed, Cut, Long, Padded, SealOf};
 use crate::packets::{Incoming, SEALED, WITH_MID, bytes_of};
+use crate::sections::{Section, is_so};
 use media_base::already_happened;
 use rtp_base::Ssrc;
 use rtp_wire::{Extension, ExtensionValues};
 use std::alloc::Global;
-use std::test::Fail;
 
 /// What is asked of two fresh ends, one that sends and one that receives.
 #[derive(Clone, Copy)]
@@ -38,9 +41,11 @@ enum Row {
     Replays,
     /// Feedback leaves, comes and is told so.
     Feedback(Feedback),
+    /// This is set of the sender beside its streams, and asked of it.
+    Section(Section),
 }
 
-const ROWS: [(&str, Row); 31] = [
+const ROWS: [(&str, Row); 35] = [
     ("a packet", Row::Seals),
     ("a packet with its mid", Row::SealsWithMid),
     ("a drain", Row::Drains),
@@ -57,7 +62,7 @@ const ROWS: [(&str, Row); 31] = [
     ("2,000 bytes", Row::Tells(Long(2000), 1972)),
     ("2,001 bytes", Row::Refuses(Long(2001))),
     ("an unknown SSRC", Row::Refuses(SealOf(11, 0x2b))),
-    ("an unclaimed type", Row::Refuses(SealOf(1, 0x62))),
+    ("an unclaimed type", Row::Refuses(SealOf(1, 0x63))),
     ("a wrong tag", Row::Refuses(Changed(29, 2))),
     ("another payload", Row::Refuses(Changed(12, 2))),
     ("another version", Row::Refuses(Changed(0, 0x40))),
@@ -72,50 +77,61 @@ const ROWS: [(&str, Row); 31] = [
     ("cleared feedback", Row::Feedback(Feedback::Cleared)),
     ("feedback without keys", Row::Feedback(Feedback::Lost)),
     ("the last index", Row::Feedback(Feedback::LastIndex)),
+    ("a data channel", Row::Section(Section::SetsApp)),
+    ("keys", Row::Section(Section::Connects)),
+    ("a media section", Row::Section(Section::IsFound)),
+    ("what may want memory", Row::Section(Section::TellsNothing)),
 ];
 
 // Writes the packet of `SEALED`.
-fn write_first(alloc: Global, a: &mut End) -> Result<(), Fail> {
+fn write_first(alloc: Global, a: &mut End) -> bool {
     write(alloc, a, 1, ExtensionValues::none())
 }
 
-fn seals(alloc: Global, a: &mut End, bytes: &[u8]) -> Result<bool, Fail> {
-    give_keys(alloc, a, true)?;
-    write_first(alloc, a)?;
-    sends(a, bytes)
+// Writes it once there are keys.
+fn has_written(alloc: Global, a: &mut End) -> bool {
+    let keyed = give_keys(alloc, a, true);
+    keyed & write_first(alloc, a)
 }
 
-fn gives_all(alloc: Global, a: &mut End) -> Result<bool, Fail> {
-    give_keys(alloc, a, true)?;
-    write_first(alloc, a)?;
-    drains(a, &SEALED, FIRST_REPORT)
+fn seals(alloc: Global, a: &mut End, bytes: &[u8]) -> bool {
+    let written = has_written(alloc, a);
+    written & sends(a, bytes)
 }
 
-fn waits_to_send(alloc: Global, a: &mut End) -> Result<bool, Fail> {
-    write_first(alloc, a)?;
-    let without_keys = is_silent(a, moment())?;
-    give_keys(alloc, a, true)?;
-    let at_0 = is_silent(a, already_happened())?;
-    let then = sends(a, &SEALED)?;
-    Ok(without_keys && at_0 && then)
+fn gives_all(alloc: Global, a: &mut End) -> bool {
+    let written = has_written(alloc, a);
+    written & drains(a, &SEALED, FIRST_REPORT)
 }
 
-fn stops_sending(alloc: Global, a: &mut End) -> Result<bool, Fail> {
-    give_keys(alloc, a, true)?;
-    write_first(alloc, a)?;
-    let removed = a.streams().remove_stream_tx(Ssrc::from(42));
-    let then = is_silent(a, moment())?;
-    Ok(removed && then)
+fn waits_to_send(alloc: Global, a: &mut End) -> bool {
+    let written = write_first(alloc, a);
+    let without_keys = is_silent(a, moment());
+    let keyed = give_keys(alloc, a, true);
+    let at_0 = is_silent(a, already_happened());
+    let then = sends(a, &SEALED);
+    written & without_keys & keyed & at_0 & then
 }
 
-fn exchanges(alloc: Global, a: &mut End, b: &mut End, ids: Ids) -> Result<bool, Fail> {
-    give_keys(alloc, a, true)?;
-    give_keys(alloc, b, false)?;
-    carries(alloc, a, b, ids)
+fn stops_sending(alloc: Global, a: &mut End) -> bool {
+    let written = has_written(alloc, a);
+    let removed = streams(a).remove_stream_tx(Ssrc::from(42));
+    written & removed & is_silent(a, moment())
 }
 
-fn is_told(alloc: Global, b: &mut End, incoming: Incoming, len: usize) -> Result<bool, Fail> {
-    give_keys(alloc, b, false)?;
+fn exchanges(alloc: Global, a: &mut End, b: &mut End, ids: Ids) -> bool {
+    let left = give_keys(alloc, a, true);
+    let right = give_keys(alloc, b, false);
+    left & right & carries(alloc, a, b, ids)
+}
+
+// Whether `SEALED` is told.
+fn tells_first(b: &mut End) -> bool {
+    tells(b, &SEALED, &first_packet())
+}
+
+fn is_told(alloc: Global, b: &mut End, incoming: Incoming, len: usize) -> bool {
+    let keyed = give_keys(alloc, b, false);
     let mut all = [0; 2000];
     all[0] = 1;
     all[1] = 2;
@@ -123,46 +139,49 @@ fn is_told(alloc: Global, b: &mut End, incoming: Incoming, len: usize) -> Result
         payload: &all[..len.min(2000)],
         ..first_packet()
     };
-    let bytes = bytes_of(alloc, incoming)?;
-    tells(b, bytes.as_slice(), &wanted)
+    match bytes_of(alloc, incoming) {
+        Some(bytes) => keyed & tells(b, bytes.as_slice(), &wanted),
+        None => false,
+    }
 }
 
-fn is_refused(alloc: Global, b: &mut End, incoming: Incoming) -> Result<bool, Fail> {
-    give_keys(alloc, b, false)?;
-    let bytes = bytes_of(alloc, incoming)?;
-    let refused = refuses(b, bytes.as_slice())?;
-    let then = tells(b, &SEALED, &first_packet())?;
-    Ok(refused && then)
+fn is_refused(alloc: Global, b: &mut End, incoming: Incoming) -> bool {
+    let keyed = give_keys(alloc, b, false);
+    let refused = match bytes_of(alloc, incoming) {
+        Some(bytes) => refuses(b, bytes.as_slice()),
+        None => false,
+    };
+    keyed & refused & tells_first(b)
 }
 
-fn waits_for_keys(alloc: Global, b: &mut End) -> Result<bool, Fail> {
-    let without_keys = refuses(b, &SEALED)?;
-    give_keys(alloc, b, false)?;
-    let then = tells(b, &SEALED, &first_packet())?;
-    Ok(without_keys && then)
+fn waits_for_keys(alloc: Global, b: &mut End) -> bool {
+    let without_keys = refuses(b, &SEALED);
+    let keyed = give_keys(alloc, b, false);
+    without_keys & keyed & tells_first(b)
 }
 
-fn stops_receiving(alloc: Global, b: &mut End) -> Result<bool, Fail> {
-    give_keys(alloc, b, false)?;
-    let removed = b.streams().remove_stream_rx(Ssrc::from(42));
-    let without_stream = refuses(b, &SEALED)?;
-    expect_stream(b)?;
-    let then = tells(b, &SEALED, &first_packet())?;
-    Ok(removed && without_stream && then)
+fn stops_receiving(alloc: Global, b: &mut End) -> bool {
+    let keyed = give_keys(alloc, b, false);
+    let removed = streams(b).remove_stream_rx(Ssrc::from(42));
+    let without_stream = refuses(b, &SEALED);
+    let expected = expect_stream(b);
+    keyed & removed & without_stream & expected & tells_first(b)
 }
 
-fn opens_once(alloc: Global, b: &mut End) -> Result<bool, Fail> {
-    give_keys(alloc, b, false)?;
-    let first = tells(b, &SEALED, &first_packet())?;
-    let again = refuses(b, &SEALED)?;
+fn opens_once(alloc: Global, b: &mut End) -> bool {
+    let keyed = give_keys(alloc, b, false);
+    let first = tells_first(b);
+    let again = refuses(b, &SEALED);
     let wanted = Wanted {
         number: 2,
         unpauses: false,
         ..first_packet()
     };
-    let next = bytes_of(alloc, SealOf(3, 2))?;
-    let then = tells(b, next.as_slice(), &wanted)?;
-    Ok(first && again && then)
+    let then = match bytes_of(alloc, SealOf(3, 2)) {
+        Some(bytes) => tells(b, bytes.as_slice(), &wanted),
+        None => false,
+    };
+    keyed & first & again & then
 }
 
 // The ids with which a row's ends are made.
@@ -192,19 +211,17 @@ fn index_of(row: Row) -> u32 {
     }
 }
 
-fn hears(alloc: Global, a: &mut End, b: &mut End, asked: Feedback) -> Result<bool, Fail> {
-    match asked {
-        Feedback::Lost => {}
-        _ => give_keys(alloc, a, true)?,
-    }
-    give_keys(alloc, b, false)?;
-    holds(alloc, a, b, asked)
+fn hears(alloc: Global, a: &mut End, b: &mut End, asked: Feedback) -> bool {
+    let left = match asked {
+        Feedback::Lost => true,
+        _ => give_keys(alloc, a, true),
+    };
+    let right = give_keys(alloc, b, false);
+    left & right & holds(alloc, a, b, asked)
 }
 
-// Whether two fresh ends answer as a row says.
-fn hold(alloc: Global, a: &mut End, b: &mut End, row: Row) -> Result<bool, Fail> {
-    prepare_sender(alloc, a)?;
-    expect_stream(b)?;
+// Whether two ends answer as a row says, of which one sends and the other receives.
+fn answer(alloc: Global, a: &mut End, b: &mut End, row: Row) -> bool {
     match row {
         Row::Seals => seals(alloc, a, &SEALED),
         Row::SealsWithMid => seals(alloc, a, &WITH_MID),
@@ -218,43 +235,55 @@ fn hold(alloc: Global, a: &mut End, b: &mut End, row: Row) -> Result<bool, Fail>
         Row::StopsReceiving => stops_receiving(alloc, b),
         Row::Replays => opens_once(alloc, b),
         Row::Feedback(asked) => hears(alloc, a, b, asked),
+        Row::Section(section) => is_so(alloc, a, section),
     }
 }
 
+// Whether two fresh ends answer as a row says.
+fn hold(alloc: Global, a: &mut End, b: &mut End, row: Row) -> bool {
+    let prepared = prepare_sender(alloc, a);
+    let expected = expect_stream(b);
+    prepared & expected & answer(alloc, a, b, row)
+}
+
 // Makes two ends, and asks them a row: the one function that owns sessions, with one exit.
-fn play(alloc: Global, row: Row) -> Result<bool, Fail> {
+fn play(alloc: Global, row: Row) -> bool {
     let exts = map_of(ids_of(row));
     let (target, index) = (target_of(row), index_of(row));
-    let sender = config(alloc, exts, target, index)?;
-    let receiver = config(alloc, exts, target, index)?;
-    let mut a = End::new(alloc, sender)?;
-    let mut b = End::new(alloc, receiver)?;
+    let Some(sender) = config(alloc, exts, target, index) else {
+        return false;
+    };
+    let Some(receiver) = config(alloc, exts, target, index) else {
+        return false;
+    };
+    let Some(mut a) = new_end(alloc, sender) else {
+        return false;
+    };
+    let Some(mut b) = new_end(alloc, receiver) else {
+        return false;
+    };
     hold(alloc, &mut a, &mut b, row)
 }
 
 #[test]
-fn rows_hold(rt: HostRuntime) -> Result<(), Fail> {
+fn rows_hold(rt: HostRuntime) {
     for (name, row) in &ROWS {
-        let held = play(rt.alloc(), *row)?;
-        assert!(rt; held, "{name}");
+        assert!(rt; play(rt.alloc(), *row), "{name}");
     }
-    Ok(())
 }
 
 #[test]
-fn each_extension_is_carried(rt: HostRuntime) -> Result<(), Fail> {
+fn each_extension_is_carried(rt: HostRuntime) {
     for extension in &EXTENSIONS {
-        let held = play(rt.alloc(), Row::Carries(Ids::Only(*extension)))?;
+        let held = play(rt.alloc(), Row::Carries(Ids::Only(*extension)));
         assert!(rt; held, "{extension:?}");
     }
-    Ok(())
 }
 
 #[test]
-fn compounds_are_cut_at_each_target(rt: HostRuntime) -> Result<(), Fail> {
+fn compounds_are_cut_at_each_target(rt: HostRuntime) {
     for target in 900..1501 {
-        let held = play(rt.alloc(), Row::Feedback(Feedback::Cut(target)))?;
+        let held = play(rt.alloc(), Row::Feedback(Feedback::Cut(target)));
         assert!(rt; held, "{target}");
     }
-    Ok(())
 }

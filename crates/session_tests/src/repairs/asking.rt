@@ -1,10 +1,8 @@
 //! Repairs that are asked for, and the cap on them.
 use crate::carrying::Ids;
-use crate::repairs::steps::Out::{Again, AgainLong, First, FirstLong, Plain};
-use crate::repairs::steps::Step::{
-    Asks, Drains, Hears, Keeps, Puts, SendsThree, Ticks, Writes, WritesLong,
-};
-use crate::repairs::steps::{ASKS_2, Begins, FROM_5, REPAIR_OF_2, Row};
+use crate::repairs::steps::Out::{Again, First, Plain};
+use crate::repairs::steps::Step::{Asks, Drains, Hears, Keeps, Puts, SendsThree, Ticks, Writes};
+use crate::repairs::steps::{ASKS_2, Begins, FROM_5, LONG, REPAIR_OF_2, Row};
 
 // SSRC 2 asks on SSRC 42 for the number 3 and then for 1: two entries in one item.
 const ASKS_3_THEN_1: &[u8] = &[
@@ -169,15 +167,19 @@ pub const ASKED: [Row; 13] = [
         &[
             Writes(42, 1, &[]),
             Writes(42, 2, &[9]),
-            WritesLong(3),
+            Writes(42, 3, LONG),
             Ticks(
                 10_000_000,
-                &[First(42, 1, &[]), First(42, 2, &[9]), FirstLong(3)],
+                &[First(42, 1, &[]), First(42, 2, &[9]), First(42, 3, LONG)],
             ),
             Asks(20_000_000, 42, 1, 3),
             Ticks(
                 30_000_000,
-                &[Again(43, 5, 1, &[]), Again(43, 6, 2, &[9]), AgainLong(7, 3)],
+                &[
+                    Again(43, 5, 1, &[]),
+                    Again(43, 6, 2, &[9]),
+                    Again(43, 7, 3, LONG),
+                ],
             ),
         ],
     ),

@@ -1,24 +1,11 @@
 //! What the peer asks and tells of streams: requests for key frames (RFC 4585 section 6.3.1, RFC 5104
-//! section 4.3.1.1), reports of senders (RFC 3550 section 6.4.1) and greatest rates
-//! (draft-alvestrand-rmcat-remb section 2.2). All are from SSRC 9.
-use crate::ends::End;
-use crate::reports::steps::Step::{Expects, Hears, Sends, Tells};
-use crate::reports::steps::{Row, mid_of};
-use media_base::Instant;
-use rtp_base::KeyframeRequestKind::{self, Fir, Pli};
-use rtp_base::Ssrc;
-use session_core::Event;
-
-/// An event: the letter of its media section, and what it tells.
-#[derive(Clone, Copy, Debug)]
-pub enum News {
-    /// A key frame is asked for.
-    Frame(u8, KeyframeRequestKind),
-    /// The sender of an SSRC reported, at a moment, with so many packets.
-    Sender(u8, u8, u64, u32),
-    /// The greatest rate, in bits a second.
-    Rate(u8, u64),
-}
+//! section 4.3.1.1), reports of senders (RFC 3550 section 6.4.1), greatest rates
+//! (draft-alvestrand-rmcat-remb section 2.2) and goodbyes (RFC 3550 section 6.6). All but the reports and the
+//! goodbyes are from SSRC 9.
+use crate::reports::steps::Row;
+use crate::reports::steps::Step::{Comes, Drains, Expects, Hears, Sends, Tells, Tick, Wakes};
+use crate::telling::Told::{Frame, Packet, Rate, Sender, Unpaused, Words};
+use rtp_base::KeyframeRequestKind::{Fir, Pli};
 
 const PICTURE: &[u8] = &[0x81, 0xce, 0, 2, 0, 0, 0, 9, 0, 0, 0, 42];
 
@@ -58,14 +45,28 @@ const ALL: &[u8] = &[
     0, 0, 0, 44, 0, 0, 0, 42, 0x81, 0xce, 0, 2, 0, 0, 0, 9, 0, 0, 0, 42,
 ];
 
+// Feedback of an application with the words 01020304 (RFC 4585 section 6.4).
+const WORDS: &[u8] = &[0x8f, 0xce, 0, 3, 0, 0, 0, 1, 0, 0, 0, 42, 1, 2, 3, 4];
+
+// SSRC 42 and SSRC 43 leave, for the reason end.
+const GOODBYE: &[u8] = &[
+    0x82, 0xcb, 0, 3, 0, 0, 0, 42, 0, 0, 0, 43, 3, b'e', b'n', b'd',
+];
+
+// SSRC 2 reports on SSRC 42 after 1 s: none was lost up to the number 2. Its own moment stands behind.
+const NONE_LOST: &[u8] = &[
+    0x81, 0xc9, 0, 7, 0, 0, 0, 2, 0, 0, 0, 42, 0, 0, 0, 0, 0, 0, 0, 2, 0, 0, 0, 0, 0, 0, 0, 0, 0,
+    0, 0, 0, 0x80, 0xcf, 0, 4, 0, 0, 0, 2, 4, 0, 0, 2, 0xe8, 0xfe, 0x6f, 0x81, 0, 0, 0, 0,
+];
+
 /// What the peer asks and tells of streams.
-pub const NEWS: [Row; 6] = [
+pub const NEWS: [Row; 8] = [
     (
         "a picture, once",
         &[
             Sends(42, 0, b'v'),
             Hears(1, PICTURE),
-            Tells(&[News::Frame(b'v', Pli)]),
+            Tells(&[Frame(b'v', Pli)]),
             Tells(&[]),
         ],
     ),
@@ -75,10 +76,10 @@ pub const NEWS: [Row; 6] = [
             Sends(42, 0, b'v'),
             Sends(44, 0, b'w'),
             Hears(1, BOTH),
-            Tells(&[News::Frame(b'v', Fir), News::Frame(b'w', Fir)]),
+            Tells(&[Frame(b'v', Fir), Frame(b'w', Fir)]),
             Hears(2, INTRA),
             Hears(3, PICTURE),
-            Tells(&[News::Frame(b'w', Fir), News::Frame(b'v', Pli)]),
+            Tells(&[Frame(b'w', Fir), Frame(b'v', Pli)]),
         ],
     ),
     (
@@ -86,10 +87,10 @@ pub const NEWS: [Row; 6] = [
         &[
             Sends(42, 0, b'v'),
             Hears(1, ONE_MEGABIT),
-            Tells(&[News::Rate(b'v', 1_000_000)]),
+            Tells(&[Rate(b'v', 1_000_000)]),
             Sends(44, 0, b'w'),
             Hears(2, ONE_MEGABIT),
-            Tells(&[News::Rate(b'w', 1_000_000), News::Rate(b'v', 1_000_000)]),
+            Tells(&[Rate(b'w', 1_000_000), Rate(b'v', 1_000_000)]),
         ],
     ),
     (
@@ -107,7 +108,7 @@ pub const NEWS: [Row; 6] = [
             Expects(43, 0, b'v'),
             Hears(1, REPORT),
             Hears(2, REPORT),
-            Tells(&[News::Sender(b'v', 43, 2, 3)]),
+            Tells(&[Sender(b'v', 43, 2, 3)]),
             Tells(&[]),
         ],
     ),
@@ -119,44 +120,53 @@ pub const NEWS: [Row; 6] = [
             Expects(43, 0, b'v'),
             Hears(1, ALL),
             Tells(&[
-                News::Frame(b'v', Pli),
-                News::Sender(b'v', 43, 1, 3),
-                News::Rate(b'w', 1_000_000),
-                News::Rate(b'v', 1_000_000),
+                Frame(b'v', Pli),
+                Sender(b'v', 43, 1, 3),
+                Rate(b'w', 1_000_000),
+                Rate(b'v', 1_000_000),
             ]),
         ],
     ),
+    (
+        "all that waits, once and in order, from one drain",
+        &[
+            Sends(42, 0, b'v'),
+            Sends(44, 0, b'w'),
+            Expects(45, 0, b'v'),
+            Expects(43, 0, b'v'),
+            Comes(1, 43, 7, 0),
+            Hears(1, ALL),
+            Comes(1, 45, 8, 0),
+            Hears(1, WORDS),
+            Drains(
+                1,
+                &[
+                    Words,
+                    Unpaused(45),
+                    Unpaused(43),
+                    Packet(45, 8),
+                    Frame(b'v', Pli),
+                    Sender(b'v', 43, 1, 3),
+                    Rate(b'w', 1_000_000),
+                    Rate(b'v', 1_000_000),
+                ],
+            ),
+            Tells(&[]),
+        ],
+    ),
+    (
+        "a goodbye changes nothing",
+        &[
+            Expects(42, 43, b'v'),
+            Comes(1_000_000, 42, 1, 0),
+            Tells(&[Unpaused(42), Packet(42, 1)]),
+            Wakes(Some(1_000_000_000)),
+            Hears(2_000_000, GOODBYE),
+            Tells(&[]),
+            Wakes(Some(1_000_000_000)),
+            Comes(3_000_000, 42, 2, 180),
+            Tells(&[Packet(42, 2)]),
+            Tick(1_000_000_000, NONE_LOST),
+        ],
+    ),
 ];
-
-fn is_news(told: News, event: &Event) -> bool {
-    match (told, event) {
-        (News::Frame(mid, kind), Event::KeyframeRequest(request)) => {
-            request.mid == mid_of(mid) && request.rid.is_none() && request.kind == kind
-        }
-        (News::Sender(mid, low, moment, packets), Event::SenderFeedback(report)) => {
-            report.mid == mid_of(mid)
-                && report.rid.is_none()
-                && report.received_at == Instant::from_nanos(moment)
-                && report.sender_info.ssrc == Ssrc::from(u32::from(low))
-                && report.sender_info.sender_packet_count == packets
-        }
-        (News::Rate(mid, rate), Event::Remb(request)) => {
-            request.mid == mid_of(mid) && request.bitrate.as_u64() == rate
-        }
-        _ => false,
-    }
-}
-
-/// Whether an end tells these events next, and then nothing.
-pub fn tells(end: &mut End, all: &[News]) -> bool {
-    for told in all {
-        let right = match end.poll_event() {
-            Some(event) => is_news(*told, &event),
-            None => false,
-        };
-        if !right {
-            return false;
-        }
-    }
-    end.poll_event().is_none()
-}

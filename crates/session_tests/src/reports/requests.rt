@@ -1,11 +1,10 @@
 //! What streams ask of their senders: a key frame by PLI (RFC 4585 section 6.3.1) or FIR (RFC 5104 section
 //! 4.3.1.1), and a rate by REMB (draft-alvestrand-rmcat-remb section 2.2). SSRC 2, that of an end while it
 //! sends nothing, asks on SSRC 42.
-use crate::ends::End;
+use crate::ends::{End, ask_frame, at};
 use crate::reports::steps::Step::{Asks, Comes, Expects, Frames, Rates, Seals, Tick, Wakes};
-use crate::reports::steps::{Row, ask_frame, at, ticks};
+use crate::reports::steps::{Row, ticks};
 use rtp_base::KeyframeRequestKind::{Fir, Pli};
-use std::test::Fail;
 
 const PICTURE: &[u8] = &[0x81, 0xce, 0, 2, 0, 0, 0, 2, 0, 0, 0, 42];
 
@@ -96,16 +95,14 @@ pub const REQUESTS: [Row; 5] = [
 ];
 
 /// Whether an end numbers 257 full intra requests from 0 on: 0 follows on 255.
-pub fn numbers_requests(end: &mut End) -> Result<bool, Fail> {
+pub fn numbers_requests(end: &mut End) -> bool {
+    let mut held = true;
     for count in 0..257u64 {
-        ask_frame(end, 42, Fir);
         let number = (count % 256) as u8;
         let wanted = [
             0x84, 0xce, 0, 4, 0, 0, 0, 2, 0, 0, 0, 0, 0, 0, 0, 42, number, 0, 0, 0,
         ];
-        if !ticks(end, at(count + 1), &wanted)? {
-            return Ok(false);
-        }
+        held &= ask_frame(end, 42, Fir) & ticks(end, at(count + 1), &wanted);
     }
-    Ok(true)
+    held
 }

@@ -1,12 +1,14 @@
 //! What is done with an end that reports.
-use crate::ends::{End, mid, section};
-use crate::packets::{seal_numbered, seal_report};
-use crate::reports::news::{News, tells};
+use crate::calls::{streams, tick};
+use crate::ends::{End, add_section, ask_frame, at, declare, expect, put, reset, rid, ssrc};
+use crate::leaving::{is_next, is_silent, next};
+use crate::packets::{head, hears, joined, opens, seal_numbered};
+use crate::telling::{Told, drains, mid_of, tells};
+use mapping_core::{MainChange, Mapping};
 use media_base::{Bitrate, Instant};
-use rtp_base::{KeyframeRequestKind, Kind, Mid, MidRid, Pt, SeqNo, Ssrc};
+use rtp_base::{Frequency, KeyframeRequestKind, Kind, MediaTime, MidRid, Pt, SeqNo, Ssrc};
 use session_core::MediaKind;
 use std::alloc::Global;
-use std::test::Fail;
 use stream_core::{Payload, RtpWrite};
 
 /// What is done with an end, or asked of it. Moments are in nanoseconds; a mid is one letter; an SSRC of
@@ -28,18 +30,26 @@ pub enum Step {
     Comes(u64, u8, u64, u32),
     /// The first repair on an SSRC comes at a moment, of the packet of this number, at RTP time 0. It opens.
     Repaired(u64, u8, u8),
+    /// What is received on an SSRC comes under another one.
+    Moves(u8, u8),
+    /// What is sent on an SSRC is sent under another one, without repairs.
+    Resets(u8, u8),
+    /// The last RTP time of the stream that receives on an SSRC, in units of 90 kHz, if there is one.
+    Timed(u8, Option<u64>),
     /// Its stream of an SSRC asks for a key frame.
     Frames(u8, KeyframeRequestKind),
     /// Its stream of an SSRC tells the greatest rate, in bits a second.
     Rates(u8, u64),
     /// Reports come at a moment, and open.
     Hears(u64, &'static [u8]),
-    /// A tick at a moment. One compound leaves, none where there are no bytes; packets may leave behind it.
+    /// A tick at a moment. One compound leaves, none where there are no bytes; a packet may leave behind it.
     Tick(u64, &'static [u8]),
     /// A tick at a moment. This datagram leaves next.
     Seals(u64, &'static [u8]),
     /// It tells these events, and no more.
-    Tells(&'static [News]),
+    Tells(&'static [Told]),
+    /// A drain at a moment tells these events, and the next one none.
+    Drains(u64, &'static [Told]),
     /// It wants a tick at this moment next.
     Wakes(Option<u64>),
 }
@@ -47,146 +57,105 @@ pub enum Step {
 /// A name, and what is done one after the other.
 pub type Row = (&'static str, &'static [Step]);
 
-/// A moment in nanoseconds.
-pub fn at(moment: u64) -> Instant {
-    Instant::from_nanos(moment)
-}
-
-fn ssrc(low: u8) -> Ssrc {
-    Ssrc::from(u32::from(low))
-}
-
-/// The mid of a letter.
-pub fn mid_of(letter: u8) -> Mid {
-    match Mid::from_slice(&[letter]) {
-        Some(mid) => mid,
-        None => mid(),
-    }
+/// The stream of the rid hi of the media section of a letter.
+pub fn way(letter: u8) -> MidRid {
+    MidRid(mid_of(letter), Some(rid()))
 }
 
 fn rtx_of(low: u8) -> Option<Ssrc> {
     if low == 0 { None } else { Some(ssrc(low)) }
 }
 
-/// Adds a media section.
-pub fn add(
-    alloc: Global,
-    end: &mut End,
-    letter: u8,
-    kind: MediaKind,
-    cname: &[u8],
-) -> Result<(), Fail> {
-    end.add_media(section(alloc, mid_of(letter), kind, cname)?)?;
-    Ok(())
+fn sends(end: &mut End, low: u8, rtx: u8, letter: u8) -> bool {
+    let repairs = if rtx == 0 { None } else { Some((rtx, 1)) };
+    declare(end, low, repairs, way(letter))
 }
 
-/// Has an end receive on an SSRC, with repairs on another, of a mid.
-pub fn expect(end: &mut End, way: (u8, u8, u8), suppress: bool) -> Result<(), Fail> {
-    let mid_rid = MidRid(mid_of(way.2), None);
-    end.streams()
-        .expect_stream_rx(ssrc(way.0), rtx_of(way.1), mid_rid, suppress)?;
-    Ok(())
+fn writes(alloc: Global, end: &mut End, low: u8, time: u32, moment: u64) -> bool {
+    let Ok(payload) = Payload::from_slice(alloc, &[1, 2]) else {
+        return false;
+    };
+    let write = RtpWrite::new(Pt::from(96), SeqNo::from(1), time, at(moment), payload);
+    put(end, low, write)
 }
 
-/// Declares a stream that sends on an SSRC, with repairs on another, of a mid.
-pub fn declare(end: &mut End, way: (u8, u8, u8)) -> Result<(), Fail> {
-    let repairs = match rtx_of(way.1) {
-        Some(rtx) => Some((rtx, SeqNo::from(1))),
+fn tell_rate(end: &mut End, low: u8, rate: u64) -> bool {
+    let streams = streams(end);
+    let Some(place) = streams.rx_place(ssrc(low)) else {
+        return false;
+    };
+    streams.rx_at(place).request_remb(Bitrate::bps(rate));
+    true
+}
+
+fn moves(end: &mut End, low: u8, other: u8) -> bool {
+    let change = MainChange {
+        from: ssrc(low),
+        to: ssrc(other),
+    };
+    streams(end)
+        .take_up(ssrc(other), &Mapping::NewMain(change))
+        .is_ok()
+}
+
+fn is_timed(end: &mut End, low: u8, time: Option<u64>) -> bool {
+    let wanted = match time {
+        Some(time) => Some(MediaTime::new(time, Frequency::NINETY_KHZ)),
         None => None,
     };
-    let mid_rid = MidRid(mid_of(way.2), None);
-    end.streams()
-        .declare_stream_tx(ssrc(way.0), repairs, mid_rid)?;
-    Ok(())
+    let streams = streams(end);
+    let Some(place) = streams.rx_place(ssrc(low)) else {
+        return false;
+    };
+    streams.rx(place).last_time() == wanted
 }
 
-fn write(alloc: Global, end: &mut End, low: u8, time: u32, moment: u64) -> Result<(), Fail> {
-    let payload = Payload::from_slice(alloc, &[1, 2])?;
-    let write = RtpWrite::new(Pt::from(96), SeqNo::from(1), time, at(moment), payload);
-    let streams = end.streams();
-    if let Some(place) = streams.tx_place(ssrc(low)) {
-        streams.tx_at(place).write_rtp(write)?;
-    }
-    Ok(())
-}
-
-/// Has the stream that receives on an SSRC ask for a key frame.
-pub fn ask_frame(end: &mut End, low: u8, kind: KeyframeRequestKind) {
-    let streams = end.streams();
-    if let Some(place) = streams.rx_place(ssrc(low)) {
-        streams.rx_at(place).request_keyframe(kind);
-    }
-}
-
-fn tell_rate(end: &mut End, low: u8, rate: u64) {
-    let streams = end.streams();
-    if let Some(place) = streams.rx_place(ssrc(low)) {
-        streams.rx_at(place).request_remb(Bitrate::bps(rate));
-    }
-}
-
-// Whether a packet of this type, SSRC, number, RTP time and payload opens (RFC 3550 section 5.1).
-fn opens(
+// Whether a packet of this head and payload opens, of this number.
+fn comes(
     alloc: Global,
     end: &mut End,
-    now: Instant,
-    way: (u8, u8, u64, u32),
+    now: u64,
+    number: u64,
+    head: &[u8; 12],
     payload: &[u8],
-) -> Result<bool, Fail> {
-    let [high, low] = ((way.2 % 65_536) as u16).to_be_bytes();
-    let mut plain = vec![in alloc; 0x80, way.0, high, low]?;
-    plain.extend_from_slice(&way.3.to_be_bytes())?;
-    plain.extend_from_slice(&[0, 0, 0, way.1])?;
-    plain.extend_from_slice(payload)?;
-    let bytes = seal_numbered(alloc, plain.as_slice(), way.2)?;
-    let opened = end.handle_rtp_receive(now, bytes.as_slice())?;
-    Ok(opened.is_some())
+) -> bool {
+    let Some(plain) = joined(alloc, &[head, payload]) else {
+        return false;
+    };
+    let Some(bytes) = seal_numbered(alloc, plain.as_slice(), number) else {
+        return false;
+    };
+    opens(end, at(now), bytes.as_slice())
 }
 
-/// Whether reports open that come.
-pub fn hears(alloc: Global, end: &mut End, now: Instant, plain: &[u8]) -> Result<bool, Fail> {
-    let sealed = seal_report(alloc, plain)?;
-    let opened = end.handle_rtcp_receive(now, sealed.as_slice())?;
-    Ok(opened.is_some())
+// Whether a packet leaves next, or nothing.
+fn is_packet(end: &mut End, now: Instant) -> bool {
+    match next(end, now) {
+        Some(sent) => sent.kind == Kind::Rtp,
+        None => true,
+    }
 }
 
-/// Whether this compound leaves next, or no feedback where there are no bytes, and behind it packets
-/// alone, at most three.
-pub fn leaves(end: &mut End, now: Instant, plain: &[u8]) -> Result<bool, Fail> {
-    if !plain.is_empty() {
-        let right = match end.poll_datagram(now)? {
-            Some(sent) => sent.kind == Kind::Rtcp && sent.plain.as_slice() == plain,
-            None => false,
-        };
-        if !right {
-            return Ok(false);
-        }
-    }
-    for _ in 0..4 {
-        match end.poll_datagram(now)? {
-            Some(sent) => {
-                if sent.kind == Kind::Rtcp {
-                    return Ok(false);
-                }
-            }
-            None => return Ok(true),
-        }
-    }
-    Ok(false)
+/// Whether this compound leaves next, or no feedback where there are no bytes, and behind it at most one
+/// packet.
+pub fn leaves(end: &mut End, now: Instant, plain: &[u8]) -> bool {
+    let first = plain.is_empty() || is_next(end, now, plain);
+    let then = is_packet(end, now);
+    first & then & is_silent(end, now)
 }
 
-fn seals(end: &mut End, now: Instant, bytes: &[u8]) -> Result<bool, Fail> {
-    end.handle_timeout(now)?;
-    match end.poll_datagram(now)? {
-        Some(sent) => Ok(sent.bytes.as_slice() == bytes),
-        None => Ok(false),
-    }
+fn seals(end: &mut End, now: Instant, bytes: &[u8]) -> bool {
+    let ticked = tick(end, now).is_ok();
+    let Some(sent) = next(end, now) else {
+        return false;
+    };
+    ticked & (sent.bytes.as_slice() == bytes)
 }
 
 /// Whether this compound leaves at a tick, as `leaves` says.
-pub fn ticks(end: &mut End, now: Instant, plain: &[u8]) -> Result<bool, Fail> {
-    end.handle_timeout(now)?;
-    leaves(end, now, plain)
+pub fn ticks(end: &mut End, now: Instant, plain: &[u8]) -> bool {
+    let ticked = tick(end, now).is_ok();
+    ticked & leaves(end, now, plain)
 }
 
 fn wakes(end: &End, moment: Option<u64>) -> bool {
@@ -196,27 +165,40 @@ fn wakes(end: &End, moment: Option<u64>) -> bool {
     }
 }
 
-/// Does a step with an end, and tells whether it went so.
-pub fn goes(alloc: Global, end: &mut End, step: Step) -> Result<bool, Fail> {
+// What is done with streams, or asked of them.
+fn streams_go(alloc: Global, end: &mut End, step: Step) -> bool {
     match step {
-        Step::Adds(letter, kind, cname) => add(alloc, end, letter, kind, cname)?,
-        Step::Expects(low, rtx, letter) => expect(end, (low, rtx, letter), true)?,
-        Step::Asks(low, rtx, letter) => expect(end, (low, rtx, letter), false)?,
-        Step::Sends(low, rtx, letter) => declare(end, (low, rtx, letter))?,
-        Step::Writes(low, time, moment) => write(alloc, end, low, time, moment)?,
-        Step::Comes(now, low, number, time) => {
-            return opens(alloc, end, at(now), (96, low, number, time), &[1, 2]);
-        }
-        Step::Repaired(now, low, number) => {
-            return opens(alloc, end, at(now), (97, low, 1, 0), &[0, number, 1, 2]);
-        }
-        Step::Hears(now, plain) => return hears(alloc, end, at(now), plain),
+        Step::Expects(low, rtx, letter) => expect(end, low, rtx_of(rtx), way(letter), true),
+        Step::Asks(low, rtx, letter) => expect(end, low, rtx_of(rtx), way(letter), false),
+        Step::Sends(low, rtx, letter) => sends(end, low, rtx, letter),
+        Step::Writes(low, time, moment) => writes(alloc, end, low, time, moment),
         Step::Frames(low, kind) => ask_frame(end, low, kind),
         Step::Rates(low, rate) => tell_rate(end, low, rate),
-        Step::Seals(now, bytes) => return seals(end, at(now), bytes),
-        Step::Tick(now, plain) => return ticks(end, at(now), plain),
-        Step::Tells(all) => return Ok(tells(end, all)),
-        Step::Wakes(moment) => return Ok(wakes(end, moment)),
+        Step::Moves(low, other) => moves(end, low, other),
+        Step::Resets(low, other) => reset(end, low, other, None),
+        Step::Timed(low, time) => is_timed(end, low, time),
+        _ => false,
     }
-    Ok(true)
+}
+
+/// Does a step with an end, and tells whether it went so.
+pub fn goes(alloc: Global, end: &mut End, step: Step) -> bool {
+    match step {
+        Step::Adds(letter, kind, cname) => add_section(alloc, end, mid_of(letter), kind, cname),
+        Step::Comes(now, low, number, time) => {
+            let head = head(0x80, 96, number, time, low);
+            comes(alloc, end, now, number, &head, &[1, 2])
+        }
+        Step::Repaired(now, low, number) => {
+            let head = head(0x80, 97, 1, 0, low);
+            comes(alloc, end, now, 1, &head, &[0, number, 1, 2])
+        }
+        Step::Hears(now, plain) => hears(alloc, end, at(now), plain),
+        Step::Seals(now, bytes) => seals(end, at(now), bytes),
+        Step::Tick(now, plain) => ticks(end, at(now), plain),
+        Step::Tells(all) => tells(end, all),
+        Step::Drains(now, all) => drains(end, now, all),
+        Step::Wakes(moment) => wakes(end, moment),
+        _ => streams_go(alloc, end, step),
+    }
 }

@@ -1,7 +1,10 @@
 //! What an exchange of reports tells (RFC 3550 section 6.4.1, RFC 3611 sections 4.4 and 4.5). Moment 0 is
 //! 1,700,000,000 s after 1970, 0xe8fe6f80 s after 1900 (RFC 868).
 use crate::reports::steps::Row;
-use crate::reports::steps::Step::{Adds, Asks, Comes, Hears, Sends, Tick, Writes};
+use crate::reports::steps::Step::{
+    Adds, Asks, Comes, Frames, Hears, Moves, Rates, Resets, Sends, Tick, Timed, Wakes, Writes,
+};
+use rtp_base::KeyframeRequestKind::{Fir, Pli};
 use session_core::MediaKind;
 
 // SSRC 42 reports after 1 s: its RTP time was 160,000 at 0.5 s, so it is 205,000 then, at 90 kHz; it sent
@@ -74,8 +77,56 @@ const IN_ITS_PLACE: &[u8] = &[
     0, 0, 0x80, 0,
 ];
 
+// SSRC 50 reports after 1.5 s that it sent nothing, with its name.
+const ANEW: &[u8] = &[
+    0x80, 0xc8, 0, 6, 0, 0, 0, 50, 0xe8, 0xfe, 0x6f, 0x81, 0x80, 0, 0, 0, 0, 0, 0, 0, 0, 0, 0, 0,
+    0, 0, 0, 0, 0x81, 0xca, 0, 3, 0, 0, 0, 50, 1, 3, 99, 97, 109, 0, 0, 0,
+];
+
+// SSRC 50 reports after 2.5 s: its RTP time was 160,000 at 0.5 s, so it is 340,000 then, at 90 kHz; it sent one
+// packet with two bytes of payload.
+const SENT_ANEW: &[u8] = &[
+    0x80, 0xc8, 0, 6, 0, 0, 0, 50, 0xe8, 0xfe, 0x6f, 0x82, 0x80, 0, 0, 0, 0, 5, 0x30, 0x20, 0, 0,
+    0, 1, 0, 0, 0, 2, 0x81, 0xca, 0, 3, 0, 0, 0, 50, 1, 3, 99, 97, 109, 0, 0, 0,
+];
+
+// SSRC 42 reports of moment 0: one packet with two bytes.
+const OF_42: &[u8] = &[
+    0x80, 0xc8, 0, 6, 0, 0, 0, 42, 0xe8, 0xfe, 0x6f, 0x80, 0, 0, 0, 0, 0, 0, 0, 0, 0, 0, 0, 1, 0,
+    0, 0, 2,
+];
+
+// The first full intra request of SSRC 42, and of SSRC 44 (RFC 5104 section 4.3.1.1).
+const INTRA_0: &[u8] = &[
+    0x84, 0xce, 0, 4, 0, 0, 0, 2, 0, 0, 0, 0, 0, 0, 0, 42, 0, 0, 0, 0,
+];
+
+const MOVED_INTRA_0: &[u8] = &[
+    0x84, 0xce, 0, 4, 0, 0, 0, 2, 0, 0, 0, 0, 0, 0, 0, 44, 0, 0, 0, 0,
+];
+
+// SSRC 2 reports on SSRC 42 after 1 s: none was lost up to the number 300, and the report of moment 0 came 998
+// ms before, 65,404 of the 65,536ths of a second. Its own moment stands behind.
+const UP_TO_300: &[u8] = &[
+    0x81, 0xc9, 0, 7, 0, 0, 0, 2, 0, 0, 0, 42, 0, 0, 0, 0, 0, 0, 1, 0x2c, 0, 0, 0, 0, 0x6f, 0x80,
+    0, 0, 0, 0, 0xff, 0x7c, 0x80, 0xcf, 0, 4, 0, 0, 0, 2, 4, 0, 0, 2, 0xe8, 0xfe, 0x6f, 0x81, 0, 0,
+    0, 0,
+];
+
+// SSRC 2 reports after 1.5 s on a stream of which nothing came.
+const RECEIVED_NOTHING: &[u8] = &[
+    0x80, 0xc9, 0, 1, 0, 0, 0, 2, 0x80, 0xcf, 0, 4, 0, 0, 0, 2, 4, 0, 0, 2, 0xe8, 0xfe, 0x6f, 0x81,
+    0x80, 0, 0, 0,
+];
+
+// SSRC 2 reports on SSRC 44 after 2.5 s: none was lost up to the number 7, and no report of its sender came.
+const UP_TO_7: &[u8] = &[
+    0x81, 0xc9, 0, 7, 0, 0, 0, 2, 0, 0, 0, 44, 0, 0, 0, 0, 0, 0, 0, 7, 0, 0, 0, 0, 0, 0, 0, 0, 0,
+    0, 0, 0, 0x80, 0xcf, 0, 4, 0, 0, 0, 2, 4, 0, 0, 2, 0xe8, 0xfe, 0x6f, 0x82, 0x80, 0, 0, 0,
+];
+
 /// What both sides tell.
-pub const TOLD: [Row; 5] = [
+pub const TOLD: [Row; 7] = [
     (
         "a sender and its answer",
         &[
@@ -133,6 +184,47 @@ pub const TOLD: [Row; 5] = [
             Hears(1_500_000_000, OF_10),
             Hears(1_600_000_000, LATER_OF_9),
             Tick(2_000_000_000, IN_ITS_PLACE),
+        ],
+    ),
+    (
+        "a sender under another SSRC, of which nothing was sent yet",
+        &[
+            Adds(b'v', MediaKind::Video, b"cam"),
+            Sends(42, 43, b'v'),
+            Writes(42, 160_000, 500_000_000),
+            Tick(1, &[]),
+            Tick(1_000_000_000, SENT),
+            Wakes(Some(2_000_000_000)),
+            Resets(42, 50),
+            Wakes(Some(1_000_000_000)),
+            Tick(1_500_000_000, ANEW),
+            Writes(50, 160_000, 500_000_000),
+            Tick(2_000_000_000, &[]),
+            Tick(2_500_000_000, SENT_ANEW),
+        ],
+    ),
+    (
+        "a receiver under another SSRC: what was counted, told and asked of the one before is forgotten",
+        &[
+            Asks(42, 43, b'v'),
+            Comes(1_000_000, 42, 300, 0xc000_0000),
+            Timed(42, Some(0xc000_0000)),
+            Hears(2_000_000, OF_42),
+            Frames(42, Fir),
+            Tick(3_000_000, INTRA_0),
+            Tick(1_000_000_000, UP_TO_300),
+            Frames(42, Pli),
+            Rates(42, 1_000_000),
+            Wakes(Some(0)),
+            Moves(42, 44),
+            Timed(44, None),
+            Wakes(Some(1_000_000_000)),
+            Tick(1_500_000_000, RECEIVED_NOTHING),
+            Comes(1_500_000_000, 44, 7, 0x10),
+            Timed(44, Some(0x10)),
+            Frames(44, Fir),
+            Tick(1_500_000_000, MOVED_INTRA_0),
+            Tick(2_500_000_000, UP_TO_7),
         ],
     ),
 ];
