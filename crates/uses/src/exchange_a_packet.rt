@@ -1,5 +1,5 @@
 //! Two sessions that exchange a packet.
-ghost use Rattle.std.specs.Prelude.{◌≡◌, ◌<◌, length, IfOk, IfSome, OnOk};
+ghost use Rattle.std.specs.Prelude.{◌≡◌, ◌<◌, ◌∷◌, [], length, IfOk, IfSome, OnOk};
 ghost use Rattle.mask_register.specs.MaskRegister.{Remembers};
 ghost use Rattle.queue_store.specs.Queue.{StandsFor as Holds};
 ghost use Rattle.stream_core.specs.Tables.{change_place};
@@ -39,6 +39,13 @@ fn codecs(alloc: Global) -> Result<CodecConfig, AllocError>
     CodecConfig::new(alloc, vec![in alloc; params]?)
 }
 
+/// The payload types that the peer takes: VP8.
+fn peer_types(alloc: Global) -> Result<Listed<Pt>, AllocError>
+    ensures { IfOk result (λ types. types ≡ 96 ∷ []) }
+{
+    Ok(Listed::from_vec(vec![in alloc; Pt::from(96)]?))
+}
+
 /// An end with the keys of one side of the material, which knows payload type 96 and has one media
 /// section.
 pub fn end(alloc: Global, material: &KeyingMaterial, mid: Mid, left: bool) -> Result<End, RtcError>
@@ -61,7 +68,7 @@ pub fn end(alloc: Global, material: &KeyingMaterial, mid: Mid, left: bool) -> Re
     };
     let mut session = End::new(alloc, config)?;
     let cname = Bytes::from_slice(alloc, b"cam")?;
-    let remote_pts = Listed::from_vec(vec![in alloc; Pt::from(96)]?);
+    let remote_pts = peer_types(alloc)?;
     session.add_media(Media::new(mid, MediaKind::Video, cname, remote_pts))?;
     session.set_keying_material(ToyCipher, SrtpProfile::AeadAes128Gcm, material, left)?;
     Ok(session)
