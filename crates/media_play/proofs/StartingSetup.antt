@@ -6,7 +6,7 @@ use Rattle.std.specs.Map.{keys_of}
 use Rattle.std.specs.Option.{option_map}
 use Rattle.std.proofs.lemmas.Bool.{eqb-true, eq-eqb, false≢true, not-false, leb-true, ltb-false, and_parts}
 use Rattle.std.proofs.lemmas.List.Elements.{filter_map-append}
-use Rattle.std.proofs.lemmas.List.{map-append, take_more, take-append-drop, flat_map_more}
+use Rattle.std.proofs.lemmas.List.{append-nil, map-append, take_more, take-append-drop, flat_map_more}
 use Rattle.std.proofs.lemmas.List.Concat.{flat_map-append}
 use Rattle.indexmap.specs.IndexMap.{insert_entry}
 use Rattle.media_model.specs.declared.setup.Mtu.{Mtu}
