@@ -21,7 +21,7 @@ returns-then-not-has-clause-rule g c setup side a entries h =
     let place : place_of w.ssrc c.args.self.now.session.state.tx ≡ Some c.in-Some.place =
     ap (λ (e : EndState). place_of w.ssrc e.session.state.tx) (sym c.self.view_is) ∙ ap (λ (v : EndSession). place_of w.ssrc v.state.tx) (sym c.deref_mut.ensures.value) ∙ sym (ap (place_of w.ssrc) c.streams.ensures.tx) ∙ sym c.tx_place.ensures.place ∙ c.in-Some.is in
     let type = sym (known_type h w.pt) ∙ ap (λ (e : EndState). is_some (place_of w.pt e.session.state.types)) (sym c.self.view_is)
-    ∙ sym (c.has.ensures ∙ ap (λ t. is_some (place_of w.pt t)) c.payload_types.ensures ∙ ap (λ (v : EndSession). is_some (place_of w.pt v.state.types)) (c.deref.ensures ∙ c.deref_mut.ensures.value)) ∙ c.if-not-has.true in
+    ∙ sym (c.has.ensures ∙ ap (λ t. is_some (place_of w.pt t)) c.payload_types.ensures ∙ ap (λ (v : EndSession). is_some (place_of w.pt v.state.types)) c.deref.ensures ∙ ap (λ (v : EndSession). is_some (place_of w.pt v.state.types)) c.deref_mut.ensures.value) ∙ c.if-not-has.true in
     rule_type setup entries side w (known_stream h w.ssrc c.in-Some.place place) type
 
 pub returns-then-from-ge-NUMBER_LIMIT-clause-rule : goal.returns-then-from-ge-NUMBER_LIMIT-clause-rule
@@ -30,7 +30,7 @@ returns-then-from-ge-NUMBER_LIMIT-clause-rule g c setup side a entries h =
     let place : place_of w.ssrc c.args.self.now.session.state.tx ≡ Some c.in-Some.place =
     ap (λ (e : EndState). place_of w.ssrc e.session.state.tx) (sym c.self.view_is) ∙ ap (λ (v : EndSession). place_of w.ssrc v.state.tx) (sym c.deref_mut.ensures.value) ∙ sym (ap (place_of w.ssrc) c.streams.ensures.tx) ∙ sym c.tx_place.ensures.place ∙ c.in-Some.is in
     let type = sym (known_type h w.pt) ∙ ap (λ (e : EndState). is_some (place_of w.pt e.session.state.types)) (sym c.self.view_is)
-    ∙ sym (c.has.ensures ∙ ap (λ t. is_some (place_of w.pt t)) c.payload_types.ensures ∙ ap (λ (v : EndSession). is_some (place_of w.pt v.state.types)) (c.deref.ensures ∙ c.deref_mut.ensures.value)) ∙ c.if-not-has.false in
+    ∙ sym (c.has.ensures ∙ ap (λ t. is_some (place_of w.pt t)) c.payload_types.ensures ∙ ap (λ (v : EndSession). is_some (place_of w.pt v.state.types)) c.deref.ensures ∙ ap (λ (v : EndSession). is_some (place_of w.pt v.state.types)) c.deref_mut.ensures.value) ∙ c.if-not-has.false in
     rule_number setup entries side w (known_stream h w.ssrc c.in-Some.place place) type (le-leb (2 ^ 48) w.number (omega (arith, c.from.ensures, c.if-from-ge-NUMBER_LIMIT.true)))
 
 pub returns-then-has_written-clause-rule : goal.returns-then-has_written-clause-rule
@@ -40,7 +40,7 @@ returns-then-has_written-clause-rule g c setup side a entries h =
     let place : place_of w.ssrc c.args.self.now.session.state.tx ≡ Some at =
     ap (λ (e : EndState). place_of w.ssrc e.session.state.tx) (sym c.self.view_is) ∙ ap (λ (v : EndSession). place_of w.ssrc v.state.tx) (sym c.deref_mut.ensures.value) ∙ sym (ap (place_of w.ssrc) c.streams.ensures.tx) ∙ sym c.tx_place.ensures.place ∙ c.in-Some.is in
     let type = sym (known_type h w.pt) ∙ ap (λ (e : EndState). is_some (place_of w.pt e.session.state.types)) (sym c.self.view_is)
-    ∙ sym (c.has.ensures ∙ ap (λ t. is_some (place_of w.pt t)) c.payload_types.ensures ∙ ap (λ (v : EndSession). is_some (place_of w.pt v.state.types)) (c.deref.ensures ∙ c.deref_mut.ensures.value)) ∙ c.if-not-has.false in
+    ∙ sym (c.has.ensures ∙ ap (λ t. is_some (place_of w.pt t)) c.payload_types.ensures ∙ ap (λ (v : EndSession). is_some (place_of w.pt v.state.types)) c.deref.ensures ∙ ap (λ (v : EndSession). is_some (place_of w.pt v.state.types)) c.deref_mut.ensures.value) ∙ c.if-not-has.false in
     let used = sym (known_used h w.ssrc at w.number place) ∙ ap (λ (e : EndState). has_written e.written at w.number) (sym c.self.view_is) ∙ sym c.has_written.ensures ∙ c.if-has_written.true in
     rule_used setup entries side w (known_stream h w.ssrc at place) type (lt-leb (2 ^ 48) w.number (omega (arith, c.from.ensures, c.if-from-ge-NUMBER_LIMIT.false))) used
 
@@ -51,7 +51,7 @@ returns-then-len-gt-MAX_PAYLOAD_LEN-clause-rule g c setup side a entries h =
     let place : place_of w.ssrc c.args.self.now.session.state.tx ≡ Some at =
     ap (λ (e : EndState). place_of w.ssrc e.session.state.tx) (sym c.self.view_is) ∙ ap (λ (v : EndSession). place_of w.ssrc v.state.tx) (sym c.deref_mut.ensures.value) ∙ sym (ap (place_of w.ssrc) c.streams.ensures.tx) ∙ sym c.tx_place.ensures.place ∙ c.in-Some.is in
     let type = sym (known_type h w.pt) ∙ ap (λ (e : EndState). is_some (place_of w.pt e.session.state.types)) (sym c.self.view_is)
-    ∙ sym (c.has.ensures ∙ ap (λ t. is_some (place_of w.pt t)) c.payload_types.ensures ∙ ap (λ (v : EndSession). is_some (place_of w.pt v.state.types)) (c.deref.ensures ∙ c.deref_mut.ensures.value)) ∙ c.if-not-has.false in
+    ∙ sym (c.has.ensures ∙ ap (λ t. is_some (place_of w.pt t)) c.payload_types.ensures ∙ ap (λ (v : EndSession). is_some (place_of w.pt v.state.types)) c.deref.ensures ∙ ap (λ (v : EndSession). is_some (place_of w.pt v.state.types)) c.deref_mut.ensures.value) ∙ c.if-not-has.false in
     let used = sym (known_used h w.ssrc at w.number place) ∙ ap (λ (e : EndState). has_written e.written at w.number) (sym c.self.view_is) ∙ sym c.has_written.ensures ∙ c.if-has_written.false in
     rule_long setup entries side w (known_stream h w.ssrc at place) type (lt-leb (2 ^ 48) w.number (omega (arith, c.from.ensures, c.if-from-ge-NUMBER_LIMIT.false))) used
     (lt-ltb 1400 (length w.payload) (omega (arith, c.len.ensures, c.if-len-gt-MAX_PAYLOAD_LEN.true)))
@@ -63,7 +63,7 @@ returns-then-as_slice-gt-MAX_SOURCES-clause-rule g c setup side a entries h =
     let place : place_of w.ssrc c.args.self.now.session.state.tx ≡ Some at =
     ap (λ (e : EndState). place_of w.ssrc e.session.state.tx) (sym c.self.view_is) ∙ ap (λ (v : EndSession). place_of w.ssrc v.state.tx) (sym c.deref_mut.ensures.value) ∙ sym (ap (place_of w.ssrc) c.streams.ensures.tx) ∙ sym c.tx_place.ensures.place ∙ c.in-Some.is in
     let type = sym (known_type h w.pt) ∙ ap (λ (e : EndState). is_some (place_of w.pt e.session.state.types)) (sym c.self.view_is)
-    ∙ sym (c.has.ensures ∙ ap (λ t. is_some (place_of w.pt t)) c.payload_types.ensures ∙ ap (λ (v : EndSession). is_some (place_of w.pt v.state.types)) (c.deref.ensures ∙ c.deref_mut.ensures.value)) ∙ c.if-not-has.false in
+    ∙ sym (c.has.ensures ∙ ap (λ t. is_some (place_of w.pt t)) c.payload_types.ensures ∙ ap (λ (v : EndSession). is_some (place_of w.pt v.state.types)) c.deref.ensures ∙ ap (λ (v : EndSession). is_some (place_of w.pt v.state.types)) c.deref_mut.ensures.value) ∙ c.if-not-has.false in
     let used = sym (known_used h w.ssrc at w.number place) ∙ ap (λ (e : EndState). has_written e.written at w.number) (sym c.self.view_is) ∙ sym c.has_written.ensures ∙ c.if-has_written.false in
     rule_sources setup entries side w (known_stream h w.ssrc at place) type (lt-leb (2 ^ 48) w.number (omega (arith, c.from.ensures, c.if-from-ge-NUMBER_LIMIT.false))) used
     (le-ltb 1400 (length w.payload) (omega (arith, c.len.ensures, c.if-len-gt-MAX_PAYLOAD_LEN.false)))
@@ -76,7 +76,7 @@ returns-clause-rule g c setup side a entries h =
     let place : place_of w.ssrc c.args.self.now.session.state.tx ≡ Some at =
     ap (λ (e : EndState). place_of w.ssrc e.session.state.tx) (sym c.self.view_is) ∙ ap (λ (v : EndSession). place_of w.ssrc v.state.tx) (sym c.deref_mut.ensures.value) ∙ sym (ap (place_of w.ssrc) c.streams.ensures.tx) ∙ sym c.tx_place.ensures.place ∙ c.in-Some.is in
     let type = sym (known_type h w.pt) ∙ ap (λ (e : EndState). is_some (place_of w.pt e.session.state.types)) (sym c.self.view_is)
-    ∙ sym (c.has.ensures ∙ ap (λ t. is_some (place_of w.pt t)) c.payload_types.ensures ∙ ap (λ (v : EndSession). is_some (place_of w.pt v.state.types)) (c.deref.ensures ∙ c.deref_mut.ensures.value)) ∙ c.if-not-has.false in
+    ∙ sym (c.has.ensures ∙ ap (λ t. is_some (place_of w.pt t)) c.payload_types.ensures ∙ ap (λ (v : EndSession). is_some (place_of w.pt v.state.types)) c.deref.ensures ∙ ap (λ (v : EndSession). is_some (place_of w.pt v.state.types)) c.deref_mut.ensures.value) ∙ c.if-not-has.false in
     let used = sym (known_used h w.ssrc at w.number place) ∙ ap (λ (e : EndState). has_written e.written at w.number) (sym c.self.view_is) ∙ sym c.has_written.ensures ∙ c.if-has_written.false in
     rule_none setup entries side w (known_stream h w.ssrc at place) type (lt-leb (2 ^ 48) w.number (omega (arith, c.from.ensures, c.if-from-ge-NUMBER_LIMIT.false))) used
     (le-ltb 1400 (length w.payload) (omega (arith, c.len.ensures, c.if-len-gt-MAX_PAYLOAD_LEN.false)))
