@@ -1,12 +1,12 @@
 -- The types and the streams of a setup that breaks no rule, and of a session that begins with them.
-use Rattle.std.proofs.Common.{◌≡◌, inl, inr, Bool, true, false, not, cond, ◌||◌, ℕ, ◌+◌, ◌<◌, ◌≤◌, ◌^◌, List, [], ◌∷◌, ◌++◌, length, map, take, drop, get_or, append_assoc, nat_eq, Option, Some, None, is_some, refl, sym, ap, ◌∙◌, subst}
+use Rattle.std.proofs.Common.{◌≡◌, inl, inr, Bool, true, false, not, cond, ◌||◌, ℕ, ◌≤◌, ◌^◌, List, [], ◌∷◌, ◌++◌, length, map, append_assoc, nat_eq, Option, Some, None, is_some, refl, sym, ap, ◌∙◌, subst}
 use Rattle.std.specs.Prelude.{◌==◌, nat_lt, find, option_to_list, unwrap_or, option_and_then, if◌then◌else◌}
 use Rattle.std.specs.List.{flat_map, filter_map, list_any, AllZip}
 use Rattle.std.specs.Map.{keys_of}
 use Rattle.std.specs.Option.{option_map}
 use Rattle.std.proofs.lemmas.Bool.{eqb-true, eq-eqb, false≢true, not-false, leb-true, ltb-false, and_parts}
 use Rattle.std.proofs.lemmas.List.Elements.{filter_map-append}
-use Rattle.std.proofs.lemmas.List.{map-append, take_more, take-append-drop, flat_map_more}
+use Rattle.std.proofs.lemmas.List.{append-nil, map-append, flat_map_more}
 use Rattle.std.proofs.lemmas.List.Concat.{flat_map-append}
 use Rattle.indexmap.specs.IndexMap.{insert_entry}
 use Rattle.media_model.specs.declared.setup.Mtu.{Mtu}

@@ -80,7 +80,8 @@ pub struct Received {
 /// it sends, in the order of the streams.
 #[derive(Drop)]
 pub struct End<C: SrtpCipher> {
-    session: Session<C, MaskRegister, QueueStore<Sent>>,
+    // Boxed, so that an end is handed on quickly.
+    session: Box<Session<C, MaskRegister, QueueStore<Sent>>>,
     written: Vec<Numbers>,
 }
 
@@ -89,7 +90,7 @@ impl<C: SrtpCipher> Model for End<C> {
 
     ghost Value = { EndState };
 
-    ghost view = { λ e. record { session = e.session; written = e.written.items } };
+    ghost view = { λ e. record { session = e.session.value; written = e.written.items } };
 }
 
 /// A write as it is handed to its stream.
@@ -407,11 +408,12 @@ impl<C: SrtpCipher> End<C> {
         opens_turn();
         openings_are_right();
         are_bytes(bytes);
-        let opened = match self.session.handle_rtp_receive(time, bytes) {
+        let session = &mut *self.session;
+        let opened = match session.handle_rtp_receive(time, bytes) {
             Ok(opened) => opened,
             Err(_) => return Err(AllocError),
         };
-        let told = take_packet(&mut self.session);
+        let told = take_packet(session);
         let Some(opened) = opened else {
             return Ok(None);
         };
@@ -431,11 +433,12 @@ impl<C: SrtpCipher> End<C> {
     {
         hears_turn();
         rtcp_openings_are_right();
-        let opened = match self.session.handle_rtcp_receive(time, bytes) {
+        let session = &mut *self.session;
+        let opened = match session.handle_rtcp_receive(time, bytes) {
             Ok(opened) => opened,
             Err(_) => return Err(AllocError),
         };
-        take_packet(&mut self.session);
+        take_packet(session);
         let Some(opened) = opened else {
             return Ok(None);
         };
@@ -478,14 +481,12 @@ impl<C: SrtpCipher> End<C> {
             media_ssrc,
             payload,
         } = feedback;
-        match self
-            .session
-            .send_app_specific_feedback(sender_ssrc, media_ssrc, payload)
-        {
+        let session = &mut *self.session;
+        match session.send_app_specific_feedback(sender_ssrc, media_ssrc, payload) {
             Ok(()) => {}
             Err(_) => return Err(StepError::Memory),
         }
-        match self.session.poll_datagram(time) {
+        match session.poll_datagram(time) {
             Ok(Some(datagram)) => Ok(datagram),
             Err(RtcError::KeyExhausted(_)) => Err(StepError::KeyExhausted(side, Counter::Rtcp)),
             // None comes only without keys, which an end has.
@@ -516,7 +517,8 @@ impl<C: SrtpCipher> End<C> {
         ticks_turn();
         ticks_cut();
         seals_are_right();
-        match self.session.handle_timeout(time) {
+        let session = &mut *self.session;
+        match session.handle_timeout(time) {
             Ok(()) => {}
             Err(_) => {
                 return Err(TickFault {
@@ -525,7 +527,7 @@ impl<C: SrtpCipher> End<C> {
                 });
             }
         }
-        let drained = match self.session.drain(time) {
+        let drained = match session.drain(time) {
             Ok(drained) => drained,
             Err(fault) => {
                 return Err(TickFault {

@@ -118,20 +118,20 @@ fn identification(side: Side) -> u64 {
     }
 }
 
-/// A session with the keys of a side, without streams.
+/// A session with the keys of a side, without streams, in a box.
 fn with_keys<C: SrtpCipher>(
     alloc: Global,
     cipher: C,
     setup: &Setup,
     side: Side,
-) -> Result<Session<C, MaskRegister, QueueStore<Sent>>, AllocError>
+) -> Result<Box<Session<C, MaskRegister, QueueStore<Sent>>>, AllocError>
     requires key { length (material_of setup.now) ≡ material_len setup.now.profile }
     requires mtu { is_mtu setup.now.mtu ≡ true }
     requires types { NoRepeat (types_of setup.now) }
-    ensures { IfOk result (Starts C.meaning setup.now side [] []) }
+    ensures { IfOk result (λ session. Starts C.meaning setup.now side [] [] session.value) }
 {
     let material = KeyingMaterial::new(alloc, &setup.material(alloc)?)?;
-    let mut session = Session::new(
+    let mut session = Session::boxed(
         alloc,
         SessionConfig {
             id: identification(side),
@@ -303,15 +303,16 @@ fn add_media<C: SrtpCipher>(
     }
 }
 
-/// The session of a side of a setup that breaks no rule, before any step.
+/// The session of a side of a setup that breaks no rule, before any step. It is in a box, which is handed on
+/// quickly.
 pub fn start<C: SrtpCipher>(
     alloc: Global,
     cipher: C,
     setup: &Setup,
     side: Side,
-) -> Result<Session<C, MaskRegister, QueueStore<Sent>>, AllocError>
+) -> Result<Box<Session<C, MaskRegister, QueueStore<Sent>>>, AllocError>
     requires { setup_fault setup.now ≡ None }
-    ensures { IfOk result (IsStarted C.meaning setup.now side) }
+    ensures { IfOk result (λ session. IsStarted C.meaning setup.now side session.value) }
 {
     let mut session = with_keys(alloc, cipher, setup, side)?;
     for media in setup.media.as_slice() {

@@ -23,4 +23,4 @@ pub returns : goal.returns
 returns c =
     let all = take_all c.loop-row.row-index c.as_slice-row-items.result.now c.loop-row-test.false ∙ c.as_slice-row-items.ensures in
     let ready = subst (AllZip IsParams c.loop-row.params.items) all c.loop-row.invariant in
-    IfOk-weaker c.new-2.result _ _ (λ k is. subst (λ (o : Config). AllZip IsParams o.params c.args.setup.now.types) (sym is) ready) c.new-2.ensures
+    IfOk-weaker c.new.result _ _ (λ k is. subst (λ (o : Config). AllZip IsParams o.params c.args.setup.now.types) (sym is) ready) c.new.ensures

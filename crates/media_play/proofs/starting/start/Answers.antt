@@ -1,10 +1,11 @@
-use Rattle.std.proofs.Common.{List, sym, ap, subst, ◌∙◌}
+use Rattle.std.proofs.Common.{List, take, sym, ap, subst, ◌∙◌}
 use Rattle.std.specs.List.{flat_map}
 use Rattle.std.proofs.lemmas.List.{take_all}
 use Rattle.media_model.specs.declared.entry.Side.{Side}
 use Rattle.media_model.specs.declared.setup.Media.{Media}
 use Rattle.media_model.specs.Sides.{peer_of}
-use Rattle.media_play.specs.Starting.{AreOnce, outgoing_at}
+use Rattle.media_play.specs.Ends.{EndSession}
+use Rattle.media_play.specs.Starting.{AreOnce, outgoing_at, Starts}
 use Rattle.media_play.proofs.Started.{started}
 use Rattle.media_play.proofs.StartingSetup.{facts}
 use Rattle.media_play.proofs.StartingLists.{flat_more, flat_once}
@@ -27,12 +28,12 @@ loop-media-preserved g c =
     let others = outgoing_at setup (peer_of c.args.side) in
     starts_same g.C.SrtpCipher.meaning setup c.args.side _ _ _ _ c.add_media.new.session (flat_more own xs i x within read) (flat_more others xs i x within read)
     (c.in_ok-add_media.ensures g.C.SrtpCipher.meaning _ _ (flat_once own xs i x within read (once c.args.side)) (flat_once others xs i x within read (once (peer_of c.args.side)))
-    c.loop-media.invariant)
+    (subst (λ (v : EndSession). Starts g.C.SrtpCipher.meaning setup c.args.side (flat_map own (take i xs)) (flat_map others (take i xs)) v) (sym c.deref_mut.ensures.value) c.loop-media.invariant))
 
 pub returns : goal.returns
 returns g c =
     let setup = c.args.setup.now in
     let all = take_all c.loop-media.media-index c.as_slice-media-items.result.now c.loop-media-test.false ∙ c.as_slice-media-items.ensures in
-    started g.C.SrtpCipher.meaning setup c.args.side c.loop-media.session (facts setup c.requires)
-    (starts_same g.C.SrtpCipher.meaning setup c.args.side _ _ _ _ c.loop-media.session (ap (λ (l : List Media). flat_map (outgoing_at setup c.args.side) l) all)
+    started g.C.SrtpCipher.meaning setup c.args.side c.loop-media.session.value (facts setup c.requires)
+    (starts_same g.C.SrtpCipher.meaning setup c.args.side _ _ _ _ c.loop-media.session.value (ap (λ (l : List Media). flat_map (outgoing_at setup c.args.side) l) all)
     (ap (λ (l : List Media). flat_map (outgoing_at setup (peer_of c.args.side)) l) all) c.loop-media.invariant)

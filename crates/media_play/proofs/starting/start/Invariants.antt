@@ -7,4 +7,4 @@ use Rattle.media_play.proofs.starting.start.Given as goal
 abbrev pub invariant-loop-media : goal.invariant-loop-media
 invariant-loop-media g l =
     Starts g.C.SrtpCipher.meaning l.setup l.side (flat_map (outgoing_at l.setup l.side) (take l.media-index l.media-items))
-    (flat_map (outgoing_at l.setup (peer_of l.side)) (take l.media-index l.media-items)) l.session
+    (flat_map (outgoing_at l.setup (peer_of l.side)) (take l.media-index l.media-items)) l.session.value

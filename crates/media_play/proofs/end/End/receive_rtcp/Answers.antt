@@ -1,4 +1,4 @@
-use Rattle.std.proofs.Common.{[], ◌∷◌, Option, Some, None, refl, sym, ap, subst}
+use Rattle.std.proofs.Common.{[], ◌∷◌, Option, Some, None, refl, sym, ap, ◌∙◌, subst}
 use Rattle.rtp_base.specs.declared.kind.Kind.TheVariants.{Rtcp}
 use Rattle.session_core.specs.declared.datagram.Opened.{Opened as Opening}
 use Rattle.session_core.specs.Calls.{after_events}
@@ -23,8 +23,8 @@ returns-in_default g c = λ setup side a entries at.
     let ready = at.ready in
     let r = ready.session in
     let C = config_of (sealing_of K setup) setup in
-    let view = ap (λ (e : EndState). e.session) c.self.view_is in
-    let stands : SessionStands c.self.inside.session r = subst (λ (v : EndSession). SessionStands v r) (sym view) ready.stands in
+    let view = c.deref_mut-session.ensures.value ∙ ap (λ (e : EndState). e.session) c.self.view_is in
+    let stands : SessionStands c.deref_mut-session.result.now r = subst (λ (v : EndSession). SessionStands v r) (sym view) ready.stands in
     let h = c.in-Ok.ensures.received r stands in
     let received : ReceivesRtcp K r bytes time h.0 None = subst (λ (o : Option Opening). ReceivesRtcp K r bytes time h.0 o) c.in_default.is h.1 in
     let turn = c.hears_turn.ensures K C side r h.0 a time bytes None ready.fit ready.mirrors at.late at.early received in
@@ -43,8 +43,8 @@ returns g c = λ setup side a entries at.
     let r = ready.session in
     let C = config_of (sealing_of K setup) setup in
     let o = c.in-Some.opened in
-    let view = ap (λ (e : EndState). e.session) c.self.view_is in
-    let stands : SessionStands c.self.inside.session r = subst (λ (v : EndSession). SessionStands v r) (sym view) ready.stands in
+    let view = c.deref_mut-session.ensures.value ∙ ap (λ (e : EndState). e.session) c.self.view_is in
+    let stands : SessionStands c.deref_mut-session.result.now r = subst (λ (v : EndSession). SessionStands v r) (sym view) ready.stands in
     let h = c.in-Ok.ensures.received r stands in
     let received : ReceivesRtcp K r bytes time h.0 (Some o) = subst (λ (x : Option Opening). ReceivesRtcp K r bytes time h.0 x) c.in-Some.is h.1 in
     let turn = c.hears_turn.ensures K C side r h.0 a time bytes (Some o) ready.fit ready.mirrors at.late at.early received in

@@ -12,7 +12,7 @@ pub returns : goal.returns
 returns g c = λ setup side a entries time at.
     let what = c.args.what in
     let place = c.args.place in
-    let session : c.self.inside.session ≡ c.args.self.now.session = ap (λ (e : EndState). e.session) c.self.view_is in
+    let session : c.deref_mut.result.now ≡ c.args.self.now.session = c.deref_mut.ensures.value ∙ ap (λ (e : EndState). e.session) c.self.view_is in
     turned_requested c.requests_turn.ensures at what place (record { session = c.request.new.session; written = c.self.inside.written.items })
     (c.request.ensures ∙ ap {A = EndSession} {B = EndSession} (λ v. record v { rx = change_place (on_view (requesting (requested what))) v.rx place }) session)
     (ap (λ (e : EndState). e.written) c.self.view_is)

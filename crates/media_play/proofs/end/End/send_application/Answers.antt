@@ -31,9 +31,9 @@ returns-clause-sealed g c =
           let ready = at.ready in
           let r = ready.session in
           let C = config_of (sealing_of K setup) setup in
-          let view : c.self.inside.session ≡ c.args.self.now.session = ap (λ (e : EndState). e.session) c.self.view_is in
+          let view : c.deref_mut-session.result.now ≡ c.args.self.now.session = c.deref_mut-session.ensures.value ∙ ap (λ (e : EndState). e.session) c.self.view_is in
           let waits : SessionStands c.send_app_specific_feedback.new.self (calling_record at f) =
-          calling_stands at f c.send_app_specific_feedback.new.self c.self.inside.session c.in-Ok.ensures.ok view in
+          calling_stands at f c.send_app_specific_feedback.new.self c.deref_mut-session.result.now c.in-Ok.ensures.ok view in
           let next = (rw w.in-Ok-Some.is at c.poll_datagram.ensures.polled) (calling_record at f) waits in
           let leaves : NextDatagram K time (calling_record at f) next.0 (Some d) = subst (λ (o : Option Datagram). NextDatagram K time (calling_record at f) next.0 o) w.in-Ok-Some.field-0-is next.1 in
           let fits = application_fits f c.items_fit_by_lengths.ensures c.requires.whole c.requires.few in
@@ -53,9 +53,9 @@ returns-clause-refused g c =
       | in-Ok-None w ↦ rw w.result-is (λ setup a entries at counts. tt)
       | in-Err-KeyExhausted w ↦ rw w.result-is (λ setup a entries at counts.
           let f = c.args.feedback in
-          let view : c.self.inside.session ≡ c.args.self.now.session = ap (λ (e : EndState). e.session) c.self.view_is in
+          let view : c.deref_mut-session.result.now ≡ c.args.self.now.session = c.deref_mut-session.ensures.value ∙ ap (λ (e : EndState). e.session) c.self.view_is in
           let between = c.send_app_specific_feedback.new.self in
-          let waits : SessionStands between (calling_record at f) = calling_stands at f between c.self.inside.session c.in-Ok.ensures.ok view in
+          let waits : SessionStands between (calling_record at f) = calling_stands at f between c.deref_mut-session.result.now c.in-Ok.ensures.ok view in
           let runs : between.state.stopped ≡ false = ap (λ (s : SessionState). s.stopped) waits.state ∙ at.ready.runs in
           let failed = (rw w.in-Err-KeyExhausted.is at (c.poll_datagram.ensures.failed runs)) (calling_record at f) waits in
           (refl, refl, fails_used_up at f failed.0 w.in-Err-KeyExhausted.field-0 _ w.in-Err-KeyExhausted.field-0-is failed.1 counts))
