@@ -186,10 +186,11 @@ pub fn declare(end: &mut End, low: u8, repairs: Option<(u8, u64)>, mid_rid: MidR
 pub fn reset(end: &mut End, low: u8, other: u8, repairs: Option<(u8, u64)>) -> bool {
     let repairs = repairs_of(repairs);
     let streams = streams(end);
-    if streams.tx_place(ssrc(other)).is_some() {
+    let other = ssrc(other);
+    if streams.tx_place(other).is_some() {
         return false;
     }
-    streams.reset_ssrc(ssrc(low), ssrc(other), repairs).is_ok()
+    streams.reset_ssrc(ssrc(low), other, repairs).is_ok()
 }
 
 /// Writes a packet on the stream of this SSRC; whether there is one.

@@ -1,3 +1,5 @@
+ghost use Rattle.std.specs.Prelude.{◌<◌, ◌^◌};
+
 use crate::ends::{mid, rid};
 use mask_register::MaskRegister;
 use media_base::{Beginning, Bytes, Duration, Instant, Listed};
@@ -80,7 +82,9 @@ const ROWS: [(&str, &[Step]); 7] = [
     ),
 ];
 
-fn number(number: u64) -> SeqNo {
+fn number(number: u64) -> SeqNo
+    ensures { result < 2 ^ 48 }
+{
     SeqNo::from(number % 281_474_976_710_656)
 }
 

@@ -130,10 +130,11 @@ fn answers(stream: &mut StreamRx<MaskRegister>, first: First) -> bool {
 }
 
 fn first_answers(end: &mut End, first: First) -> bool {
-    if streams(end).rx_len() == 0 {
+    let streams = streams(end);
+    if streams.rx_len() == 0 {
         return false;
     }
-    answers(streams(end).rx_at(0), first)
+    answers(streams.rx_at(0), first)
 }
 
 fn ends(end: &mut End, now: Instant) -> bool {

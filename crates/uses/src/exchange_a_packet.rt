@@ -48,8 +48,13 @@ fn peer_types(alloc: Global) -> Result<Listed<Pt>, AllocError>
 
 /// An end with the keys of one side of the material, which knows payload type 96 and has one media
 /// section.
-pub fn end(alloc: Global, material: &KeyingMaterial, mid: Mid, left: bool) -> Result<End, RtcError>
-    ensures made { IfOk result (λ s. StandsFor Remembers Holds s (end_of material.now mid left)) }
+pub fn end(
+    alloc: Global,
+    material: &KeyingMaterial,
+    mid: Mid,
+    left: bool,
+) -> Result<Box<End>, RtcError>
+    ensures made { IfOk result (λ s. StandsFor Remembers Holds s.value (end_of material.now mid left)) }
 {
     let (target, warn) = (DATAGRAM_MTU, DATAGRAM_MTU_WARN);
     let config = SessionConfig {
@@ -66,7 +71,7 @@ pub fn end(alloc: Global, material: &KeyingMaterial, mid: Mid, left: bool) -> Re
         exts: ExtensionMap::empty(),
         codecs: codecs(alloc)?,
     };
-    let mut session = End::new(alloc, config)?;
+    let mut session = End::boxed(alloc, config)?;
     let cname = Bytes::from_slice(alloc, b"cam")?;
     let remote_pts = peer_types(alloc)?;
     session.add_media(Media::new(mid, MediaKind::Video, cname, remote_pts))?;
@@ -104,15 +109,17 @@ pub fn exchange(
     rtp_seal_keeps_header::<ToyCipher>();
     rtp_seals_apart::<ToyCipher>();
     let (ssrc, now) = (Ssrc::from(42), Instant::from_nanos(1));
-    let mut a = end(alloc, material, mid, true)?;
-    let mut b = end(alloc, material, mid, false)?;
+    let mut sending = end(alloc, material, mid, true)?;
+    let mut receiving = end(alloc, material, mid, false)?;
+    let a = &mut *sending;
+    let b = &mut *receiving;
     a.streams()
         .declare_stream_tx(ssrc, None, MidRid(mid, None))?;
     b.streams()
         .expect_stream_rx(ssrc, None, MidRid(mid, None), false)?;
     let payload = Payload::from_slice(alloc, payload)?;
     let packet = RtpWrite::new(Pt::from(96), SeqNo::from(1), 0, now, payload);
-    write(&mut a, packet)?;
+    write(a, packet)?;
     a.handle_timeout(now)?;
     let Some(sent) = a.poll_datagram(now)? else {
         return Ok(None);
