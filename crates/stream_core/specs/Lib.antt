@@ -6,6 +6,7 @@ pub mod LendingStreams
 pub mod Missing
 pub mod Pauses
 pub mod Queue
+pub mod Removing
 pub mod Repairing
 pub mod Reporting
 pub mod Requests
