@@ -14,6 +14,8 @@ use Rattle.stream_core.specs.declared.payload_types.TypeRow.{TypeRow}
 use Rattle.stream_core.specs.Repairing.{rtx_type_of, primary_type_of, is_type as is_row_type}
 use Rattle.stream_core.specs.Tables.{place_of}
 use Rattle.session_core.specs.Repairs.{is_known}
+use Rattle.session_core.specs.Types.{row_of, red_row_of, with_row, with_red_row, with_params, types_after, types_of as session_types}
+use Rattle.payload_core.specs.declared.params.PayloadParams.{PayloadParams}
 use Rattle.srtp_core.specs.Keys.{material_len}
 use Rattle.session_turns.specs.Reading.{types_in}
 use Rattle.media_model.specs.declared.entry.Side.{Side}
@@ -31,8 +33,8 @@ use Rattle.run_model.specs.Listing.{IsIn, NoRepeat}
 use Rattle.run_model.specs.Transcripts.{types_of, has_type, is_type, repairs_as, outgoing_in, outgoing_of}
 use Rattle.media_play.proofs.Lists.{IsIn-left, IsIn-right, IsIn-append, tested, any-from_in}
 use Rattle.media_laws.specs.Rules.{has}
-use Rattle.media_play.specs.Starting.{ssrcs_in, AreOnce, IsRow, red_rows, rows_in, rows_of}
-use Rattle.media_play.proofs.StartingLists.{NoRepeat-left, NoRepeat-right, apart_ends, insert_new, zip_push, zip_keys, place_in, value_first, value_next, flipped}
+use Rattle.media_play.specs.Starting.{ssrcs_in, AreOnce, IsParams, IsRow, red_rows, rows_in, rows_of}
+use Rattle.media_play.proofs.StartingLists.{NoRepeat-left, NoRepeat-right, apart_ends, insert_new, zip_push, zip_keys, place_in, place_absent, value_first, value_next, flipped}
 
 -- the rules
 
@@ -308,13 +310,13 @@ type_added : (es new : List (ℕ × TypeRow)) (ts : List PayloadType) (t : Paylo
 type_added es new ts t row none is made h =
     subst (λ l. AllZip IsRow l (ts ++ t ∷ [])) (sym (made ∙ insert_new t.pt row es none)) (zip_push IsRow es ts (t.pt, row) t h is)
 
-pub alone_added : (es new : List (ℕ × TypeRow)) (ts : List PayloadType) (t : PayloadType) (row : TypeRow) → NoRepeat (keys_of es ++ written_in t) → t.red ≡ None → IsRow (t.pt, row) t
+alone_added : (es new : List (ℕ × TypeRow)) (ts : List PayloadType) (t : PayloadType) (row : TypeRow) → NoRepeat (keys_of es ++ written_in t) → t.red ≡ None → IsRow (t.pt, row) t
     → new ≡ insert_entry nat_eq es t.pt row → AllZip IsRow es ts → AllZip IsRow new (ts ++ rows_in t)
 alone_added es new ts t row once none is made h =
     subst (λ o. AllZip IsRow new (ts ++ t ∷ red_rows t o)) (sym none)
     (type_added es new ts t row (λ i. apart_ends (keys_of es) (written_in t) t.pt once i (inl refl)) is made h)
 
-pub both_added : (es mid new : List (ℕ × TypeRow)) (ts : List PayloadType) (t : PayloadType) (red : ℕ) (row extra : TypeRow) → NoRepeat (keys_of es ++ written_in t) → t.red ≡ Some red
+both_added : (es mid new : List (ℕ × TypeRow)) (ts : List PayloadType) (t : PayloadType) (red : ℕ) (row extra : TypeRow) → NoRepeat (keys_of es ++ written_in t) → t.red ≡ Some red
     → IsRow (t.pt, row) t → mid ≡ insert_entry nat_eq es t.pt row → (extra.pt ≡ red) × (extra.rtx ≡ None) → new ≡ insert_entry nat_eq mid red extra
     → AllZip IsRow es ts → AllZip IsRow new (ts ++ rows_in t)
 both_added es mid new ts t red row extra once some is made other more h =
@@ -329,21 +331,51 @@ both_added es mid new ts t red row extra once some is made other more h =
     (λ i. apart_ends (keys_of es ++ t.pt ∷ []) (red ∷ []) red whole (subst (IsIn red) keys i) (inl refl))
     (record { key = refl; pt = other.0; rtx = other.1 }) more first))
 
--- what may be added behind the types before it
-pub rows_apart : (es : List (ℕ × TypeRow)) (ts xs : List PayloadType) (i : ℕ) (t : PayloadType) → xs ≡ ts → NoRepeat (flat_map written_in ts) → i < length xs → t ≡ get_or xs i t
-    → AllZip IsRow es (rows_of (take i xs)) → NoRepeat (keys_of es ++ written_in t)
-rows_apart es ts xs i t same once within read h =
-    let more : take (i + 1) xs ≡ take i xs ++ t ∷ [] = take_more xs i t within ∙ sym (ap (λ (u : PayloadType). take i xs ++ u ∷ []) read) in
-    let front : flat_map written_in (take (i + 1) xs) ≡ flat_map written_in (take i xs) ++ written_in t =
-    ap (flat_map written_in) more ∙ sym (flat_map_more written_in [] (take i xs) t) in
-    let whole : flat_map written_in ts ≡ (flat_map written_in (take i xs) ++ written_in t) ++ flat_map written_in (drop (i + 1) xs) =
-    ap (flat_map written_in) (sym same ∙ sym (take-append-drop (i + 1) xs))
-    ∙ flat_map-append written_in (take (i + 1) xs) (drop (i + 1) xs)
-    ∙ ap (λ ns. ns ++ flat_map written_in (drop (i + 1) xs)) front in
-    subst (λ ns. NoRepeat (ns ++ written_in t)) (sym (row_keys es (take i xs) h))
-    (NoRepeat-left (flat_map written_in (take i xs) ++ written_in t) (flat_map written_in (drop (i + 1) xs)) (subst NoRepeat whole once))
+-- the rows that a session makes of what it is told of the types
 
-pub rows_more : (xs : List PayloadType) (i : ℕ) (t : PayloadType) → i < length xs → t ≡ get_or xs i t → rows_of (take i xs) ++ rows_in t ≡ rows_of (take (i + 1) xs)
-rows_more xs i t within read =
-    let more : take (i + 1) xs ≡ take i xs ++ t ∷ [] = take_more xs i t within ∙ sym (ap (λ (u : PayloadType). take i xs ++ u ∷ []) read) in
-    flat_map_more rows_in [] (take i xs) t ∙ sym (ap rows_of more)
+one_added : (es : List (ℕ × TypeRow)) (ts : List PayloadType) (p : PayloadParams) (t : PayloadType) → IsParams p t → NoRepeat (keys_of es ++ written_in t)
+    → AllZip IsRow es ts → AllZip IsRow (with_params p es) (ts ++ rows_in t)
+one_added es ts p t of once h = by t.red refl p.red of.red
+  where
+    mid : List (ℕ × TypeRow)
+    mid = with_row (row_of p) es
+
+    made : mid ≡ insert_entry nat_eq es t.pt (row_of p)
+    made = ap (λ n. insert_entry nat_eq es n (row_of p)) of.pt
+
+    is : IsRow (t.pt, row_of p) t
+    is = record { key = refl; pt = of.pt; rtx = of.resend }
+
+    absent : (red : ℕ) → t.red ≡ Some red → is_some (place_of red mid) ≡ false
+    absent red some = place_absent red mid (λ i.
+        let new : mid ≡ es ++ (t.pt, row_of p) ∷ [] = made ∙ insert_new t.pt (row_of p) es (λ j. apart_ends (keys_of es) (written_in t) t.pt once j (inl refl)) in
+        let keys : keys_of mid ≡ keys_of es ++ t.pt ∷ [] = ap keys_of new ∙ map-append (λ (e : ℕ × TypeRow). e.0) es ((t.pt, row_of p) ∷ []) in
+        let whole : NoRepeat ((keys_of es ++ t.pt ∷ []) ++ red ∷ []) =
+        subst NoRepeat (ap (λ o. keys_of es ++ t.pt ∷ option_to_list o) some ∙ sym (append_assoc (keys_of es) (t.pt ∷ []) (red ∷ []))) once in
+        apart_ends (keys_of es ++ t.pt ∷ []) (red ∷ []) red whole (subst (IsIn red) keys i) (inl refl))
+
+    by : (o : Option ℕ) → t.red ≡ o → (q : Option ℕ) → q ≡ t.red → AllZip IsRow (with_red_row p q mid) (ts ++ rows_in t)
+    by None none q e =
+        subst (λ (o : Option ℕ). AllZip IsRow (with_red_row p o mid) (ts ++ rows_in t)) (sym (e ∙ none)) (alone_added es mid ts t (row_of p) once none is made h)
+    by (Some red) some q e =
+        subst (λ (o : Option ℕ). AllZip IsRow (with_red_row p o mid) (ts ++ rows_in t)) (sym (e ∙ some))
+        (subst (λ (b : Bool). AllZip IsRow (if b then mid else with_row (red_row_of p red) mid) (ts ++ rows_in t)) (sym (absent red some))
+        (both_added es mid (with_row (red_row_of p red) mid) ts t red (row_of p) (red_row_of p red) once some is made (refl, refl) refl h))
+
+types_added : (es : List (ℕ × TypeRow)) (before ts : List PayloadType) (ps : List PayloadParams) → AllZip IsParams ps ts → NoRepeat (flat_map written_in (before ++ ts))
+    → AllZip IsRow es (rows_of before) → AllZip IsRow (types_after es ps) (rows_of (before ++ ts))
+types_added es before [] [] of once h = subst (λ (l : List PayloadType). AllZip IsRow es (rows_of l)) (sym (append-nil before)) h
+types_added es before [] (p ∷ ps) of once h = absurd of
+types_added es before (t ∷ ts) [] of once h = absurd of
+types_added es before (t ∷ ts) (p ∷ ps) of once h =
+    let longer : (before ++ t ∷ []) ++ ts ≡ before ++ t ∷ ts = append_assoc before (t ∷ []) ts in
+    let apart : NoRepeat (flat_map written_in before ++ written_in t) =
+    NoRepeat-left (flat_map written_in before ++ written_in t) (flat_map written_in ts)
+    (subst NoRepeat (flat_map-append written_in before (t ∷ ts) ∙ sym (append_assoc (flat_map written_in before) (written_in t) (flat_map written_in ts))) once) in
+    let one = one_added es (rows_of before) p t of.0 (subst (λ ns. NoRepeat (ns ++ written_in t)) (sym (row_keys es before h)) apart) h in
+    subst (λ (l : List PayloadType). AllZip IsRow (types_after (with_params p es) ps) (rows_of l)) longer
+    (types_added (with_params p es) (before ++ t ∷ []) ts ps of.1 (subst (λ (l : List PayloadType). NoRepeat (flat_map written_in l)) (sym longer) once)
+    (subst (AllZip IsRow (with_params p es)) (flat_map_more rows_in [] before t) one))
+
+pub types_made : (ps : List PayloadParams) (ts : List PayloadType) → AllZip IsParams ps ts → NoRepeat (flat_map written_in ts) → AllZip IsRow (session_types ps) (rows_of ts)
+types_made ps ts of once = types_added [] [] ts ps of once tt

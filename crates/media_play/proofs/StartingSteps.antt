@@ -25,6 +25,7 @@ use Rattle.media_play.specs.Ends.{EndSession, EndStreams, SessionStands}
 use Rattle.session_core.specs.declared.config.SessionConfig.{SessionConfig}
 use Rattle.session_core.specs.Calls.{fresh_session, keyed}
 use Rattle.session_core.specs.Sending.{has_mid}
+use Rattle.session_core.specs.Types.{types_of as session_types}
 use Rattle.session_core.specs.SessionRecord.{MediaRecord, SessionState, SessionRecord, streams_in}
 use Rattle.session_turns.specs.Mirrors.{rtx_seen, original_in, original_with, ExpectsNone, HasOriginal}
 use Rattle.media_model.specs.declared.entry.Side.{Side}
@@ -192,7 +193,7 @@ module _ (cipher : CipherMeaning) (setup : Setup) (side : Side) where
   -- with keys
 
   keyed_begins : (config : SessionConfig) → 900 ≤ config.mtu.target → config.pause_threshold ≡ setup.pause_threshold → config.intervals ≡ intervals_of setup → config.srtcp_index ≡ (local_of side setup).srtcp_index
-      → config.local_ssrc ≡ (local_of side setup).ssrc → config.beginning ≡ setup.beginning → config.exts ≡ extensions_of setup → AllZip IsRow config.types (rows_of setup.types)
+      → config.local_ssrc ≡ (local_of side setup).ssrc → config.beginning ≡ setup.beginning → config.exts ≡ extensions_of setup → AllZip IsRow (session_types config.codecs.params) (rows_of setup.types)
       → Begun cipher setup side [] [] (record (fresh_session config) { state = keyed cipher setup.profile (material_of setup) (is_left side) (fresh_session config).state })
   keyed_begins config target pauses intervals index ssrc beginning exts types =
       record {
@@ -222,7 +223,7 @@ module _ (cipher : CipherMeaning) (setup : Setup) (side : Side) where
       }
 
   pub starts_keyed : (config : SessionConfig) (v new : EndSession) (material : List ℕ) (left : Bool) → 900 ≤ config.mtu.target → config.pause_threshold ≡ setup.pause_threshold → config.intervals ≡ intervals_of setup → config.srtcp_index ≡ (local_of side setup).srtcp_index
-      → config.local_ssrc ≡ (local_of side setup).ssrc → config.beginning ≡ setup.beginning → config.exts ≡ extensions_of setup → AllZip IsRow config.types (rows_of setup.types)
+      → config.local_ssrc ≡ (local_of side setup).ssrc → config.beginning ≡ setup.beginning → config.exts ≡ extensions_of setup → AllZip IsRow (session_types config.codecs.params) (rows_of setup.types)
       → material ≡ material_of setup → left ≡ is_left side → (local_of side setup).srtcp_index ≤ 2 ^ 31 → SessionStands v (fresh_session config)
       → new ≡ record v { state = keyed cipher setup.profile material left v.state } → Starts cipher setup side [] [] new
   starts_keyed config v new material left target pauses intervals index ssrc beginning exts types key l bounded h is =

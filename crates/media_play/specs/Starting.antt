@@ -1,6 +1,7 @@
 -- A session before any step, with some of the streams of its setup.
 use Rattle.std.specs.Prelude.{◌≡◌, ◌<◌, ◌≤◌, ◌^◌, ℕ, true, false, List, [], ◌∷◌, map, filter_map, option_to_list, is_some, Option, None, Some}
 use Rattle.std.specs.List.{AllByRecursion, AllZip, flat_map}
+use Rattle.payload_core.specs.declared.params.PayloadParams.{PayloadParams}
 use Rattle.rtx_core.specs.Resends.{created, recached}
 use Rattle.srtp_core.specs.Cipher.{CipherMeaning}
 use Rattle.srtp_core.specs.Contexts.{new_state}
@@ -44,6 +45,12 @@ rows_in t = t ∷ red_rows t t.red
 
 abbrev pub rows_of : List PayloadType → List PayloadType
 rows_of types = flat_map rows_in types
+
+-- what a session is told of a payload type of a setup: its number, and the types of its repairs and of its redundant data
+pub record IsParams (p : PayloadParams) (t : PayloadType) : Type 0 where
+  pub pt : p.pt ≡ t.pt
+  pub resend : p.resend ≡ t.rtx
+  pub red : p.red ≡ t.red
 
 -- a payload type of a session is one of these: its number, and the type of its repairs
 pub record IsRow (e : ℕ × TypeRow) (t : PayloadType) : Type 0 where

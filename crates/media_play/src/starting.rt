@@ -1,7 +1,6 @@
 // The session of a side before any step.
-ghost use Rattle.std.specs.Prelude.{◌≡◌, ◌<◌, ◌^◌, ℕ, ◌++◌, List, [], ◌∷◌, Some, None, true, is_none, length, filter_map, option_to_list, IfOk, OnOk};
+ghost use Rattle.std.specs.Prelude.{◌≡◌, ◌<◌, ◌^◌, ℕ, ◌++◌, List, [], Some, None, true, is_none, length, map, filter_map, option_to_list, IfOk, OnOk};
 ghost use Rattle.std.specs.List.{AllZip};
-ghost use Rattle.std.specs.Map.{keys_of};
 ghost use Rattle.std.specs.Option.{option_map};
 ghost use Rattle.srtp_core.specs.Cipher.{CipherMeaning};
 ghost use Rattle.srtp_core.specs.Keys.{material_len};
@@ -12,8 +11,7 @@ ghost use Rattle.session_core.specs.Sending.{has_mid};
 ghost use Rattle.media_model.specs.declared.entry.Side.{Side as Party};
 ghost use Rattle.media_model.specs.declared.setup.Cache.{Cache as Kept};
 ghost use Rattle.media_model.specs.declared.setup.Setup.{Setup as Given};
-ghost use Rattle.media_model.specs.declared.setup.PayloadType.{PayloadType as Typed};
-ghost use Rattle.media_model.specs.Setup.{material_of, streams_of, types_of, written_in};
+ghost use Rattle.media_model.specs.Setup.{material_of, streams_of, types_of};
 ghost use Rattle.media_model.specs.Sides.{peer_of};
 ghost use Rattle.run_model.specs.Events.{Outgoing};
 ghost use Rattle.run_model.specs.Listing.{NoRepeat};
@@ -21,54 +19,76 @@ ghost use Rattle.run_model.specs.Transcripts.{outgoing_in};
 ghost use Rattle.media_laws.specs.Keys.{is_left};
 ghost use Rattle.media_play.specs.Knowing.{UsedAs};
 ghost use Rattle.setup_rules.specs.SetupRules.{is_mtu, setup_fault};
-ghost use Rattle.media_play.specs.Starting.{IsRow, rows_in, rows_of, AreOnce, outgoing_at, StreamsChange, Starts, IsStarted};
+ghost use Rattle.media_play.specs.Starting.{IsParams, AreOnce, outgoing_at, StreamsChange, Starts, IsStarted};
 
 use crate::numbers::Numbers;
 use mapping_core::Rids;
 use mask_register::MaskRegister;
 use media_base::{Bytes, Listed};
-use media_model::{Cache, FirstNumber, Media, MediaKind, PayloadType, Setup, Side, Stream};
+use media_model::{Cache, Codec, FirstNumber, Media, MediaKind, PayloadType, Setup, Side, Stream};
+use payload_core::{Codec as CarriedCodec, CodecConfig, CodecSpec, FormatParams, PayloadParams};
 use queue_store::QueueStore;
-use rtp_wire::{Frequency, Mid, MidRid, SeqNo, Ssrc};
+use rtp_wire::{Frequency, Mid, MidRid, Pt, SeqNo, Ssrc};
 use session_core::{
     Media as Section, MediaKind as SectionKind, Mtu, ReportIntervals, Session, SessionConfig,
 };
 use srtp_core::{KeyingMaterial, SrtpCipher};
 use std::alloc::{AllocError, Global};
-use stream_core::{PayloadTypes, Sent, TypeRow};
+use stream_core::Sent;
 
-/// Adds a type, and that of its redundant data, where it has one. The clock of one without a rate has
-/// ticks of 1 s.
-fn add_type(types: &mut PayloadTypes, row: &PayloadType) -> Result<(), AllocError>
-    requires apart { NoRepeat (keys_of types.old ++ written_in row.now) }
-    ensures { OnOk result ((rows : List Typed) → AllZip IsRow types.old rows → AllZip IsRow types.new (rows ++ rows_in row.now)) }
-{
-    let clock = Frequency::new(row.rate).unwrap_or(Frequency::SECONDS);
-    types.add(TypeRow {
-        pt: row.pt,
-        clock,
-        rtx: row.rtx,
-        red: row.red,
-    })?;
-    if let Some(pt) = row.red {
-        types.add(TypeRow {
-            pt,
-            clock,
-            rtx: None,
-            red: None,
-        })?;
+fn codec_of(codec: Codec) -> CarriedCodec {
+    match codec {
+        Codec::Opus => CarriedCodec::Opus,
+        Codec::Pcmu => CarriedCodec::Pcmu,
+        Codec::Pcma => CarriedCodec::Pcma,
+        Codec::Telephone => CarriedCodec::Telephone,
+        Codec::Vp8 => CarriedCodec::Vp8,
+        Codec::Vp9 => CarriedCodec::Vp9,
+        Codec::H264 => CarriedCodec::H264,
+        Codec::H265 => CarriedCodec::H265,
+        Codec::H266 => CarriedCodec::H266,
+        Codec::Av1 => CarriedCodec::Av1,
     }
-    Ok(())
 }
 
-/// The payload types of a setup.
-fn payload_types(alloc: Global, setup: &Setup) -> Result<PayloadTypes, AllocError>
-    requires { NoRepeat (types_of setup.now) }
-    ensures { IfOk result (λ types. AllZip IsRow types (rows_of setup.now.types)) }
+/// What a session is told of a payload type. The clock of one without a rate has ticks of 1 s.
+fn params_of(row: &PayloadType) -> PayloadParams
+    ensures { IsParams result row.now }
 {
-    let mut types = PayloadTypes::new(alloc);
+    PayloadParams {
+        pt: row.pt,
+        resend: row.rtx,
+        red: row.red,
+        spec: CodecSpec {
+            codec: codec_of(row.codec),
+            clock_rate: Frequency::new(row.rate).unwrap_or(Frequency::SECONDS),
+            channels: None,
+            format: FormatParams::default(),
+        },
+        fb_transport_cc: false,
+        fb_pli: row.pli,
+        fb_fir: row.fir,
+    }
+}
+
+/// The codecs of a setup, in the order of its types.
+fn codecs(alloc: Global, setup: &Setup) -> Result<CodecConfig, AllocError>
+    ensures { IfOk result (λ codecs. AllZip IsParams codecs.params setup.now.types) }
+{
+    let mut params = Vec::new(alloc);
     for row in setup.types.as_slice() {
-        add_type(&mut types, row)?;
+        params.push(params_of(row))?;
+    }
+    CodecConfig::new(alloc, params)
+}
+
+/// The payload types of a setup, in order, without those of repairs and of redundant data.
+fn primary_types(alloc: Global, setup: &Setup) -> Result<Listed<Pt>, AllocError>
+    ensures { IfOk result (λ types. types ≡ map (λ t. t.pt) setup.now.types) }
+{
+    let mut types = Listed::new(alloc);
+    for row in setup.types.as_slice() {
+        types.push(row.pt)?;
     }
     Ok(types)
 }
@@ -128,9 +148,9 @@ fn with_keys<C: SrtpCipher>(
             },
             srtcp_index: setup.local(side).srtcp_index.get(),
             exts: setup.extension_map(),
-            types: payload_types(alloc, setup)?,
+            codecs: codecs(alloc, setup)?,
         },
-    );
+    )?;
     match session.set_keying_material(cipher, setup.profile, &material, is_left(side)) {
         Ok(()) => Ok(session),
         Err(_) => Err(AllocError),
@@ -257,7 +277,8 @@ fn add_streams<C: SrtpCipher>(
     Ok(())
 }
 
-/// Adds a media section of a setup to a session of a side, with its streams. It expects no stream but these.
+/// Adds a media section of a setup to a session of a side, with its streams. The peer takes all types of the
+/// setup, and it expects no stream but these.
 fn add_media<C: SrtpCipher>(
     alloc: Global,
     session: &mut Session<C, MaskRegister, QueueStore<Sent>>,
@@ -273,7 +294,8 @@ fn add_media<C: SrtpCipher>(
         (received ++ outgoing_at setup.now (peer_of side) media.now) session.new) }
 {
     let cname = Bytes::from_slice(alloc, media.cname.as_slice())?;
-    let mut section = Section::new(media.mid, section_kind(media.kind), cname);
+    let types = primary_types(alloc, setup)?;
+    let mut section = Section::new(media.mid, section_kind(media.kind), cname, types);
     section.set_rid_rx(Rids::Specific(Listed::new(alloc)));
     match session.add_media(section) {
         Ok(()) => add_streams(session, setup, side, media.mid, media.streams.as_slice()),

@@ -3,7 +3,8 @@ ghost use Rattle.std.specs.Prelude.{◌<◌, ◌≤◌, ◌^◌, length, IfOk};
 
 use crate::memory::answer;
 use mask_register::MaskRegister;
-use media_base::{Beginning, Bytes, Duration, Instant};
+use media_base::{Beginning, Bytes, Duration, Instant, Listed};
+use payload_core::{Codec, CodecConfig, CodecSpec, FormatParams, PayloadParams};
 use queue_store::QueueStore;
 use rtp_base::{Frequency, Mid, MidRid, NackEntry, Pt, SeqNo, Ssrc};
 use rtp_wire::ExtensionMap;
@@ -13,7 +14,7 @@ use session_core::{
 };
 use srtp_core::{KeyingMaterial, SrtpProfile, ToyCipher};
 use std::alloc::{AllocError, Global};
-use stream_core::{Payload, PayloadTypes, RtpWrite, Sent, Streams, TypeRow};
+use stream_core::{Payload, RtpWrite, Sent, Streams};
 
 type End = Session<ToyCipher, MaskRegister, QueueStore<Sent>>;
 
@@ -35,19 +36,24 @@ fn mid_rid() -> Option<MidRid> {
     Some(MidRid(Mid::from_slice(b"v")?, None))
 }
 
+// VP8 as type 96, whose repairs have type 97.
+fn codecs(alloc: Global) -> Result<CodecConfig, AllocError> {
+    let spec = CodecSpec {
+        codec: Codec::Vp8,
+        clock_rate: Frequency::NINETY_KHZ,
+        channels: None,
+        format: FormatParams::default(),
+    };
+    let params = PayloadParams::new(Pt::from(96), Some(Pt::from(97)), spec);
+    CodecConfig::new(alloc, vec![in alloc; params]?)
+}
+
 fn config(alloc: Global) -> Result<SessionConfig, AllocError>
     ensures target { IfOk result (λ c. 900 ≤ c.mtu.target) }
     ensures order { IfOk result (λ c. c.mtu.target ≤ c.mtu.warn) }
     ensures warn { IfOk result (λ c. c.mtu.warn ≤ 1500) }
     ensures index { IfOk result (λ c. c.srtcp_index ≤ 2 ^ 31) }
 {
-    let mut types = PayloadTypes::new(alloc);
-    types.add(TypeRow {
-        pt: Pt::from(96),
-        clock: Frequency::NINETY_KHZ,
-        rtx: Some(Pt::from(97)),
-        red: None,
-    })?;
     Ok(SessionConfig {
         id: 1,
         beginning: Beginning {
@@ -65,7 +71,7 @@ fn config(alloc: Global) -> Result<SessionConfig, AllocError>
         },
         srtcp_index: 0,
         exts: ExtensionMap::empty(),
-        types,
+        codecs: codecs(alloc)?,
     })
 }
 
@@ -73,8 +79,9 @@ fn config(alloc: Global) -> Result<SessionConfig, AllocError>
 fn fresh(alloc: Global, mid: Mid) -> Result<End, AllocError> {
     let config = config(alloc)?;
     let cname = Bytes::from_slice(alloc, b"cam")?;
-    let mut session = End::new(alloc, config);
-    answer(session.add_media(Media::new(mid, MediaKind::Video, cname)))?;
+    let remote_pts = Listed::from_vec(vec![in alloc; Pt::from(96)]?);
+    let mut session = End::new(alloc, config)?;
+    answer(session.add_media(Media::new(mid, MediaKind::Video, cname, remote_pts)))?;
     Ok(session)
 }
 

@@ -5,8 +5,10 @@ pub mod Cuts
 pub mod Dues
 pub mod Failing
 pub mod Fitting
+mod Goodbyes
 pub mod Heard
 pub mod Keyed
+mod Lent
 pub mod Mappings
 pub mod Nacks
 pub mod Openings
@@ -21,4 +23,5 @@ pub mod Tables
 pub mod Taking
 pub mod Telling
 pub mod TickItems
+mod TypeRows
 pub mod Waiting

@@ -22,6 +22,7 @@ use Rattle.session_core.specs.News.{NewsRecord, no_news, news_told, news_count, 
 use Rattle.session_core.specs.Reports.{reports_at}
 use Rattle.session_core.specs.Rounds.{requests_at, round_at, send_at}
 use Rattle.session_core.specs.Sending.{has_mid}
+use Rattle.session_core.specs.Types.{types_of}
 
 -- the mid of the stream on which probes come: the text 0
 abbrev pub probe_mid : List ℕ
@@ -36,7 +37,8 @@ fresh_session config = record {
     local_ssrc = config.local_ssrc;
     pause_threshold = config.pause_threshold;
     app = None;
-    types = config.types;
+    codecs = config.codecs;
+    types = types_of config.codecs.params;
     medias = [];
     sealing = None;
     opening = None;

@@ -1,12 +1,12 @@
 -- What an RTCP datagram opens to, and what a session makes of it.
-use Rattle.std.specs.Prelude.{◌≡◌, ℕ, ◌+◌, ◌-◌, ◌==◌, ◌&&◌, ◌||◌, Bool, nat_lt, nat_le, is_some, if◌then◌else◌, List, [], ◌∷◌, take, Option, Some, None}
+use Rattle.std.specs.Prelude.{◌≡◌, ℕ, ◌+◌, ◌-◌, ◌==◌, ◌&&◌, ◌||◌, Bool, nat_lt, nat_le, is_some, if◌then◌else◌, List, [], ◌∷◌, map, take, Option, Some, None}
 use Rattle.std.specs.Option.{option_or}
 use Rattle.rtp_base.specs.declared.kind.Kind.TheVariants.{Rtcp}
 use Rattle.rtcp_wire.specs.declared.feedback.AppSpecificFeedback.{AppSpecificFeedback as Application}
 use Rattle.rtcp_wire.specs.declared.extended.DlrrItem.{DlrrItem as Delay}
 use Rattle.rtp_base.specs.declared.nack_entry.NackEntry.{NackEntry}
 use Rattle.rtcp_wire.specs.declared.rtcp_fb.RtcpFb.{RtcpFb}
-use Rattle.rtcp_wire.specs.declared.rtcp_fb.RtcpFb.TheVariants.{ReceptionReport, Nack, AppSpecificFeedback, DlrrItem}
+use Rattle.rtcp_wire.specs.declared.rtcp_fb.RtcpFb.TheVariants.{ReceptionReport, Goodbye, Nack, AppSpecificFeedback, DlrrItem}
 pub use Rattle.rtcp_wire.specs.Streams.{feedback_in}
 use Rattle.srtp_core.specs.Cipher.{CipherMeaning}
 use Rattle.srtp_core.specs.Contexts.{SrtpState}
@@ -119,3 +119,9 @@ pub data ReceivesRtcp (cipher : CipherMeaning) (r : SessionRecord) (bytes : List
       → AskedByAll now (feedback_in plain) r.repairs repairs
       → ReceivesRtcp cipher r bytes now (after_rtcp now plain repairs r) (Some (rtcp_opening_of r.state.opening bytes plain))
   stays : ((plain : List ℕ) → RtcpOpensIn cipher r.state.opening bytes plain → ⊥) → ReceivesRtcp cipher r bytes now r None
+
+-- a packet of goodbyes alone (RFC 3550 section 6.6) changes nothing, and asks for nothing
+abbrev pub GoodbyesChangeNothing : Type 0
+GoodbyesChangeNothing =
+    (now : ℕ) (plain ssrcs : List ℕ) (r : SessionRecord) (repairs : List (ℕ × RepairsRecord)) → feedback_in plain ≡ map Goodbye ssrcs
+    → AskedByAll now (feedback_in plain) r.repairs repairs → after_rtcp now plain repairs r ≡ r

@@ -2,6 +2,7 @@ pub mod Calls
 pub mod Draining
 pub mod Feedback
 pub mod Hearing
+pub mod LendingMedia
 pub mod LendingStreams
 pub mod Mapping
 pub mod Medias
@@ -12,3 +13,4 @@ pub mod Reports
 pub mod Rounds
 pub mod Sending
 pub mod SessionRecord
+pub mod Types

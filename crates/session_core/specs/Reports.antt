@@ -8,6 +8,9 @@ use Rattle.rtcp_wire.specs.declared.packet.Rtcp.TheVariants.{SenderReport, Sourc
 use Rattle.rtcp_wire.specs.declared.rtcp_fb.RtcpFb.{RtcpFb}
 use Rattle.rtcp_wire.specs.declared.report.SenderInfo.{SenderInfo}
 use Rattle.rtcp_wire.specs.declared.rtcp_fb.RtcpFb.TheVariants as feedback
+use Rattle.payload_core.specs.Codecs.{same_kind}
+use Rattle.payload_core.specs.declared.codec.MediaKind.{MediaKind}
+use Rattle.payload_core.specs.declared.codec.MediaKind.TheVariants.{Audio}
 use Rattle.report_core.specs.declared.moments.ReceiverMoment.{ReceiverMoment}
 use Rattle.report_core.specs.Moments.{moment_of, with_moment, answer_of, unanswered}
 use Rattle.report_core.specs.Sender.{report_of, name_of}
@@ -18,8 +21,6 @@ use Rattle.stream_core.specs.Tables.{each, change_at}
 use Rattle.stream_core.specs.TxRecord.{TxRecord}
 use Rattle.stream_core.specs.declared.payload_types.TypeRow.{TypeRow}
 use Rattle.stream_core.specs.declared.reports.Tick.{Tick}
-use Rattle.session_core.specs.declared.media.MediaKind.{MediaKind}
-use Rattle.session_core.specs.declared.media.MediaKind.TheVariants.{Audio, Video}
 use Rattle.session_core.specs.Feedback.{FitsAlone}
 use Rattle.session_core.specs.Medias.{media_of}
 use Rattle.session_core.specs.SessionRecord.{MediaRecord, SessionState, SessionRecord}
@@ -105,8 +106,7 @@ after_sender_reports now s = after_answers now (some_reports s.medias (due_sende
 
 -- an outgoing stream is told its kind at its first tick, where it has a media section
 abbrev pub is_sound : MediaKind → Bool
-is_sound Audio = true
-is_sound Video = false
+is_sound kind = same_kind Audio kind
 
 abbrev pub of_kind : Option Bool → Option MediaRecord → TxRecord → TxRecord
 of_kind (Some told) o x = x

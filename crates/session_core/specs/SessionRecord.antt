@@ -1,6 +1,7 @@
 -- The record of a session.
 use Rattle.std.specs.Prelude.{◌≡◌, ℕ, Bool, Option, List}
-use Rattle.session_core.specs.declared.media.MediaKind.{MediaKind}
+use Rattle.payload_core.specs.Params.{Config}
+use Rattle.payload_core.specs.declared.codec.MediaKind.{MediaKind}
 use Rattle.session_core.specs.News.{NewsRecord}
 use Rattle.mapping_core.specs.declared.rids.Rids.{Rids}
 use Rattle.stream_core.specs.Known.{KnownRecord}
@@ -22,16 +23,19 @@ use Rattle.resend_core.specs.ResendStore.{Past}
 use Rattle.report_core.specs.declared.clock.ReportIntervals.{ReportIntervals}
 use Rattle.report_core.specs.declared.moments.ReceiverMoment.{ReceiverMoment}
 
--- a media section: its mid, its kind, the canonical name of its sources, and which streams it expects by their rids
+-- a media section: its mid, its kind, the canonical name of its sources, the payload types that the peer takes, and which
+-- streams it expects by their rids
 pub record MediaRecord : Type 0 where
   pub mid : List ℕ
   pub kind : MediaKind
   pub cname : List ℕ
+  pub remote_pts : List ℕ
   pub rids : Rids
 
 -- all of a session but its incoming streams: its identification; the target for the length of its datagrams; the SSRC that
 -- its feedback has where it sends on no stream; for how long nothing comes on an incoming stream until it is paused, where
--- nothing else is set; mid and place of the data channel; the payload types, each under its number; the media sections; the
+-- nothing else is set; mid and place of the data channel; the codecs, and the payload types that streams use of them, each under
+-- its number; the media sections; the
 -- contexts that seal and open, once there are keys; the index of the first SRTCP datagram under the keys that are set next;
 -- the outgoing streams, each under its SSRC, and what they share; the
 -- moment of the last round in which it asked for what is missing, at first 0; whether there was a tick since a poll gave no
@@ -44,6 +48,7 @@ pub record SessionState : Type 0 where
   pub local_ssrc : ℕ
   pub pause_threshold : ℕ
   pub app : Option (List ℕ × ℕ)
+  pub codecs : Config
   pub types : List (ℕ × TypeRow)
   pub medias : List MediaRecord
   pub sealing : Option SrtpState

@@ -1,8 +1,8 @@
 use media_base::{Beginning, Duration};
+use payload_core::CodecConfig;
 use report_core::ReportIntervals;
 use rtp_base::Ssrc;
 use rtp_wire::ExtensionMap;
-use stream_core::PayloadTypes;
 
 /// The usual target for the length of datagrams, in bytes.
 pub const DATAGRAM_MTU: usize = 1150;
@@ -38,6 +38,7 @@ pub struct SessionConfig {
     pub srtcp_index: u64,
     /// The ids of the header extensions (RFC 8285).
     pub exts: ExtensionMap,
-    /// The payload types that both ends know.
-    pub types: PayloadTypes,
+    /// The payload types that both ends know, what they carry, and the types of their repairs and of their
+    /// redundant data. Of two under one number the later one counts.
+    pub codecs: CodecConfig,
 }

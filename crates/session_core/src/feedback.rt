@@ -9,6 +9,7 @@ use crate::datagram::Datagram;
 use crate::error::RtcError;
 use media_base::Bytes;
 use rtcp_wire::Rtcp;
+use rtp_base::wire::word;
 use rtp_base::{Kind, SeqNo, Ssrc};
 use srtp_core::{Counter, SRTCP_OVERHEAD, SrtpCipher, SrtpContext, SrtpError};
 use std::alloc::{AllocError, Global};
@@ -51,7 +52,7 @@ pub fn sender(plain: &[u8]) -> Ssrc
     requires { 8 ≤ length plain.now }
     ensures { result ≡ sender_of (take 8 plain.now) }
 {
-    Ssrc::from(u32::from_be_bytes([plain[4], plain[5], plain[6], plain[7]]))
+    Ssrc::from(word(&plain[..8], 4))
 }
 
 /// Seals a compound under the index of the next SRTCP datagram.

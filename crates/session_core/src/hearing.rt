@@ -1,7 +1,7 @@
 ghost use Rattle.std.specs.Prelude.{◌≡◌, ◌≤◌, ℕ, List, None, length, IfOk, IfSome, IfNone, OnOk};
 ghost use Rattle.stream_core.specs.Repairing.{RepairsRecord};
 ghost use Rattle.stream_core.specs.StreamsRecord.{StreamsRecord, StandsFor};
-ghost use Rattle.session_core.specs.Hearing.{RtcpOpensIn, stated, feedback_in, acknowledged_by, acknowledged, application_in, last_application, AskedBy, AskedByAll, is_own, last_delay, trip_of, measured};
+ghost use Rattle.session_core.specs.Hearing.{RtcpOpensIn, stated, feedback_in, acknowledged_by, acknowledged, application_in, last_application, AskedBy, AskedByAll, is_own, last_delay, trip_of, measured, GoodbyesChangeNothing};
 
 use media_base::{Duration, Instant, calculate_rtt};
 use repair_core::GapWindow;
@@ -195,3 +195,9 @@ pub fn measure<W: GapWindow, S: ResendStore<Sent>>(
         streams.set_trip(trip(ntp, delay));
     }
 }
+
+/// A packet of goodbyes alone (RFC 3550 section 6.6) changes nothing of a session: neither streams that
+/// send nor streams that receive end by it.
+pub fn goodbyes_change_nothing()
+    ensures { GoodbyesChangeNothing }
+{}

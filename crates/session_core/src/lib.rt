@@ -15,12 +15,15 @@ mod reporting;
 mod restoring;
 mod sending;
 mod session;
+mod types;
 
 pub use config::{DATAGRAM_MTU, DATAGRAM_MTU_WARN, Mtu, SessionConfig};
 pub use datagram::{Datagram, DrainFault, Drained, Event, Opened};
 pub use error::{AppError, RtcError};
-pub use media::{Media, MediaKind};
+pub use hearing::goodbyes_change_nothing;
+pub use media::Media;
 pub use news::{KeyframeRequest, RembRequest, SenderFeedback};
+pub use payload_core::MediaKind;
 pub use receiving::header_numbers_fit;
 pub use report_core::ReportIntervals;
 pub use reporting::tick_items_fit;

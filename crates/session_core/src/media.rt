@@ -1,44 +1,24 @@
-ghost use Rattle.std.specs.Prelude.{◌≡◌, OnOk, OnErr};
+ghost use Rattle.std.specs.Prelude.{◌≡◌, ◌==◌, length, OnOk, OnErr};
 ghost use Rattle.std.specs.Option.{option_copied};
 ghost use Rattle.mapping_core.specs.Expecting.{with_rid};
 ghost use Rattle.mapping_core.specs.declared.rids.Rids.TheVariants.{Any};
-ghost use Rattle.session_core.specs.Medias.{media_of};
-ghost use Rattle.session_core.specs.Reports.{is_sound};
+ghost use Rattle.session_core.specs.Medias.{media_of, media_place};
 
 use mapping_core::Rids;
-use media_base::Bytes;
-use rtp_base::{Mid, Rid};
+use media_base::{Bytes, Listed};
+use payload_core::MediaKind;
+use rtp_base::{Mid, Pt, Rid};
 use std::alloc::{AllocError, Global};
 use std::marker::Model;
 
-/// Whether media is heard or seen.
-#[derive(Clone, Copy, Debug, PartialEq, Eq)]
-pub enum MediaKind {
-    /// Sound.
-    Audio,
-    /// Pictures.
-    Video,
-}
-
-impl MediaKind {
-    /// Whether it is heard.
-    pub fn is_audio(self) -> bool
-        ensures { result ≡ is_sound self }
-    {
-        match self {
-            MediaKind::Audio => true,
-            MediaKind::Video => false,
-        }
-    }
-}
-
-/// A media section (RFC 8866 section 5.14). Contracts see the record of its mid, its kind, its CNAME and
-/// which streams it expects by their rids.
+/// A media section (RFC 8866 section 5.14). Contracts see the record of its mid, its kind, its CNAME, the
+/// payload types of the peer, and which streams it expects by their rids.
 #[derive(Debug, Drop)]
 pub struct Media {
     mid: Mid,
     kind: MediaKind,
     cname: Bytes,
+    remote_pts: Listed<Pt>,
     rids: Rids,
 }
 
@@ -47,19 +27,27 @@ impl Model for Media {
 
     ghost Value = { MediaRecord };
 
-    ghost view = { λ m. record { mid = m.mid; kind = m.kind; cname = m.cname; rids = m.rids } };
+    ghost view = { λ m. record {
+      mid = m.mid;
+      kind = m.kind;
+      cname = m.cname;
+      remote_pts = m.remote_pts;
+      rids = m.rids;
+    } };
 }
 
 impl Media {
     /// A section of a mid, for sound or pictures, with the canonical name of its sources (RFC 3550
-    /// section 6.5.1). It expects streams of any rid, or of none.
-    pub fn new(mid: Mid, kind: MediaKind, cname: Bytes) -> Self
-        ensures { result ≡ record { mid = mid; kind = kind; cname = cname; rids = Any } }
+    /// section 6.5.1) and the payload types that the peer takes, in its order of preference (RFC 3264
+    /// section 6.1). It expects streams of any rid, or of none.
+    pub fn new(mid: Mid, kind: MediaKind, cname: Bytes, remote_pts: Listed<Pt>) -> Self
+        ensures { result ≡ record { mid = mid; kind = kind; cname = cname; remote_pts = remote_pts; rids = Any } }
     {
         Media {
             mid,
             kind,
             cname,
+            remote_pts,
             rids: Rids::Any,
         }
     }
@@ -76,6 +64,20 @@ impl Media {
         ensures { result ≡ self.now.kind }
     {
         self.kind
+    }
+
+    /// The payload types that the peer takes, in its order of preference.
+    pub fn remote_pts(&self) -> &[Pt]
+        ensures { result.now ≡ self.now.remote_pts }
+    {
+        self.remote_pts.as_slice()
+    }
+
+    /// Whether nothing can be sent on it: the peer takes no payload type.
+    pub fn disabled(&self) -> bool
+        ensures { result ≡ (length self.now.remote_pts == 0) }
+    {
+        self.remote_pts.is_empty()
     }
 
     /// Which streams it expects, by their rids (RFC 8852).
@@ -114,4 +116,11 @@ pub fn media_of(medias: &[Media], mid: Mid) -> Option<&Media>
     ensures { option_copied result ≡ media_of mid medias.now }
 {
     medias.iter().find(|media| media.mid() == mid)
+}
+
+/// Where that one stands. The time grows with the number of media sections.
+pub fn media_place(medias: &[Media], mid: Mid) -> Option<usize>
+    ensures { result ≡ media_place mid medias.now }
+{
+    medias.iter().position(|media| media.mid() == mid)
 }

@@ -10,6 +10,7 @@ ghost use Rattle.session_core.specs.Repairs.{original_number};
 use media_base::{Bytes, Instant};
 use repair_core::GapWindow;
 use resend_core::ResendStore;
+use rtp_base::wire::half;
 use rtp_base::{Frequency, MediaTime, SeqNo, Ssrc};
 use rtp_wire::RtpHeader;
 use srtp_core::laws::rtp_opens_once;
@@ -62,8 +63,7 @@ fn split_original(carried: &[u8]) -> (Option<u16>, &[u8])
     if carried.len() < 2 {
         return (None, &carried[carried.len()..]);
     }
-    let number = u16::from_be_bytes([carried[0], carried[1]]);
-    (Some(number), &carried[2..])
+    (Some(half(carried, 0)), &carried[2..])
 }
 
 /// What a datagram carries, split where it is a repair.

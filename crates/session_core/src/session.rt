@@ -14,17 +14,19 @@ mod ticks;
 
 use crate::config::SessionConfig;
 use crate::error::{AppError, RtcError};
-use crate::media::{Media, media_of};
+use crate::media::{Media, media_of, media_place};
 use crate::news::News;
 use crate::sending::has_mid;
+use crate::types::payload_types;
 use media_base::{Instant, already_happened};
+use payload_core::CodecConfig;
 use repair_core::GapWindow;
 use report_core::{ReceiverMoments, ReportIntervals};
 use resend_core::ResendStore;
 use rtcp_wire::{AppSpecificFeedback, Rtcp};
 use rtp_base::{Mid, MidRid, SessionId, Ssrc};
 use srtp_core::{KeyingMaterial, SrtpCipher, SrtpContext, SrtpError, SrtpProfile};
-use std::alloc::Global;
+use std::alloc::{AllocError, Global};
 use std::collections::VecDeque;
 use std::marker::Model;
 use stream_core::{PayloadTypes, RtpPacket, Seen, Sent, StreamRx, Streams, Transport};
@@ -43,6 +45,8 @@ pub struct Session<C: SrtpCipher, W: GapWindow, S: ResendStore<Sent>> {
     // The SSRC of its feedback while it sends on no stream.
     local_ssrc: Ssrc,
     app: Option<(Mid, usize)>,
+    codecs: CodecConfig,
+    // The rows that streams use of the codecs.
     types: PayloadTypes,
     medias: Vec<Media>,
     sealing: Option<SrtpContext<C>>,
@@ -84,6 +88,7 @@ impl<C: SrtpCipher, W: GapWindow, S: ResendStore<Sent>> Model for Session<C, W, 
         local_ssrc = s.local_ssrc;
         pause_threshold = s.streams.threshold;
         app = s.app;
+        codecs = s.codecs;
         types = s.types;
         medias = s.medias.items;
         sealing = s.sealing;
@@ -149,21 +154,23 @@ fn contexts<C: SrtpCipher>(
 }
 
 impl<C: SrtpCipher, W: GapWindow, S: ResendStore<Sent>> Session<C, W, S> {
-    /// A session without keys, streams and media sections. Takes no memory.
-    pub fn new(alloc: Global, config: SessionConfig) -> Self
+    /// A session without keys, streams and media sections. The time grows with the square of the number of
+    /// codecs.
+    pub fn new(alloc: Global, config: SessionConfig) -> Result<Self, AllocError>
         requires target { 900 ≤ config.mtu.target }
         requires order { config.mtu.target ≤ config.mtu.warn }
         requires warn { config.mtu.warn ≤ 1500 }
         requires index { config.srtcp_index ≤ 2 ^ 31 }
-        ensures { StandsFor W.remembers S.stands_for result (fresh_session config) }
+        ensures { IfOk result (λ s. StandsFor W.remembers S.stands_for s (fresh_session config)) }
     {
-        Session {
+        Ok(Session {
             alloc,
             id: SessionId::new(config.id),
             target: config.mtu.target,
             local_ssrc: config.local_ssrc,
             app: None,
-            types: config.types,
+            types: payload_types(alloc, &config.codecs)?,
+            codecs: config.codecs,
             medias: Vec::new(alloc),
             sealing: None,
             opening: None,
@@ -193,7 +200,7 @@ impl<C: SrtpCipher, W: GapWindow, S: ResendStore<Sent>> Session<C, W, S> {
             news: News::new(alloc),
             stopped: false,
             next_stream: 0,
-        }
+        })
     }
 }
 
@@ -278,7 +285,14 @@ impl<C: SrtpCipher, W: GapWindow, S: ResendStore<Sent>> Session<C, W, S> {
         self.medias.as_slice()
     }
 
-    /// The payload types that both ends know.
+    /// The payload types that both ends know, and what they carry.
+    pub fn codecs(&self) -> &CodecConfig
+        ensures { result.now ≡ self.now.state.codecs }
+    {
+        &self.codecs
+    }
+
+    /// The payload types as streams use them: those of the codecs, and of their redundant data.
     pub fn payload_types(&self) -> &PayloadTypes
         ensures { result.now ≡ self.now.state.types }
     {
@@ -355,6 +369,8 @@ impl<C: SrtpCipher, W: GapWindow, S: ResendStore<Sent>> Session<C, W, S> {
 
 impl<C: SrtpCipher, W: GapWindow, S: ResendStore<Sent>> Session<C, W, S> {
     ghost use Rattle.std.specs.Borrow.{sem};
+    ghost use Rattle.std.specs.Option.{option_copied_mut};
+    ghost use Rattle.session_core.specs.LendingMedia.{LendsMedia};
     ghost use Rattle.session_core.specs.LendingStreams.{LendsStreams};
 
     /// The streams, to be changed.
@@ -368,5 +384,16 @@ impl<C: SrtpCipher, W: GapWindow, S: ResendStore<Sent>> Session<C, W, S> {
     {
         self.next_stream = 0;
         &mut self.streams
+    }
+
+    /// The first media section of a mid, to be changed in its place. The time grows with the number of media
+    /// sections.
+    pub fn media_by_mid_mut(&mut self, mid: Mid) -> Option<&mut Media>
+        ensures* writes_back { sem 𝓛 (LendsMedia C.row C.Key128.row C.Key256.row W.row S.row C.SrtpCipher W.GapWindow S.ResendStore self.entry mid result) }
+        ensures value { option_copied_mut result ≡ media_of mid self.old.state.medias }
+    {
+        self.next_stream = 0;
+        let place = media_place(self.medias.as_slice(), mid)?;
+        self.medias.get_mut(place)
     }
 }

@@ -1,14 +1,15 @@
 ghost use Rattle.std.specs.Prelude.{◌≤◌, ◌^◌, IfOk};
 
 use mask_register::MaskRegister;
-use media_base::{Beginning, Bytes, Duration, Instant};
+use media_base::{Beginning, Bytes, Duration, Instant, Listed};
+use payload_core::{Codec, CodecConfig, CodecSpec, FormatParams, PayloadParams};
 use queue_store::QueueStore;
 use rtp_base::{Frequency, Mid, MidRid, Pt, Rid, Ssrc};
 use rtp_wire::ExtensionMap;
 use session_core::{Media, MediaKind, Mtu, ReportIntervals, RtcError, Session, SessionConfig};
 use srtp_core::{KeyingMaterial, SrtpProfile, ToyCipher};
-use std::alloc::Global;
-use stream_core::{PayloadTypes, Sent, TypeRow};
+use std::alloc::{AllocError, Global};
+use stream_core::Sent;
 
 /// One end with the toy cipher.
 pub type End = Session<ToyCipher, MaskRegister, QueueStore<Sent>>;
@@ -41,6 +42,30 @@ pub fn rid() -> Rid {
     }
 }
 
+// VP8 as type 96, whose repairs have type 97.
+fn codecs(alloc: Global) -> Result<CodecConfig, AllocError> {
+    let spec = CodecSpec {
+        codec: Codec::Vp8,
+        clock_rate: Frequency::NINETY_KHZ,
+        channels: None,
+        format: FormatParams::default(),
+    };
+    let params = PayloadParams::new(Pt::from(96), Some(Pt::from(97)), spec);
+    CodecConfig::new(alloc, vec![in alloc; params]?)
+}
+
+/// A media section whose peer takes type 96.
+pub fn section(
+    alloc: Global,
+    mid: Mid,
+    kind: MediaKind,
+    cname: &[u8],
+) -> Result<Media, AllocError> {
+    let cname = Bytes::from_slice(alloc, cname)?;
+    let remote_pts = Listed::from_vec(vec![in alloc; Pt::from(96)]?);
+    Ok(Media::new(mid, kind, cname, remote_pts))
+}
+
 /// What both ends are made with: they know type 96. The target for their feedback is cut to 900 to 1,500
 /// bytes, the first index of SRTCP datagrams to at most 2^31. Their own SSRC is 2. Their reports are so far
 /// apart that none is due.
@@ -55,13 +80,6 @@ pub fn config(
     ensures warn { IfOk result (λ c. c.mtu.warn ≤ 1500) }
     ensures index { IfOk result (λ c. c.srtcp_index ≤ 2 ^ 31) }
 {
-    let mut types = PayloadTypes::new(alloc);
-    types.add(TypeRow {
-        pt: Pt::from(96),
-        clock: Frequency::NINETY_KHZ,
-        rtx: Some(Pt::from(97)),
-        red: None,
-    })?;
     Ok(SessionConfig {
         id: 1,
         beginning: Beginning {
@@ -79,7 +97,7 @@ pub fn config(
         },
         srtcp_index: u64::from(srtcp_index).min(2_147_483_648),
         exts,
-        types,
+        codecs: codecs(alloc)?,
     })
 }
 
@@ -91,8 +109,7 @@ pub fn give_keys(alloc: Global, end: &mut End, left: bool) -> Result<(), RtcErro
 
 /// Has a fresh end send on SSRC 42.
 pub fn prepare_sender(alloc: Global, end: &mut End) -> Result<(), RtcError> {
-    let cname = Bytes::from_slice(alloc, b"cam")?;
-    end.add_media(Media::new(mid(), MediaKind::Video, cname))?;
+    end.add_media(section(alloc, mid(), MediaKind::Video, b"cam")?)?;
     let mid_rid = MidRid(mid(), Some(rid()));
     end.streams()
         .declare_stream_tx(Ssrc::from(42), None, mid_rid)?;

@@ -19,8 +19,8 @@ fn play(alloc: Global, begins: Begins, steps: &[Step]) -> Result<bool, Fail> {
     let exts = map_of(begins.0);
     let sender = config(alloc, exts, 1150, 0)?;
     let receiver = config(alloc, exts, 1150, 0)?;
-    let mut end = End::new(alloc, sender);
-    let mut peer = End::new(alloc, receiver);
+    let mut end = End::new(alloc, sender)?;
+    let mut peer = End::new(alloc, receiver)?;
     go_through(alloc, &mut end, &mut peer, begins.1, steps)
 }
 

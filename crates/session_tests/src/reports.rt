@@ -70,7 +70,7 @@ fn play(alloc: Global, asked: Asked) -> Result<bool, Fail> {
         audio: Duration::from_secs(5),
         video: Duration::from_secs(1),
     };
-    let mut end = End::new(alloc, made);
+    let mut end = End::new(alloc, made)?;
     holds(alloc, &mut end, asked)
 }
 

@@ -277,7 +277,7 @@ fn goes_through(alloc: Global, end: &mut End, steps: &[(Came, Brings)]) -> Resul
 // Makes an end, and takes it through the steps: the one function that owns a session, with one exit.
 fn holds(alloc: Global, steps: &[(Came, Brings)]) -> Result<bool, Fail> {
     let config = config(alloc, map_of(Ids::Nothing), 1150, 0)?;
-    let mut end = End::new(alloc, config);
+    let mut end = End::new(alloc, config)?;
     goes_through(alloc, &mut end, steps)
 }
 

@@ -650,7 +650,7 @@ fn play(alloc: Global, begins: Begins, steps: &[Step]) -> Result<bool, Fail> {
         _ => 0,
     };
     let config = config(alloc, map_of(Ids::Nothing), 1150, index)?;
-    let mut end = End::new(alloc, config);
+    let mut end = End::new(alloc, config)?;
     goes_through(alloc, &mut end, begins, steps)
 }
 

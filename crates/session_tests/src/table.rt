@@ -227,8 +227,8 @@ fn play(alloc: Global, row: Row) -> Result<bool, Fail> {
     let (target, index) = (target_of(row), index_of(row));
     let sender = config(alloc, exts, target, index)?;
     let receiver = config(alloc, exts, target, index)?;
-    let mut a = End::new(alloc, sender);
-    let mut b = End::new(alloc, receiver);
+    let mut a = End::new(alloc, sender)?;
+    let mut b = End::new(alloc, receiver)?;
     hold(alloc, &mut a, &mut b, row)
 }
 

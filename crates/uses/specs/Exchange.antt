@@ -7,7 +7,9 @@ use Rattle.srtp_core.specs.declared.profile.SrtpProfile.TheVariants.{AeadAes128G
 use Rattle.session_core.specs.declared.config.SessionConfig.{SessionConfig}
 use Rattle.session_core.specs.declared.datagram.Event.{Event}
 use Rattle.session_core.specs.declared.datagram.Event.TheVariants.{RtpPacket, AppSpecificFeedback}
-use Rattle.session_core.specs.declared.media.MediaKind.TheVariants.{Video}
+use Rattle.payload_core.specs.Params.{Config, no_format, plain_params}
+use Rattle.payload_core.specs.declared.codec.Codec.TheVariants.{Vp8}
+use Rattle.payload_core.specs.declared.codec.MediaKind.TheVariants.{Video}
 use Rattle.session_core.specs.Calls.{fresh_session, keyed}
 use Rattle.session_core.specs.SessionRecord.{SessionState, SessionRecord}
 use Rattle.stream_core.specs.Write.{WriteRecord}
@@ -32,6 +34,13 @@ first_write now payload = record {
   csrc = [];
 }
 
+-- VP8 as type 96, without repairs
+abbrev pub vp8 : Config
+vp8 = record {
+  params = plain_params 96 None (record { codec = Vp8; clock_rate = 90000; channels = None; format = no_format }) ∷ [];
+  distances = 1 ∷ [];
+}
+
 -- an end on which nothing was done, with the keys of one side of the material and a media section of this mid
 abbrev pub end_config : SessionConfig
 end_config = record {
@@ -43,11 +52,11 @@ end_config = record {
   intervals = record { audio = 5000000000; video = 1000000000 };
   srtcp_index = 0;
   exts = no_extensions;
-  types = (96, record { pt = 96; clock = 90000; rtx = None; red = None }) ∷ [];
+  codecs = vp8;
 }
 
 abbrev pub with_media : List ℕ → SessionState → SessionState
-with_media mid s = record s { medias = record { mid = mid; kind = Video; cname = codes "cam"; rids = Any } ∷ [] }
+with_media mid s = record s { medias = record { mid = mid; kind = Video; cname = codes "cam"; remote_pts = 96 ∷ []; rids = Any } ∷ [] }
 
 abbrev pub end_of : List ℕ → List ℕ → Bool → SessionRecord
 end_of material mid left =

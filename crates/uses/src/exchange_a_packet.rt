@@ -5,10 +5,11 @@ ghost use Rattle.queue_store.specs.Queue.{StandsFor as Holds};
 ghost use Rattle.stream_core.specs.Tables.{change_place};
 ghost use Rattle.stream_core.specs.TxRecord.{written};
 ghost use Rattle.session_core.specs.SessionRecord.{StandsFor};
-ghost use Rattle.uses.specs.Exchange.{end_of, payload_told};
+ghost use Rattle.uses.specs.Exchange.{vp8, end_of, payload_told};
 
 use mask_register::MaskRegister;
-use media_base::{Beginning, Bytes, Duration, Instant};
+use media_base::{Beginning, Bytes, Duration, Instant, Listed};
+use payload_core::{Codec, CodecConfig, CodecSpec, FormatParams, PayloadParams};
 use queue_store::QueueStore;
 use rtp_base::{Frequency, Mid, MidRid, Pt, SeqNo, Ssrc};
 use rtp_wire::{ExtensionMap, written_header_is_read_again};
@@ -18,25 +19,31 @@ use session_core::{
 };
 use srtp_core::laws::{rtp_seal_keeps_header, rtp_seals_apart};
 use srtp_core::{KeyingMaterial, SrtpProfile, ToyCipher};
-use std::alloc::Global;
-use stream_core::{Payload, PayloadTypes, RtpWrite, Sent, TypeRow};
+use std::alloc::{AllocError, Global};
+use stream_core::{Payload, RtpWrite, Sent};
 
 /// One end, under the toy cipher.
 pub type End = Session<ToyCipher, MaskRegister, QueueStore<Sent>>;
+
+/// VP8 as payload type 96, without repairs.
+fn codecs(alloc: Global) -> Result<CodecConfig, AllocError>
+    ensures { IfOk result (λ c. c ≡ vp8) }
+{
+    let spec = CodecSpec {
+        codec: Codec::Vp8,
+        clock_rate: Frequency::NINETY_KHZ,
+        channels: None,
+        format: FormatParams::default(),
+    };
+    let params = PayloadParams::new(Pt::from(96), None, spec);
+    CodecConfig::new(alloc, vec![in alloc; params]?)
+}
 
 /// An end with the keys of one side of the material, which knows payload type 96 and has one media
 /// section.
 pub fn end(alloc: Global, material: &KeyingMaterial, mid: Mid, left: bool) -> Result<End, RtcError>
     ensures made { IfOk result (λ s. StandsFor Remembers Holds s (end_of material.now mid left)) }
 {
-    let mut types = PayloadTypes::new(alloc);
-    let (pt, clock) = (Pt::from(96), Frequency::NINETY_KHZ);
-    types.add(TypeRow {
-        pt,
-        clock,
-        rtx: None,
-        red: None,
-    })?;
     let (target, warn) = (DATAGRAM_MTU, DATAGRAM_MTU_WARN);
     let config = SessionConfig {
         id: 1,
@@ -50,11 +57,12 @@ pub fn end(alloc: Global, material: &KeyingMaterial, mid: Mid, left: bool) -> Re
         },
         srtcp_index: 0,
         exts: ExtensionMap::empty(),
-        types,
+        codecs: codecs(alloc)?,
     };
-    let mut session = End::new(alloc, config);
+    let mut session = End::new(alloc, config)?;
     let cname = Bytes::from_slice(alloc, b"cam")?;
-    session.add_media(Media::new(mid, MediaKind::Video, cname))?;
+    let remote_pts = Listed::from_vec(vec![in alloc; Pt::from(96)]?);
+    session.add_media(Media::new(mid, MediaKind::Video, cname, remote_pts))?;
     session.set_keying_material(ToyCipher, SrtpProfile::AeadAes128Gcm, material, left)?;
     Ok(session)
 }

@@ -1,13 +1,13 @@
 //! What is done with two ends, of which one sends with repairs (RFC 4588).
 use crate::carrying::Ids;
-use crate::ends::{End, ended_with, expect_stream, give_keys, mid, rid};
+use crate::ends::{End, ended_with, expect_stream, give_keys, mid, rid, section};
 use crate::packets::seal_report;
 use mask_register::MaskRegister;
-use media_base::{Bytes, Duration, Instant};
+use media_base::{Duration, Instant};
 use queue_store::QueueStore;
 use rtp_base::{Kind, MidRid, Pt, Rid, SeqNo, Ssrc};
 use rtp_wire::ExtensionValues;
-use session_core::{Datagram, DrainFault, Media, MediaKind, RtcError};
+use session_core::{Datagram, DrainFault, MediaKind, RtcError};
 use std::alloc::Global;
 use std::test::Fail;
 use stream_core::{Payload, RtpWrite, Sent, Streams};
@@ -431,8 +431,7 @@ pub fn go_through(
     first: u64,
     steps: &[Step],
 ) -> Result<bool, Fail> {
-    let cname = Bytes::from_slice(alloc, b"cam")?;
-    end.add_media(Media::new(mid(), MediaKind::Video, cname))?;
+    end.add_media(section(alloc, mid(), MediaKind::Video, b"cam")?)?;
     declare_repaired(end, 42, first)?;
     expect_stream(peer)?;
     give_keys(alloc, end, false)?;

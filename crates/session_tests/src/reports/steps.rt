@@ -1,10 +1,10 @@
 //! What is done with an end that reports.
-use crate::ends::{End, mid};
+use crate::ends::{End, mid, section};
 use crate::packets::{seal_numbered, seal_report};
 use crate::reports::news::{News, tells};
-use media_base::{Bitrate, Bytes, Instant};
+use media_base::{Bitrate, Instant};
 use rtp_base::{KeyframeRequestKind, Kind, Mid, MidRid, Pt, SeqNo, Ssrc};
-use session_core::{Media, MediaKind};
+use session_core::MediaKind;
 use std::alloc::Global;
 use std::test::Fail;
 use stream_core::{Payload, RtpWrite};
@@ -76,8 +76,7 @@ pub fn add(
     kind: MediaKind,
     cname: &[u8],
 ) -> Result<(), Fail> {
-    let cname = Bytes::from_slice(alloc, cname)?;
-    end.add_media(Media::new(mid_of(letter), kind, cname))?;
+    end.add_media(section(alloc, mid_of(letter), kind, cname)?)?;
     Ok(())
 }
 
