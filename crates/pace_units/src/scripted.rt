@@ -22,7 +22,7 @@ use rtp_base::TwccClusterId;
 use std::marker::Model;
 
 /// An estimator whose estimates and clusters are given to it, each with the moment from which on it is due.
-/// Contracts see its script and how far it came.
+/// Only timeouts and polls change it: a `reset` does not. Contracts see its script and how far it came.
 #[derive(Debug, Drop)]
 pub struct ScriptedEstimate {
     estimates: Listed<(Instant, Bitrate)>,
