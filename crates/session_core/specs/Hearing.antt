@@ -18,7 +18,7 @@ use Rattle.stream_core.specs.Repairing.{RepairsRecord}
 use Rattle.stream_core.specs.RxRecord.{RxRecord}
 use Rattle.stream_core.specs.StreamsRecord.{Asked}
 use Rattle.stream_core.specs.Tables.{place_of, each, change_at}
-use Rattle.stream_core.specs.TxRecord.{TxRecord, after_reception}
+use Rattle.stream_core.specs.TxRecord.{TxRecord, after_reception, lost_by}
 use Rattle.session_core.specs.declared.datagram.Opened.{Opened}
 use Rattle.session_core.specs.News.{news_heard}
 use Rattle.session_core.specs.Reports.{rx_heard, moments_heard}
@@ -38,9 +38,10 @@ stated (Some state) bytes = stated_index state.profile bytes
 abbrev pub rtcp_opening_of : Option SrtpState → List ℕ → List ℕ → Opened
 rtcp_opening_of opening bytes plain = record { kind = Rtcp; ssrc = sender_of (take 8 plain); index = stated opening bytes; plain = plain }
 
--- a reception block tells that the peer knows the SSRC that it reports on
+-- a reception block tells what was lost of the packets of the stream that it reports on, where that is kept, and that the
+-- peer knows the stream's SSRC
 abbrev pub acknowledged_by : RtcpFb → List (ℕ × TxRecord) → List (ℕ × TxRecord)
-acknowledged_by (ReceptionReport b) es = change_at b.ssrc (after_reception b) es
+acknowledged_by (ReceptionReport b) es = change_at b.ssrc (λ x. after_reception b (lost_by b x)) es
 acknowledged_by _ es = es
 
 abbrev pub acknowledged : List RtcpFb → List (ℕ × TxRecord) → List (ℕ × TxRecord)

@@ -1,5 +1,6 @@
 -- What the peer asks and tells of streams, and waits to be told to the application.
-use Rattle.std.specs.Prelude.{ℕ, ◌+◌, ◌==◌, List, [], ◌∷◌, ◌++◌, length, map, position, slice_set, Option, Some, None}
+use Rattle.std.specs.Prelude.{ℕ, ◌+◌, ◌==◌, not, List, [], ◌∷◌, ◌++◌, length, filter, map, position, slice_set, Option, Some, None}
+use Rattle.std.specs.Cmp.Lexicographic.{pointwise}
 use Rattle.rtcp_wire.specs.declared.report.SenderInfo.{SenderInfo}
 use Rattle.rtcp_wire.specs.declared.rtcp_fb.RtcpFb.{RtcpFb}
 use Rattle.rtcp_wire.specs.declared.rtcp_fb.RtcpFb.TheVariants as feedback
@@ -58,6 +59,14 @@ news_heard_by now tx rx _ n = n
 abbrev pub news_heard : ℕ → List (ℕ × TxRecord) → List (ℕ × RxRecord) → List RtcpFb → NewsRecord → NewsRecord
 news_heard now tx rx [] n = n
 news_heard now tx rx (f ∷ fs) n = news_heard now tx rx fs (news_heard_by now tx rx f n)
+
+-- what waits without what is of the streams of a media section
+abbrev pub news_without : List ℕ → NewsRecord → NewsRecord
+news_without mid n = record {
+  keyframes = filter (λ w. not (pointwise ◌==◌ w.1.mid mid)) n.keyframes;
+  senders = filter (λ w. not (pointwise ◌==◌ w.1.mid mid)) n.senders;
+  rates = filter (λ w. not (pointwise ◌==◌ w.1.mid mid)) n.rates;
+}
 
 -- the events that tell it, in order: all requests for key frames, all reports of senders, all rates
 abbrev pub keyframe_event : ℕ × KeyframeRequest → Event

@@ -14,6 +14,7 @@ use Rattle.payload_core.specs.declared.codec.MediaKind.TheVariants.{Audio}
 use Rattle.report_core.specs.declared.moments.ReceiverMoment.{ReceiverMoment}
 use Rattle.report_core.specs.Moments.{moment_of, with_moment, answer_of, unanswered}
 use Rattle.report_core.specs.Sender.{report_of, name_of}
+use Rattle.stream_core.specs.Names.{described_by}
 use Rattle.stream_core.specs.Pauses.{on_record, sooner}
 use Rattle.stream_core.specs.Reporting.{is_among, due_tx_mids, incoming_items, sender_info_at, tx_reported, with_kind, with_news, report_before, tx_report_before}
 use Rattle.stream_core.specs.RxRecord.{RxRecord}
@@ -120,10 +121,11 @@ told_kind medias x = of_kind x.reports.clock.is_audio (media_of x.mid medias) x
 abbrev pub reports_at : SessionRecord → Option ℕ
 reports_at r = sooner (report_before r.state.intervals None r.rx) (tx_report_before r.state.intervals None r.state.tx)
 
--- the incoming streams and the moments of receivers that wait, after feedback came at a moment: a sender's report, and a
--- receiver's moment
+-- the incoming streams and the moments of receivers that wait, after feedback came at a moment: a sender's report, the
+-- description of a source, and a receiver's moment
 abbrev pub rx_heard_by : ℕ → RtcpFb → List (ℕ × RxRecord) → List (ℕ × RxRecord)
 rx_heard_by now (feedback.SenderInfo i) rx = change_at i.ssrc (on_record (with_news i now)) rx
+rx_heard_by now (feedback.SourceDescription d) rx = change_at d.ssrc (on_record (described_by d)) rx
 rx_heard_by now _ rx = rx
 
 abbrev pub rx_heard : ℕ → List RtcpFb → List (ℕ × RxRecord) → List (ℕ × RxRecord)

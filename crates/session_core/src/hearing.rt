@@ -1,7 +1,9 @@
-ghost use Rattle.std.specs.Prelude.{◌≡◌, ◌≤◌, ℕ, List, None, length, IfOk, IfSome, IfNone, OnOk};
+ghost use Rattle.std.specs.Prelude.{◌≡◌, ◌≤◌, ℕ, List, None, length, IfOk, IfSome, IfNone, OnOk, OnErr};
+ghost use Rattle.std.specs.Option.{option_or};
 ghost use Rattle.stream_core.specs.Repairing.{RepairsRecord};
 ghost use Rattle.stream_core.specs.StreamsRecord.{StreamsRecord, StandsFor};
 ghost use Rattle.session_core.specs.Hearing.{RtcpOpensIn, stated, feedback_in, acknowledged_by, acknowledged, application_in, last_application, AskedBy, AskedByAll, is_own, last_delay, trip_of, measured, GoodbyesChangeNothing};
+ghost use Rattle.session_core.specs.Reports.{rx_heard_by, rx_heard};
 
 use media_base::{Duration, Instant, calculate_rtt};
 use repair_core::GapWindow;
@@ -69,40 +71,83 @@ pub fn feedback_in(alloc: Global, plain: &[u8]) -> Result<Vec<RtcpFb>, AllocErro
     RtcpFb::from_rtcp(alloc, items)
 }
 
-/// Has a reception block tell the stream that it reports on that the peer knows its SSRC.
-fn acknowledge<W: GapWindow, S: ResendStore<Sent>>(item: &RtcpFb, streams: &mut Streams<W, S>)
-    ensures { streams.new ≡ record streams.old { tx = acknowledged_by item.now streams.old.tx } }
+/// Has a reception block tell the stream that it reports on what was lost of its packets, where that is
+/// kept, and that the peer knows its SSRC. Without memory nothing changes.
+fn acknowledge<W: GapWindow, S: ResendStore<Sent>>(
+    item: &RtcpFb,
+    streams: &mut Streams<W, S>,
+) -> Result<(), AllocError>
+    ensures ok { OnOk result (streams.new ≡ record streams.old { tx = acknowledged_by item.now streams.old.tx }) }
+    ensures err { OnErr result (streams.new ≡ streams.old) }
 {
     if let RtcpFb::ReceptionReport(report) = item {
         if let Some(place) = streams.tx_place(report.ssrc) {
-            streams.tx_at(place).handle_reception_report(report);
+            let stream = streams.tx_at(place);
+            stream.update_with_rr(report)?;
+            stream.handle_reception_report(report);
         }
     }
+    Ok(())
 }
 
-/// The feedback of an application, if it is such.
-fn application_in(item: RtcpFb) -> Option<AppSpecificFeedback>
-    ensures { result ≡ application_in item }
+/// Has the reception blocks of feedback tell the streams that they report on, in order. Without memory some
+/// in front are told.
+pub fn acknowledge_all<W: GapWindow, S: ResendStore<Sent>>(
+    feedback: &[RtcpFb],
+    streams: &mut Streams<W, S>,
+) -> Result<(), AllocError>
+    ensures ok { OnOk result (streams.new ≡ record streams.old { tx = acknowledged feedback.now streams.old.tx }) }
+    ensures err { OnErr result ((told : List RtcpFb) × (streams.new ≡ record streams.old { tx = acknowledged told streams.old.tx })) }
 {
-    match item {
-        RtcpFb::AppSpecificFeedback(told) => Some(told),
-        _ => None,
+    for item in feedback {
+        acknowledge(item, streams)?;
     }
+    Ok(())
 }
 
-/// Has feedback change what it concerns: a reception block the stream that it reports on, feedback of an
-/// application what is told next.
-pub fn hear<W: GapWindow, S: ResendStore<Sent>>(
-    feedback: Vec<RtcpFb>,
+/// Has an item change what it concerns: the report of a sender and the description of a source the stream
+/// that comes from it, feedback of an application what is told next.
+fn hear_item<W: GapWindow, S: ResendStore<Sent>>(
+    item: RtcpFb,
+    now: Instant,
     streams: &mut Streams<W, S>,
     application: &mut Option<AppSpecificFeedback>,
 )
-    ensures streams { streams.new ≡ record streams.old { tx = acknowledged feedback.items streams.old.tx } }
+    ensures streams { (r : StreamsRecord) → StandsFor W.remembers S.stands_for streams.old r
+        → StandsFor W.remembers S.stands_for streams.new (record r { rx = rx_heard_by now item r.rx }) }
+    ensures tx { streams.new.tx ≡ streams.old.tx }
+    ensures repairs { streams.new.repairs ≡ streams.old.repairs }
+    ensures threshold { streams.new.threshold ≡ streams.old.threshold }
+    ensures known { streams.new.known ≡ streams.old.known }
+    ensures application { application.new ≡ option_or (application_in item) application.old }
+{
+    match item {
+        RtcpFb::SenderInfo(info) => streams.handle_sender_info(&info, now),
+        RtcpFb::SourceDescription(description) => streams.handle_description(description),
+        RtcpFb::AppSpecificFeedback(told) => *application = Some(told),
+        _ => {}
+    }
+}
+
+/// Has feedback change what it concerns, in order: reports of senders (RFC 3550 section 6.4.1) and
+/// descriptions of sources (section 6.5) the streams that come from them, feedback of an application what is
+/// told next.
+pub fn hear<W: GapWindow, S: ResendStore<Sent>>(
+    feedback: Vec<RtcpFb>,
+    now: Instant,
+    streams: &mut Streams<W, S>,
+    application: &mut Option<AppSpecificFeedback>,
+)
+    ensures streams { (r : StreamsRecord) → StandsFor W.remembers S.stands_for streams.old r
+        → StandsFor W.remembers S.stands_for streams.new (record r { rx = rx_heard now feedback.items r.rx }) }
+    ensures tx { streams.new.tx ≡ streams.old.tx }
+    ensures repairs { streams.new.repairs ≡ streams.old.repairs }
+    ensures threshold { streams.new.threshold ≡ streams.old.threshold }
+    ensures known { streams.new.known ≡ streams.old.known }
     ensures application { application.new ≡ last_application feedback.items application.old }
 {
     for item in feedback {
-        acknowledge(&item, streams);
-        *application = application_in(item).or(application.take());
+        hear_item(item, now, streams, application);
     }
 }
 

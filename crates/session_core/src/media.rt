@@ -2,7 +2,7 @@ ghost use Rattle.std.specs.Prelude.{◌≡◌, ◌==◌, length, OnOk, OnErr};
 ghost use Rattle.std.specs.Option.{option_copied};
 ghost use Rattle.mapping_core.specs.Expecting.{with_rid};
 ghost use Rattle.mapping_core.specs.declared.rids.Rids.TheVariants.{Any};
-ghost use Rattle.session_core.specs.Medias.{media_of, media_place};
+ghost use Rattle.session_core.specs.Medias.{media_of, media_place, medias_without};
 
 use mapping_core::Rids;
 use media_base::{Bytes, Listed};
@@ -123,4 +123,11 @@ pub fn media_place(medias: &[Media], mid: Mid) -> Option<usize>
     ensures { result ≡ media_place mid medias.now }
 {
     medias.iter().position(|media| media.mid() == mid)
+}
+
+/// Takes out the media sections of a mid. The time grows with the number of media sections.
+pub fn remove_section(medias: &mut Vec<Media>, mid: Mid)
+    ensures { medias.new.items ≡ medias_without mid medias.old.items }
+{
+    medias.retain(|media| media.mid() != mid);
 }

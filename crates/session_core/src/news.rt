@@ -3,7 +3,7 @@ ghost use Rattle.std.specs.Prelude.{◌≡◌, ◌==◌, ◌+◌, ◌<◌, ◌�
 ghost use Rattle.std.specs.Option.{option_map};
 ghost use Rattle.stream_core.specs.StreamsRecord.{StreamsRecord, StandsFor};
 ghost use Rattle.stream_core.specs.Tables.{value_under};
-ghost use Rattle.session_core.specs.News.{NewsRecord, no_news, put, with_keyframe, with_sender, with_rate, news_heard_by, news_heard, news_told, news_count, next_news, after_news};
+ghost use Rattle.session_core.specs.News.{NewsRecord, no_news, put, with_keyframe, with_sender, with_rate, news_heard_by, news_heard, news_without, news_told, news_count, next_news, after_news};
 
 use crate::datagram::Event;
 use media_base::{Bitrate, Instant};
@@ -125,6 +125,16 @@ impl News {
         }
         let (_, rate) = self.rates.pop_front()?;
         Some(Event::Remb(rate))
+    }
+
+    /// Takes out what waits of the streams of a media section. The time grows with the streams of which
+    /// something waits.
+    pub fn remove_section(&mut self, mid: Mid)
+        ensures { self.new ≡ news_without mid self.old }
+    {
+        self.keyframes.retain(|one| one.1.mid != mid);
+        self.senders.retain(|one| one.1.mid != mid);
+        self.rates.retain(|one| one.1.mid != mid);
     }
 
     /// The peer asks for a key frame of the outgoing stream of an SSRC, if there is one.

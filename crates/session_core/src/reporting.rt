@@ -19,8 +19,6 @@ ghost use Rattle.session_core.specs.Reports.{
   sender_after,
   some_reports,
   told_kind,
-  rx_heard_by,
-  rx_heard,
   moments_heard_by,
   moments_heard,
   TickItemsFit,
@@ -255,42 +253,6 @@ pub fn take_moments(
         take_moment(item, now, moments)?;
     }
     Ok(())
-}
-
-/// Has an incoming stream know what its sender reported, where feedback tells that.
-fn hear_sender<W: GapWindow, S: ResendStore<Sent>>(
-    item: &RtcpFb,
-    now: Instant,
-    streams: &mut Streams<W, S>,
-)
-    ensures streams { (r : StreamsRecord) → StandsFor W.remembers S.stands_for streams.old r
-        → StandsFor W.remembers S.stands_for streams.new (record r { rx = rx_heard_by now item.now r.rx }) }
-    ensures tx { streams.new.tx ≡ streams.old.tx }
-    ensures repairs { streams.new.repairs ≡ streams.old.repairs }
-    ensures threshold { streams.new.threshold ≡ streams.old.threshold }
-    ensures known { streams.new.known ≡ streams.old.known }
-{
-    if let RtcpFb::SenderInfo(info) = item {
-        streams.handle_sender_info(info, now);
-    }
-}
-
-/// Has incoming streams know what their senders reported (RFC 3550 section 6.4.1).
-pub fn hear_senders<W: GapWindow, S: ResendStore<Sent>>(
-    feedback: &[RtcpFb],
-    now: Instant,
-    streams: &mut Streams<W, S>,
-)
-    ensures streams { (r : StreamsRecord) → StandsFor W.remembers S.stands_for streams.old r
-        → StandsFor W.remembers S.stands_for streams.new (record r { rx = rx_heard now feedback.now r.rx }) }
-    ensures tx { streams.new.tx ≡ streams.old.tx }
-    ensures repairs { streams.new.repairs ≡ streams.old.repairs }
-    ensures threshold { streams.new.threshold ≡ streams.old.threshold }
-    ensures known { streams.new.known ≡ streams.old.known }
-{
-    for item in feedback {
-        hear_sender(item, now, streams);
-    }
 }
 
 /// Each item that a tick queues fits a compound of its own.

@@ -2,8 +2,8 @@ ghost use Rattle.std.specs.Prelude.{◌≡◌, ◌≢◌, ◌≤◌, ◌^◌, �
 ghost use Rattle.std.specs.Option.{option_copied};
 ghost use Rattle.srtp_core.specs.Contexts.{new_state};
 ghost use Rattle.srtp_core.specs.Keys.{material_len};
-ghost use Rattle.session_core.specs.SessionRecord.{StandsFor};
-ghost use Rattle.session_core.specs.Medias.{media_of};
+ghost use Rattle.session_core.specs.SessionRecord.{SessionRecord, StandsFor};
+ghost use Rattle.session_core.specs.Medias.{media_of, without_media};
 ghost use Rattle.session_core.specs.Calls.{fresh_session, probe_mid, has_media, has_other_mid, has_other_place};
 
 mod drains;
@@ -14,7 +14,7 @@ mod ticks;
 
 use crate::config::SessionConfig;
 use crate::error::{AppError, RtcError};
-use crate::media::{Media, media_of, media_place};
+use crate::media::{Media, media_of, media_place, remove_section};
 use crate::news::News;
 use crate::sending::has_mid;
 use crate::types::payload_types;
@@ -288,6 +288,21 @@ impl<C: SrtpCipher, W: GapWindow, S: ResendStore<Sent>> Session<C, W, S> {
                 Err(RtcError::Memory)
             }
         }
+    }
+
+    /// Takes out the media sections of a mid, with their streams: those that send, with the packets that wait
+    /// on them and those that they keep, and those that receive; what the peer asked and told of these is told
+    /// no more. A packet that came on one of them and waits is told, and the numbers that opened under its SSRC
+    /// stay remembered. The time grows with the number of media sections, and with the square of the number of
+    /// streams.
+    pub fn remove_media(&mut self, mid: Mid)
+        ensures { (r : SessionRecord) → StandsFor W.remembers S.stands_for self.old r
+            → StandsFor W.remembers S.stands_for self.new (without_media mid r) }
+    {
+        self.next_stream = 0;
+        remove_section(&mut self.medias, mid);
+        self.streams.remove_streams_by_mid(mid);
+        self.news.remove_section(mid);
     }
 
     /// The media sections, in the order in which they were added.

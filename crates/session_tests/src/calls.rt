@@ -3,6 +3,7 @@ use crate::ends::End;
 use mask_register::MaskRegister;
 use media_base::Instant;
 use queue_store::QueueStore;
+use rtp_base::Mid;
 use session_core::{Datagram, DrainFault, Drained, Event, Opened, RtcError};
 use stream_core::{Sent, Streams};
 
@@ -34,6 +35,11 @@ pub fn event(end: &mut End) -> Option<Event> {
 /// All that waits.
 pub fn drain(end: &mut End, now: Instant) -> Result<Drained, DrainFault> {
     end.drain(now)
+}
+
+/// Takes a media section out.
+pub fn remove(end: &mut End, mid: Mid) {
+    end.remove_media(mid);
 }
 
 /// The streams.

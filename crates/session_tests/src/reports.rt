@@ -2,9 +2,11 @@
 //! and what they tell.
 mod counted;
 mod due;
+mod heard;
 mod many;
 mod names;
 mod news;
+mod removed;
 mod requests;
 mod steps;
 mod times;
@@ -14,9 +16,11 @@ use crate::carrying::{Ids, map_of};
 use crate::ends::{End, config, expect_stream, give_keys, new_end};
 use crate::reports::counted::COUNTED;
 use crate::reports::due::DUE;
+use crate::reports::heard::HEARD;
 use crate::reports::many::{Receivers, answers_all, reports_of_64};
 use crate::reports::names::names_itself;
 use crate::reports::news::NEWS;
+use crate::reports::removed::REMOVED;
 use crate::reports::requests::{REQUESTS, numbers_requests};
 use crate::reports::steps::{Row, Step, goes};
 use crate::reports::times::TIMES;
@@ -76,7 +80,9 @@ fn play(alloc: Global, asked: Asked) -> bool {
     holds(alloc, &mut end, asked)
 }
 
-const TABLES: [&[Row]; 6] = [&TOLD, &COUNTED, &DUE, &NEWS, &REQUESTS, &TIMES];
+const TABLES: [&[Row]; 8] = [
+    &TOLD, &COUNTED, &DUE, &HEARD, &NEWS, &REMOVED, &REQUESTS, &TIMES,
+];
 
 #[test]
 fn reports_hold(rt: HostRuntime) {

@@ -10,6 +10,7 @@ pub mod PollSteps
 pub mod Polling
 pub mod Primaries
 pub mod Renaming
+mod Removing
 pub mod RepairSteps
 pub mod ResetSteps
 pub mod RxSteps

@@ -7,6 +7,7 @@ pub mod Missing
 pub mod Names
 pub mod Pauses
 pub mod Queue
+pub mod Removing
 pub mod Repairing
 pub mod Reporting
 pub mod Requests

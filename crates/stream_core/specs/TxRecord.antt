@@ -60,7 +60,7 @@ with_stats r = record r { losses = Some (unwrap_or r.losses []) }
 
 -- a reception block tells what was lost of its packets, where that is kept: its number is widened by the last one sealed
 abbrev pub lost_by : ReceptionReport → TxRecord → TxRecord
-lost_by b r = if b.ssrc == r.ssrc then record r { losses = option_map (with_loss (loss_told r.reports.last_sent b)) r.losses } else r
+lost_by b r = record r { losses = if b.ssrc == r.ssrc then option_map (with_loss (loss_told r.reports.last_sent b)) r.losses else r.losses }
 
 -- what was lost was looked at
 abbrev pub after_visit : TxRecord → TxRecord

@@ -3,13 +3,14 @@ ghost use Rattle.std.specs.Prelude.{◌≡◌, OnOk, OnErr};
 ghost use Rattle.std.specs.Option.{option_copied};
 ghost use Rattle.mapping_core.specs.Mapped.{mapped};
 ghost use Rattle.stream_core.specs.Known.{none_known, put_original, with_known, without_known, with_original_of, renamed_to, with_main, with_repairs};
+ghost use Rattle.stream_core.specs.Removing.{known_without_section};
 ghost use Rattle.stream_core.specs.Tables.{value_under, each};
 
 use crate::ssrc_table::SsrcTable;
 use mapping_core::{
     IncomingStream, MainChange, MappedStreams, Mapping, RepairsChange, Rids, TypeClaim,
 };
-use rtp_base::Ssrc;
+use rtp_base::{Mid, Ssrc};
 use rtp_wire::RtpHeader;
 use std::alloc::{AllocError, Global};
 use std::marker::Model;
@@ -115,6 +116,15 @@ impl KnownStreams {
     {
         self.originals.remove_all(ssrc);
         self.streams.remove(ssrc);
+    }
+
+    /// The streams of a media section are known no more. The time grows with the square of the number of
+    /// streams.
+    pub fn remove_section(&mut self, mid: Mid)
+        ensures { self.new ≡ known_without_section mid self.old }
+    {
+        self.originals.remove_received(&self.streams, mid);
+        self.streams.remove_section(mid);
     }
 
     /// Repairs of the stream of an SSRC come under another one, where that is of no other stream's repairs.

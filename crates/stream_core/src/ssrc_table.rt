@@ -3,11 +3,15 @@ ghost use Rattle.std.specs.Map.{values_of};
 ghost use Rattle.std.specs.Map.Iter.{ShowsInOrder, deref_pair};
 ghost use Rattle.stream_core.specs.Tables.{place_of, with_new, without_key, without_value, renamed};
 ghost use Rattle.stream_core.specs.Known.{is_kept};
+ghost use Rattle.stream_core.specs.Removing.{is_of_other, receives_for, sends_for, sent_without, kept_without};
 
+use crate::stream_rx::StreamRx;
+use crate::stream_tx::StreamTx;
 use indexmap::IndexMap;
 use indexmap::map::Iter;
-use mapping_core::RepairsChange;
-use rtp_base::Ssrc;
+use mapping_core::{MappedStreams, RepairsChange};
+use repair_core::GapWindow;
+use rtp_base::{Mid, Ssrc};
 use std::alloc::{AllocError, Global};
 use std::marker::Model;
 
@@ -148,7 +152,27 @@ impl<T: Drop> SsrcTable<T> {
     }
 }
 
+fn receives_for(streams: &MappedStreams, ssrc: Ssrc, mid: Mid) -> bool
+    ensures { result ≡ receives_for mid ssrc streams.now }
+{
+    streams
+        .iter()
+        .any(|stream| stream.ssrc == ssrc && stream.mid == mid)
+}
+
 impl SsrcTable<Ssrc> {
+    /// Takes out the entries of streams of a media section. The time grows with the product of the numbers
+    /// of entries and of streams.
+    pub fn remove_received(&mut self, streams: &MappedStreams, mid: Mid)
+        ensures { self.new ≡ filter (λ e. not (receives_for mid e.1 streams.now)) self.old }
+    {
+        self.streams.retain(
+            |_key: &Ssrc, value: &mut Ssrc| -> bool
+                ensures { (result ≡ not (receives_for mid value.old streams.now)) × (value.new ≡ value.old) }
+            { !receives_for(streams, *value, mid) },
+        );
+    }
+
     /// Takes out all entries of an SSRC. The time grows with the number of entries.
     pub fn remove_all(&mut self, ssrc: Ssrc)
         ensures { self.new ≡ without_value ssrc self.old }
@@ -171,6 +195,55 @@ impl SsrcTable<Ssrc> {
             |key: &Ssrc, value: &mut Ssrc| -> bool
                 ensures { (result ≡ (key.now == rtx || not (value.old == main))) × (value.new ≡ value.old) }
             { *key == rtx || *value != main },
+        );
+    }
+}
+
+impl SsrcTable<StreamTx> {
+    /// Whether a stream of a media section stands under an SSRC. The time grows with the number of streams.
+    fn sends_for(&self, ssrc: Ssrc, mid: Mid) -> bool
+        ensures { result ≡ sends_for mid ssrc self.now }
+    {
+        self.streams
+            .iter()
+            .any(|(key, stream)| *key == ssrc && stream.mid() == mid)
+    }
+
+    /// Takes out the streams of a media section. The time grows with the number of streams.
+    pub fn remove_section(&mut self, mid: Mid)
+        ensures { self.new ≡ sent_without mid self.old }
+    {
+        self.streams.retain(
+            |_key: &Ssrc, stream: &mut StreamTx| -> bool
+                ensures { (result ≡ is_of_other mid stream.old.mid) × (stream.new ≡ stream.old) }
+            { stream.mid() != mid },
+        );
+    }
+}
+
+impl<W: GapWindow> SsrcTable<StreamRx<W>> {
+    /// Takes out the streams of a media section. The time grows with the number of streams.
+    pub fn remove_section(&mut self, mid: Mid)
+        ensures { self.new ≡ filter (λ e. is_of_other mid e.1.state.mid) self.old }
+    {
+        self.streams.retain(
+            |_key: &Ssrc, stream: &mut StreamRx<W>| -> bool
+                ensures { (result ≡ is_of_other mid stream.old.state.mid) × (stream.new ≡ stream.old) }
+            { stream.mid() != mid },
+        );
+    }
+}
+
+impl<T: Drop> SsrcTable<T> {
+    /// Takes out what stands under the SSRCs of streams of a media section. The time grows with the product
+    /// of the numbers of entries and of streams.
+    pub fn remove_sent(&mut self, streams: &SsrcTable<StreamTx>, mid: Mid)
+        ensures { self.new ≡ kept_without mid streams.now self.old }
+    {
+        self.streams.retain(
+            |key: &Ssrc, value: &mut T| -> bool
+                ensures { (result ≡ not (sends_for mid key.now streams.now)) × (value.new ≡ value.old) }
+            { !streams.sends_for(*key, mid) },
         );
     }
 }

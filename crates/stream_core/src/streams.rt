@@ -16,6 +16,7 @@ ghost use Rattle.stream_core.specs.TxRecord.{TxRecord, declared, after_timeout, 
 
 mod feedback;
 mod in_use;
+mod removing;
 mod resetting;
 
 use crate::known_streams::KnownStreams;

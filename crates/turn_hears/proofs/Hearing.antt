@@ -11,7 +11,7 @@ use Rattle.srtp_core.specs.RtcpSeals.{RtcpOpensTo, sealed_rtcp, stated_bit, stat
 use Rattle.stream_core.specs.declared.payload_types.TypeRow.{TypeRow}
 use Rattle.stream_core.specs.Repairing.{RepairsRecord, repairs_of}
 use Rattle.stream_core.specs.Tables.{place_of}
-use Rattle.stream_core.specs.TxRecord.{TxRecord as StreamTx, after_reception}
+use Rattle.stream_core.specs.TxRecord.{TxRecord as StreamTx, after_reception, lost_by}
 use Rattle.session_core.specs.declared.datagram.Opened.{Opened as Opening}
 use Rattle.session_core.specs.Calls.{after_events}
 use Rattle.session_core.specs.Hearing.{RtcpOpensIn, stated, feedback_in, acknowledged_by, acknowledged, AskedByAll, last_delay, ntp_of, measured, after_rtcp, ReceivesRtcp, opened as opened_so, stays as stays_so}
@@ -39,7 +39,7 @@ use Rattle.turn_hears.proofs.News.{all_news}
 -- an acknowledgement leaves what waits
 
 keys_by : (f : RtcpFb) (es : List (ℕ × StreamTx)) → keys_of (acknowledged_by f es) ≡ keys_of es
-keys_by (ReceptionReport b) es = keys_changed_at (after_reception b) es (place_of b.ssrc es)
+keys_by (ReceptionReport b) es = keys_changed_at (λ x. after_reception b (lost_by b x)) es (place_of b.ssrc es)
 keys_by (SenderInfo a) es = refl
 keys_by (SourceDescription a) es = refl
 keys_by (Goodbye a) es = refl
@@ -62,7 +62,7 @@ module _ (rows : List (ℕ × TypeRow)) (medias : List MediaRecord) (now : ℕ) 
 
   still_by : (f : RtcpFb) (es : List (ℕ × StreamTx)) (xs : Table) → AllZip Stands es xs → AllZip Stands (acknowledged_by f es) xs
   still_by (ReceptionReport b) es xs h =
-      zip_changed_at Stands (after_reception b)
+      zip_changed_at Stands (λ x. after_reception b (lost_by b x))
       (λ e s k. record { key = k.key; ssrc = k.ssrc; rtx = k.rtx; mid = k.mid; queue = k.queue; given = k.given; cached = k.cached; again = k.again })
       es xs (place_of b.ssrc es) h
   still_by (SenderInfo a) es xs h = h

@@ -1,12 +1,13 @@
--- What incoming streams keep of the reports of their senders.
+-- What incoming streams keep of the reports of their senders, and of the descriptions of their sources.
 use Rattle.std.proofs.Common.{ℕ, List, [], ◌∷◌, Option}
 use Rattle.std.specs.List.{AllZip}
-use Rattle.rtcp_wire.specs.declared.report.SenderInfo.{SenderInfo as Sender}
 use Rattle.rtcp_wire.specs.declared.rtcp_fb.RtcpFb.{RtcpFb}
 use Rattle.rtcp_wire.specs.declared.rtcp_fb.RtcpFb.TheVariants.{SenderInfo, ReceptionReport, SourceDescription, Goodbye, Rrtr, DlrrItem, Nack, Pli, Fir, Twcc, Remb, AppSpecificFeedback}
+use Rattle.stream_core.specs.Names.{described_by}
 use Rattle.stream_core.specs.Pauses.{on_record}
 use Rattle.stream_core.specs.Reporting.{with_news}
 use Rattle.stream_core.specs.RxRecord.{RxRecord as StreamRx}
+use Rattle.stream_core.specs.declared.reports.RxReports.{RxReports}
 use Rattle.stream_core.specs.Tables.{place_of}
 use Rattle.session_core.specs.Reports.{rx_heard_by, rx_heard}
 use Rattle.run_model.specs.Events.{Incoming}
@@ -18,8 +19,10 @@ module _ (threshold : ℕ) (seen : List (ℕ × List ℕ)) (trip : Option ℕ) (
   abbrev Stands : ℕ × StreamRx → Incoming × RxRecord → Type 0
   Stands = RxStands threshold trip seen
 
-  news_stands : (i : Sender) (e : ℕ × StreamRx) (s : Incoming × RxRecord) → Stands e s → Stands (e.0, on_record (with_news i now) e.1) s
-  news_stands i e s h =
+  -- a stream that is told of its sender and its source takes and asks for what it did
+  told_stands : (reports : RxReports) (cname : Option (List ℕ)) (e : ℕ × StreamRx) (s : Incoming × RxRecord) → Stands e s
+      → Stands (e.0, record (e.1) { state = record (e.1.state) { reports = reports; cname = cname } }) s
+  told_stands reports cname e s h =
       let m = h.mirrors in
       record {
         key = h.key;
@@ -39,9 +42,9 @@ module _ (threshold : ℕ) (seen : List (ℕ × List ℕ)) (trip : Option ℕ) (
       }
 
   news_by : (f : RtcpFb) (rx : List (ℕ × StreamRx)) (table : List (Incoming × RxRecord)) → AllZip Stands rx table → AllZip Stands (rx_heard_by now f rx) table
-  news_by (SenderInfo i) rx table h = zip_changed_at Stands (on_record (with_news i now)) (news_stands i) rx table (place_of i.ssrc rx) h
+  news_by (SenderInfo i) rx table h = zip_changed_at Stands (on_record (with_news i now)) (λ e. told_stands (with_news i now e.1.state).reports e.1.state.cname e) rx table (place_of i.ssrc rx) h
   news_by (ReceptionReport a) rx table h = h
-  news_by (SourceDescription a) rx table h = h
+  news_by (SourceDescription d) rx table h = zip_changed_at Stands (on_record (described_by d)) (λ e. told_stands e.1.state.reports (described_by d e.1.state).cname e) rx table (place_of d.ssrc rx) h
   news_by (Goodbye a) rx table h = h
   news_by (Rrtr a b) rx table h = h
   news_by (DlrrItem a) rx table h = h

@@ -1,7 +1,8 @@
 //! What comes to a session: the datagrams of RTP and of RTCP.
 ghost use Rattle.std.specs.Prelude.{◌≡◌, ◌==◌, ◌<◌, ◌^◌, ◌↔◌, ◌||◌, ℕ, List, Some, None, true, false, length, drop, is_none, is_some, IfSome, OnOk, is_err, IsTrue, IfOk, IfErr, IfNone, OnErr, IsErrOf};
 ghost use Rattle.rtp_wire.specs.Header.{header_of};
-ghost use Rattle.session_core.specs.Hearing.{ReceivesRtcp};
+ghost use Rattle.rtcp_wire.specs.declared.rtcp_fb.RtcpFb.{RtcpFb};
+ghost use Rattle.session_core.specs.Hearing.{ReceivesRtcp, acknowledged};
 ghost use Rattle.std.specs.Map.{keys_of};
 ghost use Rattle.std.specs.Option.{ForSome};
 ghost use Rattle.stream_core.specs.Seen.{seen_of};
@@ -17,10 +18,12 @@ use super::Session;
 use crate::datagram::Opened;
 use crate::error::RtcError;
 use crate::feedback::sender;
-use crate::hearing::{RtcpOpening, ask_all, feedback_in, hear, last_delay, measure, open_rtcp};
+use crate::hearing::{
+    RtcpOpening, acknowledge_all, ask_all, feedback_in, hear, last_delay, measure, open_rtcp,
+};
 use crate::mapping::{first_opening, is_nowhere, is_standing, rids_for, unseen_number};
 use crate::receiving::{Opening, accepts, arrival, is_claimed, open, put_packet, take};
-use crate::reporting::{hear_senders, take_moments};
+use crate::reporting::take_moments;
 use crate::restoring::{accepts_repair, put_restored, repaired_by, restored_arrival};
 use mapping_core::{Mapping, is_early_padding};
 use media_base::{Bytes, Instant, InstantExt};
@@ -465,9 +468,10 @@ impl<C: SrtpCipher, W: GapWindow, S: ResendStore<Sent>> Session<C, W, S> {
         ensures unchanged { IsErrOf result Stopped → self.new ≡ self.old }
         ensures memory { self.old.state.stopped ≡ false → IfErr result (λ e. e ≡ Memory) }
         ensures failed { IsErrOf result Memory → self.new ≡ record self.old {
-          state = record (stopped_from self.old.state) { moments = self.new.state.moments; news = self.new.state.news };
+          state = record (stopped_from self.old.state) { tx = self.new.state.tx; moments = self.new.state.moments; news = self.new.state.news };
           repairs = self.new.repairs;
         } }
+        ensures heard { IsErrOf result Memory → (told : List RtcpFb) × (self.new.state.tx ≡ acknowledged told self.old.state.tx) }
     {
         if self.stopped {
             return Err(RtcError::Stopped);
@@ -486,7 +490,11 @@ impl<C: SrtpCipher, W: GapWindow, S: ResendStore<Sent>> Session<C, W, S> {
             → (after : SessionRecord) × ReceivesRtcp C.meaning r bytes.now now after opened × StandsFor W.remembers S.stands_for self.new after) }
         ensures unopened { IfOk result (λ opened. IfNone opened (self.new ≡ self.old)) }
         ensures runs { self.new.state.stopped ≡ self.old.state.stopped }
-        ensures err { OnErr result (self.new ≡ record self.old { state = record self.old.state { moments = self.new.state.moments; news = self.new.state.news }; repairs = self.new.repairs }) }
+        ensures err { OnErr result (self.new ≡ record self.old {
+          state = record self.old.state { tx = self.new.state.tx; moments = self.new.state.moments; news = self.new.state.news };
+          repairs = self.new.repairs;
+        }) }
+        ensures heard { OnErr result ((told : List RtcpFb) × (self.new.state.tx ≡ acknowledged told self.old.state.tx)) }
     {
         let Some(RtcpOpening { plain, index }) = open_rtcp(&mut self.opening, bytes)? else {
             return Ok(None);
@@ -497,10 +505,10 @@ impl<C: SrtpCipher, W: GapWindow, S: ResendStore<Sent>> Session<C, W, S> {
         ask_all(feedback.as_slice(), &mut self.streams, now)?;
         take_moments(feedback.as_slice(), now, &mut self.moments)?;
         self.news.hear(&self.streams, feedback.as_slice(), now)?;
+        acknowledge_all(feedback.as_slice(), &mut self.streams)?;
         let ntp = now.to_ntp_duration(&self.transport.beginning);
         measure(ntp, &delay, &mut self.streams);
-        hear_senders(feedback.as_slice(), now, &mut self.streams);
-        hear(feedback, &mut self.streams, &mut self.application);
+        hear(feedback, now, &mut self.streams, &mut self.application);
         Ok(Some(Opened {
             kind: Kind::Rtcp,
             ssrc: sender(plain.as_slice()),

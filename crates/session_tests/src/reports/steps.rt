@@ -1,5 +1,5 @@
 //! What is done with an end that reports.
-use crate::calls::{streams, tick};
+use crate::calls::{remove, streams, tick};
 use crate::ends::{End, add_section, ask_frame, at, declare, expect, put, reset, rid, ssrc};
 use crate::leaving::{is_next, is_silent, next};
 use crate::packets::{head, hears, joined, opens, seal_numbered};
@@ -10,6 +10,7 @@ use rtp_base::{Frequency, KeyframeRequestKind, Kind, MediaTime, MidRid, Pt, SeqN
 use session_core::MediaKind;
 use std::alloc::Global;
 use stream_core::{Payload, RtpWrite};
+use twcc_core::Share;
 
 /// What is done with an end, or asked of it. Moments are in nanoseconds; a mid is one letter; an SSRC of
 /// repairs is 0 where there are none.
@@ -30,10 +31,22 @@ pub enum Step {
     Comes(u64, u8, u64, u32),
     /// The first repair on an SSRC comes at a moment, of the packet of this number, at RTP time 0. It opens.
     Repaired(u64, u8, u8),
+    /// A packet on an SSRC with this number comes at a moment. It does not open.
+    Refuses(u64, u8, u64),
     /// What is received on an SSRC comes under another one.
     Moves(u8, u8),
     /// What is sent on an SSRC is sent under another one, without repairs.
     Resets(u8, u8),
+    /// The media section of a letter is taken out.
+    Removes(u8),
+    /// There is no stream that sends on an SSRC.
+    Silent(u8),
+    /// Its stream that sends on an SSRC keeps from now on what is reported as lost.
+    Keeps(u8),
+    /// What is told as lost of that stream, and of how much, if anything is.
+    Lost(u8, Option<(u64, u64)>),
+    /// The name of the source of the stream that receives on an SSRC, without bytes where none is known.
+    Named(u8, &'static [u8]),
     /// The last RTP time of the stream that receives on an SSRC, in units of 90 kHz, if there is one.
     Timed(u8, Option<u64>),
     /// Its stream of an SSRC asks for a key frame.
@@ -110,6 +123,38 @@ fn is_timed(end: &mut End, low: u8, time: Option<u64>) -> bool {
     streams.rx(place).last_time() == wanted
 }
 
+fn keeps(alloc: Global, end: &mut End, low: u8) -> bool {
+    let streams = streams(end);
+    let Some(place) = streams.tx_place(ssrc(low)) else {
+        return false;
+    };
+    streams.tx_at(place).enable_stats(alloc);
+    true
+}
+
+fn is_lost(end: &mut End, low: u8, lost: Option<(u64, u64)>) -> bool {
+    let wanted = match lost {
+        Some((missing, total)) => Some(Share { missing, total }),
+        None => None,
+    };
+    let streams = streams(end);
+    let Some(place) = streams.tx_place(ssrc(low)) else {
+        return false;
+    };
+    streams.tx_at(place).visit_loss() == wanted
+}
+
+fn is_named(end: &mut End, low: u8, name: &[u8]) -> bool {
+    let streams = streams(end);
+    let Some(place) = streams.rx_place(ssrc(low)) else {
+        return false;
+    };
+    match streams.rx(place).cname() {
+        Some(known) => known == name,
+        None => name.is_empty(),
+    }
+}
+
 // Whether a packet of this head and payload opens, of this number.
 fn comes(
     alloc: Global,
@@ -177,6 +222,10 @@ fn streams_go(alloc: Global, end: &mut End, step: Step) -> bool {
         Step::Moves(low, other) => moves(end, low, other),
         Step::Resets(low, other) => reset(end, low, other, None),
         Step::Timed(low, time) => is_timed(end, low, time),
+        Step::Silent(low) => streams(end).tx_place(ssrc(low)).is_none(),
+        Step::Keeps(low) => keeps(alloc, end, low),
+        Step::Lost(low, lost) => is_lost(end, low, lost),
+        Step::Named(low, name) => is_named(end, low, name),
         _ => false,
     }
 }
@@ -188,6 +237,14 @@ pub fn goes(alloc: Global, end: &mut End, step: Step) -> bool {
         Step::Comes(now, low, number, time) => {
             let head = head(0x80, 96, number, time, low);
             comes(alloc, end, now, number, &head, &[1, 2])
+        }
+        Step::Refuses(now, low, number) => {
+            let head = head(0x80, 96, number, 0, low);
+            !comes(alloc, end, now, number, &head, &[1, 2])
+        }
+        Step::Removes(letter) => {
+            remove(end, mid_of(letter));
+            true
         }
         Step::Repaired(now, low, number) => {
             let head = head(0x80, 97, 1, 0, low);
