@@ -111,9 +111,9 @@ fn given(drained: Drained) -> Given {
 }
 
 impl Peer for End {
-    fn fresh(alloc: Global) -> Result<Self, AllocError> {
+    fn fresh(alloc: Global) -> Result<Box<Self>, AllocError> {
         let codecs = codecs(alloc)?;
-        End::new(alloc, config(codecs))
+        End::boxed(alloc, config(codecs))
     }
 
     fn add_media(&mut self, alloc: Global, at: &MidRid) -> Result<(), AllocError> {

@@ -27,7 +27,7 @@ pub struct Given {
 /// One end of a connection. A fault of it is answered as if memory had run out.
 pub trait Peer: Drop {
     /// One without media sections, keys and streams.
-    fn fresh(alloc: Global) -> Result<Self, AllocError>;
+    fn fresh(alloc: Global) -> Result<Box<Self>, AllocError>;
 
     /// Adds the media section.
     fn add_media(&mut self, alloc: Global, at: &MidRid) -> Result<(), AllocError>;

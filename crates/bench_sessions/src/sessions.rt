@@ -34,9 +34,9 @@ fn set_up<P: Peer>(alloc: Global, peer: &mut P, role: Role, at: &MidRid) -> Resu
 }
 
 // An end with its stream.
-fn ready<P: Peer>(alloc: Global, role: Role, at: &MidRid) -> Result<P, AllocError> {
+fn ready<P: Peer>(alloc: Global, role: Role, at: &MidRid) -> Result<Box<P>, AllocError> {
     let mut peer = P::fresh(alloc)?;
-    set_up(alloc, &mut peer, role, at)?;
+    set_up(alloc, &mut *peer, role, at)?;
     Ok(peer)
 }
 
@@ -69,8 +69,8 @@ fn send_all<P: Peer>(
 }
 
 fn send<P: Peer>(alloc: Global, at: &MidRid, bytes: &[u8], count: u64) -> Result<u64, AllocError> {
-    let mut peer: P = ready(alloc, Role::Sender, at)?;
-    send_all(alloc, &mut peer, bytes, count)
+    let mut peer: Box<P> = ready(alloc, Role::Sender, at)?;
+    send_all(alloc, &mut *peer, bytes, count)
 }
 
 // Sends a packet, and puts the last datagram that leaves behind those before.
@@ -108,8 +108,8 @@ fn seal<P: Peer>(
     bytes: &[u8],
     all: &mut Vec<Datagram>,
 ) -> Result<(), AllocError> {
-    let mut peer: P = ready(alloc, Role::Sender, at)?;
-    seal_all(alloc, &mut peer, bytes, all)
+    let mut peer: Box<P> = ready(alloc, Role::Sender, at)?;
+    seal_all(alloc, &mut *peer, bytes, all)
 }
 
 // Takes a datagram in, and what it opened to; tells whether it opened.
@@ -135,8 +135,8 @@ fn receive_once<P: Peer>(
     at: &MidRid,
     datagrams: &[Datagram],
 ) -> Result<u64, AllocError> {
-    let mut peer: P = ready(alloc, Role::Receiver, at)?;
-    receive_each(&mut peer, datagrams)
+    let mut peer: Box<P> = ready(alloc, Role::Receiver, at)?;
+    receive_each(&mut *peer, datagrams)
 }
 
 // The datagrams come to several sessions; tells how many opened.
@@ -180,9 +180,9 @@ fn repair<P: Peer>(
     bytes: &[u8],
     count: u64,
 ) -> Result<u64, AllocError> {
-    let mut peer: P = ready(alloc, Role::Repairer, at)?;
-    send_all(alloc, &mut peer, bytes, 1)?;
-    repair_all(&mut peer, count)
+    let mut peer: Box<P> = ready(alloc, Role::Repairer, at)?;
+    send_all(alloc, &mut *peer, bytes, 1)?;
+    repair_all(&mut *peer, count)
 }
 
 // Does it so often with these bytes.

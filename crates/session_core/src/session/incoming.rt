@@ -443,15 +443,17 @@ impl<C: SrtpCipher, W: GapWindow, S: ResendStore<Sent>> Session<C, W, S> {
         }))
     }
 
-    /// Takes in an RTCP datagram that came, and tells what it opened to: its NACKs ask for packets that were
-    /// sent, which may leave again after the next tick, its reception blocks acknowledge streams without
-    /// repairs, its sender reports are kept for the reports of their streams, its moments of receivers wait
-    /// for an answer, its last item that tells how long ago a moment of this session came in gives the round
-    /// trip of the incoming streams, its last feedback of an application, its requests for key frames, its
-    /// sender reports and its greatest rates are told by `poll_event`. None where it does not open, and then
-    /// nothing changes: where it is shorter than a packet of 8 bytes and what seals it, where its tag does not
-    /// hold, and without keys. One that comes again opens again. The time grows with its items and the numbers
-    /// that they name, and with the number of incoming streams where one gives the round trip.
+    /// Takes in an RTCP datagram that came, and tells what it opened to: its NACKs ask for packets that
+    /// were sent, which may leave again after the next tick, its reception blocks acknowledge streams
+    /// without repairs and tell what was lost to those that keep that, its sender reports are kept for
+    /// the reports of their streams and its descriptions of sources as their names, its moments of
+    /// receivers wait for an answer, its last item that tells how long ago a moment of this session came
+    /// in gives the round trip of the incoming streams, its last feedback of an application, its
+    /// requests for key frames, its sender reports and its greatest rates are told by `poll_event`. None
+    /// where it does not open, and then nothing changes: where it is shorter than a packet of 8 bytes
+    /// and what seals it, where its tag does not hold, and without keys. One that comes again opens
+    /// again. The time grows with its items and the numbers that they name, and with the number of
+    /// incoming streams where one gives the round trip.
     ///
     /// # Errors
     /// `Stopped` where an earlier call stopped the session; `Memory`.

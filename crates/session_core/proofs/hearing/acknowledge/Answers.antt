@@ -1,20 +1,20 @@
-use Rattle.std.proofs.Common.{ℕ, List, sym, ap, ◌∙◌}
+use Rattle.std.proofs.Common.{ℕ, List, refl, sym, ap, ◌∙◌}
 use Rattle.std.specs.Prelude.{Option}
 use Rattle.std.specs.Option.{option_map_or}
 use Rattle.indexmap.specs.IndexMap.{set_value_at}
 use Rattle.rtcp_wire.specs.declared.rtcp_fb.RtcpFb.{RtcpFb}
 use Rattle.stream_core.specs.Tables.{change_place}
-use Rattle.stream_core.specs.TxRecord.{TxRecord, after_reception}
+use Rattle.stream_core.specs.TxRecord.{TxRecord, after_reception, lost_by}
 use Rattle.session_core.specs.Hearing.{acknowledged_by}
 use Rattle.session_core.proofs.Tables.{set_change}
 use Rattle.session_core.proofs.hearing.acknowledge.Goals as goal
 
-pub returns-in-Some : goal.returns-in-Some
-returns-in-Some g c =
+pub returns-in_ok-in-Some-clause-ok : goal.returns-in_ok-in-Some-clause-ok
+returns-in_ok-in-Some-clause-ok g c =
     let es = c.args.streams.now.tx in
-    let told = after_reception c.in-ReceptionReport.report in
+    let told = λ (x : TxRecord). after_reception c.in-ReceptionReport.report (lost_by c.in-ReceptionReport.report x) in
     ap (λ (l : List (ℕ × TxRecord)). record { threshold = c.args.streams.now.threshold; rx = c.args.streams.now.rx; known = c.args.streams.now.known; tx = l; repairs = c.args.streams.now.repairs })
-    (ap (set_value_at es c.in-Some.place) c.handle_reception_report.ensures
-    ∙ set_change told es c.in-Some.place c.tx_at.result.now c.tx_at.ensures.value
+    (ap (set_value_at es c.in-Some.place) (c.handle_reception_report.ensures ∙ ap (after_reception c.in-ReceptionReport.report) c.in_ok-update_with_rr.ensures.ok)
+    ∙ set_change told es c.in-Some.place c.tx_at-stream.result.now c.tx_at-stream.ensures.value
     ∙ ap (λ (o : Option ℕ). option_map_or (change_place told es) o es) (sym (sym c.tx_place.ensures.place ∙ c.in-Some.is))
     ∙ ap (λ (f : RtcpFb). acknowledged_by f es) (sym c.in-ReceptionReport.is))

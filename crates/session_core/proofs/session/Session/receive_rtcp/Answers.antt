@@ -3,15 +3,14 @@ use Rattle.rtp_base.specs.declared.kind.Kind.TheVariants.{Rtcp}
 use Rattle.rtcp_wire.specs.declared.extended.DlrrItem.{DlrrItem}
 use Rattle.rtcp_wire.specs.declared.rtcp_fb.RtcpFb.{RtcpFb}
 use Rattle.srtp_core.specs.RtcpSeals.{sender_of}
-use Rattle.stream_core.specs.RxRecord.{RxView, StandsFor as StreamStandsFor}
-use Rattle.stream_core.specs.StreamsRecord.{StreamsView}
+use Rattle.stream_core.specs.RxRecord.{StandsFor as StreamStandsFor}
+use Rattle.stream_core.specs.StreamsRecord.{StreamsView, StreamsRecord, StandsFor as StreamsStand}
 use Rattle.stream_core.specs.Tables.{Along}
 use Rattle.session_core.specs.declared.datagram.Opened.{Opened}
 use Rattle.session_core.specs.Hearing.{RtcpOpensIn, stated, rtcp_opening_of, feedback_in, acknowledged, last_application, last_delay, measured, ntp_of, after_rtcp, AskedByAll, ReceivesRtcp, opened, stays}
 use Rattle.session_core.specs.News.{news_heard}
 use Rattle.session_core.specs.Reports.{rx_heard, moments_heard}
 use Rattle.session_core.specs.SessionRecord.{streams_in, SessionState, StandsFor}
-use Rattle.stream_core.specs.Repairing.{RepairsStandFor}
 use Rattle.session_core.proofs.StreamsIn.{streams_stand}
 use Rattle.session_core.proofs.Heard.{heard_state}
 use Rattle.session_core.proofs.Others.{opening_kept}
@@ -54,10 +53,15 @@ returns-clause-received g c = λ r h.
     ∙ ap (λ (s : SessionState). last_delay s.local_ssrc s.tx (feedback_in plain) None) mine.state in
     let asked = c.in_ok-ask_all.ensures.ok (streams_in r) (streams_stand g.W.GapWindow.remembers g.S.ResendStore.stands_for _ r mine) in
     let others = c.in_ok-ask_all.ensures.others in
-    let known = c.measure.ensures.streams (record (streams_in r) { repairs = asked.0 }) asked.2 in
-    let reported = c.hear_senders.ensures.streams (record (streams_in r) { repairs = asked.0; rx = measured c.to_ntp_duration-ntp.result c.last_delay-delay.result r.rx }) known in
-    let kept : c.hear-2.new.streams.rx ≡ c.hear_senders.new.streams.rx = ap (λ (v : StreamsView g.row.W.Denot g.row.S.Denot). v.rx) c.hear-2.ensures.streams in
-    let told_by : c.as_slice-6.result.now ≡ feedback_in plain = c.as_slice-6.ensures.value ∙ heard in
+    let fs = c.as_slice-6.result.now in
+    let told_by : fs ≡ feedback_in plain = c.as_slice-6.ensures.value ∙ heard in
+    let put : c.acknowledge_all.new.streams ≡ record (c.ask_all.new.streams) { tx = acknowledged fs c.ask_all.new.streams.tx } = c.in_ok-acknowledge_all.ensures.ok in
+    let between : StreamsRecord = record (streams_in r) { repairs = asked.0; tx = acknowledged fs r.state.tx } in
+    let acknowledged_so : StreamsStand g.W.GapWindow.remembers g.S.ResendStore.stands_for c.acknowledge_all.new.streams between =
+    subst (λ (v : StreamsView g.row.W.Denot g.row.S.Denot). StreamsStand g.W.GapWindow.remembers g.S.ResendStore.stands_for v between) (sym put)
+    (record { threshold = asked.2.threshold; rx = asked.2.rx; known = asked.2.known; tx = ap (acknowledged fs) asked.2.tx; repairs = asked.2.repairs }) in
+    let known = c.measure.ensures.streams between acknowledged_so in
+    let reported = c.hear-2.ensures.streams (record between { rx = measured c.to_ntp_duration-ntp.result c.last_delay-delay.result r.rx }) known in
     let moments : c.take_moments.new.moments ≡ moments_heard now (feedback_in plain) c.self.inside.moments =
     c.in_ok-take_moments.ensures ∙ ap (λ (fs : List RtcpFb). moments_heard now fs c.self.inside.moments) (c.as_slice-4.ensures.value ∙ heard) in
     let news : c.hear.new.self ≡ news_heard now c.self.inside.streams.tx r.rx (feedback_in plain) c.self.inside.news =
@@ -65,11 +69,13 @@ returns-clause-received g c = λ r h.
     ∙ ap (λ (fs : List RtcpFb). news_heard now r.state.tx r.rx fs c.self.inside.news) (c.as_slice-5.ensures.value ∙ heard)
     ∙ ap (λ (s : SessionState). news_heard now s.tx r.rx (feedback_in plain) c.self.inside.news) (sym mine.state) in
     let threshold : c.hear-2.new.streams.threshold ≡ c.self.inside.streams.threshold =
-    ap (λ (v : StreamsView g.row.W.Denot g.row.S.Denot). v.threshold) c.hear-2.ensures.streams ∙ c.hear_senders.ensures.threshold ∙ c.measure.ensures.threshold ∙ ap (λ (v : StreamsView g.row.W.Denot g.row.S.Denot). v.threshold) others in
+    c.hear-2.ensures.threshold ∙ c.measure.ensures.threshold
+    ∙ ap (λ (v : StreamsView g.row.W.Denot g.row.S.Denot). v.threshold) put ∙ ap (λ (v : StreamsView g.row.W.Denot g.row.S.Denot). v.threshold) others in
     let tx : c.hear-2.new.streams.tx ≡ acknowledged (feedback_in plain) c.self.inside.streams.tx =
-    ap (λ (v : StreamsView g.row.W.Denot g.row.S.Denot). v.tx) c.hear-2.ensures.streams
-    ∙ ap (λ (fs : List RtcpFb). acknowledged fs c.hear_senders.new.streams.tx) heard
-    ∙ ap (acknowledged (feedback_in plain)) (c.hear_senders.ensures.tx ∙ c.measure.ensures.tx ∙ ap (λ (v : StreamsView g.row.W.Denot g.row.S.Denot). v.tx) others) in
+    c.hear-2.ensures.tx ∙ c.measure.ensures.tx
+    ∙ ap (λ (v : StreamsView g.row.W.Denot g.row.S.Denot). v.tx) put
+    ∙ ap (λ (l : List RtcpFb). acknowledged l c.ask_all.new.streams.tx) told_by
+    ∙ ap (λ (v : StreamsView g.row.W.Denot g.row.S.Denot). acknowledged (feedback_in plain) v.tx) others in
     let application : c.hear-2.new.application ≡ last_application (feedback_in plain) c.self.inside.application =
     c.hear-2.ensures.application ∙ ap (λ (fs : List RtcpFb). last_application fs c.self.inside.application) heard in
     let told : record { kind = Rtcp; ssrc = c.sender.result; index = c.from-2.result; plain = c.from_vec.result } ≡ rtcp_opening_of r.state.opening bytes plain =
@@ -80,13 +86,12 @@ returns-clause-received g c = λ r h.
           (subst (λ (fs : List RtcpFb). AskedByAll now fs r.repairs asked.0) (c.as_slice-3.ensures.value ∙ heard) asked.1)),
       record {
         state = heard_state _ r.state now plain r.rx c.hear-2.new.streams.threshold c.open_rtcp.new.opening c.hear-2.new.streams.tx c.hear-2.new.application c.take_moments.new.moments c.hear.new.self mine.state threshold c.open_rtcp.ensures.same tx application moments news;
-        rx = subst (λ (l : List (ℕ × RxView g.row.W.Denot)). Along R l (rx_heard now (feedback_in plain) (measured (ntp_of r.state now) (last_delay r.state.local_ssrc r.state.tx (feedback_in plain) None) r.rx))) (sym kept)
-            (subst (λ (t : ℕ). Along R c.hear_senders.new.streams.rx (rx_heard now (feedback_in plain) (measured t (last_delay r.state.local_ssrc r.state.tx (feedback_in plain) None) r.rx))) moment
-            (subst (λ (o : Option DlrrItem). Along R c.hear_senders.new.streams.rx (rx_heard now (feedback_in plain) (measured c.to_ntp_duration-ntp.result o r.rx))) delay
-            (subst (λ (fs : List RtcpFb). Along R c.hear_senders.new.streams.rx (rx_heard now fs (measured c.to_ntp_duration-ntp.result c.last_delay-delay.result r.rx))) told_by reported.rx)));
+        rx = subst (λ (t : ℕ). Along R c.hear-2.new.streams.rx (rx_heard now (feedback_in plain) (measured t (last_delay r.state.local_ssrc r.state.tx (feedback_in plain) None) r.rx))) moment
+            (subst (λ (o : Option DlrrItem). Along R c.hear-2.new.streams.rx (rx_heard now (feedback_in plain) (measured c.to_ntp_duration-ntp.result o r.rx))) delay
+            (subst (λ (l : List RtcpFb). Along R c.hear-2.new.streams.rx (rx_heard now l (measured c.to_ntp_duration-ntp.result c.last_delay-delay.result r.rx))) heard reported.rx));
         probes = mine.probes;
         seen = mine.seen;
-        known = ap (λ (v : StreamsView g.row.W.Denot g.row.S.Denot). v.known) c.hear-2.ensures.streams ∙ reported.known;
-        repairs = subst (λ (v : StreamsView g.row.W.Denot g.row.S.Denot). Along (RepairsStandFor g.S.ResendStore.stands_for) v.repairs asked.0) (sym c.hear-2.ensures.streams) reported.repairs;
+        known = reported.known;
+        repairs = reported.repairs;
       },
     )
