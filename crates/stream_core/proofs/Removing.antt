@@ -1,16 +1,22 @@
 -- The streams of a media section are taken out.
-use Rattle.std.proofs.Common.{◌≡◌, ℕ, Bool, true, false, not, List, [], ◌∷◌, refl, sym, ap, subst, ◌∙◌}
+use Rattle.std.proofs.Common.{◌≡◌, ℕ, Bool, true, false, not, List, [], ◌∷◌, sym, ap, subst, ◌∙◌}
 use Rattle.std.specs.Prelude.{if◌then◌else◌}
 use Rattle.std.specs.List.{filter}
 use Rattle.repair_core.specs.Rounds.{Heard}
 use Rattle.resend_core.specs.ResendStore.{Past}
 use Rattle.stream_core.specs.Known.{KnownRecord}
 use Rattle.stream_core.specs.Removing.{is_of_other, sends_for, sent_without, received_without, kept_without, known_without_section, without_section}
-use Rattle.stream_core.specs.Repairing.{SentPacket, RepairsView, RepairsRecord, RepairsStandFor}
-use Rattle.stream_core.specs.RxRecord.{RxState, RxView, RxRecord, StandsFor as RxStandsFor}
+use Rattle.stream_core.specs.Repairing.{SentPacket, RepairsView, RepairsStandFor}
+use Rattle.stream_core.specs.RxRecord.{RxState, RxView, StandsFor as RxStandsFor}
 use Rattle.stream_core.specs.StreamsRecord.{StreamsView, StreamsRecord, StandsFor}
 use Rattle.stream_core.specs.Tables.{Under, Along}
 use Rattle.stream_core.specs.TxRecord.{TxRecord}
+
+-- an entry stands in front of both tables, or of neither
+add_along : {A B : Type 0} (R : A → B → Type 0) (x : ℕ × A) (y : ℕ × B) (xs : List (ℕ × A)) (ys : List (ℕ × B)) → Under R x y → Along R xs ys
+    → (b : Bool) → Along R (if b then x ∷ xs else xs) (if b then y ∷ ys else ys)
+add_along R x y xs ys first rest true = (first, rest)
+add_along R x y xs ys first rest false = rest
 
 -- of two tables the same entries stay
 filter_along : {A B : Type 0} (R : A → B → Type 0) (p : ℕ × A → Bool) (q : ℕ × B → Bool) → ((x : ℕ × A) (y : ℕ × B) → Under R x y → p x ≡ q y)
@@ -19,14 +25,8 @@ filter_along R p q same [] [] h = h
 filter_along R p q same [] (y ∷ ys) h = absurd h
 filter_along R p q same (x ∷ xs) [] h = absurd h
 filter_along R p q same (x ∷ xs) (y ∷ ys) h =
-    subst (λ (b : Bool). Along R (filter p (x ∷ xs)) (if b then y ∷ filter q ys else filter q ys)) (same x y h.0) (by (p x))
-  where
-    rest : Along R (filter p xs) (filter q ys)
-    rest = filter_along R p q same xs ys h.1
-
-    by : (b : Bool) → Along R (if b then x ∷ filter p xs else filter p xs) (if b then y ∷ filter q ys else filter q ys)
-    by true = (h.0, rest)
-    by false = rest
+    subst (λ (b : Bool). Along R (filter p (x ∷ xs)) (if b then y ∷ filter q ys else filter q ys)) (same x y h.0)
+    (add_along R x y (filter p xs) (filter q ys) h.0 (filter_along R p q same xs ys h.1) (p x))
 
 module _ {W S : Type 0} (remembers : W → Heard → Type 0) (stands_for : S → Past SentPacket → Type 0) (mid : List ℕ) where
   pub section_removed : (s inside : StreamsView W S) (rx : List (ℕ × RxView W)) (known : KnownRecord) (tx : List (ℕ × TxRecord)) (repairs : List (ℕ × RepairsView S))

@@ -5,7 +5,7 @@ use Rattle.std.specs.Cmp.Lexicographic.{pointwise}
 use Rattle.mapping_core.specs.Streams.{without_section as known_without}
 use Rattle.mapping_core.specs.declared.stream.IncomingStream.{IncomingStream}
 use Rattle.stream_core.specs.Known.{KnownRecord}
-use Rattle.stream_core.specs.RxRecord.{RxState, RxRecord}
+use Rattle.stream_core.specs.RxRecord.{RxRecord}
 use Rattle.stream_core.specs.StreamsRecord.{StreamsRecord}
 use Rattle.stream_core.specs.TxRecord.{TxRecord}
 

@@ -168,7 +168,7 @@ impl SsrcTable<Ssrc> {
     {
         self.streams.retain(
             |_key: &Ssrc, value: &mut Ssrc| -> bool
-                ensures { (result ≡ not (receives_for mid value.old streams.now)) × (value.new ≡ value.old) }
+                ensures { (result ≡ not (receives_for mid value.old streams.entry.now)) × (value.new ≡ value.old) }
             { !receives_for(streams, *value, mid) },
         );
     }
@@ -242,7 +242,7 @@ impl<T: Drop> SsrcTable<T> {
     {
         self.streams.retain(
             |key: &Ssrc, value: &mut T| -> bool
-                ensures { (result ≡ not (sends_for mid key.now streams.now)) × (value.new ≡ value.old) }
+                ensures { (result ≡ not (sends_for mid key.now streams.entry.now)) × (value.new ≡ value.old) }
             { !streams.sends_for(*key, mid) },
         );
     }

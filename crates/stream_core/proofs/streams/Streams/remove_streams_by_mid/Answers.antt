@@ -1,6 +1,3 @@
-use Rattle.std.proofs.Common.{ap, ◌∙◌}
-use Rattle.stream_core.specs.Removing.{sent_without}
-use Rattle.stream_core.specs.StreamsRecord.{StreamsView}
 use Rattle.stream_core.proofs.Removing.{section_removed}
 use Rattle.stream_core.proofs.streams.Streams.remove_streams_by_mid.Goals as goal
 
