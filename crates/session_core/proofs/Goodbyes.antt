@@ -1,5 +1,5 @@
 -- What is heard of goodbyes alone.
-use Rattle.std.proofs.Common.{◌≡◌, ℕ, List, [], ◌∷◌, map, Option, None, refl, sym, ap, subst, ◌∙◌}
+use Rattle.std.proofs.Common.{◌≡◌, ℕ, List, [], ◌∷◌, map, Option, None, refl, ap, subst, ◌∙◌}
 use Rattle.rtcp_wire.specs.declared.extended.DlrrItem.{DlrrItem as Delay}
 use Rattle.rtcp_wire.specs.declared.feedback.AppSpecificFeedback.{AppSpecificFeedback as Application}
 use Rattle.rtcp_wire.specs.declared.rtcp_fb.RtcpFb.{RtcpFb}

@@ -1,6 +1,6 @@
 -- Of which stream a datagram is: what is taken up of it, and how it opens then.
-use Rattle.std.proofs.Common.{◌≡◌, ℕ, Bool, true, false, List, [], ◌∷◌, Option, Some, None, is_some, is_none, refl, sym, ap, subst, ◌∙◌}
-use Rattle.std.specs.Prelude.{◌==◌, ◌||◌, ◌&&◌, not, option_and_then, unwrap_or, find, if◌then◌else◌}
+use Rattle.std.proofs.Common.{◌≡◌, ℕ, Bool, true, false, List, Option, Some, None, is_none, refl}
+use Rattle.std.specs.Prelude.{◌==◌, ◌&&◌, not, unwrap_or, find, if◌then◌else◌}
 use Rattle.std.specs.Option.{option_map, option_map_or}
 use Rattle.mapping_core.specs.Claims.{claim_of, is_number}
 use Rattle.mapping_core.specs.Expecting.{is_specific}

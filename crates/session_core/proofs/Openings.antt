@@ -1,5 +1,5 @@
 -- How a datagram opens under an SSRC of no table, once it is taken up of which stream it is.
-use Rattle.std.proofs.Common.{◌≡◌, inl, inr, ℕ, Bool, true, false, List, Option, Some, None, is_some, refl, sym, ap, subst, ◌∙◌}
+use Rattle.std.proofs.Common.{◌≡◌, inl, inr, ℕ, Bool, true, false, List, Option, Some, None, is_some, refl, sym, ap, ◌∙◌}
 use Rattle.std.specs.Prelude.{◌==◌, ◌||◌, not, option_and_then, slice_get, if◌then◌else◌}
 use Rattle.std.specs.Map.{values_of}
 use Rattle.std.specs.Option.{option_map, option_map_or}
@@ -20,7 +20,7 @@ use Rattle.session_core.specs.Mapping.{is_standing}
 use Rattle.session_core.specs.Receiving.{number_of, is_claimed, as_repair, as_packet, number_by, opening_number}
 use Rattle.session_core.specs.Repairs.{is_known, standing, original_under, repaired_by, repair_accepted}
 use Rattle.session_core.specs.SessionRecord.{SessionRecord, streams_in, with_incoming}
-use Rattle.session_core.proofs.Keyed.{value_new, value_renamed, place_renamed, value_changed, value_change_at, place_change_at, value_kept, new_last}
+use Rattle.session_core.proofs.Keyed.{value_new, value_renamed, place_renamed, value_changed, value_change_at, place_change_at, value_kept}
 
 or_none : (a b : Bool) → (a || b) ≡ false → (a ≡ false) × (b ≡ false)
 or_none true b e = absurd cc

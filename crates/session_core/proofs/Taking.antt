@@ -1,7 +1,6 @@
 -- What a datagram makes of a session, where it is taken up of which stream it is.
-use Rattle.std.proofs.Common.{◌≡◌, ℕ, Bool, true, false, List, [], Option, Some, None, refl, sym, ap, subst, ◌∙◌}
-use Rattle.std.specs.Prelude.{◌==◌, option_and_then, if◌then◌else◌}
-use Rattle.std.specs.Option.{option_map}
+use Rattle.std.proofs.Common.{◌≡◌, ℕ, Bool, true, false, List, Option, Some, None, refl, sym, ap, subst, ◌∙◌}
+use Rattle.std.specs.Prelude.{option_and_then, if◌then◌else◌}
 use Rattle.mapping_core.specs.declared.mapping.Mapping.{Mapping}
 use Rattle.mapping_core.specs.declared.mapping.Mapping.TheVariants.{Main, Repairs, NewStream, NewMain, NewRepairs, Nowhere}
 use Rattle.rtp_wire.specs.declared.header.RtpHeader.{RtpHeader}

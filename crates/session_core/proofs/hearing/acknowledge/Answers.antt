@@ -6,11 +6,12 @@ use Rattle.rtcp_wire.specs.declared.rtcp_fb.RtcpFb.{RtcpFb}
 use Rattle.stream_core.specs.Tables.{change_place}
 use Rattle.stream_core.specs.TxRecord.{TxRecord, after_reception, lost_by}
 use Rattle.session_core.specs.Hearing.{acknowledged_by}
-use Rattle.session_core.proofs.Tables.{set_change}
+use Rattle.session_core.proofs.Cuts.{on_err}
+use Rattle.session_core.proofs.Tables.{set_change, change_same}
 use Rattle.session_core.proofs.hearing.acknowledge.Goals as goal
 
-pub returns-in_ok-in-Some-clause-ok : goal.returns-in_ok-in-Some-clause-ok
-returns-in_ok-in-Some-clause-ok g c =
+pub returns-in_ok-update_with_rr-clause-ok : goal.returns-in_ok-update_with_rr-clause-ok
+returns-in_ok-update_with_rr-clause-ok g c =
     let es = c.args.streams.now.tx in
     let told = λ (x : TxRecord). after_reception c.in-ReceptionReport.report (lost_by c.in-ReceptionReport.report x) in
     ap (λ (l : List (ℕ × TxRecord)). record { threshold = c.args.streams.now.threshold; rx = c.args.streams.now.rx; known = c.args.streams.now.known; tx = l; repairs = c.args.streams.now.repairs })
@@ -18,3 +19,13 @@ returns-in_ok-in-Some-clause-ok g c =
     ∙ set_change told es c.in-Some.place c.tx_at-stream.result.now c.tx_at-stream.ensures.value
     ∙ ap (λ (o : Option ℕ). option_map_or (change_place told es) o es) (sym (sym c.tx_place.ensures.place ∙ c.in-Some.is))
     ∙ ap (λ (f : RtcpFb). acknowledged_by f es) (sym c.in-ReceptionReport.is))
+
+pub returns-in_err-update_with_rr-clause-err : goal.returns-in_err-update_with_rr-clause-err
+returns-in_err-update_with_rr-clause-err g c =
+    let es = c.args.streams.now.tx in
+    let kept = λ (x : TxRecord). x in
+    let same =
+    ap (set_value_at es c.in-Some.place) c.in_err-update_with_rr.ensures.err
+    ∙ set_change kept es c.in-Some.place c.tx_at-stream.result.now c.tx_at-stream.ensures.value
+    ∙ change_same kept es c.in-Some.place c.tx_at-stream.result.now c.tx_at-stream.ensures.value refl in
+    on_err c.from_residual.result _ (λ j. record { threshold = c.args.streams.now.threshold; rx = c.args.streams.now.rx; known = c.args.streams.now.known; tx = same j; repairs = c.args.streams.now.repairs })

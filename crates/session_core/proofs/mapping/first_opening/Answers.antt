@@ -1,14 +1,13 @@
-use Rattle.std.proofs.Common.{◌≡◌, ℕ, true, false, List, Option, Some, None, is_some, refl, sym, ap, subst, ◌∙◌}
+use Rattle.std.proofs.Common.{◌≡◌, ℕ, true, false, List, Some, None, is_some, refl, sym, ap, subst, ◌∙◌}
 use Rattle.std.specs.Prelude.{not, option_and_then}
-use Rattle.std.specs.Map.{values_of}
 use Rattle.mapping_core.specs.declared.mapping.Mapping.{Mapping}
 use Rattle.mapping_core.specs.declared.mapping.Mapping.TheVariants.{Repairs, NewStream, NewMain, NewRepairs}
 use Rattle.stream_core.specs.RxRecord.{RxRecord, expected, moved_to, repaired_under}
-use Rattle.stream_core.specs.Tables.{place_of, value_under}
+use Rattle.stream_core.specs.Tables.{place_of}
 use Rattle.stream_core.specs.declared.payload_types.TypeRow.{TypeRow}
 use Rattle.session_core.specs.Receiving.{as_repair, opening_number}
 use Rattle.session_core.specs.Repairs.{is_known, repair_accepted}
-use Rattle.session_core.specs.SessionRecord.{SessionRecord, streams_in}
+use Rattle.session_core.specs.SessionRecord.{streams_in}
 use Rattle.session_core.proofs.Mappings.{IsOf, mapped_of}
 use Rattle.session_core.proofs.Openings.{strange, taken, stream_there, main_there, main_gone, nothing_opens, unknown_opening, gone_opening, repair_opening, repairs_away, repairs_of, repairs_there, repairs_gone, again_of}
 use Rattle.session_core.proofs.Keyed.{value_some}

@@ -1,5 +1,4 @@
-use Rattle.std.proofs.Common.{◌≡◌, ℕ, Bool, true, false, List, Option, Some, None, is_some, refl, sym, ap, ◌∙◌}
-use Rattle.std.specs.Option.{option_map}
+use Rattle.std.proofs.Common.{◌≡◌, ℕ, true, false, List, Some, None, is_some, sym, ap, ◌∙◌}
 use Rattle.stream_core.specs.Repairing.{primary_type_of}
 use Rattle.stream_core.specs.RxRecord.{fresh_number}
 use Rattle.stream_core.specs.Seen.{seen_of}

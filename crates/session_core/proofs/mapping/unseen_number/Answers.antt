@@ -1,9 +1,9 @@
-use Rattle.std.proofs.Common.{◌≡◌, ℕ, List, [], true, false, Some, None, refl, sym, ap, ◌∙◌}
+use Rattle.std.proofs.Common.{◌≡◌, [], true, false, Some, None, refl, sym, ap, ◌∙◌}
 use Rattle.std.specs.Prelude.{if◌then◌else◌}
 use Rattle.rtp_base.specs.Widen.{widen16}
 use Rattle.stream_core.specs.RxRecord.{expected}
 use Rattle.stream_core.specs.Seen.{is_unseen}
-use Rattle.session_core.specs.Mapping.{number_near, unseen_number}
+use Rattle.session_core.specs.Mapping.{number_near}
 use Rattle.session_core.proofs.mapping.unseen_number.Goals as goal
 
 pub returns-then-accepts-clause-number : goal.returns-then-accepts-clause-number

@@ -1,9 +1,8 @@
-use Rattle.std.proofs.Common.{◌≡◌, ℕ, List, Some, None, Ok, Err, sym, ap, subst, ◌∙◌}
-use Rattle.std.specs.Prelude.{true, false, Option, Result, IfOk}
+use Rattle.std.proofs.Common.{◌≡◌, Some, None, Ok, Err, sym, ap, subst, ◌∙◌}
+use Rattle.std.specs.Prelude.{true, false, Result, IfOk}
 use Rattle.rtp_wire.specs.Header.{header_of}
-use Rattle.session_core.specs.declared.datagram.Opened.{Opened}
 use Rattle.session_core.specs.Mapping.{is_standing, is_nowhere, mapped_in}
-use Rattle.session_core.specs.SessionRecord.{SessionRecord, SessionState, SessionView, StandsFor, streams_in}
+use Rattle.session_core.specs.SessionRecord.{SessionState, StandsFor, streams_in}
 use Rattle.session_core.proofs.StreamsIn.{streams_stand}
 use Rattle.session_core.proofs.Taking.{stays_headless, received_standing}
 use Rattle.session_core.proofs.session.Session.receive.Goals as goal

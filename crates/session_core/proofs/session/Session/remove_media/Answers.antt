@@ -1,7 +1,7 @@
-use Rattle.std.proofs.Common.{◌≡◌, List, sym, ap, subst, ◌∙◌}
+use Rattle.std.proofs.Common.{sym, ap, subst, ◌∙◌}
 use Rattle.session_core.specs.Medias.{medias_without}
 use Rattle.session_core.specs.News.{news_without}
-use Rattle.session_core.specs.SessionRecord.{MediaRecord, SessionState, StandsFor, streams_in}
+use Rattle.session_core.specs.SessionRecord.{SessionState, StandsFor, streams_in}
 use Rattle.session_core.proofs.StreamsIn.{streams_stand}
 use Rattle.session_core.proofs.session.Session.remove_media.Goals as goal
 

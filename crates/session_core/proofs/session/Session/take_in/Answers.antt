@@ -1,12 +1,11 @@
-use Rattle.std.proofs.Common.{◌≡◌, ◌<◌, ℕ, true, false, List, Option, Some, None, Ok, Err, is_none, is_some, drop, length, nat_eq, position, refl, sym, ap, subst, ◌∙◌}
+use Rattle.std.proofs.Common.{◌≡◌, ◌<◌, ℕ, true, false, Option, Some, None, Ok, Err, is_none, is_some, drop, length, nat_eq, position, refl, sym, ap, subst, ◌∙◌}
 use Rattle.std.specs.Prelude.{◌==◌, Result, OnOk, IfSome}
 use Rattle.std.specs.Map.{keys_of}
 use Rattle.std.specs.Option.{option_map}
-use Rattle.rtp_wire.specs.declared.header.RtpHeader.{RtpHeader}
 use Rattle.stream_core.specs.Tables.{place_of}
 use Rattle.session_core.specs.Receiving.{cut, after_repair, after_restoring, after_repaired}
-use Rattle.session_core.specs.Repairs.{repaired_by, original_number}
-use Rattle.session_core.specs.SessionRecord.{streams_in, SessionState, SessionRecord, SessionView, StandsFor}
+use Rattle.session_core.specs.Repairs.{repaired_by}
+use Rattle.session_core.specs.SessionRecord.{streams_in, SessionState, SessionView, StandsFor}
 use Rattle.session_core.proofs.StreamsIn.{streams_stand}
 use Rattle.session_core.proofs.Tables.{length_keys}
 use Rattle.session_core.proofs.session.Session.take_in.Goals as goal
