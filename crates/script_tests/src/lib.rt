@@ -3,8 +3,12 @@
 #![tactic(auto)]
 
 #[cfg(test)]
+mod outside;
+#[cfg(test)]
 mod pace_scripts;
 #[cfg(test)]
 mod scripts;
 #[cfg(test)]
 mod srtp_contexts;
+#[cfg(test)]
+mod transcripts;

@@ -1,7 +1,9 @@
+//! What is read of scripts: each kind of line, and what a setup says then.
+use crate::outside::is_outside;
 use media_base::{Bytes, Duration, Instant};
 use media_model::*;
-use media_script::{ScriptError, end_line, entries_text, read_script, write_transcript};
-use rtp_wire::{Extension, Pt, SeqNo, Ssrc};
+use media_script::read_script;
+use rtp_wire::{Extension, Pt, Ssrc};
 use srtp_core::SrtpProfile;
 use std::alloc::Global;
 use std::test::Fail;
@@ -64,11 +66,6 @@ const EXTENSIONS: [(&str, Extension); 9] = [
     ("delay", Extension::PlayoutDelay),
 ];
 
-// Whether this line of a text is the first outside the grammar.
-fn is_outside(alloc: Global, text: &[u8], line: u64) -> bool {
-    read_script(alloc, text).err() == Some(ScriptError::Syntax(line))
-}
-
 // The setup of a script.
 fn setup_of(alloc: Global, text: &[u8]) -> Result<Setup, Fail> {
     let (setup, _) = read_script(alloc, text).ok().ok_or("a script")?;
@@ -87,11 +84,11 @@ fn steps_of(alloc: Global, text: &[u8]) -> Result<Vec<Step>, Fail> {
     Ok(steps)
 }
 
-// What is said of a script, and whether it holds.
-type Fact = (&'static str, bool);
+/// What is said of a script, and whether it holds.
+pub type Fact = (&'static str, bool);
 
-// Tells the first fact that does not hold.
-fn all_hold(facts: &[Fact]) -> Result<(), Fail> {
+/// Tells the first fact that does not hold.
+pub fn all_hold(facts: &[Fact]) -> Result<(), Fail> {
     for (what, holds) in facts {
         if !*holds {
             None::<()>.ok_or(*what)?;
@@ -545,306 +542,6 @@ fn sources_outside_are_told(rt: HostRuntime) -> Result<(), Fail> {
         let told = is_no_write(rt.alloc(), words)?;
         assert!(rt; told, "at {words}");
     }
-    Ok(())
-}
-
-// Scripts, and the first line of each that is outside the grammar.
-const OUTSIDE: [(&str, u64); 80] = [
-    ("", 1),
-    ("key zero\n", 1),
-    ("str0m-media 1", 1),
-    ("str0m-media 1\n", 2),
-    ("str0m-media 1\r\n", 1),
-    ("\n# \u{ff}\nstr0m-media 2\n", 3),
-    ("str0m-media 1\nkey zero\nkey zero\n", 3),
-    ("str0m-media 1\nkey -\nbegin\nend\nend\n", 5),
-    ("str0m-media 1\nbegin\nend\n", 4),
-    ("str0m-media 1\nbegin\ntick A 1\ntick A\nend\n", 4),
-    ("str0m-media 1\nkey zero\nbegin\nend", 4),
-    ("str0m-media 1\nkey zero\nbegin\ntick A 1\n", 5),
-    ("str0m-media 1\nkey zero\ntick A 1\nbegin\nend\n", 3),
-    (
-        "str0m-media 1\nkey zero\nbegin\ntype 96 vp8 90000\nend\n",
-        4,
-    ),
-    ("str0m-media 1\ncipher aes\n", 2),
-    ("str0m-media 1\nprofile gcm192\n", 2),
-    ("str0m-media 1\nprofile gcm128\nprofile gcm128\n", 3),
-    ("str0m-media 1\nunix 1\nunix 1\n", 3),
-    ("str0m-media 1\nunix 1ms\n", 2),
-    ("str0m-media 1\nunix 18446744073709551616\n", 2),
-    ("str0m-media 1\next 256 mid\n", 2),
-    ("str0m-media 1\next 1 csrc\n", 2),
-    ("str0m-media 1\next 1\n", 2),
-    ("str0m-media 1\next mid 1\n", 2),
-    ("str0m-media 1\ntype 256 vp8 90000\n", 2),
-    ("str0m-media 1\ntype 96 vp8 0\n", 2),
-    ("str0m-media 1\ntype 96 vp8 4294967296\n", 2),
-    ("str0m-media 1\ntype 96 vp10 90000\n", 2),
-    ("str0m-media 1\ntype 96 vp8 90000 fir pli\n", 2),
-    ("str0m-media 1\ntype 96 vp8 90000 pli pli\n", 2),
-    ("str0m-media 1\ntype 96 vp8 90000 pli red=97\n", 2),
-    ("str0m-media 1\ntype 96 vp8 90000 tcc\n", 2),
-    ("str0m-media 1\ntype 96 vp8 90000 rtx=\n", 2),
-    ("str0m-media 1\ntype 96 vp8 90000 rtx=256\n", 2),
-    ("str0m-media 1\ntype 96 vp8 90000 rtx=-\n", 2),
-    ("str0m-media 1\ntype 96 vp8 90000 red=\n", 2),
-    ("str0m-media 1\ntype 96 vp8 90000 red=256\n", 2),
-    ("str0m-media 1\ntype 96 vp8 90000 red=97 rtx=98\n", 2),
-    ("str0m-media 1\ntype 96 vp8 90000 rtx=97 rtx=98\n", 2),
-    ("str0m-media 1\ntype 96 vp8 rtx=97\n", 2),
-    ("str0m-media 1\nmedia 12345678901234567 video cam\n", 2),
-    ("str0m-media 1\nmedia v-1 video cam\n", 2),
-    ("str0m-media 1\nstream A v 42 - -\nmedia v video cam\n", 2),
-    ("str0m-media 1\nmedia v video cam\nstream A w 42 - -\n", 3),
-    ("str0m-media 1\nmedia v video cam\nstream A v 42  -\n", 3),
-    (
-        "str0m-media 1\nkey zero\nbegin\nforeign A 1 srtcp 80\nend\n",
-        4,
-    ),
-    ("str0m-media 1\nkey zero\nbegin\napp A 1 1 42\nend\n", 4),
-    ("str0m-media 1\nkey zero\nbegin\napp A 1 1 42 - -\nend\n", 4),
-    (
-        "str0m-media 1\nkey zero\nbegin\napp A 1 4294967296 42 -\nend\n",
-        4,
-    ),
-    (
-        "str0m-media 1\nkey zero\nbegin\napp A 1 1 4294967296 -\nend\n",
-        4,
-    ),
-    ("str0m-media 1\nmtu 1200\n", 2),
-    ("str0m-media 1\nmtu 1150 18446744073709551616\n", 2),
-    ("str0m-media 1\nmtu 1150 1280\nmtu 1150 1280\n", 3),
-    ("str0m-media 1\npause\n", 2),
-    ("str0m-media 1\npause 5ms\n", 2),
-    ("str0m-media 1\npause -\n", 2),
-    ("str0m-media 1\npause 1 2\n", 2),
-    ("str0m-media 1\npause 18446744073710\n", 2),
-    ("str0m-media 1\npause 18446744073709551616\n", 2),
-    ("str0m-media 1\npause 1500\npause 1500\n", 3),
-    ("str0m-media 1\nkey zero\nbegin\npause 1500\nend\n", 4),
-    ("str0m-media 1\nreports\n", 2),
-    ("str0m-media 1\nreports 5000\n", 2),
-    ("str0m-media 1\nreports 1 2 3\n", 2),
-    ("str0m-media 1\nreports 5ms 1000\n", 2),
-    ("str0m-media 1\nreports 5000 -\n", 2),
-    ("str0m-media 1\nreports 05 1000\n", 2),
-    ("str0m-media 1\nreports 5000  1000\n", 2),
-    ("str0m-media 1\nreports 18446744073710 1000\n", 2),
-    ("str0m-media 1\nreports 5000 18446744073710\n", 2),
-    ("str0m-media 1\nreports 5000 1000\nreports 5000 1000\n", 3),
-    (
-        "str0m-media 1\nkey zero\nbegin\nreports 5000 1000\nend\n",
-        4,
-    ),
-    ("str0m-media 1\nrtcp A 2147483649\n", 2),
-    ("str0m-media 1\nrtcp 5\n", 2),
-    ("str0m-media 1\nrtcp A 1\nrtcp B 1\nrtcp A 1\n", 4),
-    ("str0m-media 1\nlocal A 4294967296\n", 2),
-    ("str0m-media 1\nlocal B 1\nlocal A 2\nlocal B 3\n", 4),
-    (
-        "str0m-media 1\nkey zero\nbegin\nwrite A 1 42 1 96 0 0 0 01 c=- c=-\nend\n",
-        4,
-    ),
-    ("str0m-media 1\nkey zero\nbegin\ndeliver A 1ms\nend\n", 4),
-    (
-        "str0m-media 1\nkey zero\nbegin\ntick A 18446744073710ms\nend\n",
-        4,
-    ),
-];
-
-#[test]
-fn first_line_outside_is_told(rt: HostRuntime) {
-    for (text, line) in &OUTSIDE {
-        assert!(rt;
-            is_outside(rt.alloc(), text.as_bytes(), *line),
-            "at {text:?}"
-        );
-    }
-}
-
-// Lines behind a stream of SSRC 42 with repairs on 43, the last of which is outside the grammar.
-const OUTSIDE_OF_A_STREAM: [&str; 17] = [
-    "start 42 281474976710657\n",
-    "start 42 -\n",
-    "start 42\n",
-    "start 42 0 0\n",
-    "start 43 0\n",
-    "start 7 0\n",
-    "start 4294967338 0\n",
-    "cache 42 18446744073709551616 0 none\n",
-    "cache 42 2000 18446744073710 none\n",
-    "cache 42 2000 3000ms none\n",
-    "cache 42 2000 3000 4294967296\n",
-    "cache 42 2000 3000 -\n",
-    "cache 42 2000 3000\n",
-    "cache 42 2000 3000 15 none\n",
-    "cache 43 2000 3000 15\n",
-    "cache 7 2000 3000 15\n",
-    "cache - 2000 3000 15\n",
-];
-
-// The same, and the line of the script that is the first outside.
-const OUTSIDE_LATER: [(&str, u64); 4] = [
-    ("start 42 1\nstart 42 1\n", 5),
-    ("cache 42 1 1 1\nstart 42 1\ncache 42 1 1 1\n", 6),
-    ("start 42 1\nstart 50 1\nstream B v 50 - -\n", 5),
-    (
-        "cache 42 1 1 1\nstream B v 50 - -\ncache 50 1 1 1\nbegin\nstart 50 1\n",
-        8,
-    ),
-];
-
-fn is_outside_behind_stream(alloc: Global, lines: &str, line: u64) -> Result<bool, Fail> {
-    let text = format!(in alloc; "str0m-media 1\nmedia v video cam\nstream A v 42 43 -\n{lines}")?;
-    Ok(is_outside(alloc, text.as_bytes(), line))
-}
-
-#[test]
-fn lines_of_streams_outside_are_told(rt: HostRuntime) -> Result<(), Fail> {
-    for lines in &OUTSIDE_OF_A_STREAM {
-        let told = is_outside_behind_stream(rt.alloc(), lines, 4)?;
-        assert!(rt; told, "at {lines}");
-    }
-    for (lines, line) in &OUTSIDE_LATER {
-        let told = is_outside_behind_stream(rt.alloc(), lines, *line)?;
-        assert!(rt; told, "at {lines}");
-    }
-    Ok(())
-}
-
-// The head of a script with so many media lines, and so many stream lines of the first.
-fn many(alloc: Global, media: u32, streams: u32) -> Result<Vec<u8>, Fail> {
-    let mut text = Vec::new(alloc);
-    text.extend_from_slice(b"str0m-media 1\nkey zero\n")?;
-    for _ in 0..media {
-        text.extend_from_slice(b"media v video cam\n")?;
-    }
-    for _ in 0..streams {
-        text.extend_from_slice(b"stream A v 42 - -\n")?;
-    }
-    text.extend_from_slice(b"begin\nend\n")?;
-    Ok(text)
-}
-
-// Whether a script has 64 media, the first with 256 streams, and no steps.
-fn has_many(alloc: Global, text: &[u8]) -> Result<bool, Fail> {
-    let (setup, steps) = read_script(alloc, text).ok().ok_or("a script")?;
-    let streams = match setup.media.as_slice().first() {
-        Some(first) => first.streams.as_slice().len(),
-        None => 0,
-    };
-    Ok(setup.media.as_slice().len() == 64 && streams == 256 && steps.is_empty())
-}
-
-#[test]
-fn limits_of_media_and_streams(rt: HostRuntime) -> Result<(), Fail> {
-    let alloc = rt.alloc();
-    let full = many(alloc, 64, 256)?;
-    let media = many(alloc, 65, 0)?;
-    let streams = many(alloc, 1, 257)?;
-    all_hold(&[
-        ("all of both", has_many(alloc, full.as_slice())?),
-        ("a media too many", is_outside(alloc, media.as_slice(), 67)),
-        (
-            "a stream too many",
-            is_outside(alloc, streams.as_slice(), 260),
-        ),
-    ])
-}
-
-// One packet sealed by A.
-fn one_sealed(alloc: Global) -> Result<Entry, Fail> {
-    let plain = Bytes::from_slice(alloc, &[1])?;
-    Ok(Entry::Sealed(Sealed {
-        side: Side::A,
-        kind: Kind::Rtp,
-        ssrc: Ssrc::from(42),
-        index: SeqNo::from(1),
-        plain,
-        bytes: Bytes::from_slice(alloc, &[1, 2])?,
-    }))
-}
-
-// It comes to B.
-fn one_got(alloc: Global) -> Result<Entry, Fail> {
-    Ok(Entry::Got(Got {
-        side: Side::B,
-        time: Instant::from_nanos(1),
-        kind: Kind::Rtp,
-        bytes: Bytes::from_slice(alloc, &[1, 2])?,
-    }))
-}
-
-// B opens it.
-fn one_opened(alloc: Global) -> Result<Entry, Fail> {
-    Ok(Entry::Opened(Opened {
-        side: Side::B,
-        kind: Kind::Rtp,
-        ssrc: Ssrc::from(42),
-        index: SeqNo::from(1),
-        plain: Bytes::from_slice(alloc, &[1])?,
-    }))
-}
-
-// And yields its packet.
-fn one_yielded(alloc: Global) -> Result<Entry, Fail> {
-    Ok(Entry::Yielded(
-        Side::B,
-        Packet {
-            ssrc: Ssrc::from(42),
-            number: SeqNo::from(1),
-            pt: Pt::from(96),
-            rtp_time: 0,
-            marker: false,
-            csrc: Sources::none(),
-            payload: Bytes::from_slice(alloc, &[1])?,
-        },
-    ))
-}
-
-// A call of A, and one packet sealed by it, opened and yielded by B.
-fn push_entries(alloc: Global, transcript: &mut Transcript) -> Result<(), Fail> {
-    transcript.push(Entry::Called(Side::A, Instant::from_nanos(1), Call::Application))?;
-    transcript.push(one_sealed(alloc)?)?;
-    transcript.push(one_got(alloc)?)?;
-    transcript.push(one_opened(alloc)?)?;
-    transcript.push(one_yielded(alloc)?)?;
-    Ok(())
-}
-
-const LINES: &str =
-    "called A app\nsealed A rtp 42 1 0102\ngot B rtp 2\nopened B rtp 42 1\nyielded B 42 1 96 0 0 01\n";
-
-// Whether the entries are written so.
-fn has_lines(alloc: Global, transcript: &Transcript) -> Result<bool, Fail> {
-    let text = entries_text(alloc, transcript.entries())?;
-    Ok(text.as_str() == LINES)
-}
-
-// Whether the whole is written so, where it holds, and the last line where the repairs do not.
-fn has_ends(alloc: Global, transcript: &Transcript) -> Result<bool, Fail> {
-    let whole = write_transcript(alloc, true, transcript)?;
-    let last = end_line(alloc, false, transcript)?;
-    let end = whole.as_str().strip_prefix(LINES);
-    Ok(
-        end == Some("end genuine=yes repairs=yes\n")
-            && last.as_str() == "end genuine=yes repairs=no\n",
-    )
-}
-
-fn is_written(alloc: Global, transcript: &mut Transcript) -> Result<bool, Fail> {
-    push_entries(alloc, transcript)?;
-    let lines = has_lines(alloc, transcript)?;
-    let ends = has_ends(alloc, transcript)?;
-    Ok(lines && ends && transcript.genuine(alloc)?)
-}
-
-#[test]
-fn transcripts_are_written(rt: HostRuntime) -> Result<(), Fail> {
-    let mut transcript = Transcript::new(rt.alloc());
-    let written = is_written(rt.alloc(), &mut transcript)?;
-    assert!(rt; written);
     Ok(())
 }
 
