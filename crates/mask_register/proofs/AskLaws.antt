@@ -107,9 +107,6 @@ asks_came rows past n h = pick (is_fresh (taken past) n) refl where
     above = λ k g. h.above k (omega (arith, greatest_grows (taken past) n));
   }
 
-pub asks_started : (o : Option ℕ) → HoldsAsks [] (started_at o)
-asks_started o = record { asks = λ k g. refl; above = λ k g. refl }
-
 -- ---- a round
 asked_next : (past : Heard) (now wait k : ℕ) → in_gap (taken past) k ≡ true → asked (round past now wait) k ≡ cond (may_ask (asked past k) now wait) ((asked past k).0 + 1, now) (asked past k)
 asked_next past now wait k g = ap (λ (b : Bool). cond (b && may_ask (asked past k) now wait) ((asked past k).0 + 1, now) (asked past k)) g
@@ -167,14 +164,6 @@ none_due (suc count) k w rows now wait whole in_range =
 pub whole_due : (w : Window) (rows : List Ask) (past : Heard) (now wait : ℕ) → Sees w (taken past) → HoldsAsks rows past → IsWhole w → due past now wait ≡ []
 whole_due w rows past now wait s h whole =
     sym (due_is w rows past now wait s h) ∙ none_due (w.greatest - lowest_in w) (lowest_in w) w rows now wait whole (λ j from to. (from, omega arith))
-
-pub whole_round : (w : Window) (rows : List Ask) (past : Heard) (now wait : ℕ) → Sees w (taken past) → HoldsAsks rows past → IsWhole w → HoldsAsks rows (round past now wait)
-whole_round w rows past now wait s h whole = record {
-  asks = λ k g. let at = s.outside k g in absurd (no (sym g ∙ s.inside k at.0 at.1 ∙ whole k at.0 at.1));
-  above = λ k g. h.above k g;
-} where
-  no : true ≡ false → ⊥
-  no e = cc
 
 none_open : (count k : ℕ) (w : Window) (rows : List Ask) → IsWhole w → Within w count k → list_any (is_open w rows) (numbers_up count k) ≡ false
 none_open zero k w rows whole in_range = refl
@@ -271,13 +260,3 @@ give_up_is w rows past from to received trip s h =
     (open_in w rows past from to s h ∙ sym (any_filter (λ k. ltb (asked past k).0 5) (in_gap (taken past)) (candidates_in (taken past) from to)))
     ∙ ap (λ (o : Option ℕ). cond (list_any (λ k. ltb (asked past k).0 5) (gap_in (taken past) from to)) None (moment_after (unwrap_or o received) (grace_of trip)))
     (latest_is w rows past from to s h)
-
-pub give_up_none : (past : Heard) (from to received : ℕ) (trip : Option ℕ) → taken past ≡ [] → moment_after received (grace_of trip) ≡ deadline past from to received trip
-give_up_none past from to received trip e =
-    ap (λ (l : List ℕ). give l) (none (min 0 to - max 0 from) (max 0 from) (omega arith)) ∙ ap (λ (l : List ℕ). give (gap_in l from to)) (sym e) where
-      give : List ℕ → Option ℕ
-      give l = cond (list_any (λ k. ltb (asked past k).0 5) l) None (moment_after (unwrap_or (latest_ask past None l) received) (grace_of trip))
-
-      none : (count k : ℕ) → count ≡ 0 → [] ≡ filter (in_gap []) (numbers_up count k)
-      none zero k e = refl
-      none (suc count) k e = absurd (omega arith)

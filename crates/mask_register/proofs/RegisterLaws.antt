@@ -1,5 +1,5 @@
 -- What a register remembers after a number came, and after a round.
-use Rattle.std.proofs.Common.{◌≡◌, ℕ, ◌+◌, Bool, true, false, cond, List, [], ◌∷◌, ◌++◌, refl, sym, ◌∙◌, subst, arith, Option, Some, None}
+use Rattle.std.proofs.Common.{◌≡◌, ℕ, ◌+◌, Bool, true, false, cond, List, [], ◌∷◌, ◌++◌, sym, ◌∙◌, subst, arith, Option, Some, None}
 use Rattle.std.specs.Bool.{OnTrue}
 use Rattle.repair_core.specs.Fresh.{with_number}
 use Rattle.repair_core.specs.Rounds.{Heard, came, round, taken}
@@ -39,12 +39,6 @@ came_first r past new n is m t = record {
   kept = kept_first (taken past) new n (subst (λ (o : Option Window). IsKept o (taken past)) is m.kept) t;
   asks = asks_came r.asks past n m.asks;
 }
-
-pub nothing_taken : (r : MaskRegister) (past : Heard) → r.window ≡ None → Remembers r past → taken past ≡ []
-nothing_taken r past is m = empty (taken past) (subst (λ (o : Option Window). IsKept o (taken past)) is m.kept) where
-  empty : (l : List ℕ) → IsKept None l → l ≡ []
-  empty [] h = refl
-  empty (x ∷ xs) h = absurd h
 
 pub round_kept : (r new : MaskRegister) (past : Heard) (w : Window) (now wait : ℕ) → r.window ≡ Some w → Remembers r past → new.window ≡ r.window → new.asks ≡ rows_after w r.asks now wait (window_of w) → Remembers new (round past now wait)
 round_kept r new past w now wait is m same rows = record {

@@ -45,15 +45,6 @@ greatest_among x (y ∷ ys) = either (greatest_among y ys) where
         itself : (a : ℕ) → nat_eq a a ≡ true
         itself a = grind (arith, nat_tests)
 
-pub begun_holds : (w : Window) (n : ℕ) → w.first ≡ n → w.greatest ≡ n → ((i : ℕ) → has w.taken i ≡ nat_eq i 0) → Holds w n (n ∷ [])
-begun_holds w n first high bit = record {
-  low = first;
-  high = omega arith;
-  window = λ k le near. bit (greatest (n ∷ []) - k) ∙ same k le;
-} where
-  same : (k : ℕ) → k ≤ greatest (n ∷ []) → nat_eq (greatest (n ∷ []) - k) 0 ≡ list_any (nat_eq k) (n ∷ [])
-  same k le = grind (arith, nat_tests)
-
 pub accepts_is : (w : Window) (x n : ℕ) (xs : List ℕ) → Holds w x (x ∷ xs) → accepts_number w n ≡ is_fresh (x ∷ xs) n
 accepts_is w x n xs h =
     ap (λ (f : ℕ). nat_lt w.greatest n || (nat_le f n && (nat_le w.greatest (n + 100) && is_missing w n))) h.low

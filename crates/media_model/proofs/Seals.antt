@@ -73,11 +73,6 @@ cond_or true false = refl
 cond_or false true = refl
 cond_or false false = refl
 
--- an entry that is no seal adds none
-pub no_seal : {S : Type 0} (sealed : HashSet Seal S) (before : List Entry) (e : Entry) → ((q : Seal) → is_seal q e ≡ false) → HasSeals sealed before → HasSeals sealed (before ++ e ∷ [])
-no_seal sealed before e none has q =
-    has q ∙ sym (any_more (is_seal q) before e ∙ ap (λ b. list_any (is_seal q) before || b) (none q) ∙ or_false (list_any (is_seal q) before))
-
 -- a seal that was put in
 pub seal_more : {S : Type 0} (sealed more : HashSet Seal S) (before : List Entry) (e : Entry) (s : SealedEntry) (a : Seal) → e ≡ Sealed s
     → a.side ≡ s.side → a.kind ≡ s.kind → a.ssrc ≡ s.ssrc → a.index ≡ s.index → a.bytes.now ≡ s.bytes
@@ -91,15 +86,6 @@ seal_more sealed more before e s a is side kind ssrc index bytes updated has q =
   where
     same : (same_side a.side q.side && (same_kind a.kind q.kind && ((a.ssrc == q.ssrc) && ((a.index == q.index) && bytes_eq a.bytes.now q.bytes.now)))) ≡ is_seal q (Sealed s)
     same = λ j. same_side (side j) q.side && (same_kind (kind j) q.kind && ((ssrc j == q.ssrc) && ((index j == q.index) && bytes_eq (bytes j) q.bytes.now)))
-
--- what came last, after an entry more
-
-pub latest_same : (latest : Latest) (before : List Entry) (e : Entry) → ((side : Side) (last : Option (List ℕ)) → got_after side last e ≡ last) → HasLatest latest before → HasLatest latest (before ++ e ∷ [])
-latest_same latest before e same has side = has side ∙ sym (last_more side before e ∙ same side (last_got side before))
-
-pub latest_new : (latest new : Latest) (before : List Entry) (e : Entry) → ((side : Side) → latest_of side new ≡ got_after side (latest_of side latest) e) → HasLatest latest before
-    → HasLatest new (before ++ e ∷ [])
-latest_new latest new before e told has side = told side ∙ ap (λ l. got_after side l e) (has side) ∙ sym (last_more side before e)
 
 -- a datagram that was opened is looked for among the seals
 any_same : (f g : Entry → Bool) → ((e : Entry) → f e ≡ g e) → (es : List Entry) → list_any f es ≡ list_any g es
@@ -121,10 +107,6 @@ looked_up sealed latest before e o bytes q is came side kind ssrc index same has
     each (Got g) = refl
     each (Opened p) = refl
     each (Yielded s p) = refl
-
-pub none_came : (latest : Latest) (before : List Entry) (e : Entry) (o : OpenedEntry) → e ≡ Opened o → latest_of o.side latest ≡ None → HasLatest latest before
-    → false ≡ is_genuine_after before e
-none_came latest before e o is none last = sym (ap (is_genuine_after before) is ∙ ap (some_seals before o) (sym (last o.side) ∙ none))
 
 -- the loop over the entries
 module _ (entries : List Entry) (i : ℕ) (lt : i < length entries) (e : Entry) (is : e ≡ get_or entries i e) where

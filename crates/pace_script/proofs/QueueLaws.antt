@@ -23,12 +23,6 @@ nothing_behind words i le = go (drop i words) (omega (arith, length-drop i words
 abbrev pub Joined : List (Bor (List ℕ)) → List PaceQueue → List (Bor (List ℕ)) → Type 0
 Joined words all rest = queues_of (texts words) ≡ (queues_of (texts rest) >>= λ qs. Some (all ++ qs))
 
-pub none_yet : (words : List (Bor (List ℕ))) → Joined words [] words
-none_yet words = go (queues_of (texts words)) where
-  go : (o : Option (List PaceQueue)) → o ≡ (o >>= λ qs. Some qs)
-  go None = refl
-  go (Some qs) = refl
-
 module _ (words : List (Bor (List ℕ))) (i : ℕ) (d : Bor (List ℕ)) (all : List PaceQueue) (so_far : Joined words all (drop i words)) where
   next : i < length words
       → queues_of (texts words) ≡ ((queue_of (get_or words i d).now >>= λ q. queues_of (texts (drop (i + 1) words)) >>= λ qs. Some (q ∷ qs)) >>= λ qs. Some (all ++ qs))

@@ -4,7 +4,7 @@ use Rattle.std.specs.Prelude.{◌&&◌, not, nat_lt, nat_le, unwrap_or, option_m
 use Rattle.std.proofs.lemmas.List.{length-set}
 use Rattle.std.proofs.lemmas.Bool.Decides.{nat_tests}
 use Rattle.std.proofs.lemmas.Bool.{cases_eq, cases_lt}
-use Rattle.resend_core.specs.ResendStore.{Event, pushed, evicted, Past, with_event, revalued, revalued_event, size_of, last_under, after_pushed, next_position, evicted_at, latest_eviction, IsRising, MustStore, MayGo, greatest_by, mark_above, raised_to, is_under, IsMarked, IsAtLeast, MarksPush, MarksEviction, greatest_stored}
+use Rattle.resend_core.specs.ResendStore.{Event, pushed, evicted, Past, with_event, revalued, revalued_event, size_of, last_under, after_pushed, next_position, evicted_at, latest_eviction, IsRising, MustStore, MayGo, greatest_by, mark_above, raised_to, is_under, IsMarked, MarksPush, MarksEviction, greatest_stored}
 use Rattle.resend_core.specs.EventLaws.{AddsOneEvent, StoresUnder, ChangesOneValue, with_moment}
 use Rattle.queue_store.specs.declared.stamps.Stamp.{Stamp}
 use Rattle.queue_store.specs.declared.queue.QueueStore.{QueueStore}
@@ -311,10 +311,6 @@ push_marks {T} old mid new past p t v w d = record {
       (λ (e : p ≡ k). inl (sym e))
       (λ (ne : p ≢ k). inr (x.1, ap (λ (o : Option (ℕ × T)). option_map (λ (z : ℕ × T). z.1) o) (sym (ap (λ (b : Bool). cond b (Some (t, v)) (held_in old k)) (eq_false p k ne)) ∙ is)))
       (cases_eq p k)
-
--- the marks of a push that is not looked at
-pub passed_marks : {T : Type 0} (q : QueueStore T) (past : Past T) (p t : ℕ) → (MustStore past p t → IsAtLeast q.mark (unwrap_or q.mark p)) → MarksPush (value_at q) (value_at q) past p t q.mark q.mark
-passed_marks q past p t first = record { either = inl refl; first = first; rises = λ m e. (m, e, omega arith) }
 
 value_held : {T : Type 0} (o : Option (ℕ × T)) (v : T) → option_map (λ (x : ℕ × T). x.1) o ≡ Some v → (x : ℕ × T) × (o ≡ Some x)
 value_held None v e = absurd (let no : None ≡ Some v = e in cc)

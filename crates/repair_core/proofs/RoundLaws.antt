@@ -101,19 +101,6 @@ gap_inside l x xs k is low high =
           let c : ltb k (greatest (x ∷ xs)) ≡ true = grind (arith, nat_tests) in
           rw (a, b, c) refl
 
--- one number of a round
-step_taken : (r : RegisterState) (past : Heard) (now wait k : ℕ) (slots : List Slot) → list_any (nat_eq k) (taken past) ≡ true → slot_due (known slots k) now wait ≡ false → IsAsked r past now wait k slots → IsAsked r past now wait (k + 1) (ask now wait slots k)
-step_taken r past now wait k slots tk idle a =
-    let stays : ask now wait slots k ≡ slots = ap (λ (b : Bool). cond b (slice_set slots (k % 101) (asked_slot (known slots k) k now)) slots) idle in
-    subst (λ (s : List Slot). IsAsked r past now wait (k + 1) s) (sym stays)
-    (record {
-      long = a.long;
-      same = a.same;
-      until = λ j free near. a.until j free near ∙ sym (until_step past now wait k j (λ e. other j e free));
-    }) where
-      other : (j : ℕ) → j ≡ k → list_any (nat_eq j) (taken past) ≡ false → ⊥
-      other j e free = let not_so : true ≡ false = sym tk ∙ ap (λ (i : ℕ). list_any (nat_eq i) (taken past)) (sym e) ∙ free in cc
-
 step_idle : (r : RegisterState) (past : Heard) (now wait k : ℕ) (slots : List Slot) → slot_due (known slots k) now wait ≡ false → is_due past now wait k ≡ false → IsAsked r past now wait k slots → IsAsked r past now wait (k + 1) (ask now wait slots k)
 step_idle r past now wait k slots idle no_due a =
     let stays : ask now wait slots k ≡ slots = ap (λ (b : Bool). cond b (slice_set slots (k % 101) (asked_slot (known slots k) k now)) slots) idle in

@@ -37,24 +37,6 @@ settled_on first greatest settled n slots first' greatest' settled' slots' a b c
 pub settled_first : (first greatest settled n : ℕ) (slots : List Slot) → first ≡ n → greatest ≡ max n n → settled ≡ 0 → n < 2 ^ 48 → IsSettled first greatest slots settled
 settled_first first greatest settled n slots a b c small = record { small = omega arith; within = omega arith; quiet = λ k low high below. absurd (omega arith) }
 
--- a number was asked for
-pub settled_ask : (first greatest n settled now wait : ℕ) (slots : List Slot) (s : Slot) → max first (greatest - 100) ≤ n → n < greatest → slot_due (known slots n) now wait ≡ true → IsSettled first greatest slots settled
-    → IsSettled first greatest (slice_set slots (n % 101) s) settled
-settled_ask first greatest n settled now wait slots s low high due h = record {
-  small = h.small;
-  within = h.within;
-  quiet = λ k from to below. ⊎_elim
-      (λ (at : k ≡ n). absurd (not_both (known slots n) now wait due (ap (λ (i : ℕ). slot_needs (known slots i)) (sym at) ∙ h.quiet k from to below)))
-      (λ (ne : k ≢ n). ap slot_needs (known_far slots k n s (apart k n ne (omega arith) (omega arith))) ∙ h.quiet k from to below)
-      (cases_eq k n);
-} where
-  not_both : (s : Slot) (now wait : ℕ) → slot_due s now wait ≡ true → slot_needs s ≡ false → ⊥
-  not_both s now wait a b = pick s.taken (ltb s.asks 5) (eqb s.asks 0 || leb (s.last + wait) now) a b where
-    pick : (t u v : Bool) → (not t && (u && v)) ≡ true → (not t && u) ≡ false → ⊥
-    pick true u v a b = let not_so : false ≡ true = a in cc
-    pick false true v a b = let not_so : true ≡ false = b in cc
-    pick false false v a b = let not_so : false ≡ true = a in cc
-
 -- the lowest number that may be asked for, or none
 any_at : (count low n : ℕ) (p : ℕ → Bool) → low ≤ n → n < low + count → p n ≡ true → list_any p (numbers_up count low) ≡ true
 any_at zero low n p from to t = absurd (omega arith)

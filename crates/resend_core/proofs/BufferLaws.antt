@@ -120,15 +120,6 @@ grown_ready {T} b b' past p g h = λ f is.
             over : (f p s l g : ℕ) → p + s ≤ f → max g p - min l p < s → f ≤ g → ⊥
             over f p s l g i j k = omega arith
 
--- a ring that has its greatest size, or no other entry in the slot
-pub full_ready : {T : Type 0} (b : EvictingBuffer T) (p : ℕ) → b.size ≤ length b.ring.items → IsReady b p
-full_ready b p le = λ f is. inr le
-
-pub free_ready : {T : Type 0} (b : EvictingBuffer T) (p : ℕ) → is_other p (slot_of b.ring.items p) ≡ false → IsReady b p
-free_ready {T} b p free = λ f is. inl (same f (ap (λ (o : Option (Entry T)). is_other p o) (sym is) ∙ free)) where
-  same : (f : Entry T) → not (eqb f.position p) ≡ false → f.position ≡ p
-  same f k = grind (arith, nat_tests)
-
 -- a push that is not stored
 pub ignored_stands : {T : Type 0} (b : EvictingBuffer T) (past : Past T) (p t : ℕ) (v : T) → StandsFor b past → StandsFor b (with_event past (pushed p t v false))
 ignored_stands {T} b past p t v h =
@@ -300,37 +291,6 @@ must_take {T} b past p t h m =
 
       all : 0 < length b.ring.items → 0 < b.age → b.timeout ≤ t → not (is_under b.mark p) ≡ true → takes_push b p t ≡ true
       all x y z w = grind (arith, nat_tests)
-
--- a push into a buffer without slots, or that is passed over, is not looked at
-pub inert_shut : {T : Type 0} (b : EvictingBuffer T) (past : Past T) (p t : ℕ) → StandsFor b past → past.initial ≡ 0 → takes_push b p t ≡ false
-inert_shut b past p t h z = let none : length b.ring.items ≡ 0 = h.inert z in let test : ltb 0 (length b.ring.items) ≡ false = grind (arith, nat_tests) in ap (λ (c : Bool). c && (ltb 0 b.age && (leb b.timeout t && not (is_under b.mark p)))) test
-
-pub passed_shut : {T : Type 0} (b : EvictingBuffer T) (past : Past T) (p t : ℕ) → StandsFor b past → IsPassedOver b.mark past p t → takes_push b p t ≡ false
-passed_shut {T} b past p t h w =
-    ⊎_elim
-    (λ (z : past.age ≡ 0). let none : b.age ≡ 0 = h.ages ∙ z in let test : ltb 0 b.age ≡ false = grind (arith, nat_tests) in second (ltb 0 (length b.ring.items)) (ltb 0 b.age) (leb b.timeout t) (not (is_under b.mark p)) test)
-    (λ (w : (t < latest_eviction past.events) ⊎ (is_under b.mark p ≡ true)).
-    ⊎_elim
-    (λ (lt : t < latest_eviction past.events). let early : t < b.timeout = subst (λ (n : ℕ). t < n) (sym h.timed) lt in let test : leb b.timeout t ≡ false = grind (arith, nat_tests) in third (ltb 0 (length b.ring.items)) (ltb 0 b.age) (leb b.timeout t) (not (is_under b.mark p)) test)
-    (λ (u : is_under b.mark p ≡ true). fourth (ltb 0 (length b.ring.items)) (ltb 0 b.age) (leb b.timeout t) (not (is_under b.mark p)) (ap not u))
-    w)
-    w where
-      second : (a c d f : Bool) → c ≡ false → (a && (c && (d && f))) ≡ false
-      second a c d f e = rw e (left a) where
-        left : (a : Bool) → (a && false) ≡ false
-        left true = refl
-        left false = refl
-
-      third : (a c d f : Bool) → d ≡ false → (a && (c && (d && f))) ≡ false
-      third true true d f e = ap (λ (x : Bool). x && f) e
-      third true false d f e = refl
-      third false c d f e = refl
-
-      fourth : (a c d f : Bool) → f ≡ false → (a && (c && (d && f))) ≡ false
-      fourth true true true f e = e
-      fourth true true false f e = refl
-      fourth true false d f e = refl
-      fourth false c d f e = refl
 
 pub must_room : {T : Type 0} (b : EvictingBuffer T) (past : Past T) (p t : ℕ) → StandsFor b past → MustStore past p t → has_room b.ring.items p ≡ true
 must_room {T} b past p t h m = pick (slot_of b.ring.items p) refl where

@@ -11,9 +11,6 @@ latter_none : {A : Type 0} (o : Option A) → latter None o ≡ o
 latter_none None = refl
 latter_none (Some x) = refl
 
-latter_some : {A : Type 0} (o : Option A) (x : A) → latter o (Some x) ≡ Some x
-latter_some o x = refl
-
 -- an answer comes from the first part or the second
 latter_split : {A : Type 0} (a b : Option A) (x : A) → latter a b ≡ Some x → ((a ≡ Some x) × (b ≡ None)) ⊎ (b ≡ Some x)
 latter_split a None x h = inl (h, refl)

@@ -179,12 +179,6 @@ drops_lowest {T} b b' e now mine old d h =
       gone : held b'.ring.items b.low ≡ None
       gone = ap (λ (r : List (Option (Entry T))). held r b.low) d.items ∙ ap (λ (o : Option (Entry T)). matching b.low o) (cleared_same b.ring.items b.low b.low (some_slot b.ring.items b.low e mine) refl)
 
--- no entry is left, or the lowest is young
-pub done_none : {T : Type 0} (b : EvictingBuffer T) (now : ℕ) → b.high < b.low → IsBounded b → IsDone b now
-done_none {T} b now lt h = record { young = λ q x is. absurd (never q b.low b.high (h.low q x is) (h.high q x is) lt) } where
-  never : (q l g : ℕ) → l ≤ q → q ≤ g → g < l → ⊥
-  never q l g i j k = omega arith
-
 pub done_young : {T : Type 0} (b : EvictingBuffer T) (e : Entry T) (now : ℕ) → held b.ring.items b.low ≡ Some e → now - e.moment ≤ b.age → IsBounded b → IsDone b now
 done_young {T} b e now mine young h = record {
   young = λ q x is.

@@ -38,9 +38,6 @@ end_bound a = grind (arith, nat_tests)
 end_extended : (a : List ℕ) → has_extension_bit a ≡ true → header_end a ≡ sources_end a + 4 + extension_length a
 end_extended a h = rw h refl
 
-end_plain : (a : List ℕ) → has_extension_bit a ≡ false → header_end a ≡ sources_end a
-end_plain a h = rw h refl
-
 first_same : (a b : List ℕ) → Agree a b → get_or b 0 0 ≡ get_or a 0 0
 first_same a b h = sym (same_byte (header_end a) 0 a b h.front (omega (arith, end_bound a)))
 

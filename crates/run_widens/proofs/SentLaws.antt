@@ -43,9 +43,6 @@ events_more side past h = flat_map-append (event_of side) past (h ∷ []) ∙ ap
 pub event_own : (side s : Side) (e : Event) → same_side side s ≡ true → event_of side (s, e) ≡ e ∷ []
 event_own side s e own = ap (λ b. cond b (e ∷ []) []) own
 
-pub event_other : (side s : Side) (e : Event) → same_side side s ≡ false → event_of side (s, e) ≡ []
-event_other side s e other = ap (λ b. cond b (e ∷ []) []) other
-
 sendings_more : (line : Line) (past : List Happening) (h : Happening)
     → sendings_on line (past ++ h ∷ []) ≡ fold (sending_step line.ssrc) (sendings_on line past) (event_of (peer_of line.side) h)
 sendings_more line past h =
@@ -55,11 +52,6 @@ pub sendings_own : (line : Line) (past : List Happening) (s : Side) (e : Event) 
     → sendings_on line (past ++ (s, e) ∷ []) ≡ sending_step line.ssrc (sendings_on line past) e
 sendings_own line past s e own =
     sendings_more line past (s, e) ∙ ap (fold (sending_step line.ssrc) (sendings_on line past)) (event_own (peer_of line.side) s e own)
-
-pub sendings_other : (line : Line) (past : List Happening) (s : Side) (e : Event) → same_side (peer_of line.side) s ≡ false
-    → sendings_on line (past ++ (s, e) ∷ []) ≡ sendings_on line past
-sendings_other line past s e other =
-    sendings_more line past (s, e) ∙ ap (fold (sending_step line.ssrc) (sendings_on line past)) (event_other (peer_of line.side) s e other)
 
 -- tests of lists
 
