@@ -8,14 +8,14 @@ use Rattle.report_core.specs.declared.moments.ReceiverMoment.{ReceiverMoment}
 use Rattle.stream_core.specs.Repairing.{RepairsRecord}
 use Rattle.stream_core.specs.RxRecord.{RxRecord}
 use Rattle.stream_core.specs.TxRecord.{TxRecord}
-use Rattle.session_core.specs.Hearing.{feedback_in, acknowledged, last_application, AskedBy, AskedByAll, by_nack, by_none, asked_none, asked_next, last_delay, measured, ntp_of, after_rtcp}
+use Rattle.session_core.specs.Hearing.{feedback_in, tx_heard, last_application, AskedBy, AskedByAll, by_nack, by_none, asked_none, asked_next, last_delay, measured, ntp_of, after_rtcp}
 use Rattle.session_core.specs.News.{NewsRecord, news_heard}
 use Rattle.session_core.specs.Reports.{rx_heard, moments_heard}
 use Rattle.session_core.specs.SessionRecord.{SessionRecord}
 
-acknowledges_none : (ss : List ℕ) (es : List (ℕ × TxRecord)) → acknowledged (map Goodbye ss) es ≡ es
-acknowledges_none [] es = refl
-acknowledges_none (s ∷ ss) es = acknowledges_none ss es
+tells_none : (ss : List ℕ) (es : List (ℕ × TxRecord)) → tx_heard (map Goodbye ss) es ≡ es
+tells_none [] es = refl
+tells_none (s ∷ ss) es = tells_none ss es
 
 no_application : (ss : List ℕ) (before : Option Application) → last_application (map Goodbye ss) before ≡ before
 no_application [] before = refl
@@ -49,7 +49,7 @@ module _ (now : ℕ) where
   heard : SessionRecord → List (ℕ × RepairsRecord) → List RtcpFb → SessionRecord
   heard r repairs fs = record r {
     state = record r.state {
-      tx = acknowledged fs r.state.tx;
+      tx = tx_heard fs r.state.tx;
       application = last_application fs r.state.application;
       moments = moments_heard now fs r.state.moments;
       news = news_heard now r.state.tx r.rx fs r.state.news;
@@ -63,7 +63,7 @@ module _ (now : ℕ) where
   unfolding heard
   goodbyes_heard plain ss r repairs are asked =
       let left = ask_nothing ss r.repairs repairs (subst (λ (fs : List RtcpFb). AskedByAll now fs r.repairs repairs) are asked) in
-      let tx = acknowledges_none ss r.state.tx in
+      let tx = tells_none ss r.state.tx in
       let application = no_application ss r.state.application in
       let moments = no_moments ss r.state.moments in
       let news = no_news r.state.tx r.rx ss r.state.news in

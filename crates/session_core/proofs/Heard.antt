@@ -5,16 +5,16 @@ use Rattle.rtcp_wire.specs.declared.feedback.AppSpecificFeedback.{AppSpecificFee
 use Rattle.rtcp_wire.specs.declared.rtcp_fb.RtcpFb.{RtcpFb}
 use Rattle.srtp_core.specs.Contexts.{SrtpState}
 use Rattle.stream_core.specs.TxRecord.{TxRecord}
-use Rattle.session_core.specs.Hearing.{feedback_in, acknowledged_by, acknowledged, application_in, last_application, state_heard}
+use Rattle.session_core.specs.Hearing.{feedback_in, tx_heard_by, tx_heard, application_in, last_application, state_heard}
 use Rattle.report_core.specs.declared.moments.ReceiverMoment.{ReceiverMoment}
 use Rattle.stream_core.specs.RxRecord.{RxRecord}
 use Rattle.session_core.specs.News.{NewsRecord, news_heard_by, news_heard}
 use Rattle.session_core.specs.Reports.{rx_heard_by, rx_heard, moments_heard_by, moments_heard}
 use Rattle.session_core.specs.SessionRecord.{SessionState}
 
-pub acknowledged_more : (fs : List RtcpFb) (f : RtcpFb) (es : List (ℕ × TxRecord)) → acknowledged (fs ++ f ∷ []) es ≡ acknowledged_by f (acknowledged fs es)
-acknowledged_more [] f es = refl
-acknowledged_more (g ∷ fs) f es = acknowledged_more fs f (acknowledged_by g es)
+pub tx_more : (fs : List RtcpFb) (f : RtcpFb) (es : List (ℕ × TxRecord)) → tx_heard (fs ++ f ∷ []) es ≡ tx_heard_by f (tx_heard fs es)
+tx_more [] f es = refl
+tx_more (g ∷ fs) f es = tx_more fs f (tx_heard_by g es)
 
 pub application_more : (fs : List RtcpFb) (f : RtcpFb) (before : Option AppSpecificFeedback) → last_application (fs ++ f ∷ []) before ≡ option_or (application_in f) (last_application fs before)
 application_more [] f before = refl
@@ -35,7 +35,7 @@ news_more now tx rx (g ∷ fs) f n = news_more now tx rx fs f (news_heard_by now
 
 -- the state after a packet opened
 pub heard_state : (s r : SessionState) (now : ℕ) (plain : List ℕ) (rx : List (ℕ × RxRecord)) (threshold : ℕ) (opening : Option SrtpState) (tx : List (ℕ × TxRecord)) (application : Option AppSpecificFeedback)
-    (moments : List ReceiverMoment) (news : NewsRecord) → s ≡ r → threshold ≡ s.pause_threshold → opening ≡ s.opening → tx ≡ acknowledged (feedback_in plain) s.tx
+    (moments : List ReceiverMoment) (news : NewsRecord) → s ≡ r → threshold ≡ s.pause_threshold → opening ≡ s.opening → tx ≡ tx_heard (feedback_in plain) s.tx
     → application ≡ last_application (feedback_in plain) s.application → moments ≡ moments_heard now (feedback_in plain) s.moments → news ≡ news_heard now s.tx rx (feedback_in plain) s.news
     → record s { pause_threshold = threshold; opening = opening; tx = tx; application = application; moments = moments; news = news } ≡ state_heard now plain rx r
 heard_state s r now plain rx threshold opening tx application moments news same h o x a m n =

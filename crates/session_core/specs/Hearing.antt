@@ -6,7 +6,7 @@ use Rattle.rtcp_wire.specs.declared.feedback.AppSpecificFeedback.{AppSpecificFee
 use Rattle.rtcp_wire.specs.declared.extended.DlrrItem.{DlrrItem as Delay}
 use Rattle.rtp_base.specs.declared.nack_entry.NackEntry.{NackEntry}
 use Rattle.rtcp_wire.specs.declared.rtcp_fb.RtcpFb.{RtcpFb}
-use Rattle.rtcp_wire.specs.declared.rtcp_fb.RtcpFb.TheVariants.{ReceptionReport, Goodbye, Nack, AppSpecificFeedback, DlrrItem}
+use Rattle.rtcp_wire.specs.declared.rtcp_fb.RtcpFb.TheVariants.{ReceptionReport, Goodbye, Nack, Pli, Fir, AppSpecificFeedback, DlrrItem}
 pub use Rattle.rtcp_wire.specs.Streams.{feedback_in}
 use Rattle.srtp_core.specs.Cipher.{CipherMeaning}
 use Rattle.srtp_core.specs.Contexts.{SrtpState}
@@ -18,7 +18,7 @@ use Rattle.stream_core.specs.Repairing.{RepairsRecord}
 use Rattle.stream_core.specs.RxRecord.{RxRecord}
 use Rattle.stream_core.specs.StreamsRecord.{Asked}
 use Rattle.stream_core.specs.Tables.{place_of, each, change_at}
-use Rattle.stream_core.specs.TxRecord.{TxRecord, after_reception, lost_by}
+use Rattle.stream_core.specs.TxRecord.{TxRecord, told_by}
 use Rattle.session_core.specs.declared.datagram.Opened.{Opened}
 use Rattle.session_core.specs.News.{news_heard}
 use Rattle.session_core.specs.Reports.{rx_heard, moments_heard}
@@ -38,15 +38,19 @@ stated (Some state) bytes = stated_index state.profile bytes
 abbrev pub rtcp_opening_of : Option SrtpState → List ℕ → List ℕ → Opened
 rtcp_opening_of opening bytes plain = record { kind = Rtcp; ssrc = sender_of (take 8 plain); index = stated opening bytes; plain = plain }
 
--- a reception block tells what was lost of the packets of the stream that it reports on, where that is kept, and that the
--- peer knows the stream's SSRC
-abbrev pub acknowledged_by : RtcpFb → List (ℕ × TxRecord) → List (ℕ × TxRecord)
-acknowledged_by (ReceptionReport b) es = change_at b.ssrc (λ x. after_reception b (lost_by b x)) es
-acknowledged_by _ es = es
+-- the streams that send after an item came: a reception block tells what was lost of the packets of the stream that it
+-- reports on, where that is kept, and that the peer knows the stream's SSRC; what asks a stream for packets or for a key frame
+-- counts
+abbrev pub tx_heard_by : RtcpFb → List (ℕ × TxRecord) → List (ℕ × TxRecord)
+tx_heard_by (ReceptionReport b) es = change_at b.ssrc (told_by (ReceptionReport b)) es
+tx_heard_by (Nack ssrc entries) es = change_at ssrc (told_by (Nack ssrc entries)) es
+tx_heard_by (Pli p) es = change_at p.ssrc (told_by (Pli p)) es
+tx_heard_by (Fir e) es = change_at e.ssrc (told_by (Fir e)) es
+tx_heard_by _ es = es
 
-abbrev pub acknowledged : List RtcpFb → List (ℕ × TxRecord) → List (ℕ × TxRecord)
-acknowledged [] es = es
-acknowledged (f ∷ fs) es = acknowledged fs (acknowledged_by f es)
+abbrev pub tx_heard : List RtcpFb → List (ℕ × TxRecord) → List (ℕ × TxRecord)
+tx_heard [] es = es
+tx_heard (f ∷ fs) es = tx_heard fs (tx_heard_by f es)
 
 abbrev pub application_in : RtcpFb → Option Application
 application_in (AppSpecificFeedback f) = Some f
@@ -101,7 +105,7 @@ ntp_of s now = ntp_nanos s.transport.beginning.unix_secs now
 -- the session after a packet opened at a moment
 abbrev pub state_heard : ℕ → List ℕ → List (ℕ × RxRecord) → SessionState → SessionState
 state_heard now plain rx s = record s {
-  tx = acknowledged (feedback_in plain) s.tx;
+  tx = tx_heard (feedback_in plain) s.tx;
   application = last_application (feedback_in plain) s.application;
   moments = moments_heard now (feedback_in plain) s.moments;
   news = news_heard now s.tx rx (feedback_in plain) s.news;

@@ -1,5 +1,5 @@
 -- What a datagram opens to, and what a session makes of it.
-use Rattle.std.specs.Prelude.{◌≡◌, ◌==◌, ◌<◌, ◌||◌, ℕ, Bool, true, false, IsTrue, IsSome, is_some, unwrap_or, if◌then◌else◌, List, [], ◌++◌, take, drop, slice_index, option_and_then, Option, Some, None}
+use Rattle.std.specs.Prelude.{◌≡◌, ◌==◌, ◌<◌, ◌&&◌, ◌||◌, ℕ, Bool, true, false, IsTrue, IsSome, is_some, unwrap_or, if◌then◌else◌, List, [], ◌++◌, length, take, drop, slice_index, option_and_then, Option, Some, None}
 use Rattle.std.specs.Option.{option_map, option_map_or}
 use Rattle.mapping_core.specs.Mapped.{is_early_padding}
 use Rattle.rtp_base.specs.declared.kind.Kind.TheVariants.{Rtp}
@@ -40,10 +40,15 @@ rx_opened remembered a ssrc n rx = if ssrc == 0 then rx else change_at ssrc (ope
 abbrev pub probes_opened : Option ℕ → Arrival → ℕ → ℕ → RxRecord → RxRecord
 probes_opened remembered a ssrc n probes = if ssrc == 0 then opened_as remembered a n probes else probes
 
--- how a packet of this header came at a moment: the clock of a type that is not known has one tick in a second
-abbrev pub arrival_of : List (ℕ × TypeRow) → ℕ → RtpHeader → Arrival
-arrival_of types now h =
-    record { now = now; rtp_time = h.timestamp; clock = unwrap_or (clock_under types h.payload_type) 1 }
+-- how a packet of this header came at a moment with so many bytes of payload: the clock of a type that is not known has one
+-- tick in a second; without payload behind it padding stands alone
+abbrev pub arrival_of : List (ℕ × TypeRow) → ℕ → RtpHeader → ℕ → Arrival
+arrival_of types now h bytes = record {
+  now = now;
+  rtp_time = h.timestamp;
+  clock = unwrap_or (clock_under types h.payload_type) 1;
+  payload_len = if h.has_padding && bytes == 0 then None else Some bytes;
+}
 
 -- where its padding bit is set, the payload ends in padding (RFC 3550 section 5.1)
 abbrev pub Unpads : RtpHeader → List ℕ → Type 0
@@ -95,9 +100,9 @@ after_opened now h n payload r = record {
   state = record r.state {
     packet = packet_after now h n (cut h payload) r.state.packet;
   };
-  rx = rx_opened (seen_of h.ssrc r.seen) (arrival_of r.state.types now h) h.ssrc n r.rx;
+  rx = rx_opened (seen_of h.ssrc r.seen) (arrival_of r.state.types now h (length (cut h payload))) h.ssrc n r.rx;
   known = r.known;
-  probes = probes_opened (seen_of h.ssrc r.seen) (arrival_of r.state.types now h) h.ssrc n r.probes;
+  probes = probes_opened (seen_of h.ssrc r.seen) (arrival_of r.state.types now h (length (cut h payload))) h.ssrc n r.probes;
   seen = saw h.ssrc n r.seen;
   repairs = r.repairs;
 }
@@ -121,7 +126,7 @@ after_original now h original low payload r = record r {
   state = record r.state {
     packet = packet_restored r.state.types now h original payload (restored_on (seen_of original r.seen) r.rx original low) r.state.packet;
   };
-  rx = change_at original (after_restored (seen_of original r.seen) (arrival_of r.state.types now (restored_header r.state.types original low h)) low) r.rx;
+  rx = change_at original (after_restored (seen_of original r.seen) (arrival_of r.state.types now (restored_header r.state.types original low h) (length payload)) low) r.rx;
   seen = option_map_or (λ n. saw original n r.seen) (restored_number_on (seen_of original r.seen) r.rx original low) r.seen;
 }
 

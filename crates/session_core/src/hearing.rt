@@ -2,7 +2,9 @@ ghost use Rattle.std.specs.Prelude.{◌≡◌, ◌≤◌, ℕ, List, None, lengt
 ghost use Rattle.std.specs.Option.{option_or};
 ghost use Rattle.stream_core.specs.Repairing.{RepairsRecord};
 ghost use Rattle.stream_core.specs.StreamsRecord.{StreamsRecord, StandsFor};
-ghost use Rattle.session_core.specs.Hearing.{RtcpOpensIn, stated, feedback_in, acknowledged_by, acknowledged, application_in, last_application, AskedBy, AskedByAll, is_own, last_delay, trip_of, measured, GoodbyesChangeNothing};
+ghost use Rattle.stream_core.specs.Tables.{change_at};
+ghost use Rattle.stream_core.specs.TxRecord.{told_by};
+ghost use Rattle.session_core.specs.Hearing.{RtcpOpensIn, stated, feedback_in, tx_heard_by, tx_heard, application_in, last_application, AskedBy, AskedByAll, is_own, last_delay, trip_of, measured, GoodbyesChangeNothing};
 ghost use Rattle.session_core.specs.Reports.{rx_heard_by, rx_heard};
 
 use media_base::{Duration, Instant, calculate_rtt};
@@ -71,36 +73,50 @@ pub fn feedback_in(alloc: Global, plain: &[u8]) -> Result<Vec<RtcpFb>, AllocErro
     RtcpFb::from_rtcp(alloc, items)
 }
 
-/// Has a reception block tell the stream that it reports on what was lost of its packets, where that is
-/// kept, and that the peer knows its SSRC. Without memory nothing changes.
-fn acknowledge<W: GapWindow, S: ResendStore<Sent>>(
+/// Has the stream of an SSRC know an item that concerns it. Without memory nothing changes.
+fn tell_stream<W: GapWindow, S: ResendStore<Sent>>(
+    ssrc: Ssrc,
     item: &RtcpFb,
     streams: &mut Streams<W, S>,
 ) -> Result<(), AllocError>
-    ensures ok { OnOk result (streams.new ≡ record streams.old { tx = acknowledged_by item.now streams.old.tx }) }
+    ensures ok { OnOk result (streams.new ≡ record streams.old { tx = change_at ssrc (told_by item.now) streams.old.tx }) }
     ensures err { OnErr result (streams.new ≡ streams.old) }
 {
-    if let RtcpFb::ReceptionReport(report) = item {
-        if let Some(place) = streams.tx_place(report.ssrc) {
-            let stream = streams.tx_at(place);
-            stream.update_with_rr(report)?;
-            stream.handle_reception_report(report);
-        }
+    if let Some(place) = streams.tx_place(ssrc) {
+        streams.tx_at(place).handle_rtcp(item)?;
     }
     Ok(())
 }
 
-/// Has the reception blocks of feedback tell the streams that they report on, in order. Without memory some
-/// in front are told.
-pub fn acknowledge_all<W: GapWindow, S: ResendStore<Sent>>(
+/// Has an item tell the stream that it concerns, of those that send: a reception block what was lost, where
+/// that is kept, and that the peer knows its SSRC; what asks for packets or a key frame counts. Without
+/// memory nothing changes.
+fn tell<W: GapWindow, S: ResendStore<Sent>>(
+    item: &RtcpFb,
+    streams: &mut Streams<W, S>,
+) -> Result<(), AllocError>
+    ensures ok { OnOk result (streams.new ≡ record streams.old { tx = tx_heard_by item.now streams.old.tx }) }
+    ensures err { OnErr result (streams.new ≡ streams.old) }
+{
+    match item {
+        RtcpFb::ReceptionReport(report) => tell_stream(report.ssrc, item, streams),
+        RtcpFb::Nack(ssrc, _) => tell_stream(*ssrc, item, streams),
+        RtcpFb::Pli(pli) => tell_stream(pli.ssrc, item, streams),
+        RtcpFb::Fir(entry) => tell_stream(entry.ssrc, item, streams),
+        _ => Ok(()),
+    }
+}
+
+/// Has feedback tell the streams that send, in order. Without memory some items in front are told.
+pub fn tell_all<W: GapWindow, S: ResendStore<Sent>>(
     feedback: &[RtcpFb],
     streams: &mut Streams<W, S>,
 ) -> Result<(), AllocError>
-    ensures ok { OnOk result (streams.new ≡ record streams.old { tx = acknowledged feedback.now streams.old.tx }) }
-    ensures err { OnErr result ((told : List RtcpFb) × (streams.new ≡ record streams.old { tx = acknowledged told streams.old.tx })) }
+    ensures ok { OnOk result (streams.new ≡ record streams.old { tx = tx_heard feedback.now streams.old.tx }) }
+    ensures err { OnErr result ((told : List RtcpFb) × (streams.new ≡ record streams.old { tx = tx_heard told streams.old.tx })) }
 {
     for item in feedback {
-        acknowledge(item, streams)?;
+        tell(item, streams)?;
     }
     Ok(())
 }

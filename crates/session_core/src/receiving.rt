@@ -163,10 +163,10 @@ pub fn accepts<W: GapWindow, S: ResendStore<Sent>>(
     }
 }
 
-/// How a packet of this header came at a moment: the clock of a type that is not known has one tick in a
-/// second.
-pub fn arrival(types: &PayloadTypes, now: Instant, header: &RtpHeader) -> Arrival
-    ensures { result ≡ arrival_of types.now now header.now }
+/// How a packet of this header came at a moment, with so many bytes of payload: the clock of a type that is
+/// not known has one tick in a second.
+pub fn arrival(types: &PayloadTypes, now: Instant, header: &RtpHeader, bytes: usize) -> Arrival
+    ensures { result ≡ arrival_of types.now now header.now bytes }
 {
     Arrival {
         now,
@@ -174,6 +174,11 @@ pub fn arrival(types: &PayloadTypes, now: Instant, header: &RtpHeader) -> Arriva
         clock: types
             .clock(header.payload_type)
             .unwrap_or(Frequency::SECONDS),
+        payload_len: if header.has_padding && bytes == 0 {
+            None
+        } else {
+            Some(bytes)
+        },
     }
 }
 

@@ -118,14 +118,20 @@ fn restored_header(
     restored
 }
 
-/// How the packet that a repair restores came at a moment, by the clock of its type.
-pub fn restored_arrival(types: &PayloadTypes, now: Instant, header: &RtpHeader) -> Arrival
-    ensures { (original low : ℕ) → result ≡ arrival_of types.now now (restored_header types.now original low header.now) }
+/// How the packet that a repair restores came at a moment, by the clock of its type, with so many bytes of
+/// payload.
+pub fn restored_arrival(
+    types: &PayloadTypes,
+    now: Instant,
+    header: &RtpHeader,
+    bytes: usize,
+) -> Arrival
+    ensures { (original low : ℕ) → result ≡ arrival_of types.now now (restored_header types.now original low header.now) bytes }
 {
     let mut restored = *header;
     let repaired = types.primary(header.payload_type);
     restored.payload_type = repaired.unwrap_or(header.payload_type);
-    arrival(types, now, &restored)
+    arrival(types, now, &restored, bytes)
 }
 
 /// Has the packet that a repair restored wait to be told, where its number is fresh.

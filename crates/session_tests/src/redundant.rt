@@ -93,6 +93,7 @@ fn arrival(rtp_time: u32) -> Arrival {
         now: Instant::from_nanos(1),
         rtp_time,
         clock: Frequency::SECONDS,
+        payload_len: Some(2),
     }
 }
 

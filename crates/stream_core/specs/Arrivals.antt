@@ -1,13 +1,17 @@
 -- What streams count of their packets for reports.
-use Rattle.std.specs.Prelude.{ℕ, ◌+◌, ◌-◌, Bool, true, length, Option, Some, None}
+use Rattle.std.specs.Prelude.{ℕ, ◌+◌, ◌-◌, Bool, true, length, List, [], ◌∷◌, Option, Some, None}
 use Rattle.std.specs.Option.{option_map}
 use Rattle.repair_core.specs.Counts.{no_counts, counted, after_point}
 use Rattle.repair_core.specs.declared.jitter.TimePoint.{TimePoint}
 use Rattle.report_core.specs.LastReport.{no_news}
 use Rattle.report_core.specs.Times.{time_after}
+use Rattle.report_core.specs.Stats.{no_stats}
 use Rattle.report_core.specs.Traffic.{more, no_traffic, with_packet}
 use Rattle.report_core.specs.declared.stats.StreamStats.{StreamStats}
+use Rattle.rtp_base.specs.declared.keyframe_request.KeyframeRequestKind.{KeyframeRequestKind}
+use Rattle.rtp_base.specs.declared.keyframe_request.KeyframeRequestKind.TheVariants.{Pli, Fir}
 use Rattle.rtp_base.specs.declared.media_time.MediaTime.{MediaTime}
+use Rattle.rtp_base.specs.declared.nack_entry.NackEntry.{NackEntry}
 use Rattle.stream_core.specs.declared.packet.RtpPacket.{RtpPacket}
 use Rattle.stream_core.specs.declared.reports.Arrival.{Arrival}
 use Rattle.stream_core.specs.declared.reports.RxReports.{RxReports}
@@ -18,13 +22,28 @@ use Rattle.stream_core.specs.declared.stream_tx.PacketReceipt.{PacketReceipt}
 abbrev pub point_of : Arrival → TimePoint
 point_of a = record { arrival = a.now; rtp_time = a.rtp_time; clock_rate = a.clock }
 
+-- what opened counts with the bytes of its payload; padding alone does not count
+abbrev pub counted_of : Option ℕ → StreamStats → StreamStats
+counted_of None t = t
+counted_of (Some bytes) t = record t { traffic = with_packet bytes t.traffic }
+
+-- a key frame was asked for, without or with a number; and packets were, where entries name them
+abbrev pub asked_of : Option KeyframeRequestKind → StreamStats → StreamStats
+asked_of None t = t
+asked_of (Some Pli) t = record t { plis = more t.plis 1 }
+asked_of (Some Fir) t = record t { firs = more t.firs 1 }
+
+abbrev pub nacked_of : List NackEntry → StreamStats → StreamStats
+nacked_of [] t = t
+nacked_of (x ∷ xs) t = record t { nacks = more t.nacks 1 }
+
 -- an incoming stream on which nothing came and that never reported
 abbrev pub no_rx_reports : RxReports
-no_rx_reports = record { counts = no_counts; clock = record { last = 0 }; news = no_news; times = record { last = None } }
+no_rx_reports = record { counts = no_counts; clock = record { last = 0 }; news = no_news; times = record { last = None }; stats = no_stats }
 
 -- a packet came under a fresh number
 abbrev pub with_arrival : Arrival → ℕ → RxReports → RxReports
-with_arrival a n x = record x { counts = counted n true (point_of a) x.counts }
+with_arrival a n x = record x { counts = counted n true (point_of a) x.counts; stats = counted_of a.payload_len x.stats }
 
 -- the RTP time of a packet, widened by the last one of the stream, where the stream was paused before the packet or not
 abbrev pub time_of : (was_paused : Bool) → Arrival → RxReports → MediaTime
@@ -35,11 +54,12 @@ time_of was_paused a x =
 abbrev pub with_time : (was_paused : Bool) → Arrival → RxReports → RxReports
 with_time was_paused a x = record x { times = record { last = Some (time_of was_paused a x) } }
 
--- a packet came under a number that is not fresh: it enters the jitter alone
+-- a packet came under a number that is not fresh: of what reports tell it enters the jitter alone
 abbrev pub with_late : Arrival → RxReports → RxReports
-with_late a x = record x { counts = after_point (point_of a) x.counts }
+with_late a x = record x { counts = after_point (point_of a) x.counts; stats = counted_of a.payload_len x.stats }
 
--- what was counted is forgotten; what the sender reported, the last time, and when the next report is due, stay
+-- what was counted for reports is forgotten; what the sender reported, the last time, when the next report is due, and the
+-- statistics stay
 abbrev pub forgotten : RxReports → RxReports
 forgotten x = record x { counts = no_counts }
 

@@ -6,7 +6,8 @@ use Rattle.repair_core.specs.Rounds.{Heard, round, due, is_pending, wait_of}
 use Rattle.rtp_base.specs.declared.nack_entry.NackEntry.{NackEntry}
 use Rattle.rtcp_wire.specs.declared.packet.Rtcp.{Rtcp}
 use Rattle.rtcp_wire.specs.declared.packet.Rtcp.TheVariants.{Nack}
-use Rattle.stream_core.specs.RxRecord.{RxRecord}
+use Rattle.stream_core.specs.Arrivals.{nacked_of}
+use Rattle.stream_core.specs.RxRecord.{RxState, RxRecord}
 
 abbrev pub pending_in : Option Heard → Bool
 pending_in None = false
@@ -33,9 +34,16 @@ asked_in now trip (Some past) = Some (round past now (wait_of trip))
 abbrev pub due_of : ℕ → RxRecord → List ℕ
 due_of now r = if is_enabled r then due_in now r.state.trip r.numbers else []
 
--- the stream after a round
+-- the stream after a round: an item that asks counts
+abbrev pub with_nacked : List NackEntry → RxState → RxState
+with_nacked entries s = record s { reports = record s.reports { stats = nacked_of entries s.reports.stats } }
+
 abbrev pub after_round : ℕ → RxRecord → RxRecord
-after_round now r = if is_enabled r then record r { numbers = asked_in now r.state.trip r.numbers } else r
+after_round now r =
+    if is_enabled r then record r {
+      state = with_nacked (packed None (due_in now r.state.trip r.numbers)) r.state;
+      numbers = asked_in now r.state.trip r.numbers;
+    } else r
 
 -- the item that asks for what these entries name, if there are some
 abbrev pub nack_with : ℕ → ℕ → List NackEntry → List Rtcp

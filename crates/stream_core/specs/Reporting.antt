@@ -21,6 +21,7 @@ use Rattle.report_core.specs.Receiver.{receiver_report_of, moment_report_of}
 use Rattle.report_core.specs.Sender.{info_of, name_of}
 use Rattle.stream_core.specs.declared.payload_types.TypeRow.{TypeRow}
 use Rattle.stream_core.specs.declared.reports.Tick.{Tick}
+use Rattle.stream_core.specs.Arrivals.{asked_of}
 use Rattle.stream_core.specs.Missing.{nack_of, after_round}
 use Rattle.stream_core.specs.Pauses.{on_record, sooner}
 use Rattle.stream_core.specs.Requests.{is_request, request_count, request_items, told_requests}
@@ -82,10 +83,13 @@ front_items t reports r =
 abbrev pub front_count : Bool → RxState → ℕ
 front_count reports s = request_count s.requests + (if reports then 2 else 0)
 
--- the stream after what it asked its sender for was told; after it reported in a tick, where it does; and after it asked for
+-- the stream after what it asked its sender for was told, which counts; after it reported in a tick, where it does; and after it asked for
 -- packets, where the tick is a round
 abbrev pub with_told : RxState → RxState
-with_told s = record s { requests = told_requests s.requests }
+with_told s = record s {
+  requests = told_requests s.requests;
+  reports = record s.reports { stats = asked_of s.requests.keyframe s.reports.stats };
+}
 
 abbrev pub after_report : Tick → Bool → RxRecord → RxRecord
 after_report t reports r = if reports then reported t.now r else r

@@ -5,14 +5,16 @@ use Rattle.std.specs.Option.{option_map}
 use Rattle.report_core.specs.Loss.{loss_told, with_loss}
 use Rattle.report_core.specs.TxStats.{TxStats, after_seen}
 use Rattle.report_core.specs.declared.loss.ReportedLoss.{ReportedLoss}
-use Rattle.rtp_base.specs.declared.reception_report.ReceptionReport.{ReceptionReport}
+use Rattle.rtcp_wire.specs.declared.rtcp_fb.RtcpFb.{RtcpFb}
+use Rattle.rtcp_wire.specs.declared.rtcp_fb.RtcpFb.TheVariants.{ReceptionReport, Nack, Pli, Fir}
+use Rattle.rtp_base.specs.declared.reception_report.ReceptionReport.{ReceptionReport as Block}
 use Rattle.rtp_wire.specs.declared.header.RtpHeader.{RtpHeader}
 use Rattle.rtp_wire.specs.Header.{header_bytes}
 use Rattle.stream_core.specs.declared.packet.RtpPacket.{RtpPacket}
 use Rattle.stream_core.specs.declared.stream_tx.PacketReceipt.{PacketReceipt}
 use Rattle.stream_core.specs.declared.reports.TxReports.{TxReports}
 use Rattle.stream_core.specs.declared.transport.Transport.{Transport}
-use Rattle.stream_core.specs.Arrivals.{no_tx_reports, tx_reports_anew, with_write, with_first_of, with_repair, stats_of}
+use Rattle.stream_core.specs.Arrivals.{no_tx_reports, tx_reports_anew, with_write, with_first_of, with_repair, with_nack, with_pli, with_fir, stats_of}
 use Rattle.stream_core.specs.Queue.{needs_tick, with_stamp, next_of, rest_of}
 use Rattle.stream_core.specs.Sealing.{sealed_values, with_values, after_packet}
 use Rattle.stream_core.specs.Write.{WriteRecord, packet_of}
@@ -47,7 +49,7 @@ after_timeout now r = record r { queue = map (with_stamp now) r.queue }
 abbrev pub acknowledges : ℕ → TxRecord → Bool
 acknowledges ssrc r = is_none r.rtx && ssrc == r.ssrc
 
-abbrev pub after_reception : ReceptionReport → TxRecord → TxRecord
+abbrev pub after_reception : Block → TxRecord → TxRecord
 after_reception b r = record r { acknowledged = r.acknowledged || acknowledges b.ssrc r }
 
 -- what is counted of it
@@ -59,8 +61,16 @@ abbrev pub with_stats : TxRecord → TxRecord
 with_stats r = record r { losses = Some (unwrap_or r.losses []) }
 
 -- a reception block tells what was lost of its packets, where that is kept: its number is widened by the last one sealed
-abbrev pub lost_by : ReceptionReport → TxRecord → TxRecord
+abbrev pub lost_by : Block → TxRecord → TxRecord
 lost_by b r = record r { losses = if b.ssrc == r.ssrc then option_map (with_loss (loss_told r.reports.last_sent b)) r.losses else r.losses }
+
+-- an item of feedback that concerns the stream: a reception block, and what asks for packets or for a key frame, which counts
+abbrev pub told_by : RtcpFb → TxRecord → TxRecord
+told_by (ReceptionReport b) r = after_reception b (lost_by b r)
+told_by (Nack ssrc entries) r = record r { reports = with_nack r.reports }
+told_by (Pli p) r = record r { reports = with_pli r.reports }
+told_by (Fir e) r = record r { reports = with_fir r.reports }
+told_by _ r = r
 
 -- what was lost was looked at
 abbrev pub after_visit : TxRecord → TxRecord

@@ -3,6 +3,9 @@
 ghost use Rattle.std.specs.Prelude.{◌≡◌, ◌+◌, ◌<◌, ◌≤◌, length, Some};
 ghost use Rattle.stream_core.specs.Arrivals.{
   point_of,
+  counted_of,
+  asked_of,
+  nacked_of,
   no_rx_reports,
   with_arrival,
   with_late,
@@ -28,7 +31,7 @@ use report_core::{
     ReceiverClock, ReportIntervals, SenderClock, SenderNews, StreamStats, TimeLine, Traffic,
     Written,
 };
-use rtp_base::{Frequency, MediaTime, Pt, SeqNo, Ssrc};
+use rtp_base::{Frequency, KeyframeRequestKind, MediaTime, NackEntry, Pt, SeqNo, Ssrc};
 
 /// The bytes of the original number in front of the payload of a repair (RFC 4588 section 4).
 const ORIGINAL_NUMBER_LEN: usize = 2;
@@ -42,6 +45,8 @@ pub struct Arrival {
     pub rtp_time: u32,
     /// The clock of its RTP time.
     pub clock: Frequency,
+    /// The bytes of its payload; None of padding alone.
+    pub payload_len: Option<usize>,
 }
 
 impl Arrival {
@@ -83,6 +88,8 @@ pub struct RxReports {
     pub news: SenderNews,
     /// The RTP times of its packets.
     pub times: TimeLine,
+    /// What opened on it, and what it asked its sender for, since it was made.
+    pub stats: StreamStats,
 }
 
 impl RxReports {
@@ -95,6 +102,16 @@ impl RxReports {
             clock: ReceiverClock::new(),
             news: SenderNews::new(),
             times: TimeLine::new(),
+            stats: StreamStats::new(),
+        }
+    }
+
+    /// What opened counts, but padding alone.
+    fn count(&mut self, arrival: &Arrival)
+        ensures { self.new ≡ record self.old { stats = counted_of arrival.entry.now.payload_len self.old.stats } }
+    {
+        if let Some(bytes) = arrival.payload_len {
+            self.stats.update_packet_counts(bytes);
         }
     }
 
@@ -103,9 +120,10 @@ impl RxReports {
         ensures { self.new ≡ with_arrival arrival.entry.now number self.old }
     {
         self.counts.arrived(number, true, arrival.point());
+        self.count(arrival);
     }
 
-    /// Forgets what was counted of packets. The last time stays.
+    /// Forgets what was counted of packets for reports. The last time stays.
     pub(crate) fn forget(&mut self)
         ensures { self.new ≡ forgotten self.old }
     {
@@ -129,11 +147,32 @@ impl RxReports {
         self.times.take(arrival.rtp_time, was_paused, arrival.clock)
     }
 
-    /// A packet came under a number that is not fresh: it enters the jitter alone.
+    /// A packet came under a number that is not fresh: of what reports tell it enters the jitter alone.
     pub(crate) fn came_late(&mut self, arrival: &Arrival)
         ensures { self.new ≡ with_late arrival.entry.now self.old }
     {
         self.counts.entered(arrival.point());
+        self.count(arrival);
+    }
+
+    /// It asked for a key frame, or for none.
+    pub(crate) fn asked_for(&mut self, keyframe: Option<KeyframeRequestKind>)
+        ensures { self.new ≡ record self.old { stats = asked_of keyframe self.old.stats } }
+    {
+        match keyframe {
+            Some(KeyframeRequestKind::Pli) => self.stats.increase_plis(),
+            Some(KeyframeRequestKind::Fir) => self.stats.increase_firs(),
+            None => {}
+        }
+    }
+
+    /// It asked for the packets that these entries name, if there are some.
+    pub(crate) fn asked_again(&mut self, entries: &[NackEntry])
+        ensures { self.new ≡ record self.old { stats = nacked_of entries.now self.old.stats } }
+    {
+        if !entries.is_empty() {
+            self.stats.increase_nacks();
+        }
     }
 }
 

@@ -15,7 +15,7 @@ use crate::write::{RtpWrite, WriteError};
 use media_base::{Beginning, Bytes, Instant};
 use pace_units::QueueSnapshot;
 use report_core::{LossLog, ReportIntervals, RtpClock, StreamStats, Traffic, sender_info};
-use rtcp_wire::SenderInfo;
+use rtcp_wire::{RtcpFb, SenderInfo};
 use rtp_base::{Mid, MidRid, ReceptionReport, Rid, SeqNo, Ssrc};
 use rtp_wire::{ExtensionMap, ExtensionValues, RtpHeader};
 use std::alloc::{AllocError, Global};
@@ -99,7 +99,7 @@ pub(crate) fn receipt(
 }
 
 impl StreamTx {
-    ghost use Rattle.stream_core.specs.TxRecord.{declared, written, after_timeout, after_reception, anew_under, tx_stats_of, with_stats, lost_by, after_visit, IsTooBig, IsTooLong, Fits, polled, after_poll, after_resend, transport_after_poll, IsSealable};
+    ghost use Rattle.stream_core.specs.TxRecord.{declared, written, after_timeout, after_reception, anew_under, tx_stats_of, with_stats, lost_by, told_by, after_visit, IsTooBig, IsTooLong, Fits, polled, after_poll, after_resend, transport_after_poll, IsSealable};
     ghost use Rattle.report_core.specs.TxStats.{seen_of};
     ghost use Rattle.stream_core.specs.Arrivals.{with_nack, with_pli, with_fir, stats_of};
     ghost use Rattle.stream_core.specs.Reporting.{rtp_clock_of, sender_info_at, tx_report_at, is_tx_report_due, tx_reported, with_kind};
@@ -227,6 +227,26 @@ impl StreamTx {
             Some(losses) => losses.update_with_rr(self.reports.last_sent, report),
             None => Ok(()),
         }
+    }
+
+    /// Takes in an item of feedback that concerns the stream: a reception block (`update_with_rr`,
+    /// `handle_reception_report`), or what asks for packets or for a key frame, which counts. Without memory
+    /// nothing changes. The time grows with the blocks since the losses were last looked at.
+    pub fn handle_rtcp(&mut self, item: &RtcpFb) -> Result<(), AllocError>
+        ensures ok { OnOk result (self.new ≡ told_by item.now self.old) }
+        ensures err { OnErr result (self.new ≡ self.old) }
+    {
+        match item {
+            RtcpFb::ReceptionReport(report) => {
+                self.update_with_rr(report)?;
+                self.handle_reception_report(report);
+            }
+            RtcpFb::Nack(_, _) => self.increase_nacks(),
+            RtcpFb::Pli(_) => self.increase_plis(),
+            RtcpFb::Fir(_) => self.increase_firs(),
+            _ => {}
+        }
+        Ok(())
     }
 
     /// The share that was lost since this was last asked: each report counts by the distance of its number

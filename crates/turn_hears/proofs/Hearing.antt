@@ -1,20 +1,22 @@
 -- RTCP that comes is a turn.
-use Rattle.std.proofs.Common.{◌≡◌, ℕ, ◌≤◌, List, [], ◌∷◌, ◌++◌, Option, None, refl, sym, ap, ◌∙◌, subst}
+use Rattle.std.proofs.Common.{◌≡◌, ℕ, ◌≤◌, Bool, List, [], ◌∷◌, ◌++◌, Option, None, refl, sym, ap, ◌∙◌, subst}
 use Rattle.std.specs.List.{AllZip, fold, flat_map}
 use Rattle.std.specs.Map.{keys_of}
 use Rattle.rtp_base.specs.declared.kind.Kind.TheVariants.{Rtcp}
 use Rattle.rtcp_wire.specs.declared.extended.DlrrItem.{DlrrItem as Delay}
 use Rattle.rtcp_wire.specs.declared.rtcp_fb.RtcpFb.{RtcpFb}
 use Rattle.rtcp_wire.specs.declared.rtcp_fb.RtcpFb.TheVariants.{SenderInfo, ReceptionReport, SourceDescription, Goodbye, Rrtr, DlrrItem, Nack, Pli, Fir, Twcc, Remb, AppSpecificFeedback}
+use Rattle.report_core.specs.declared.loss.ReportedLoss.{ReportedLoss}
 use Rattle.srtp_core.specs.Cipher.{CipherMeaning}
 use Rattle.srtp_core.specs.RtcpSeals.{RtcpOpensTo, sealed_rtcp, stated_bit, stated_index}
 use Rattle.stream_core.specs.declared.payload_types.TypeRow.{TypeRow}
+use Rattle.stream_core.specs.declared.reports.TxReports.{TxReports}
 use Rattle.stream_core.specs.Repairing.{RepairsRecord, repairs_of}
 use Rattle.stream_core.specs.Tables.{place_of}
-use Rattle.stream_core.specs.TxRecord.{TxRecord as StreamTx, after_reception, lost_by}
+use Rattle.stream_core.specs.TxRecord.{TxRecord as StreamTx, told_by}
 use Rattle.session_core.specs.declared.datagram.Opened.{Opened as Opening}
 use Rattle.session_core.specs.Calls.{after_events}
-use Rattle.session_core.specs.Hearing.{RtcpOpensIn, stated, feedback_in, acknowledged_by, acknowledged, AskedByAll, last_delay, ntp_of, measured, after_rtcp, ReceivesRtcp, opened as opened_so, stays as stays_so}
+use Rattle.session_core.specs.Hearing.{RtcpOpensIn, stated, feedback_in, tx_heard_by, tx_heard, AskedByAll, last_delay, ntp_of, measured, after_rtcp, ReceivesRtcp, opened as opened_so, stays as stays_so}
 use Rattle.session_core.specs.SessionRecord.{MediaRecord, SessionRecord}
 use Rattle.media_model.specs.declared.entry.Side.{Side}
 use Rattle.media_model.specs.Sides.{peer_of}
@@ -36,50 +38,67 @@ use Rattle.turn_hears.proofs.Queued.{Queued, queued_of}
 use Rattle.turn_hears.proofs.Trips.{told_trip, trip_told, all_told, all_measured}
 use Rattle.turn_hears.proofs.News.{all_news}
 
--- an acknowledgement leaves what waits
+-- what a stream that sends is told leaves what waits
 
-keys_by : (f : RtcpFb) (es : List (ℕ × StreamTx)) → keys_of (acknowledged_by f es) ≡ keys_of es
-keys_by (ReceptionReport b) es = keys_changed_at (λ x. after_reception b (lost_by b x)) es (place_of b.ssrc es)
+keys_by : (f : RtcpFb) (es : List (ℕ × StreamTx)) → keys_of (tx_heard_by f es) ≡ keys_of es
+keys_by (ReceptionReport b) es = keys_changed_at (told_by (ReceptionReport b)) es (place_of b.ssrc es)
 keys_by (SenderInfo a) es = refl
 keys_by (SourceDescription a) es = refl
 keys_by (Goodbye a) es = refl
 keys_by (Rrtr a b) es = refl
 keys_by (DlrrItem a) es = refl
-keys_by (Nack a b) es = refl
-keys_by (Pli a) es = refl
-keys_by (Fir a) es = refl
+keys_by (Nack a b) es = keys_changed_at (told_by (Nack a b)) es (place_of a es)
+keys_by (Pli a) es = keys_changed_at (told_by (Pli a)) es (place_of a.ssrc es)
+keys_by (Fir a) es = keys_changed_at (told_by (Fir a)) es (place_of a.ssrc es)
 keys_by (Twcc a) es = refl
 keys_by (Remb a b) es = refl
 keys_by (AppSpecificFeedback a) es = refl
 
-all_keys : (fs : List RtcpFb) (es : List (ℕ × StreamTx)) → keys_of (acknowledged fs es) ≡ keys_of es
+all_keys : (fs : List RtcpFb) (es : List (ℕ × StreamTx)) → keys_of (tx_heard fs es) ≡ keys_of es
 all_keys [] es = refl
-all_keys (f ∷ fs) es = all_keys fs (acknowledged_by f es) ∙ keys_by f es
+all_keys (f ∷ fs) es = all_keys fs (tx_heard_by f es) ∙ keys_by f es
 
 module _ (rows : List (ℕ × TypeRow)) (medias : List MediaRecord) (now : ℕ) (repairs : List (ℕ × RepairsRecord)) where
   abbrev Stands : ℕ × StreamTx → Outgoing × TxRecord → Type 0
   Stands = TxMirrors rows medias now None repairs
 
-  still_by : (f : RtcpFb) (es : List (ℕ × StreamTx)) (xs : Table) → AllZip Stands es xs → AllZip Stands (acknowledged_by f es) xs
-  still_by (ReceptionReport b) es xs h =
-      zip_changed_at Stands (λ x. after_reception b (lost_by b x))
-      (λ e s k. record { key = k.key; ssrc = k.ssrc; rtx = k.rtx; mid = k.mid; queue = k.queue; given = k.given; cached = k.cached; again = k.again })
-      es xs (place_of b.ssrc es) h
+  -- a stream of which only what it counts and what its peer knows changes
+  same_stands : (x : StreamTx) (acknowledged : Bool) (reports : TxReports) (losses : Option (List ReportedLoss)) (k : ℕ) (s : Outgoing × TxRecord) → Stands (k, x) s
+      → Stands (k, record x { acknowledged = acknowledged; reports = reports; losses = losses }) s
+  same_stands x acknowledged reports losses k s h =
+      record { key = h.key; ssrc = h.ssrc; rtx = h.rtx; mid = h.mid; queue = h.queue; given = h.given; cached = h.cached; again = h.again }
+
+  told_stands : (f : RtcpFb) (e : ℕ × StreamTx) (s : Outgoing × TxRecord) → Stands e s → Stands (e.0, told_by f e.1) s
+  told_stands (ReceptionReport b) e s h = same_stands e.1 (told_by (ReceptionReport b) e.1).acknowledged e.1.reports (told_by (ReceptionReport b) e.1).losses e.0 s h
+  told_stands (Nack a b) e s h = same_stands e.1 e.1.acknowledged (told_by (Nack a b) e.1).reports e.1.losses e.0 s h
+  told_stands (Pli a) e s h = same_stands e.1 e.1.acknowledged (told_by (Pli a) e.1).reports e.1.losses e.0 s h
+  told_stands (Fir a) e s h = same_stands e.1 e.1.acknowledged (told_by (Fir a) e.1).reports e.1.losses e.0 s h
+  told_stands (SenderInfo a) e s h = h
+  told_stands (SourceDescription a) e s h = h
+  told_stands (Goodbye a) e s h = h
+  told_stands (Rrtr a b) e s h = h
+  told_stands (DlrrItem a) e s h = h
+  told_stands (Twcc a) e s h = h
+  told_stands (Remb a b) e s h = h
+  told_stands (AppSpecificFeedback a) e s h = h
+
+  still_by : (f : RtcpFb) (es : List (ℕ × StreamTx)) (xs : Table) → AllZip Stands es xs → AllZip Stands (tx_heard_by f es) xs
+  still_by (ReceptionReport b) es xs h = zip_changed_at Stands (told_by (ReceptionReport b)) (told_stands (ReceptionReport b)) es xs (place_of b.ssrc es) h
+  still_by (Nack a b) es xs h = zip_changed_at Stands (told_by (Nack a b)) (told_stands (Nack a b)) es xs (place_of a es) h
+  still_by (Pli a) es xs h = zip_changed_at Stands (told_by (Pli a)) (told_stands (Pli a)) es xs (place_of a.ssrc es) h
+  still_by (Fir a) es xs h = zip_changed_at Stands (told_by (Fir a)) (told_stands (Fir a)) es xs (place_of a.ssrc es) h
   still_by (SenderInfo a) es xs h = h
   still_by (SourceDescription a) es xs h = h
   still_by (Goodbye a) es xs h = h
   still_by (Rrtr a b) es xs h = h
   still_by (DlrrItem a) es xs h = h
-  still_by (Nack a b) es xs h = h
-  still_by (Pli a) es xs h = h
-  still_by (Fir a) es xs h = h
   still_by (Twcc a) es xs h = h
   still_by (Remb a b) es xs h = h
   still_by (AppSpecificFeedback a) es xs h = h
 
-  still_all : (fs : List RtcpFb) (es : List (ℕ × StreamTx)) (xs : Table) → AllZip Stands es xs → AllZip Stands (acknowledged fs es) xs
+  still_all : (fs : List RtcpFb) (es : List (ℕ × StreamTx)) (xs : Table) → AllZip Stands es xs → AllZip Stands (tx_heard fs es) xs
   still_all [] es xs h = h
-  still_all (f ∷ fs) es xs h = still_all fs (acknowledged_by f es) xs (still_by f es xs h)
+  still_all (f ∷ fs) es xs h = still_all fs (tx_heard_by f es) xs (still_by f es xs h)
 
 -- each stream takes the NACKs on it
 
@@ -223,7 +242,7 @@ module _ (cipher : CipherMeaning) (C : Config) (side : Side) (r : SessionRecord)
       bounded = h.bounded;
       types = h.types;
       trip = h.trip;
-      owns = h.owns ∙ sym (same_owns r.state.local_ssrc (acknowledged items r.state.tx) r.state.tx (all_keys items r.state.tx));
+      owns = h.owns ∙ sym (same_owns r.state.local_ssrc (tx_heard items r.state.tx) r.state.tx (all_keys items r.state.tx));
       outgoing = hears_all.same ∙ h.outgoing;
       incoming = h.incoming;
       tx = still_all r.state.types r.state.medias time repairs items r.state.tx hears_all.streams hears_all.zip;

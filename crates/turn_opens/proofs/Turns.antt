@@ -1,5 +1,5 @@
 -- An RTP datagram that comes is a turn of the plain session.
-use Rattle.std.proofs.Common.{◌≡◌, inl, inr, ℕ, ◌+◌, ◌*◌, ◌%◌, ◌^◌, ◌<◌, ◌≤◌, Bool, true, false, List, [], ◌∷◌, map, drop, Option, Some, None, is_some, refl, sym, ap, ◌∙◌, subst, arith}
+use Rattle.std.proofs.Common.{◌≡◌, inl, inr, ℕ, ◌+◌, ◌*◌, ◌%◌, ◌^◌, ◌<◌, ◌≤◌, Bool, true, false, List, [], ◌∷◌, length, map, drop, Option, Some, None, is_some, refl, sym, ap, ◌∙◌, subst, arith}
 use Rattle.std.specs.Prelude.{◌==◌, ◌||◌, if◌then◌else◌, option_and_then, slice_index}
 use Rattle.std.specs.Option.{option_map_or}
 use Rattle.std.proofs.lemmas.Bool.{eq-eqb, ne_eqb, false≢true, or_left, or_right, cases_Bool, cases_eq}
@@ -71,9 +71,9 @@ module _ (cipher : CipherMeaning) (C : Config) (side : Side) (r : SessionRecord)
   zero_out : AllAway 0 p.rest
   zero_out = no_zero cipher C side r a fit mirrors own bytes
 
-  -- how a packet of a header comes
-  abbrev arrival : RtpHeader → Arrival
-  arrival h = arrival_of r.state.types time h
+  -- how a packet of a header comes with a payload
+  abbrev arrival : RtpHeader → List ℕ → Arrival
+  arrival h l = arrival_of r.state.types time h (length l)
 
   -- what a stream is told as, in a turn
   abbrev Turn : SessionRecord → RtpHeader → ℕ → List ℕ → Type 0
@@ -130,13 +130,13 @@ module _ (cipher : CipherMeaning) (C : Config) (side : Side) (r : SessionRecord)
         (or_left (p.head.0.ssrc == 0) (is_known r.state.types h.payload_type) (eq-eqb p.head.0.ssrc 0 head_ssrc))
         (sym probe_number.1) (subst (λ (m : ℕ). is_fresh (begun_taken (lists_in p.head.1)) m ≡ true) probe_number.1 probe_number.0)
 
-    probe_rx : real_opened (seen_of h.ssrc r.seen) (arrival h) h.ssrc n r.rx ≡ r.rx
-    probe_rx = ap (λ b. if b then r.rx else change_at h.ssrc (opened_as (seen_of h.ssrc r.seen) (arrival h) n) r.rx) (eq-eqb h.ssrc 0 zero)
+    probe_rx : real_opened (seen_of h.ssrc r.seen) (arrival h (cut_here h payload)) h.ssrc n r.rx ≡ r.rx
+    probe_rx = ap (λ b. if b then r.rx else change_at h.ssrc (opened_as (seen_of h.ssrc r.seen) (arrival h (cut_here h payload)) n) r.rx) (eq-eqb h.ssrc 0 zero)
 
-    probe_first : probes_opened (seen_of h.ssrc r.seen) (arrival h) h.ssrc n r.probes ≡ opened_as (seen_of p.head.0.ssrc r.seen) (arrival h) n r.probes
+    probe_first : probes_opened (seen_of h.ssrc r.seen) (arrival h (cut_here h payload)) h.ssrc n r.probes ≡ opened_as (seen_of p.head.0.ssrc r.seen) (arrival h (cut_here h payload)) n r.probes
     probe_first =
-        ap (λ b. if b then opened_as (seen_of h.ssrc r.seen) (arrival h) n r.probes else r.probes) (eq-eqb h.ssrc 0 zero)
-        ∙ ap (λ (j : ℕ). opened_as (seen_of j r.seen) (arrival h) n r.probes) (zero ∙ sym head_ssrc)
+        ap (λ b. if b then opened_as (seen_of h.ssrc r.seen) (arrival h (cut_here h payload)) n r.probes else r.probes) (eq-eqb h.ssrc 0 zero)
+        ∙ ap (λ (j : ℕ). opened_as (seen_of j r.seen) (arrival h (cut_here h payload)) n r.probes) (zero ∙ sym head_ssrc)
 
     probe_seen : saw h.ssrc n r.seen ≡ saw p.head.0.ssrc n r.seen
     probe_seen = ap (λ (j : ℕ). saw j n r.seen) (zero ∙ sym head_ssrc)
@@ -164,15 +164,15 @@ module _ (cipher : CipherMeaning) (C : Config) (side : Side) (r : SessionRecord)
         turn_from cipher C side r a fit mirrors own bytes time le h n payload p.head (subst (IsIn p.head) (sym p.is) (inl refl)) probe_comes probe_opens (record {
           packet = None;
           rx = r.rx;
-          first = opened_as (seen_of p.head.0.ssrc r.seen) (arrival h) n r.probes;
+          first = opened_as (seen_of p.head.0.ssrc r.seen) (arrival h (cut_here h payload)) n r.probes;
           seen = saw p.head.0.ssrc n r.seen;
           is = λ j. made r (probe_packet j) (probe_rx j) (probe_first j) (probe_seen j);
-          streams = streams_first cipher C side r a fit mirrors own bytes time le h n payload p None (saw p.head.0.ssrc n r.seen) (opened_as (seen_of p.head.0.ssrc r.seen) (arrival h) n r.probes)
+          streams = streams_first cipher C side r a fit mirrors own bytes time le h n payload p None (saw p.head.0.ssrc n r.seen) (opened_as (seen_of p.head.0.ssrc r.seen) (arrival h (cut_here h payload)) n r.probes)
               (rx_first (time + C.threshold) n p.head.1)
               (subst (λ (j : ℕ). AllAway j p.rest) (sym zero) zero_out)
               (λ z t k none. others_same k p.head.0.ssrc n (subst (λ (j : ℕ). concerns t.0 j ≡ false) (zero ∙ sym head_ssrc) none))
               probe_moved
-              (first_opened p.mirrors (arrival h) n early fit.threshold head_line);
+              (first_opened p.mirrors (arrival h (cut_here h payload)) n early fit.threshold head_line);
           told = ap (map yielded) probe_yields;
         })
 
@@ -244,14 +244,14 @@ module _ (cipher : CipherMeaning) (C : Config) (side : Side) (r : SessionRecord)
           (or_left (is_some (place_of h.payload_type r.state.types)) (is_some (primary_type_of r.state.types h.payload_type)) placed_type))
           (sym first_number.1) (subst (λ (m : ℕ). is_fresh (begun_taken (lists_in s.1)) m ≡ true) first_number.1 first_number.0)
 
-      first_rx : real_opened (seen_of h.ssrc r.seen) (arrival h) h.ssrc n r.rx ≡ change_place (opened_as (seen_of s.0.ssrc r.seen) (arrival h) n) r.rx spot.place
+      first_rx : real_opened (seen_of h.ssrc r.seen) (arrival h (cut_here h payload)) h.ssrc n r.rx ≡ change_place (opened_as (seen_of s.0.ssrc r.seen) (arrival h (cut_here h payload)) n) r.rx spot.place
       first_rx =
-          ap (λ b. if b then r.rx else change_at h.ssrc (opened_as (seen_of h.ssrc r.seen) (arrival h) n) r.rx) (ne_eqb h.ssrc 0 nonzero)
-          ∙ ap (λ (j : ℕ). change_at j (opened_as (seen_of j r.seen) (arrival h) n) r.rx) is
-          ∙ changed (opened_as (seen_of s.0.ssrc r.seen) (arrival h) n)
+          ap (λ b. if b then r.rx else change_at h.ssrc (opened_as (seen_of h.ssrc r.seen) (arrival h (cut_here h payload)) n) r.rx) (ne_eqb h.ssrc 0 nonzero)
+          ∙ ap (λ (j : ℕ). change_at j (opened_as (seen_of j r.seen) (arrival h (cut_here h payload)) n) r.rx) is
+          ∙ changed (opened_as (seen_of s.0.ssrc r.seen) (arrival h (cut_here h payload)) n)
 
-      first_probes : probes_opened (seen_of h.ssrc r.seen) (arrival h) h.ssrc n r.probes ≡ r.probes
-      first_probes = ap (λ b. if b then opened_as (seen_of h.ssrc r.seen) (arrival h) n r.probes else r.probes) (ne_eqb h.ssrc 0 nonzero)
+      first_probes : probes_opened (seen_of h.ssrc r.seen) (arrival h (cut_here h payload)) h.ssrc n r.probes ≡ r.probes
+      first_probes = ap (λ b. if b then opened_as (seen_of h.ssrc r.seen) (arrival h (cut_here h payload)) n r.probes else r.probes) (ne_eqb h.ssrc 0 nonzero)
 
       first_seen : saw h.ssrc n r.seen ≡ saw s.0.ssrc n r.seen
       first_seen = ap (λ (j : ℕ). saw j n r.seen) is
@@ -282,15 +282,15 @@ module _ (cipher : CipherMeaning) (C : Config) (side : Side) (r : SessionRecord)
       first_turn =
           turn_from cipher C side r a fit mirrors own bytes time le h n payload s in_table first_comes opens_first (record {
             packet = Some (packet_from time h n (cut_here h payload));
-            rx = change_place (opened_as (seen_of s.0.ssrc r.seen) (arrival h) n) r.rx spot.place;
+            rx = change_place (opened_as (seen_of s.0.ssrc r.seen) (arrival h (cut_here h payload)) n) r.rx spot.place;
             first = r.probes;
             seen = saw s.0.ssrc n r.seen;
             is = λ j. made r (first_told j) (first_rx j) (first_probes j) (first_seen j);
             streams = streams_at cipher C side r a fit mirrors own bytes time le h n payload p (Some (packet_from time h n (cut_here h payload))) (saw s.0.ssrc n r.seen)
-                (opened_as (seen_of s.0.ssrc r.seen) (arrival h) n) (rx_first (time + C.threshold) n s.1) spot.at of away
+                (opened_as (seen_of s.0.ssrc r.seen) (arrival h (cut_here h payload)) n) (rx_first (time + C.threshold) n s.1) spot.at of away
                 (λ x t k strange. others_same k s.0.ssrc n (strange s.0.ssrc (concerns_main s.0)))
                 first_moved
-                (first_opened stands.mirrors (arrival h) n early fit.threshold spot.line)
+                (first_opened stands.mirrors (arrival h (cut_here h payload)) n early fit.threshold spot.line)
                 refl;
             told = ap (map yielded) first_yields;
           })
@@ -372,7 +372,7 @@ module _ (cipher : CipherMeaning) (C : Config) (side : Side) (r : SessionRecord)
 
         -- how the packet that is restored came
         abbrev arrival_restored : Arrival
-        arrival_restored = arrival (restored_header r.state.types s.0.ssrc low h)
+        arrival_restored = arrival (restored_header r.state.types s.0.ssrc low h) (drop 2 carried)
 
         abbrev original : StreamRx → StreamRx
         original x = after_restored (seen_of s.0.ssrc seen_own) arrival_restored low x

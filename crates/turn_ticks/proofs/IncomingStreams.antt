@@ -3,7 +3,8 @@ use Rattle.std.proofs.Common.{◌≡◌, ℕ, Bool, true, false, List, [], ◌�
 use Rattle.std.specs.Prelude.{◌&&◌, ◌||◌, not, if◌then◌else◌}
 use Rattle.std.specs.List.{AllZip}
 use Rattle.repair_core.specs.Rounds.{Heard, wait_of}
-use Rattle.stream_core.specs.Missing.{pending_in, is_enabled, any_enabled, asked_in}
+use Rattle.repair_core.specs.Entries.{packed}
+use Rattle.stream_core.specs.Missing.{pending_in, is_enabled, any_enabled, due_in, asked_in, with_nacked}
 use Rattle.stream_core.specs.Pauses.{is_over, checked, on_record, told as stream_told}
 use Rattle.stream_core.specs.Reporting.{is_among, with_told, after_report, after_front, rx_after, after_with}
 use Rattle.stream_core.specs.RxRecord.{RxState, RxRecord as StreamRx}
@@ -34,7 +35,11 @@ abbrev checked_by : Bool → RxState → RxState
 checked_by b s = if b then record s { pause_at = None; untold = true } else s
 
 abbrev asked_by : ℕ → Bool → Bool → StreamRx → StreamRx
-asked_by now b e x = if b then (if e then record x { numbers = asked_in now x.state.trip x.numbers } else x) else x
+asked_by now b e x =
+    if b then (if e then record x {
+      state = with_nacked (packed None (due_in now x.state.trip x.numbers)) x.state;
+      numbers = asked_in now x.state.trip x.numbers;
+    } else x) else x
 
 asked_same : (now : ℕ) (trip : Option ℕ) (o : Option Heard) → asked_in now trip o ≡ plain_asked_in now (Some (wait_of trip)) o
 asked_same now trip None = refl

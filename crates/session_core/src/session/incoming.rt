@@ -2,7 +2,7 @@
 ghost use Rattle.std.specs.Prelude.{◌≡◌, ◌==◌, ◌<◌, ◌^◌, ◌↔◌, ◌||◌, ℕ, List, Some, None, true, false, length, drop, is_none, is_some, IfSome, OnOk, is_err, IsTrue, IfOk, IfErr, IfNone, OnErr, IsErrOf};
 ghost use Rattle.rtp_wire.specs.Header.{header_of};
 ghost use Rattle.rtcp_wire.specs.declared.rtcp_fb.RtcpFb.{RtcpFb};
-ghost use Rattle.session_core.specs.Hearing.{ReceivesRtcp, acknowledged};
+ghost use Rattle.session_core.specs.Hearing.{ReceivesRtcp, tx_heard};
 ghost use Rattle.std.specs.Map.{keys_of};
 ghost use Rattle.std.specs.Option.{ForSome};
 ghost use Rattle.stream_core.specs.Seen.{seen_of};
@@ -19,7 +19,7 @@ use crate::datagram::Opened;
 use crate::error::RtcError;
 use crate::feedback::sender;
 use crate::hearing::{
-    RtcpOpening, acknowledge_all, ask_all, feedback_in, hear, last_delay, measure, open_rtcp,
+    RtcpOpening, tell_all, ask_all, feedback_in, hear, last_delay, measure, open_rtcp,
 };
 use crate::mapping::{first_opening, is_nowhere, is_standing, rids_for, unseen_number};
 use crate::receiving::{Opening, accepts, arrival, is_claimed, open, put_packet, take};
@@ -270,7 +270,7 @@ impl<C: SrtpCipher, W: GapWindow, S: ResendStore<Sent>> Session<C, W, S> {
         ensures runs { self.new.state.stopped ≡ self.old.state.stopped }
         ensures err { OnErr result (self.new ≡ record self.old { rx = self.new.rx; probes = self.new.probes; seen = self.new.seen }) }
     {
-        let came = arrival(&self.types, now, header);
+        let came = arrival(&self.types, now, header, payload.len());
         take(
             place,
             &came,
@@ -326,7 +326,7 @@ impl<C: SrtpCipher, W: GapWindow, S: ResendStore<Sent>> Session<C, W, S> {
     {
         let greatest = self.seen.get(original);
         let number = self.streams.restored_number_at(place, low, &greatest);
-        let came = restored_arrival(&self.types, now, header);
+        let came = restored_arrival(&self.types, now, header, payload.len());
         let fresh = self.streams.restore_at(place, low, &came, greatest)?;
         self.seen.put(original, number)?;
         put_restored(
@@ -473,7 +473,7 @@ impl<C: SrtpCipher, W: GapWindow, S: ResendStore<Sent>> Session<C, W, S> {
           state = record (stopped_from self.old.state) { tx = self.new.state.tx; moments = self.new.state.moments; news = self.new.state.news };
           repairs = self.new.repairs;
         } }
-        ensures heard { IsErrOf result Memory → (told : List RtcpFb) × (self.new.state.tx ≡ acknowledged told self.old.state.tx) }
+        ensures heard { IsErrOf result Memory → (told : List RtcpFb) × (self.new.state.tx ≡ tx_heard told self.old.state.tx) }
     {
         if self.stopped {
             return Err(RtcError::Stopped);
@@ -496,7 +496,7 @@ impl<C: SrtpCipher, W: GapWindow, S: ResendStore<Sent>> Session<C, W, S> {
           state = record self.old.state { tx = self.new.state.tx; moments = self.new.state.moments; news = self.new.state.news };
           repairs = self.new.repairs;
         }) }
-        ensures heard { OnErr result ((told : List RtcpFb) × (self.new.state.tx ≡ acknowledged told self.old.state.tx)) }
+        ensures heard { OnErr result ((told : List RtcpFb) × (self.new.state.tx ≡ tx_heard told self.old.state.tx)) }
     {
         let Some(RtcpOpening { plain, index }) = open_rtcp(&mut self.opening, bytes)? else {
             return Ok(None);
@@ -507,7 +507,7 @@ impl<C: SrtpCipher, W: GapWindow, S: ResendStore<Sent>> Session<C, W, S> {
         ask_all(feedback.as_slice(), &mut self.streams, now)?;
         take_moments(feedback.as_slice(), now, &mut self.moments)?;
         self.news.hear(&self.streams, feedback.as_slice(), now)?;
-        acknowledge_all(feedback.as_slice(), &mut self.streams)?;
+        tell_all(feedback.as_slice(), &mut self.streams)?;
         let ntp = now.to_ntp_duration(&self.transport.beginning);
         measure(ntp, &delay, &mut self.streams);
         hear(feedback, now, &mut self.streams, &mut self.application);

@@ -1,9 +1,11 @@
-//! What reports tell of the streams of both ends: the names of sources (RFC 3550 section 6.5), and what was lost
-//! of the packets that an end sent (section 6.4.1). All are from SSRC 43.
+//! What streams know by reports: the names of sources (RFC 3550 section 6.5), what was lost of the packets that an
+//! end sent (section 6.4.1), and what is counted of both. All that comes is from SSRC 43.
 use crate::reports::steps::Row;
 use crate::reports::steps::Step::{
-    Adds, Expects, Hears, Keeps, Lost, Moves, Named, Sends, Tick, Writes,
+    Adds, Asks, Comes, Expects, Frames, Hears, Keeps, Lost, Moves, Named, Received, Repaired,
+    Sends, Sent, Tick, Writes,
 };
+use rtp_base::KeyframeRequestKind::{Fir, Pli};
 use session_core::MediaKind::Video;
 
 // SSRC 43 is named cam.
@@ -33,8 +35,74 @@ const FIFTH_LOST: &[u8] = &[
     0, 0, 0, 0,
 ];
 
+// SSRC 43 asks for the number 1 of SSRC 42, for a picture of it, and for one by a full intra request.
+const ASKS: &[u8] = &[
+    0x81, 0xcd, 0, 3, 0, 0, 0, 43, 0, 0, 0, 42, 0, 1, 0, 0, 0x81, 0xce, 0, 2, 0, 0, 0, 43, 0, 0, 0,
+    42, 0x84, 0xce, 0, 4, 0, 0, 0, 43, 0, 0, 0, 0, 0, 0, 0, 42, 1, 0, 0, 0,
+];
+
+// SSRC 2 asks SSRC 43 for a picture, by a full intra request numbered 0, and for the number 2.
+const PICTURE: &[u8] = &[0x81, 0xce, 0, 2, 0, 0, 0, 2, 0, 0, 0, 43];
+
+const INTRA: &[u8] = &[
+    0x84, 0xce, 0, 4, 0, 0, 0, 2, 0, 0, 0, 0, 0, 0, 0, 43, 0, 0, 0, 0,
+];
+
+const MISSING: &[u8] = &[0x81, 0xcd, 0, 3, 0, 0, 0, 2, 0, 0, 0, 43, 0, 2, 0, 0];
+
 /// What streams know by reports.
-pub const HEARD: [Row; 3] = [
+pub const HEARD: [Row; 6] = [
+    (
+        "what is sent and asked for",
+        &[
+            Adds(b'v', Video, b""),
+            Sends(42, 0, b'v'),
+            Sends(44, 0, b'v'),
+            Writes(42, 0, 1),
+            Sent(42, [0, 0, 0, 0, 0]),
+            Tick(1, &[]),
+            Sent(42, [1, 2, 0, 0, 0]),
+            Hears(2, ASKS),
+            Sent(42, [1, 2, 1, 1, 1]),
+            Hears(3, ASKS),
+            Sent(42, [1, 2, 2, 2, 2]),
+            Sent(44, [0, 0, 0, 0, 0]),
+        ],
+    ),
+    (
+        "what comes, repairs too",
+        &[
+            Expects(43, 47, b'v'),
+            Expects(45, 0, b'v'),
+            Comes(1, 43, 5, 0),
+            Received(43, [1, 2, 0, 0, 0]),
+            Comes(1, 43, 7, 0),
+            Repaired(2, 47, 6),
+            Received(43, [3, 6, 0, 0, 0]),
+            Received(45, [0, 0, 0, 0, 0]),
+            Moves(43, 41),
+            Received(41, [3, 6, 0, 0, 0]),
+        ],
+    ),
+    (
+        "what is asked of a sender",
+        &[
+            Asks(43, 0, b'v'),
+            Frames(43, Pli),
+            Received(43, [0, 0, 0, 0, 0]),
+            Tick(1, PICTURE),
+            Received(43, [0, 0, 0, 1, 0]),
+            Frames(43, Fir),
+            Tick(2, INTRA),
+            Received(43, [0, 0, 0, 1, 1]),
+            Comes(3, 43, 1, 0),
+            Comes(4, 43, 3, 0),
+            Tick(40_000_000, MISSING),
+            Received(43, [2, 4, 1, 1, 1]),
+            Tick(80_000_000, &[]),
+            Received(43, [2, 4, 1, 1, 1]),
+        ],
+    ),
     (
         "the name of a source, and of no other",
         &[

@@ -6,6 +6,7 @@ use crate::packets::{head, hears, joined, opens, seal_numbered};
 use crate::telling::{Told, drains, mid_of, tells};
 use mapping_core::{MainChange, Mapping};
 use media_base::{Bitrate, Instant};
+use report_core::StreamStats;
 use rtp_base::{Frequency, KeyframeRequestKind, Kind, MediaTime, MidRid, Pt, SeqNo, Ssrc};
 use session_core::MediaKind;
 use std::alloc::Global;
@@ -45,6 +46,10 @@ pub enum Step {
     Keeps(u8),
     /// What is told as lost of that stream, and of how much, if anything is.
     Lost(u8, Option<(u64, u64)>),
+    /// What is counted of the stream that sends on an SSRC: packets, bytes, NACK and PLI items, FIR entries.
+    Sent(u8, [u64; 5]),
+    /// The same of the stream that receives on an SSRC.
+    Received(u8, [u64; 5]),
     /// The name of the source of the stream that receives on an SSRC, without bytes where none is known.
     Named(u8, &'static [u8]),
     /// The last RTP time of the stream that receives on an SSRC, in units of 90 kHz, if there is one.
@@ -144,6 +149,28 @@ fn is_lost(end: &mut End, low: u8, lost: Option<(u64, u64)>) -> bool {
     streams.tx_at(place).visit_loss() == wanted
 }
 
+fn is_counted(stats: &StreamStats, wanted: &[u64; 5]) -> bool {
+    let traffic = [stats.traffic.packets, stats.traffic.bytes];
+    let asked = [stats.nacks, stats.plis, stats.firs];
+    traffic == [wanted[0], wanted[1]] && asked == [wanted[2], wanted[3], wanted[4]]
+}
+
+fn sent_counts(end: &mut End, low: u8, wanted: &[u64; 5]) -> bool {
+    let streams = streams(end);
+    match streams.tx_place(ssrc(low)) {
+        Some(place) => is_counted(&streams.tx(place).stats(), wanted),
+        None => false,
+    }
+}
+
+fn received_counts(end: &mut End, low: u8, wanted: &[u64; 5]) -> bool {
+    let streams = streams(end);
+    match streams.rx_place(ssrc(low)) {
+        Some(place) => is_counted(&streams.rx(place).stats(), wanted),
+        None => false,
+    }
+}
+
 fn is_named(end: &mut End, low: u8, name: &[u8]) -> bool {
     let streams = streams(end);
     let Some(place) = streams.rx_place(ssrc(low)) else {
@@ -225,6 +252,8 @@ fn streams_go(alloc: Global, end: &mut End, step: Step) -> bool {
         Step::Silent(low) => streams(end).tx_place(ssrc(low)).is_none(),
         Step::Keeps(low) => keeps(alloc, end, low),
         Step::Lost(low, lost) => is_lost(end, low, lost),
+        Step::Sent(low, counts) => sent_counts(end, low, &counts),
+        Step::Received(low, counts) => received_counts(end, low, &counts),
         Step::Named(low, name) => is_named(end, low, name),
         _ => false,
     }

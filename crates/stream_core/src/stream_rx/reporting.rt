@@ -15,7 +15,7 @@ ghost use Rattle.stream_core.specs.RxRecord.{RxRecord, StandsFor};
 use super::StreamRx;
 use media_base::{Bitrate, Bytes, Instant, Listed};
 use repair_core::{GapWindow, ReceptionCounts};
-use report_core::{LastSenderReport, ReportIntervals, receiver_report};
+use report_core::{LastSenderReport, ReportIntervals, StreamStats, receiver_report};
 use rtcp_wire::{ReceiverReport, Rtcp, Sdes, SdesItem, SdesType, SenderInfo};
 use rtp_base::{KeyframeRequestKind, NackEntry, ReceptionReport, ReportList, Ssrc};
 use std::alloc::{AllocError, Global};
@@ -67,11 +67,11 @@ impl<W: GapWindow> StreamRx<W> {
 
     /// Asks for the missing numbers that are due, rising, in at most six entries (RFC 4585 section
     /// 6.2.1): none where it asks for nothing. A number is asked for at most five times, and again 5 ms
-    /// after the round trip; 100 ms stand for one that is not known.
+    /// after the round trip; 100 ms stand for one that is not known. Where it asks, that counts as one item.
     pub fn nack_report(&mut self, now: Instant) -> ReportList<NackEntry>
         ensures entries { (r : RxRecord) → StandsFor W.remembers self.old r → result ≡ packed None (due_of now r) }
         ensures asked { (r : RxRecord) → StandsFor W.remembers self.old r → StandsFor W.remembers self.new (after_round now r) }
-        ensures state { self.new.state ≡ self.old.state }
+        ensures state { self.new.state ≡ record self.old.state { reports = self.new.state.reports } }
         ensures few { length result ≤ 6 }
     {
         let mut reports = ReportList::new();
@@ -79,6 +79,7 @@ impl<W: GapWindow> StreamRx<W> {
             if let Some(window) = &mut self.window {
                 window.nack_reports(now, self.trip, &mut reports);
             }
+            self.reports.asked_again(reports.as_slice());
         }
         reports
     }
@@ -179,10 +180,11 @@ impl<W: GapWindow> StreamRx<W> {
             .push_items(alloc, sender_ssrc, self.ssrc, items)
     }
 
-    /// What it asked its sender was told.
+    /// What it asked its sender was told: a request for a key frame counts.
     pub(crate) fn told_requests(&mut self)
         ensures { self.new ≡ record self.old { state = with_told self.old.state } }
     {
+        self.reports.asked_for(self.requests.keyframe);
         self.requests.told();
     }
 
@@ -222,6 +224,14 @@ impl<W: GapWindow> StreamRx<W> {
             Some(name) => Some(name.as_slice()),
             None => None,
         }
+    }
+
+    /// What was counted since it was made: the packets that opened, repairs among them, with the bytes of
+    /// their payloads, and what it asked its sender for. Padding alone does not count.
+    pub fn stats(&self) -> StreamStats
+        ensures { result ≡ self.now.state.reports.stats }
+    {
+        self.reports.stats
     }
 
     /// What its sender reported last, None before it did.

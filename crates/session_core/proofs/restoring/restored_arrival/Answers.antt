@@ -8,5 +8,5 @@ returns c = λ original low.
     let h = c.args.header.now in
     let types = c.args.types.now in
     c.arrival.ensures
-    ∙ ap (λ (pt : ℕ). arrival_of types c.args.now (record h { payload_type = pt }))
+    ∙ ap (λ (pt : ℕ). arrival_of types c.args.now (record h { payload_type = pt }) c.args.bytes)
     (c.unwrap_or-restored.ensures ∙ ap (λ (o : Option ℕ). unwrap_or o h.payload_type) c.primary-repaired.ensures)

@@ -7,7 +7,7 @@ use Rattle.stream_core.specs.RxRecord.{StandsFor as StreamStandsFor}
 use Rattle.stream_core.specs.StreamsRecord.{StreamsView, StreamsRecord, StandsFor as StreamsStand}
 use Rattle.stream_core.specs.Tables.{Along}
 use Rattle.session_core.specs.declared.datagram.Opened.{Opened}
-use Rattle.session_core.specs.Hearing.{RtcpOpensIn, stated, rtcp_opening_of, feedback_in, acknowledged, last_application, last_delay, measured, ntp_of, after_rtcp, AskedByAll, ReceivesRtcp, opened, stays}
+use Rattle.session_core.specs.Hearing.{RtcpOpensIn, stated, rtcp_opening_of, feedback_in, tx_heard, last_application, last_delay, measured, ntp_of, after_rtcp, AskedByAll, ReceivesRtcp, opened, stays}
 use Rattle.session_core.specs.News.{news_heard}
 use Rattle.session_core.specs.Reports.{rx_heard, moments_heard}
 use Rattle.session_core.specs.SessionRecord.{streams_in, SessionState, StandsFor}
@@ -55,12 +55,12 @@ returns-clause-received g c = λ r h.
     let others = c.in_ok-ask_all.ensures.others in
     let fs = c.as_slice-6.result.now in
     let told_by : fs ≡ feedback_in plain = c.as_slice-6.ensures.value ∙ heard in
-    let put : c.acknowledge_all.new.streams ≡ record (c.ask_all.new.streams) { tx = acknowledged fs c.ask_all.new.streams.tx } = c.in_ok-acknowledge_all.ensures.ok in
-    let between : StreamsRecord = record (streams_in r) { repairs = asked.0; tx = acknowledged fs r.state.tx } in
-    let acknowledged_so : StreamsStand g.W.GapWindow.remembers g.S.ResendStore.stands_for c.acknowledge_all.new.streams between =
+    let put : c.tell_all.new.streams ≡ record (c.ask_all.new.streams) { tx = tx_heard fs c.ask_all.new.streams.tx } = c.in_ok-tell_all.ensures.ok in
+    let between : StreamsRecord = record (streams_in r) { repairs = asked.0; tx = tx_heard fs r.state.tx } in
+    let told_so : StreamsStand g.W.GapWindow.remembers g.S.ResendStore.stands_for c.tell_all.new.streams between =
     subst (λ (v : StreamsView g.row.W.Denot g.row.S.Denot). StreamsStand g.W.GapWindow.remembers g.S.ResendStore.stands_for v between) (sym put)
-    (record { threshold = asked.2.threshold; rx = asked.2.rx; known = asked.2.known; tx = ap (acknowledged fs) asked.2.tx; repairs = asked.2.repairs }) in
-    let known = c.measure.ensures.streams between acknowledged_so in
+    (record { threshold = asked.2.threshold; rx = asked.2.rx; known = asked.2.known; tx = ap (tx_heard fs) asked.2.tx; repairs = asked.2.repairs }) in
+    let known = c.measure.ensures.streams between told_so in
     let reported = c.hear-2.ensures.streams (record between { rx = measured c.to_ntp_duration-ntp.result c.last_delay-delay.result r.rx }) known in
     let moments : c.take_moments.new.moments ≡ moments_heard now (feedback_in plain) c.self.inside.moments =
     c.in_ok-take_moments.ensures ∙ ap (λ (fs : List RtcpFb). moments_heard now fs c.self.inside.moments) (c.as_slice-4.ensures.value ∙ heard) in
@@ -71,11 +71,11 @@ returns-clause-received g c = λ r h.
     let threshold : c.hear-2.new.streams.threshold ≡ c.self.inside.streams.threshold =
     c.hear-2.ensures.threshold ∙ c.measure.ensures.threshold
     ∙ ap (λ (v : StreamsView g.row.W.Denot g.row.S.Denot). v.threshold) put ∙ ap (λ (v : StreamsView g.row.W.Denot g.row.S.Denot). v.threshold) others in
-    let tx : c.hear-2.new.streams.tx ≡ acknowledged (feedback_in plain) c.self.inside.streams.tx =
+    let tx : c.hear-2.new.streams.tx ≡ tx_heard (feedback_in plain) c.self.inside.streams.tx =
     c.hear-2.ensures.tx ∙ c.measure.ensures.tx
     ∙ ap (λ (v : StreamsView g.row.W.Denot g.row.S.Denot). v.tx) put
-    ∙ ap (λ (l : List RtcpFb). acknowledged l c.ask_all.new.streams.tx) told_by
-    ∙ ap (λ (v : StreamsView g.row.W.Denot g.row.S.Denot). acknowledged (feedback_in plain) v.tx) others in
+    ∙ ap (λ (l : List RtcpFb). tx_heard l c.ask_all.new.streams.tx) told_by
+    ∙ ap (λ (v : StreamsView g.row.W.Denot g.row.S.Denot). tx_heard (feedback_in plain) v.tx) others in
     let application : c.hear-2.new.application ≡ last_application (feedback_in plain) c.self.inside.application =
     c.hear-2.ensures.application ∙ ap (λ (fs : List RtcpFb). last_application fs c.self.inside.application) heard in
     let told : record { kind = Rtcp; ssrc = c.sender.result; index = c.from-2.result; plain = c.from_vec.result } ≡ rtcp_opening_of r.state.opening bytes plain =

@@ -1,4 +1,4 @@
-use Rattle.std.proofs.Common.{◌≡◌, Some, sym, ap, subst, ◌∙◌}
+use Rattle.std.proofs.Common.{◌≡◌, Some, length, sym, ap, subst, ◌∙◌}
 use Rattle.std.specs.Option.{option_map_or}
 use Rattle.stream_core.specs.RxRecord.{StandsFor as StreamStandsFor}
 use Rattle.stream_core.specs.RxRepairs.{after_restored}
@@ -27,8 +27,9 @@ returns-clause-ok g c = λ r h place.
     c.restored_number_at-number.ensures.number (streams_in r) original stands here ∙ ap (λ o. restored_number_on o r.rx original low) greatest in
     let fresh : c.in_ok-fresh.fresh ≡ restored_on (seen_of original r.seen) r.rx original low =
     c.in_ok-fresh.ensures.restored (streams_in r) original stands here ∙ ap (λ o. restored_on o r.rx original low) greatest in
-    let came : c.restored_arrival-came.result ≡ arrival_of r.state.types c.args.now (restored_header r.state.types original low c.args.header.now) =
-    c.restored_arrival-came.ensures original low ∙ ap (λ (s : SessionState). arrival_of s.types c.args.now (restored_header s.types original low c.args.header.now)) mine.state in
+    let came : c.restored_arrival-came.result ≡ arrival_of r.state.types c.args.now (restored_header r.state.types original low c.args.header.now) (length c.args.payload) =
+    c.restored_arrival-came.ensures original low ∙ ap (λ (s : SessionState). arrival_of s.types c.args.now (restored_header s.types original low c.args.header.now) c.len.result) mine.state
+    ∙ ap (arrival_of r.state.types c.args.now (restored_header r.state.types original low c.args.header.now)) c.len.ensures in
     let after = c.in_ok-fresh.ensures.after (streams_in r) original stands here in
     record {
       state = restored_state _ r.state c.restore_at.new.self.threshold c.restore_at.new.self.tx c.put_restored.new.packet

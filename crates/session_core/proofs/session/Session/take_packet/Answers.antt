@@ -1,4 +1,4 @@
-use Rattle.std.proofs.Common.{◌≡◌, Some, sym, ap, subst, ◌∙◌}
+use Rattle.std.proofs.Common.{◌≡◌, Some, length, sym, ap, subst, ◌∙◌}
 use Rattle.std.specs.Prelude.{IfSome}
 use Rattle.stream_core.specs.RxRecord.{StandsFor as StreamStandsFor}
 use Rattle.stream_core.specs.Seen.{seen_of}
@@ -20,7 +20,9 @@ returns-clause-ok g c = λ r p h memory probe place cuts.
     let here : IfSome c.args.place (λ i. place_of x.ssrc c.self.inside.streams.rx ≡ Some i) =
     subst (λ (v : SessionView g.row.W.Denot g.row.S.Denot). IfSome c.args.place (λ i. place_of x.ssrc v.rx ≡ Some i)) (sym c.self.view_is) place in
     let taken = c.in_ok-take.ensures.rx (streams_in r) x.ssrc (streams_stand R S _ r mine) probe here in
-    let came : c.arrival-came.result ≡ arrival_of r.state.types c.args.now x = c.arrival-came.ensures ∙ ap (λ (s : SessionState). arrival_of s.types c.args.now x) mine.state in
+    let came : c.arrival-came.result ≡ arrival_of r.state.types c.args.now x (length (cut x p)) =
+    c.arrival-came.ensures ∙ ap (λ (s : SessionState). arrival_of s.types c.args.now x c.len.result) mine.state
+    ∙ ap (arrival_of r.state.types c.args.now x) (c.len.ensures ∙ ap length cuts) in
     let packet : c.put_packet.new.packet ≡ packet_after c.args.now x n (cut x p) c.self.inside.packet =
     c.put_packet.ensures ∙ ap (λ l. packet_after c.args.now x n l c.self.inside.packet) cuts in
     record {

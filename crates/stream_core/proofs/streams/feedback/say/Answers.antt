@@ -17,7 +17,7 @@ pub returns-then-tick-clause-said : goal.returns-then-tick-clause-said
 returns-then-tick-clause-said g c = λ key r h.
     let t = c.args.tick.now in
     let k = c.front_said.ensures r h in
-    let ssrc = c.ssrc.ensures ∙ ap (λ (s : RxState). s.ssrc) (c.nack_report-entries.ensures.state ∙ k.state) in
+    let ssrc = c.ssrc.ensures ∙ ap (λ (s : RxState). s.ssrc) c.nack_report-entries.ensures.state ∙ ap (λ (s : RxState). s.ssrc) k.state in
     let entries = c.nack_report-entries.ensures.entries (after_front t c.args.reports r) k in
     let asked : nack_with t.sender_ssrc c.ssrc.result c.nack_report-entries.result ≡ (if t.is_round then nack_of t.sender_ssrc t.now (key, after_front t c.args.reports r) else []) =
     (λ j. nack_with t.sender_ssrc (ssrc j) (entries j)) ∙ ap (λ b. if b then nack_of t.sender_ssrc t.now (key, after_front t c.args.reports r) else []) (sym c.if-tick.true) in

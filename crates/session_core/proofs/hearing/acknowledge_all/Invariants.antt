@@ -1,6 +1,0 @@
-use Rattle.std.proofs.Common.{◌≡◌, take}
-use Rattle.session_core.specs.Hearing.{acknowledged}
-use Rattle.session_core.proofs.hearing.acknowledge_all.Given as goal
-
-abbrev pub invariant-loop-item : goal.invariant-loop-item
-invariant-loop-item g l = l.streams ≡ record l.fn.streams { tx = acknowledged (take l.item-index l.fn.feedback) l.fn.streams.tx }
