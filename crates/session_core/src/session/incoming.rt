@@ -19,7 +19,7 @@ use crate::datagram::Opened;
 use crate::error::RtcError;
 use crate::feedback::sender;
 use crate::hearing::{
-    RtcpOpening, tell_all, ask_all, feedback_in, hear, last_delay, measure, open_rtcp,
+    RtcpOpening, ask_all, feedback_in, hear, last_delay, measure, open_rtcp, tell_all,
 };
 use crate::mapping::{first_opening, is_nowhere, is_standing, rids_for, unseen_number};
 use crate::receiving::{Opening, accepts, arrival, is_claimed, open, put_packet, take};
