@@ -242,12 +242,12 @@ module _ (cipher : CipherMeaning) (k : SrtpState) (t : Transport) (now : ℕ) (m
 
   -- after it came it is told that the stream is unpaused, and then the packet
   told_then : (r : SessionRecord) (h : RtpHeader) (n : ℕ) (other : List ℕ) → Expects r → Reads h
-      → told (after_opened now h n other r) ≡ event.StreamPaused (pause_of (came_at (arrival_of r.state.types now h) n (awaited mid).state)) ∷ event.RtpPacket (packet_from now h n (cut h other)) ∷ []
+      → told (after_opened now h n other r) ≡ event.StreamPaused (pause_of (came_at (arrival_of r.state.types now h (length (cut h other))) n (awaited mid).state)) ∷ event.RtpPacket (packet_from now h n (cut h other)) ∷ []
   told_then r h n other x y =
       λ j.
       if x.keys j then []
       else option_to_list (option_map event.AppSpecificFeedback (x.application j))
-      ++ (map event.StreamPaused (pauses (rx_opened (seen_of (y.source j) (x.seen j)) (arrival_of r.state.types now h) (y.source j) n (x.rx j)))
+      ++ (map event.StreamPaused (pauses (rx_opened (seen_of (y.source j) (x.seen j)) (arrival_of r.state.types now h (length (cut h other))) (y.source j) n (x.rx j)))
       ++ (option_to_list (option_map event.RtpPacket (if y.source j == 0 then r.state.packet else Some (packet_from now h n (cut h other))))
       ++ news_told (x.news j)))
 
