@@ -452,8 +452,9 @@ impl<C: SrtpCipher, W: GapWindow, S: ResendStore<Sent>> Session<C, W, S> {
     /// requests for key frames, its sender reports and its greatest rates are told by `poll_event`. None
     /// where it does not open, and then nothing changes: where it is shorter than a packet of 8 bytes
     /// and what seals it, where its tag does not hold, and without keys. One that comes again opens
-    /// again. The time grows with its items and the numbers that they name, and with the number of
-    /// incoming streams where one gives the round trip.
+    /// again. The time grows with its items and the numbers that they name, with the number of incoming
+    /// streams where one gives the round trip, and with the blocks since losses were last looked at
+    /// where a stream keeps them.
     ///
     /// # Errors
     /// `Stopped` where an earlier call stopped the session; `Memory`.
