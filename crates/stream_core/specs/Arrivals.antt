@@ -41,6 +41,10 @@ nacked_of (x ∷ xs) t = record t { nacks = more t.nacks 1 }
 abbrev pub no_rx_reports : RxReports
 no_rx_reports = record { counts = no_counts; clock = record { last = 0 }; news = no_news; times = record { last = None }; stats = no_stats }
 
+-- all begins anew, but the statistics stay
+abbrev pub rx_reports_anew : RxReports → RxReports
+rx_reports_anew x = record no_rx_reports { stats = x.stats }
+
 -- a packet came under a fresh number
 abbrev pub with_arrival : Arrival → ℕ → RxReports → RxReports
 with_arrival a n x = record x { counts = counted n true (point_of a) x.counts; stats = counted_of a.payload_len x.stats }

@@ -12,7 +12,7 @@ use Rattle.stream_core.specs.declared.reports.Arrival.{Arrival}
 use Rattle.stream_core.specs.declared.reports.RxReports.{RxReports}
 use Rattle.stream_core.specs.declared.requests.RxRequests.{RxRequests}
 use Rattle.rtp_base.specs.declared.media_time.MediaTime.{MediaTime}
-use Rattle.stream_core.specs.Arrivals.{no_rx_reports, with_arrival, with_time, time_of, forgotten}
+use Rattle.stream_core.specs.Arrivals.{no_rx_reports, rx_reports_anew, with_arrival, with_time, time_of, forgotten}
 use Rattle.stream_core.specs.Requests.{no_requests}
 
 -- all of an incoming stream but its window: its SSRC and that of its repairs, the media section and the stream in it; the
@@ -147,10 +147,10 @@ restarted roc r = record {
 
 -- the packets of a stream come under another SSRC: what was taken of them and their times, how they came, what their sender
 -- reported and what it is asked are forgotten, and the next report is due as that of a stream that never reported; what was taken
--- of repairs stays
+-- of repairs, and the statistics, stay
 abbrev pub moved_to : ℕ → RxRecord → RxRecord
 moved_to ssrc r = record r {
-  state = record r.state { ssrc = ssrc; roc = None; reports = no_rx_reports; requests = no_requests };
+  state = record r.state { ssrc = ssrc; roc = None; reports = rx_reports_anew r.state.reports; requests = no_requests };
   numbers = None;
   recent = [];
 }

@@ -7,6 +7,7 @@ ghost use Rattle.stream_core.specs.Arrivals.{
   asked_of,
   nacked_of,
   no_rx_reports,
+  rx_reports_anew,
   with_arrival,
   with_late,
   with_time,
@@ -104,6 +105,15 @@ impl RxReports {
             times: TimeLine::new(),
             stats: StreamStats::new(),
         }
+    }
+
+    /// All begins anew, but the statistics stay.
+    pub(crate) fn reset(&mut self)
+        ensures { self.new ≡ rx_reports_anew self.old }
+    {
+        let stats = self.stats;
+        *self = RxReports::new();
+        self.stats = stats;
     }
 
     /// What opened counts, but padding alone.

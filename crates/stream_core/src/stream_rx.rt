@@ -495,13 +495,13 @@ impl<W: GapWindow> StreamRx<W> {
     /// Its packets come under another SSRC. What was taken of them, their times and how they came, a
     /// rollover count that was set, what its sender reported and what it is asked are forgotten, its next
     /// full intra request has the number 0, and its next report is due as that of a stream that never
-    /// reported. What was taken of its repairs stays.
+    /// reported. What was taken of its repairs stays, and so do its statistics.
     pub fn change_ssrc(&mut self, ssrc: Ssrc)
         ensures { (r : RxRecord) → StandsFor W.remembers self.old r → StandsFor W.remembers self.new (moved_to ssrc r) }
     {
         self.ssrc = ssrc;
         self.roc = None;
-        self.reports = RxReports::new();
+        self.reports.reset();
         self.requests = RxRequests::new();
         self.recent = RedMemory::new();
         self.forget_numbers();
