@@ -1,5 +1,5 @@
 //! Rounds on transport-wide feedback.
-use media_base::{DataSize, Instant};
+use media_units::{DataSize, Instant};
 use rtp_base::{SeqNo, Ssrc, TwccPacketId};
 use std::alloc::{AllocError, Global};
 use twcc_core::{Twcc, TwccRecvRegister, TwccSendRegister, read_twcc, write_twcc};

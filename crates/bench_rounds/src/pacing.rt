@@ -1,5 +1,5 @@
 //! Rounds on the pacers.
-use media_base::{Bitrate, DataSize, Duration, Instant};
+use media_units::{Bitrate, DataSize, Duration, Instant};
 use pace_core::{LeakyBucketPacer, NullPacer, Pacer};
 use pace_units::{QueuePriority, QueueSnapshot, QueueState};
 use rtp_base::{Mid, MidRid, Rid};

@@ -1,7 +1,7 @@
 //! Rounds on the registers of received numbers.
 ghost use Rattle.std.specs.Prelude.{◌<◌, ◌^◌};
 
-use media_base::Instant;
+use media_units::Instant;
 use repair_core::{GapWindow, ReceiverRegister};
 use rtp_base::{NackEntry, ReportList, SeqNo};
 use std::alloc::{AllocError, Global};

@@ -1,7 +1,7 @@
 //! Rounds on the stores of sent packets.
 ghost use Rattle.std.specs.Prelude.{◌<◌};
 
-use media_base::{Duration, Instant};
+use media_units::{Duration, Instant};
 use resend_core::{Cached, ResendStore, RtxCache};
 use rtp_base::SeqNo;
 use std::alloc::{AllocError, Global};

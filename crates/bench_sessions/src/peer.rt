@@ -1,5 +1,5 @@
 // One end of a connection, as rounds use it.
-use media_base::Instant;
+use media_units::Instant;
 use rtp_base::MidRid;
 use session_core::Datagram;
 use std::alloc::{AllocError, Global};

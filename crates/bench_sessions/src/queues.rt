@@ -1,5 +1,5 @@
 //! Rounds on the queue of packets that wait to be sealed.
-use media_base::Instant;
+use media_units::Instant;
 use rtp_base::{Frequency, MediaTime, SeqNo};
 use rtp_wire::{ExtensionMap, RtpHeader};
 use std::alloc::{AllocError, Global};

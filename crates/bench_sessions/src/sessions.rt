@@ -1,7 +1,7 @@
 //! Rounds on sessions: one stream, the toy cipher under AEAD_AES_128_GCM, and the register with a mask.
 use crate::end::End;
 use crate::peer::{Peer, Role, moment};
-use media_base::Instant;
+use media_units::Instant;
 use rtp_base::{Mid, MidRid};
 use session_core::Datagram;
 use std::alloc::{AllocError, Global};

@@ -11,8 +11,6 @@ mod mapped_streams;
 #[cfg(test)]
 mod repairs;
 #[cfg(test)]
-mod resending;
-#[cfg(test)]
 mod rtp_headers;
 #[cfg(test)]
 mod rtp_numbers;

@@ -2,101 +2,11 @@ ghost use Rattle.std.specs.Prelude.{◌≡◌, ℕ, ◌+◌, ◌<◌, ◌≤◌,
 ghost use Rattle.std.specs.List.{list_any};
 ghost use Rattle.repair_core.specs.Fresh.{greatest, is_fresh};
 
-use media_base::Instant;
+use media_units::Instant;
 use repair_core::{NackRegister, ReceiverRegister, expected, packets_lost};
 use rtp_base::{NackEntry, ReceptionReport, ReportList, SeqNo};
 use std::alloc::{AllocError, Global};
 use std::test::Fail;
-
-// The definition of a fresh number, as a program over the list of those that were taken.
-fn greatest_in(taken: &[u64]) -> u64
-    ensures { result ≡ greatest taken.now }
-{
-    match taken.split_first() {
-        Some((first, rest)) => (*first).max(greatest_in(rest)),
-        None => 0,
-    }
-}
-
-fn has_number(taken: &[u64], number: u64) -> bool
-    ensures { result ≡ list_any (nat_eq number) taken.now }
-{
-    taken.iter().any(|other| number == *other)
-}
-
-fn is_open(first: u64, greatest: u64, has: bool, number: u64) -> bool
-    requires { number < 2 ^ 48 }
-    ensures { result ≡ (nat_lt greatest number || (not has && (nat_le first number && nat_le greatest (number + 100)))) }
-{
-    greatest < number || (!has && first <= number && greatest <= number + 100)
-}
-
-fn is_fresh_in(taken: &[u64], number: u64) -> bool
-    requires { number < 2 ^ 48 }
-    ensures { result ≡ is_fresh taken.now number }
-{
-    match taken.split_first() {
-        Some((first, _)) => is_open(
-            *first,
-            greatest_in(taken),
-            has_number(taken, number),
-            number,
-        ),
-        None => true,
-    }
-}
-
-// Numbers that come one after another: jumps of 1, 100, 101, 102, 200, 201 and 65,536, numbers at
-// both ends of the window and below the first, replays, and numbers out of order.
-const CASES: [[u64; 6]; 40] = [
-    [1_000, 1_001, 901, 900, 1_001, 1_000],
-    [1_000, 1_050, 1_051, 951, 950, 1_050],
-    [0, 1, 0, 0, 2, 0],
-    [1_000, 999, 1_001, 1_000, 1_001, 1_102],
-    [1_001, 1_000, 1_002, 1_002, 1_101, 902],
-    [1_000, 1_100, 1_000, 999, 1_100, 1_099],
-    [1_000, 1_050, 1_150, 1_050, 1_049, 1_050],
-    [0, 100, 99, 0, 101, 1],
-    [1_000, 999, 1_100, 1_000, 1_001, 1_201],
-    [1_100, 1_000, 1_101, 1_200, 1_200, 1_100],
-    [1_000, 1_101, 1_001, 1_000, 1_101, 1_100],
-    [1_000, 1_050, 1_151, 1_051, 1_050, 1_050],
-    [0, 101, 100, 0, 102, 2],
-    [1_000, 999, 1_101, 1_000, 1_001, 1_202],
-    [1_101, 1_000, 1_102, 1_202, 1_201, 1_102],
-    [1_000, 1_102, 1_002, 1_001, 1_102, 1_101],
-    [1_000, 1_050, 1_152, 1_052, 1_051, 1_050],
-    [0, 102, 101, 0, 103, 3],
-    [1_000, 999, 1_102, 1_000, 1_001, 1_203],
-    [1_102, 1_000, 1_103, 1_204, 1_202, 1_104],
-    [1_000, 1_200, 1_100, 1_099, 1_200, 1_199],
-    [1_000, 1_050, 1_250, 1_150, 1_149, 1_050],
-    [0, 200, 199, 0, 201, 101],
-    [1_000, 999, 1_200, 1_000, 1_001, 1_301],
-    [1_200, 1_000, 1_201, 1_400, 1_300, 1_300],
-    [1_000, 1_201, 1_101, 1_100, 1_201, 1_200],
-    [1_000, 1_050, 1_251, 1_151, 1_150, 1_050],
-    [0, 201, 200, 0, 202, 102],
-    [1_000, 999, 1_201, 1_000, 1_001, 1_302],
-    [1_201, 1_000, 1_202, 1_402, 1_301, 1_302],
-    [1_000, 66_536, 66_436, 66_435, 66_536, 66_535],
-    [1_000, 1_050, 66_586, 66_486, 66_485, 1_050],
-    [0, 65_536, 65_535, 0, 65_537, 65_437],
-    [1_000, 999, 66_536, 1_000, 1_001, 66_637],
-    [66_536, 1_000, 66_537, 132_072, 66_636, 131_972],
-    [10, 10, 10, 11, 11, 12],
-    [10, 12, 11, 11, 10, 9],
-    [65_535, 65_536, 65_534, 65_535, 65_537, 65_436],
-    [
-        281_474_976_710_554,
-        281_474_976_710_655,
-        281_474_976_710_554,
-        281_474_976_710_555,
-        281_474_976_710_654,
-        281_474_976_710_655,
-    ],
-    [500, 601, 500, 501, 502, 601],
-];
 
 // A number of 48 bits.
 fn number_of(number: u64) -> SeqNo
@@ -111,70 +21,6 @@ fn is_number(last: Option<SeqNo>, number: Option<u64>) -> bool {
         (None, None) => true,
         _ => false,
     }
-}
-
-// Takes a number, and tells whether the register answers as the definition does.
-fn agrees(
-    register: &mut NackRegister,
-    taken: &mut Vec<u64>,
-    number: u64,
-) -> Result<bool, AllocError> {
-    let number = number % 0x1_0000_0000_0000;
-    let fresh = is_fresh_in(taken.as_slice(), number);
-    let accepted = register.accepts(SeqNo::from(number));
-    let updated = register.update(SeqNo::from(number));
-    if fresh {
-        taken.push(number)?;
-    }
-    let greatest = is_number(register.max_seq(), Some(greatest_in(taken.as_slice())));
-    Ok(accepted == fresh && updated == fresh && greatest)
-}
-
-// How many numbers of a case the register takes as defined, where these were taken before.
-fn agreed(
-    register: &mut NackRegister,
-    taken: &mut Vec<u64>,
-    case: &[u64; 6],
-) -> Result<usize, AllocError> {
-    for (at, number) in case.iter().enumerate() {
-        if !agrees(register, taken, *number)? {
-            return Ok(at);
-        }
-    }
-    Ok(case.len())
-}
-
-// The same of a fresh register.
-fn agreed_fresh(alloc: Global, case: &[u64; 6]) -> Result<usize, AllocError> {
-    let mut taken = Vec::new(alloc);
-    let mut register = NackRegister::new(alloc, None)?;
-    agreed(&mut register, &mut taken, case)
-}
-
-// The same of a register that remembers the first number.
-fn agreed_started(
-    alloc: Global,
-    register: &mut NackRegister,
-    case: &[u64; 6],
-) -> Result<usize, AllocError> {
-    let first = case[0] % 0x1_0000_0000_0000;
-    register.clear(Some(SeqNo::from(first)));
-    let mut taken = vec![in alloc; first]?;
-    agreed(register, &mut taken, case)
-}
-
-#[test]
-fn forty_cases(rt: HostRuntime) -> Result<(), Fail> {
-    let mut register = NackRegister::new(rt.alloc(), None)?;
-    for case in CASES.iter() {
-        let fresh = agreed_fresh(rt.alloc(), case)?;
-        let started = agreed_started(rt.alloc(), &mut register, case)?;
-        assert!(rt;
-            fresh == 6 && started == 6,
-            "{fresh} and {started} numbers of {case:?}"
-        );
-    }
-    Ok(())
 }
 
 /// What is asked of a register of missing numbers, and what it answers.

@@ -1,4 +1,4 @@
-use media_base::{Duration, Instant};
+use media_units::{Duration, Instant};
 use resend_core::EvictingBuffer;
 use std::alloc::{AllocError, Global};
 use std::test::Fail;

@@ -22,6 +22,7 @@ fn moments_saturate(rt: HostRuntime) {
 fn lengths_saturate(rt: HostRuntime) {
     let long = Duration::from_millis(1_500);
     assert!(rt; long.as_secs() == 1 && long.subsec_nanos() == 500_000_000);
+    assert!(rt; long.as_millis() == 1_500);
     assert!(rt; Duration::from_secs(u64::MAX).as_nanos() == u64::MAX);
     let short = Duration::from_micros(7);
     assert!(rt; short.checked_sub(Duration::from_nanos(7_001)).is_none());

@@ -53,9 +53,6 @@ accepts_is w x n xs h =
       tests : (g : ℕ) (a b : Bool) → (n ≤ g → g ≤ n + 100 → a ≡ b) → (nat_lt g n || (nat_le x n && (nat_le g (n + 100) && not a))) ≡ (nat_lt g n || (not b && (nat_le x n && nat_le g (n + 100))))
       tests g a b same = grind (arith, nat_tests, same)
 
-pub fresh_near : (x n : ℕ) (l : List ℕ) → is_fresh (x ∷ l) n ≡ true → greatest (x ∷ l) ≤ n + 100
-fresh_near x n l f = grind (arith, nat_tests)
-
 pub takes_holds : (old new : Window) (x n : ℕ) (l : List ℕ) → Holds old x l → Takes old new n → Holds new x (l ++ n ∷ [])
 takes_holds old new x n l h t = record {
   low = t.first ∙ h.low;

@@ -3,7 +3,7 @@ ghost use Rattle.std.specs.Bool.{OnTrue};
 ghost use Rattle.mask_register.specs.Asks.{unasked, row_of, is_due_row, turned};
 
 use arrayvec::ArrayVec;
-use media_base::{Duration, Instant};
+use media_units::{Duration, Instant};
 use std::marker::Model;
 
 /// How often a missing number was asked for, and when last.

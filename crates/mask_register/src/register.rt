@@ -6,7 +6,7 @@ ghost use Rattle.mask_register.specs.MaskRegister.{rows_after, due_of, window_of
 
 use crate::asks::{Ask, Asks};
 use crate::window::Window;
-use media_base::{Duration, Instant};
+use media_units::{Duration, Instant};
 use repair_core::GapWindow;
 use repair_core::rounds::{Missing, grace, later, pack, wait};
 use rtp_base::{NackEntry, ReportList, SeqNo};

@@ -3,7 +3,3 @@ pub mod Causes
 pub mod Ends
 pub mod Memory
 pub mod Text
-pub use Rattle.media_units.specs.History
-pub use Rattle.media_units.specs.Soonest
-pub use Rattle.media_units.specs.Trip
-pub use Rattle.media_units.specs.Wallclock

@@ -1,5 +1,4 @@
-//! What every other crate stands on: bytes that contracts see as lists, the source and the sink of a
-//! program, and the moments and rates of `media_units`.
+//! Bytes and lists as contracts see them, patterns of bits, and the source and the sink of a program.
 #![tactic(auto)]
 
 mod bit_pattern;
@@ -13,11 +12,6 @@ mod std_ends;
 pub use bit_pattern::BitPattern;
 pub use bytes::Bytes;
 pub use listed::Listed;
-pub use media_units::{
-    Amount, Beginning, Bitrate, DataSize, Debt, Duration, Instant, InstantExt, SECONDS_1900,
-    Soonest, SystemTime, SystemTimeExt, ValueHistory, already_happened, calculate_rtt,
-    epoch_to_beginning, not_happening,
-};
 pub use memory::{MemSink, MemSource};
 pub use sink::{Sink, write_all};
 pub use source::{Failed, ReadError, Source, read_all};

@@ -19,7 +19,7 @@ use Rattle.run_model.specs.Runs.{Happening, events_of, on_side}
 use Rattle.run_model.specs.Transcripts.{happenings, outgoing_of}
 use Rattle.run_model.specs.TxPlay.{TxRecord}
 use Rattle.run_model.specs.Whole.{Session, session_of, indices, Ends, in_tick, IsSound}
-use Rattle.session_turns.specs.Packets.{IsUsedUpIn}
+use Rattle.run_model.specs.Tables.{IsUsedUpIn}
 use Rattle.media_laws.specs.declared.counter.Counter.{Counter}
 use Rattle.media_laws.specs.declared.counter.Counter.TheVariants.{Rtcp, Rtx}
 use Rattle.media_laws.specs.Config.{config_of}
@@ -30,7 +30,7 @@ use Rattle.media_laws.specs.Listing.{EachFrom}
 use Rattle.media_laws.specs.Opening.{Sealing}
 use Rattle.media_laws.specs.Play.{Plays, Played}
 use Rattle.media_laws.specs.Right.{IsRightSeal}
-use Rattle.media_laws.specs.WireLaws.{WireLaws}
+use Rattle.media_laws.proofs.WireLaws.{WireLaws}
 use Rattle.media_laws.proofs.Exactly.{first_sendings_are_yielded}
 use Rattle.media_laws.proofs.Fronts.{NoYields, yields_front}
 use Rattle.media_laws.proofs.Indices.{counts_length, counted_cut}

@@ -7,7 +7,7 @@ use Rattle.rtp_base.specs.declared.kind.Kind.{Kind}
 use Rattle.rtp_base.specs.declared.kind.Kind.TheVariants.{Rtp, Rtcp}
 use Rattle.repair_core.specs.Fresh.{greatest_of, is_fresh}
 use Rattle.setup_rules.specs.SetupRules.{setup_fault}
-use Rattle.session_turns.specs.Reading.{read_of}
+use Rattle.run_model.specs.Transcripts.{read_of, plain_in, sealed_event, opened_event, happening_of, happenings}
 use Rattle.media_model.specs.declared.entry.Packet.{Packet}
 use Rattle.media_model.specs.declared.entry.Side.{Side}
 use Rattle.media_model.specs.declared.entry.Write.{Write as Writing}
@@ -24,8 +24,7 @@ use Rattle.run_model.specs.Events.{Plain, Event, got as event_got, sealed, yield
 use Rattle.run_model.specs.Listing.{IsIn, NoRepeat}
 use Rattle.run_model.specs.Runs.{Happening, on_side}
 use Rattle.run_model.specs.Seals.{IsSeal}
-use Rattle.run_model.specs.Sending.{numbers, number_of, sendings, sending_of, sending_on, first_sendings}
-use Rattle.run_model.specs.Transcripts.{plain_in, sealed_event, opened_event, happening_of, happenings}
+use Rattle.run_model.specs.Sending.{number_of, sendings, sending_of, sending_on, first_sendings}
 use Rattle.run_model.specs.Whole.{IsSound, IsPlainWrite, Session, session_of, Turns}
 use Rattle.media_laws.proofs.RunExactly.{runs_yield_exactly}
 use Rattle.media_laws.proofs.Lists.{IsIn-map, IsIn-from_map, IsIn-flat_map}
@@ -35,13 +34,14 @@ use Rattle.media_laws.specs.Opening.{Sealing}
 use Rattle.media_laws.specs.Plain.{extensions_of, Carries, as_packet}
 use Rattle.media_laws.specs.Play.{AreEntriesOf, wrote, ticked, called, requested, got, Plays}
 use Rattle.media_laws.specs.Right.{IsSealOf}
-use Rattle.media_laws.specs.WireLaws.{WireLaws}
+use Rattle.media_laws.proofs.WireLaws.{WireLaws}
 use Rattle.media_laws.proofs.Playing.{as_run, Taken, each_step, heads}
 use Rattle.media_laws.proofs.Readings.{event_in, sealed_happens}
 use Rattle.media_laws.proofs.Sendings.{as_ended, right_kind, plain_is, unpadded_plain, carries_write, all_right, Sent, sent_at, sent_written, sending_there, write_ssrc}
 use Rattle.media_laws.proofs.Soundness.{sound_heads, sound_types}
 use Rattle.media_laws.proofs.Writes.{writes_fit, type_claimed, type_primary}
 use Rattle.media_laws.proofs.Yields.{read_yield}
+use Rattle.media_laws.proofs.TxTracks.{numbers}
 
 -- a packet among the events of some entries is yielded among these
 yield_read : (setup : Setup) (side : Side) (packet : Packet) (new : List Event) (es : List Entry) → happenings setup es ≡ on_side side new → IsIn (yielded packet) new → IsIn (Yielded side packet) es

@@ -9,7 +9,7 @@ use Rattle.media_laws.specs.Config.{config_of}
 use Rattle.media_laws.specs.Headline.{HoldsOfRun}
 use Rattle.media_laws.specs.Opening.{Sealing}
 use Rattle.media_laws.specs.Play.{Plays}
-use Rattle.media_laws.specs.WireLaws.{WireLaws}
+use Rattle.media_laws.proofs.WireLaws.{WireLaws}
 use Rattle.media_laws.proofs.Exactly.{first_sendings_are_yielded}
 use Rattle.media_laws.proofs.Playing.{steps_are_answered, seals_are_right}
 use Rattle.media_laws.proofs.Sendings.{as_ended, no_nonce_twice, sends_writes}

@@ -1,3 +1,4 @@
+pub mod WireLaws
 pub mod Lists
 pub mod Stores
 pub mod TxTracks

@@ -7,7 +7,7 @@ use Rattle.std.proofs.lemmas.List.{map-append}
 use Rattle.media_model.specs.declared.entry.Write.{Write}
 use Rattle.run_model.specs.Events.{Plain, Event, wrote, ticked, called, got, sealed, sealed_items, opened, opened_items, yielded, Types, Outgoing}
 use Rattle.run_model.specs.Listing.{IsIn, NoRepeat}
-use Rattle.run_model.specs.Sending.{is_just, number_of, sending_on, first_sendings, repair_on, repairs, sendings}
+use Rattle.run_model.specs.Sending.{number_of, sending_on, first_sendings, repair_on, repairs, sendings}
 use Rattle.run_model.specs.Seals.{Sealing}
 use Rattle.run_model.specs.TxPlay.{TxRecord, IsApart, TxEnds}
 use Rattle.std.proofs.lemmas.List.Concat.{flat_map-append}
@@ -18,6 +18,7 @@ use Rattle.media_laws.proofs.TxTracks.{first, numbered}
 use Rattle.media_laws.proofs.TxPlays.{streams_send_writes}
 use Rattle.media_laws.proofs.TxSeals.{ends_seal}
 use Rattle.media_laws.proofs.Tables.{AllEnd, Ended, ended, ends_known}
+use Rattle.rtp_base.specs.Window.{is_just}
 
 -- the numbers under one SSRC
 

@@ -21,7 +21,7 @@ use Rattle.media_model.specs.Sides.{same_side}
 use Rattle.run_model.specs.Events.{Plain, Event, wrote, ticked, called, got, sealed, opened, opened_items, yielded, Incoming}
 use Rattle.run_model.specs.Listing.{IsIn, NoRepeat}
 use Rattle.run_model.specs.Receiving.{packet_on, packets_on}
-use Rattle.run_model.specs.Runs.{Happening, event_of, events_of}
+use Rattle.run_model.specs.Runs.{Happening, event_of}
 use Rattle.run_model.specs.Sending.{write_on as event_write, writes_on as event_writes}
 use Rattle.run_model.specs.Tables.{nonce_of, nonces as event_nonces}
 use Rattle.run_model.specs.Transcripts.{plain_in, sealed_event, opened_event, happening_of, happenings}
@@ -29,10 +29,6 @@ use Rattle.run_model.specs.Whole.{index_of, indices}
 use Rattle.media_laws.proofs.Lists.{IsIn-map, IsIn-from_map, IsIn-flat_map, IsIn-from_flat_map, tested}
 use Rattle.media_laws.specs.Headline.{past_of}
 use Rattle.media_laws.specs.Plain.{extensions_of}
-use Rattle.media_laws.proofs.Playing.{happenings-more}
-
-pub past-more : (setup : Setup) (side : Side) (xs ys : List Entry) → past_of setup side (xs ++ ys) ≡ past_of setup side xs ++ past_of setup side ys
-past-more setup side xs ys = ap (events_of side) (happenings-more setup xs ys) ∙ flat_map-append (event_of side) (happenings setup xs) (happenings setup ys)
 
 pub same_is : (a b : Side) → same_side a b ≡ true → a ≡ b
 same_is A A e = refl

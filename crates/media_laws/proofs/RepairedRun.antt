@@ -17,7 +17,7 @@ use Rattle.run_model.specs.Listing.{IsIn}
 use Rattle.run_model.specs.Sending.{Carries, Kept, wanted, sending_of, repair_of}
 use Rattle.run_model.specs.Seals.{Sealing, Reporting, IsSeal, IsReport}
 use Rattle.run_model.specs.Transcripts.{types_of}
-use Rattle.rtcp_wire.specs.declared.extended.DlrrItem.{DlrrItem as Delay}
+use Rattle.rtcp_items.specs.declared.extended.DlrrItem.{DlrrItem as Delay}
 use Rattle.run_model.specs.TxPlay.{stored, sends, resends, Queues, none as none_queued, held}
 use Rattle.run_model.specs.Asking.{none as nothing_asked, asks, owes_nothing}
 use Rattle.run_model.specs.Tables.{has, AreApart, rests, reports, more, here, none as none_heard, one}

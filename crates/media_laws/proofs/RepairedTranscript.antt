@@ -48,7 +48,7 @@ use Rattle.media_model.specs.Sides.{peer_of}
 use Rattle.media_model.specs.Entries.{last_got}
 use Rattle.media_model.specs.declared.entry.Got.{Got as GotEntry}
 use Rattle.media_laws.specs.Keys.{is_left, sealing_of}
-use Rattle.media_laws.specs.WireLaws.{WireLaws}
+use Rattle.media_laws.proofs.WireLaws.{WireLaws}
 
 fine : setup_fault setup ≡ None
 fine = refl

@@ -13,7 +13,7 @@ use Rattle.media_model.specs.declared.entry.Write.{Write}
 use Rattle.media_model.specs.declared.entry.Packet.{Packet}
 use Rattle.run_model.specs.Events.{as_packet, Plain, Event, wrote, ticked, called, got, sealed, sealed_items, opened, opened_items, yielded, Types, Outgoing, Incoming}
 use Rattle.run_model.specs.Listing.{IsIn}
-use Rattle.run_model.specs.Sending.{is_just, sendings, nothing_sent, sending_on, first_sendings, write_on, writes_on, sending_of, Carries}
+use Rattle.run_model.specs.Sending.{sendings, nothing_sent, sending_on, first_sendings, write_on, writes_on, sending_of, Carries}
 use Rattle.run_model.specs.Seals.{Sealing, IsSeal}
 use Rattle.run_model.specs.TxPlay.{is_sealing, TxRecord, IsApart, is_of, TxPlays, begun as tx_begun, step as tx_step}
 use Rattle.run_model.specs.Receiving.{Lists, concerns, is_repair, begun_taken, with_tried, restored, behind_two, list_step, lists, first_packet, restored_packet, repair_yields, yields, Opens, no_lists}
@@ -27,6 +27,7 @@ use Rattle.media_laws.proofs.TxTracks.{numbered}
 use Rattle.media_laws.proofs.TxPlays.{tracks, writes_are}
 use Rattle.media_laws.proofs.TxSeals.{plays_seal}
 use Rattle.media_laws.proofs.RxTracks.{rx_tracks}
+use Rattle.rtp_base.specs.Window.{is_just}
 
 -- sides
 

@@ -100,13 +100,6 @@ opened_begun T L x pause ssrc n p some =
 
 -- events that leave the lists as they are
 
-abbrev pub IsQuiet : Types → Incoming → Event → Type 0
-IsQuiet T L e = (l : Lists) → list_step T L l e ≡ l
-
-quiet_fold : (T : Types) (L : Incoming) (new : List Event) (l : Lists) → ((e : Event) → IsIn e new → IsQuiet T L e) → fold (list_step T L) l new ≡ l
-quiet_fold T L [] l all = refl
-quiet_fold T L (e ∷ new) l all = ap (λ k. fold (list_step T L) k new) (all e (inl refl) l) ∙ quiet_fold T L new l (λ f i. all f (inr i))
-
 yields_quiet : (T : Types) (L : Incoming) (ps : List Packet) (l : Lists) → fold (list_step T L) l (map yielded ps) ≡ l
 yields_quiet T L [] l = refl
 yields_quiet T L (p ∷ ps) l = yields_quiet T L ps l

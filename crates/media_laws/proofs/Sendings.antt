@@ -26,7 +26,7 @@ use Rattle.rtp_base.specs.Kind.{same_kind}
 use Rattle.run_model.specs.Events.{Plain, Event, sealed, Types, Outgoing}
 use Rattle.run_model.specs.Listing.{IsIn, NoRepeat}
 use Rattle.run_model.specs.Runs.{Happening, event_of, on_side}
-use Rattle.run_model.specs.Sending.{is_just, numbers, nothing_sent, Sendings, sendings, sending_of, sending_on, repair_on, repairs, first_sendings, is_cached, two_bytes, Carries as Repairs, Carry, nothing, one as and_one, Answers as Answering, AnswersPartly as AnsweringPartly}
+use Rattle.run_model.specs.Sending.{nothing_sent, Sendings, sendings, sending_of, sending_on, repair_on, repairs, first_sendings, is_cached, two_bytes, Carries as Repairs, Carry, nothing, one as and_one, Answers as Answering, AnswersPartly as AnsweringPartly}
 use Rattle.run_model.specs.Tables.{has as has_ssrc}
 use Rattle.run_model.specs.Transcripts.{plain_in, plain_of, no_plain, sealed_event, opened_event, happening_of, happenings, types_of, outgoing_of}
 use Rattle.run_model.specs.TxLaws.{SendsWrites as StreamSends}
@@ -46,6 +46,8 @@ use Rattle.media_laws.proofs.Playing.{packet_right, EachFrom-append, EachFrom-pl
 use Rattle.media_laws.proofs.Readings.{is_same, sealed_from, sealed_happens, writes_read, number_in, number_nonce, nonces_once}
 use Rattle.media_laws.proofs.Soundness.{apart_ends}
 use Rattle.media_laws.proofs.Streams.{ends_at, apart_at, repair_numbers, numbers_more, repairs_count, counts_at}
+use Rattle.media_laws.proofs.TxTracks.{numbers}
+use Rattle.rtp_base.specs.Window.{is_just}
 
 -- a run, as it is read, that ended after a step or within a tick
 abbrev pub AsEnded : Sealing → Setup → List Entry → Type 0

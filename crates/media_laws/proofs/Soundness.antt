@@ -8,7 +8,7 @@ use Rattle.std.proofs.lemmas.List.{take-append-drop}
 use Rattle.std.proofs.lemmas.List.Elements.{filter_map-append}
 use Rattle.rtp_wire.specs.declared.header.RtpHeader.{RtpHeader}
 use Rattle.srtp_core.specs.Keys.{material_len}
-use Rattle.session_turns.specs.Reading.{read_of}
+use Rattle.run_model.specs.Transcripts.{read_of, types_of, has_type, is_type, repairs_as, outgoing_as, outgoing_in}
 use Rattle.media_model.specs.declared.entry.Side.{Side}
 use Rattle.media_model.specs.declared.setup.PayloadType.{PayloadType}
 use Rattle.media_model.specs.declared.setup.Stream.{Stream}
@@ -23,16 +23,15 @@ use Rattle.run_model.specs.Events.{Plain, Outgoing}
 use Rattle.run_model.specs.Listing.{IsIn, NoRepeat}
 use Rattle.run_model.specs.Runs.{SealsApart, TypesPair}
 use Rattle.run_model.specs.Seals.{IsSeal}
-use Rattle.run_model.specs.Sending.{is_just}
 use Rattle.run_model.specs.Tables.{has, AllStrange, AreApart}
-use Rattle.run_model.specs.Transcripts.{types_of, has_type, is_type, repairs_as, outgoing_as, outgoing_in}
 use Rattle.run_model.specs.TxPlay.{IsApart}
 use Rattle.run_model.specs.Whole.{IsSound, HeadsApart}
 use Rattle.media_laws.proofs.Lists.{IsIn-left, IsIn-right, tested, any-from_in, in-from_any}
 use Rattle.media_laws.specs.Config.{rtp_sealing, config_of}
 use Rattle.media_laws.specs.Opening.{Sealing}
 use Rattle.media_laws.specs.Plain.{read_header}
-use Rattle.media_laws.specs.WireLaws.{WireLaws}
+use Rattle.media_laws.proofs.WireLaws.{WireLaws}
+use Rattle.rtp_base.specs.Window.{is_just}
 
 fault_none : (b : Bool) (fault : SetupFault) (other : Option SetupFault) → cond b (Some fault) other ≡ None → (b ≡ false) × (other ≡ None)
 fault_none true fault other e = absurd cc

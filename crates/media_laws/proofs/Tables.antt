@@ -8,12 +8,13 @@ use Rattle.media_model.specs.declared.entry.Write.{Write}
 use Rattle.rtcp_wire.specs.declared.rtcp_fb.RtcpFb.{RtcpFb}
 use Rattle.run_model.specs.Events.{Event, wrote, ticked, called, got, sealed, sealed_items, opened, opened_items, yielded, Types, Outgoing}
 use Rattle.run_model.specs.Listing.{IsIn}
-use Rattle.run_model.specs.Sending.{is_just, Sendings, sending_step, nothing_sent}
+use Rattle.run_model.specs.Sending.{Sendings, sending_step, nothing_sent}
 use Rattle.run_model.specs.Seals.{Sealing}
 use Rattle.run_model.specs.TxPlay.{TxRecord, new_tx, after_write, Polls, drops, misses, resends, sends, Serves, rests as tx_rests, polls, is_of, is_sealing, IsBeside, clock_step, AreBeside, TxStep, writes as tx_writes, ticks as tx_ticks, hears as tx_hears, passes as tx_passes, TxPlays, begun as tx_begun, step as tx_step, TxEnds, at_step as tx_at_step, in_tick as tx_in_tick}
 use Rattle.run_model.specs.Tables.{begun_at, Table, lines, clock, has, AllStrange, AreApart, PollsOne, here, there, AreIdle, ServesAll, rests, reports, more, written_to, IsUnused, Hears, none, one, IsElsewhere, AreElsewhere, SideStep, writes, ticks, hears, passes, SidePlays, begun, step, SideEnds, at_step, in_tick}
 use Rattle.media_laws.proofs.TxPlays.{step_clock}
 use Rattle.media_laws.proofs.Lists.{IsIn-append, filter-append, filter_all, filter_none, tested}
+use Rattle.rtp_base.specs.Window.{is_just}
 
 -- a poll brings datagrams of its own stream alone
 
@@ -97,9 +98,6 @@ shares_poll {T} {seal} {now} {events = events} {rest = rest} (there s p) apart (
     (shares_poll p apart.1.1 others)
 
 -- all that leaves
-
-is_quiet : (L : Outgoing) (index : ℕ) (items : List RtcpFb) → filter (is_of L) (sealed_items index items ∷ []) ≡ []
-is_quiet L index items = refl
 
 sealings-append : (xs ys : List Event) → ((e : Event) → IsIn e xs → is_sealing e ≡ true) → list_all is_sealing ys ≡ true → list_all is_sealing (xs ++ ys) ≡ true
 sealings-append [] ys all h = h

@@ -8,12 +8,13 @@ use Rattle.resend_core.specs.ResendStore.{Event as Stored, HeldAs, last_under}
 use Rattle.media_model.specs.declared.entry.Write.{Write}
 use Rattle.run_model.specs.Events.{Plain, Event, sealed, Types, Outgoing}
 use Rattle.run_model.specs.Listing.{IsIn, Leaves, ended, takes, skips}
-use Rattle.run_model.specs.Sending.{is_cached, is_just, Sendings, sending_step, cached, Kept, Carries, Carry, nothing, one, sending_of, repair_of, first_sendings, repairs}
+use Rattle.run_model.specs.Sending.{is_cached, Sendings, sending_step, cached, Kept, Carries, Carry, nothing, one, sending_of, repair_of, first_sendings, repairs}
 use Rattle.run_model.specs.Seals.{Sealing}
 use Rattle.run_model.specs.TxPlay.{IsApart, TxRecord, past_of, Caches, drops, misses, resends, sends, Serves, rests, polls}
 use Rattle.media_laws.proofs.Lists.{tested, leaves_again, leaves_same, leaves_front, front_nothing, back_nothing}
 use Rattle.media_laws.proofs.Stores.{LateFrom, held_was_sent, kept_is_held}
 use Rattle.media_laws.proofs.TxTracks.{Follows, follows_send, follows_repair, same_but_resends}
+use Rattle.rtp_base.specs.Window.{is_just}
 
 abbrev pub plain_of : Write → ℕ × Plain
 plain_of w = (w.number, sending_of w)

@@ -9,10 +9,11 @@ use Rattle.media_model.specs.declared.entry.Write.{Write}
 use Rattle.run_model.specs.Events.{Event, wrote, ticked, called, got, sealed, sealed_items, opened, opened_items, yielded, Types, Outgoing}
 use Rattle.run_model.specs.Listing.{IsIn}
 use Rattle.run_model.specs.Capping.{Logs, log_step, no_logs, logs, is_met, IsCapped, reading_after, reading_for}
-use Rattle.run_model.specs.Sending.{is_just, sending_of, repair_of, two_bytes}
+use Rattle.run_model.specs.Sending.{sending_of, repair_of, two_bytes}
 use Rattle.run_model.specs.Seals.{Sealing}
 use Rattle.run_model.specs.TxPlay.{TxRecord, begun_tick, drops, misses, resends, sends, Serves, rests, polls, is_of, is_sealing, IsApart, IsBeside, AreBeside, clock_step, TxStep, writes, ticks, hears, passes, TxPlays, begun, step}
 use Rattle.media_laws.proofs.Lists.{IsIn-left, IsIn-right, tested}
+use Rattle.rtp_base.specs.Window.{is_just}
 
 pub record Logged (L : Outgoing) (l : Logs) (t : TxRecord) : Type 0 where
   pub sent : t.sent ≡ l.sent

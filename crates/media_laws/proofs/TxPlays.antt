@@ -15,15 +15,16 @@ use Rattle.rtp_base.specs.declared.nack_entry.NackEntry.{NackEntry}
 use Rattle.run_model.specs.Events.{Plain, Event, wrote, ticked, called, got, sealed, sealed_items, opened, opened_items, yielded, Types, Outgoing}
 use Rattle.run_model.specs.Listing.{IsIn, NoRepeat, Leaves, ended, takes, skips}
 use Rattle.run_model.specs.Capping.{logs, IsCapped}
-use Rattle.run_model.specs.Sending.{is_just, number_of, numbers, Sendings, sending_step, sendings, nothing_sent, named_on, wanted, cached, is_cached, Carry, latest_from, is_sending, Kept, sending_on, first_sendings, repair_on, repairs, write_on, writes_on}
+use Rattle.run_model.specs.Sending.{number_of, Sendings, sending_step, sendings, nothing_sent, named_on, wanted, cached, is_cached, Carry, latest_from, is_sending, Kept, sending_on, first_sendings, repair_on, repairs, write_on, writes_on}
 use Rattle.run_model.specs.Seals.{Sealing}
 use Rattle.run_model.specs.TxPlay.{begun_tick, IsApart, TxRecord, new_tx, after_write, past_of, Serves, Drains, Queues, none, held, missing, is_of, is_sealing, IsBeside, clock_step, AreBeside, TxStep, writes, ticks, hears, passes, TxPlays, begun, step, TxEnds, at_step, in_tick}
 use Rattle.run_model.specs.TxLaws.{TicksAnswer, CutTicksAnswer, StreamsSendWrites}
 use Rattle.media_laws.proofs.Lists.{IsIn-left, tested, NoRepeat-push, leaves-append, leaves_again, leaves_where}
 use Rattle.media_laws.proofs.Stores.{Tells, nothing, LateFrom, is_last}
 use Rattle.media_laws.proofs.TxLogs.{Logged, capped_at, plays_logged}
-use Rattle.media_laws.proofs.TxTracks.{same_but_reading, Follows, numbered, same_but_resends}
+use Rattle.media_laws.proofs.TxTracks.{same_but_reading, Follows, numbered, same_but_resends, numbers}
 use Rattle.media_laws.proofs.TxDrains.{plain_of, leaves_nothing, Drained, drained, all_gone, all_answered, some_answered, late_filter, not_missed}
+use Rattle.rtp_base.specs.Window.{is_just}
 
 pub record Tracks (T : Types) (L : Outgoing) (events : List Event) (t : TxRecord) : Type 0 where
   pub follows : Follows T L (sendings L.ssrc events) (first_sendings L.ssrc events) (repairs L events) t
@@ -357,10 +358,6 @@ cut_ticks_answer T L seal t u events time new apart h at tick =
 no_repeat_left : {X : Type 0} (xs ys : List X) → NoRepeat (xs ++ ys) → NoRepeat xs
 no_repeat_left [] ys h = tt
 no_repeat_left (x ∷ xs) ys h = (λ i. h.0 (IsIn-left x xs ys i), no_repeat_left xs ys h.1)
-
-map-map : {X Y Z : Type 0} (g : Y → Z) (f : X → Y) (xs : List X) → map g (map f xs) ≡ map (λ x. g (f x)) xs
-map-map g f [] = refl
-map-map g f (x ∷ xs) = ap (λ zs. g (f x) ∷ zs) (map-map g f xs)
 
 -- the writes of the fold are those among the events
 pub writes_are : (m : ℕ) (events : List Event) (s : Sendings) → (fold (sending_step m) s events).writes ≡ s.writes ++ writes_on m events

@@ -7,11 +7,14 @@ use Rattle.resend_core.specs.ResendStore.{Event as Stored, pushed, evicted}
 use Rattle.media_model.specs.declared.entry.Write.{Write}
 use Rattle.run_model.specs.Events.{Plain, sealed, Types, Outgoing}
 use Rattle.run_model.specs.Listing.{IsIn, NoRepeat}
-use Rattle.run_model.specs.Sending.{number_of, numbers, is_numbered, Sendings, sending_step, cached, is_cached, latest_from, Carries, sending_of}
+use Rattle.run_model.specs.Sending.{number_of, is_numbered, Sendings, sending_step, cached, is_cached, latest_from, Carries, sending_of}
 use Rattle.run_model.specs.Capping.{Reading}
 use Rattle.run_model.specs.TxPlay.{TxRecord, Caches, ignored, stored}
 use Rattle.media_laws.proofs.Lists.{IsIn-left, IsIn-append, IsIn-map, IsIn-from_map, NoRepeat-push, filter-append, filter_all, filter_none, tested}
 use Rattle.media_laws.proofs.Stores.{Tells, one_more, LateFrom, late-push, latest-push}
+
+abbrev pub numbers : List Write → List ℕ
+numbers ws = map number_of ws
 
 abbrev pub snd : ℕ × Write → Write
 snd x = x.1

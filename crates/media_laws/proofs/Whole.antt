@@ -8,7 +8,7 @@ use Rattle.media_model.specs.declared.entry.Packet.{Packet}
 use Rattle.run_model.specs.Events.{Plain, Event, wrote, ticked, called, got, sealed, sealed_items, opened, opened_items, yielded, Types, Outgoing, Incoming}
 use Rattle.run_model.specs.Listing.{IsIn}
 use Rattle.run_model.specs.Capping.{IsCapped}
-use Rattle.run_model.specs.Sending.{is_just, sendings, nothing_sent, Answers, AnswersPartly}
+use Rattle.run_model.specs.Sending.{sendings, nothing_sent, Answers, AnswersPartly}
 use Rattle.run_model.specs.Seals.{Sealing}
 use Rattle.run_model.specs.TxPlay.{TxRecord, new_tx, is_of, is_sealing, clock_step, TxStep}
 use Rattle.run_model.specs.Receiving.{concerns, yields, Opens}
@@ -27,6 +27,7 @@ use Rattle.media_laws.proofs.RxYields.{YieldsNew, yields_new, none_twice}
 use Rattle.media_laws.proofs.RunYields.{events_more, events_same, rx_plays, streams_yield_writes}
 use Rattle.media_laws.proofs.Asks.{side_tracks, side_mains, mains, rounds_ask_the_due}
 use Rattle.media_laws.proofs.TxPlays.{ticks_answer, cut_ticks_answer}
+use Rattle.rtp_base.specs.Window.{is_just}
 
 -- what a turn is to the outgoing half, and to the incoming half
 

@@ -9,14 +9,14 @@ use Rattle.srtp_core.specs.Cipher.{CipherMeaning}
 use Rattle.srtp_core.specs.Keys.{session_keys}
 use Rattle.srtp_core.specs.Laws.{RtpSealsApart, RtpSealKeepsHeader}
 use Rattle.srtp_core.specs.Seals.{sealed_rtp}
-use Rattle.session_turns.specs.Reading.{len_in}
+use Rattle.run_model.specs.Transcripts.{len_in}
 use Rattle.media_model.specs.declared.entry.Side.{Side}
 use Rattle.media_model.specs.declared.entry.Write.{Write as Writing}
 use Rattle.media_model.specs.declared.setup.Setup.{Setup}
 use Rattle.media_model.specs.Setup.{material_of}
 use Rattle.media_laws.specs.Keys.{is_left, sealing_of}
 use Rattle.media_laws.specs.Plain.{extensions_of, read_header, Carries}
-use Rattle.media_laws.specs.WireLaws.{WireLaws}
+use Rattle.media_laws.proofs.WireLaws.{WireLaws}
 
 wire_count : (exts : ExtensionMap) (h : RtpHeader) → (wire_form exts h).csrc_count ≡ h.csrc_count
 unfolding wire_form

@@ -1,14 +1,13 @@
 -- The plain sessions of a setup.
 use Rattle.std.specs.Prelude.{ℕ, Bool, ◌==◌, ◌||◌, Option}
 use Rattle.media_units.specs.Wallclock.{ntp_nanos}
-use Rattle.rtcp_wire.specs.declared.extended.DlrrItem.{DlrrItem as Delay}
+use Rattle.rtcp_items.specs.declared.extended.DlrrItem.{DlrrItem as Delay}
 use Rattle.session_core.specs.Hearing.{trip_of}
-use Rattle.session_turns.specs.Reading.{reading}
+use Rattle.run_model.specs.Transcripts.{reading, feedback_in, types_of, outgoing_of}
 use Rattle.media_model.specs.declared.entry.Side.{Side}
 use Rattle.media_model.specs.declared.setup.Setup.{Setup}
 use Rattle.media_model.specs.Setup.{local_of, streams_of, extensions_of}
 use Rattle.run_model.specs.Seals.{Sealing as SideSealing, Reporting}
-use Rattle.run_model.specs.Transcripts.{feedback_in, types_of, outgoing_of}
 use Rattle.run_model.specs.Whole.{Config}
 use Rattle.media_laws.specs.Opening.{Sealing}
 use Rattle.media_laws.specs.Rules.{has}

@@ -12,10 +12,9 @@ use Rattle.media_model.specs.Entries.{sealed_numbers}
 use Rattle.run_model.specs.Events.{Event, Outgoing}
 use Rattle.run_model.specs.Listing.{IsIn}
 use Rattle.run_model.specs.Runs.{on_side}
-use Rattle.run_model.specs.Tables.{Table}
+use Rattle.run_model.specs.Tables.{Table, IsUsedUpIn}
 use Rattle.run_model.specs.Transcripts.{happenings, outgoing_of}
 use Rattle.run_model.specs.Whole.{Session, session_of, CutsOff}
-use Rattle.session_turns.specs.Packets.{IsUsedUpIn}
 use Rattle.media_laws.specs.declared.counter.Counter.{Counter}
 use Rattle.media_laws.specs.declared.counter.Counter.TheVariants.{Rtcp, Rtx}
 use Rattle.media_laws.specs.Config.{config_of}

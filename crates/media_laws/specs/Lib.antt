@@ -12,5 +12,3 @@ pub mod Right
 pub mod Play
 pub mod Exhausting
 pub mod Headline
-pub mod WireLaws
-pub mod Laws

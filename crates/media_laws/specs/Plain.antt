@@ -1,5 +1,5 @@
 -- A write as a plain datagram carries it, and as a packet.
-use Rattle.std.specs.Prelude.{◌≡◌, ◌≤◌, ℕ, ◌%◌, false, Option, Some, None, List, ◌++◌, drop}
+use Rattle.std.specs.Prelude.{◌≡◌, ◌≤◌, ℕ, ◌%◌, false, Option, Some, List, ◌++◌, drop}
 use Rattle.rtp_wire.specs.declared.extension.ExtensionMap.{ExtensionMap}
 use Rattle.rtp_wire.specs.declared.header.RtpHeader.{RtpHeader}
 use Rattle.rtp_wire.specs.Header.{header_of, header_bytes, wire_form, csrc_of}
@@ -11,11 +11,6 @@ use Rattle.media_model.specs.declared.entry.Packet.{Packet}
 -- the header at the front of the bytes, if one stands there
 abbrev pub read_header : Setup → List ℕ → Option RtpHeader
 read_header setup bytes = header_of (extensions_of setup) bytes
-
--- the length of a header, 0 where there is none
-abbrev pub len_of : Option RtpHeader → ℕ
-len_of None = 0
-len_of (Some header) = header.header_len
 
 -- A plain datagram carries a write: under this map it reads with the write's SSRC, the low 16 bits
 -- of its number, its type, time, marker and contributing sources, without padding; it is a header

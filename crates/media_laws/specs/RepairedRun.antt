@@ -18,7 +18,7 @@ use Rattle.media_model.specs.declared.setup.Setup.{Setup}
 use Rattle.media_model.specs.Setup.{local_of}
 use Rattle.media_model.specs.Sides.{peer_of}
 use Rattle.srtp_core.specs.declared.profile.SrtpProfile.TheVariants.{AeadAes128Gcm}
-use Rattle.rtcp_wire.specs.declared.extended.DlrrItem.{DlrrItem as Delay}
+use Rattle.rtcp_items.specs.declared.extended.DlrrItem.{DlrrItem as Delay}
 use Rattle.run_model.specs.Events.{as_packet, Plain, Event, ticked, got, sealed, opened, opened_items, yielded, Outgoing, Incoming}
 use Rattle.run_model.specs.Listing.{IsIn}
 use Rattle.run_model.specs.Capping.{IsCapped}

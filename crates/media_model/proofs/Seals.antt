@@ -1,12 +1,11 @@
 -- Whether the datagrams that were opened are the other side's seals.
-use Rattle.std.proofs.Common.{◌≡◌, ℕ, ◌+◌, ◌<◌, ◌≤◌, Bool, true, false, cond, ◌&&◌, ◌||◌, List, [], ◌∷◌, ◌++◌, length, take, drop, get_or, Option, Some, None, refl, sym, ap, ◌∙◌, add-one}
+use Rattle.std.proofs.Common.{◌≡◌, ℕ, ◌+◌, ◌<◌, ◌≤◌, Bool, true, false, cond, ◌&&◌, ◌||◌, List, [], ◌∷◌, ◌++◌, length, take, drop, get_or, Some, refl, sym, ap, ◌∙◌, add-one}
 use Rattle.std.specs.Prelude.{◌==◌}
-use Rattle.std.specs.List.{fold, list_any}
+use Rattle.std.specs.List.{list_any}
 use Rattle.std.specs.Str.{bytes_eq}
 use Rattle.std.specs.HashSet.{HashSet, contains}
 use Rattle.std.proofs.Math.Seq.{drop-cons}
-use Rattle.std.proofs.lemmas.List.{take_more, drop_all, take-append-drop}
-use Rattle.std.proofs.lemmas.List.Folds.{list_any-append}
+use Rattle.std.proofs.lemmas.List.{take_more, drop_all}
 use Rattle.media_model.specs.declared.entry.Side.{Side}
 use Rattle.media_model.specs.declared.entry.Side.TheVariants.{A, B}
 use Rattle.rtp_base.specs.declared.kind.Kind.{Kind}
@@ -20,27 +19,14 @@ use Rattle.media_model.specs.declared.genuine.Latest.{Latest}
 use Rattle.media_model.specs.contracts.entry.Side as side
 use Rattle.rtp_base.specs.contracts.kind.Kind as kind
 use denote.Enum.Bare.{sameb}
-use Rattle.media_model.specs.Entries.{got_after, last_got}
 use Rattle.media_model.specs.Seals.{same_seal, is_seal, HasSeals, latest_of, HasLatest}
 use Rattle.rtp_base.specs.Kind.{same_kind}
 use Rattle.media_model.specs.Sides.{peer_of, same_side}
 use Rattle.media_model.specs.Genuine.{seals, some_seals, is_genuine_after, genuine_from, is_genuine}
 
-fold_more : (side : Side) (last : Option (List ℕ)) (front : List Entry) (e : Entry) → fold (got_after side) last (front ++ e ∷ []) ≡ got_after side (fold (got_after side) last front) e
-fold_more side last [] e = refl
-fold_more side last (x ∷ front) e = fold_more side (got_after side last x) front e
-
--- one entry more
-pub last_more : (side : Side) (before : List Entry) (e : Entry) → last_got side (before ++ e ∷ []) ≡ got_after side (last_got side before) e
-last_more side before e = fold_more side None before e
-
 or_false : (b : Bool) → (b || false) ≡ b
 or_false true = refl
 or_false false = refl
-
-or_true : (b : Bool) → (b || true) ≡ true
-or_true true = refl
-or_true false = refl
 
 any_more : {X : Type 0} (test : X → Bool) (front : List X) (e : X) → list_any test (front ++ e ∷ []) ≡ (list_any test front || test e)
 any_more test [] e = or_false (test e)
@@ -115,15 +101,6 @@ module _ (entries : List Entry) (i : ℕ) (lt : i < length entries) (e : Entry) 
 
   pub back : drop i entries ≡ e ∷ drop (i + 1) entries
   back = drop-cons entries i e lt ∙ (λ j. sym is j ∷ drop (sym (add-one i) j) entries)
-
-  pub any_at : (test : Entry → Bool) → list_any test (take (i + 1) entries) ≡ (list_any test (take i entries) || test e)
-  any_at test = ap (list_any test) front_more ∙ any_more test (take i entries) e
-
-  pub any_on : (test : Entry → Bool) → test e ≡ true → list_any test entries ≡ true
-  any_on test yes' =
-      ap (list_any test) (sym (take-append-drop i entries)) ∙ list_any-append test (take i entries) (drop i entries)
-      ∙ ap (λ l. list_any test (take i entries) || list_any test l) back
-      ∙ ap (λ b. list_any test (take i entries) || (b || list_any test (drop (i + 1) entries))) yes' ∙ or_true (list_any test (take i entries))
 
   pub goes_on : is_genuine_after (take i entries) e ≡ true → (whole : Bool) → genuine_from (take i entries) (drop i entries) ≡ whole → genuine_from (take (i + 1) entries) (drop (i + 1) entries) ≡ whole
   unfolding genuine_from

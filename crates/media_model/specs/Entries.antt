@@ -1,6 +1,6 @@
 -- What is read off the entries of a run.
-use Rattle.std.specs.Prelude.{ℕ, Bool, true, false, cond, ◌&&◌, ◌==◌, not, filter, List, [], ◌∷◌, Option, Some, None, if◌then◌else◌}
-use Rattle.std.specs.List.{flat_map, fold, list_any}
+use Rattle.std.specs.Prelude.{ℕ, Bool, true, false, cond, ◌&&◌, ◌==◌, not, List, [], ◌∷◌, Option, Some, None, if◌then◌else◌}
+use Rattle.std.specs.List.{flat_map, fold}
 use Rattle.media_model.specs.declared.entry.Side.{Side}
 use Rattle.rtp_base.specs.declared.kind.Kind.{Kind}
 use Rattle.rtp_base.specs.declared.kind.Kind.TheVariants.{Rtp, Rtcp}
@@ -8,7 +8,7 @@ use Rattle.media_model.specs.declared.entry.Write.{Write}
 use Rattle.media_model.specs.declared.entry.Packet.{Packet}
 use Rattle.media_model.specs.declared.entry.Sealed.{Sealed as SealedEntry}
 use Rattle.media_model.specs.declared.entry.Entry.{Entry}
-use Rattle.media_model.specs.declared.entry.Entry.TheVariants.{Wrote, Ticked, Called, Got, Sealed, Opened, Yielded}
+use Rattle.media_model.specs.declared.entry.Entry.TheVariants.{Wrote, Ticked, Called, Got, Sealed, Yielded}
 use Rattle.rtp_base.specs.Kind.{same_kind}
 use Rattle.media_model.specs.Sides.{same_side}
 
@@ -60,14 +60,6 @@ nonce_by side _ = []
 abbrev pub nonces : Side → List Entry → List (Kind × ℕ × ℕ)
 nonces side entries = flat_map (nonce_by side) entries
 
--- the numbers that a side took on an SSRC: those of the RTP datagrams that it opened, in order
-abbrev pub taken_on : Side → ℕ → Entry → List ℕ
-taken_on side ssrc (Opened o) = cond (same_side side o.side && (same_kind Rtp o.kind && (o.ssrc == ssrc))) (o.index ∷ []) []
-taken_on side ssrc _ = []
-
-abbrev pub taken : Side → ℕ → List Entry → List ℕ
-taken side ssrc entries = flat_map (taken_on side ssrc) entries
-
 -- the datagram that came last to a side
 abbrev pub got_after : Side → Option (List ℕ) → Entry → Option (List ℕ)
 got_after side last (Got got) = if same_side side got.side then Some got.bytes else last
@@ -100,13 +92,6 @@ latest (t ∷ u ∷ ts) = latest (u ∷ ts)
 
 abbrev pub last_time : List Entry → ℕ
 last_time entries = latest (flat_map time_of entries)
-
--- the writes on an SSRC that were not sealed yet, in order
-abbrev pub is_sealed : List ℕ → Write → Bool
-is_sealed numbers write = list_any (λ n. n == write.number) numbers
-
-abbrev pub queued : Side → ℕ → List Entry → List Write
-queued side ssrc entries = filter (λ w. not (is_sealed (sealed_numbers side ssrc entries) w)) (writes_on side ssrc entries)
 
 -- whether an entry is a step, and not what a step brings
 abbrev pub is_step : Entry → Bool

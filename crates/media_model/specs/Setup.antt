@@ -16,6 +16,7 @@ use Rattle.media_model.specs.declared.setup.Stream.{Stream}
 use Rattle.media_model.specs.declared.setup.Media.{Media}
 use Rattle.media_model.specs.declared.setup.NamedExtension.{NamedExtension}
 use Rattle.media_model.specs.declared.setup.Cache.{Cache}
+use Rattle.media_model.specs.declared.setup.Mtu.{Mtu}
 use Rattle.media_model.specs.declared.setup.NamedCache.{NamedCache}
 use Rattle.media_model.specs.declared.setup.NamedStart.{NamedStart}
 use Rattle.media_model.specs.declared.setup.ReportTimes.{ReportTimes}
@@ -72,6 +73,10 @@ start_of ssrc setup = option_map_or (λ (s : NamedStart). s.number) (find (start
 -- 2,000 packets, each for 3 s, and 15 hundredths
 abbrev pub default_cache : Cache
 default_cache = record { packets = 2000; age = 3000000000; cap = Some 15 }
+
+-- 1,150 bytes of RTCP, and 1,280 at all
+abbrev pub default_mtu : Mtu
+default_mtu = record { target = 1150; warn = 1280 }
 
 -- 5 s for sound, and 1 s for pictures
 abbrev pub default_intervals : ReportTimes

@@ -2,7 +2,8 @@ ghost use Rattle.std.specs.Prelude.{◌≡◌, Some, IfOk};
 ghost use Rattle.media_model.specs.Sides.{peer_of};
 
 use crate::sources::Sources;
-use media_base::{Bytes, Instant};
+use media_base::Bytes;
+use media_units::Instant;
 use rtp_wire::{Kind, Pt, SeqNo, Ssrc};
 use std::alloc::{AllocError, Global};
 
@@ -49,7 +50,7 @@ pub struct Write {
 
 impl Write {
     /// The same write, with a copy of its contributing sources and of its payload.
-    pub fn copied(&self, alloc: Global) -> Result<Write, AllocError>
+    pub fn clone(&self, alloc: Global) -> Result<Write, AllocError>
         ensures { IfOk result (λ write. write ≡ self.now) }
     {
         Ok(Write {
@@ -59,7 +60,7 @@ impl Write {
             rtp_time: self.rtp_time,
             marker: self.marker,
             nackable: self.nackable,
-            csrc: self.csrc.copied(alloc)?,
+            csrc: self.csrc.clone(alloc)?,
             payload: Bytes::from_slice(alloc, self.payload.as_slice())?,
         })
     }

@@ -6,7 +6,8 @@ ghost use Rattle.media_model.specs.Setup.{local_of, material_of, streams_of, typ
 use crate::entry::Side;
 use crate::first_number::FirstNumber;
 use crate::srtcp_index::SrtcpIndex;
-use media_base::{Beginning, Bytes, Duration, Listed};
+use media_base::{Bytes, Listed};
+use media_units::{Beginning, Duration};
 use rtp_wire::{Extension, ExtensionMap, Mid, Pt, Rid, Ssrc};
 use srtp_core::SrtpProfile;
 use std::alloc::{AllocError, Global};
@@ -192,6 +193,20 @@ pub struct Mtu {
     pub warn: u64,
 }
 
+/// That where a script says nothing of it: 1,150 and 1,280 bytes.
+impl Default for Mtu {
+    ghost use Rattle.media_model.specs.Setup.{default_mtu};
+
+    ghost is_default = { λ m. m ≡ default_mtu };
+
+    fn default() -> Self {
+        Mtu {
+            target: 1_150,
+            warn: 1_280,
+        }
+    }
+}
+
 /// What one side alone brings to a run.
 #[derive(Clone, Copy, Debug, PartialEq, Eq)]
 pub struct Local {
@@ -239,6 +254,9 @@ pub struct Setup {
 }
 
 impl Setup {
+    /// The threshold of pauses where a script says nothing of it, in nanoseconds: 1.5 s.
+    pub const DEFAULT_PAUSE_NANOS: u64 = 1_500_000_000;
+
     /// The keying material, which may have another length than the profile asks for.
     pub fn material(&self, alloc: Global) -> Result<Vec<u8>, AllocError>
         ensures { IfOk result (λ v. v.items ≡ material_of self.now) }

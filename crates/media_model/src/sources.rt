@@ -64,7 +64,7 @@ impl Sources {
     }
 
     /// A copy of the sources.
-    pub fn copied(&self, alloc: Global) -> Result<Sources, AllocError>
+    pub fn clone(&self, alloc: Global) -> Result<Sources, AllocError>
         ensures { IfOk result (λ s. s ≡ self.now) }
     {
         match &self.kept {

@@ -1,6 +1,7 @@
 use crate::application::ApplicationData;
 use crate::entry::{Side, Write};
-use media_base::{Bitrate, Bytes, Instant};
+use media_base::Bytes;
+use media_units::{Bitrate, Instant};
 use rtp_base::KeyframeRequestKind;
 use rtp_wire::{Kind, Ssrc};
 

@@ -1,14 +1,14 @@
 -- Values under keys, and where a key stands.
-use Rattle.std.proofs.Common.{◌≡◌, inl, inr, ℕ, zero, suc, ◌<◌, ◌≤◌, true, false, cond, ltb, List, [], ◌∷◌, length, slice_get, nat_eq, Option, Some, None, refl, sym, ap, ◌∙◌, subst, arith}
+use Rattle.std.proofs.Common.{◌≡◌, inl, inr, ℕ, zero, suc, ◌<◌, ◌≤◌, true, false, cond, ltb, List, [], ◌∷◌, length, slice_get, nat_eq, Some, None, refl, sym, ap, ◌∙◌, subst, arith}
 use Rattle.std.specs.Prelude.{◌==◌, position}
-use Rattle.std.specs.List.{AllByRecursion, AllZip, position_or_len}
-use Rattle.std.specs.Map.{keys_of, values_of}
+use Rattle.std.specs.List.{AllZip, position_or_len}
+use Rattle.std.specs.Map.{values_of}
 use Rattle.std.specs.Option.{option_map}
 use Rattle.std.proofs.lemmas.Bool.{eqb-true, eq-eqb, lt-ltb, le-ltb, ltb-true, ltb-false, false≢true}
 use Rattle.std.proofs.lemmas.Option.{none-some, same_Some}
 use Rattle.indexmap.specs.IndexMap.{set_value_at}
 use Rattle.stream_core.specs.Tables.{change_place}
-use Rattle.media_laws.specs.Listing.{IsIn, NoRepeat}
+use Rattle.media_laws.specs.Listing.{IsIn}
 use Rattle.media_laws.specs.Rules.{has}
 use Rattle.media_play.proofs.Lists.{tested, any-from_in}
 
@@ -84,51 +84,6 @@ in_from_get x (y ∷ ys) (suc at) e = inr (in_from_get x ys at e)
 
 pub has_from_get : (n : ℕ) (ns : List ℕ) (at : ℕ) → slice_get ns at ≡ Some n → has ns n ≡ true
 has_from_get n ns at e = any-from_in (λ x. x == n) n ns (in_from_get n ns at e) (eq-eqb n n refl)
-
--- the place of a key that is there
-pub key_found : (k : ℕ) (ns : List ℕ) → has ns k ≡ true → (i : ℕ) × (position (nat_eq k) ns ≡ Some i)
-key_found k ns h = go (position (nat_eq k) ns) refl
-  where
-    go : (o : Option ℕ) → position (nat_eq k) ns ≡ o → (i : ℕ) × (position (nat_eq k) ns ≡ Some i)
-    go None e = absurd (false≢true (sym (key_absent k ns e) ∙ h))
-    go (Some i) e = (i, e)
-
--- what holds of all holds where it is weaker
-pub all_weaker : {X : Type 0} (P Q : X → Type 0) (xs : List X) → ((x : X) → IsIn x xs → P x → Q x) → AllByRecursion P xs → AllByRecursion Q xs
-all_weaker P Q [] says h = tt
-all_weaker P Q (x ∷ xs) says h = (says x (inl refl) h.0, all_weaker P Q xs (λ y i. says y (inr i)) h.1)
-
--- tables
-
-module _ {X : Type 0} where
-  pub keys_changed : (f : X → X) (es : List (ℕ × X)) (i : ℕ) → keys_of (change_place f es i) ≡ keys_of es
-  keys_changed f [] i = refl
-  keys_changed f (e ∷ es) zero = refl
-  keys_changed f (e ∷ es) (suc i) = ap (λ ns. e.0 ∷ ns) (keys_changed f es i)
-
-  pub key_in : (e : ℕ × X) (es : List (ℕ × X)) → IsIn e es → IsIn e.0 (keys_of es)
-  key_in e [] h = absurd h
-  key_in e (x ∷ es) (inl is) = inl (ap (λ (p : ℕ × X). p.0) is)
-  key_in e (x ∷ es) (inr i) = inr (key_in e es i)
-
-  -- the value under a key changes: what changes nothing at other keys holds of all after it
-  pub one_changes : (P Q : ℕ × X → Type 0) (f : X → X) (k : ℕ)
-      → ((e : ℕ × X) → (e.0 ≡ k → ⊥) → P e → Q e) → ((e : ℕ × X) → e.0 ≡ k → P e → Q (e.0, f e.1))
-      → (es : List (ℕ × X)) (i : ℕ) → NoRepeat (keys_of es) → slice_get (keys_of es) i ≡ Some k → AllByRecursion P es → AllByRecursion Q (change_place f es i)
-  one_changes P Q f k others here [] i distinct e h = absurd (none-some k e)
-  one_changes P Q f k others here (x ∷ es) zero distinct e h =
-      let is : x.0 ≡ k = same_Some x.0 k e in
-      (here x is h.0, all_weaker P Q es (λ z i. others z (λ same. distinct.0 (subst (λ n. IsIn n (keys_of es)) (same ∙ sym is) (key_in z es i)))) h.1)
-  one_changes P Q f k others here (x ∷ es) (suc i) distinct e h = (
-    others x (λ same. distinct.0 (subst (λ n. IsIn n (keys_of es)) (sym same) (in_from_get k (keys_of es) i e))) h.0,
-    one_changes P Q f k others here es i distinct.1 e h.1,
-  )
-
-  pub all_at : (P : ℕ × X → Type 0) (es : List (ℕ × X)) (i k : ℕ) → slice_get (keys_of es) i ≡ Some k → AllByRecursion P es
-      → (e : ℕ × X) × (e.0 ≡ k) × (slice_get (values_of es) i ≡ Some e.1) × P e
-  all_at P [] i k at h = absurd (none-some k at)
-  all_at P (e ∷ es) zero k at h = (e, same_Some e.0 k at, refl, h.0)
-  all_at P (e ∷ es) (suc i) k at h = all_at P es i k at h.1
 
 -- what goes along with a key
 pub zip_at : {A B : Type 0} (R : A → B → Type 0) (xs : List A) (ys : List B) (i : ℕ) (x : A) → slice_get xs i ≡ Some x → AllZip R xs ys

@@ -1,5 +1,5 @@
 -- What an end knows of a write, and what it knows after it.
-use Rattle.std.proofs.Common.{◌≡◌, inl, inr, ℕ, zero, suc, ◌<◌, ◌≤◌, ◌^◌, Bool, true, false, cond, not, ◌&&◌, ◌||◌, leb, ltb, List, [], ◌∷◌, ◌++◌, length, map, set, get_or, slice_get, Option, Some, None, is_some, refl, sym, ap, ◌∙◌, subst, arith}
+use Rattle.std.proofs.Common.{◌≡◌, inl, inr, ℕ, zero, suc, ◌<◌, ◌≤◌, ◌^◌, Bool, true, false, cond, ◌&&◌, ◌||◌, leb, ltb, List, [], ◌∷◌, ◌++◌, length, map, set, get_or, slice_get, Option, Some, None, is_some, refl, sym, ap, ◌∙◌, subst, arith}
 use Rattle.std.specs.Prelude.{◌==◌}
 use Rattle.std.specs.List.{list_any, flat_map, filter_map, AllZip}
 use Rattle.std.specs.Map.{keys_of}
@@ -77,15 +77,6 @@ pub rule_sources : (setup : Setup) (entries : List Entry) (side : Side) (w : Wri
     → ltb 15 (length w.csrc) ≡ true
     → write_fault setup entries side w ≡ Some TooManySources
 rule_sources setup entries side w stream type number used long many = rw (stream, type, number, used, long, many) refl
-
-pub unused : (setup : Setup) (entries : List Entry) (side : Side) (w : Writing) → write_fault setup entries side w ≡ None
-    → list_any (λ u. u.number == w.number) (writes_on side w.ssrc entries) ≡ false
-unused setup entries side w e =
-    let e1 = cond_none (not (has (streams_of side setup) w.ssrc)) UnknownStream _ e in
-    let e2 = cond_none (not (has (types_of setup) w.pt)) UnknownType _ e1.1 in
-    let e3 = cond_none (leb (2 ^ 48) w.number) NumberTooBig _ e2.1 in
-    let e4 = cond_none (list_any (λ u. u.number == w.number) (writes_on side w.ssrc entries)) NumberUsed _ e3.1 in
-    e4.0
 
 -- the streams of an end
 

@@ -1,9 +1,7 @@
 -- What stands in lists that are joined, mapped and filtered, and lists in which nothing stands twice.
-use Rattle.std.proofs.Common.{◌≡◌, ◌⊎◌, inl, inr, Bool, true, false, List, [], ◌∷◌, ◌++◌, map, refl, sym, ap, ◌∙◌, subst, append_assoc}
-use Rattle.std.specs.List.{flat_map, list_any, filter}
-use Rattle.std.proofs.lemmas.List.{append-nil}
-use Rattle.media_model.specs.declared.entry.Entry.{Entry}
-use Rattle.media_laws.specs.Listing.{IsIn, NoRepeat, EachFrom}
+use Rattle.std.proofs.Common.{◌≡◌, ◌⊎◌, inl, inr, Bool, true, false, List, [], ◌∷◌, ◌++◌, refl, sym, ap, ◌∙◌, subst}
+use Rattle.std.specs.List.{flat_map, list_any}
+use Rattle.media_laws.specs.Listing.{IsIn}
 
 pub IsIn-left : {X : Type 0} (x : X) (xs ys : List X) → IsIn x xs → IsIn x (xs ++ ys)
 IsIn-left x [] ys h = absurd h
@@ -19,50 +17,15 @@ IsIn-append x [] ys h = inr h
 IsIn-append x (y ∷ xs) ys (inl e) = inl (inl e)
 IsIn-append x (y ∷ xs) ys (inr h) = elim (IsIn-append x xs ys h) [ inl i ↦ inl (inr i) | inr i ↦ inr i ]
 
-pub IsIn-map : {X Y : Type 0} (f : X → Y) (x : X) (xs : List X) → IsIn x xs → IsIn (f x) (map f xs)
-IsIn-map f x [] h = absurd h
-IsIn-map f x (y ∷ xs) (inl e) = inl (ap f e)
-IsIn-map f x (y ∷ xs) (inr h) = inr (IsIn-map f x xs h)
-
-pub IsIn-from_map : {X Y : Type 0} (f : X → Y) (y : Y) (xs : List X) → IsIn y (map f xs) → (x : X) × IsIn x xs × (y ≡ f x)
-IsIn-from_map f y [] h = absurd h
-IsIn-from_map f y (x ∷ xs) (inl e) = (x, inl refl, e)
-IsIn-from_map f y (x ∷ xs) (inr h) = let r = IsIn-from_map f y xs h in (r.0, inr r.1, r.2)
-
 pub IsIn-flat_map : {X Y : Type 0} (f : X → List Y) (x : X) (y : Y) (xs : List X) → IsIn x xs → IsIn y (f x) → IsIn y (flat_map f xs)
 IsIn-flat_map f x y [] h i = absurd h
 IsIn-flat_map f x y (z ∷ xs) (inl e) i = IsIn-left y (f z) (flat_map f xs) (subst (λ w. IsIn y (f w)) e i)
 IsIn-flat_map f x y (z ∷ xs) (inr h) i = IsIn-right y (f z) (flat_map f xs) (IsIn-flat_map f x y xs h i)
 
-pub IsIn-from_flat_map : {X Y : Type 0} (f : X → List Y) (y : Y) (xs : List X) → IsIn y (flat_map f xs) → (x : X) × IsIn x xs × IsIn y (f x)
-IsIn-from_flat_map f y [] h = absurd h
-IsIn-from_flat_map f y (x ∷ xs) h =
-    elim (IsIn-append y (f x) (flat_map f xs) h) [
-      | inl i ↦ (x, inl refl, i)
-      | inr i ↦ let r = IsIn-from_flat_map f y xs i in (r.0, inr r.1, r.2)
-    ]
-
 -- what a test says is in `true` or in `false`
 pub tested : (b : Bool) → (b ≡ true) ⊎ (b ≡ false)
 tested true = inl refl
 tested false = inr refl
-
-pub IsIn-filter : {X : Type 0} (p : X → Bool) (x : X) (xs : List X) → IsIn x xs → p x ≡ true → IsIn x (filter p xs)
-IsIn-filter p x [] h e = absurd h
-IsIn-filter p x (y ∷ xs) (inl is) e = rw (ap p (sym is) ∙ e) (inl is)
-IsIn-filter p x (y ∷ xs) (inr h) e =
-    elim (tested (p y)) [
-      | inl t ↦ rw t (inr (IsIn-filter p x xs h e))
-      | inr t ↦ rw t (IsIn-filter p x xs h e)
-    ]
-
-pub IsIn-from_filter : {X : Type 0} (p : X → Bool) (x : X) (xs : List X) → IsIn x (filter p xs) → IsIn x xs × (p x ≡ true)
-IsIn-from_filter p x [] h = absurd h
-IsIn-from_filter p x (y ∷ xs) h =
-    elim (tested (p y)) [
-      | inl t ↦ elim (rw t at h) [ inl e ↦ (inl e, ap p e ∙ t) | inr i ↦ let r = IsIn-from_filter p x xs i in (inr r.0, r.1) ]
-      | inr t ↦ let r = IsIn-from_filter p x xs (rw t at h) in (inr r.0, r.1)
-    ]
 
 pub any-from_in : {X : Type 0} (p : X → Bool) (x : X) (xs : List X) → IsIn x xs → p x ≡ true → list_any p xs ≡ true
 any-from_in p x [] h e = absurd h
@@ -76,63 +39,3 @@ in-from_any p (y ∷ xs) h =
       | inl t ↦ (y, inl refl, t)
       | inr t ↦ let r = in-from_any p xs (rw t at h) in (r.0, inr r.1, r.2)
     ]
-
-pub NoRepeat-append : {X : Type 0} (xs ys : List X) → NoRepeat xs → NoRepeat ys → ((x : X) → IsIn x xs → IsIn x ys → ⊥) → NoRepeat (xs ++ ys)
-NoRepeat-append [] ys h k apart = k
-NoRepeat-append (x ∷ xs) ys h k apart = (
-  λ i. elim (IsIn-append x xs ys i) [ inl j ↦ h.0 j | inr j ↦ apart x (inl refl) j ],
-  NoRepeat-append xs ys h.1 k (λ z i j. apart z (inr i) j),
-)
-
-pub NoRepeat-push : {X : Type 0} (xs : List X) (x : X) → NoRepeat xs → (IsIn x xs → ⊥) → NoRepeat (xs ++ x ∷ [])
-NoRepeat-push xs x h new = NoRepeat-append xs (x ∷ []) h (λ i. i, tt) (λ y i j. elim j [ inl e ↦ new (subst (λ z. IsIn z xs) e i) | inr k ↦ k ])
-
--- what is told apart by one word is told apart by a word that says more
-pub NoRepeat-by : {X Y Z : Type 0} (f : X → Y) (g : X → Z) → ((a b : X) → f a ≡ f b → g a ≡ g b) → (xs : List X) → NoRepeat (map g xs) → NoRepeat (map f xs)
-NoRepeat-by f g says [] h = tt
-NoRepeat-by f g says (x ∷ xs) h = (
-  λ i. let r = IsIn-from_map f (f x) xs i in h.0 (subst (λ z. IsIn z (map g xs)) (sym (says x r.0 r.2)) (IsIn-map g r.0 xs r.1)),
-  NoRepeat-by f g says xs h.1,
-)
-
-pub NoRepeat-filter : {X Y : Type 0} (f : X → Y) (p : X → Bool) (xs : List X) → NoRepeat (map f xs) → NoRepeat (map f (filter p xs))
-NoRepeat-filter f p [] h = tt
-NoRepeat-filter f p (x ∷ xs) h =
-    elim (tested (p x)) [
-      | inl t ↦ rw t (
-        λ i. let r = IsIn-from_map f (f x) (filter p xs) i in
-            h.0 (subst (λ z. IsIn z (map f xs)) (sym r.2) (IsIn-map f r.0 xs (IsIn-from_filter p r.0 xs r.1).0)),
-        NoRepeat-filter f p xs h.1,
-      )
-      | inr t ↦ rw t (NoRepeat-filter f p xs h.1)
-    ]
-
--- what no element has, a list has not
-pub flat_map_none : {X Y : Type 0} (f : X → List Y) (xs : List X) → ((x : X) → IsIn x xs → f x ≡ []) → flat_map f xs ≡ []
-flat_map_none f [] none = refl
-flat_map_none f (x ∷ xs) none = rw (none x (inl refl)) (flat_map_none f xs (λ y i. none y (inr i)))
-
-pub filter_none : {X : Type 0} (p : X → Bool) (xs : List X) → ((x : X) → IsIn x xs → p x ≡ false) → filter p xs ≡ []
-filter_none p [] none = refl
-filter_none p (x ∷ xs) none = rw (none x (inl refl)) (filter_none p xs (λ y i. none y (inr i)))
-
-pub map-flat_map : {X Y Z : Type 0} (g : Y → Z) (f : X → List Y) (xs : List X) → flat_map (λ x. map g (f x)) xs ≡ map g (flat_map f xs)
-map-flat_map g f [] = refl
-map-flat_map g f (x ∷ xs) = ap (λ zs. map g (f x) ++ zs) (map-flat_map g f xs) ∙ sym (map-append g (f x) (flat_map f xs))
-  where
-    map-append : {Y Z : Type 0} (g : Y → Z) (xs ys : List Y) → map g (xs ++ ys) ≡ map g xs ++ map g ys
-    map-append g [] ys = refl
-    map-append g (x ∷ xs) ys = ap (λ zs. g x ∷ zs) (map-append g xs ys)
-
-module _ (P : List Entry → Entry → Type 0) where
-  pub EachFrom-append : (past xs ys : List Entry) → EachFrom P past xs → EachFrom P (past ++ xs) ys → EachFrom P past (xs ++ ys)
-  EachFrom-append past [] ys h k = subst (λ es. EachFrom P es ys) (append-nil past) k
-  EachFrom-append past (x ∷ xs) ys h k = (h.0, EachFrom-append (past ++ x ∷ []) xs ys h.1 (subst (λ es. EachFrom P es ys) (sym (append_assoc past (x ∷ []) xs)) k))
-
-  pub EachFrom-left : (past xs ys : List Entry) → EachFrom P past (xs ++ ys) → EachFrom P past xs
-  EachFrom-left past [] ys h = tt
-  EachFrom-left past (x ∷ xs) ys h = (h.0, EachFrom-left (past ++ x ∷ []) xs ys h.1)
-
-  pub EachFrom-right : (past xs ys : List Entry) → EachFrom P past (xs ++ ys) → EachFrom P (past ++ xs) ys
-  EachFrom-right past [] ys h = subst (λ es. EachFrom P es ys) (sym (append-nil past)) h
-  EachFrom-right past (x ∷ xs) ys h = subst (λ es. EachFrom P es ys) (append_assoc past (x ∷ []) xs) (EachFrom-right (past ++ x ∷ []) xs ys h.1)

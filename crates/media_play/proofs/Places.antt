@@ -56,17 +56,6 @@ places-other side xs (Opened o) h = places-push side xs (Opened o)
 places-other side xs (Yielded s p) h = places-push side xs (Yielded s p)
 places-other side xs (Sealed s) h = absurd cc
 
-length_from : (at : ℕ) (side : Side) (xs : List Entry) → length (places_from at side xs) ≡ length (datagrams side xs)
-length_from at side [] = refl
-length_from at side (x ∷ xs) =
-    elim (seal_cases side x) [
-      | inl other ↦ ap (λ b. length (cond b (at ∷ places_from (at + 1) side xs) (places_from (at + 1) side xs))) other.0 ∙ length_from (at + 1) side xs ∙ sym (ap (λ l. length (l ++ datagrams side xs)) other.1)
-      | inr seal ↦ ap (λ b. length (cond b (at ∷ places_from (at + 1) side xs) (places_from (at + 1) side xs))) seal.1 ∙ ap suc (length_from (at + 1) side xs) ∙ sym (ap (λ l. length (l ++ datagrams side xs)) seal.2)
-    ]
-
-pub length-places : (side : Side) (xs : List Entry) → length (places side xs) ≡ length (datagrams side xs)
-length-places side xs = length_from 0 side xs
-
 slice_get-seam : {X : Type 0} (xs : List X) (y : X) (ys : List X) → slice_get (xs ++ y ∷ ys) (length xs) ≡ Some y
 slice_get-seam [] y ys = refl
 slice_get-seam (x ∷ xs) y ys = slice_get-seam xs y ys

@@ -14,7 +14,7 @@ use Rattle.session_core.specs.declared.datagram.Datagram.{Datagram}
 use Rattle.session_core.specs.declared.datagram.Opened.{Opened as Opening}
 use Rattle.session_core.specs.SessionRecord.{SessionRecord}
 use Rattle.session_turns.specs.Mirrors.{Mirrors}
-use Rattle.session_turns.specs.Reading.{event_as, event_of, events_of, opening_as, yields_of, events_opened, len_in}
+use Rattle.session_turns.specs.Reading.{event_as, event_of, events_of, opening_as, yields_of, events_opened, len_in, packet_told}
 use Rattle.session_turns.specs.Rights.{IsRight as IsRightHere, right_rtp as rtp_here, right_rtcp as rtcp_here, IsCallRight, IsRightOpening, IsRightRtcpOpening}
 use Rattle.rtcp_wire.specs.declared.feedback.AppSpecificFeedback.{AppSpecificFeedback as Application}
 use Rattle.rtcp_wire.specs.declared.packet.Rtcp.TheVariants.{AppSpecificFeedback}
@@ -41,7 +41,7 @@ use Rattle.media_laws.specs.Plain.{extensions_of}
 use Rattle.media_laws.specs.Play.{IsBroughtBy}
 use Rattle.media_laws.specs.Right.{IsRight, right_rtp, right_rtcp, IsRightSeal}
 use Rattle.media_play.specs.declared.end.Received.{Received}
-use Rattle.media_play.specs.Packets.{sealed_from, seals_from, packet_told}
+use Rattle.media_play.specs.Packets.{sealed_from, seals_from}
 use Rattle.media_play.specs.Sessions.{yielded, received_entries}
 
 -- how entries are read

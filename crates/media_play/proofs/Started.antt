@@ -4,9 +4,9 @@ use Rattle.std.specs.Prelude.{◌==◌, option_and_then, option_to_list}
 use Rattle.std.specs.List.{AllZip, flat_map}
 use Rattle.std.specs.Map.{keys_of}
 use Rattle.std.proofs.lemmas.Bool.{eq-eqb, eqb-true}
-use Rattle.rtcp_wire.specs.declared.extended.DlrrItem.{DlrrItem as Delay}
+use Rattle.rtcp_items.specs.declared.extended.DlrrItem.{DlrrItem as Delay}
 use Rattle.rtp_wire.specs.declared.extension.ExtensionMap.{ExtensionMap}
-use Rattle.media_base.specs.declared.Beginning.{Beginning}
+use Rattle.media_units.specs.declared.wallclock.Beginning.{Beginning}
 use Rattle.media_units.specs.Wallclock.{ntp_nanos}
 use Rattle.rtx_core.specs.Ratio.{uncounted}
 use Rattle.rtx_core.specs.Resends.{created, recached, recapped}
@@ -23,10 +23,9 @@ use Rattle.session_turns.specs.Mirrors.{TxMirrors, MirrorsRepairs, MirrorsCap, R
 use Rattle.media_model.specs.declared.entry.Side.{Side}
 use Rattle.media_model.specs.declared.setup.Setup.{Setup}
 use Rattle.media_model.specs.Setup.{material_of, local_of, streams_of, types_of as type_numbers}
-use Rattle.run_model.specs.Listing.{NoRepeat}
+use Rattle.run_model.specs.Listing.{NoRepeat, IsIn}
 use Rattle.media_model.specs.Sides.{peer_of}
 use Rattle.run_model.specs.Events.{Outgoing, Incoming}
-use Rattle.run_model.specs.Listing.{IsIn}
 use Rattle.run_model.specs.RxPlay.{new_rx}
 use Rattle.run_model.specs.TxPlay.{new_tx}
 use Rattle.run_model.specs.Transcripts.{outgoing_of}

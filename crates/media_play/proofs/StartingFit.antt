@@ -13,7 +13,6 @@ use Rattle.media_model.specs.Setup.{claimed_in, claimed_of}
 use Rattle.media_model.specs.Sides.{peer_of}
 use Rattle.run_model.specs.Events.{Outgoing}
 use Rattle.run_model.specs.Listing.{IsIn, NoRepeat}
-use Rattle.run_model.specs.Sending.{is_just}
 use Rattle.run_model.specs.Tables.{has, AllStrange, AreApart}
 use Rattle.run_model.specs.TxPlay.{IsApart}
 use Rattle.run_model.specs.Transcripts.{has_type, outgoing_of}
@@ -23,6 +22,7 @@ use Rattle.media_laws.specs.Keys.{sealing_of}
 use Rattle.media_play.specs.Starting.{ssrcs_in, AreOnce, HasWords}
 use Rattle.media_play.proofs.StartingLists.{NoRepeat-right, apart_ends}
 use Rattle.media_play.proofs.StartingSetup.{Facts}
+use Rattle.rtp_base.specs.Window.{is_just}
 
 -- no SSRC is of two streams
 

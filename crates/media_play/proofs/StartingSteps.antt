@@ -1,27 +1,26 @@
 -- A session that begins: with keys, with media sections, with streams.
 use Rattle.std.proofs.Common.{◌≡◌, inl, inr, ℕ, Bool, true, false, not, List, [], ◌∷◌, ◌++◌, map, Option, Some, None, is_some, refl, sym, ap, ◌∙◌, subst, ◌<◌, ◌≤◌, ◌^◌}
-use Rattle.std.specs.Prelude.{option_to_list, if◌then◌else◌, is_none}
+use Rattle.std.specs.Prelude.{option_to_list, if◌then◌else◌, is_none, ◌==◌}
 use Rattle.std.specs.List.{AllByRecursion, AllZip, flat_map}
 use Rattle.std.specs.Map.{keys_of}
 use Rattle.std.specs.Option.{option_map}
 use Rattle.std.proofs.lemmas.List.{append-nil}
 use Rattle.std.proofs.lemmas.List.Concat.{flat_map-append}
 use Rattle.std.specs.Cmp.Lexicographic.{pointwise, bytes_decides}
-use Rattle.std.specs.Prelude.{◌==◌}
 use Rattle.mask_register.specs.MaskRegister.{Remembers}
 use Rattle.queue_store.specs.Queue.{StandsFor as Holds}
 use Rattle.rtx_core.specs.Resends.{created, recached}
 use Rattle.srtp_core.specs.Cipher.{CipherMeaning}
 use Rattle.srtp_core.specs.Contexts.{new_state}
-use Rattle.stream_core.specs.Repairing.{RepairsRecord}
+use Rattle.stream_core.specs.Repairing.{RepairsRecord, SentPacket}
 use Rattle.stream_core.specs.RxRecord.{RxRecord, expected}
 use Rattle.mapping_core.specs.Streams.{fresh, is_main, with_stream}
 use Rattle.mapping_core.specs.declared.stream.IncomingStream.{IncomingStream}
 use Rattle.stream_core.specs.Known.{KnownRecord}
-use Rattle.stream_core.specs.StreamsRecord.{StreamsRecord, StandsFor as StreamsStandFor, first_known, with_first, with_original, with_stream_tx, with_stream_rx}
+use Rattle.stream_core.specs.StreamsRecord.{StreamsRecord, StandsFor as StreamsStandFor, first_known, with_first, with_original, with_stream_tx, with_stream_rx, StreamsView}
 use Rattle.stream_core.specs.Tables.{place_of, with_new, change_at}
 use Rattle.stream_core.specs.TxRecord.{TxRecord, declared}
-use Rattle.media_play.specs.Ends.{EndSession, EndStreams, SessionStands}
+use Rattle.media_play.specs.Ends.{EndSession, SessionStands}
 use Rattle.session_core.specs.declared.config.SessionConfig.{SessionConfig}
 use Rattle.session_core.specs.Calls.{fresh_session, keyed}
 use Rattle.session_core.specs.Sending.{has_mid}
@@ -42,6 +41,8 @@ use Rattle.media_laws.specs.Keys.{is_left}
 use Rattle.media_laws.specs.Plain.{extensions_of}
 use Rattle.media_play.specs.Starting.{intervals_of, ssrcs_in, AreOnce, HasWords, IsRow, rows_of, IsIdle, IsUnheard, kept_for, kept_in, with_streams, StreamsChange, Begun, Starts}
 use Rattle.media_play.proofs.StartingLists.{all_push, place_left, place_last, zip_push, zip_weaker, zip_keys, any_left, any_last, new_last, place_absent, change_none, change_last, keys_among, mains_among, strange}
+use Rattle.mask_register.specs.declared.register.MaskRegister.{MaskRegister}
+use Rattle.queue_store.specs.declared.queue.QueueStore.{QueueStore}
 
 -- the sides
 
@@ -62,6 +63,9 @@ has_last medias m mid is = any_last (λ (n : MediaRecord). pointwise ◌==◌ n.
 -- the SSRCs of a stream of a setup have 32 bits
 pub has_words : (setup : Setup) (s : Stream) → s.ssrc < 2 ^ 32 → ((x : ℕ) → s.rtx ≡ Some x → x < 2 ^ 32) → HasWords (outgoing_as setup s (cache_of s.ssrc setup))
 has_words setup s ssrc rtx = record { ssrc = ssrc; rtx = rtx }
+
+abbrev pub EndStreams : Type 0
+EndStreams = StreamsView MaskRegister (QueueStore SentPacket)
 
 -- the streams of a session change
 pub streams_change : (f : StreamsRecord → StreamsRecord) (v : EndSession) (old new : EndStreams) → old.rx ≡ v.rx → old.tx ≡ v.state.tx → old.threshold ≡ v.state.pause_threshold → old.known ≡ v.known → old.repairs ≡ v.repairs

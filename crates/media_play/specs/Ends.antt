@@ -6,13 +6,9 @@ use Rattle.queue_store.specs.declared.queue.QueueStore.{QueueStore}
 use Rattle.queue_store.specs.Queue.{StandsFor as Holds}
 use Rattle.session_core.specs.SessionRecord.{SessionView, SessionRecord, StandsFor}
 use Rattle.stream_core.specs.Repairing.{SentPacket}
-use Rattle.stream_core.specs.StreamsRecord.{StreamsView}
 
 abbrev pub EndSession : Type 0
 EndSession = SessionView MaskRegister (QueueStore SentPacket)
-
-abbrev pub EndStreams : Type 0
-EndStreams = StreamsView MaskRegister (QueueStore SentPacket)
 
 abbrev pub SessionStands : EndSession → SessionRecord → Type 0
 SessionStands v r = StandsFor Remembers Holds v r

@@ -19,7 +19,8 @@ ghost use Rattle.std.specs.Option.{option_map};
 ghost use Rattle.mask_register.specs.MaskRegister.{Remembers};
 ghost use Rattle.session_core.specs.Calls.{told, after_events};
 ghost use Rattle.session_core.specs.SessionRecord.{SessionRecord};
-ghost use Rattle.media_play.specs.Packets.{write_at, seals_from, packet_told, packet_after, packet_in};
+ghost use Rattle.session_turns.specs.Reading.{packet_told};
+ghost use Rattle.media_play.specs.Packets.{write_at, seals_from, packet_after, packet_in};
 
 use crate::fault::StepError;
 use crate::log::Log;
@@ -27,21 +28,23 @@ use crate::numbers::Numbers;
 use crate::request::Request;
 use crate::starting::{no_numbers, start};
 use mask_register::MaskRegister;
-use media_base::{Bytes, Instant};
+use media_base::Bytes;
 use media_laws::{Counter, StepFault};
 use media_model::{Kind, Packet, Sealed, Setup, Side, Sources, Write};
+use media_units::Instant;
 use queue_store::QueueStore;
 use rtcp_wire::{AppSpecificFeedback as Application, items_fit_by_lengths};
 use rtp_wire::{RtpHeader, SeqNo, Ssrc};
 use session_core::{Datagram, Event, RtcError, Session};
+use session_turns::{
+    calls_are_right, calls_turn, hears_turn, openings_are_right, opens_turn, requests_turn,
+    rtcp_openings_are_right, seals_are_right, ticks_cut, ticks_turn, writes_turn,
+};
 use srtp_core::SrtpCipher;
 use std::alloc::{AllocError, Global};
 use std::marker::Model;
 use stream_core::{Payload, RtpPacket, RtpWrite, Sent};
-use turn_hears::{calls_turn, hears_turn, requests_turn, writes_turn};
-use turn_opens::opens_turn;
-use turn_seals::{calls_are_right, openings_are_right, rtcp_openings_are_right, seals_are_right};
-use turn_ticks::{ticks_cut, ticks_turn};
+use thiserror::Error;
 
 /// Numbers of packets are below it.
 const NUMBER_LIMIT: u64 = 1 << 48;
@@ -53,7 +56,8 @@ const MAX_PAYLOAD_LEN: usize = 1400;
 const MAX_SOURCES: usize = 15;
 
 /// Why a tick is not played, and what left of it before.
-#[derive(Drop)]
+#[derive(Debug, Drop, Error)]
+#[error("{cause}")]
 pub struct TickFault {
     /// Why it is not played.
     pub cause: StepError,
@@ -71,7 +75,7 @@ pub struct Received {
     /// Its extended sequence number, or its SRTCP index.
     pub number: SeqNo,
     /// The datagram as it was before it was sealed.
-    pub plain: Bytes,
+    pub plain: Payload,
     /// None of RTCP, and on SSRC 0, under which probes are sent.
     pub packet: Option<Packet>,
 }

@@ -113,13 +113,6 @@ impl Log {
         }
     }
 
-    /// How many datagrams a side sealed.
-    pub fn datagram_count(&self, side: Side) -> usize
-        ensures { result ≡ length (datagrams side self.now) }
-    {
-        self.places(side).len()
-    }
-
     pub fn into_transcript(self) -> Transcript
         ensures { result ≡ self }
     {

@@ -28,11 +28,12 @@ use crate::end::{End, Received, log_all};
 use crate::fault::StepError;
 use crate::log::Log;
 use crate::request::Request;
-use media_base::{Bytes, Instant};
+use media_base::Bytes;
 use media_laws::StepFault;
 use media_model::{
     ApplicationData, Call, Entry, Got, Kind, Opened, Sealed, Setup, Side, Step, Transcript, Write,
 };
+use media_units::Instant;
 use rtcp_wire::AppSpecificFeedback as Application;
 use rtp_wire::Ssrc;
 use session_core::Datagram;
@@ -380,7 +381,7 @@ fn write_step<C: SrtpCipher>(
     are_words(write.csrc.as_slice());
     let place = end.check_write(write)?;
     end.put(alloc, place, time, write)?;
-    log.push(Entry::Wrote(side, time, write.copied(alloc)?))?;
+    log.push(Entry::Wrote(side, time, write.clone(alloc)?))?;
     Ok(())
 }
 
@@ -523,25 +524,37 @@ fn receive_step<C: SrtpCipher>(
         kind,
         bytes,
     }))?;
-    push_received(log, side, received)?;
+    push_received(alloc, log, side, received)?;
     Ok(())
 }
 
-fn push_received(log: &mut Log, side: Side, received: Option<Received>) -> Result<(), AllocError>
+fn push_received(
+    alloc: Global,
+    log: &mut Log,
+    side: Side,
+    received: Option<Received>,
+) -> Result<(), AllocError>
     ensures done { OnOk result (log.new ≡ log.old ++ received_entries side received) }
     ensures longer { OnlyAdds log.old log.new }
 {
     let Some(received) = received else {
         return Ok(());
     };
+    let Received {
+        kind,
+        ssrc,
+        number,
+        plain,
+        packet,
+    } = received;
     log.push(Entry::Opened(Opened {
         side,
-        kind: received.kind,
-        ssrc: received.ssrc,
-        index: received.number,
-        plain: received.plain,
+        kind,
+        ssrc,
+        index: number,
+        plain: Bytes::from_slice(alloc, plain.as_slice())?,
     }))?;
-    match received.packet {
+    match packet {
         Some(packet) => log.push(Entry::Yielded(side, packet)),
         None => Ok(()),
     }

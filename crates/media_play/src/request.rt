@@ -1,8 +1,8 @@
 ghost use Rattle.std.specs.Prelude.{◌≡◌};
 ghost use Rattle.media_play.specs.Requests.{call_for};
 
-use media_base::Bitrate;
 use media_model::Call;
+use media_units::Bitrate;
 use rtp_base::KeyframeRequestKind;
 
 /// What an application asks of the sender of a stream.

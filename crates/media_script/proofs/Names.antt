@@ -1,10 +1,10 @@
 -- The names of scripts are names of header extensions.
-use Rattle.std.proofs.Common.{◌≡◌, ℕ, Bool, true, false, cond, not, ◌&&◌, eqb, leb, ltb, List, [], ◌∷◌, length, Some, None, refl, arith}
+use Rattle.std.proofs.Common.{◌≡◌, ℕ, Bool, true, false, not, ◌&&◌, eqb, leb, ltb, List, [], ◌∷◌, length, refl, arith}
 use Rattle.std.specs.Char.{is_ascii_alphanumeric}
 use Rattle.std.specs.List.{list_all}
 use Rattle.std.proofs.lemmas.Bool.Decides.{nat_tests}
-use Rattle.rtp_wire.specs.Name.{is_name as is_wire, name_of as wire_name_of}
-use Rattle.media_script.specs.Words.{is_name, name_of}
+use Rattle.rtp_wire.specs.Name.{is_name as is_wire}
+use Rattle.media_script.specs.Words.{is_name}
 
 plain_byte : (b : ℕ) → is_ascii_alphanumeric b ≡ true → ltb b 128 ≡ true
 plain_byte b h = grind (arith, nat_tests)
@@ -26,10 +26,3 @@ is_wire_name word h = go (eqb (length word) 0) (leb (length word) 16) (list_all 
   go true b c p q r e = absurd cc
   go false false c p q r e = absurd cc
   go false true false p q r e = absurd cc
-
-pub no_name : (word : List ℕ) → wire_name_of word ≡ None → name_of 16 word ≡ None
-unfolding name_of
-no_name word none = go (is_name 16 word) refl where
-  go : (b : Bool) → is_name 16 word ≡ b → cond b (Some word) None ≡ None
-  go false e = refl
-  go true e = absurd (let some : wire_name_of word ≡ Some word = rw (is_wire_name word e) refl in cc (none, some))

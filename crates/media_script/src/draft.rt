@@ -4,26 +4,18 @@ ghost use Rattle.media_script.specs.Draft.{blank, with_index, with_ssrc, told, s
 
 use crate::media_list::MediaList;
 use crate::setup_line::SetupLine;
-use media_base::{Beginning, Duration, Listed};
+use media_base::Listed;
 use media_model::{
     CipherName, Key, Local, Media, Mtu, NamedCache, NamedExtension, NamedStart, PayloadType,
     ReportTimes, Setup, Side, SrtcpIndex,
 };
+use media_units::{Beginning, Duration};
 use rtp_wire::Ssrc;
 use srtp_core::SrtpProfile;
 use std::alloc::{AllocError, Global};
 
 // The Unix time at which a run begins where no line says it, in November 2023.
 const DEFAULT_UNIX_SECS: u64 = 1_700_000_000;
-
-// How long datagrams are to be where no line says it.
-const DEFAULT_MTU: Mtu = Mtu {
-    target: 1150,
-    warn: 1280,
-};
-
-// After how many nanoseconds without packets a stream counts as paused where no line says it.
-const DEFAULT_PAUSE_NANOS: u64 = 1_500_000_000;
 
 /// What the setup lines so far say, and the default of each that does not stand.
 #[derive(Drop)]
@@ -63,8 +55,8 @@ impl Draft {
             beginning: Beginning {
                 unix_secs: DEFAULT_UNIX_SECS,
             },
-            mtu: DEFAULT_MTU,
-            pause_threshold: Duration::from_nanos(DEFAULT_PAUSE_NANOS),
+            mtu: Mtu::default(),
+            pause_threshold: Duration::from_nanos(Setup::DEFAULT_PAUSE_NANOS),
             intervals: ReportTimes::default(),
             a: Local {
                 ssrc: Ssrc::from(1),

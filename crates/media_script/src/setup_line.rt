@@ -1,11 +1,12 @@
 ghost use Rattle.std.specs.Prelude.{◌≡◌};
 ghost use Rattle.media_script.specs.Order.{word, per, slot, needs, gives};
 
-use media_base::{Beginning, Bytes, Duration};
+use media_base::Bytes;
 use media_model::{
     CipherName, Key, MediaKind, Mtu, NamedCache, NamedExtension, NamedStart, PayloadType,
     ReportTimes, Side, SrtcpIndex, Stream,
 };
+use media_units::{Beginning, Duration};
 use rtp_wire::{Mid, Ssrc};
 use srtp_core::SrtpProfile;
 use std::marker::Model;

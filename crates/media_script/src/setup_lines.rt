@@ -12,10 +12,11 @@ use crate::words::{
     millis, name, number, number_8, number_32, optional_32, optional_name, profile as profile_word,
     rate, rid, side, srtcp_index, type_behind,
 };
-use media_base::{Beginning, Bytes, Duration};
+use media_base::Bytes;
 use media_model::{
     Cache, Mtu, NamedCache, NamedExtension, NamedStart, PayloadType, ReportTimes, Stream,
 };
+use media_units::{Beginning, Duration};
 use rtp_wire::{Pt, Ssrc};
 use std::alloc::Global;
 

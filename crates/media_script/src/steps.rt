@@ -10,8 +10,9 @@ use crate::words::{
     application_data, flag, hex, keyframe, kind as kind_word, number, number_8, number_32, side,
     sources as sources_word, time,
 };
-use media_base::{Bitrate, Bytes, Instant};
+use media_base::Bytes;
 use media_model::{Side, Sources, Step, Write};
+use media_units::{Bitrate, Instant};
 use rtp_wire::{Pt, SeqNo, Ssrc};
 use std::alloc::Global;
 

@@ -3,8 +3,8 @@ ghost use Rattle.std.specs.Prelude.{◌≡◌, ◌++◌, IfOk, OnOk, string_byte
 ghost use Rattle.media_script.specs.Names.{side_text, kind_text, call_text, flag_text};
 ghost use Rattle.media_script.specs.Text.{hex_text, answer_text, wrote_text, ticked_text, called_text, got_text, sealed_text, opened_text, yielded_text, line_text, entries_text, end_text, text_of};
 
-use media_base::Instant;
 use media_model::{Call, Entry, Got, Kind, Opened, Packet, Sealed, Side, Transcript};
+use media_units::Instant;
 use std::alloc::{AllocError, Global};
 use std::fmt::Write;
 

@@ -12,7 +12,7 @@ use media_base::Bytes;
 use media_model::{
     ApplicationData, CipherName, Codec, FirstNumber, Key, Kind, MediaKind, Side, SrtcpIndex,
 };
-use rtp_base::KeyframeRequestKind;
+use rtp_base::{KeyframeRequestKind, wire};
 use rtp_wire::{Extension, Mid, Pt, Rid};
 use srtp_core::SrtpProfile;
 use std::alloc::Global;
@@ -319,8 +319,8 @@ fn numbers(alloc: Global, bytes: &[u8]) -> Result<Vec<u32>, LineError>
     }
     let mut numbers = Vec::new(alloc);
     let mut rest = bytes;
-    while let [a, b, c, d, after @ ..] = rest {
-        numbers.push(u32::from_be_bytes([*a, *b, *c, *d]))?;
+    while let [_, _, _, _, after @ ..] = rest {
+        numbers.push(wire::word(rest, 0))?;
         rest = after;
     }
     Ok(numbers)

@@ -165,12 +165,6 @@ pub run_fronts : (read : List ℕ) (setup : Given) (steps : List Act) (entries :
 run_fronts read setup steps entries count script are =
     inr (record { setup = setup; steps = steps; script = script; run = (entries, are, (count, refl)) })
 
--- where there are no entries
-pub no_fronts : (read : List ℕ) (entries : List Entry) (count : ℕ) → entries ≡ [] → RunMakes read Memory None (entries_text (take count entries) ++ memory_line)
-no_fronts read entries count none =
-    inl (ap (λ (es : List Entry). entries_text (take count es) ++ memory_line) none
-    ∙ ap (λ (es : List Entry). entries_text es ++ memory_line) (take_all count [] (omega arith)))
-
 -- bytes that are no script
 pub syntax_makes : {X : Type 0} (view : X → List ℕ) (read : List ℕ) (number : ℕ) (entries : List Entry) (line : Result X AllocError) (ended : End) (last : List ℕ)
     → IsLastLine view (Syntax number) line ended last → IfOk line (λ text. view text ≡ syntax_line number) → entries ≡ []
@@ -182,12 +176,6 @@ syntax_makes view read number entries (Ok text) ended last is said none wrong no
 syntax_makes view read number entries (Err e) ended last is said none wrong not_script =
     subst (λ (es : List Entry). RunMakes read ended (reported ended es) (entries_text es ++ last)) (sym none)
     (subst (λ (e : End). RunMakes read e (reported e []) (entries_text [] ++ last)) (sym is.0) (inl is.1))
-
-pub memory_makes : (read : List ℕ) (entries : List Entry) (ended : End) (last : List ℕ) → ended ≡ Memory → last ≡ memory_line → entries ≡ []
-    → RunMakes read ended (reported ended entries) (entries_text entries ++ last)
-memory_makes read entries ended last is same none =
-    subst (λ (es : List Entry). RunMakes read ended (reported ended es) (entries_text es ++ last)) (sym none)
-    (subst (λ (e : End). RunMakes read e (reported e []) (entries_text [] ++ last)) (sym is) (inl same))
 
 -- what a script gives is no line
 pub no_line : (setup : Given) (steps : List Act) (line : ℕ) → (let script : Given × List Act = (setup, steps) in ◌≡◌ {A = Result (Given × List Act) ℕ} (Ok script) (Err line)) → ⊥

@@ -9,6 +9,7 @@ use media_base::{Failed, Sink, write_all};
 use media_model::Entry;
 use media_script::put_line;
 use std::alloc::{AllocError, Global};
+use thiserror::Error;
 
 /// How many bytes are gathered before they are written.
 const PIECE: usize = 32_768;
@@ -35,11 +36,13 @@ impl LastLine {
 }
 
 /// Why a text was not written to its end.
-#[derive(Clone, Copy, Debug, PartialEq, Eq)]
+#[derive(Clone, Copy, Debug, PartialEq, Eq, Error)]
 pub enum TextError {
     /// Memory ran out.
+    #[error("out of memory")]
     Memory,
     /// The sink failed.
+    #[error("the sink failed")]
     Failed,
 }
 

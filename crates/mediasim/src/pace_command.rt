@@ -9,7 +9,8 @@ ghost use Rattle.mediasim.specs.PaceCommand.{call_line, PaceEnds, PaceMakes};
 
 use crate::ends::{End, Report, tell_line};
 use crate::run_command::syntax_line;
-use media_base::{Bitrate, Sink};
+use media_base::Sink;
+use media_units::Bitrate;
 use pace_core::{PaceCall, PaceError, pace_run};
 use pace_script::{ScriptError, log_text, read_pace_script, write_pace_log};
 use std::alloc::{AllocError, Global};

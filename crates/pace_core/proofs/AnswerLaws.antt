@@ -6,12 +6,16 @@ use Rattle.std.proofs.lemmas.Bool.Decides.{nat_tests}
 use Rattle.std.proofs.lemmas.Grind.{common_steps}
 use Rattle.pace_units.specs.declared.queue.QueueState.{QueueState}
 use Rattle.pace_units.specs.declared.cluster.ProbeClusterState.{ProbeClusterState}
-use Rattle.pace_core.specs.Bucket.{send, empty, step, after, burst}
+use Rattle.pace_core.specs.Bucket.{send, step, burst, Bucket}
 use Rattle.pace_core.specs.Envelope.{AreLetOut}
 use Rattle.pace_core.specs.Past.{Past, made, pacing_set, padding_set, timed, polled, probe_started, probe_taken, sent, rate_in, since_in, passed, has_sent, debt_in, padding_debt_in, padding_in, asked_of, turn_of, chosen_turn, clusters_at, active_in, chosen_in}
 use Rattle.pace_core.specs.Queues.{are_empty, with_unpaced, unpaced_from}
 use Rattle.pace_core.specs.Answers.{timeline, is_awaited, are_paced, IsPaced, AreAnswers, AreShort, AnswersAreWithin}
-use Rattle.pace_core.proofs.EnvelopeLaws.{after-append, front, back, both, last_rate-after, last_moment-after, envelope}
+use Rattle.pace_core.proofs.EnvelopeLaws.{after-append, front, back, both, last_rate-after, last_moment-after, envelope, after}
+
+-- nothing is owed and nothing is drained before the first timeout
+abbrev empty : Bucket
+empty = record { debt = 0; rate = 0; since = 0 }
 
 -- the bucket of the timeline is the pacer's
 record Matches (past : Past) : Type 0 where

@@ -3,7 +3,7 @@ ghost use Rattle.pace_units.specs.Cluster.{new_cluster};
 ghost use Rattle.pace_core.specs.Past.{asked_first, asked_by, clusters_sent, ended_by, clusters_told, told_of};
 ghost use Rattle.std.specs.Prelude.{◌≡◌, ◌∷◌, ◌++◌, [], None, OnOk, OnErr, slice_get, option_copied};
 
-use media_base::{DataSize, Instant};
+use media_units::{DataSize, Instant};
 use pace_units::{ProbeClusterConfig, ProbeClusterState};
 use rtp_base::TwccClusterId;
 use std::alloc::{AllocError, Global};

@@ -35,7 +35,7 @@ ghost use Rattle.std.specs.Prelude.{◌≡◌, ◌+◌, ◌-◌, ◌*◌, ◌<�
 use crate::clusters::Clusters;
 use crate::pacer::Pacer;
 use crate::queues::{first_holding, held_by, longest_unpaced, padding_queue, turn};
-use media_base::{Bitrate, DataSize, Debt, Duration, Instant};
+use media_units::{Bitrate, DataSize, Debt, Duration, Instant};
 use pace_units::{
     PacerReason, PaddingRequest, ProbeClusterConfig, ProbeClusterState, QueueState, Reason,
 };

@@ -4,7 +4,7 @@ ghost use Rattle.std.specs.Slice.Iter.{iter_rest};
 ghost use Rattle.std.specs.Iterator.Adapters.{IterYieldsInOrder};
 ghost use Rattle.pace_core.specs.declared.log.PaceEntry.{PaceEntry as Answer};
 
-use media_base::{Bitrate, DataSize, Debt, Instant};
+use media_units::{Bitrate, DataSize, Debt, Instant};
 use rtp_base::Mid;
 use std::alloc::{AllocError, Global};
 use std::marker::Model;

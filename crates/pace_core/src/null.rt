@@ -18,7 +18,7 @@ ghost use Rattle.pace_core.specs.Sends.{last_of};
 use crate::pacer::Pacer;
 use crate::queues::is_before;
 use crate::sends::{Sends, same_queue};
-use media_base::{Bitrate, DataSize, Instant};
+use media_units::{Bitrate, DataSize, Instant};
 use pace_units::{PacerReason, PaddingRequest, QueueState, Reason};
 use rtp_base::{MidRid, TwccClusterId};
 use std::alloc::{AllocError, Global};

@@ -16,7 +16,7 @@ ghost use Rattle.pace_core.specs.Past.{
 
 use crate::leaky::LeakyBucketPacer;
 use crate::null::NullPacer;
-use media_base::{Bitrate, DataSize, Instant};
+use media_units::{Bitrate, DataSize, Instant};
 use pace_units::{PaddingRequest, ProbeClusterConfig, QueueState, Reason};
 use rtp_base::{MidRid, TwccClusterId};
 use std::alloc::{AllocError, Global};

@@ -17,7 +17,7 @@ ghost use Rattle.pace_core.specs.Queues.{
 ghost use Rattle.std.specs.Prelude.{◌≡◌, ◌==◌, None};
 ghost use Rattle.std.specs.Option.{option_copied};
 
-use media_base::{Bitrate, Instant};
+use media_units::{Bitrate, Instant};
 use pace_units::QueueState;
 
 // How long a packet may wait, in nanoseconds.

@@ -3,7 +3,7 @@ ghost use Rattle.std.specs.Prelude.{◌≡◌, [], ◌∷◌, ◌++◌, OnOk, On
 ghost use Rattle.std.specs.Bool.{OnTrue, OnFalse};
 ghost use Rattle.pace_core.specs.Sends.{same_queue, last_of, with_send};
 
-use media_base::Instant;
+use media_units::Instant;
 use rtp_base::MidRid;
 use std::alloc::{AllocError, Global};
 use std::marker::Model;

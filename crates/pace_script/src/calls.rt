@@ -7,8 +7,8 @@ ghost use Rattle.pace_script.specs.Grammar.{pacing_call, padding_call, timeout_c
 
 use crate::queues::queues;
 use crate::words::{moment, number_below, rate};
-use media_base::{Bitrate, DataSize, Instant};
 use media_script::shared::{LineError, words};
+use media_units::{Bitrate, DataSize, Instant};
 use pace_core::PaceCall;
 use std::alloc::Global;
 

@@ -5,8 +5,9 @@ ghost use Rattle.media_script.specs.Grammar.{texts};
 ghost use Rattle.pace_script.specs.Grammar.{mark_in, queue_in, queue_of, queues_of};
 
 use crate::words::{number_below, parts};
-use media_base::{DataSize, Duration, Listed};
+use media_base::Listed;
 use media_script::shared::{LineError, mid, name, number_32};
+use media_units::{DataSize, Duration};
 use pace_core::PaceQueue;
 use std::alloc::Global;
 

@@ -8,10 +8,11 @@ ghost use Rattle.pace_script.specs.Grammar.{read_on, line_taken, whole_of, scrip
 ghost use Rattle.pace_script.specs.Spelling.{IsPaceScript};
 
 use crate::calls::{call, first_rate};
-use media_base::{Bitrate, Listed};
+use media_base::Listed;
 use media_script::ScriptError;
 use media_script::laws::{pieces_are_lines, words_are_spelled};
 use media_script::shared::{LineError, first_line, is_passed_over};
+use media_units::Bitrate;
 use pace_core::PaceCall;
 use std::alloc::Global;
 

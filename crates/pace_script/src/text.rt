@@ -2,7 +2,7 @@
 ghost use Rattle.std.specs.Prelude.{◌≡◌, ◌++◌, Some, IfOk, OnOk, string_bytes};
 ghost use Rattle.pace_script.specs.Text.{wake_text, pad_text, entry_text, log_text, text_of};
 
-use media_base::{DataSize, Instant};
+use media_units::{DataSize, Instant};
 use pace_core::{PaceEntry, PaceLog};
 use rtp_base::Mid;
 use std::alloc::{AllocError, Global};

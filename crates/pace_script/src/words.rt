@@ -4,8 +4,8 @@ ghost use Rattle.media_script.specs.Gives.{Gives};
 ghost use Rattle.media_script.specs.Words.{narrow_of};
 ghost use Rattle.pace_script.specs.Words.{rate_of, moment_of, parts_of};
 
-use media_base::Bitrate;
 use media_script::shared::{LineError, number, time};
+use media_units::Bitrate;
 use std::alloc::{AllocError, Global};
 
 // The greatest moment, in nanoseconds.

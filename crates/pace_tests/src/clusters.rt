@@ -1,4 +1,4 @@
-use media_base::{Bitrate, DataSize, Duration, Instant};
+use media_units::{Bitrate, DataSize, Duration, Instant};
 use pace_units::{
     PacerControl, ProbeClusterConfig, ProbeClusterState, ProbeKind, QueuePriority, QueueSnapshot,
 };
@@ -145,6 +145,16 @@ fn clusters_at_their_edges(rt: HostRuntime) {
         ProbeClusterConfig::new(TwccClusterId::from(7), Bitrate::bps(3), ProbeKind::Initial),
         &SLOW,
     );
+}
+
+// The first probe of a session is sent whatever the application sends, a periodic one where it sends less
+// than it may.
+#[test]
+fn probes_of_silence(rt: HostRuntime) {
+    for (kind, alr) in [(ProbeKind::Initial, false), (ProbeKind::PeriodicAlr, true)] {
+        let config = ProbeClusterConfig::new(TwccClusterId::from(7), Bitrate::mbps(1), kind);
+        assert_eq!(rt; config.is_alr_probe(), alr);
+    }
 }
 
 // Media is active, the link is overused, the estimate, the least rate, and the rates of padding and of pacing, in

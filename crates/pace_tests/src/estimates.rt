@@ -1,4 +1,5 @@
-use media_base::{Bitrate, DataSize, Duration, Instant, Listed};
+use media_base::Listed;
+use media_units::{Bitrate, DataSize, Duration, Instant};
 use pace_units::{Estimator, FixedEstimate, ProbeClusterConfig, ProbeKind, ScriptedEstimate};
 use rtp_base::TwccClusterId;
 use std::alloc::{AllocError, Global};

@@ -2,7 +2,7 @@ use crate::steps::Kind::{Apart, Fresh, Padding, Sent, Unpaced};
 use crate::steps::Seen::{Asked, Gave, Nothing, Wakes};
 use crate::steps::Step::{Poll, Send, Timeout, Wake};
 use crate::steps::{Held, NO, Queues, Seen, Step, at, number_of, play};
-use media_base::{Bitrate, Duration};
+use media_units::{Bitrate, Duration};
 use pace_core::{
     LeakyBucketPacer, NullPacer, PaceEntry, PaceLog, Pacer, PacerImpl, PacerReason,
     ProbeClusterConfig, ProbeKind, Reason,

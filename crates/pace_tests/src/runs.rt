@@ -1,5 +1,6 @@
 use crate::steps::at;
-use media_base::{Bitrate, DataSize, Duration, Instant, Listed};
+use media_base::Listed;
+use media_units::{Bitrate, DataSize, Duration, Instant};
 use pace_core::{PaceCall, PaceEntry, PaceError, PaceLog, PaceQueue, are_short, pace_run};
 use rtp_base::Mid;
 use std::alloc::{AllocError, Global};

@@ -1,5 +1,5 @@
 //! Calls of a pacer as steps of a table, and what is seen of each.
-use media_base::{Bitrate, DataSize, Instant};
+use media_units::{Bitrate, DataSize, Instant};
 use pace_core::{Pacer, QueuePriority, QueueSnapshot, QueueState, Reason};
 use rtp_base::{Mid, MidRid, Rid, TwccClusterId};
 use std::alloc::{AllocError, Global};

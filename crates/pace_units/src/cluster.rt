@@ -13,7 +13,7 @@ ghost use Rattle.pace_units.specs.Cluster.{
 };
 
 use crate::probe::{ProbeClusterConfig, bytes_of};
-use media_base::{DataSize, Instant, already_happened, not_happening};
+use media_units::{DataSize, Instant, already_happened, not_happening};
 
 // The greatest size of a packet of padding.
 const MAX_PADDING_PACKET_SIZE: u64 = 240;

@@ -2,7 +2,7 @@
 ghost use Rattle.std.specs.Prelude.{◌≡◌};
 ghost use Rattle.pace_units.specs.Control.{padding_rate, pacing_rate};
 
-use media_base::Bitrate;
+use media_units::Bitrate;
 
 // The rate of padding that is kept up while media is sent.
 const PADDING_TARGET: u64 = 50_000;

@@ -2,7 +2,7 @@
 ghost use Rattle.std.specs.Prelude.{◌≡◌, ◌<◌, ℕ, Bool, List, Option, IsSome};
 
 use crate::probe::ProbeClusterConfig;
-use media_base::{Bitrate, DataSize, Instant};
+use media_units::{Bitrate, DataSize, Instant};
 use rtp_base::TwccClusterId;
 
 /// What became of a packet that was sent: its transport number, its size, when it was sent, when it was

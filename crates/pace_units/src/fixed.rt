@@ -14,7 +14,7 @@ ghost use Rattle.pace_units.specs.Script.{
 
 use crate::estimator::{Estimator, SendRecord};
 use crate::probe::ProbeClusterConfig;
-use media_base::{Bitrate, DataSize, Instant, already_happened};
+use media_units::{Bitrate, DataSize, Instant, already_happened};
 use rtp_base::TwccClusterId;
 use std::marker::Model;
 

@@ -2,7 +2,7 @@
 ghost use Rattle.std.specs.Prelude.{◌≡◌};
 ghost use Rattle.pace_units.specs.Probe.{is_alr, new_config, bytes_of, target_bytes};
 
-use media_base::{Bitrate, DataSize, Duration};
+use media_units::{Bitrate, DataSize, Duration};
 use rtp_base::TwccClusterId;
 
 const DEFAULT_DURATION_MILLIS: u64 = 15;

@@ -9,7 +9,7 @@ ghost use Rattle.pace_units.specs.Queue.{
   merged,
 };
 
-use media_base::{Duration, Instant, not_happening};
+use media_units::{Duration, Instant, not_happening};
 use rtp_base::MidRid;
 
 /// What the most important packet of a queue is. What is less goes first.

@@ -17,7 +17,8 @@ ghost use Rattle.pace_units.specs.Script.{
 use crate::estimator::{Estimator, SendRecord};
 use crate::probe::ProbeClusterConfig;
 use crate::queue::earlier_of;
-use media_base::{Bitrate, DataSize, Instant, Listed};
+use media_base::Listed;
+use media_units::{Bitrate, DataSize, Instant};
 use rtp_base::TwccClusterId;
 use std::marker::Model;
 

@@ -4,7 +4,7 @@ use Rattle.payload_core.specs.declared.codec.Codec.{Codec}
 use Rattle.payload_core.specs.declared.codec.MediaKind.TheVariants.{Video}
 use Rattle.payload_core.specs.declared.error.PacketError.{PacketError}
 use Rattle.payload_core.specs.declared.error.PacketError.TheVariants.{Unsupported, TooBig, ShortTelephone}
-use Rattle.payload_core.specs.declared.tele.TelephoneEvent.{TelephoneEvent}
+use Rattle.payload_core.specs.declared.telephone.TelephoneEvent.{TelephoneEvent}
 use Rattle.payload_core.specs.declared.payload.CodecExtra.{CodecExtra}
 use Rattle.payload_core.specs.declared.payload.CodecExtra.TheVariants as extra
 use Rattle.payload_core.specs.Codecs.{kind_of, same_kind, is_tele}

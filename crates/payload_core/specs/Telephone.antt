@@ -2,7 +2,7 @@
 use Rattle.std.specs.Prelude.{◌≡◌, ℕ, ◌+◌, ◌-◌, ◌*◌, ◌/◌, ◌%◌, ◌<◌, ◌≤◌, Bool, ◌==◌, nat_lt, if◌then◌else◌, Option, Some, None, List, ◌∷◌, ◌++◌, length, slice_index}
 use Rattle.std.specs.Int.{w16, to_be_bytes}
 use Rattle.rtp_base.specs.Wire.{half_at}
-use Rattle.payload_core.specs.declared.tele.TelephoneEvent.{TelephoneEvent}
+use Rattle.payload_core.specs.declared.telephone.TelephoneEvent.{TelephoneEvent}
 
 -- the whole ticks of a clock in a length of time, in nanoseconds
 abbrev pub units_of : ℕ → ℕ → ℕ

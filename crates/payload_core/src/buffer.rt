@@ -8,7 +8,8 @@ ghost use Rattle.payload_core.specs.Buffer.{settled, is_next, earliest, is_past,
 
 use crate::error::PacketError;
 use crate::payload::{CodecDepacketizer, CodecExtra};
-use media_base::{Bytes, Duration, Instant};
+use media_base::Bytes;
+use media_units::{Duration, Instant};
 use rtp_wire::{MediaTime, RtpHeader, SeqNo};
 use std::alloc::{AllocError, Global};
 use std::collections::{BTreeMap, BTreeSet};

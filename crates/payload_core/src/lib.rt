@@ -12,7 +12,7 @@ mod red_encoder;
 mod red_sender;
 mod red_sink;
 mod simulcast;
-mod tele;
+mod telephone;
 
 pub use buffer::{
     Arrival, Depacketized, DepacketizingBuffer, RtpMeta, events_determine_what_waits,
@@ -27,6 +27,6 @@ pub use red_encoder::{RedEncoder, written_red_is_read_again};
 pub use red_sender::{RedSender, SentFrame, frames_are_sent_again};
 pub use red_sink::RedSink;
 pub use simulcast::{SdpAttribute, SdpSimulcast, SdpSimulcastLayer};
-pub use tele::{
+pub use telephone::{
     TelephoneEvent, duration_from_units, telephone_events_are_read_again, units_come_back,
 };

@@ -1,13 +1,17 @@
 //! Payload types and what they carry.
-ghost use Rattle.std.specs.Prelude.{◌≡◌, IfOk, [], ◌∷◌, MatchOption};
+ghost use Rattle.std.specs.Prelude.{◌≡◌, ◌==◌, IfOk, [], ◌∷◌, MatchOption, length};
 ghost use Rattle.std.specs.List.{list_any};
 ghost use Rattle.std.specs.Option.{option_copied};
+ghost use Rattle.std.specs.Slice.Iter.{iter_rest};
+ghost use Rattle.std.specs.Iterator.Adapters.{IterYieldsInOrder};
+ghost use Rattle.payload_core.specs.declared.params.PayloadParams.{PayloadParams as Params};
 ghost use Rattle.payload_core.specs.Params.{is_tele_type};
 
 use crate::codec::{Codec, CodecSpec, FormatParams, MediaKind};
 use rtp_wire::{Frequency, Pt};
 use std::alloc::{AllocError, Global};
 use std::marker::Model;
+use std::slice;
 
 /// The greatest telephone event that is agreed on: the sixteen keys (RFC 4733 section 3.2).
 pub const TELE_EVENT_MAX: u8 = 15;
@@ -128,6 +132,28 @@ impl CodecConfig {
         ensures { result.now ≡ self.now.params }
     {
         self.all.as_slice()
+    }
+
+    /// How many payload types there are.
+    pub fn len(&self) -> usize
+        ensures { result ≡ length self.now.params }
+    {
+        self.all.len()
+    }
+
+    /// Whether there are none.
+    pub fn is_empty(&self) -> bool
+        ensures { result ≡ (length self.now.params == 0) }
+    {
+        self.all.is_empty()
+    }
+
+    /// The payload types, one after another.
+    pub fn iter(&self) -> slice::Iter<'_, PayloadParams>
+        ensures rest { iter_rest result ≡ self.now.params }
+        ensures runs { IterYieldsInOrder Params }
+    {
+        self.all.iter()
     }
 
     /// How many packets back the frames are that RED repeats.

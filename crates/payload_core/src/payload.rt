@@ -5,8 +5,9 @@ ghost use Rattle.payload_core.specs.declared.error.PacketError.TheVariants.{Memo
 
 use crate::codec::{Codec, CodecSpec};
 use crate::error::PacketError;
-use crate::tele::TelephoneEvent;
-use media_base::{Bytes, Instant};
+use crate::telephone::TelephoneEvent;
+use media_base::Bytes;
+use media_units::Instant;
 use rtp_wire::{ExtensionValues, Frequency, MediaTime, Pt};
 use std::alloc::AllocError;
 

@@ -1,6 +1,7 @@
 ghost use Rattle.std.specs.Prelude.{◌≡◌, ◌∷◌, ◌++◌, []};
 
-use media_base::{Bytes, Instant, Listed};
+use media_base::{Bytes, Listed};
+use media_units::Instant;
 use payload_core::{
     Codec, CodecConfig, CodecSpec, FormatParams, MediaKind, MediaPacket, PacketError, PacketSink,
     PayloadParams, Payloader, RedBlock, RedEncoder, RedSender, RedSink,
@@ -180,11 +181,30 @@ fn types_are_found(rt: HostRuntime) {
     assert!(rt; found);
 }
 
-fn is_configured(alloc: Global) -> Result<bool, AllocError> {
-    let config = config(alloc)?;
+// Whether RED repeats other frames once that is set.
+fn goes_farther(config: &mut CodecConfig, distances: Vec<u32>) -> bool {
     let near = config.red_distances() == [1].as_slice();
+    config.set_red_distances(distances);
+    near && config.red_distances() == [1, 2].as_slice()
+}
+
+// Probes are of no codec, in the clock of video.
+fn is_probe(probe: PayloadParams) -> bool {
+    let spec = spec(Codec::Null, Frequency::NINETY_KHZ);
+    probe.pt == Pt::from(99) && probe.spec == spec && probe.fb_transport_cc && !probe.fb_pli
+}
+
+fn has_three(config: &CodecConfig) -> bool {
+    config.len() == 3 && !config.is_empty() && config.iter().all(|params| params.red.is_none())
+}
+
+fn is_configured(alloc: Global) -> Result<bool, AllocError> {
+    let distances = vec![in alloc; 1, 2]?;
+    let mut config = config(alloc)?;
+    let far = goes_farther(&mut config, distances);
     let events = config.tele_event_max(Pt::from(110)) == Some(15);
-    Ok(near && events && hears_opus(&config))
+    let probe = is_probe(PayloadParams::new_probe(Pt::from(99)));
+    Ok(far && events && probe && has_three(&config) && hears_opus(&config))
 }
 
 fn is_encoded(alloc: Global) -> Result<bool, AllocError> {

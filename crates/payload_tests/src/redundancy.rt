@@ -1,4 +1,5 @@
-use media_base::{Bytes, Instant};
+use media_base::Bytes;
+use media_units::Instant;
 use payload_core::{MediaPacket, RedDecoder, RedError, RedSender, red_same_pt_blocks};
 use rtp_base::{Frequency, MediaTime, Pt};
 use rtp_wire::ExtensionValues;

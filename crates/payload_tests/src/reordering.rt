@@ -1,4 +1,5 @@
-use media_base::{Bytes, Duration, Instant};
+use media_base::Bytes;
+use media_units::{Duration, Instant};
 use payload_core::{
     Codec, CodecDepacketizer, CodecExtra, CodecSpec, DepacketizingBuffer, FormatParams,
     PacketError, RtpMeta, TelephoneEvent,

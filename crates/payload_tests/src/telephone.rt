@@ -1,6 +1,6 @@
 ghost use Rattle.std.specs.Prelude.{◌≡◌};
 
-use media_base::Duration;
+use media_units::Duration;
 use payload_core::{TelephoneEvent, duration_from_units};
 use rtp_base::Frequency;
 

@@ -10,7 +10,7 @@ use Rattle.queue_store.specs.declared.stamps.Stamp.{Stamp}
 use Rattle.queue_store.specs.declared.queue.QueueStore.{QueueStore}
 use Rattle.queue_store.specs.Stamps.{stamp_at, first_of, AllAbove, IsGreatest}
 use Rattle.queue_store.specs.Queue.{index_of, held, held_in, value_at, with_item, StandsFor, Puts, Drops, IsOld, IsFar, IsThat, IsDone, IsPaired, takes_push}
-use Rattle.queue_store.specs.HeldLaws.{eq_true, eq_false, held_index, held_item, revalue}
+use Rattle.queue_store.specs.HeldLaws.{eq_true, eq_false, held_index, held_item}
 use Rattle.queue_store.proofs.RowLaws.{Front, front_dropped, held_from, held_some}
 
 -- ---- the mark
@@ -40,16 +40,6 @@ no_some : {A : Type 0} (x : A) (o : Option A) → o ≡ None → o ≡ Some x �
 no_some x o n s = let no : None ≡ Some x = sym n ∙ s in cc
 
 -- ---- drops
-pub drops_none : {T : Type 0} (gone : ℕ → ℕ → Type 0) (q : QueueStore T) → length q.stamps ≡ length q.values → Drops gone q q
-drops_none gone q pair = record {
-  paired = pair;
-  from = λ p x is. is;
-  stays = λ p x is. inl is;
-  marks = inl refl;
-  rises = λ p w. w;
-  higher = λ m e. (m, e, omega arith);
-  rest = refl;
-}
 
 pub drops_one : {T : Type 0} (old new : QueueStore T) (s : Stamp) → Front old.stamps old.values s → new.stamps ≡ drop 1 old.stamps → new.values ≡ drop 1 old.values → new ≡ record old { stamps = new.stamps; values = new.values; mark = raised_to old.mark s.position } → Drops (IsThat s) old new
 drops_one {T} old new s f ss vs rest = record {
@@ -336,9 +326,6 @@ evict_marks {T} gone old mid now d = record {
       d.marks;
 }
 
-pub same_marks : {T : Type 0} (q : QueueStore T) → MarksEviction (value_at q) (value_at q) q.mark q.mark
-same_marks {T} q = record { above = λ p v was is. absurd (no_some v (value_at q p) is was); either = inl refl }
-
 -- the lowest is not too old
 pub done_is : {T : Type 0} (q : QueueStore T) (s : Stamp) (now : ℕ) → IsPaired q → first_of q.stamps ≡ Some s → AllAbove s.position (drop 1 q.stamps) → now - s.moment ≤ q.age → IsDone q now
 done_is {T} q s now pair first above young = record {
@@ -376,20 +363,20 @@ revalued_stands {T} changed q past p i w at h = record {
   marked = λ m is. subst (λ (n : ℕ). m ≤ n) (sym (changed.next p w past.events)) (h.marked m is);
   young = λ r k x is. subst (λ (n : ℕ). n ≤ x.0 + past.age) (sym (changed.evictions p w past.events)) (young_at (changed.rising p w past.events r) k x (sym (item k) ∙ is));
 } where
-  item : (k : ℕ) → held_in (with_item q (Some i) w) k ≡ cond (eqb p k) (option_map (revalue w) (held_in q p)) (held_in q k)
+  item : (k : ℕ) → held_in (with_item q (Some i) w) k ≡ cond (eqb p k) (option_map (with_moment w) (held_in q p)) (held_in q k)
   item k = held_item q.stamps q.values i p w k at
 
-  mine : (k : ℕ) → p ≡ k → cond (eqb p k) (option_map (revalue w) (held_in q p)) (held_in q k) ≡ option_map (revalue w) (held_in q p)
-  mine k e = ap (λ (b : Bool). cond b (option_map (revalue w) (held_in q p)) (held_in q k)) (eq_true p k e)
+  mine : (k : ℕ) → p ≡ k → cond (eqb p k) (option_map (with_moment w) (held_in q p)) (held_in q k) ≡ option_map (with_moment w) (held_in q p)
+  mine k e = ap (λ (b : Bool). cond b (option_map (with_moment w) (held_in q p)) (held_in q k)) (eq_true p k e)
 
-  theirs : (k : ℕ) → p ≢ k → cond (eqb p k) (option_map (revalue w) (held_in q p)) (held_in q k) ≡ held_in q k
-  theirs k ne = ap (λ (b : Bool). cond b (option_map (revalue w) (held_in q p)) (held_in q k)) (eq_false p k ne)
+  theirs : (k : ℕ) → p ≢ k → cond (eqb p k) (option_map (with_moment w) (held_in q p)) (held_in q k) ≡ held_in q k
+  theirs k ne = ap (λ (b : Bool). cond b (option_map (with_moment w) (held_in q p)) (held_in q k)) (eq_false p k ne)
 
-  was : (x : ℕ × T) → option_map (revalue w) (held_in q p) ≡ Some x → (y : ℕ × T) × (held_in q p ≡ Some y) × (revalue w y ≡ x)
+  was : (x : ℕ × T) → option_map (with_moment w) (held_in q p) ≡ Some x → (y : ℕ × T) × (held_in q p ≡ Some y) × (with_moment w y ≡ x)
   was x is = pick (held_in q p) refl is where
-    pick : (o : Option (ℕ × T)) → held_in q p ≡ o → option_map (revalue w) o ≡ Some x → (y : ℕ × T) × (held_in q p ≡ Some y) × (revalue w y ≡ x)
+    pick : (o : Option (ℕ × T)) → held_in q p ≡ o → option_map (with_moment w) o ≡ Some x → (y : ℕ × T) × (held_in q p ≡ Some y) × (with_moment w y ≡ x)
     pick None a b = absurd (let no : None ≡ Some x = b in cc)
-    pick (Some y) a b = (y, a, let both : Some (revalue w y) ≡ Some x = b in cc)
+    pick (Some y) a b = (y, a, let both : Some (with_moment w y) ≡ Some x = b in cc)
 
   other_value : (o : Option (ℕ × T)) → last_under p past.events ≡ o → last_under p (map (revalued_event p w) past.events) ≡ option_map (with_moment w) o
   other_value o e = changed.under_same p w past.events ∙ ap (λ (y : Option (ℕ × T)). option_map (with_moment w) y) e
@@ -397,7 +384,7 @@ revalued_stands {T} changed q past p i w at h = record {
   far : (k : ℕ) → p ≢ k → last_under k (map (revalued_event p w) past.events) ≡ last_under k past.events
   far k ne = changed.under_other p w k past.events (λ e. ne (sym e))
 
-  true_at : (k : ℕ) (x : ℕ × T) → cond (eqb p k) (option_map (revalue w) (held_in q p)) (held_in q k) ≡ Some x → last_under k (map (revalued_event p w) past.events) ≡ Some x
+  true_at : (k : ℕ) (x : ℕ × T) → cond (eqb p k) (option_map (with_moment w) (held_in q p)) (held_in q k) ≡ Some x → last_under k (map (revalued_event p w) past.events) ≡ Some x
   true_at k x is = ⊎_elim
       (λ (e : p ≡ k).
       let y = was x (sym (mine k e) ∙ is) in
@@ -419,11 +406,11 @@ revalued_stands {T} changed q past p i w at h = record {
             let both : Some (with_moment w y) ≡ Some x = sym (other_value (Some y) l) ∙ ap (λ (n : ℕ). last_under n (map (revalued_event p w) past.events)) e ∙ is in
             let same : with_moment w y ≡ x = cc in
             ⊎_elim
-            (λ (z : held_in q p ≡ Some y). inl (item k ∙ mine k e ∙ ap (λ (o : Option (ℕ × T)). option_map (revalue w) o) z ∙ both))
+            (λ (z : held_in q p ≡ Some y). inl (item k ∙ mine k e ∙ ap (λ (o : Option (ℕ × T)). option_map (with_moment w) o) z ∙ both))
             (λ (z : MayGo past p y.0). inr (subst (λ (n : ℕ). MayGo (revalued past p w) n x.0) e (subst (λ (n : ℕ). MayGo (revalued past p w) p n) (ap (λ (a : ℕ × T). a.0) same) (changed.may_go past p w p y.0 z))))
             (h.keeps p y l)
 
-  young_at : IsRising past.events → (k : ℕ) (x : ℕ × T) → cond (eqb p k) (option_map (revalue w) (held_in q p)) (held_in q k) ≡ Some x → latest_eviction past.events ≤ x.0 + past.age
+  young_at : IsRising past.events → (k : ℕ) (x : ℕ × T) → cond (eqb p k) (option_map (with_moment w) (held_in q p)) (held_in q k) ≡ Some x → latest_eviction past.events ≤ x.0 + past.age
   young_at r k x is = ⊎_elim
       (λ (e : p ≡ k). let y = was x (sym (mine k e) ∙ is) in subst (λ (a : ℕ × T). latest_eviction past.events ≤ a.0 + past.age) y.2 (h.young r p y.0 y.1))
       (λ (ne : p ≢ k). h.young r k x (sym (theirs k ne) ∙ is))

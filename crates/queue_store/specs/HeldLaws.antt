@@ -8,6 +8,7 @@ use Rattle.resend_core.specs.ResendStore.{Past, MayGo, HeldAs}
 use Rattle.queue_store.specs.declared.stamps.Stamp.{Stamp}
 use Rattle.queue_store.specs.declared.queue.QueueStore.{QueueStore}
 use Rattle.queue_store.specs.Queue.{index_of, held, held_in, StandsFor, value_at, with_item, with_value}
+use Rattle.resend_core.specs.EventLaws.{with_moment}
 
 pub eq_true : (a b : ℕ) → a ≡ b → eqb a b ≡ true
 eq_true a b e = grind (arith, nat_tests)
@@ -35,11 +36,8 @@ held_index {T} (s ∷ ss) (v ∷ vs) p = pick (eqb s.position p) (held_index ss 
   pick true rest = refl
   pick false rest = rest ∙ next (index_of ss p)
 
-abbrev pub revalue : {T : Type 0} → T → ℕ × T → ℕ × T
-revalue w x = (x.0, w)
-
 -- what is held after another value was put at the index of a position
-pub held_item : {T : Type 0} (l : List Stamp) (vs : List T) (i p : ℕ) (w : T) (k : ℕ) → index_of l p ≡ Some i → held l (slice_set vs i w) k ≡ cond (eqb p k) (option_map (revalue w) (held l vs p)) (held l vs k)
+pub held_item : {T : Type 0} (l : List Stamp) (vs : List T) (i p : ℕ) (w : T) (k : ℕ) → index_of l p ≡ Some i → held l (slice_set vs i w) k ≡ cond (eqb p k) (option_map (with_moment w) (held l vs p)) (held l vs k)
 held_item [] vs i p w k is = absurd (let not_so : None ≡ Some i = is in cc)
 held_item {T} (s ∷ ss) [] i p w k is = pick (eqb p k) where
   pick : (b : Bool) → ◌≡◌ {A = Option (ℕ × T)} None (cond b None None)
@@ -57,24 +55,24 @@ held_item {T} (s ∷ ss) (v ∷ vs) i p w k is =
       index_there None t h = absurd (let no : None ≡ Some i = sym (ap (λ (b : Bool). cond b (Some 0) None) t) ∙ h in cc)
       index_there (Some j) t h = let same : Some (suc j) ≡ Some i = sym (ap (λ (b : Bool). cond b (Some 0) (Some (suc j))) t) ∙ h in (j, refl, cc)
 
-      here : s.position ≡ p → i ≡ 0 → held (s ∷ ss) (slice_set (v ∷ vs) i w) k ≡ cond (eqb p k) (option_map (revalue w) (held (s ∷ ss) (v ∷ vs) p)) (held (s ∷ ss) (v ∷ vs) k)
+      here : s.position ≡ p → i ≡ 0 → held (s ∷ ss) (slice_set (v ∷ vs) i w) k ≡ cond (eqb p k) (option_map (with_moment w) (held (s ∷ ss) (v ∷ vs) p)) (held (s ∷ ss) (v ∷ vs) k)
       here e zero_is =
           ap (λ (n : ℕ). held (s ∷ ss) (slice_set (v ∷ vs) n w) k) zero_is
           ∙ ap (λ (n : ℕ). cond (eqb n k) (Some (s.moment, w)) (held ss vs k)) e
           ∙ pick (eqb p k) refl where
-            pick : (b : Bool) → eqb p k ≡ b → cond b (Some (s.moment, w)) (held ss vs k) ≡ cond b (option_map (revalue w) (cond (eqb s.position p) (Some (s.moment, v)) (held ss vs p))) (cond (eqb s.position k) (Some (s.moment, v)) (held ss vs k))
-            pick true t = sym (ap (λ (b : Bool). option_map (revalue w) (cond b (Some (s.moment, v)) (held ss vs p))) (eq_true s.position p e))
+            pick : (b : Bool) → eqb p k ≡ b → cond b (Some (s.moment, w)) (held ss vs k) ≡ cond b (option_map (with_moment w) (cond (eqb s.position p) (Some (s.moment, v)) (held ss vs p))) (cond (eqb s.position k) (Some (s.moment, v)) (held ss vs k))
+            pick true t = sym (ap (λ (b : Bool). option_map (with_moment w) (cond b (Some (s.moment, v)) (held ss vs p))) (eq_true s.position p e))
             pick false t = sym (ap (λ (n : ℕ). cond (eqb n k) (Some (s.moment, v)) (held ss vs k)) e ∙ ap (λ (b : Bool). cond b (Some (s.moment, v)) (held ss vs k)) t)
 
-      there : s.position ≢ p → ((j : ℕ) → index_of ss p ≡ Some j → held ss (slice_set vs j w) k ≡ cond (eqb p k) (option_map (revalue w) (held ss vs p)) (held ss vs k)) → (j : ℕ) × (index_of ss p ≡ Some j) × (i ≡ suc j)
-          → held (s ∷ ss) (slice_set (v ∷ vs) i w) k ≡ cond (eqb p k) (option_map (revalue w) (held (s ∷ ss) (v ∷ vs) p)) (held (s ∷ ss) (v ∷ vs) k)
+      there : s.position ≢ p → ((j : ℕ) → index_of ss p ≡ Some j → held ss (slice_set vs j w) k ≡ cond (eqb p k) (option_map (with_moment w) (held ss vs p)) (held ss vs k)) → (j : ℕ) × (index_of ss p ≡ Some j) × (i ≡ suc j)
+          → held (s ∷ ss) (slice_set (v ∷ vs) i w) k ≡ cond (eqb p k) (option_map (with_moment w) (held (s ∷ ss) (v ∷ vs) p)) (held (s ∷ ss) (v ∷ vs) k)
       there ne rest at =
           ap (λ (n : ℕ). held (s ∷ ss) (slice_set (v ∷ vs) n w) k) at.2
           ∙ ap (λ (o : Option (ℕ × T)). cond (eqb s.position k) (Some (s.moment, v)) o) (rest at.0 at.1)
           ∙ pick (eqb p k) refl
-          ∙ sym (ap (λ (b : Bool). cond (eqb p k) (option_map (revalue w) (cond b (Some (s.moment, v)) (held ss vs p))) (held (s ∷ ss) (v ∷ vs) k)) (eq_false s.position p ne)) where
-            pick : (b : Bool) → eqb p k ≡ b → cond (eqb s.position k) (Some (s.moment, v)) (cond b (option_map (revalue w) (held ss vs p)) (held ss vs k)) ≡ cond b (option_map (revalue w) (held ss vs p)) (cond (eqb s.position k) (Some (s.moment, v)) (held ss vs k))
-            pick true t = ap (λ (b : Bool). cond b (Some (s.moment, v)) (option_map (revalue w) (held ss vs p))) (eq_false s.position k (λ f. ne (f ∙ sym (eq_is p k t))))
+          ∙ sym (ap (λ (b : Bool). cond (eqb p k) (option_map (with_moment w) (cond b (Some (s.moment, v)) (held ss vs p))) (held (s ∷ ss) (v ∷ vs) k)) (eq_false s.position p ne)) where
+            pick : (b : Bool) → eqb p k ≡ b → cond (eqb s.position k) (Some (s.moment, v)) (cond b (option_map (with_moment w) (held ss vs p)) (held ss vs k)) ≡ cond b (option_map (with_moment w) (held ss vs p)) (cond (eqb s.position k) (Some (s.moment, v)) (held ss vs k))
+            pick true t = ap (λ (b : Bool). cond b (Some (s.moment, v)) (option_map (with_moment w) (held ss vs p))) (eq_false s.position k (λ f. ne (f ∙ sym (eq_is p k t))))
             pick false t = refl
 
 -- what is held under a position is what the past lets be held
@@ -104,9 +102,9 @@ value_here {T} q p v w is =
     let at = has_index q p v is in
     ap (λ (o : Option ℕ). option_map (λ (x : ℕ × T). x.1) (held_in (with_item q o w) p)) at.1
     ∙ ap (λ (o : Option (ℕ × T)). option_map (λ (x : ℕ × T). x.1) o)
-    (held_item q.stamps q.values at.0 p w p at.1 ∙ ap (λ (b : Bool). cond b (option_map (revalue w) (held_in q p)) (held_in q p)) (eq_true p p refl))
+    (held_item q.stamps q.values at.0 p w p at.1 ∙ ap (λ (b : Bool). cond b (option_map (with_moment w) (held_in q p)) (held_in q p)) (eq_true p p refl))
     ∙ pick (held_in q p) is where
-      pick : (o : Option (ℕ × T)) → option_map (λ (x : ℕ × T). x.1) o ≡ Some v → option_map (λ (x : ℕ × T). x.1) (option_map (revalue w) o) ≡ Some w
+      pick : (o : Option (ℕ × T)) → option_map (λ (x : ℕ × T). x.1) o ≡ Some v → option_map (λ (x : ℕ × T). x.1) (option_map (with_moment w) o) ≡ Some w
       pick None k = absurd (let no : None ≡ Some v = k in cc)
       pick (Some x) k = refl
 
@@ -116,4 +114,4 @@ value_other {T} q p k v w is ne =
     let at = has_index q p v is in
     ap (λ (o : Option ℕ). option_map (λ (x : ℕ × T). x.1) (held_in (with_item q o w) k)) at.1
     ∙ ap (λ (o : Option (ℕ × T)). option_map (λ (x : ℕ × T). x.1) o)
-    (held_item q.stamps q.values at.0 p w k at.1 ∙ ap (λ (b : Bool). cond b (option_map (revalue w) (held_in q p)) (held_in q k)) (eq_false p k (λ e. ne (sym e))))
+    (held_item q.stamps q.values at.0 p w k at.1 ∙ ap (λ (b : Bool). cond b (option_map (with_moment w) (held_in q p)) (held_in q k)) (eq_false p k (λ e. ne (sym e))))

@@ -1,4 +1,3 @@
 pub mod HeldLaws
-pub mod Lending
 pub mod Queue
 pub mod Stamps

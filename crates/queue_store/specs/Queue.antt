@@ -1,6 +1,6 @@
 -- What a queue of values by rising position stands for.
-use Rattle.std.specs.Prelude.{◌≡◌, ℕ, suc, ◌+◌, ◌-◌, ◌<◌, ◌≤◌, ◌⊎◌, ◌&&◌, ◌==◌, Bool, true, nat_lt, nat_le, not, List, [], ◌∷◌, length, slice_set, Option, Some, None, unwrap_or, option_map, if◌then◌else◌}
-use Rattle.resend_core.specs.ResendStore.{Past, pushed, with_event, size_of, MustStore, last_under, last_position, next_position, latest_eviction, IsRising, MayGo, mark_above, IsMarked, is_under}
+use Rattle.std.specs.Prelude.{◌≡◌, ℕ, suc, ◌+◌, ◌-◌, ◌<◌, ◌≤◌, ◌⊎◌, ◌&&◌, ◌==◌, Bool, nat_lt, nat_le, not, List, [], ◌∷◌, length, slice_set, Option, Some, None, unwrap_or, option_map, if◌then◌else◌}
+use Rattle.resend_core.specs.ResendStore.{Past, size_of, last_under, last_position, next_position, latest_eviction, IsRising, MayGo, mark_above, IsMarked, is_under}
 use Rattle.queue_store.specs.declared.stamps.Stamp.{Stamp}
 use Rattle.queue_store.specs.declared.queue.QueueStore.{QueueStore}
 
@@ -86,7 +86,3 @@ IsThat s p t = (p ≡ s.position) × (t ≡ s.moment)
 -- of what is held the lowest is not older than the age
 pub record IsDone {T : Type 0} (q : QueueStore T) (now : ℕ) : Type 0 where
   pub young : (p : ℕ) (x : ℕ × T) → held_in q p ≡ Some x → (l : ℕ) × (y : ℕ × T) × (held_in q l ≡ Some y) × (l ≤ p) × (now - y.0 ≤ q.age)
-
--- a push has this effect: the value was stored or not, and it was where it must be
-abbrev pub IsPushed : {T : Type 0} → Past T → ℕ → ℕ → T → QueueStore T → Type 0
-IsPushed past p t v q = (stored : Bool) × (MustStore past p t → stored ≡ true) × StandsFor q (with_event past (pushed p t v stored))

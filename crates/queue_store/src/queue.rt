@@ -1,16 +1,16 @@
-ghost use Rattle.std.specs.Prelude.{◌≡◌, ℕ, ◌+◌, ◌*◌, ◌^◌, ◌-◌, ◌<◌, ◌≤◌, ◌⊎◌, Bool, Option, Some, None, true, is_some, option_and_then, drop, length, unwrap_or, OnSome, OnOk, OnErr, IfOk, IsOk};
+ghost use Rattle.std.specs.Prelude.{◌≡◌, ℕ, ◌+◌, ◌*◌, ◌^◌, ◌-◌, ◌<◌, ◌≤◌, ◌⊎◌, Bool, Option, Some, None, true, is_some, option_and_then, drop, length, OnSome, OnOk, OnErr, IfOk, IsOk};
 ghost use Rattle.std.specs.Option.{option_copied};
 ghost use Rattle.std.specs.Borrow.{sem};
 ghost use Rattle.std.specs.Bool.{OnTrue};
-ghost use Rattle.resend_core.specs.ResendStore.{evicted, Past, made, with_event, emptied, revalued, last_position, HeldAs, IsPassedOver, MarksPush, MarksEviction, raised_to};
+ghost use Rattle.resend_core.specs.ResendStore.{evicted, Past, made, with_event, emptied, revalued, last_position, HeldAs, IsPassedOver, MarksPush, MarksEviction};
 ghost use Rattle.queue_store.specs.Stamps.{first_of, AllAbove};
 ghost use Rattle.queue_store.specs.Queue.{StandsFor, value_at, with_value, takes_push, Puts, Drops, IsOld, IsFar, IsThat, IsDone, held, put_held, IsPaired, index_of};
-ghost use Rattle.queue_store.specs.Lending.{LendsValue};
 
 use crate::stamps::{Stamp, Stamps};
 use crate::steps::Steps;
 use crate::values::Values;
-use media_base::{Duration, Instant};
+use media_units::{Duration, Instant};
+use resend_core::mark::{begin, raised};
 use resend_core::{ResendStore, event_laws};
 use std::alloc::{AllocError, Global};
 use std::sync::ledger::Ledger;
@@ -267,28 +267,5 @@ fn place<T: Drop>(
             }
             Ok(())
         }
-    }
-}
-
-/// Sets the mark at the first position that is pushed.
-#[inline(always)]
-fn begin(mark: &mut Option<u64>, position: u64)
-    ensures { mark.new ≡ Some (unwrap_or mark.old position) }
-{
-    match mark {
-        Some(_) => {}
-        None => *mark = Some(position),
-    }
-}
-
-/// The mark after the value of a position was dropped.
-#[inline(always)]
-fn raised(mark: Option<u64>, dropped: u64) -> Option<u64>
-    ensures { result ≡ raised_to mark dropped }
-{
-    let next = dropped.saturating_add(1);
-    match mark {
-        Some(mark) => Some(mark.max(next)),
-        None => Some(next),
     }
 }

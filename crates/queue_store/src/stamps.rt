@@ -4,7 +4,7 @@ ghost use Rattle.queue_store.specs.Queue.{index_of};
 ghost use Rattle.queue_store.specs.Stamps.{stamp_at, first_of, IsFound, IsPlace, AllAbove, IsGreatest};
 
 use crate::steps::Steps;
-use media_base::Instant;
+use media_units::Instant;
 use std::alloc::{AllocError, Global};
 use std::cmp::Ordering;
 use std::collections::VecDeque;

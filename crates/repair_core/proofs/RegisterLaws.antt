@@ -1,6 +1,6 @@
 -- What a register answers is what the list says that it stands for.
 use Rattle.std.proofs.Common.{◌≡◌, ◌≢◌, ℕ, ◌+◌, ◌%◌, ◌<◌, ◌≤◌, Bool, true, false, List, [], ◌∷◌, ◌++◌, refl, sym, ap, ◌∙◌, arith, length, replicate, ⊎_elim, Option, Some, None}
-use Rattle.std.specs.Prelude.{not, ◌&&◌, ◌||◌, nat_eq, nat_lt, nat_le, max, slice_set}
+use Rattle.std.specs.Prelude.{not, ◌&&◌, ◌||◌, nat_eq, nat_lt, nat_le, max, slice_set, if◌then◌else◌}
 use Rattle.std.specs.List.{list_any}
 use Rattle.std.proofs.lemmas.Bool.Decides.{nat_tests}
 use Rattle.std.proofs.lemmas.List.{get_or-set_other, get_or-set_same, get_or-replicate, length-set}
@@ -8,7 +8,7 @@ use Rattle.std.proofs.lemmas.Bool.{cases_eq, cases_lt}
 use Rattle.repair_core.specs.declared.slots.Slot.{Slot}
 use Rattle.repair_core.specs.RegisterState.{RegisterState}
 use Rattle.repair_core.specs.Fresh.{greatest, greatest_of, is_fresh, with_number, started_from}
-use Rattle.repair_core.specs.NackRegister.{Keeps, StandsFor, accepts_number, put_number, started, kept_greatest}
+use Rattle.repair_core.specs.NackRegister.{Keeps, StandsFor, accepts_number, put_number, started}
 use Rattle.repair_core.specs.Slots.{no_slot, taken_slot, holds}
 
 kept_is : (r : RegisterState) (x n : ℕ) (l : List ℕ) → Keeps r x l → accepts_number r n ≡ (nat_lt (greatest l) n || (not (list_any (nat_eq n) l) && (nat_le x n && nat_le (greatest l) (n + 100))))
@@ -113,6 +113,9 @@ blank_stands r e s = (rw s refl, (e, λ k. rw s (blank 101 k (omega arith))))
 pub started_stands : (r : RegisterState) (o : Option ℕ) → r.started ≡ false → r.slots ≡ replicate 101 no_slot → StandsFor (started r o) (started_from o)
 started_stands r None e s = blank_stands r e s
 started_stands r (Some n) e s = put_first r n (blank_stands r e s)
+
+abbrev pub kept_greatest : RegisterState → Option ℕ
+kept_greatest r = if r.started then Some r.greatest else None
 
 pub greatest_is : (r : RegisterState) (l : List ℕ) → StandsFor r l → kept_greatest r ≡ greatest_of l
 unfolding StandsFor

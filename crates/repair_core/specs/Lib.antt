@@ -8,8 +8,3 @@ pub mod Reception
 pub mod Rounds
 pub mod Slots
 pub mod RegisterState
-pub use Rattle.resend_core.specs.EvictingBuffer
-pub use Rattle.resend_core.specs.Lending
-pub use Rattle.resend_core.specs.ResendStore
-pub use Rattle.resend_core.specs.Ring
-pub use Rattle.resend_core.specs.RtxCache

@@ -39,9 +39,6 @@ abbrev pub started : RegisterState → Option ℕ → RegisterState
 started r None = r
 started r (Some n) = put_number r n
 
-abbrev pub kept_greatest : RegisterState → Option ℕ
-kept_greatest r = if r.started then Some r.greatest else None
-
 -- the register was told this
 pub record Remembers (r : RegisterState) (past : Heard) : Type 0 where
   pub stands : StandsFor r (taken past)

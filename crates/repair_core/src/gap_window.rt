@@ -6,7 +6,7 @@ ghost use Rattle.repair_core.specs.Rounds.{Heard, started_at, came, round, taken
 ghost use Rattle.repair_core.specs.Entries.{packed};
 
 use crate::register_nack::NackRegister;
-use media_base::{Duration, Instant};
+use media_units::{Duration, Instant};
 use rtp_base::{NackEntry, ReportList, SeqNo};
 use std::alloc::{AllocError, Global};
 use std::ops::Range;

@@ -1,7 +1,7 @@
 ghost use Rattle.std.specs.Prelude.{◌≡◌, ◌+◌, ◌*◌, ◌^◌, ◌<◌, ◌≤◌, None};
 ghost use Rattle.repair_core.specs.Jitter.{distance as distance_of, nanos_of, deviation as deviation_of, next_jitter, units_of, entered, jitter_after, rtp_jitter};
 
-use media_base::Instant;
+use media_units::Instant;
 
 /// When a packet arrived, and its RTP time, in so many units a second.
 #[derive(Clone, Copy, Debug, PartialEq, Eq)]

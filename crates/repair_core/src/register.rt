@@ -9,7 +9,7 @@ use crate::counts::ReceptionCounts;
 use crate::gap_window::GapWindow;
 use crate::jitter::TimePoint;
 use crate::register_nack::NackRegister;
-use media_base::{Duration, Instant};
+use media_units::{Duration, Instant};
 use rtp_base::{NackEntry, ReceptionReport, ReportList, SeqNo};
 use std::alloc::{AllocError, Global};
 use std::ops::Range;

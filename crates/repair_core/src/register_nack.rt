@@ -9,11 +9,23 @@ ghost use Rattle.repair_core.specs.Entries.{packed};
 
 use crate::missing::{Missing, pack};
 use crate::slots::{Slot, Slots};
-use media_base::{Duration, Instant};
+use media_units::{Duration, Instant};
 use rtp_base::{NackEntry, ReportList, SeqNo};
 use std::alloc::{AllocError, Global};
 use std::marker::Model;
 use std::ops::Range;
+
+/// How far below the greatest a number may be to be taken.
+pub const MAX_MISORDER: u64 = 100;
+
+/// How often a missing number is asked for.
+pub const MAX_NACKS: u8 = 5;
+
+/// The round trip where none is known.
+const DEFAULT_RTT_NANOS: u64 = 100_000_000;
+
+/// How long past the round trip a number is asked for again.
+const NACK_RETRY_MARGIN_NANOS: u64 = 5_000_000;
 
 /// The numbers that were taken, as far as the answers need them: the first, the greatest, and which
 /// of the last 101 are among them. Its room is taken when it is made.
@@ -98,7 +110,7 @@ impl NackRegister {
         if !self.started || self.greatest < number {
             return true;
         }
-        if number < self.first || number + 100 < self.greatest {
+        if number < self.first || number + MAX_MISORDER < self.greatest {
             return false;
         }
         !self.is_held(number)
@@ -209,7 +221,7 @@ impl NackRegister {
     {
         let low = self
             .first
-            .max(self.greatest.saturating_sub(100))
+            .max(self.greatest.saturating_sub(MAX_MISORDER))
             .max(self.settled);
         for number in low..self.greatest {
             if self.needs(number) {
@@ -267,7 +279,10 @@ impl NackRegister {
         if !self.started {
             return false;
         }
-        let low = self.first.max(self.greatest.saturating_sub(100)).max(from);
+        let low = self
+            .first
+            .max(self.greatest.saturating_sub(MAX_MISORDER))
+            .max(from);
         let high = self.greatest.min(to);
         for number in low..high {
             if self.needs(number) {
@@ -284,7 +299,10 @@ impl NackRegister {
         if !self.started {
             return None;
         }
-        let low = self.first.max(self.greatest.saturating_sub(100)).max(from);
+        let low = self
+            .first
+            .max(self.greatest.saturating_sub(MAX_MISORDER))
+            .max(from);
         let high = self.greatest.min(to);
         let mut latest = None;
         for number in low..high {
@@ -300,7 +318,7 @@ impl NackRegister {
         ensures { result ≡ slot_needs (known self.now.slots number) }
     {
         let slot = self.known(number);
-        !slot.taken && slot.asks < 5
+        !slot.taken && slot.asks < MAX_NACKS
     }
 
     fn known(&self, number: u64) -> Slot
@@ -350,7 +368,7 @@ impl NackRegister {
         if !self.started {
             return;
         }
-        let low = self.first.max(self.greatest.saturating_sub(100));
+        let low = self.first.max(self.greatest.saturating_sub(MAX_MISORDER));
         let mut begun: Option<Missing> = None;
         for number in low..self.greatest {
             if self.ask(number, now, wait) {
@@ -369,9 +387,9 @@ pub fn wait(trip: Option<Duration>) -> Duration
 {
     let trip = match trip {
         Some(trip) => trip,
-        None => Duration::from_nanos(100_000_000),
+        None => Duration::from_nanos(DEFAULT_RTT_NANOS),
     };
-    trip.saturating_add(Duration::from_nanos(5_000_000))
+    trip.saturating_add(Duration::from_nanos(NACK_RETRY_MARGIN_NANOS))
 }
 
 /// Three round trips, of 100 ms where they are not known: so long after the last ask a number is
@@ -379,7 +397,7 @@ pub fn wait(trip: Option<Duration>) -> Duration
 pub fn grace(trip: Option<Duration>) -> Duration
     ensures { result ≡ grace_of trip }
 {
-    let trip = trip.unwrap_or(Duration::from_nanos(100_000_000));
+    let trip = trip.unwrap_or(Duration::from_nanos(DEFAULT_RTT_NANOS));
     trip.saturating_mul(3)
 }
 
@@ -397,7 +415,7 @@ fn is_due(slot: Slot, now: Instant, wait: Duration) -> bool
     ensures value { result ≡ slot_due slot now wait }
     ensures few { OnTrue result (slot.asks < 5) }
 {
-    if slot.taken || slot.asks >= 5 {
+    if slot.taken || slot.asks >= MAX_NACKS {
         return false;
     }
     if slot.asks == 0 {

@@ -1,12 +1,13 @@
 ghost use Rattle.std.specs.Prelude.{◌≡◌, ◌%◌, IfOk, replicate, slice_set, slice_index_or, length};
 ghost use Rattle.repair_core.specs.Slots.{no_slot};
 
-use media_base::Instant;
+use crate::register_nack::MAX_MISORDER;
+use media_units::Instant;
 use std::alloc::{AllocError, Global};
 use std::marker::Model;
 
 /// How many numbers a window spans.
-pub const WINDOW: u64 = 101;
+pub const WINDOW: u64 = MAX_MISORDER + 1;
 
 /// What is known of one number: whether it was taken, else how often it was asked for, and when last.
 #[derive(Clone, Copy, Debug)]

@@ -4,7 +4,7 @@ use Rattle.std.specs.Option.{option_map}
 use Rattle.media_units.specs.Wallclock.{ntp_of_unix}
 use Rattle.rtp_base.specs.Widen.{widen32}
 use Rattle.rtp_base.specs.declared.reception_report.ReceptionReport.{ReceptionReport}
-use Rattle.rtcp_wire.specs.declared.report.SenderInfo.{SenderInfo}
+use Rattle.rtcp_items.specs.declared.report.SenderInfo.{SenderInfo}
 use Rattle.report_core.specs.declared.sender_news.LastSenderReport.{LastSenderReport}
 use Rattle.report_core.specs.declared.sender_news.SenderNews.{SenderNews}
 

@@ -1,10 +1,10 @@
 -- The moments of receivers that wait for an answer (RFC 3611 sections 4.4 and 4.5).
 use Rattle.std.specs.Prelude.{◌≢◌, ℕ, ◌-◌, ◌==◌, List, [], ◌∷◌, ◌++◌, length, take, drop, map, position, slice_set, Option, Some, None}
 use Rattle.std.specs.List.{AllPairs, Contains}
-use Rattle.rtcp_wire.specs.declared.extended.Rrtr.{Rrtr}
-use Rattle.rtcp_wire.specs.declared.extended.DlrrItem.{DlrrItem}
-use Rattle.rtcp_wire.specs.declared.extended.ReportBlock.TheVariants.{Dlrr}
-use Rattle.rtcp_wire.specs.declared.extended.ExtendedReport.{ExtendedReport}
+use Rattle.rtcp_items.specs.declared.extended.Rrtr.{Rrtr}
+use Rattle.rtcp_items.specs.declared.extended.DlrrItem.{DlrrItem}
+use Rattle.rtcp_items.specs.declared.extended.ReportBlock.TheVariants.{Dlrr}
+use Rattle.rtcp_items.specs.declared.extended.ExtendedReport.{ExtendedReport}
 use Rattle.report_core.specs.declared.moments.ReceiverMoment.{ReceiverMoment}
 use Rattle.report_core.specs.LastReport.{compact_of, delay_units}
 

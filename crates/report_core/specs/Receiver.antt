@@ -4,9 +4,9 @@ use Rattle.std.specs.Option.{option_to_list}
 use Rattle.media_units.specs.Wallclock.{unix_nanos}
 use Rattle.media_units.specs.declared.wallclock.Beginning.{Beginning}
 use Rattle.rtp_base.specs.declared.reception_report.ReceptionReport.{ReceptionReport}
-use Rattle.rtcp_wire.specs.declared.report.ReceiverReport.{ReceiverReport}
-use Rattle.rtcp_wire.specs.declared.extended.ReportBlock.TheVariants.{Rrtr}
-use Rattle.rtcp_wire.specs.declared.extended.ExtendedReport.{ExtendedReport}
+use Rattle.rtcp_items.specs.declared.report.ReceiverReport.{ReceiverReport}
+use Rattle.rtcp_items.specs.declared.extended.ReportBlock.TheVariants.{Rrtr}
+use Rattle.rtcp_items.specs.declared.extended.ExtendedReport.{ExtendedReport}
 
 -- the report of one source, or of none
 abbrev pub receiver_report_of : (sender_ssrc : ℕ) → Option ReceptionReport → ReceiverReport

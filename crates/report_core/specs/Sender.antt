@@ -2,10 +2,10 @@
 use Rattle.std.specs.Prelude.{ℕ, ◌+◌, ◌-◌, ◌*◌, ◌/◌, ◌%◌, ◌^◌, nat_le, if◌then◌else◌, List, [], ◌∷◌, Option, Some, None}
 use Rattle.media_units.specs.Wallclock.{unix_nanos}
 use Rattle.media_units.specs.declared.wallclock.Beginning.{Beginning}
-use Rattle.rtcp_wire.specs.declared.report.SenderInfo.{SenderInfo}
-use Rattle.rtcp_wire.specs.declared.report.SenderReport.{SenderReport}
-use Rattle.rtcp_wire.specs.declared.source.SdesType.TheVariants.{CNAME}
-use Rattle.rtcp_wire.specs.declared.source.Descriptions.{Descriptions}
+use Rattle.rtcp_items.specs.declared.report.SenderInfo.{SenderInfo}
+use Rattle.rtcp_items.specs.declared.report.SenderReport.{SenderReport}
+use Rattle.rtcp_items.specs.declared.source.SdesType.TheVariants.{CNAME}
+use Rattle.rtcp_items.specs.declared.source.Descriptions.{Descriptions}
 use Rattle.report_core.specs.declared.rtp_clock.Written.{Written}
 use Rattle.report_core.specs.declared.rtp_clock.RtpClock.{RtpClock}
 use Rattle.report_core.specs.declared.traffic.Traffic.{Traffic}

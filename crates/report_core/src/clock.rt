@@ -2,7 +2,7 @@
 ghost use Rattle.std.specs.Prelude.{◌≡◌, nat_le, None, Some};
 ghost use Rattle.report_core.specs.Due.{interval_of, receiver_due, sender_due, is_sender_due};
 
-use media_base::{Duration, Instant, already_happened, not_happening};
+use media_units::{Duration, Instant, already_happened, not_happening};
 
 /// How long after a report of a stream the next one is due. The session sets it; RFC 3550 section
 /// 6.2 says how it is chosen.

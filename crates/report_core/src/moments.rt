@@ -25,8 +25,9 @@ ghost use Rattle.report_core.specs.Moments.{
 };
 
 use crate::sender_news::{compact_ntp, delay_in_units};
-use media_base::{Instant, Listed};
-use rtcp_wire::{Dlrr, DlrrItem, ExtendedReport, ReportBlock, Rrtr};
+use media_base::Listed;
+use media_units::Instant;
+use rtcp_items::{Dlrr, DlrrItem, ExtendedReport, ReportBlock, Rrtr};
 use rtp_base::Ssrc;
 use std::alloc::{AllocError, Global};
 use std::collections::VecDeque;

@@ -2,8 +2,9 @@
 ghost use Rattle.std.specs.Prelude.{◌≡◌, IfOk};
 ghost use Rattle.report_core.specs.Receiver.{receiver_report_of, moment_report_of};
 
-use media_base::{Beginning, Instant, InstantExt, Listed};
-use rtcp_wire::{ExtendedReport, ReceiverReport, ReportBlock, Rrtr};
+use media_base::Listed;
+use media_units::{Beginning, Instant, InstantExt};
+use rtcp_items::{ExtendedReport, ReceiverReport, ReportBlock, Rrtr};
 use rtp_base::{ReceptionReport, Ssrc};
 use std::alloc::{AllocError, Global};
 

@@ -2,7 +2,7 @@
 ghost use Rattle.std.specs.Prelude.{◌≡◌, Some, None};
 ghost use Rattle.report_core.specs.Sender.{moved_on, rtp_time_at};
 
-use media_base::{Duration, Instant};
+use media_units::{Duration, Instant};
 use rtp_base::Frequency;
 
 /// What was written last to a stream.

@@ -3,8 +3,9 @@ ghost use Rattle.std.specs.Prelude.{◌≡◌, IfOk};
 ghost use Rattle.report_core.specs.Sender.{info_of, report_of, name_of};
 
 use crate::{RtpClock, Traffic};
-use media_base::{Beginning, Bytes, Instant, InstantExt, Listed};
-use rtcp_wire::{Descriptions, Sdes, SdesItem, SdesType, SenderInfo, SenderReport};
+use media_base::{Bytes, Listed};
+use media_units::{Beginning, Instant, InstantExt};
+use rtcp_items::{Descriptions, Sdes, SdesItem, SdesType, SenderInfo, SenderReport};
 use rtp_base::Ssrc;
 use std::alloc::{AllocError, Global};
 

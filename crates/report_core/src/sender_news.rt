@@ -8,8 +8,8 @@ ghost use Rattle.report_core.specs.LastReport.{
   block_of,
 };
 
-use media_base::{Duration, Instant, SystemTime, SystemTimeExt};
-use rtcp_wire::SenderInfo;
+use media_units::{Duration, Instant, SystemTime, SystemTimeExt};
+use rtcp_items::SenderInfo;
 use rtp_base::{ReceptionReport, Ssrc, widen32};
 
 /// The last sender report that came.

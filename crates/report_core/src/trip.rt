@@ -4,8 +4,8 @@ ghost use Rattle.media_units.specs.Wallclock.{ntp_nanos};
 ghost use Rattle.report_core.specs.Trip.{trip_told};
 ghost use Rattle.report_core.specs.Exchange.{TripsAreMeasured};
 
-use media_base::{Beginning, Duration, Instant, InstantExt, calculate_rtt};
-use rtcp_wire::DlrrItem;
+use media_units::{Beginning, Duration, Instant, InstantExt, calculate_rtt};
+use rtcp_items::DlrrItem;
 use rtp_base::ReceptionReport;
 
 /// The round trip that the answer to a receiver's moment tells, where it comes at a moment (RFC

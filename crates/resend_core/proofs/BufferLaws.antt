@@ -1,5 +1,5 @@
 -- What a buffer stands for after each step.
-use Rattle.std.proofs.Common.{◌≡◌, ◌≢◌, ℕ, ◌+◌, ◌-◌, ◌*◌, ◌/◌, ◌%◌, ◌<◌, ◌≤◌, Bool, true, false, cond, eqb, leb, ltb, List, [], ◌∷◌, ◌++◌, refl, sym, ap, ◌∙◌, subst, arith, length, replicate, map, max, min, inl, inr, ⊎_elim, ◌⊎◌, Option, Some, None}
+use Rattle.std.proofs.Common.{◌≡◌, ◌≢◌, ℕ, ◌+◌, ◌-◌, ◌*◌, ◌/◌, ◌%◌, ◌<◌, ◌≤◌, Bool, true, false, cond, ltb, List, [], ◌∷◌, ◌++◌, refl, sym, ap, ◌∙◌, subst, arith, length, replicate, map, max, min, inl, inr, ⊎_elim, ◌⊎◌, Option, Some, None}
 use Rattle.std.specs.Prelude.{not, ◌&&◌, slice_index_or, unwrap_or}
 use Rattle.std.proofs.lemmas.Bool.Decides.{nat_tests}
 use Rattle.std.proofs.lemmas.List.{length-replicate, length-map}
@@ -7,10 +7,10 @@ use Rattle.std.proofs.lemmas.Bool.{cases_eq, cases_lt}
 use Rattle.std.proofs.Math.Nat.{mul-le-mul_left}
 use Rattle.resend_core.specs.declared.ring.Entry.{Entry}
 use Rattle.resend_core.specs.declared.rtx_cache_buf.EvictingBuffer.{EvictingBuffer}
-use Rattle.resend_core.specs.Ring.{slot_of, held, yields_to, has_room, is_other, put_in, settled_all, kept_from, IsIn, IsInPlace}
-use Rattle.resend_core.specs.ResendStore.{Event, pushed, evicted, Past, with_event, emptied, size_of, greatest_by, last_under, stored_at, stored_position, greatest_stored, after_pushed, next_position, evicted_at, latest_eviction, IsRising, MustStore, MayGo, mark_above, IsMarked, is_under, IsAtLeast, IsPassedOver, MarksPush}
+use Rattle.resend_core.specs.Ring.{slot_of, held, yields_to, has_room, put_in, settled_all, kept_from, IsInPlace}
+use Rattle.resend_core.specs.ResendStore.{Event, pushed, evicted, Past, with_event, emptied, size_of, greatest_by, last_under, stored_at, stored_position, greatest_stored, after_pushed, next_position, evicted_at, latest_eviction, IsRising, MustStore, MayGo, mark_above, IsMarked, is_under, IsAtLeast, MarksPush}
 use Rattle.resend_core.specs.EvictingBuffer.{StandsFor, IsReady, Grows, Spans, Places, lowered, IsBounded, Drops, IsDone, IsPushed, takes_push}
-use Rattle.resend_core.proofs.RingLaws.{held_slot, held_in, in_held, slot_held, held_put_same, held_put_other, held_put_from, in_place_put, length-put, all_length, IsOutdone, grown, grown_from, grown_in_place, dropped_in_place, dropped_from}
+use Rattle.resend_core.proofs.RingLaws.{held_slot, held_in, in_held, slot_held, held_put_same, held_put_other, held_put_from, in_place_put, length-put, all_length, IsOutdone, grown, grown_from, grown_in_place, dropped_in_place, dropped_from, IsIn}
 use Rattle.resend_core.proofs.EventsAdded.{may_go_more, greatest_by-push, greatest_by_grows, last_by-push, under_same, under_other, under_ignored, under_evicted, rising_front, under_stored, under_next, rising_order}
 
 -- of two numbers with one remainder the greater is the divisor or more above

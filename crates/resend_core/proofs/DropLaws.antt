@@ -6,10 +6,10 @@ use Rattle.std.proofs.lemmas.List.{get_or-set_other, get_or-set_same, length-set
 use Rattle.std.proofs.lemmas.Bool.{cases_eq, cases_lt}
 use Rattle.resend_core.specs.declared.ring.Entry.{Entry}
 use Rattle.resend_core.specs.declared.rtx_cache_buf.EvictingBuffer.{EvictingBuffer}
-use Rattle.resend_core.specs.Ring.{matching, slot_of, held, least_young, is_below, is_above, raise, raised_all, IsIn, IsInPlace}
+use Rattle.resend_core.specs.Ring.{matching, slot_of, held, least_young, is_below, is_above, raise, raised_all, IsInPlace}
 use Rattle.resend_core.specs.ResendStore.{mark_above, raised_to, IsMarked, MarksEviction}
 use Rattle.resend_core.specs.EvictingBuffer.{IsBounded, Drops, DropsLowest, Sweeps, IsDone, swept}
-use Rattle.resend_core.proofs.RingLaws.{held_slot, held_in, in_held, dropped_in_place, dropped_from, dropped_stays, IsYoungAt, least_at, least_le}
+use Rattle.resend_core.proofs.RingLaws.{held_slot, held_in, in_held, dropped_in_place, dropped_from, dropped_stays, IsYoungAt, least_at, least_le, IsIn}
 
 -- the mark
 same_some : (a b : ℕ) → Some a ≡ Some b → a ≡ b

@@ -1,5 +1,5 @@
 -- A ring of slots, in which an entry stands in the slot of its position's remainder.
-use Rattle.std.specs.Prelude.{◌≡◌, ℕ, ◌-◌, ◌%◌, Bool, true, false, not, ◌&&◌, ◌==◌, ◌⊎◌, nat_lt, nat_le, if◌then◌else◌, length, List, [], ◌∷◌, slice_index_or, slice_set, Option, Some, None, option_map, fold}
+use Rattle.std.specs.Prelude.{◌≡◌, ℕ, ◌-◌, ◌%◌, Bool, true, false, not, ◌&&◌, ◌==◌, nat_lt, nat_le, if◌then◌else◌, length, List, [], ◌∷◌, slice_index_or, slice_set, Option, Some, None, option_map, fold}
 use Rattle.resend_core.specs.declared.ring.Entry.{Entry}
 
 -- the entry, if it is of this position
@@ -75,10 +75,6 @@ raise last (Some e) first = if is_below first e.position && is_above last e.posi
 abbrev pub raised_all : {T : Type 0} → Option ℕ → List (Option (Entry T)) → Option ℕ → Option ℕ
 raised_all last [] first = last
 raised_all last (slot ∷ slots) first = raised_all (raise last slot first) slots first
-
-abbrev pub IsIn : {T : Type 0} → Entry T → List (Option (Entry T)) → Type 0
-IsIn e [] = ⊥
-IsIn e (slot ∷ slots) = (slot ≡ Some e) ⊎ IsIn e slots
 
 -- every entry stands in the slot of its position's remainder
 abbrev pub IsInPlace : {T : Type 0} → List (Option (Entry T)) → Type 0

@@ -3,6 +3,7 @@
 #![tactic(auto)]
 
 mod laws;
+pub mod mark;
 mod resend_store;
 mod ring;
 mod rtx_cache;

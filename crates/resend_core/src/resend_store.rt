@@ -4,7 +4,7 @@ ghost use Rattle.std.specs.Borrow.{sem, LendsIf};
 ghost use Rattle.resend_core.specs.ResendStore.{Past, evicted, with_event, emptied, made, size_of, revalued, last_position, HeldAs, IsPushedInto, IsPassedOver, MarksPush, MarksEviction};
 
 use crate::rtx_cache_buf::EvictingBuffer;
-use media_base::{Duration, Instant};
+use media_units::{Duration, Instant};
 use std::alloc::{AllocError, Global};
 
 /// What holds values under rising positions, each until it is too old or its room is needed.

@@ -2,7 +2,7 @@ ghost use Rattle.std.specs.Prelude.{◌≡◌, ◌<◌, ◌%◌, slice_set, Some
 ghost use Rattle.std.specs.Option.{option_copied};
 ghost use Rattle.resend_core.specs.Ring.{slot_of, held, place_in, has_room, is_other, put_in, settled, settled_all, least_young, lower as lower_of, kept_from, raise, raised_all};
 
-use media_base::{Duration, Instant};
+use media_units::{Duration, Instant};
 use std::alloc::{AllocError, Global};
 
 /// A value under its position, and when it was stored. Position and value, which a look-up reads, stand

@@ -6,7 +6,7 @@ ghost use Rattle.resend_core.specs.RtxCache.{StandsFor, packet_at, made_for, IsC
 use crate::resend_store::ResendStore;
 use crate::rtx_cache_buf::EvictingBuffer;
 use crate::size_classes::{CLASS_SIZE, SizeClasses};
-use media_base::{Duration, Instant};
+use media_units::{Duration, Instant};
 use rtp_base::SeqNo;
 use std::alloc::{AllocError, Global};
 use std::marker::PhantomData;

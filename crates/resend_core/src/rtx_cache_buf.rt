@@ -3,15 +3,16 @@ ghost use Rattle.std.specs.Option.{option_copied, option_copied_mut};
 ghost use Rattle.std.specs.Borrow.{sem};
 ghost use Rattle.std.specs.Bool.{OnTrue};
 ghost use Rattle.resend_core.specs.Ring.{held};
-ghost use Rattle.resend_core.specs.ResendStore.{evicted, Past, made, size_of, with_event, emptied, revalued, last_position, HeldAs, IsPassedOver, MarksPush, MarksEviction, raised_to};
+ghost use Rattle.resend_core.specs.ResendStore.{evicted, Past, made, size_of, with_event, emptied, revalued, last_position, HeldAs, IsPassedOver, MarksPush, MarksEviction};
 ghost use Rattle.resend_core.specs.Lending.{LendsValue};
 ghost use Rattle.resend_core.specs.EvictingBuffer.{StandsFor, value_at, with_value, Grows, Places, IsBounded, Spans, Drops, DropsLowest, Sweeps, IsDone, IsReady, IsPushed, takes_push, lowered, swept as swept_to};
 
+use crate::mark::{begin, raised};
 use crate::ring::{
     Entry, blank, drop_at, drop_below, entry_at, entry_in, first_young, is_free, is_occupied,
     last_below, move_all, place_of, put, slot_index,
 };
-use media_base::{Duration, Instant};
+use media_units::{Duration, Instant};
 use std::alloc::{AllocError, Global};
 use std::mem;
 
@@ -339,29 +340,6 @@ fn is_young<T>(entry: &Entry<T>, now: Instant, age: Duration) -> bool
     ensures { result ≡ nat_le (now - entry.now.moment) age }
 {
     now.as_nanos().saturating_sub(entry.moment.as_nanos()) <= age.as_nanos()
-}
-
-/// Sets the mark at the first position that is pushed.
-#[inline(always)]
-fn begin(mark: &mut Option<u64>, position: u64)
-    ensures { mark.new ≡ Some (unwrap_or mark.old position) }
-{
-    match mark {
-        Some(_) => {}
-        None => *mark = Some(position),
-    }
-}
-
-/// The mark after the value of a position was dropped for its age.
-#[inline(always)]
-fn raised(mark: Option<u64>, dropped: u64) -> Option<u64>
-    ensures { result ≡ raised_to mark dropped }
-{
-    let next = dropped.saturating_add(1);
-    match mark {
-        Some(mark) => Some(mark.max(next)),
-        None => Some(next),
-    }
 }
 
 /// The mark after values were dropped for their age, of which this position is the greatest.

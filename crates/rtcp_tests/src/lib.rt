@@ -3,8 +3,8 @@
 #![tactic(auto)]
 
 #[cfg(test)]
-mod reporting;
+mod compounds;
 #[cfg(test)]
-mod rtcp_items;
+mod reporting;
 #[cfg(test)]
 mod transport_feedback;

@@ -1,4 +1,4 @@
-use media_base::{Beginning, Duration, Instant, SystemTime};
+use media_units::{Beginning, Duration, Instant, SystemTime};
 use report_core::{
     LossLog, ReceiverClock, ReceiverMoments, ReportIntervals, RtpClock, SenderClock, SenderNews,
     StreamStats, StreamTxStats, TimeLine, Traffic, description, moment_report, receiver_report,

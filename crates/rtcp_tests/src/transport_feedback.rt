@@ -1,5 +1,6 @@
 use PacketStatus::{NotReceived, Received};
-use media_base::{DataSize, Duration, Instant, Listed};
+use media_base::Listed;
+use media_units::{DataSize, Duration, Instant};
 use rtp_base::{SeqNo, Ssrc, TwccPacketId};
 use std::alloc::{AllocError, Global};
 use twcc_core::{

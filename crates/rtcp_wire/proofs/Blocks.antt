@@ -1,8 +1,7 @@
 -- The loop that reads the blocks of an extended report.
-use Rattle.std.proofs.Common.{◌≡◌, ℕ, zero, suc, ◌+◌, ◌-◌, ◌<◌, ◌≤◌, List, [], ◌∷◌, ◌++◌, length, Option, Some, None, refl, sym, ap, ◌∙◌, append_assoc, arith, length-append}
+use Rattle.std.proofs.Common.{◌≡◌, ℕ, suc, ◌+◌, ◌-◌, ◌<◌, List, [], ◌∷◌, ◌++◌, length, Option, Some, None, refl, sym, ap, ◌∙◌, append_assoc, arith, length-append}
 use Rattle.std.specs.Option.{option_map, option_and_then}
-use Rattle.std.proofs.lemmas.List.{append-nil}
-use Rattle.rtcp_wire.specs.declared.extended.ReportBlock.{ReportBlock}
+use Rattle.rtcp_items.specs.declared.extended.ReportBlock.{ReportBlock}
 use Rattle.rtcp_wire.specs.Extended.{with_blocks, kept, block_at, blocks_within, blocks_of}
 
 abbrev pub with_front : List ReportBlock → Option (List ReportBlock) → Option (List ReportBlock)
@@ -34,10 +33,6 @@ one_more n room now new (Some x) after r e =
     let c : 31 - length (now ++ x.0) ≡ suc room - length x.0 = omega (arith, r, length-append now x.0) in
     rw (← a, ← b, c) (sym (regroup now x.0 (blocks_within n (suc room - length x.0) x.1)))
 
-none_more : (n room : ℕ) (now : List ReportBlock) (o : Option (List ReportBlock × List ℕ)) → option_map (with_blocks now) o ≡ None → with_front now (continued n room o) ≡ None
-none_more n room now None e = refl
-none_more n room now (Some x) e = absurd cc
-
 unrolled : (n room : ℕ) (rest : List ℕ) → 0 < length rest → blocks_within (suc n) (suc room) rest ≡ continued n room (block_at rest)
 unrolled n room [] lt = absurd (omega arith)
 unrolled n room (b ∷ rest) lt = refl
@@ -55,41 +50,3 @@ read_more now new len i rest after all lt some few e h =
     let room : 31 - length now ≡ suc (30 - length now) = omega arith in
     let so_far = rw (k, room, unrolled (len - (i + 1)) (30 - length now) rest some) at h.so_far in
     record { so_far = sym (one_more (len - (i + 1)) (30 - length now) now new (block_at rest) after room e) ∙ so_far }
-
-pub read_fails : (now : List ReportBlock) (len i : ℕ) (rest : List ℕ) (all : Option (List ReportBlock)) → i < len → 0 < length rest → length now < 31
-    → option_map (with_blocks now) (block_at rest) ≡ None → IsRead now (len - i) rest all → None ≡ all
-read_fails now len i rest all lt some few e h =
-    let k : len - i ≡ suc (len - (i + 1)) = omega arith in
-    let room : 31 - length now ≡ suc (30 - length now) = omega arith in
-    let so_far = rw (k, room, unrolled (len - (i + 1)) (30 - length now) rest some) at h.so_far in
-    sym (none_more (len - (i + 1)) (30 - length now) now (block_at rest) e) ∙ so_far
-
--- where the turns, the room or the bytes are over, the blocks read so far are all
-is_all : (now : List ReportBlock) (left : ℕ) (rest : List ℕ) (all : Option (List ReportBlock)) → blocks_within left (31 - length now) rest ≡ Some [] → IsRead now left rest all → Some now ≡ all
-is_all now left rest all e h =
-    let so_far = rw e at h.so_far in
-    ap (λ (t : List ReportBlock). Some t) (sym (append-nil now)) ∙ so_far
-
-no_turns : (left room : ℕ) (rest : List ℕ) → left ≡ 0 → blocks_within left room rest ≡ Some []
-no_turns zero room rest e = refl
-no_turns (suc n) room rest e = absurd (omega arith)
-
-no_room : (left room : ℕ) (rest : List ℕ) → room ≡ 0 → blocks_within left room rest ≡ Some []
-no_room zero room rest e = refl
-no_room (suc n) zero rest e = refl
-no_room (suc n) (suc room) rest e = absurd (omega arith)
-
-at_end : (left room : ℕ) (rest : List ℕ) → length rest ≡ 0 → blocks_within left room rest ≡ Some []
-at_end zero room rest e = refl
-at_end (suc n) zero rest e = refl
-at_end (suc n) (suc room) [] e = refl
-at_end (suc n) (suc room) (b ∷ rest) e = absurd (omega arith)
-
-pub read_ends : (now : List ReportBlock) (len i : ℕ) (rest : List ℕ) (all : Option (List ReportBlock)) → len ≤ i → IsRead now (len - i) rest all → Some now ≡ all
-read_ends now len i rest all le h = is_all now (len - i) rest all (no_turns (len - i) (31 - length now) rest (omega arith)) h
-
-pub read_full : (now : List ReportBlock) (left : ℕ) (rest : List ℕ) (all : Option (List ReportBlock)) → 31 ≤ length now → IsRead now left rest all → Some now ≡ all
-read_full now left rest all le h = is_all now left rest all (no_room left (31 - length now) rest (omega arith)) h
-
-pub read_stops : (now : List ReportBlock) (left : ℕ) (rest : List ℕ) (all : Option (List ReportBlock)) → length rest ≡ 0 → IsRead now left rest all → Some now ≡ all
-read_stops now left rest all e h = is_all now left rest all (at_end left (31 - length now) rest e) h

@@ -1,11 +1,12 @@
 -- The loops that read the items of a chunk, and the chunks of a description.
-use Rattle.std.proofs.Common.{◌≡◌, ℕ, zero, suc, ◌+◌, ◌-◌, ◌<◌, ◌≤◌, inl, inr, List, [], ◌∷◌, ◌++◌, length, take, drop, get_or, Option, Some, None, refl, sym, ap, ◌∙◌, append_assoc, arith, length-append, length-drop, ltb, eq-eqb, Bool, cond, false, true}
+use Rattle.std.proofs.Common.{◌≡◌, ℕ, suc, ◌+◌, ◌-◌, ◌<◌, ◌≤◌, inl, inr, List, [], ◌∷◌, ◌++◌, length, take, drop, get_or, Option, Some, None, refl, sym, ap, ◌∙◌, append_assoc, arith, length-append, length-drop, ltb, eq-eqb, Bool, cond, false, true}
 use Rattle.std.specs.Option.{option_map, option_and_then}
 use Rattle.std.proofs.lemmas.Bool.{cases_lt, lt-ltb, le-ltb, ne_eqb}
 use Rattle.std.proofs.lemmas.List.{append-nil, take-append-le, take_all, length-take}
-use Rattle.rtcp_wire.specs.declared.source.SdesItem.{SdesItem}
-use Rattle.rtcp_wire.specs.declared.source.Sdes.{Sdes}
-use Rattle.rtcp_wire.specs.Descriptions.{sdes_type_of, sdes_item_at, with_items, with_item, first_31, sdes_items_within, sdes_items_of, sdes_at, chunks_of}
+use Rattle.rtcp_items.specs.declared.source.SdesItem.{SdesItem}
+use Rattle.rtcp_items.specs.declared.source.Sdes.{Sdes}
+use Rattle.rtcp_items.specs.SdesTypes.{sdes_type_of}
+use Rattle.rtcp_wire.specs.Descriptions.{sdes_item_at, with_items, with_item, first_31, sdes_items_within, sdes_items_of, sdes_at, chunks_of}
 
 -- the items read so far are the first of all, and those of the rest are the others
 pub record IsListed (values : List SdesItem) (left : ℕ) (rest bytes : List ℕ) : Type 0 where
@@ -14,18 +15,9 @@ pub record IsListed (values : List SdesItem) (left : ℕ) (rest bytes : List ℕ
   pub so_far : with_items front (sdes_items_within left rest) ≡ sdes_items_of bytes
   pub within : length rest ≤ length bytes
 
-items_none : (o : Option (List SdesItem × List ℕ)) → with_items [] o ≡ o
-items_none None = refl
-items_none (Some x) = refl
-
 regroup : (front new : List SdesItem) (o : Option (List SdesItem × List ℕ)) → with_items front (with_items new o) ≡ with_items (front ++ new) o
 regroup front new None = refl
 regroup front new (Some x) = ap (λ (t : List SdesItem). Some (t, x.1)) (sym (append_assoc front new x.0))
-
-pub list_starts : (bytes : List ℕ) → IsListed [] (length bytes - 0) bytes bytes
-list_starts bytes =
-    let k : length bytes - 0 ≡ length bytes = omega arith in
-    record { front = []; kept = refl; so_far = rw k (items_none (sdes_items_of bytes)); within = omega arith }
 
 unrolled : (n : ℕ) (rest : List ℕ) → 0 < length rest → (get_or rest 0 0 ≡ 0 → ⊥)
     → sdes_items_within (suc n) rest ≡ option_and_then (λ x. with_items (x.0 ∷ []) (sdes_items_within n x.1)) (sdes_item_at rest)
@@ -35,11 +27,6 @@ unrolled n (b ∷ rest) lt e = rw (ne_eqb b 0 e) refl
 at_zero : (n : ℕ) (rest : List ℕ) → 0 < length rest → get_or rest 0 0 ≡ 0 → sdes_items_within (suc n) rest ≡ Some ([], rest)
 at_zero n [] lt e = absurd (omega arith)
 at_zero n (b ∷ rest) lt e = rw (eq-eqb b 0 e) refl
-
-at_end : (n : ℕ) (rest : List ℕ) → length rest ≡ 0 → sdes_items_within n rest ≡ None
-at_end zero rest e = refl
-at_end (suc n) [] e = refl
-at_end (suc n) (b ∷ rest) e = absurd (omega arith)
 
 kept_more : (front : List SdesItem) (item : SdesItem) → with_item (take 31 front) item ≡ take 31 (front ++ item ∷ [])
 kept_more front item = elim (cases_lt (length front) 31) [
@@ -76,25 +63,6 @@ list_more values i rest after bytes item lt some other found h =
       within = omega (arith, h.within, after_short rest after item found);
     }
 
--- where an item is too short, the bytes end or the turns are over, there is no list
-pub list_short : (values : List SdesItem) (i : ℕ) (rest bytes : List ℕ) → i < length bytes → 0 < length rest → (get_or rest 0 0 ≡ 0 → ⊥) → sdes_item_at rest ≡ None
-    → IsListed values (length bytes - i) rest bytes → None ≡ first_31 (sdes_items_of bytes)
-list_short values i rest bytes lt some other none h =
-    let k : length bytes - i ≡ suc (length bytes - (i + 1)) = omega arith in
-    let so_far = rw (k, unrolled (length bytes - (i + 1)) rest some other, none) at h.so_far in
-    ap first_31 so_far
-
-pub list_stops : (values : List SdesItem) (left : ℕ) (rest bytes : List ℕ) → length rest ≡ 0 → IsListed values left rest bytes → None ≡ first_31 (sdes_items_of bytes)
-list_stops values left rest bytes e h =
-    let so_far = rw (at_end left rest e) at h.so_far in
-    ap first_31 so_far
-
-pub list_over : (values : List SdesItem) (i : ℕ) (rest bytes : List ℕ) → length bytes ≤ i → IsListed values (length bytes - i) rest bytes → None ≡ first_31 (sdes_items_of bytes)
-list_over values i rest bytes le h =
-    let k : length bytes - i ≡ 0 = omega arith in
-    let so_far = rw k at h.so_far in
-    ap first_31 so_far
-
 pub list_ends : (values : List SdesItem) (i : ℕ) (rest bytes : List ℕ) → i < length bytes → 0 < length rest → get_or rest 0 0 ≡ 0
     → IsListed values (length bytes - i) rest bytes → Some (values, rest) ≡ first_31 (sdes_items_of bytes)
 list_ends values i rest bytes lt some z h =
@@ -109,15 +77,6 @@ list_ends values i rest bytes lt some z h =
 pub record IsRead (now : List Sdes) (left : ℕ) (rest : List ℕ) (all : Option (List Sdes)) : Type 0 where
   pub so_far : option_map (λ later. now ++ later) (chunks_of left rest) ≡ all
 
-chunks_none : (o : Option (List Sdes)) → option_map (λ later. [] ++ later) o ≡ o
-chunks_none None = refl
-chunks_none (Some x) = refl
-
-pub read_starts : (count : ℕ) (bytes : List ℕ) → IsRead [] (count - 0) bytes (chunks_of count bytes)
-read_starts count bytes =
-    let k : count - 0 ≡ count = omega arith in
-    record { so_far = rw k (chunks_none (chunks_of count bytes)) }
-
 one_more : (now : List Sdes) (new : Sdes) (o : Option (List Sdes)) → option_map (λ later. now ++ later) (option_map (λ later. new ∷ later) o) ≡ option_map (λ later. (now ++ new ∷ []) ++ later) o
 one_more now new None = refl
 one_more now new (Some x) = ap (λ (t : List Sdes). Some t) (sym (append_assoc now (new ∷ []) x))
@@ -128,14 +87,3 @@ read_more now new count i rest after all lt found h =
     let k : count - i ≡ suc (count - (i + 1)) = omega arith in
     let so_far = rw (k, found) at h.so_far in
     record { so_far = sym (one_more now new (chunks_of (count - (i + 1)) after)) ∙ so_far }
-
-pub read_fails : (now : List Sdes) (count i : ℕ) (rest : List ℕ) (all : Option (List Sdes)) → i < count → sdes_at rest ≡ None → IsRead now (count - i) rest all → None ≡ all
-read_fails now count i rest all lt none h =
-    let k : count - i ≡ suc (count - (i + 1)) = omega arith in
-    rw (k, none) at h.so_far
-
-pub read_ends : (now : List Sdes) (count i : ℕ) (rest : List ℕ) (all : Option (List Sdes)) → count ≤ i → IsRead now (count - i) rest all → Some now ≡ all
-read_ends now count i rest all le h =
-    let k : count - i ≡ 0 = omega arith in
-    let so_far = rw k at h.so_far in
-    ap (λ (t : List Sdes). Some t) (sym (append-nil now)) ∙ so_far

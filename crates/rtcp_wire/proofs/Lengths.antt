@@ -5,10 +5,10 @@ use Rattle.std.specs.Int.{w32, to_be_bytes}
 use Rattle.std.proofs.lemmas.List.{length-take}
 use Rattle.rtcp_wire.specs.declared.packet.Rtcp.{Rtcp}
 use Rattle.rtcp_wire.specs.declared.packet.Rtcp.TheVariants.{SenderReport, ReceiverReport, SourceDescription, Goodbye, ExtendedReport, Nack, Pli, Fir, Twcc, Remb, AppSpecificFeedback}
-use Rattle.rtcp_wire.specs.declared.source.SdesItem.{SdesItem}
-use Rattle.rtcp_wire.specs.declared.source.Sdes.{Sdes}
-use Rattle.rtcp_wire.specs.declared.extended.ReportBlock.{ReportBlock}
-use Rattle.rtcp_wire.specs.declared.extended.ReportBlock.TheVariants.{Rrtr, Dlrr}
+use Rattle.rtcp_items.specs.declared.source.SdesItem.{SdesItem}
+use Rattle.rtcp_items.specs.declared.source.Sdes.{Sdes}
+use Rattle.rtcp_items.specs.declared.extended.ReportBlock.{ReportBlock}
+use Rattle.rtcp_items.specs.declared.extended.ReportBlock.TheVariants.{Rrtr, Dlrr}
 use Rattle.rtcp_wire.specs.Rows.{nack_entry_text, fir_entry_text, report_text}
 use Rattle.rtcp_wire.specs.Reports.{sender_report_body, sender_info_text, receiver_report_body, goodbye_body}
 use Rattle.rtcp_wire.specs.Feedback.{nack_body, pli_body, fir_body, app_feedback_body}

@@ -12,20 +12,20 @@ use Rattle.rtcp_wire.specs.Frame.{item_len, frame_at}
 use Rattle.rtcp_wire.specs.Rows.{nack_entry_at, nack_entry_text, fir_entry_at, fir_entry_text, report_at, report_text}
 use Rattle.rtp_base.specs.Fields.{signed24, bits24, IsSigned24}
 use Rattle.rtcp_wire.specs.Feedback.{nack_of, nack_body, pli_of, pli_body, fir_of, fir_body, app_feedback_of, app_feedback_body}
-use Rattle.media_base.specs.Wallclock.{ntp_of_unix}
+use Rattle.media_units.specs.Wallclock.{ntp_of_unix}
 use Rattle.rtcp_wire.specs.Remb.{is_remb, remb_of, remb_body, mantissa_of, exponent_of}
 use Rattle.rtcp_wire.proofs.Rates.{mantissa_small}
 use Rattle.rtcp_wire.proofs.SdesAgain.{descriptions_again}
 use Rattle.rtcp_wire.specs.declared.remb.Remb.{Remb as RembItem}
-use Rattle.rtcp_wire.specs.declared.report.SenderInfo.{SenderInfo}
-use Rattle.rtcp_wire.specs.declared.report.SenderReport.{SenderReport as SenderItem}
+use Rattle.rtcp_items.specs.declared.report.SenderInfo.{SenderInfo}
+use Rattle.rtcp_items.specs.declared.report.SenderReport.{SenderReport as SenderItem}
 use Rattle.rtcp_wire.specs.Reports.{sender_info_at, sender_info_text, sender_report_of, sender_report_body, receiver_report_of, receiver_report_body, goodbye_of, goodbye_body}
 use Rattle.rtcp_wire.specs.Items.{Item, reading_of, transport_feedback_of, payload_feedback_of, application_of, item_or_short, first_of, with_rest, item_at, items_within, items_of}
 use Rattle.rtcp_wire.specs.declared.packet.Rtcp.{Rtcp}
 use Rattle.rtcp_wire.specs.declared.packet.Rtcp.TheVariants.{SenderReport, ReceiverReport, SourceDescription, Goodbye, ExtendedReport, Nack, Pli, Fir, Twcc, Remb, AppSpecificFeedback}
 use Rattle.rtcp_wire.specs.declared.request.Fir.{Fir as FirItem}
-use Rattle.rtcp_wire.specs.declared.source.Goodbye.{Goodbye as GoodbyeItem}
-use Rattle.rtcp_wire.specs.declared.report.ReceiverReport.{ReceiverReport as ReceiverItem}
+use Rattle.rtcp_items.specs.declared.source.Goodbye.{Goodbye as GoodbyeItem}
+use Rattle.rtcp_items.specs.declared.report.ReceiverReport.{ReceiverReport as ReceiverItem}
 use Rattle.rtcp_wire.specs.declared.feedback.AppSpecificFeedback.{AppSpecificFeedback as AppItem}
 use Rattle.rtp_base.specs.declared.nack_entry.NackEntry.{NackEntry}
 use Rattle.rtcp_wire.specs.declared.nack.Nack.{Nack as NackItem}
@@ -36,10 +36,10 @@ use Rattle.twcc_core.specs.Laws.{FeedbackReadsBack}
 use Rattle.rtcp_wire.specs.Laws.{IsNackEntry, IsFirEntry, IsReport, IsDlrrItem, IsBlock, IsHeld, held, held_block, held_info, held_rate}
 use Rattle.std.specs.Option.{option_map, option_and_then}
 use Rattle.rtcp_wire.specs.Extended.{dlrr_item_at, dlrr_item_text, block_of, block_at, block_kind, block_content, block_text, kept, blocks_within, blocks_of, extended_report_of, extended_report_body}
-use Rattle.rtcp_wire.specs.declared.extended.DlrrItem.{DlrrItem}
-use Rattle.rtcp_wire.specs.declared.extended.ReportBlock.{ReportBlock}
-use Rattle.rtcp_wire.specs.declared.extended.ReportBlock.TheVariants.{Rrtr, Dlrr}
-use Rattle.rtcp_wire.specs.declared.extended.ExtendedReport.{ExtendedReport as ExtendedItem}
+use Rattle.rtcp_items.specs.declared.extended.DlrrItem.{DlrrItem}
+use Rattle.rtcp_items.specs.declared.extended.ReportBlock.{ReportBlock}
+use Rattle.rtcp_items.specs.declared.extended.ReportBlock.TheVariants.{Rrtr, Dlrr}
+use Rattle.rtcp_items.specs.declared.extended.ExtendedReport.{ExtendedReport as ExtendedItem}
 use Rattle.rtcp_wire.specs.Texts.{framed, text_of, kind_of, count_of, body_of}
 
 -- rows that were put one after another are read again

@@ -1,5 +1,5 @@
 -- The loop that reads the items of a datagram.
-use Rattle.std.proofs.Common.{◌≡◌, ℕ, suc, ◌+◌, ◌-◌, ◌/◌, ◌<◌, ◌≤◌, List, [], ◌++◌, length, take, Option, Some, None, refl, sym, ap, ◌∙◌, append_assoc, arith}
+use Rattle.std.proofs.Common.{◌≡◌, ℕ, suc, ◌+◌, ◌-◌, ◌/◌, ◌<◌, List, [], ◌++◌, length, take, Option, Some, None, refl, sym, ap, ◌∙◌, append_assoc, arith}
 use Rattle.std.specs.Option.{option_map_or}
 use Rattle.std.proofs.lemmas.List.{append-nil, take_at}
 use Rattle.rtcp_wire.specs.declared.packet.Rtcp.{Rtcp}
@@ -15,10 +15,6 @@ one_more : (n : ℕ) (o : Option (List Rtcp × List ℕ)) (after : List ℕ) →
 one_more n None after e = absurd cc
 one_more n (Some x) after e = let same : x.1 ≡ after = cc in rw same refl
 
-no_more : (n : ℕ) (o : Option (List Rtcp × List ℕ)) → rest_of o ≡ None → (option_map_or (λ x. x.0 ++ items_within n x.1) o [] ≡ []) × (added_of o ≡ [])
-no_more n None e = (refl, refl)
-no_more n (Some x) e = absurd cc
-
 pub read_more : (old now new : List Rtcp) (len i : ℕ) (rest after : List ℕ) (all : List Rtcp) → i < len → rest_of (item_at rest) ≡ Some after → new ≡ now ++ added_of (item_at rest)
     → IsRead old now (len - i) rest all → IsRead old new (len - (i + 1)) after all
 read_more old now new len i rest after all lt e added h =
@@ -29,21 +25,6 @@ read_more old now new len i rest after all lt e added h =
       so_far = added ∙ ap (λ (x : List Rtcp). x ++ added_of (item_at rest)) h.so_far ∙ append_assoc old h.front (added_of (item_at rest));
       others = append_assoc h.front (added_of (item_at rest)) (items_within (len - (i + 1)) after) ∙ ap (λ (x : List Rtcp). h.front ++ x) (sym (one_more (len - (i + 1)) (item_at rest) after e)) ∙ others;
     }
-
-pub read_stops : (old now new : List Rtcp) (len i : ℕ) (rest : List ℕ) (all : List Rtcp) → i < len → rest_of (item_at rest) ≡ None → new ≡ now ++ added_of (item_at rest)
-    → IsRead old now (len - i) rest all → new ≡ old ++ all
-read_stops old now new len i rest all lt e added h =
-    let k : len - i ≡ suc (len - (i + 1)) = omega arith in
-    let others = rw k at h.others in
-    let stop = no_more (len - (i + 1)) (item_at rest) e in
-    let whole : h.front ≡ all = sym (append-nil h.front) ∙ ap (λ (x : List Rtcp). h.front ++ x) (sym stop.0) ∙ others in
-    added ∙ ap (λ (x : List Rtcp). now ++ x) stop.1 ∙ append-nil now ∙ h.so_far ∙ ap (λ (x : List Rtcp). old ++ x) whole
-
-pub read_ends : (old now : List Rtcp) (len i : ℕ) (rest : List ℕ) (all : List Rtcp) → len ≤ i → IsRead old now (len - i) rest all → now ≡ old ++ all
-read_ends old now len i rest all le h =
-    let k : len - i ≡ 0 = omega arith in
-    let others = rw k at h.others in
-    h.so_far ∙ ap (λ (x : List Rtcp). old ++ x) (sym (append-nil h.front) ∙ others)
 
 pub read_fails : (old now : List Rtcp) (left : ℕ) (rest : List ℕ) (all : List Rtcp) → IsRead old now left rest all → (n : ℕ) × (now ≡ old ++ take n all)
 read_fails old now left rest all h =

@@ -1,5 +1,5 @@
 -- A loop over rows, read or put one after another.
-use Rattle.std.proofs.Common.{◌≡◌, ℕ, suc, ◌+◌, ◌-◌, ◌*◌, ◌<◌, ◌≤◌, List, [], ◌∷◌, ◌++◌, length, get_or, take, drop, Some, None, sym, ap, ◌∙◌, append_assoc, arith, length-append, length-drop}
+use Rattle.std.proofs.Common.{◌≡◌, ℕ, suc, ◌+◌, ◌-◌, ◌*◌, ◌<◌, ◌≤◌, List, [], ◌∷◌, ◌++◌, length, get_or, take, drop, Some, None, ap, ◌∙◌, append_assoc, arith, length-append, length-drop}
 use Rattle.std.specs.List.{flat_map}
 use Rattle.std.proofs.lemmas.List.{take_more, append-nil}
 use Rattle.std.proofs.lemmas.List.Concat.{length-flat_map, flat_map-append}
@@ -24,12 +24,6 @@ rows_fit size count i rest lt long =
     let k : count - i ≡ suc (count - (i + 1)) = omega arith in
     let long' = rw k at long in
     omega (arith, long', length-drop size rest)
-
-pub rows_done : {T : Type 0} (row : List ℕ → T) (size count i : ℕ) (front : List T) (rest : List ℕ) (all : List T) → count ≤ i
-    → front ++ rows_of row size (count - i) rest ≡ all → front ≡ all
-rows_done row size count i front rest all le so_far =
-    let k : count - i ≡ 0 = omega arith in
-    sym (append-nil front) ∙ rw k at so_far
 
 flat_map_next : {T : Type 0} (text : T → List ℕ) (rows : List T) (i : ℕ) (x : T) → i < length rows → x ≡ get_or rows i x
     → flat_map text (take (i + 1) rows) ≡ flat_map text (take i rows) ++ text x

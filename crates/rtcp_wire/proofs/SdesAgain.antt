@@ -7,10 +7,11 @@ use Rattle.std.proofs.lemmas.Bool.{le-ltb, ne_eqb}
 use Rattle.std.proofs.lemmas.List.{take_at, drop_at, length-take}
 use Rattle.std.proofs.lemmas.Nat.{from_be_bytes-to_be_bytes_4}
 use Rattle.rtp_base.specs.Wire.{word_at}
-use Rattle.rtcp_wire.specs.declared.source.SdesItem.{SdesItem}
-use Rattle.rtcp_wire.specs.declared.source.Sdes.{Sdes}
-use Rattle.rtcp_wire.specs.declared.source.Descriptions.{Descriptions}
-use Rattle.rtcp_wire.specs.Descriptions.{sdes_type_of, sdes_number, sdes_item_at, sdes_item_text, sdes_items_within, sdes_items_of, sdes_ended, sdes_at, sdes_text, chunks_of, descriptions_of, descriptions_body}
+use Rattle.rtcp_items.specs.declared.source.SdesItem.{SdesItem}
+use Rattle.rtcp_items.specs.declared.source.Sdes.{Sdes}
+use Rattle.rtcp_items.specs.declared.source.Descriptions.{Descriptions}
+use Rattle.rtcp_items.specs.SdesTypes.{sdes_type_of, sdes_number}
+use Rattle.rtcp_wire.specs.Descriptions.{sdes_item_at, sdes_item_text, sdes_items_within, sdes_items_of, sdes_ended, sdes_at, sdes_text, chunks_of, descriptions_of, descriptions_body}
 use Rattle.rtcp_wire.specs.Texts.{SdesItemFits, SdesItemsFit}
 use Rattle.rtcp_wire.specs.Laws.{IsSdesItem, IsSdes, held_sdes}
 

@@ -27,11 +27,6 @@ pub record IsWritten (all now : List Rtcp) (old out : List ℕ) (at left : ℕ) 
   pub writable : AllByRecursion IsWritable now
   pub count : length now ≡ left
 
-pub write_starts : (all : List Rtcp) (out : List ℕ) → AllByRecursion IsWritable all → IsWritten all all out out 0 (length all - 0)
-write_starts all out writable =
-    let k : length out - 0 ≡ length out = omega arith in
-    record { done = []; split = refl; bytes = refl; behind = refl; ends = refl; fits = rw k (omega arith); same = refl; within = omega arith; writable = writable; count = omega arith }
-
 pub first_and_rest : (xs : List Rtcp) (x : Rtcp) → 0 < length xs → x ≡ get_or xs 0 x → xs ≡ x ∷ drop 1 xs
 first_and_rest [] x lt e = absurd (omega arith)
 first_and_rest (y ∷ ys) x lt e = let same : y ≡ x = sym e in rw same refl
@@ -81,11 +76,3 @@ pub write_stops : (all now new : List Rtcp) (x : Rtcp) (old out out' : List ℕ)
     → IsWritten all now old out at left → fitting (length old - at) now ≡ 0
 write_stops all now new x old out out' at left e p h =
     rw e (first_fails (length old - at) x new (omega (arith, p, h.same, h.within)))
-
-none_fits : (room : ℕ) (xs : List Rtcp) → length xs ≡ 0 → fitting room xs ≡ 0
-none_fits room [] e = refl
-none_fits room (x ∷ xs) e = absurd (omega arith)
-
-pub write_ends : (all now : List Rtcp) (old out : List ℕ) (at len i : ℕ) → len ≤ i → IsWritten all now old out at (len - i) → IsDone all now old out at
-write_ends all now old out at len i le h =
-    is_done all now old out at (len - i) (none_fits (length old - at) now (omega (arith, h.count))) h

@@ -4,35 +4,10 @@ use Rattle.std.specs.List.{flat_map}
 use Rattle.std.specs.Option.{option_map, option_and_then}
 use Rattle.std.specs.Int.{w32, to_be_bytes}
 use Rattle.rtp_base.specs.Wire.{word_at}
-use Rattle.rtcp_wire.specs.declared.source.SdesType.{SdesType}
-use Rattle.rtcp_wire.specs.declared.source.SdesType.TheVariants.{CNAME, NAME, EMAIL, PHONE, LOC, TOOL, NOTE, PRIV, Unknown}
-use Rattle.rtcp_wire.specs.declared.source.SdesItem.{SdesItem}
-use Rattle.rtcp_wire.specs.declared.source.Sdes.{Sdes}
-use Rattle.rtcp_wire.specs.declared.source.Descriptions.{Descriptions}
-
--- the type that a number names, and the number of a type (RFC 3550 section 12.2)
-abbrev pub sdes_type_of : ℕ → SdesType
-sdes_type_of n =
-    if n == 1 then CNAME
-    else (if n == 2 then NAME
-    else (if n == 3 then EMAIL
-    else (if n == 4 then PHONE
-    else (if n == 5 then LOC
-    else (if n == 6 then TOOL
-    else (if n == 7 then NOTE
-    else (if n == 8 then PRIV
-    else Unknown n)))))))
-
-abbrev pub sdes_number : SdesType → ℕ
-sdes_number CNAME = 1
-sdes_number NAME = 2
-sdes_number EMAIL = 3
-sdes_number PHONE = 4
-sdes_number LOC = 5
-sdes_number TOOL = 6
-sdes_number NOTE = 7
-sdes_number PRIV = 8
-sdes_number (Unknown n) = n
+use Rattle.rtcp_items.specs.SdesTypes.{sdes_type_of, sdes_number}
+use Rattle.rtcp_items.specs.declared.source.SdesItem.{SdesItem}
+use Rattle.rtcp_items.specs.declared.source.Sdes.{Sdes}
+use Rattle.rtcp_items.specs.declared.source.Descriptions.{Descriptions}
 
 -- the item at the front of a list, and what follows it: its type, the length of its text in bytes, and
 -- the text. Nothing where the bytes are too short

@@ -3,14 +3,14 @@ use Rattle.std.specs.Prelude.{ℕ, zero, suc, ◌-◌, ◌/◌, ◌==◌, ◌||�
 use Rattle.std.specs.List.{flat_map}
 use Rattle.std.specs.Option.{option_map, option_and_then}
 use Rattle.std.specs.Int.{w16, w32, w64, to_be_bytes}
-use Rattle.media_base.specs.Wallclock.{unix_of_ntp, ntp_of_unix}
+use Rattle.media_units.specs.Wallclock.{unix_of_ntp, ntp_of_unix}
 use Rattle.rtp_base.specs.Wire.{word_at, double_at, words}
 use Rattle.rtcp_wire.specs.Wire.{rows_of}
 use Rattle.rtcp_wire.specs.Frame.{item_len}
-use Rattle.rtcp_wire.specs.declared.extended.DlrrItem.{DlrrItem}
-use Rattle.rtcp_wire.specs.declared.extended.ReportBlock.{ReportBlock}
-use Rattle.rtcp_wire.specs.declared.extended.ReportBlock.TheVariants.{Rrtr, Dlrr}
-use Rattle.rtcp_wire.specs.declared.extended.ExtendedReport.{ExtendedReport}
+use Rattle.rtcp_items.specs.declared.extended.DlrrItem.{DlrrItem}
+use Rattle.rtcp_items.specs.declared.extended.ReportBlock.{ReportBlock}
+use Rattle.rtcp_items.specs.declared.extended.ReportBlock.TheVariants.{Rrtr, Dlrr}
+use Rattle.rtcp_items.specs.declared.extended.ExtendedReport.{ExtendedReport}
 
 -- the SSRC of a receiver, its last RRTR and the delay since then (section 4.5)
 unfoldable pub dlrr_item_at : List ℕ → DlrrItem

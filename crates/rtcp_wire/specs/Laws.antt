@@ -7,14 +7,14 @@ use Rattle.rtp_base.specs.Fields.{IsSigned24}
 use Rattle.rtp_base.specs.declared.nack_entry.NackEntry.{NackEntry}
 use Rattle.rtcp_wire.specs.declared.request.FirEntry.{FirEntry}
 use Rattle.rtp_base.specs.declared.reception_report.ReceptionReport.{ReceptionReport}
-use Rattle.rtcp_wire.specs.declared.report.SenderInfo.{SenderInfo}
-use Rattle.rtcp_wire.specs.declared.extended.DlrrItem.{DlrrItem}
-use Rattle.rtcp_wire.specs.declared.extended.ReportBlock.{ReportBlock}
-use Rattle.rtcp_wire.specs.declared.extended.ReportBlock.TheVariants.{Rrtr, Dlrr}
-use Rattle.rtcp_wire.specs.declared.source.SdesItem.{SdesItem}
-use Rattle.rtcp_wire.specs.declared.source.Sdes.{Sdes}
-use Rattle.media_base.specs.Wallclock.{unix_of_ntp, ntp_of_unix}
-use Rattle.rtcp_wire.specs.Descriptions.{sdes_number, sdes_type_of}
+use Rattle.rtcp_items.specs.declared.report.SenderInfo.{SenderInfo}
+use Rattle.rtcp_items.specs.declared.extended.DlrrItem.{DlrrItem}
+use Rattle.rtcp_items.specs.declared.extended.ReportBlock.{ReportBlock}
+use Rattle.rtcp_items.specs.declared.extended.ReportBlock.TheVariants.{Rrtr, Dlrr}
+use Rattle.rtcp_items.specs.declared.source.SdesItem.{SdesItem}
+use Rattle.rtcp_items.specs.declared.source.Sdes.{Sdes}
+use Rattle.media_units.specs.Wallclock.{unix_of_ntp, ntp_of_unix}
+use Rattle.rtcp_items.specs.SdesTypes.{sdes_number, sdes_type_of}
 use Rattle.rtcp_wire.specs.Remb.{is_remb, mantissa_of, exponent_of}
 use Rattle.rtcp_wire.specs.Frame.{frame_at}
 use Rattle.rtcp_wire.specs.Items.{items_of}

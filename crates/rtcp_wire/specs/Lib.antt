@@ -12,5 +12,6 @@ pub mod Texts
 pub mod Laws
 pub use Rattle.rtp_base.specs.Fields
 pub use Rattle.rtp_base.specs.NackEntry
+pub use Rattle.rtcp_items.specs.SdesTypes
 pub use Rattle.twcc_core.specs.Reports as Arrivals
 pub use Rattle.twcc_core.specs.Sending

@@ -2,14 +2,14 @@
 use Rattle.std.specs.Prelude.{ℕ, ◌+◌, ◌*◌, List, [], ◌∷◌, ◌++◌, length, drop, nat_lt, Option, Some, None, if◌then◌else◌}
 use Rattle.std.specs.List.{flat_map}
 use Rattle.std.specs.Int.{w32, w64, to_be_bytes}
-use Rattle.media_base.specs.Wallclock.{unix_of_ntp, ntp_of_unix}
+use Rattle.media_units.specs.Wallclock.{unix_of_ntp, ntp_of_unix}
 use Rattle.rtp_base.specs.Wire.{word_at, double_at, words}
 use Rattle.rtcp_wire.specs.Wire.{rows_of}
 use Rattle.rtcp_wire.specs.Rows.{report_at, report_text}
-use Rattle.rtcp_wire.specs.declared.report.ReceiverReport.{ReceiverReport}
-use Rattle.rtcp_wire.specs.declared.report.SenderReport.{SenderReport}
-use Rattle.rtcp_wire.specs.declared.report.SenderInfo.{SenderInfo}
-use Rattle.rtcp_wire.specs.declared.source.Goodbye.{Goodbye}
+use Rattle.rtcp_items.specs.declared.report.ReceiverReport.{ReceiverReport}
+use Rattle.rtcp_items.specs.declared.report.SenderReport.{SenderReport}
+use Rattle.rtcp_items.specs.declared.report.SenderInfo.{SenderInfo}
+use Rattle.rtcp_items.specs.declared.source.Goodbye.{Goodbye}
 
 -- type 201: the SSRC of the sender, and as many reception blocks as the count says
 unfoldable pub receiver_report_of : ℕ → List ℕ → Option ReceiverReport

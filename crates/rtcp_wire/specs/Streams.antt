@@ -1,8 +1,8 @@
 -- What items say of single streams.
 use Rattle.std.specs.Prelude.{ℕ, Bool, true, false, List, [], ◌∷◌, map}
 use Rattle.std.specs.List.{flat_map}
-use Rattle.rtcp_wire.specs.declared.extended.ReportBlock.{ReportBlock}
-use Rattle.rtcp_wire.specs.declared.extended.ReportBlock.TheVariants as block
+use Rattle.rtcp_items.specs.declared.extended.ReportBlock.{ReportBlock}
+use Rattle.rtcp_items.specs.declared.extended.ReportBlock.TheVariants as block
 use Rattle.rtcp_wire.specs.declared.packet.Rtcp.{Rtcp}
 use Rattle.rtcp_wire.specs.declared.packet.Rtcp.TheVariants as rtcp
 use Rattle.rtcp_wire.specs.declared.rtcp_fb.RtcpFb.{RtcpFb}

@@ -4,10 +4,11 @@ use Rattle.std.specs.List.{AllByRecursion}
 use Rattle.std.specs.Int.{w16, to_be_bytes}
 use Rattle.rtcp_wire.specs.declared.packet.Rtcp.{Rtcp}
 use Rattle.rtcp_wire.specs.declared.packet.Rtcp.TheVariants.{SenderReport, ReceiverReport, SourceDescription, Goodbye, ExtendedReport, Nack, Pli, Fir, Twcc, Remb, AppSpecificFeedback}
-use Rattle.rtcp_wire.specs.declared.source.SdesItem.{SdesItem}
-use Rattle.rtcp_wire.specs.declared.source.Sdes.{Sdes}
+use Rattle.rtcp_items.specs.declared.source.SdesItem.{SdesItem}
+use Rattle.rtcp_items.specs.declared.source.Sdes.{Sdes}
 use Rattle.rtcp_wire.specs.Reports.{sender_report_body, receiver_report_body, goodbye_body}
-use Rattle.rtcp_wire.specs.Descriptions.{sdes_number, descriptions_body}
+use Rattle.rtcp_items.specs.SdesTypes.{sdes_number}
+use Rattle.rtcp_wire.specs.Descriptions.{descriptions_body}
 use Rattle.rtcp_wire.specs.Remb.{remb_body}
 use Rattle.rtcp_wire.specs.Extended.{extended_report_body}
 use Rattle.rtcp_wire.specs.Feedback.{nack_body, pli_body, fir_body, app_feedback_body}

@@ -7,53 +7,11 @@ ghost use Rattle.rtcp_wire.specs.Wire.{some_if};
 ghost use Rattle.rtcp_wire.specs.Extended.{with_blocks, kept, block_of, block_at, block_kind, block_content, block_text, blocks_of, extended_report_of, extended_report_body};
 
 use crate::row::{Put, Row, read_many, rows_len, write_rows};
-use media_base::{Listed, SystemTime, SystemTimeExt};
-use rtp_base::Ssrc;
+use media_base::Listed;
+use media_units::{SystemTime, SystemTimeExt};
+use rtcp_items::{Dlrr, DlrrItem, ExtendedReport, ReportBlock, Rrtr};
 use rtp_base::wire::{double, half, put, word};
 use std::alloc::{AllocError, Global};
-
-/// Blocks of reports of one sender (RFC 3611 section 2).
-#[derive(Debug, PartialEq, Eq, Drop)]
-pub struct ExtendedReport {
-    /// Who sends the report.
-    pub ssrc: Ssrc,
-    /// Of those read the first 31 of known types.
-    pub blocks: Listed<ReportBlock>,
-}
-
-/// A block of an extended report.
-#[derive(Debug, PartialEq, Eq, Drop)]
-pub enum ReportBlock {
-    /// The moment of a receiver.
-    Rrtr(Rrtr),
-    /// How long ago the moments of receivers came in.
-    Dlrr(Dlrr),
-}
-
-/// When a receiver sent this (RFC 3611 section 4.4).
-#[derive(Clone, Copy, Debug, PartialEq, Eq)]
-pub struct Rrtr {
-    /// The moment, held in nanoseconds; on the wire 64 bits of NTP.
-    pub ntp_time: SystemTime,
-}
-
-/// How long ago the moments of receivers came in (RFC 3611 section 4.5).
-#[derive(Debug, PartialEq, Eq, Drop)]
-pub struct Dlrr {
-    /// One for each receiver.
-    pub items: Listed<DlrrItem>,
-}
-
-/// How long ago the moment of one receiver came in.
-#[derive(Clone, Copy, Debug, PartialEq, Eq)]
-pub struct DlrrItem {
-    /// The receiver.
-    pub ssrc: Ssrc,
-    /// The middle 32 bits of the NTP time of its last moment, or 0.
-    pub last_rr_time: u32,
-    /// The time since it came in, in 65,536ths of a second, or 0.
-    pub last_rr_delay: u32,
-}
 
 impl Row for DlrrItem {
     ghost use Rattle.rtcp_wire.specs.Extended.{dlrr_item_at};
@@ -184,24 +142,22 @@ pub(crate) fn read_extended_report(
     }))
 }
 
-impl ReportBlock {
-    fn kind(&self) -> u8
-        ensures { result ≡ block_kind self.now }
-    {
-        match self {
-            ReportBlock::Rrtr(_) => 4,
-            ReportBlock::Dlrr(_) => 5,
-        }
+fn kind(block: &ReportBlock) -> u8
+    ensures { result ≡ block_kind block.now }
+{
+    match block {
+        ReportBlock::Rrtr(_) => 4,
+        ReportBlock::Dlrr(_) => 5,
     }
+}
 
-    #[tactic(auto, unfolding(crate::specs::Extended::block_content))]
-    fn write_content(&self, out: &mut [u8]) -> Option<usize>
-        ensures { Puts out.old 0 (block_content self.now) out.new result }
-    {
-        match self {
-            ReportBlock::Rrtr(rrtr) => put(out, 0, &rrtr.ntp_time.as_ntp_64().to_be_bytes()),
-            ReportBlock::Dlrr(dlrr) => write_rows(dlrr.items.as_slice(), out, 0),
-        }
+#[tactic(auto, unfolding(crate::specs::Extended::block_content))]
+fn write_content(block: &ReportBlock, out: &mut [u8]) -> Option<usize>
+    ensures { Puts out.old 0 (block_content block.now) out.new result }
+{
+    match block {
+        ReportBlock::Rrtr(rrtr) => put(out, 0, &rrtr.ntp_time.as_ntp_64().to_be_bytes()),
+        ReportBlock::Dlrr(dlrr) => write_rows(dlrr.items.as_slice(), out, 0),
     }
 }
 
@@ -209,7 +165,7 @@ impl ReportBlock {
 fn count_of_words(words: usize) -> [u8; 2]
     ensures { result ≡ to_be_bytes w16 words }
 {
-    [(words / 256 % 256) as u8, (words % 256) as u8]
+    ((words % 0x1_0000) as u16).to_be_bytes()
 }
 
 impl Put for ReportBlock {
@@ -230,9 +186,9 @@ impl Put for ReportBlock {
         }
         let (_, room) = out.split_at_mut(at);
         let (head, body) = room.split_at_mut(4);
-        let len = self.write_content(body)?;
+        let len = write_content(self, body)?;
         let words = count_of_words(len / 4);
-        head.copy_from_slice(&[self.kind(), 0, words[0], words[1]]);
+        head.copy_from_slice(&[kind(self), 0, words[0], words[1]]);
         Some(at + 4 + len)
     }
 }

@@ -2,14 +2,12 @@
 ghost use Rattle.std.specs.Prelude.{◌≡◌};
 ghost use Rattle.rtcp_wire.specs.declared.packet.Rtcp.{Rtcp};
 
-use crate::extended::ExtendedReport;
 use crate::feedback::AppSpecificFeedback;
 use crate::nack::Nack;
 use crate::packet::Rtcp;
 use crate::remb::Remb;
-use crate::report::{ReceiverReport, SenderReport};
 use crate::request::{Fir, Pli};
-use crate::source::{Descriptions, Goodbye};
+use rtcp_items::{Descriptions, ExtendedReport, Goodbye, ReceiverReport, SenderReport};
 use twcc_core::Twcc;
 
 // What stands in an item of one kind.

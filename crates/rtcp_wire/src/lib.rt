@@ -17,17 +17,18 @@ mod row;
 mod rtcp_fb;
 mod source;
 
-pub use extended::{Dlrr, DlrrItem, ExtendedReport, ReportBlock, Rrtr};
 pub use feedback::AppSpecificFeedback;
 pub use laws::{frames_read_back, items_fit_by_lengths, items_read_back};
 pub use nack::Nack;
 pub use packet::Rtcp;
 pub use remb::Remb;
-pub use report::{ReceiverReport, SenderInfo, SenderReport};
 pub use request::{Fir, FirEntry, Pli};
 pub use rtcp_fb::RtcpFb;
+pub use rtcp_items::{
+    Descriptions, Dlrr, DlrrItem, ExtendedReport, Goodbye, ReceiverReport, ReportBlock, Rrtr, Sdes,
+    SdesItem, SdesType, SenderInfo, SenderReport,
+};
 pub use rtp_base::{NackEntry, ReceptionReport, ReportList};
-pub use source::{Descriptions, Goodbye, Sdes, SdesItem, SdesType};
 pub use twcc_core::{
     PacketStatus, Share, StatusIter, StatusList, Twcc, TwccRecvRegister, TwccSendRecord,
     TwccSendRegister,

@@ -5,25 +5,51 @@ ghost use Rattle.std.specs.Option.{option_map};
 ghost use Rattle.std.specs.List.{flat_map, AllByRecursion};
 ghost use Rattle.rtcp_wire.specs.Items.{item_or_short, goes_on, said};
 
-use crate::extended::{ExtendedReport, read_extended_report, write_extended_report};
+use crate::extended::{read_extended_report, write_extended_report};
 use crate::feedback::{AppSpecificFeedback, read_app_feedback, write_app_feedback};
 use crate::frame::{Frame, first_frame};
 use crate::kind::Kind;
 use crate::nack::{Nack, read_nack, write_nack};
 use crate::remb::{Remb, is_named_remb, read_remb, write_remb};
 use crate::report::{
-    ReceiverReport, SenderReport, read_receiver_report, read_sender_report, write_receiver_report,
-    write_sender_report,
+    read_receiver_report, read_sender_report, write_receiver_report, write_sender_report,
 };
 use crate::request::{Fir, Pli, read_fir, read_pli, write_fir, write_pli};
 use crate::row::rows_len;
-use crate::source::{
-    Descriptions, Goodbye, read_descriptions, read_goodbye, write_descriptions, write_goodbye,
-};
+use crate::source::{read_descriptions, read_goodbye, write_descriptions, write_goodbye};
+use rtcp_items::{Descriptions, ExtendedReport, Goodbye, ReceiverReport, SenderReport};
 use std::alloc::{AllocError, Global};
 use std::collections::VecDeque;
 use std::mem;
 use twcc_core::{Twcc, read_twcc, twcc_len, write_twcc};
+
+// Packet types (RFC 3550 section 12.1, RFC 4585 section 6.1, RFC 3611 section 2).
+const SENDER_REPORT_TYPE: u8 = 200;
+
+const RECEIVER_REPORT_TYPE: u8 = 201;
+
+const SOURCE_DESCRIPTION_TYPE: u8 = 202;
+
+const GOODBYE_TYPE: u8 = 203;
+
+const TRANSPORT_FEEDBACK_TYPE: u8 = 205;
+
+const PAYLOAD_FEEDBACK_TYPE: u8 = 206;
+
+const EXTENDED_REPORT_TYPE: u8 = 207;
+
+// Formats of transport feedback (RFC 4585 section 6.2,
+// draft-holmer-rmcat-transport-wide-cc-extensions-01 section 3.1).
+const NACK_FORMAT: u8 = 1;
+
+const TWCC_FORMAT: u8 = 15;
+
+// Formats of payload feedback (RFC 4585 section 6.3, RFC 5104 section 4.3).
+const PLI_FORMAT: u8 = 1;
+
+const FIR_FORMAT: u8 = 4;
+
+const APPLICATION_FORMAT: u8 = 15;
 
 /// An item of an RTCP datagram.
 #[derive(Debug, PartialEq, Eq, Drop)]
@@ -145,13 +171,13 @@ impl Rtcp {
     {
         let (count, body) = (frame.count, frame.body);
         match frame.kind {
-            200 => add(items, read_sender_report(alloc, count, body)?),
-            201 => add(items, read_receiver_report(alloc, count, body)?),
-            202 => add(items, read_descriptions(alloc, count, body)?),
-            203 => add(items, read_goodbye(count, body)),
-            205 => Rtcp::read_transport_feedback(alloc, count, body, items),
-            206 => Rtcp::read_payload_feedback(alloc, count, body, items),
-            207 => add(items, read_extended_report(alloc, body)?),
+            SENDER_REPORT_TYPE => add(items, read_sender_report(alloc, count, body)?),
+            RECEIVER_REPORT_TYPE => add(items, read_receiver_report(alloc, count, body)?),
+            SOURCE_DESCRIPTION_TYPE => add(items, read_descriptions(alloc, count, body)?),
+            GOODBYE_TYPE => add(items, read_goodbye(count, body)),
+            TRANSPORT_FEEDBACK_TYPE => Rtcp::read_transport_feedback(alloc, count, body, items),
+            PAYLOAD_FEEDBACK_TYPE => Rtcp::read_payload_feedback(alloc, count, body, items),
+            EXTENDED_REPORT_TYPE => add(items, read_extended_report(alloc, body)?),
             _ => Ok(true),
         }
     }
@@ -168,8 +194,8 @@ impl Rtcp {
         ensures err { OnErr result (items.new.items ≡ items.old.items) }
     {
         match format {
-            1 => add(items, read_nack(body)),
-            15 => add(items, read_twcc(alloc, body)?),
+            NACK_FORMAT => add(items, read_nack(body)),
+            TWCC_FORMAT => add(items, read_twcc(alloc, body)?),
             _ => Ok(true),
         }
     }
@@ -186,9 +212,9 @@ impl Rtcp {
         ensures err { OnErr result (items.new.items ≡ items.old.items) }
     {
         match format {
-            1 => add(items, read_pli(body)),
-            4 => add(items, read_fir(body)),
-            15 => Rtcp::read_application(alloc, body, items),
+            PLI_FORMAT => add(items, read_pli(body)),
+            FIR_FORMAT => add(items, read_fir(body)),
+            APPLICATION_FORMAT => Rtcp::read_application(alloc, body, items),
             _ => Ok(true),
         }
     }
@@ -308,14 +334,14 @@ impl Rtcp {
         ensures { result ≡ kind_of self.now }
     {
         match self {
-            Rtcp::SenderReport(_) => 200,
-            Rtcp::ReceiverReport(_) => 201,
-            Rtcp::SourceDescription(_) => 202,
-            Rtcp::Goodbye(_) => 203,
-            Rtcp::ExtendedReport(_) => 207,
-            Rtcp::Nack(_) | Rtcp::Twcc(_) => 205,
-            Rtcp::Pli(_) | Rtcp::Fir(_) | Rtcp::Remb(_) => 206,
-            Rtcp::AppSpecificFeedback(_) => 206,
+            Rtcp::SenderReport(_) => SENDER_REPORT_TYPE,
+            Rtcp::ReceiverReport(_) => RECEIVER_REPORT_TYPE,
+            Rtcp::SourceDescription(_) => SOURCE_DESCRIPTION_TYPE,
+            Rtcp::Goodbye(_) => GOODBYE_TYPE,
+            Rtcp::ExtendedReport(_) => EXTENDED_REPORT_TYPE,
+            Rtcp::Nack(_) | Rtcp::Twcc(_) => TRANSPORT_FEEDBACK_TYPE,
+            Rtcp::Pli(_) | Rtcp::Fir(_) | Rtcp::Remb(_) => PAYLOAD_FEEDBACK_TYPE,
+            Rtcp::AppSpecificFeedback(_) => PAYLOAD_FEEDBACK_TYPE,
         }
     }
 
@@ -329,9 +355,11 @@ impl Rtcp {
             Rtcp::SourceDescription(described) => described.reports.as_slice().len() as u8,
             Rtcp::Goodbye(goodbye) => goodbye.reports.len() as u8,
             Rtcp::ExtendedReport(_) => 0,
-            Rtcp::Nack(_) | Rtcp::Pli(_) => 1,
-            Rtcp::Fir(_) => 4,
-            Rtcp::Twcc(_) | Rtcp::Remb(_) | Rtcp::AppSpecificFeedback(_) => 15,
+            Rtcp::Nack(_) => NACK_FORMAT,
+            Rtcp::Pli(_) => PLI_FORMAT,
+            Rtcp::Fir(_) => FIR_FORMAT,
+            Rtcp::Twcc(_) => TWCC_FORMAT,
+            Rtcp::Remb(_) | Rtcp::AppSpecificFeedback(_) => APPLICATION_FORMAT,
         }
     }
 }

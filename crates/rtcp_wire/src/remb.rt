@@ -4,7 +4,8 @@ ghost use Rattle.rtp_base.specs.Wire.{Puts};
 ghost use Rattle.rtcp_wire.specs.Remb.{is_remb, remb_of, remb_body, exponent_of, mantissa_of};
 
 use crate::row::{read_many, write_rows};
-use media_base::{Bitrate, Listed};
+use media_base::Listed;
+use media_units::Bitrate;
 use rtp_base::Ssrc;
 use rtp_base::wire::word;
 use std::alloc::{AllocError, Global};

@@ -5,9 +5,10 @@ ghost use Rattle.rtp_base.specs.Wire.{Puts};
 ghost use Rattle.rtcp_wire.specs.Reports.{receiver_report_of, receiver_report_body, sender_info_at, sender_info_text, sender_report_of, sender_report_body};
 
 use crate::row::{Put, Row, read_many, write_rows};
-use media_base::{Listed, SystemTime, SystemTimeExt};
+use media_units::{SystemTime, SystemTimeExt};
+use rtcp_items::{ReceiverReport, SenderInfo, SenderReport};
+use rtp_base::ReceptionReport;
 use rtp_base::wire::{double, put, word};
-use rtp_base::{ReceptionReport, Ssrc};
 use std::alloc::{AllocError, Global};
 
 impl Row for ReceptionReport {
@@ -74,15 +75,6 @@ fn signed(bits: u32) -> i32
     }
 }
 
-/// How the sender receives others, where it sends nothing itself (RFC 3550 section 6.4.2).
-#[derive(Debug, PartialEq, Eq, Drop)]
-pub struct ReceiverReport {
-    /// Who sends the report.
-    pub sender_ssrc: Ssrc,
-    /// How each other source is received; at most 31 have room.
-    pub reports: Listed<ReceptionReport>,
-}
-
 #[tactic(auto, unfolding(crate::specs::Reports::receiver_report_of))]
 pub(crate) fn read_receiver_report(
     alloc: Global,
@@ -108,30 +100,6 @@ pub(crate) fn write_receiver_report(report: &ReceiverReport, out: &mut [u8]) -> 
 {
     let at = put(out, 0, &u32::from(report.sender_ssrc).to_be_bytes())?;
     write_rows(report.reports.as_slice(), out, at)
-}
-
-/// What a sender says of itself (RFC 3550 section 6.4.1).
-#[derive(Clone, Copy, Debug, PartialEq, Eq)]
-pub struct SenderInfo {
-    /// The sender.
-    pub ssrc: Ssrc,
-    /// When the report was sent, held in nanoseconds; on the wire 64 bits of NTP.
-    pub ntp_time: SystemTime,
-    /// The same moment in the units of the media.
-    pub rtp_time: u32,
-    /// The packets sent so far, modulo 2^32.
-    pub sender_packet_count: u32,
-    /// The bytes of payload sent so far, modulo 2^32.
-    pub sender_octet_count: u32,
-}
-
-/// What a sender sent, and how it receives others (RFC 3550 section 6.4.1).
-#[derive(Debug, PartialEq, Eq, Drop)]
-pub struct SenderReport {
-    /// What it sent.
-    pub sender_info: SenderInfo,
-    /// How each other source is received; at most 31 have room.
-    pub reports: Listed<ReceptionReport>,
 }
 
 #[tactic(auto, unfolding(crate::specs::Reports::sender_info_at))]

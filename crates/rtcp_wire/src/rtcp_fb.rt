@@ -2,13 +2,11 @@
 ghost use Rattle.std.specs.Prelude.{◌≡◌, ◌++◌, map, IfOk, OnOk};
 ghost use Rattle.std.specs.List.{flat_map};
 
-use crate::extended::{DlrrItem, ReportBlock, Rrtr};
 use crate::feedback::AppSpecificFeedback;
 use crate::packet::Rtcp;
-use crate::report::SenderInfo;
 use crate::request::{FirEntry, Pli};
-use crate::source::Sdes;
-use media_base::Bitrate;
+use media_units::Bitrate;
+use rtcp_items::{DlrrItem, ReportBlock, Rrtr, Sdes, SenderInfo};
 use rtp_base::{NackEntry, ReceptionReport, ReportList, Ssrc};
 use std::alloc::{AllocError, Global};
 use std::collections::VecDeque;

@@ -7,8 +7,9 @@ ghost use Rattle.rtcp_wire.specs.Descriptions.{sdes_item_at, with_item, first_31
 
 use crate::row::{Put, Row, read_rows, rows_len, write_rows};
 use media_base::{Bytes, Listed};
+use rtcp_items::{Descriptions, Goodbye, Sdes, SdesItem, SdesType};
+use rtp_base::Ssrc;
 use rtp_base::wire::{put, word};
-use rtp_base::{ReportList, Ssrc};
 use std::alloc::{AllocError, Global};
 
 impl Row for Ssrc {
@@ -43,13 +44,6 @@ impl Put for Ssrc {
     }
 }
 
-/// Sources that leave (RFC 3550 section 6.6). A reason is not kept.
-#[derive(Debug, PartialEq, Eq, Drop)]
-pub struct Goodbye {
-    /// The sources.
-    pub reports: ReportList<Ssrc>,
-}
-
 #[tactic(auto, unfolding(crate::specs::Reports::goodbye_of))]
 pub(crate) fn read_goodbye(count: u8, body: &[u8]) -> Option<Goodbye>
     requires { count ≤ 31 }
@@ -69,87 +63,6 @@ pub(crate) fn write_goodbye(goodbye: &Goodbye, out: &mut [u8]) -> Option<usize>
     ensures { Puts out.old 0 (goodbye_body goodbye.now) out.new result }
 {
     write_rows(goodbye.reports.as_slice(), out, 0)
-}
-
-/// What an item of a description tells (RFC 3550 section 12.2).
-#[derive(Clone, Copy, Debug, PartialEq, Eq)]
-pub enum SdesType {
-    /// The name of the source's endpoint, which stays the same over its SSRCs (RFC 3550 section 6.5.1).
-    CNAME,
-    NAME,
-    EMAIL,
-    PHONE,
-    LOC,
-    TOOL,
-    NOTE,
-    PRIV,
-    /// Another type, by its number, which is not 0.
-    Unknown(u8),
-}
-
-impl From<u8> for SdesType {
-    ghost use Rattle.rtcp_wire.specs.Descriptions.{sdes_type_of};
-
-    ghost from_gives = { λ n t. t ≡ sdes_type_of n };
-
-    fn from(number: u8) -> Self {
-        match number {
-            1 => SdesType::CNAME,
-            2 => SdesType::NAME,
-            3 => SdesType::EMAIL,
-            4 => SdesType::PHONE,
-            5 => SdesType::LOC,
-            6 => SdesType::TOOL,
-            7 => SdesType::NOTE,
-            8 => SdesType::PRIV,
-            _ => SdesType::Unknown(number),
-        }
-    }
-}
-
-impl From<SdesType> for u8 {
-    ghost use Rattle.rtcp_wire.specs.Descriptions.{sdes_number};
-
-    ghost from_gives = { λ t n. n ≡ sdes_number t };
-
-    fn from(kind: SdesType) -> Self {
-        match kind {
-            SdesType::CNAME => 1,
-            SdesType::NAME => 2,
-            SdesType::EMAIL => 3,
-            SdesType::PHONE => 4,
-            SdesType::LOC => 5,
-            SdesType::TOOL => 6,
-            SdesType::NOTE => 7,
-            SdesType::PRIV => 8,
-            SdesType::Unknown(number) => number,
-        }
-    }
-}
-
-/// An item of a description (RFC 3550 section 6.5).
-#[derive(Debug, PartialEq, Eq, Drop)]
-pub struct SdesItem {
-    /// What the text tells.
-    pub kind: SdesType,
-    /// At most 255 bytes, of UTF-8 where the sender keeps to the standard.
-    pub text: Bytes,
-}
-
-/// What a source tells of itself (RFC 3550 section 6.5).
-#[derive(Debug, PartialEq, Eq, Drop)]
-pub struct Sdes {
-    /// The source.
-    pub ssrc: Ssrc,
-    /// Of those read the first 31.
-    pub values: Listed<SdesItem>,
-}
-
-/// Sources that describe themselves (RFC 3550 section 6.5), at most 31.
-#[derive(Debug, PartialEq, Eq, Drop)]
-pub struct Descriptions {
-    /// What each tells.
-    pub reports: Listed<Sdes>,
 }
 
 // An item in bytes, and what follows it.

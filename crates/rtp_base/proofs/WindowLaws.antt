@@ -6,7 +6,7 @@ use Rattle.std.proofs.lemmas.Bool.Decides.{nat_tests}
 use Rattle.std.proofs.lemmas.List.{get_or-set_other, get_or-set_same, get_or-replicate, length-set}
 use Rattle.std.proofs.lemmas.Bool.{cases_eq, cases_lt}
 use Rattle.rtp_base.specs.declared.window.SeqNoWindow.{SeqNoWindow}
-use Rattle.rtp_base.specs.Window.{greatest, greatest_after, is_fresh_rtx, is_fresh_after, with_fresh, is_above, is_number, holds, Keeps, StandsFor, accepts_number, put_number}
+use Rattle.rtp_base.specs.Window.{greatest, greatest_after, is_fresh_rtx, is_fresh_after, with_fresh, is_above, is_just, holds, Keeps, StandsFor, accepts_number, put_number}
 
 pub greatest_is : (w : SeqNoWindow) (low : Option ℕ) (l : List ℕ) → StandsFor w low l → w.greatest ≡ greatest_after low l
 unfolding StandsFor
@@ -36,17 +36,17 @@ put_in slots n = slice_set slots (n % 128) (Some n)
 
 holds_far : (slots : List (Option ℕ)) (k n : ℕ) → k % 128 ≢ n % 128 → holds (put_in slots n) k ≡ holds slots k
 unfolding put_in
-holds_far slots k n far = ap (is_number k) (get_or-set_other slots (n % 128) (k % 128) (Some n) None far)
+holds_far slots k n far = ap (is_just k) (get_or-set_other slots (n % 128) (k % 128) (Some n) None far)
 
 holds_same : (slots : List (Option ℕ)) (n : ℕ) → length slots ≡ 128 → holds (put_in slots n) n ≡ true
 unfolding put_in
-holds_same slots n long = ap (is_number n) (get_or-set_same slots (n % 128) (Some n) None (omega arith)) ∙ grind (arith, nat_tests)
+holds_same slots n long = ap (is_just n) (get_or-set_same slots (n % 128) (Some n) None (omega arith)) ∙ grind (arith, nat_tests)
 
 holds_none : (slots : List (Option ℕ)) (k n : ℕ) → length slots ≡ 128 → k ≢ n → holds slots k ≡ false → holds (put_in slots n) k ≡ false
 unfolding put_in
 holds_none slots k n long ne h =
     ⊎_elim
-    (λ (e : k % 128 ≡ n % 128). ap (λ (m : ℕ). is_number k (slice_index_or (put_in slots n) m None)) e ∙ ap (is_number k) (get_or-set_same slots (n % 128) (Some n) None (omega arith)) ∙ grind (arith, nat_tests))
+    (λ (e : k % 128 ≡ n % 128). ap (λ (m : ℕ). is_just k (slice_index_or (put_in slots n) m None)) e ∙ ap (is_just k) (get_or-set_same slots (n % 128) (Some n) None (omega arith)) ∙ grind (arith, nat_tests))
     (λ (far : k % 128 ≢ n % 128). holds_far slots k n far ∙ h)
     (cases_eq (k % 128) (n % 128))
 
@@ -106,7 +106,7 @@ put_number_is w None (x ∷ xs) n h f = rw f (put_more w None n (x ∷ xs) (near
 put_number_is w (Some floor) l n h f = rw f (put_more w (Some floor) n l (near_floor floor n l f) h)
 
 blank : (m k : ℕ) → k % 128 < m → holds (replicate m None) k ≡ false
-blank m k h = ap (is_number k) (get_or-replicate m (k % 128) None None h)
+blank m k h = ap (is_just k) (get_or-replicate m (k % 128) None None h)
 
 pub after_stands : (n : ℕ) → StandsFor (record { floor = Some n; greatest = n; slots = replicate 128 None }) (Some n) []
 unfolding StandsFor

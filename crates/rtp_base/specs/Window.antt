@@ -32,14 +32,14 @@ abbrev pub is_above : Option ℕ → ℕ → Bool
 is_above None n = true
 is_above (Some floor) n = nat_lt floor n
 
--- the slot holds this number
-abbrev pub is_number : ℕ → Option ℕ → Bool
-is_number n None = false
-is_number n (Some x) = x == n
+-- the option is this number
+abbrev pub is_just : ℕ → Option ℕ → Bool
+is_just n None = false
+is_just n (Some x) = x == n
 
 -- the number is in its slot, of 128
 abbrev pub holds : List (Option ℕ) → ℕ → Bool
-holds slots k = is_number k (slice_index_or slots (k % 128) None)
+holds slots k = is_just k (slice_index_or slots (k % 128) None)
 
 -- of the numbers that were taken the window keeps the greatest, and which of the last 128 are among them
 pub record Keeps (w : SeqNoWindow) (low : Option ℕ) (l : List ℕ) : Type 0 where

@@ -1,7 +1,7 @@
 ghost use Rattle.std.specs.Prelude.{◌≡◌, ◌<◌, ◌+◌, ◌++◌, ◌∷◌, [], true, false, length, OnOk, OnErr};
 ghost use Rattle.rtx_core.specs.Ratio.{bytes_in, is_old, recent, without_last};
 
-use media_base::{Duration, Instant};
+use media_units::{Duration, Instant};
 use std::alloc::{AllocError, Global};
 use std::collections::VecDeque;
 use std::marker::Model;

@@ -2,7 +2,7 @@ ghost use Rattle.std.specs.Prelude.{◌≡◌, ◌<◌, ◌++◌, ◌∷◌, [],
 ghost use Rattle.rtx_core.specs.Ratio.{uncounted, is_above, is_above_at, is_reading_due, after_reading, forgetting, with_pushed, without_pushed, with_sent, with_resent, with_hundredths};
 
 use crate::byte_log::ByteLog;
-use media_base::{Duration, Instant};
+use media_units::{Duration, Instant};
 use std::alloc::{AllocError, Global};
 use std::marker::Model;
 

@@ -1,4 +1,4 @@
-use media_base::Instant;
+use media_units::Instant;
 use rtp_base::SeqNo;
 use std::alloc::AllocError;
 use thiserror::Error;

@@ -8,7 +8,7 @@ ghost use Rattle.rtx_core.specs.Resends.{ResendRecord, StandsFor, created, begun
 
 use crate::ratio_cap::RatioCap;
 use crate::resend::{NUMBER_LIMIT, Resend, ResendError};
-use media_base::{Duration, Instant};
+use media_units::{Duration, Instant};
 use resend_core::{Cached, ResendStore, RtxCache};
 use rtp_base::{NackEntry, SeqNo};
 use std::alloc::{AllocError, Global};

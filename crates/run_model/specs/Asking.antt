@@ -5,7 +5,7 @@ use Rattle.repair_core.specs.Rounds.{Heard, due, wait_of}
 use Rattle.repair_core.specs.Entries.{names}
 use Rattle.rtp_base.specs.declared.kind.Kind.TheVariants.{Rtp, Rtcp}
 use Rattle.rtp_base.specs.declared.nack_entry.NackEntry.{NackEntry}
-use Rattle.rtcp_wire.specs.declared.extended.DlrrItem.{DlrrItem as Delay}
+use Rattle.rtcp_items.specs.declared.extended.DlrrItem.{DlrrItem as Delay}
 use Rattle.rtcp_wire.specs.declared.rtcp_fb.RtcpFb.{RtcpFb}
 use Rattle.rtcp_wire.specs.declared.rtcp_fb.RtcpFb.TheVariants.{Nack, DlrrItem}
 use Rattle.run_model.specs.Events.{Plain, Event, wrote, ticked, called, got, sealed, sealed_items, opened, opened_items, yielded, Types, Incoming}

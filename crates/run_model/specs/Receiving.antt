@@ -2,12 +2,11 @@
 use Rattle.std.specs.Prelude.{◌≡◌, ◌≤◌, ◌+◌, ◌*◌, ◌%◌, ℕ, Bool, true, IsTrue, ◌&&◌, ◌||◌, ◌==◌, not, if◌then◌else◌, length, List, [], ◌∷◌, ◌++◌, Option, Some, None, IsSome, unwrap_or}
 use Rattle.std.specs.List.{flat_map, fold}
 use Rattle.rtp_base.specs.Widen.{widen16}
-use Rattle.rtp_base.specs.Window.{is_fresh_rtx, is_fresh_after, greatest_after}
+use Rattle.rtp_base.specs.Window.{is_fresh_rtx, is_fresh_after, greatest_after, is_just}
 use Rattle.repair_core.specs.Fresh.{greatest_of, is_fresh, started_from}
 use Rattle.rtp_wire.specs.Padding.{unpadded}
 use Rattle.media_model.specs.declared.entry.Packet.{Packet}
 use Rattle.run_model.specs.Events.{Plain, Event, opened, yielded, Types, Incoming}
-use Rattle.run_model.specs.Sending.{is_just}
 use Rattle.run_model.specs.Seals.{Sealing, IsSeal}
 
 -- the payload without its padding (RFC 3550 section 5.1)

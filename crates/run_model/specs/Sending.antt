@@ -8,21 +8,14 @@ use Rattle.rtx_core.specs.Resends.{numbers_of}
 use Rattle.media_model.specs.declared.entry.Write.{Write}
 use Rattle.run_model.specs.Events.{Plain, Event, wrote, ticked, called, got, sealed, sealed_items, opened, opened_items, yielded, Types, Outgoing}
 use Rattle.run_model.specs.Listing.{IsIn, Leaves}
+use Rattle.rtp_base.specs.Window.{is_just}
 
 abbrev pub is_some : {A : Type 0} → Option A → Bool
 is_some None = false
 is_some (Some x) = true
 
--- the option is this number
-abbrev pub is_just : ℕ → Option ℕ → Bool
-is_just n None = false
-is_just n (Some x) = x == n
-
 abbrev pub number_of : Write → ℕ
 number_of w = w.number
-
-abbrev pub numbers : List Write → List ℕ
-numbers ws = map number_of ws
 
 -- a write waits no more once its number was sealed
 abbrev pub is_numbered : ℕ → Write → Bool

@@ -1,5 +1,5 @@
 -- All outgoing streams of a side.
-use Rattle.std.specs.Prelude.{◌≡◌, ◌≤◌, ℕ, Bool, true, false, ◌||◌, ◌==◌, if◌then◌else◌, map, List, [], ◌∷◌, ◌++◌}
+use Rattle.std.specs.Prelude.{◌≡◌, ◌≤◌, ◌^◌, ℕ, Bool, true, false, ◌||◌, ◌==◌, if◌then◌else◌, map, List, [], ◌∷◌, ◌++◌, Some}
 use Rattle.std.specs.List.{flat_map, fold}
 use Rattle.resend_core.specs.ResendStore.{last_position}
 use Rattle.rtp_base.specs.declared.kind.Kind.TheVariants.{Rtcp}
@@ -7,9 +7,10 @@ use Rattle.rtcp_wire.specs.declared.rtcp_fb.RtcpFb.{RtcpFb}
 use Rattle.media_model.specs.declared.entry.Write.{Write}
 use Rattle.run_model.specs.Events.{Event, wrote, ticked, called, got, sealed, sealed_items, opened, opened_items, yielded, Types, Outgoing}
 use Rattle.run_model.specs.Listing.{IsIn, NoRepeat}
-use Rattle.run_model.specs.Sending.{is_just, named_on, wanted}
+use Rattle.run_model.specs.Sending.{named_on, wanted}
 use Rattle.run_model.specs.Seals.{Sealing}
-use Rattle.run_model.specs.TxPlay.{TxRecord, new_tx, after_write, past_of, Polls, Queues, IsApart, clock_step, begun_tick}
+use Rattle.run_model.specs.TxPlay.{TxRecord, IsDue, new_tx, after_write, past_of, Polls, Queues, IsApart, clock_step, begun_tick}
+use Rattle.rtp_base.specs.Window.{is_just}
 
 -- the streams in order, each with its record
 abbrev pub Table : Type 0
@@ -33,6 +34,10 @@ AllStrange L (M ∷ Ms) = ((ssrc : ℕ) → has L ssrc ≡ true → has M ssrc �
 abbrev pub AreApart : List Outgoing → Type 0
 AreApart [] = Unit {0}
 AreApart (L ∷ Ls) = IsApart L × (AllStrange L Ls × AreApart Ls)
+
+-- one of these streams has no number left for a repair that is due, under this SSRC
+abbrev pub IsUsedUpIn : ℕ → Table → Type 0
+IsUsedUpIn ssrc streams = (s : Outgoing × TxRecord) × IsIn s streams × (s.0.rtx ≡ Some ssrc) × (s.1.next_rtx ≡ 2 ^ 48) × IsDue s.0 s.1
 
 -- a poll of one of the streams, whichever the pacer chooses
 pub data PollsOne (T : Types) (seal : Sealing) (now : ℕ) : Table → Table → List Event → Type 0 where

@@ -40,6 +40,16 @@ no_plain = record { pt = 0; padded = false; marker = false; time = 0; csrc = [];
 abbrev pub plain_in : ExtensionMap → List ℕ → Plain
 plain_in exts bytes = unwrap_or (option_map (λ h. plain_of h bytes) (header_of exts bytes)) no_plain
 
+-- a plain RTP datagram as it is read: its SSRC, the low 16 bits of its number, and the rest, where it has a header
+abbrev pub read_of : RtpHeader → List ℕ → ℕ × ℕ × Plain
+read_of h bytes = (h.ssrc, h.sequence_number, plain_of h bytes)
+
+abbrev pub reading : ExtensionMap → List ℕ → Option (ℕ × ℕ × Plain)
+reading exts bytes = option_map (λ h. read_of h bytes) (header_of exts bytes)
+
+abbrev pub len_in : ExtensionMap → List ℕ → ℕ
+len_in exts bytes = unwrap_or (option_map (λ (h : RtpHeader). h.header_len) (header_of exts bytes)) 0
+
 -- a datagram that was sealed, and one that was opened, as it is read
 abbrev pub sealed_event : ExtensionMap → Kind → SealedEntry → Event
 sealed_event exts Rtp s = sealed s.ssrc s.index (plain_in exts s.plain) s.bytes

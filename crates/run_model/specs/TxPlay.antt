@@ -9,7 +9,8 @@ use Rattle.run_model.specs.Events.{Event, wrote, ticked, called, got, sealed, se
 use Rattle.run_model.specs.Listing.{IsIn}
 use Rattle.run_model.specs.Capping.{Reading, reading_after, reading_for}
 use Rattle.run_model.specs.Seals.{Sealing, IsSeal}
-use Rattle.run_model.specs.Sending.{is_just, is_cached, sendings, named_on, wanted, sending_of, repair_of}
+use Rattle.run_model.specs.Sending.{is_cached, sendings, named_on, wanted, sending_of, repair_of}
+use Rattle.rtp_base.specs.Window.{is_just}
 
 -- the numbers that were written, the packets that wait, what happened to the store of sent packets, the numbers to resend,
 -- the number of the next repair, the bytes of what was sent and resent, each with its moment, and the last reading of the cap

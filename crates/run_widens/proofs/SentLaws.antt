@@ -33,10 +33,6 @@ use Rattle.run_widens.specs.Sent.{IsKey, same_carried, put_at, is_first, carried
 
 -- the events of a side, with one happening more
 
-same_self : (s : Side) → same_side s s ≡ true
-same_self A = refl
-same_self B = refl
-
 pub events_more : (side : Side) (past : List Happening) (h : Happening) → events_of side (past ++ h ∷ []) ≡ events_of side past ++ event_of side h
 events_more side past h = flat_map-append (event_of side) past (h ∷ []) ∙ ap (λ es. events_of side past ++ es) (append-nil (event_of side h))
 
@@ -101,16 +97,6 @@ first_true true rest e = refl
 first_true false rest e = e
 
 module _ (T : Types) (k : Carried) where
-  -- neither a write nor a sealing
-  pub stays : (s t : Sendings) (f l : Option ℕ) (at : ℕ) → t.sent ≡ s.sent → t.waiting ≡ s.waiting → Stands T k s f l at → Stands T k t f l (at + 1)
-  stays s t f l at e d h = record {
-    first_below = later f at h.first_below;
-    last_below = later l at h.last_below;
-    sent = ap (any_sent T k) e ∙ h.sent;
-    never = λ n. ap (list_any (carried_by T k)) d ∙ h.never n;
-    waits = λ a n u. ap (list_any (carried_by T k)) d ∙ h.waits a n u;
-  }
-
   -- a write
   pub writes : (s t : Sendings) (w : Write) (f l : Option ℕ) (at : ℕ) (b : Bool) → carried_by T k w ≡ b → t.sent ≡ s.sent → t.waiting ≡ s.waiting ++ w ∷ [] → Stands T k s f l at
       → Stands T k t (if b then or_at f at else f) l (at + 1)

@@ -3,9 +3,10 @@ use Rattle.std.specs.Prelude.{ℕ, Bool, ◌&&◌, ◌||◌, ◌==◌, not}
 use Rattle.media_model.specs.declared.entry.Entry.{Entry}
 use Rattle.run_model.specs.Events.{Types, Incoming}
 use Rattle.run_model.specs.Runs.{Happening}
-use Rattle.run_model.specs.Sending.{is_some, is_just}
+use Rattle.run_model.specs.Sending.{is_some}
 use Rattle.run_model.specs.Transcripts.{types_of, happening_of}
 use Rattle.run_widens.specs.declared.line.Line.{Line}
+use Rattle.rtp_base.specs.Window.{is_just}
 
 abbrev pub incoming_in : Line → Incoming
 incoming_in line = record { ssrc = line.ssrc; rtx = line.rtx; suppressed = not (is_some line.rtx) }

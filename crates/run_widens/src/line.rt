@@ -26,7 +26,7 @@ fn is_type(rtx: Option<Pt>, pt: Pt) -> bool
 
 impl Line<'_> {
     ghost use Rattle.std.specs.Prelude.{◌≡◌, ◌==◌, Some};
-    ghost use Rattle.run_model.specs.Sending.{is_just};
+    ghost use Rattle.rtp_base.specs.Window.{is_just};
     ghost use Rattle.run_model.specs.Receiving.{concerns};
     ghost use Rattle.run_widens.specs.Lines.{incoming_in, types_in, is_repair_type};
 

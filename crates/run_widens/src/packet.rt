@@ -4,6 +4,7 @@ ghost use Rattle.run_model.specs.Transcripts.{plain_in};
 ghost use Rattle.run_model.specs.Receiving.{cut, low_of};
 ghost use Rattle.run_widens.specs.Packets.{plain_of, Repairs};
 
+use rtp_base::wire::half;
 use rtp_wire::{ExtensionMap, Pt, RtpHeader, header_reads_own_bytes};
 
 // An RTP datagram as its header reads, with what stands behind the header.
@@ -66,9 +67,10 @@ impl<'a> Packet<'a> {
         ensures { MatchOption result (low_of (cut (plain_of self.now)) ≡ None)
             (λ p. Repairs self.now p.0 p.1.now) }
     {
-        let [high, low, rest @ ..] = self.cut() else {
+        let bytes = self.cut();
+        let [_, _, rest @ ..] = bytes else {
             return None;
         };
-        Some((u16::from_be_bytes([*high, *low]), rest))
+        Some((half(bytes, 0), rest))
     }
 }

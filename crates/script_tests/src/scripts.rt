@@ -1,8 +1,9 @@
 //! What is read of scripts: each kind of line, and what a setup says then.
 use crate::outside::is_outside;
-use media_base::{Bytes, Duration, Instant};
+use media_base::Bytes;
 use media_model::*;
 use media_script::read_script;
+use media_units::{Duration, Instant};
 use rtp_wire::{Extension, Pt, Ssrc};
 use srtp_core::SrtpProfile;
 use std::alloc::Global;

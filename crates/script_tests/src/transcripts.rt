@@ -1,7 +1,8 @@
 //! The text of transcripts.
-use media_base::{Bytes, Instant};
+use media_base::Bytes;
 use media_model::*;
 use media_script::{end_line, entries_text, write_transcript};
+use media_units::Instant;
 use rtp_wire::{Pt, SeqNo, Ssrc};
 use std::alloc::Global;
 use std::test::Fail;

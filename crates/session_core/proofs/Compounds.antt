@@ -1,12 +1,12 @@
 -- The compound of the first items that fit, where each fits one of its own.
-use Rattle.std.proofs.Common.{◌≡◌, ◌≢◌, ℕ, suc, ◌+◌, ◌-◌, ◌<◌, ◌≤◌, Bool, true, List, [], ◌∷◌, length, take, drop, refl, ap, ◌∙◌, arith}
+use Rattle.std.proofs.Common.{◌≡◌, ◌≢◌, ℕ, suc, ◌-◌, ◌<◌, ◌≤◌, Bool, true, List, [], ◌∷◌, length, drop, refl, ap, arith}
 use Rattle.std.proofs.lemmas.Bool.Decides.{nat_tests}
-use Rattle.std.proofs.lemmas.List.{length-append, length-drop}
+use Rattle.std.proofs.lemmas.List.{length-drop}
 use Rattle.std.specs.Prelude.{nat_le, if◌then◌else◌}
-use Rattle.std.specs.List.{flat_map, AllByRecursion}
+use Rattle.std.specs.List.{AllByRecursion}
 use Rattle.rtcp_wire.specs.declared.packet.Rtcp.{Rtcp}
 use Rattle.rtcp_wire.specs.Texts.{text_of, fitting}
-use Rattle.session_core.specs.Feedback.{FitsAlone, room_of, leaving, compound_of, items_after}
+use Rattle.session_core.specs.Feedback.{FitsAlone, room_of, leaving, items_after}
 
 le_true : (a b : ℕ) → a ≤ b → nat_le a b ≡ true
 le_true a b h = grind (arith, nat_tests)
@@ -27,17 +27,6 @@ first_leaves target x xs h f =
       others = fitting (room_of target - length (text_of x)) xs;
       is = ap (λ (b : Bool). if b then suc (fitting (room_of target - length (text_of x)) xs) else 0) (le_true (length (text_of x)) (room_of target) room);
     }
-
--- so the compound has the 8 bytes of a packet
-pub compound_is_long : (target : ℕ) (xs : List Rtcp) → 900 ≤ target → xs ≢ [] → AllByRecursion FitsAlone xs → 8 ≤ length (compound_of target xs)
-compound_is_long target [] h some fit = absurd (some refl)
-compound_is_long target (x ∷ xs) h some fit =
-    let l = first_leaves target x xs h fit.0 in
-    let rest = flat_map text_of (take l.others xs) in
-    let text : length (compound_of target (x ∷ xs)) ≡ length (text_of x) + length rest =
-    ap (λ (n : ℕ). length (flat_map text_of (take n (x ∷ xs)))) l.is ∙ length-append (text_of x) rest in
-    let long = fit.0.long in
-    omega arith
 
 -- and fewer wait behind it
 pub fewer_behind : (target : ℕ) (xs : List Rtcp) → 900 ≤ target → xs ≢ [] → AllByRecursion FitsAlone xs → length (items_after target xs) < length xs

@@ -6,22 +6,22 @@ use Rattle.std.proofs.lemmas.List.{length-append, length-take}
 use Rattle.rtp_base.specs.declared.nack_entry.NackEntry.{NackEntry}
 use Rattle.rtp_base.specs.declared.reception_report.ReceptionReport.{ReceptionReport}
 use Rattle.rtp_base.specs.Wire.{words}
-use Rattle.rtcp_wire.specs.declared.extended.DlrrItem.{DlrrItem}
-use Rattle.rtcp_wire.specs.declared.extended.ExtendedReport.{ExtendedReport as Extended}
-use Rattle.rtcp_wire.specs.declared.extended.ReportBlock.{ReportBlock}
-use Rattle.rtcp_wire.specs.declared.extended.ReportBlock.TheVariants.{Rrtr, Dlrr}
+use Rattle.rtcp_items.specs.declared.extended.DlrrItem.{DlrrItem}
+use Rattle.rtcp_items.specs.declared.extended.ExtendedReport.{ExtendedReport as Extended}
+use Rattle.rtcp_items.specs.declared.extended.ReportBlock.{ReportBlock}
+use Rattle.rtcp_items.specs.declared.extended.ReportBlock.TheVariants.{Rrtr, Dlrr}
 use Rattle.rtcp_wire.specs.declared.feedback.AppSpecificFeedback.{AppSpecificFeedback as Application}
 use Rattle.rtcp_wire.specs.declared.nack.Nack.{Nack as Asks}
 use Rattle.rtcp_wire.specs.declared.packet.Rtcp.{Rtcp}
 use Rattle.rtcp_wire.specs.declared.packet.Rtcp.TheVariants.{SenderReport, ReceiverReport, SourceDescription, Goodbye, ExtendedReport, Nack, Pli, Fir, Twcc, Remb, AppSpecificFeedback}
 use Rattle.rtcp_wire.specs.declared.remb.Remb.{Remb as Rate}
-use Rattle.rtcp_wire.specs.declared.report.ReceiverReport.{ReceiverReport as Received}
-use Rattle.rtcp_wire.specs.declared.report.SenderReport.{SenderReport as Sent}
+use Rattle.rtcp_items.specs.declared.report.ReceiverReport.{ReceiverReport as Received}
+use Rattle.rtcp_items.specs.declared.report.SenderReport.{SenderReport as Sent}
 use Rattle.rtcp_wire.specs.declared.request.Fir.{Fir as Intra}
 use Rattle.rtcp_wire.specs.declared.request.FirEntry.{FirEntry}
 use Rattle.rtcp_wire.specs.declared.request.Pli.{Pli as Lost}
-use Rattle.rtcp_wire.specs.declared.source.Descriptions.{Descriptions}
-use Rattle.rtcp_wire.specs.declared.source.SdesType.TheVariants.{CNAME}
+use Rattle.rtcp_items.specs.declared.source.Descriptions.{Descriptions}
+use Rattle.rtcp_items.specs.declared.source.SdesType.TheVariants.{CNAME}
 use Rattle.rtcp_wire.specs.Descriptions.{ended, sdes_item_text, sdes_text, descriptions_body}
 use Rattle.rtcp_wire.specs.Extended.{block_content, block_text, dlrr_item_text, extended_report_body}
 use Rattle.rtcp_wire.specs.Feedback.{app_feedback_body, nack_body, pli_body, fir_body}

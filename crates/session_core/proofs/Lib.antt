@@ -1,5 +1,6 @@
 pub mod Asked
 pub mod Asking
+pub mod Carried
 pub mod Compounds
 pub mod Cuts
 pub mod Dues

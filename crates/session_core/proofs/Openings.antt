@@ -114,9 +114,6 @@ module _ (u : SessionRecord) (h : RtpHeader) (nonzero : (h.ssrc == 0) ≡ false)
     repaired_under_it : (b : Bool) (o : Option ℕ) → is_known u.state.types h.payload_type ≡ b → value_under h.ssrc u.known.originals ≡ o → repaired ≡ under b o
     repaired_under_it b o e f = repaired_placed false away ∙ (λ j. under (e j) (f j))
 
-    unknown_none : (o : Option ℕ) → under false o ≡ None
-    unknown_none o = refl
-
     pub unknown_opening : is_known u.state.types h.payload_type ≡ false → opening_number h u ≡ None
     unknown_opening e = none_opens (repaired_under_it false (value_under h.ssrc u.known.originals) e refl)
 

@@ -12,10 +12,6 @@ module _ (types : List (ℕ × TypeRow)) (rx : List (ℕ × RxRecord)) (original
   pub repairs_probe : (h.ssrc == 0) ≡ true → repaired_by types rx originals h ≡ None
   repairs_probe e = rw e refl
 
-  pub repairs_own : (i x : ℕ) → (h.ssrc == 0) ≡ false → place_of h.ssrc rx ≡ Some i → primary_type_of types h.payload_type ≡ Some x
-      → repaired_by types rx originals h ≡ Some h.ssrc
-  repairs_own i x e p t = rw (e, p, t) refl
-
   pub repairs_none : (i : ℕ) → (h.ssrc == 0) ≡ false → place_of h.ssrc rx ≡ Some i → primary_type_of types h.payload_type ≡ None
       → repaired_by types rx originals h ≡ None
   repairs_none i e p t = rw (e, p, t) refl
@@ -28,10 +24,6 @@ module _ (types : List (ℕ × TypeRow)) (rx : List (ℕ × RxRecord)) (original
 
   pub none_under : is_known types h.payload_type ≡ true → value_under h.ssrc originals ≡ None → original_under types rx originals h ≡ None
   none_under e o = rw (e, o) refl
-
-  pub some_under : (original i : ℕ) → is_known types h.payload_type ≡ true → value_under h.ssrc originals ≡ Some original → place_of original rx ≡ Some i
-      → original_under types rx originals h ≡ Some original
-  some_under original i e o p = rw (e, o, p) refl
 
   pub gone_under : (original : ℕ) → is_known types h.payload_type ≡ true → value_under h.ssrc originals ≡ Some original → place_of original rx ≡ None
       → original_under types rx originals h ≡ None

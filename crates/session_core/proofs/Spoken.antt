@@ -5,7 +5,7 @@ use Rattle.std.specs.Option.{option_map, option_to_list}
 use Rattle.std.specs.List.{AllByRecursion}
 use Rattle.std.proofs.lemmas.List.{append-nil}
 use Rattle.media_units.specs.declared.wallclock.Beginning.{Beginning}
-use Rattle.rtcp_wire.specs.declared.extended.ExtendedReport.{ExtendedReport as Extended}
+use Rattle.rtcp_items.specs.declared.extended.ExtendedReport.{ExtendedReport as Extended}
 use Rattle.rtcp_wire.specs.declared.packet.Rtcp.{Rtcp}
 use Rattle.rtcp_wire.specs.declared.packet.Rtcp.TheVariants.{ExtendedReport}
 use Rattle.report_core.specs.declared.moments.ReceiverMoment.{ReceiverMoment}

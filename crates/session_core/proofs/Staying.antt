@@ -14,14 +14,8 @@ module _ (cipher : CipherMeaning) (r : SessionRecord) (bytes : List ℕ) where
   abbrev pub Stays : Type 0
   Stays = (h : RtpHeader) (n : ℕ) (payload : List ℕ) → Opens cipher r bytes h n payload → ⊥
 
-  pub stays_unread : header_of r.state.transport.exts bytes ≡ None → Stays
-  stays_unread none h n payload o = absurd (cc o.reads)
-
   abbrev pub StaysRepair : Type 0
   StaysRepair = (h : RtpHeader) (original n : ℕ) (payload : List ℕ) → OpensRepair cipher r bytes h original n payload → ⊥
-
-  pub repair_unread : header_of r.state.transport.exts bytes ≡ None → StaysRepair
-  repair_unread none h original n payload o = absurd (cc o.reads)
 
   module _ (g : RtpHeader) (reads : header_of r.state.transport.exts bytes ≡ Some g) where
     same : (h : RtpHeader) → header_of r.state.transport.exts bytes ≡ Some h → g ≡ h

@@ -13,13 +13,6 @@ set_change f [] i x at = refl
 set_change f (e ∷ es) zero x at = let same : x ≡ e.1 = cc in λ j. (e.0, f (same j)) ∷ es
 set_change f (e ∷ es) (suc i) x at = ap (λ l. e ∷ l) (set_change f es i x at)
 
--- the places before it stay as they are
-pub take_set : {X : Type 0} (es : List (ℕ × X)) (i : ℕ) (x : X) → take i (set_value_at es i x) ≡ take i es
-take_set [] zero x = refl
-take_set [] (suc i) x = refl
-take_set (e ∷ es) zero x = refl
-take_set (e ∷ es) (suc i) x = ap (λ l. e ∷ l) (take_set es i x)
-
 -- there are as many keys as values
 pub length_keys : {X : Type 0} (es : List (ℕ × X)) → length (keys_of es) ≡ length es
 length_keys [] = refl
@@ -59,12 +52,6 @@ upto_all f zero [] long = refl
 upto_all f zero (e ∷ es) long = absurd (omega arith)
 upto_all f (suc n) [] long = refl
 upto_all f (suc n) (e ∷ es) long = ap (λ l. (e.0, f e.1) ∷ l) (upto_all f n es (omega arith))
-
-pub take_all : {X : Type 0} (n : ℕ) (es : List X) → length es ≤ n → take n es ≡ es
-take_all zero [] long = refl
-take_all zero (e ∷ es) long = absurd (omega arith)
-take_all (suc n) [] long = refl
-take_all (suc n) (e ∷ es) long = ap (λ l. e ∷ l) (take_all n es (omega arith))
 
 -- what one value more gives
 pub items_step : {X Y : Type 0} (h : X → List Y) (i : ℕ) (es : List (ℕ × X)) (x : X) → slice_get (values_of es) i ≡ Some x

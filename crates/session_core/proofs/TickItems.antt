@@ -9,7 +9,7 @@ use Rattle.media_units.specs.declared.wallclock.Beginning.{Beginning}
 use Rattle.rtp_base.specs.declared.reception_report.ReceptionReport.{ReceptionReport}
 use Rattle.rtcp_wire.specs.declared.packet.Rtcp.{Rtcp}
 use Rattle.rtcp_wire.specs.declared.packet.Rtcp.TheVariants.{SourceDescription}
-use Rattle.rtcp_wire.specs.declared.report.SenderInfo.{SenderInfo}
+use Rattle.rtcp_items.specs.declared.report.SenderInfo.{SenderInfo}
 use Rattle.report_core.specs.declared.moments.ReceiverMoment.{ReceiverMoment}
 use Rattle.report_core.specs.Moments.{item_of}
 use Rattle.report_core.specs.Sender.{name_of}

@@ -5,7 +5,7 @@ use Rattle.std.specs.Map.{values_of}
 use Rattle.stream_core.specs.RxRecord.{RxRecord, RxView, StandsFor}
 use Rattle.stream_core.specs.Tables.{place_of, value_under, Along}
 use Rattle.repair_core.specs.Rounds.{Heard}
-use Rattle.rtcp_wire.specs.declared.report.SenderInfo.{SenderInfo}
+use Rattle.rtcp_items.specs.declared.report.SenderInfo.{SenderInfo}
 use Rattle.session_core.specs.declared.datagram.Event.{Event}
 use Rattle.session_core.specs.declared.news.KeyframeRequest.{KeyframeRequest}
 use Rattle.session_core.specs.declared.news.RembRequest.{RembRequest}
@@ -15,9 +15,6 @@ use Rattle.session_core.specs.News.{NewsRecord, put, with_sender, news_count, ne
 -- what is under a key, by its place
 pub under_some : {X : Type 0} (k : ℕ) (es : List (ℕ × X)) (i : ℕ) (x : X) → place_of k es ≡ Some i → slice_get (values_of es) i ≡ Some x → value_under k es ≡ Some x
 under_some k es i x place at = ap (option_and_then (slice_get (values_of es))) place ∙ at
-
-pub under_none : {X : Type 0} (k : ℕ) (es : List (ℕ × X)) → place_of k es ≡ None → value_under k es ≡ None
-under_none k es place = ap (option_and_then (slice_get (values_of es))) place
 
 -- the record of a stream at its place
 pub record_at : {W : Type 0} (remembers : W → Heard → Type 0) (xs : List (ℕ × RxView W)) (ys : List (ℕ × RxRecord)) (i : ℕ) (x : RxView W) → Along (StandsFor remembers) xs ys

@@ -23,6 +23,7 @@ use Rattle.session_core.specs.Reports.{reports_at}
 use Rattle.session_core.specs.Rounds.{requests_at, round_at, send_at}
 use Rattle.session_core.specs.Sending.{has_mid}
 use Rattle.session_core.specs.Types.{types_of}
+use Rattle.stream_core.specs.Requests.{one_of}
 
 -- the mid of the stream on which probes come: the text 0
 abbrev pub probe_mid : List ℕ
@@ -96,12 +97,9 @@ abbrev pub after_event : SessionRecord → SessionRecord
 after_event r = if lacks_keys r.state then r else after_next r.state.application (next_pause r.rx) r.state.packet r
 
 -- how much waits to be told
-abbrev pub one_in : {X : Type 0} → Option X → ℕ
-one_in None = 0
-one_in (Some x) = 1
 
 abbrev pub events_in : {W S : Type 0} → SessionView W S → ℕ
-events_in s = one_in s.state.application + (untold_in s.rx + (one_in s.state.packet + news_count s.state.news))
+events_in s = one_of s.state.application + (untold_in s.rx + (one_of s.state.packet + news_count s.state.news))
 
 -- all that is told, in order
 abbrev pub told : SessionRecord → List Event

@@ -3,7 +3,7 @@ use Rattle.std.specs.Prelude.{◌≡◌, ℕ, ◌+◌, ◌-◌, ◌==◌, ◌&&�
 use Rattle.std.specs.Option.{option_or}
 use Rattle.rtp_base.specs.declared.kind.Kind.TheVariants.{Rtcp}
 use Rattle.rtcp_wire.specs.declared.feedback.AppSpecificFeedback.{AppSpecificFeedback as Application}
-use Rattle.rtcp_wire.specs.declared.extended.DlrrItem.{DlrrItem as Delay}
+use Rattle.rtcp_items.specs.declared.extended.DlrrItem.{DlrrItem as Delay}
 use Rattle.rtp_base.specs.declared.nack_entry.NackEntry.{NackEntry}
 use Rattle.rtcp_wire.specs.declared.rtcp_fb.RtcpFb.{RtcpFb}
 use Rattle.rtcp_wire.specs.declared.rtcp_fb.RtcpFb.TheVariants.{ReceptionReport, Goodbye, Nack, Pli, Fir, AppSpecificFeedback, DlrrItem}
@@ -124,6 +124,12 @@ pub data ReceivesRtcp (cipher : CipherMeaning) (r : SessionRecord) (bytes : List
       → AskedByAll now (feedback_in plain) r.repairs repairs
       → ReceivesRtcp cipher r bytes now (after_rtcp now plain repairs r) (Some (rtcp_opening_of r.state.opening bytes plain))
   stays : ((plain : List ℕ) → RtcpOpensIn cipher r.state.opening bytes plain → ⊥) → ReceivesRtcp cipher r bytes now r None
+
+-- what streams that send were told where memory runs out: nothing, or the items in front of a packet to which the bytes open
+pub data HearsFront (cipher : CipherMeaning) (opening : Option SrtpState) (bytes : List ℕ) (before after : List (ℕ × TxRecord)) : Type 0 where
+  unheard : after ≡ before → HearsFront cipher opening bytes before after
+  heard_front : (plain : List ℕ) (count : ℕ) → RtcpOpensIn cipher opening bytes plain → after ≡ tx_heard (take count (feedback_in plain)) before
+      → HearsFront cipher opening bytes before after
 
 -- a packet of goodbyes alone (RFC 3550 section 6.6) changes nothing, and asks for nothing
 abbrev pub GoodbyesChangeNothing : Type 0

@@ -22,7 +22,7 @@ with_media mid medias m = option_map_or (λ i. slice_set medias i m) (media_plac
 abbrev pub medias_without : List ℕ → List MediaRecord → List MediaRecord
 medias_without mid medias = filter (λ m. not (pointwise ◌==◌ m.mid mid)) medias
 
--- the session without the media sections of a mid, without their streams, and without what waits to be told of these
+-- the session without the media sections of a mid, without their streams, and without the news that waits to be told of these
 abbrev pub without_media : List ℕ → SessionRecord → SessionRecord
 without_media mid r = record r {
   state = record r.state { medias = medias_without mid r.state.medias; tx = sent_without mid r.state.tx; news = news_without mid r.state.news };

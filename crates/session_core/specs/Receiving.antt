@@ -3,6 +3,7 @@ use Rattle.std.specs.Prelude.{◌≡◌, ◌==◌, ◌<◌, ◌&&◌, ◌||◌, 
 use Rattle.std.specs.Option.{option_map, option_map_or}
 use Rattle.mapping_core.specs.Mapped.{is_early_padding}
 use Rattle.rtp_base.specs.declared.kind.Kind.TheVariants.{Rtp}
+use Rattle.rtp_base.specs.declared.media_time.MediaTime.{MediaTime}
 use Rattle.rtp_wire.specs.declared.extension.ExtensionMap.{ExtensionMap}
 use Rattle.rtp_wire.specs.declared.header.RtpHeader.{RtpHeader}
 use Rattle.rtp_wire.specs.Header.{header_of}
@@ -14,7 +15,7 @@ use Rattle.stream_core.specs.declared.packet.RtpPacket.{RtpPacket}
 use Rattle.stream_core.specs.RxRecord.{RxRecord, fresh_number, opened_as}
 use Rattle.stream_core.specs.Repairing.{claims_in}
 use Rattle.stream_core.specs.Reporting.{clock_under}
-use Rattle.stream_core.specs.StreamsRecord.{accepted, restored_on, restored_number_on}
+use Rattle.stream_core.specs.StreamsRecord.{accepted, restored_on, restored_number_on, taken_time_on, restored_time_on}
 use Rattle.stream_core.specs.Tables.{value_under, place_of, change_at}
 use Rattle.stream_core.specs.declared.payload_types.TypeRow.{TypeRow}
 use Rattle.stream_core.specs.declared.reports.Arrival.{Arrival}
@@ -79,11 +80,22 @@ pub record IsOpening (cipher : CipherMeaning) (opening : Option SrtpState) (h : 
   pub number : original ≡ original_in repair h payload
   pub cuts : carried ≡ carried_in repair h payload
 
--- the packet of a datagram that came
-abbrev pub packet_from : ℕ → RtpHeader → ℕ → List ℕ → RtpPacket
-packet_from now h n payload = record {
+-- the RTP time of a packet that so comes under an SSRC, as its stream widens it: one that is taken as it came, and one that is
+-- restored from a repair. Where there is no stream no packet is told
+abbrev pub no_time : MediaTime
+no_time = record { numer = 0; frequency = 1 }
+
+abbrev pub time_taken : Arrival → List (ℕ × RxRecord) → ℕ → MediaTime
+time_taken a rx ssrc = unwrap_or (taken_time_on a rx ssrc) no_time
+
+abbrev pub time_restored : Arrival → List (ℕ × RxRecord) → ℕ → MediaTime
+time_restored a rx ssrc = unwrap_or (restored_time_on a rx ssrc) no_time
+
+-- the packet of a datagram that came, of this RTP time
+abbrev pub packet_from : MediaTime → ℕ → RtpHeader → ℕ → List ℕ → RtpPacket
+packet_from time now h n payload = record {
   seq_no = n;
-  time = record { numer = h.timestamp; frequency = 1 };
+  time = time;
   header = h;
   payload = payload;
   timestamp = Some now;
@@ -91,14 +103,14 @@ packet_from now h n payload = record {
 }
 
 -- the packet that waits to be told after a datagram opened: on SSRC 0 the one before
-abbrev pub packet_after : ℕ → RtpHeader → ℕ → List ℕ → Option RtpPacket → Option RtpPacket
-packet_after now h n payload before = if h.ssrc == 0 then before else Some (packet_from now h n payload)
+abbrev pub packet_after : MediaTime → ℕ → RtpHeader → ℕ → List ℕ → Option RtpPacket → Option RtpPacket
+packet_after time now h n payload before = if h.ssrc == 0 then before else Some (packet_from time now h n payload)
 
 -- the session after a datagram opened
 abbrev pub after_opened : ℕ → RtpHeader → ℕ → List ℕ → SessionRecord → SessionRecord
 after_opened now h n payload r = record {
   state = record r.state {
-    packet = packet_after now h n (cut h payload) r.state.packet;
+    packet = packet_after (time_taken (arrival_of r.state.types now h (length (cut h payload))) r.rx h.ssrc) now h n (cut h payload) r.state.packet;
   };
   rx = rx_opened (seen_of h.ssrc r.seen) (arrival_of r.state.types now h (length (cut h payload))) h.ssrc n r.rx;
   known = r.known;
@@ -115,16 +127,17 @@ after_repair now h original n r = record r {
 }
 
 -- the packet that waits to be told after one was restored, where its number is fresh
-abbrev pub packet_restored : List (ℕ × TypeRow) → ℕ → RtpHeader → ℕ → List ℕ → Option ℕ → Option RtpPacket → Option RtpPacket
-packet_restored types now h original payload fresh before =
-    option_map_or (λ n. Some (packet_from now (restored_header types original n h) n payload)) fresh before
+abbrev pub packet_restored : MediaTime → List (ℕ × TypeRow) → ℕ → RtpHeader → ℕ → List ℕ → Option ℕ → Option RtpPacket → Option RtpPacket
+packet_restored time types now h original payload fresh before =
+    option_map_or (λ n. Some (packet_from time now (restored_header types original n h) n payload)) fresh before
 
 -- the number of a packet was restored for a stream: it counts under the stream's SSRC, and where it is fresh the packet is
 -- taken and waits to be told
 abbrev pub after_original : ℕ → RtpHeader → ℕ → ℕ → List ℕ → SessionRecord → SessionRecord
 after_original now h original low payload r = record r {
   state = record r.state {
-    packet = packet_restored r.state.types now h original payload (restored_on (seen_of original r.seen) r.rx original low) r.state.packet;
+    packet = packet_restored (time_restored (arrival_of r.state.types now (restored_header r.state.types original low h) (length payload)) r.rx original)
+        r.state.types now h original payload (restored_on (seen_of original r.seen) r.rx original low) r.state.packet;
   };
   rx = change_at original (after_restored (seen_of original r.seen) (arrival_of r.state.types now (restored_header r.state.types original low h) (length payload)) low) r.rx;
   seen = option_map_or (λ n. saw original n r.seen) (restored_number_on (seen_of original r.seen) r.rx original low) r.seen;

@@ -6,7 +6,7 @@ use Rattle.media_units.specs.declared.wallclock.Beginning.{Beginning}
 use Rattle.rtcp_wire.specs.declared.packet.Rtcp.{Rtcp}
 use Rattle.rtcp_wire.specs.declared.packet.Rtcp.TheVariants.{SenderReport, SourceDescription, ExtendedReport}
 use Rattle.rtcp_wire.specs.declared.rtcp_fb.RtcpFb.{RtcpFb}
-use Rattle.rtcp_wire.specs.declared.report.SenderInfo.{SenderInfo}
+use Rattle.rtcp_items.specs.declared.report.SenderInfo.{SenderInfo}
 use Rattle.rtcp_wire.specs.declared.rtcp_fb.RtcpFb.TheVariants as feedback
 use Rattle.payload_core.specs.Codecs.{same_kind}
 use Rattle.payload_core.specs.declared.codec.MediaKind.{MediaKind}

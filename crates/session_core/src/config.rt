@@ -1,4 +1,4 @@
-use media_base::{Beginning, Duration};
+use media_units::{Beginning, Duration};
 use payload_core::CodecConfig;
 use report_core::ReportIntervals;
 use rtp_base::Ssrc;

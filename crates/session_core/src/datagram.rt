@@ -1,9 +1,10 @@
 use crate::error::RtcError;
 use crate::news::{KeyframeRequest, RembRequest, SenderFeedback};
-use media_base::{Bytes, Instant};
+use media_base::Bytes;
+use media_units::Instant;
 use rtcp_wire::AppSpecificFeedback;
 use rtp_base::{Kind, SeqNo, Ssrc};
-use stream_core::{RtpPacket, StreamPaused};
+use stream_core::{Payload, RtpPacket, StreamPaused};
 use thiserror::Error;
 
 /// What a datagram opened to.
@@ -15,8 +16,8 @@ pub struct Opened {
     pub ssrc: Ssrc,
     /// For RTP the extended sequence number, for RTCP the index that it states.
     pub index: SeqNo,
-    /// The datagram as it was before it was sealed.
-    pub plain: Bytes,
+    /// The datagram as it was before it was sealed. The packet that is told of it shares its bytes.
+    pub plain: Payload,
 }
 
 /// A datagram that leaves.

@@ -1,4 +1,4 @@
-ghost use Rattle.std.specs.Prelude.{◌≡◌, ◌≤◌, ℕ, List, None, length, IfOk, IfSome, IfNone, OnOk, OnErr};
+ghost use Rattle.std.specs.Prelude.{◌≡◌, ◌≤◌, ℕ, List, None, length, take, IfOk, IfSome, IfNone, OnOk, OnErr};
 ghost use Rattle.std.specs.Option.{option_or};
 ghost use Rattle.stream_core.specs.Repairing.{RepairsRecord};
 ghost use Rattle.stream_core.specs.StreamsRecord.{StreamsRecord, StandsFor};
@@ -7,7 +7,7 @@ ghost use Rattle.stream_core.specs.TxRecord.{told_by};
 ghost use Rattle.session_core.specs.Hearing.{RtcpOpensIn, stated, feedback_in, tx_heard_by, tx_heard, application_in, last_application, AskedBy, AskedByAll, is_own, last_delay, trip_of, measured, GoodbyesChangeNothing};
 ghost use Rattle.session_core.specs.Reports.{rx_heard_by, rx_heard};
 
-use media_base::{Duration, Instant, calculate_rtt};
+use media_units::{Duration, Instant, calculate_rtt};
 use repair_core::GapWindow;
 use resend_core::ResendStore;
 use rtcp_wire::{AppSpecificFeedback, DlrrItem, Rtcp, RtcpFb};
@@ -16,13 +16,13 @@ use srtp_core::laws::rtcp_seal_keeps_header;
 use srtp_core::{SrtpCipher, SrtpContext};
 use std::alloc::{AllocError, Global};
 use std::collections::VecDeque;
-use stream_core::{Sent, Streams};
+use stream_core::{Payload, Sent, Streams};
 
 /// What bytes opened to as RTCP.
 #[derive(Drop)]
 pub struct RtcpOpening {
     /// The packet, of at least 8 bytes.
-    pub plain: Vec<u8>,
+    pub plain: Payload,
     /// The index that the datagram states, below 2^31.
     pub index: u32,
 }
@@ -31,9 +31,9 @@ fn open_with<C: SrtpCipher>(
     context: &mut SrtpContext<C>,
     bytes: &[u8],
 ) -> Result<Option<RtcpOpening>, AllocError>
-    ensures opened { IfOk result (λ r. IfSome r (λ o. RtcpOpensIn C.meaning (Some context.old) bytes.now o.plain.items)) }
+    ensures opened { IfOk result (λ r. IfSome r (λ o. RtcpOpensIn C.meaning (Some context.old) bytes.now o.plain)) }
     ensures index { IfOk result (λ r. IfSome r (λ o. o.index ≡ stated (Some context.old) bytes.now)) }
-    ensures long { IfOk result (λ r. IfSome r (λ o. 8 ≤ length o.plain.items)) }
+    ensures long { IfOk result (λ r. IfSome r (λ o. 8 ≤ length o.plain)) }
     ensures none { IfOk result (λ r. IfNone r ((p : List ℕ) → RtcpOpensIn C.meaning (Some context.old) bytes.now p → ⊥)) }
     ensures same { context.new ≡ context.old }
 {
@@ -42,7 +42,10 @@ fn open_with<C: SrtpCipher>(
         return Ok(None);
     };
     match context.unprotect_rtcp(bytes)? {
-        Some(plain) => Ok(Some(RtcpOpening { plain, index })),
+        Some(plain) => Ok(Some(RtcpOpening {
+            plain: Payload::from_vec(plain)?,
+            index,
+        })),
         None => Ok(None),
     }
 }
@@ -52,9 +55,9 @@ pub fn open_rtcp<C: SrtpCipher>(
     opening: &mut Option<SrtpContext<C>>,
     bytes: &[u8],
 ) -> Result<Option<RtcpOpening>, AllocError>
-    ensures opened { IfOk result (λ r. IfSome r (λ o. RtcpOpensIn C.meaning opening.old bytes.now o.plain.items)) }
+    ensures opened { IfOk result (λ r. IfSome r (λ o. RtcpOpensIn C.meaning opening.old bytes.now o.plain)) }
     ensures index { IfOk result (λ r. IfSome r (λ o. o.index ≡ stated opening.old bytes.now)) }
-    ensures long { IfOk result (λ r. IfSome r (λ o. 8 ≤ length o.plain.items)) }
+    ensures long { IfOk result (λ r. IfSome r (λ o. 8 ≤ length o.plain)) }
     ensures none { IfOk result (λ r. IfNone r ((p : List ℕ) → RtcpOpensIn C.meaning opening.old bytes.now p → ⊥)) }
     ensures same { opening.new ≡ opening.old }
 {
@@ -113,7 +116,7 @@ pub fn tell_all<W: GapWindow, S: ResendStore<Sent>>(
     streams: &mut Streams<W, S>,
 ) -> Result<(), AllocError>
     ensures ok { OnOk result (streams.new ≡ record streams.old { tx = tx_heard feedback.now streams.old.tx }) }
-    ensures err { OnErr result ((told : List RtcpFb) × (streams.new ≡ record streams.old { tx = tx_heard told streams.old.tx })) }
+    ensures err { OnErr result ((count : ℕ) × (streams.new ≡ record streams.old { tx = tx_heard (take count feedback.now) streams.old.tx })) }
 {
     for item in feedback {
         tell(item, streams)?;

@@ -6,7 +6,7 @@ ghost use Rattle.stream_core.specs.Tables.{value_under};
 ghost use Rattle.session_core.specs.News.{NewsRecord, no_news, put, with_keyframe, with_sender, with_rate, news_heard_by, news_heard, news_without, news_told, news_count, next_news, after_news};
 
 use crate::datagram::Event;
-use media_base::{Bitrate, Instant};
+use media_units::{Bitrate, Instant};
 use repair_core::GapWindow;
 use resend_core::ResendStore;
 use rtcp_wire::{RtcpFb, SenderInfo};

@@ -1,13 +1,13 @@
-ghost use Rattle.std.specs.Prelude.{◌≡◌, ◌==◌, ◌<◌, ◌^◌, ◌%◌, ℕ, List, ◌++◌, Some, None, take, drop, length, is_none, if◌then◌else◌, IfOk, IfSome, IfNone, OnOk, OnErr};
+ghost use Rattle.std.specs.Prelude.{◌≡◌, ◌==◌, ◌+◌, ◌<◌, ◌≤◌, ◌^◌, ◌%◌, ℕ, List, ◌++◌, Some, None, take, drop, length, is_none, if◌then◌else◌, IfOk, IfSome, IfNone, OnOk, OnErr};
 ghost use Rattle.std.specs.Option.{ForSome, option_map};
 ghost use Rattle.srtp_core.specs.Seals.{OpensTo};
 ghost use Rattle.stream_core.specs.RxRecord.{RxRecord, StandsFor};
 ghost use Rattle.stream_core.specs.StreamsRecord.{StreamsRecord, StandsFor as StreamsStand};
 ghost use Rattle.stream_core.specs.Tables.{place_of};
-ghost use Rattle.session_core.specs.Receiving.{Unpads, OpensIn, IsOpening, cut, number_of, rx_opened, probes_opened, is_claimed, packet_from, packet_after, arrival_of, HeaderNumbersFit};
+ghost use Rattle.session_core.specs.Receiving.{Unpads, OpensIn, IsOpening, cut, number_of, rx_opened, probes_opened, is_claimed, time_taken, packet_from, packet_after, arrival_of, original_in, carried_in, HeaderNumbersFit};
 ghost use Rattle.session_core.specs.Repairs.{original_number};
 
-use media_base::{Bytes, Instant};
+use media_units::Instant;
 use repair_core::GapWindow;
 use resend_core::ResendStore;
 use rtp_base::wire::half;
@@ -22,11 +22,12 @@ use stream_core::{Arrival, Payload, PayloadTypes, RtpPacket, Sent, StreamRx, Str
 #[derive(Debug, Drop)]
 pub struct Opening {
     /// The header's bytes, and the payload with its padding.
-    pub plain: Bytes,
+    pub plain: Payload,
     /// Of a repair, the low 16 bits of the number of the packet that it repairs (RFC 4588 section 4), if
     /// its payload has so many.
     pub original: Option<u16>,
-    /// The payload without its padding; of a repair what stands behind that number.
+    /// The payload without its padding; of a repair what stands behind that number. It shares the bytes of
+    /// the plain datagram.
     pub payload: Payload,
 }
 
@@ -78,6 +79,47 @@ fn split_carried(repair: bool, carried: &[u8]) -> (Option<u16>, &[u8])
     }
 }
 
+/// Of a payload the number that stands in front of what a repair carries, if it is one, and where what it
+/// carries stands: behind so many bytes, and so many. None where it does not end in padding though it should.
+#[tactic(auto, using(crate::proofs::Carried::carried_run))]
+fn carried_run(
+    header: &RtpHeader,
+    payload: &[u8],
+    repair: bool,
+) -> Option<(Option<u16>, usize, usize)>
+    ensures unpads { IfSome result (λ r. Unpads header.now payload.now) }
+    ensures number { IfSome result (λ r. r.0 ≡ original_in repair header.now payload.now) }
+    ensures within { IfSome result (λ r. r.1 + r.2 ≤ length payload.now) }
+    ensures run { IfSome result (λ r. take r.2 (drop r.1 payload.now) ≡ carried_in repair header.now payload.now) }
+    ensures none { IfNone result (Unpads header.now payload.now → ⊥) }
+{
+    let cut = cut_payload(header, payload)?;
+    let (original, carried) = split_carried(repair, cut);
+    Some((original, cut.len() - carried.len(), carried.len()))
+}
+
+/// The plain datagram of its header's bytes and its payload, and a run of the payload, which shares its bytes.
+#[tactic(auto, using(crate::proofs::Carried::run_behind))]
+fn joined(
+    alloc: Global,
+    front: &[u8],
+    payload: &[u8],
+    start: usize,
+    count: usize,
+) -> Result<(Payload, Payload), AllocError>
+    requires { start + count ≤ length payload.now }
+    ensures plain { IfOk result (λ r. r.0 ≡ front.now ++ payload.now) }
+    ensures run { IfOk result (λ r. r.1 ≡ take count (drop start payload.now)) }
+{
+    let behind = front.len();
+    let mut bytes = Vec::with_capacity(alloc, behind + payload.len())?;
+    bytes.extend_from_slice(front)?;
+    bytes.extend_from_slice(payload)?;
+    let plain = Payload::from_vec(bytes)?;
+    let run = plain.part(behind + start, count)?;
+    Ok((plain, run))
+}
+
 /// Opens bytes under a number.
 fn open_with<C: SrtpCipher>(
     alloc: Global,
@@ -98,17 +140,14 @@ fn open_with<C: SrtpCipher>(
     let Some(payload) = context.unprotect_rtp(bytes, header, u64::from(number)) else {
         return Ok(None);
     };
-    let Some(cut) = cut_payload(header, payload) else {
+    let Some((original, start, count)) = carried_run(header, payload, repair) else {
         return Ok(None);
     };
-    let mut plain = Vec::with_capacity(alloc, bytes.len())?;
-    plain.extend_from_slice(&bytes[..front])?;
-    plain.extend_from_slice(payload)?;
-    let (original, carried) = split_carried(repair, cut);
+    let (plain, payload) = joined(alloc, &bytes[..front], payload, start, count)?;
     Ok(Some(Opening {
-        plain: Bytes::from_vec(plain),
+        plain,
         original,
-        payload: Payload::from_slice(alloc, carried)?,
+        payload,
     }))
 }
 
@@ -212,13 +251,36 @@ pub fn take<W: GapWindow, S: ResendStore<Sent>>(
     Ok(())
 }
 
-/// The packet of a datagram that came. Its RTP time is in ticks of 1 s, since its clock is not known.
-pub fn packet_from(now: Instant, header: &RtpHeader, number: SeqNo, payload: Payload) -> RtpPacket
-    ensures { result ≡ packet_from now header.now number payload }
+/// The RTP time of a packet that so comes on the stream at a place, as that widens it; with none, on SSRC
+/// 0, no packet is told.
+pub fn taken_time<W: GapWindow, S: ResendStore<Sent>>(
+    place: Option<usize>,
+    arrival: &Arrival,
+    streams: &Streams<W, S>,
+) -> MediaTime
+    requires { IfSome place (λ i. i < length streams.now.rx) }
+    ensures { (r : StreamsRecord) (ssrc : ℕ) → StreamsStand W.remembers S.stands_for streams.now r
+        → IfSome place (λ i. place_of ssrc streams.now.rx ≡ Some i → result ≡ time_taken arrival.entry.now r.rx ssrc) }
+{
+    match place {
+        Some(place) => streams.taken_time_at(place, arrival),
+        None => MediaTime::new(0, Frequency::SECONDS),
+    }
+}
+
+/// The packet of a datagram that came, of this RTP time.
+pub fn packet_from(
+    time: MediaTime,
+    now: Instant,
+    header: &RtpHeader,
+    number: SeqNo,
+    payload: Payload,
+) -> RtpPacket
+    ensures { result ≡ packet_from time now header.now number payload }
 {
     RtpPacket {
         seq_no: number,
-        time: MediaTime::new(u64::from(header.timestamp), Frequency::SECONDS),
+        time,
         header: *header,
         payload,
         timestamp: Some(now),
@@ -228,15 +290,16 @@ pub fn packet_from(now: Instant, header: &RtpHeader, number: SeqNo, payload: Pay
 
 /// Has the packet of a datagram that opened wait to be told, but on SSRC 0, where the one before stays.
 pub fn put_packet(
+    time: MediaTime,
     now: Instant,
     header: &RtpHeader,
     number: SeqNo,
     payload: Payload,
     packet: &mut Option<RtpPacket>,
 )
-    ensures { packet.new ≡ packet_after now header.now number payload packet.old }
+    ensures { packet.new ≡ packet_after time now header.now number payload packet.old }
 {
     if !header.ssrc.is_probe() {
-        *packet = Some(packet_from(now, header, number, payload));
+        *packet = Some(packet_from(time, now, header, number, payload));
     }
 }

@@ -25,7 +25,7 @@ ghost use Rattle.session_core.specs.Reports.{
 };
 
 use crate::media::{Media, media_of};
-use media_base::{Beginning, Instant};
+use media_units::{Beginning, Instant};
 use repair_core::GapWindow;
 use report_core::{ReceiverMoments, description, sender_report};
 use resend_core::ResendStore;

@@ -9,10 +9,10 @@ ghost use Rattle.session_core.specs.Receiving.{arrival_of, packet_restored};
 ghost use Rattle.session_core.specs.Repairs.{is_known, original_under, repaired_by, repair_accepted, restored_header};
 
 use crate::receiving::{arrival, packet_from};
-use media_base::Instant;
+use media_units::Instant;
 use repair_core::GapWindow;
 use resend_core::ResendStore;
-use rtp_base::{Pt, SeqNo, Ssrc};
+use rtp_base::{MediaTime, Pt, SeqNo, Ssrc};
 use rtp_wire::RtpHeader;
 use stream_core::{Arrival, Payload, PayloadTypes, RtpPacket, Seen, Sent, Streams};
 
@@ -134,8 +134,9 @@ pub fn restored_arrival(
     arrival(types, now, &restored, bytes)
 }
 
-/// Has the packet that a repair restored wait to be told, where its number is fresh.
+/// Has the packet that a repair restored, of this RTP time, wait to be told, where its number is fresh.
 pub fn put_restored(
+    time: MediaTime,
     now: Instant,
     types: &PayloadTypes,
     header: &RtpHeader,
@@ -144,10 +145,10 @@ pub fn put_restored(
     payload: Payload,
     packet: &mut Option<RtpPacket>,
 )
-    ensures { packet.new ≡ packet_restored types.now now header.now original payload fresh packet.old }
+    ensures { packet.new ≡ packet_restored time types.now now header.now original payload fresh packet.old }
 {
     if let Some(number) = fresh {
         let restored = restored_header(types, original, number, header);
-        *packet = Some(packet_from(now, &restored, number, payload));
+        *packet = Some(packet_from(time, now, &restored, number, payload));
     }
 }

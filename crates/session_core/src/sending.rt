@@ -7,7 +7,8 @@ ghost use Rattle.session_core.specs.Sending.{has_mid, is_due, first_due, sealed_
 
 use crate::datagram::Datagram;
 use crate::media::Media;
-use media_base::{Bytes, Instant, already_happened};
+use media_base::Bytes;
+use media_units::{Instant, already_happened};
 use repair_core::GapWindow;
 use resend_core::ResendStore;
 use rtp_base::{Kind, Mid};

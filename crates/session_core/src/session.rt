@@ -18,7 +18,7 @@ use crate::media::{Media, media_of, media_place, remove_section};
 use crate::news::News;
 use crate::sending::has_mid;
 use crate::types::payload_types;
-use media_base::{Instant, already_happened};
+use media_units::{Instant, already_happened};
 use payload_core::CodecConfig;
 use repair_core::GapWindow;
 use report_core::{ReceiverMoments, ReportIntervals};

@@ -1,5 +1,5 @@
 //! Datagrams that come to an end which receives: what opens, what is told, and which streams stand then.
-use crate::calls::{event, receive, streams, tick};
+use crate::calls::{event, receive, section_mut, streams, tick};
 use crate::carrying::{Ids, map_of};
 use crate::ends::{
     End, ask_frame, at, config, expect, give_keys, mid, moment, new_end, rid, section, ssrc,
@@ -9,7 +9,8 @@ use crate::mapped::MAPPED;
 use crate::packets::{head, is_opened, joined, seal_numbered};
 use crate::restored::RESTORED;
 use mapping_core::Rids;
-use media_base::{Instant, Listed};
+use media_base::Listed;
+use media_units::Instant;
 use rtp_base::{KeyframeRequestKind, Kind, MidRid, Pt, Rid, SeqNo};
 use session_core::{Event, Media, MediaKind, Opened};
 use std::alloc::Global;
@@ -59,6 +60,8 @@ pub enum Step {
     Has(u8, usize, u8),
     /// No stream stands on this SSRC, for its packets or its repairs.
     Lacks(u8),
+    /// Its media section v expects these streams from now on.
+    Awaits(Expects),
     /// It receives on this SSRC, with repairs on that one.
     Receives(u8, u8),
     /// The stream of this SSRC is taken out.
@@ -192,6 +195,7 @@ fn goes(alloc: Global, end: &mut End, step: &Step) -> bool {
         Step::Comes(came, wanted) => arrives(alloc, end, came, *wanted),
         Step::Has(low, place, rtx) => has(end, *low, *place, *rtx),
         Step::Lacks(low) => lacks(end, *low),
+        Step::Awaits(expects) => awaits(alloc, end, *expects),
         Step::Receives(low, rtx) => {
             let mid_rid = MidRid(mid(), Some(rid()));
             expect(end, *low, Some(ssrc(*rtx)), mid_rid, false)
@@ -231,6 +235,14 @@ fn set_expected(alloc: Global, section: &mut Media, expects: Expects) -> bool {
     }
 }
 
+// Has the media section v expect such streams, where it stands.
+fn awaits(alloc: Global, end: &mut End, expects: Expects) -> bool {
+    match section_mut(end, mid()) {
+        Some(section) => set_expected(alloc, section, expects),
+        None => false,
+    }
+}
+
 // Adds the media section v, which expects such streams.
 fn add_expecting(alloc: Global, end: &mut End, expects: Expects) -> bool {
     let Some(mut media) = section(alloc, mid(), MediaKind::Video, b"cam") else {
@@ -263,14 +275,18 @@ fn play(alloc: Global, expects: Expects, steps: &[Step]) -> usize {
     goes_through(alloc, &mut end, expects, steps)
 }
 
-const TABLES: [&[Row]; 2] = [&MAPPED, &RESTORED];
+#[test]
+fn datagrams_are_mapped(rt: HostRuntime) {
+    for (name, expects, steps) in &MAPPED {
+        let gone = play(rt.alloc(), *expects, steps);
+        assert!(rt; gone == steps.len(), "{name}: {gone}");
+    }
+}
 
 #[test]
-fn datagrams_bring_what_they_carry(rt: HostRuntime) {
-    for rows in &TABLES {
-        for (name, expects, steps) in *rows {
-            let gone = play(rt.alloc(), *expects, steps);
-            assert!(rt; gone == steps.len(), "{name}: {gone}");
-        }
+fn packets_are_restored(rt: HostRuntime) {
+    for (name, expects, steps) in &RESTORED {
+        let gone = play(rt.alloc(), *expects, steps);
+        assert!(rt; gone == steps.len(), "{name}: {gone}");
     }
 }

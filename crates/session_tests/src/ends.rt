@@ -3,8 +3,10 @@ ghost use Rattle.std.specs.Prelude.{◌≤◌, ◌^◌, IfSome};
 ghost use Rattle.std.specs.Option.{ForSome};
 
 use crate::calls::streams;
+use mapping_core::{MainChange, Mapping};
 use mask_register::MaskRegister;
-use media_base::{Beginning, Bytes, Duration, Instant, Listed};
+use media_base::{Bytes, Listed};
+use media_units::{Beginning, Duration, Instant};
 use payload_core::{Codec, CodecConfig, CodecSpec, FormatParams, PayloadParams};
 use queue_store::QueueStore;
 use rtp_base::{Frequency, KeyframeRequestKind, Mid, MidRid, Pt, Rid, SeqNo, Ssrc};
@@ -148,7 +150,7 @@ pub fn section(alloc: Global, mid: Mid, kind: MediaKind, cname: &[u8]) -> Option
 /// Adds a media section, whose peer takes type 96.
 pub fn add_section(alloc: Global, end: &mut End, mid: Mid, kind: MediaKind, cname: &[u8]) -> bool {
     match section(alloc, mid, kind, cname) {
-        Some(media) => end.add_media(media).is_ok(),
+        Some(media) => !media.disabled() && end.add_media(media).is_ok(),
         None => false,
     }
 }
@@ -191,6 +193,25 @@ pub fn reset(end: &mut End, low: u8, other: u8, repairs: Option<(u8, u64)>) -> b
         return false;
     }
     streams.reset_ssrc(ssrc(low), other, repairs).is_ok()
+}
+
+/// Has what an end receives on an SSRC come under another one.
+pub fn moves(end: &mut End, low: u8, other: u8) -> bool {
+    let change = MainChange {
+        from: ssrc(low),
+        to: ssrc(other),
+    };
+    streams(end)
+        .take_up(ssrc(other), &Mapping::NewMain(change))
+        .is_ok()
+}
+
+/// Has an end keep so many packets of SSRC 42, for so long, with so many hundredths of repairs, or any number.
+pub fn keeps(end: &mut End, packets: usize, age: u64, cap: Option<u32>) -> bool {
+    let age = Duration::from_nanos(age);
+    streams(end)
+        .set_rtx_cache(ssrc(42), packets, age, cap)
+        .is_ok()
 }
 
 /// Writes a packet on the stream of this SSRC; whether there is one.

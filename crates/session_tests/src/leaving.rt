@@ -1,6 +1,6 @@
 use crate::calls::{drain, poll, tick};
 use crate::ends::{End, at, moment, put};
-use media_base::Instant;
+use media_units::Instant;
 use rtp_base::{Kind, Pt, SeqNo};
 use rtp_wire::ExtensionValues;
 use session_core::Datagram;

@@ -4,7 +4,7 @@
 use crate::coming::Brings::{Nothing, Opens, Tells};
 use crate::coming::Expects::{Any, Only, Without};
 use crate::coming::Made::{Forged, Padded, Plain};
-use crate::coming::Step::{Comes, Frames, Has, Lacks, Removes, Rolls, Ticks};
+use crate::coming::Step::{Awaits, Comes, Frames, Has, Lacks, Removes, Rolls, Ticks};
 use crate::coming::{Came, Names, Row};
 
 /// No names.
@@ -35,6 +35,9 @@ const NO_OF_HI: Names = &[0x40, b'v', 0x51, b'n', b'o', 0x61, b'h', b'i'];
 // The rid of what is repaired alone.
 const OF_HI_ALONE: Names = &[0x61, b'h', b'i', 0];
 
+// SSRC 2 asks on SSRC 50 for the number 2 (RFC 4585 section 6.2.1).
+const ASKS_2: &[u8] = &[0x81, 0xcd, 0, 3, 0, 0, 0, 2, 0, 0, 0, 50, 0, 2, 0, 0];
+
 // The first full intra request of SSRC 50, the next one, and the first of SSRC 60 (RFC 5104 section 4.3.1.1).
 const INTRA_0: &[u8] = &[
     0x84, 0xce, 0, 4, 0, 0, 0, 2, 0, 0, 0, 0, 0, 0, 0, 50, 0, 0, 0, 0,
@@ -49,7 +52,7 @@ const MOVED_INTRA_0: &[u8] = &[
 ];
 
 /// Datagrams under an SSRC that no stream has.
-pub const MAPPED: [Row; 20] = [
+pub const MAPPED: [Row; 25] = [
     (
         "a packet declares a stream, behind the others",
         Any,
@@ -197,25 +200,55 @@ pub const MAPPED: [Row; 20] = [
         &[
             Comes(Came(50, 96, 300, V, Plain, &[1]), Tells(50, 96, 300, &[1])),
             Comes(Came(51, 97, 5, V, Plain, &[]), Opens),
+            Comes(Came(51, 97, 7, V, Plain, &[]), Opens),
             Has(50, 0, 51),
             Comes(Came(60, 96, 1, V, Plain, &[1]), Tells(60, 96, 1, &[1])),
             Has(60, 0, 51),
             Lacks(50),
             Comes(Came(51, 97, 6, V, Plain, &[]), Opens),
             Comes(Came(51, 97, 5, V, Plain, &[]), Nothing),
+            Comes(Came(51, 97, 7, V, Plain, &[]), Nothing),
             Comes(Came(50, 96, 301, V, Plain, &[2]), Tells(50, 96, 301, &[2])),
             Has(60, 0, 51),
             Has(50, 1, 51),
             Comes(
-                Came(51, 97, 7, V, Plain, &[0, 2, 9]),
+                Came(51, 97, 8, V, Plain, &[0, 2, 9]),
                 Tells(60, 96, 2, &[9]),
             ),
             Removes(60),
             Comes(
-                Came(51, 97, 8, V, Plain, &[1, 46, 9]),
+                Came(51, 97, 9, V, Plain, &[1, 46, 9]),
                 Tells(50, 96, 302, &[9]),
             ),
             Has(50, 0, 51),
+        ],
+    ),
+    (
+        "a stream that comes back has the rid that its datagram carries",
+        Any,
+        &[
+            Comes(Came(50, 96, 300, HI, Plain, &[1]), Tells(50, 96, 300, &[1])),
+            Comes(Came(60, 96, 1, HI, Plain, &[1]), Tells(60, 96, 1, &[1])),
+            Comes(Came(50, 96, 301, HI, Plain, &[2]), Tells(50, 96, 301, &[2])),
+            Has(60, 0, 0),
+            Has(50, 1, 0),
+            Removes(60),
+            Comes(Came(70, 96, 1, HI, Plain, &[1]), Tells(70, 96, 1, &[1])),
+            Has(70, 0, 0),
+            Lacks(50),
+        ],
+    ),
+    (
+        "a stream that comes back has no rid where its datagram carries none",
+        Any,
+        &[
+            Comes(Came(50, 96, 300, HI, Plain, &[1]), Tells(50, 96, 300, &[1])),
+            Comes(Came(60, 96, 1, HI, Plain, &[1]), Tells(60, 96, 1, &[1])),
+            Comes(Came(50, 96, 301, V, Plain, &[2]), Tells(50, 96, 301, &[2])),
+            Removes(60),
+            Comes(Came(70, 96, 1, HI, Plain, &[1]), Tells(70, 96, 1, &[1])),
+            Has(50, 0, 0),
+            Has(70, 1, 0),
         ],
     ),
     (
@@ -313,9 +346,10 @@ pub const MAPPED: [Row; 20] = [
         ],
     ),
     (
-        "probes are of no stream",
+        "probes are of no stream, and a forged one leaves nothing",
         Any,
         &[
+            Comes(Came(0, 96, 60_000, V, Forged, &[1]), Nothing),
             Comes(Came(0, 96, 1, V, Plain, &[1]), Opens),
             Lacks(0),
             Comes(Came(0, 96, 1, V, Plain, &[1]), Nothing),
@@ -338,6 +372,45 @@ pub const MAPPED: [Row; 20] = [
                 Came(50, 96, 196_615, V, Plain, &[3]),
                 Tells(50, 96, 196_615, &[3]),
             ),
+        ],
+    ),
+    (
+        "a rollover count that waits is forgotten under another SSRC",
+        Any,
+        &[
+            Comes(Came(50, 96, 5, HI, Plain, &[1]), Tells(50, 96, 5, &[1])),
+            Rolls(50, 3),
+            Comes(Came(60, 96, 1, HI, Plain, &[1]), Tells(60, 96, 1, &[1])),
+            Rolls(60, 3),
+            Comes(Came(70, 97, 3, HI, Plain, &[]), Opens),
+            Has(70, 0, 0),
+            Comes(Came(70, 96, 4, HI, Plain, &[1]), Tells(70, 96, 4, &[1])),
+        ],
+    ),
+    (
+        "a stream whose type has no repairs asks for nothing, and its neighbour for what is missing",
+        Any,
+        &[
+            Comes(Came(40, 100, 1, LO, Plain, &[1]), Tells(40, 100, 1, &[1])),
+            Comes(Came(40, 100, 3, LO, Plain, &[1]), Tells(40, 100, 3, &[1])),
+            Ticks(1_500_000_000, &[]),
+            Comes(Came(50, 96, 1, HI, Plain, &[1]), Tells(50, 96, 1, &[1])),
+            Comes(Came(50, 96, 3, HI, Plain, &[1]), Tells(50, 96, 3, &[1])),
+            Ticks(1_500_000_000, ASKS_2),
+        ],
+    ),
+    (
+        "what a media section expects is changed where it stands",
+        Any,
+        &[
+            Comes(Came(50, 96, 1, V, Plain, &[1]), Tells(50, 96, 1, &[1])),
+            Awaits(Only(&["hi"])),
+            Comes(Came(60, 96, 1, V, Plain, &[1]), Nothing),
+            Comes(Came(60, 96, 1, LO, Plain, &[1]), Nothing),
+            Comes(Came(50, 96, 2, V, Plain, &[2]), Tells(50, 96, 2, &[2])),
+            Comes(Came(60, 96, 1, HI, Plain, &[1]), Tells(60, 96, 1, &[1])),
+            Has(50, 0, 0),
+            Has(60, 1, 0),
         ],
     ),
     (

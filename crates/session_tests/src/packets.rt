@@ -1,7 +1,7 @@
 //! Datagrams that come, sealed as a peer does.
 use crate::calls::{receive, receive_rtcp};
 use crate::ends::{End, ssrc};
-use media_base::Instant;
+use media_units::Instant;
 use rtp_base::{Kind, SeqNo};
 use rtp_wire::{ExtensionMap, RtpHeader};
 use session_core::Opened;

@@ -2,8 +2,9 @@ ghost use Rattle.std.specs.Prelude.{◌<◌, ◌^◌};
 
 use crate::ends::{mid, rid};
 use mask_register::MaskRegister;
-use media_base::{Beginning, Bytes, Duration, Instant, Listed};
-use rtcp_wire::{Sdes, SdesItem, SdesType};
+use media_base::{Bytes, Listed};
+use media_units::{Beginning, Duration, Instant, SystemTime, SystemTimeExt};
+use rtcp_wire::{Sdes, SdesItem, SdesType, SenderInfo};
 use rtp_base::{Frequency, MidRid, Pt, ReceptionReport, SeqNo, Ssrc};
 use rtp_wire::ExtensionMap;
 use std::alloc::{AllocError, Global};
@@ -27,15 +28,19 @@ enum Step {
     Asks(&'static [(u16, u16)]),
     /// Its report tells so many packets lost.
     Lost(i32),
+    /// A packet of this time would have that one.
+    Timed(u32, u64),
+    /// Its sender reports this time.
+    Reported(u32),
     /// Its packets, or its repairs, come under another SSRC; or a rollover count is set.
     Moves,
     Repairs,
     Resets,
 }
 
-use Step::{Asks, Lost, Moves, Place, Recover, Repairs, Resets, Restore, Takes};
+use Step::{Asks, Lost, Moves, Place, Recover, Repairs, Reported, Resets, Restore, Takes, Timed};
 
-const ROWS: [(&str, &[Step]); 7] = [
+const ROWS: [(&str, &[Step]); 8] = [
     (
         "blocks of two missing packets have their places",
         &[
@@ -77,6 +82,10 @@ const ROWS: [(&str, &[Step]); 7] = [
         &[Resets, Place(14, 1920, None)],
     ),
     (
+        "its last times are known",
+        &[Timed(4800, 4800), Timed(2880, 2880), Reported(4800)],
+    ),
+    (
         "nothing is recovered where nothing was taken",
         &[Resets, Recover(12, 1920), Takes(11, true)],
     ),
@@ -107,6 +116,22 @@ fn lost(alloc: Global, stream: &StreamRx<MaskRegister>, wanted: i32) -> Result<b
     )
 }
 
+fn reported(stream: &mut StreamRx<MaskRegister>, rtp_time: u32) -> bool {
+    let info = SenderInfo {
+        ssrc: Ssrc::from(42),
+        ntp_time: SystemTime::from_ntp_64(0),
+        rtp_time,
+        sender_packet_count: 3,
+        sender_octet_count: 6,
+    };
+    let none = stream.last_sender_report().is_none();
+    stream.handle_sender_info(&info, Instant::from_nanos(2));
+    match stream.last_sender_report() {
+        Some(last) => none && last.info == info && last.received_at == Instant::from_nanos(2),
+        None => false,
+    }
+}
+
 fn asks(stream: &mut StreamRx<MaskRegister>, wanted: &[(u16, u16)]) -> bool {
     let reports = stream.nack_report(Instant::from_nanos(1_000_000_000));
     let entries = reports.as_slice();
@@ -135,6 +160,8 @@ fn goes(
         Takes(low, wanted) => Ok(stream.accepts(low, None).is_some() == wanted),
         Asks(wanted) => Ok(asks(stream, wanted)),
         Lost(wanted) => lost(alloc, stream, wanted),
+        Timed(time, wanted) => Ok(stream.taken_time(&arrival(time)).numer() == wanted),
+        Reported(time) => Ok(reported(stream, time)),
         Moves => {
             stream.change_ssrc(Ssrc::from(44));
             Ok(true)
@@ -258,6 +285,7 @@ fn loses(alloc: Global, stream: &mut StreamTx) -> Result<bool, AllocError> {
         beginning: Beginning { unix_secs: 0 },
         twcc: 0,
     };
+    let waiting = stream.queue_snapshot(now).packet_count == 1;
     let sealed = stream.poll_packet(alloc, now, &mut transport)?;
     stream.update_with_rr(&block(30, 51))?;
     stream.update_with_rr(&block(20, 0))?;
@@ -267,7 +295,8 @@ fn loses(alloc: Global, stream: &mut StreamTx) -> Result<bool, AllocError> {
         missing: 510,
         total: 5100,
     };
-    Ok(written.is_ok() && sealed.is_some() && unsealed && again && seen == Some(wanted))
+    let sent = written.is_ok() && waiting && sealed.is_some();
+    Ok(sent && unsealed && again && seen == Some(wanted))
 }
 
 #[test]

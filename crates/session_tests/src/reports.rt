@@ -25,7 +25,7 @@ use crate::reports::requests::{REQUESTS, numbers_requests};
 use crate::reports::steps::{Row, Step, goes};
 use crate::reports::times::TIMES;
 use crate::reports::told::TOLD;
-use media_base::Duration;
+use media_units::Duration;
 use session_core::ReportIntervals;
 use std::alloc::Global;
 

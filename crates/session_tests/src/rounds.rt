@@ -1,8 +1,8 @@
 use crate::carrying::{Ids, map_of};
 use crate::ends::{End, FIRST_REPORT, config, give_keys, new_end};
 use crate::steps::Step::{
-    Comes, Declare, Drains, Ends, Expect, Hears, Queues, Stale, Stream, Tells, Tick, Wakes, Words,
-    Writes,
+    Comes, Declare, Drains, Ends, Expect, Hears, Moves, Queues, Stale, Stream, Tells, Tick, Wakes,
+    Words, Writes,
 };
 use crate::steps::{First, Step, goes};
 use crate::telling::Told;
@@ -236,7 +236,7 @@ const ROUNDS: [Row; 12] = [
     ),
 ];
 
-const TRIPS: [Row; 12] = [
+const TRIPS: [Row; 13] = [
     (
         "no round trip at all",
         Keyed,
@@ -374,6 +374,19 @@ const TRIPS: [Row; 12] = [
         ],
     ),
     (
+        "a round trip stays under another SSRC",
+        Keyed,
+        &[
+            Expect(42, false),
+            Hears(10_000_000, &[NONE_AT_ALL]),
+            Moves(42, 43),
+            Comes(11_000_000, 43, 20),
+            Comes(11_000_000, 43, 22),
+            Tick(33_000_000, ASKS_21),
+            Tick(66_000_000, ASKS_21),
+        ],
+    ),
+    (
         "a round trip that is not known any more",
         Keyed,
         &[
@@ -406,7 +419,7 @@ const TRIPS: [Row; 12] = [
 // SSRC 6 asks on SSRC 42 for the numbers 11 and 13.
 const FIRST_ASKS_11_AND_13: &[u8] = &[0x81, 0xcd, 0, 3, 0, 0, 0, 6, 0, 0, 0, 42, 0, 11, 0, 2];
 
-const PAUSES: [Row; 11] = [
+const PAUSES: [Row; 12] = [
     (
         "a paused stream asks five times",
         Keyed,
@@ -463,6 +476,24 @@ const PAUSES: [Row; 11] = [
             Tells(&[Told::Paused(42)]),
             Comes(81_000_000, 42, 12),
             Tells(&[Told::Unpaused(42), Told::Packet(42, 12)]),
+        ],
+    ),
+    (
+        "its moment and its threshold stay under another SSRC",
+        Keyed,
+        &[
+            Expect(42, false),
+            Stream(First::Threshold(50_000_000)),
+            Comes(1_000_000, 42, 10),
+            Tells(&[Told::Unpaused(42), Told::Packet(42, 10)]),
+            Moves(42, 43),
+            Stream(First::PausedAt(Some(51_000_000))),
+            Tick(50_999_999, &[]),
+            Tells(&[]),
+            Tick(51_000_000, &[]),
+            Tells(&[Told::Paused(43)]),
+            Comes(60_000_000, 43, 7),
+            Stream(First::PausedAt(Some(110_000_000))),
         ],
     ),
     (

@@ -1,11 +1,11 @@
 use crate::calls::{poll, streams, tick};
-use crate::ends::{End, at, declare, ended_with, expect, mid, put, rid, ssrc};
+use crate::ends::{End, at, declare, ended_with, expect, mid, moves, put, rid, ssrc};
 use crate::feedback::{FEEDBACK, queue_one};
 use crate::leaving::leaves;
 use crate::packets::{hears, joined, opens, opens_rtcp, packet_of};
 use crate::telling::{Told, drains, is_pause, tells};
 use mask_register::MaskRegister;
-use media_base::{Duration, Instant};
+use media_units::{Duration, Instant};
 use rtp_base::{MidRid, Pt, SeqNo};
 use session_core::RtcError;
 use srtp_core::Counter;
@@ -34,6 +34,8 @@ pub enum First {
 pub enum Step {
     /// A stream of this SSRC is expected, that is told to suppress what it asks for, or is not.
     Expect(u8, bool),
+    /// What is received on an SSRC comes under another one.
+    Moves(u8, u8),
     /// It sends on this SSRC.
     Declare(u8),
     /// It writes the packet numbered 1 on SSRC 7.
@@ -150,6 +152,7 @@ pub fn goes(alloc: Global, end: &mut End, step: Step) -> bool {
     let way = MidRid(mid(), Some(rid()));
     match step {
         Step::Expect(low, suppress) => expect(end, low, None, way, suppress),
+        Step::Moves(low, other) => moves(end, low, other),
         Step::Declare(low) => declare(end, low, None, way),
         Step::Writes => writes(alloc, end),
         Step::Queues => queue_one(alloc, end),

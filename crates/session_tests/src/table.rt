@@ -9,7 +9,7 @@ use crate::leaving::{drains, is_silent, sends, write};
 use crate::packets::Incoming::{Changed, Cut, Long, Padded, SealOf};
 use crate::packets::{Incoming, SEALED, WITH_MID, bytes_of};
 use crate::sections::{Section, is_so};
-use media_base::already_happened;
+use media_units::already_happened;
 use rtp_base::Ssrc;
 use rtp_wire::{Extension, ExtensionValues};
 use std::alloc::Global;

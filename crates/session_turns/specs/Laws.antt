@@ -25,11 +25,10 @@ use Rattle.session_core.specs.SessionRecord.{SessionRecord}
 use Rattle.media_model.specs.declared.entry.Side.{Side}
 use Rattle.media_model.specs.declared.entry.Write.{Write}
 use Rattle.run_model.specs.Events.{Event, wrote, ticked, called, got}
-use Rattle.run_model.specs.Tables.{Table, IsUnused}
+use Rattle.run_model.specs.Tables.{Table, IsUnused, IsUsedUpIn}
 use Rattle.run_model.specs.Whole.{Config, Session, Turns, CutsOff}
 use Rattle.session_turns.specs.Reading.{event_of, events_of, events_opened}
 use Rattle.session_turns.specs.Mirrors.{IsGiven, write_at, Mirrors, IsFit}
-use Rattle.session_turns.specs.Packets.{IsUsedUpIn}
 
 -- a turn of a plain session that brings these events, to one that a record mirrors; types, header extensions and the latch of
 -- the session are as they were

@@ -10,10 +10,7 @@ use Rattle.session_core.specs.declared.error.RtcError.TheVariants.{RepairsExhaus
 use Rattle.session_core.specs.Draining.{IsDrainCut}
 use Rattle.session_core.specs.Sending.{Drains}
 use Rattle.session_core.specs.SessionRecord.{SessionRecord}
-use Rattle.run_model.specs.Events.{Outgoing}
-use Rattle.run_model.specs.Listing.{IsIn}
-use Rattle.run_model.specs.Tables.{Table, lines, AreApart, begun_at, ServesAll, DrainsAll}
-use Rattle.run_model.specs.TxPlay.{TxRecord, IsDue}
+use Rattle.run_model.specs.Tables.{Table, lines, AreApart, begun_at, ServesAll, DrainsAll, IsUsedUpIn}
 use Rattle.session_turns.specs.Reading.{types_in, sealing_of, events_of}
 use Rattle.session_turns.specs.Mirrors.{TxMirrors, IsWide}
 use Rattle.stream_core.specs.Repairing.{rtx_type_of}
@@ -44,10 +41,6 @@ PacketsDrain =
     → AllZip (TxMirrors r.state.types r.state.medias now (Some now) r.repairs) r.state.tx xs
     → Drains cipher now r after all
     → DrainsPackets cipher r after own now xs all
-
--- one of these streams has no number left for a repair that is due, under this SSRC
-abbrev pub IsUsedUpIn : ℕ → Table → Type 0
-IsUsedUpIn ssrc streams = (s : Outgoing × TxRecord) × IsIn s streams × (s.0.rtx ≡ Some ssrc) × (s.1.next_rtx ≡ 2 ^ 48) × IsDue s.0 s.1
 
 -- what left before an error, as polls of the plain streams, and these streams then
 pub record CutsPackets (cipher : CipherMeaning) (r : SessionRecord) (own : SrtpState) (now : ℕ) (xs : Table) (error : RtcError) (sent : List Datagram) : Type 0 where

@@ -1,11 +1,9 @@
 -- How the datagrams of a session are read as events of a side.
 use Rattle.std.specs.Prelude.{ℕ, is_some, unwrap_or, List, [], ◌∷◌, map, Option, Some, None}
-use Rattle.std.specs.Option.{option_map}
 use Rattle.rtp_base.specs.declared.kind.Kind.{Kind}
 use Rattle.rtp_base.specs.declared.kind.Kind.TheVariants.{Rtp, Rtcp}
 use Rattle.rtp_wire.specs.declared.extension.ExtensionMap.{ExtensionMap}
-use Rattle.rtp_wire.specs.declared.header.RtpHeader.{RtpHeader}
-use Rattle.rtp_wire.specs.Header.{header_of, csrc_of}
+use Rattle.rtp_wire.specs.Header.{csrc_of}
 use Rattle.srtp_core.specs.Cipher.{CipherMeaning}
 use Rattle.srtp_core.specs.Contexts.{SrtpState}
 use Rattle.srtp_core.specs.Seals.{sealed_rtp}
@@ -18,19 +16,9 @@ use Rattle.session_core.specs.declared.datagram.Opened.{Opened as Opening}
 use Rattle.session_core.specs.Hearing.{feedback_in}
 use Rattle.session_core.specs.Repairs.{is_known}
 use Rattle.media_model.specs.declared.entry.Packet.{Packet}
-use Rattle.run_model.specs.Events.{Plain, Event, sealed, sealed_items, opened, opened_items, yielded, Types}
+use Rattle.run_model.specs.Events.{Event, sealed, sealed_items, opened, opened_items, yielded, Types}
 use Rattle.run_model.specs.Seals.{Sealing, Reporting}
-pub use Rattle.run_model.specs.Transcripts.{plain_of, no_plain, plain_in}
-
-abbrev pub read_of : RtpHeader → List ℕ → ℕ × ℕ × Plain
-read_of h bytes = (h.ssrc, h.sequence_number, plain_of h bytes)
-
--- its SSRC, the low 16 bits of its number, and the rest, where it has a header
-abbrev pub reading : ExtensionMap → List ℕ → Option (ℕ × ℕ × Plain)
-reading exts bytes = option_map (λ h. read_of h bytes) (header_of exts bytes)
-
-abbrev pub len_in : ExtensionMap → List ℕ → ℕ
-len_in exts bytes = unwrap_or (option_map (λ (h : RtpHeader). h.header_len) (header_of exts bytes)) 0
+pub use Rattle.run_model.specs.Transcripts.{plain_of, no_plain, plain_in, read_of, reading, len_in}
 
 -- how a context seals
 abbrev pub sealing_of : CipherMeaning → ExtensionMap → SrtpState → Sealing

@@ -179,9 +179,3 @@ clear_opens_not cipher longer key salt bytes sealed word plain tag w n (Ok None)
     λ x o. a ((clear_none cipher longer key salt plain tag word bytes x (w % 2 ^ 31) long (word_low bytes sealed word w s h) (whole bytes sealed word plain tag w n s p q)
     (sym (under cipher key salt bytes sealed word x w false s (not_high w h)) ∙ o.seal)).1)
 clear_opens_not cipher longer key salt bytes sealed word plain tag w n (Ok (Some v)) s p q long h a = a
-
-pub short_opens_not : (cipher : CipherMeaning) → ((key iv aad p : List ℕ) → length (cipher.aead key iv aad p) ≡ length p + 16)
-    → (key salt bytes : List ℕ) → length bytes < 28 → (x : List ℕ) → GcmRtcpOpens cipher key salt bytes x → ⊥
-short_opens_not cipher longer key salt bytes h x o =
-    let w = from_be_bytes w32 (drop (length bytes - 4) bytes) in
-    omega (arith, gcm_rtcp_longer cipher longer key salt x (nat_le (2 ^ 31) w) (w % 2 ^ 31), ap length o.seal, o.header)

@@ -1,4 +1,4 @@
-use media_base::{Duration, Instant};
+use media_units::{Duration, Instant};
 use queue_store::QueueStore;
 use resend_core::{EvictingBuffer, ResendStore};
 use std::alloc::{AllocError, Global};

@@ -1,5 +1,5 @@
 use mask_register::MaskRegister;
-use media_base::{Duration, Instant};
+use media_units::{Duration, Instant};
 use rand::seq::SliceRandom;
 use rand_core::SeedableRng;
 use rand_pcg::Pcg64;

@@ -1,30 +1,11 @@
-use media_base::{Duration, Instant};
+use crate::packets::{Packet, is_number, is_packet};
+use media_units::{Duration, Instant};
 use queue_store::QueueStore;
-use resend_core::{Cached, EvictingBuffer, ResendStore};
+use resend_core::{EvictingBuffer, ResendStore};
 use rtp_base::{NackEntry, SeqNo};
 use rtx_core::{ResendError, ResendQueue};
 use std::alloc::{AllocError, Global};
 use std::test::Fail;
-
-#[derive(Drop)]
-struct Packet {
-    number: u64,
-    size: usize,
-}
-
-impl Cached for Packet {
-    ghost number = { λ p. p.number };
-
-    ghost size = { λ p. p.size };
-
-    fn seq_no(&self) -> SeqNo {
-        SeqNo::from(self.number)
-    }
-
-    fn payload_len(&self) -> usize {
-        self.size
-    }
-}
 
 /// What is done to a queue of resends, and what it answers. Moments are in milliseconds.
 #[derive(Clone, Copy)]
@@ -200,22 +181,6 @@ const ROWS: [(Made, &[Step]); 13] = [
 
 fn at(milliseconds: u64) -> Instant {
     Instant::from_nanos((milliseconds % 1_000_000) * 1_000_000)
-}
-
-fn is_number(number: Option<SeqNo>, wanted: Option<u64>) -> bool {
-    match (number, wanted) {
-        (Some(number), Some(wanted)) => u64::from(number) == wanted,
-        (None, None) => true,
-        _ => false,
-    }
-}
-
-fn is_packet(packet: Option<&Packet>, wanted: Option<u64>) -> bool {
-    match (packet, wanted) {
-        (Some(packet), Some(wanted)) => packet.number == wanted,
-        (None, None) => true,
-        _ => false,
-    }
 }
 
 fn is_answered<S: ResendStore<Packet>>(

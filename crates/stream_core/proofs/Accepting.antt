@@ -10,7 +10,7 @@ use Rattle.stream_core.proofs.Alongside.{place_along, value_along}
 
 module _ {W : Type 0} (remembers : W → Heard → Type 0) (es : List (ℕ × RxView W)) (rs : List (ℕ × RxRecord)) (h : Along (StandsFor remembers) es rs) where
   -- what the stream at a place answers is the answer of its record
-  pub says_at : (ssrc i : ℕ) (x : RxView W) (answer : RxRecord → Option ℕ) (n : Option ℕ) → place_of ssrc es ≡ Some i → slice_get (values_of es) i ≡ Some x
+  pub says_at : {X : Type 0} (ssrc i : ℕ) (x : RxView W) (answer : RxRecord → Option X) (n : Option X) → place_of ssrc es ≡ Some i → slice_get (values_of es) i ≡ Some x
       → ((r : RxRecord) → StandsFor remembers x r → n ≡ answer r) → n ≡ option_and_then answer (value_under ssrc rs)
   says_at ssrc i x answer n place at says =
       let y = value_along (StandsFor remembers) es rs i x h at in

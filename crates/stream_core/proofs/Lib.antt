@@ -5,6 +5,7 @@ pub mod Claims
 pub mod Fronts
 pub mod InUseSteps
 pub mod Mending
+pub mod Parts
 pub mod Places
 pub mod PollSteps
 pub mod Polling

@@ -1,8 +1,7 @@
 -- What is sealed for a repair, and what a stream is after that.
-use Rattle.std.proofs.Common.{◌≡◌, ℕ, ◌%◌, ◌≤◌, ◌<◌, ◌^◌, ◌++◌, List, [], ◌∷◌, Option, Some, None, true, is_some, length, refl, sym, ap, subst, ◌∙◌, arith, length-append}
+use Rattle.std.proofs.Common.{◌≡◌, ℕ, ◌%◌, ◌<◌, ◌^◌, ◌++◌, List, [], ◌∷◌, Option, Some, None, true, is_some, length, refl, sym, ap, subst, ◌∙◌, arith}
 use Rattle.std.specs.Prelude.{IfSome, IfNone}
 use Rattle.std.specs.Int.{w16, to_be_bytes}
-use Rattle.rtp_wire.specs.declared.extension.ExtensionMap.{ExtensionMap}
 use Rattle.rtp_wire.specs.declared.header.RtpHeader.{RtpHeader}
 use Rattle.rtp_wire.specs.Header.{header_bytes}
 use Rattle.stream_core.specs.declared.stream_tx.PacketReceipt.{PacketReceipt}
@@ -17,7 +16,7 @@ use Rattle.stream_core.specs.declared.packet.RtpPacket.{RtpPacket}
 use Rattle.stream_core.specs.declared.payload_types.TypeRow.{TypeRow}
 use Rattle.stream_core.specs.Arrivals.{with_first_of}
 use Rattle.stream_core.specs.Queue.{next_of, rest_of, rest_after, if_stamped}
-use Rattle.stream_core.specs.TxRecord.{TxRecord, IsSealable, receipt_of, polled, after_poll}
+use Rattle.stream_core.specs.TxRecord.{TxRecord, receipt_of, polled, after_poll}
 use Rattle.stream_core.proofs.Polling.{bytes_of_any}
 
 -- it is that repair
@@ -31,21 +30,6 @@ repair_is ssrc x t now n p h between r said header number low plain =
     let whole = plain ∙ (λ i. bytes i ++ (low i ++ p.packet.payload)) in
     let front = header ∙ said in
     λ i. record { header = front i; seq_no = number i; plain = whole i }
-
--- it may be sealed
-pub repair_sealable : (exts : ExtensionMap) (h : RtpHeader) (between payload : List ℕ) (n : ℕ) (r : PacketReceipt) → n < 2 ^ 48 → h.sequence_number ≡ n % 65536
-    → length between ≤ 2 → length payload ≤ 1400
-    → r.header ≡ record h { header_len = length (header_bytes exts h) } → r.seq_no ≡ n → r.plain ≡ header_bytes exts h ++ (between ++ payload) → r.header.header_len ≤ 160 → IsSealable r
-repair_sealable exts h between payload n r fits same few short header number plain small =
-    let len = ap (λ (x : RtpHeader). x.header_len) header in
-    let long = ap length plain ∙ length-append (header_bytes exts h) (between ++ payload) in
-    let more = length-append between payload in
-    record {
-      number = omega (arith, fits, number);
-      low = ap (λ m. m % 65536) number ∙ sym same ∙ sym (ap (λ (x : RtpHeader). x.sequence_number) header);
-      header = omega (arith, len, long);
-      small = omega (arith, len, long, more, small, few, short);
-    }
 
 module _ {S : Type 0} (stands_for : S → Past SentPacket → Type 0) where
   -- a packet was sent that is not kept

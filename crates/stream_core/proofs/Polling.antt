@@ -18,10 +18,6 @@ pub bytes_of_any : (exts : ExtensionMap) (h : RtpHeader) (n : ℕ) → header_by
 unfolding header_bytes
 bytes_of_any exts h n = refl
 
-form_of_any : (exts : ExtensionMap) (h : RtpHeader) (n : ℕ) → wire_form exts h ≡ wire_form exts (record h { header_len = n })
-unfolding header_bytes wire_form
-form_of_any exts h n = refl
-
 read_of_any : (exts : ExtensionMap) (h : RtpHeader) (n : ℕ) → IsReadAgain exts h → IsReadAgain exts (record h { header_len = n })
 unfolding header_bytes wire_form
 read_of_any exts h n reads = reads

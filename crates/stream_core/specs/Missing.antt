@@ -1,6 +1,6 @@
 -- What incoming streams ask for (RFC 4585 section 6.2.1).
 use Rattle.std.specs.Prelude.{ℕ, ◌&&◌, ◌||◌, Bool, false, not, is_some, if◌then◌else◌, List, [], ◌∷◌, Option, Some, None}
-use Rattle.std.specs.List.{flat_map, list_any}
+use Rattle.std.specs.List.{list_any}
 use Rattle.repair_core.specs.Entries.{packed}
 use Rattle.repair_core.specs.Rounds.{Heard, round, due, is_pending, wait_of}
 use Rattle.rtp_base.specs.declared.nack_entry.NackEntry.{NackEntry}
@@ -52,7 +52,3 @@ nack_with sender ssrc (x ∷ xs) = Nack (record { sender_ssrc = sender; ssrc = s
 
 abbrev pub nack_of : ℕ → ℕ → ℕ × RxRecord → List Rtcp
 nack_of sender now e = nack_with sender e.1.state.ssrc (packed None (due_of now e.1))
-
--- the items of a round, in order of the streams
-abbrev pub nacks : ℕ → ℕ → List (ℕ × RxRecord) → List Rtcp
-nacks sender now rs = flat_map (nack_of sender now) rs

@@ -1,10 +1,10 @@
 -- The names of sources (RFC 3550 section 6.5.1).
 use Rattle.std.specs.Prelude.{ℕ, Bool, true, false, position, slice_get, List, [], ◌∷◌, Option, Some, None, option_and_then}
 use Rattle.std.specs.Option.{option_map}
-use Rattle.rtcp_wire.specs.declared.source.Sdes.{Sdes}
-use Rattle.rtcp_wire.specs.declared.source.SdesItem.{SdesItem}
-use Rattle.rtcp_wire.specs.declared.source.SdesType.{SdesType}
-use Rattle.rtcp_wire.specs.declared.source.SdesType.TheVariants.{CNAME}
+use Rattle.rtcp_items.specs.declared.source.Sdes.{Sdes}
+use Rattle.rtcp_items.specs.declared.source.SdesItem.{SdesItem}
+use Rattle.rtcp_items.specs.declared.source.SdesType.{SdesType}
+use Rattle.rtcp_items.specs.declared.source.SdesType.TheVariants.{CNAME}
 use Rattle.stream_core.specs.RxRecord.{RxState}
 
 abbrev pub is_kind_of_name : SdesType → Bool

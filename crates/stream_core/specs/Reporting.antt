@@ -10,9 +10,9 @@ use Rattle.repair_core.specs.Fresh.{greatest_of}
 use Rattle.repair_core.specs.Rounds.{Heard, taken}
 use Rattle.rtcp_wire.specs.declared.packet.Rtcp.{Rtcp}
 use Rattle.rtcp_wire.specs.declared.packet.Rtcp.TheVariants.{SenderReport, ReceiverReport, SourceDescription, ExtendedReport, Nack, Pli, Fir, Remb}
-use Rattle.rtcp_wire.specs.declared.extended.ReportBlock.{ReportBlock}
-use Rattle.rtcp_wire.specs.declared.extended.ReportBlock.TheVariants.{Rrtr, Dlrr}
-use Rattle.rtcp_wire.specs.declared.report.SenderInfo.{SenderInfo}
+use Rattle.rtcp_items.specs.declared.extended.ReportBlock.{ReportBlock}
+use Rattle.rtcp_items.specs.declared.extended.ReportBlock.TheVariants.{Rrtr, Dlrr}
+use Rattle.rtcp_items.specs.declared.report.SenderInfo.{SenderInfo}
 use Rattle.report_core.specs.declared.clock.ReportIntervals.{ReportIntervals}
 use Rattle.report_core.specs.declared.rtp_clock.RtpClock.{RtpClock}
 use Rattle.report_core.specs.Due.{receiver_due, sender_due, is_sender_due}

@@ -10,17 +10,19 @@ use Rattle.mapping_core.specs.declared.mapping.RepairsChange.{RepairsChange}
 use Rattle.mapping_core.specs.declared.stream.IncomingStream.{IncomingStream}
 use Rattle.repair_core.specs.Rounds.{Heard}
 use Rattle.resend_core.specs.ResendStore.{Past}
+use Rattle.rtp_base.specs.declared.media_time.MediaTime.{MediaTime}
 use Rattle.rtp_base.specs.declared.nack_entry.NackEntry.{NackEntry}
 use Rattle.rtx_core.specs.Resends.{ResendView, Asks, asked_for, numbers_of, created, begun_anew}
 use Rattle.rtx_core.specs.declared.resend.Resend.{Resend}
 use Rattle.resend_core.specs.ResendStore.{last_position}
 use Rattle.stream_core.specs.declared.payload_types.TypeRow.{TypeRow}
+use Rattle.stream_core.specs.declared.reports.Arrival.{Arrival}
 use Rattle.stream_core.specs.declared.stream_tx.PacketReceipt.{PacketReceipt}
 use Rattle.stream_core.specs.declared.transport.Transport.{Transport}
 use Rattle.stream_core.specs.Known.{KnownRecord, none_known, without_known, with_original_of, with_main, with_repairs as known_with_repairs}
 use Rattle.stream_core.specs.Queue.{next_of}
 use Rattle.stream_core.specs.Repairing.{SentPacket, RepairsView, RepairsRecord, RepairsStandFor, Polls, Stays, IsUsedUp, has_asked, state_in, repairs_of, with_repairs, size_of_sent}
-use Rattle.stream_core.specs.RxRecord.{RxView, RxRecord, expected, fresh_number, moved_to, repaired_under, StandsFor as RxStandsFor}
+use Rattle.stream_core.specs.RxRecord.{RxView, RxRecord, expected, fresh_number, taken_time, restored_time, moved_to, repaired_under, StandsFor as RxStandsFor}
 use Rattle.stream_core.specs.RxRepairs.{own_number, fresh_repair, restored_for, restored}
 use Rattle.stream_core.specs.Tables.{place_of, value_under, with_new, with_value, without_key, change_place, change_at, renamed, Along, rekeyed}
 use Rattle.stream_core.specs.TxRecord.{TxRecord, declared, anew_under}
@@ -102,10 +104,6 @@ taken_up ssrc (NewMain c) r = with_main_rx c r
 taken_up ssrc (NewRepairs c) r = with_repairs_rx c r
 taken_up ssrc (Nowhere why) r = r
 
--- where the stream stands whose repairs come under an SSRC
-abbrev pub repair_place : {X : Type 0} → ℕ → List (ℕ × ℕ) → List (ℕ × X) → Option ℕ
-repair_place ssrc os rs = option_and_then (λ original. place_of original rs) (value_under ssrc os)
-
 -- what a new stream sends again: repairs begin with a number, where it has repairs
 abbrev pub with_first : ℕ → Option ℕ → List (ℕ × RepairsRecord) → List (ℕ × RepairsRecord)
 with_first ssrc None qs = qs
@@ -163,6 +161,13 @@ own_number_on seen rs ssrc low = option_and_then (λ r. Some (own_number seen r 
 
 abbrev pub restored_number_on : Option ℕ → List (ℕ × RxRecord) → ℕ → ℕ → Option ℕ
 restored_number_on remembered rs ssrc low = option_and_then (λ r. Some (restored_for remembered r low)) (value_under ssrc rs)
+
+-- the RTP time of a packet that so comes for the stream of an SSRC: taken as it came, or restored from a repair
+abbrev pub taken_time_on : Arrival → List (ℕ × RxRecord) → ℕ → Option MediaTime
+taken_time_on a rs ssrc = option_and_then (λ r. Some (taken_time a r.state)) (value_under ssrc rs)
+
+abbrev pub restored_time_on : Arrival → List (ℕ × RxRecord) → ℕ → Option MediaTime
+restored_time_on a rs ssrc = option_and_then (λ r. Some (restored_time a r.state)) (value_under ssrc rs)
 
 -- some packet of a stream is asked for
 abbrev pub is_asked : {C : Type 0} → List (ℕ × ResendView C) → TxRecord → Bool

@@ -1,24 +1,28 @@
-ghost use Rattle.std.specs.Prelude.{◌≡◌, ◌==◌, IfOk, length};
+ghost use Rattle.std.specs.Prelude.{◌≡◌, ◌==◌, ◌+◌, ◌≤◌, IfOk, length, take, drop};
 ghost use Rattle.std.specs.Rc.{rc_slice_items};
 
 use std::alloc::{AllocError, Global};
 use std::marker::Model;
 use std::rc::RcSlice;
 
-/// The bytes behind the header of a packet, which several packets may share. Contracts see the list
-/// of them.
+/// The bytes behind the header of a packet, which several packets may share: a run of bytes that are
+/// held once. Contracts see the list of the run.
 #[derive(Debug, Drop)]
 pub struct Payload {
     all: RcSlice<u8>,
+    start: usize,
+    count: usize,
 }
 
 impl Model for Payload {
-    ghost use Rattle.std.specs.Prelude.{ℕ, List};
+    ghost use Rattle.std.specs.Prelude.{ℕ, List, ◌+◌, ◌≤◌, length, take, drop};
     ghost use Rattle.std.specs.Rc.{rc_slice_items};
 
     ghost Value = { List ℕ };
 
-    ghost view = { λ p. rc_slice_items p.all };
+    ghost view = { λ p. take p.count (drop p.start (rc_slice_items p.all)) };
+
+    ghost invariant = { λ p. p.start + p.count ≤ length (rc_slice_items p.all) };
 }
 
 impl PartialEq for Payload {
@@ -32,7 +36,7 @@ impl PartialEq for Payload {
     ghost laws = { Prim.search (comparing, rules) };
 
     fn eq(&self, other: &Payload) -> bool {
-        self.all.as_slice() == other.all.as_slice()
+        self.as_slice() == other.as_slice()
     }
 }
 
@@ -50,7 +54,12 @@ impl From<RcSlice<u8>> for Payload {
     ghost from_gives = { λ all p. p ≡ rc_slice_items all };
 
     fn from(all: RcSlice<u8>) -> Self {
-        Payload { all }
+        let count = all.len();
+        Payload {
+            all,
+            start: 0,
+            count,
+        }
     }
 }
 
@@ -59,18 +68,14 @@ impl Payload {
     pub fn from_vec(bytes: Vec<u8>) -> Result<Self, AllocError>
         ensures { IfOk result (λ p. p ≡ bytes.items) }
     {
-        Ok(Payload {
-            all: RcSlice::from_vec(bytes)?,
-        })
+        Ok(Payload::from(RcSlice::from_vec(bytes)?))
     }
 
     /// A copy of the bytes.
     pub fn from_slice(alloc: Global, bytes: &[u8]) -> Result<Self, AllocError>
         ensures { IfOk result (λ p. p ≡ bytes.now) }
     {
-        Ok(Payload {
-            all: RcSlice::from_slice(alloc, bytes)?,
-        })
+        Ok(Payload::from(RcSlice::from_slice(alloc, bytes)?))
     }
 
     /// The same bytes once more, which are not copied.
@@ -79,6 +84,21 @@ impl Payload {
     {
         Ok(Payload {
             all: self.all.clone()?,
+            start: self.start,
+            count: self.count,
+        })
+    }
+
+    /// So many of the bytes from an index on, which are not copied.
+    #[tactic(auto, using(crate::proofs::Parts::part_is))]
+    pub fn part(&self, start: usize, count: usize) -> Result<Self, AllocError>
+        requires { start + count ≤ length self.now }
+        ensures { IfOk result (λ p. p ≡ take count (drop start self.now)) }
+    {
+        Ok(Payload {
+            all: self.all.clone()?,
+            start: self.start + start,
+            count,
         })
     }
 
@@ -86,20 +106,20 @@ impl Payload {
     pub fn as_slice(&self) -> &[u8]
         ensures { result.now ≡ self.now }
     {
-        self.all.as_slice()
+        &self.all.as_slice()[self.start..self.start + self.count]
     }
 
     /// How many bytes they are.
     pub fn len(&self) -> usize
         ensures { result ≡ length self.now }
     {
-        self.all.len()
+        self.count
     }
 
     /// Whether there are none.
     pub fn is_empty(&self) -> bool
         ensures { result ≡ (length self.now == 0) }
     {
-        self.all.len() == 0
+        self.count == 0
     }
 }

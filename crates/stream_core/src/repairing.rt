@@ -11,7 +11,7 @@ use crate::packet::RtpPacket;
 use crate::payload_types::PayloadTypes;
 use crate::stream_tx::{PacketReceipt, StreamTx, receipt};
 use crate::transport::Transport;
-use media_base::Instant;
+use media_units::Instant;
 use resend_core::{Cached, ResendStore};
 use rtp_base::{Pt, SeqNo, Ssrc};
 use rtp_wire::RtpHeader;

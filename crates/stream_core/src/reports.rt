@@ -26,7 +26,7 @@ ghost use Rattle.stream_core.specs.Arrivals.{
 
 use crate::packet::RtpPacket;
 use crate::stream_tx::PacketReceipt;
-use media_base::{Beginning, Instant};
+use media_units::{Beginning, Instant};
 use repair_core::{ReceptionCounts, TimePoint};
 use report_core::{
     ReceiverClock, ReportIntervals, SenderClock, SenderNews, StreamStats, TimeLine, Traffic,

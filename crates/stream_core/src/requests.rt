@@ -13,7 +13,8 @@ ghost use Rattle.stream_core.specs.Requests.{
   is_request,
 };
 
-use media_base::{Bitrate, Listed};
+use media_base::Listed;
+use media_units::Bitrate;
 use rtcp_wire::{Fir, FirEntry, Pli, Remb, Rtcp};
 use rtp_base::{KeyframeRequestKind, ReportList, Ssrc};
 use std::alloc::{AllocError, Global};

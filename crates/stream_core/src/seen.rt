@@ -9,7 +9,7 @@ use std::alloc::{AllocError, Global};
 use std::marker::Model;
 
 /// Numbers have 48 bits.
-const NUMBER_LIMIT: u64 = 1 << 48;
+pub(crate) const NUMBER_LIMIT: u64 = 1 << 48;
 
 /// The numbers under which datagrams opened, for each SSRC: the greatest, and which of the last 128 came.
 /// Contracts see the list of SSRCs and windows, in the order in which the SSRCs came first; it stands for

@@ -5,7 +5,7 @@ ghost use Rattle.stream_core.specs.Totals.{goes_on, first_stamp};
 
 use crate::packet::RtpPacket;
 use crate::streams::sooner;
-use media_base::{Duration, Instant, already_happened};
+use media_units::{Duration, Instant, already_happened};
 use pace_units::{QueuePriority, QueueSnapshot};
 use std::alloc::{AllocError, Global};
 use std::collections::VecDeque;

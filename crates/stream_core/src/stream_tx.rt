@@ -1,4 +1,4 @@
-ghost use Rattle.std.specs.Prelude.{◌≡◌, ◌↔◌, ◌++◌, ◌==◌, ◌≤◌, ◌<◌, true, length, is_some, None, IfOk, IfSome, OnOk, OnErr, IsErrOf};
+ghost use Rattle.std.specs.Prelude.{◌≡◌, ◌↔◌, ◌++◌, ◌≤◌, ◌<◌, true, length, is_some, None, IfOk, IfSome, OnOk, OnErr, IsErrOf};
 ghost use Rattle.rtp_wire.specs.Header.{header_bytes};
 ghost use Rattle.rtp_wire.specs.HeaderLaws.{IsReadAgain};
 ghost use Rattle.std.specs.Option.{option_copied};
@@ -9,10 +9,12 @@ use crate::packet::RtpPacket;
 use crate::payload::Payload;
 use crate::payload_types::PayloadTypes;
 use crate::reports::TxReports;
+use crate::seen::NUMBER_LIMIT;
 use crate::send_queue::SendQueue;
 use crate::transport::Transport;
 use crate::write::{RtpWrite, WriteError};
-use media_base::{Beginning, Bytes, Instant};
+use media_base::Bytes;
+use media_units::{Beginning, Instant};
 use pace_units::QueueSnapshot;
 use report_core::{LossLog, ReportIntervals, RtpClock, StreamStats, Traffic, sender_info};
 use rtcp_wire::{RtcpFb, SenderInfo};
@@ -21,9 +23,6 @@ use rtp_wire::{ExtensionMap, ExtensionValues, RtpHeader};
 use std::alloc::{AllocError, Global};
 use std::marker::Model;
 use twcc_core::Share;
-
-/// Extended sequence numbers are below it.
-const NUMBER_LIMIT: u64 = 1 << 48;
 
 /// The most bytes of a payload that is written.
 const MAX_PAYLOAD_LEN: usize = 1400;
@@ -169,13 +168,9 @@ impl StreamTx {
         }
         let time = write.time();
         let wallclock = write.wallclock();
-        match self.queue.push(write.into_packet(self.ssrc)) {
-            Ok(()) => {
-                self.reports.wrote(time, wallclock);
-                Ok(())
-            }
-            Err(_) => Err(WriteError::Memory),
-        }
+        self.queue.push(write.into_packet(self.ssrc))?;
+        self.reports.wrote(time, wallclock);
+        Ok(())
     }
 
     /// A tick: the packets that were written since the last one may be sealed from then on.
@@ -489,12 +484,5 @@ impl StreamTx {
         ensures { result ≡ snapshot_of now None self.now.queue }
     {
         self.queue.snapshot(now, None)
-    }
-
-    /// Whether no packet waits.
-    pub fn is_idle(&self) -> bool
-        ensures { result ≡ (length self.now.queue == 0) }
-    {
-        self.queue.is_empty()
     }
 }

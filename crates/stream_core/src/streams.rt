@@ -5,19 +5,20 @@ ghost use Rattle.mapping_core.specs.Mapped.{mapped};
 ghost use Rattle.stream_core.specs.Missing.{any_enabled};
 ghost use Rattle.stream_core.specs.Pauses.{checked, on_view, on_record, first_where, view_untold, next_pause, after_pause, untold_in, first_pause, sooner, with_trip};
 ghost use Rattle.stream_core.specs.RxRecord.{RxRecord, StandsFor as RxStandsFor, opened_as};
-ghost use Rattle.stream_core.specs.RxRepairs.{repair_came, after_restored};
 ghost use Rattle.rtx_core.specs.Resends.{recached};
 ghost use Rattle.rtp_wire.specs.HeaderLaws.{IsReadAgain};
 ghost use Rattle.stream_core.specs.Repairing.{RepairsRecord};
 ghost use Rattle.stream_core.specs.Sealing.{after_packet};
-ghost use Rattle.stream_core.specs.StreamsRecord.{StreamsRecord, StandsFor, no_streams, accepted, accepted_repair, restored_on, own_number_on, restored_number_on, with_stream_rx, without_stream_rx, with_main_rx, with_repairs_rx, taken_up, repair_place, with_stream_tx, is_asked, is_ready, Asked, PollsAt, StaysAt, IsUsedUpAt, all_waiting, all_asked};
+ghost use Rattle.stream_core.specs.StreamsRecord.{StreamsRecord, StandsFor, no_streams, accepted, with_stream_rx, without_stream_rx, with_main_rx, with_repairs_rx, taken_up, with_stream_tx, is_asked, is_ready, Asked, PollsAt, StaysAt, IsUsedUpAt, all_waiting, all_asked};
 ghost use Rattle.stream_core.specs.Tables.{Along, place_of, value_under, with_new, without_key, each, change_at};
 ghost use Rattle.stream_core.specs.TxRecord.{TxRecord, declared, after_timeout, any_waits, IsSealable};
 
 mod feedback;
 mod in_use;
+mod incoming_repairs;
 mod removing;
 mod resetting;
+mod times;
 
 use crate::known_streams::KnownStreams;
 use crate::payload_types::PayloadTypes;
@@ -30,7 +31,7 @@ use crate::stream_tx::{PacketReceipt, StreamTx};
 use crate::transport::Transport;
 pub use feedback::is_among;
 use mapping_core::{IncomingStream, MainChange, Mapping, RepairsChange, Rids, TypeClaim};
-use media_base::{Duration, Instant};
+use media_units::{Duration, Instant};
 use repair_core::GapWindow;
 use resend_core::ResendStore;
 use rtp_base::{MidRid, NackEntry, SeqNo, Ssrc};
@@ -547,15 +548,6 @@ impl<W: GapWindow, S: ResendStore<Sent>> Streams<W, S> {
         self.known.original(ssrc)
     }
 
-    /// Where the stream stands whose repairs come under an SSRC: two look-ups in hash tables.
-    pub fn repair_place(&self, ssrc: Ssrc) -> Option<usize>
-        ensures place { result ≡ repair_place ssrc self.now.known.originals self.now.rx }
-        ensures within { IfSome result (λ i. i < length self.now.rx) }
-    {
-        let original = self.original(ssrc)?;
-        self.rx_place(original)
-    }
-
     /// A tick of each stream: those are paused on which nothing came for their threshold.
     pub fn handle_timeout(&mut self, now: Instant)
         ensures streams { (r : StreamsRecord) → StandsFor W.remembers S.stands_for self.old r → StandsFor W.remembers S.stands_for self.new
@@ -686,93 +678,6 @@ impl<W: GapWindow, S: ResendStore<Sent>> Streams<W, S> {
             self.next_untold = self.next_untold.min(place);
         }
         Ok(())
-    }
-
-    /// The own number under which a repair of the stream at a place may open, where `seen` is the greatest
-    /// number that was seen on the SSRC of its datagram.
-    pub fn accepts_repair(&self, place: usize, low: u16, seen: Option<SeqNo>) -> Option<SeqNo>
-        requires place { place < length self.now.rx }
-        requires seen { ForSome seen (λ n. n < 2 ^ 48) }
-        ensures number { (r : StreamsRecord) (ssrc : ℕ) → StandsFor W.remembers S.stands_for self.now r → place_of ssrc self.now.rx ≡ Some place
-            → result ≡ accepted_repair seen r.rx ssrc low }
-        ensures small { IfSome result (λ n. n < 2 ^ 48) }
-        ensures low { IfSome result (λ n. n % 65536 ≡ low) }
-    {
-        self.rx.at(place).accepts_repair(low, seen)
-    }
-
-    /// The own number of a repair of the stream at a place with these low 16 bits, fresh or not.
-    pub fn repair_number_at(&self, place: usize, low: u16, seen: Option<SeqNo>) -> SeqNo
-        requires place { place < length self.now.rx }
-        requires seen { ForSome seen (λ n. n < 2 ^ 48) }
-        ensures number { (r : StreamsRecord) (ssrc : ℕ) → StandsFor W.remembers S.stands_for self.now r → place_of ssrc self.now.rx ≡ Some place
-            → Some result ≡ own_number_on seen r.rx ssrc low }
-        ensures small { result < 2 ^ 48 }
-        ensures low { result % 65536 ≡ low }
-    {
-        self.rx.at(place).repair_number(low, seen)
-    }
-
-    /// The number of the packet that a repair of the stream at a place restores, whose low 16 bits begin
-    /// the payload of the repair, fresh or not.
-    pub fn restored_number_at(&self, place: usize, low: u16, remembered: &Option<SeqNo>) -> SeqNo
-        requires place { place < length self.now.rx }
-        requires remembered { ForSome remembered.now (λ n. n < 2 ^ 48) }
-        ensures number { (r : StreamsRecord) (ssrc : ℕ) → StandsFor W.remembers S.stands_for self.now r → place_of ssrc self.now.rx ≡ Some place
-            → Some result ≡ restored_number_on remembered.now r.rx ssrc low }
-        ensures small { result < 2 ^ 48 }
-    {
-        self.rx.at(place).restored_number(low, remembered)
-    }
-
-    /// Has the stream at a place take the own number of a repair that opened at a moment.
-    #[tactic(auto, using(crate::proofs::Alongside::set_same))]
-    pub fn take_repair_at(&mut self, place: usize, now: Instant, number: SeqNo, seen: Option<SeqNo>)
-        requires place { place < length self.old.rx }
-        requires number { number < 2 ^ 48 }
-        requires seen { ForSome seen (λ n. n < 2 ^ 48) }
-        ensures taken { (r : StreamsRecord) (ssrc : ℕ) → StandsFor W.remembers S.stands_for self.old r → place_of ssrc self.old.rx ≡ Some place
-            → StandsFor W.remembers S.stands_for self.new (record r { rx = change_at ssrc (repair_came seen now number) r.rx }) }
-        ensures places { keys_of self.new.rx ≡ keys_of self.old.rx }
-        ensures tx { self.new.tx ≡ self.old.tx }
-        ensures repairs { self.new.repairs ≡ self.old.repairs }
-        ensures threshold { self.new.threshold ≡ self.old.threshold }
-        ensures known { self.new.known ≡ self.old.known }
-    {
-        self.rx.at_mut(place).take_repair(now, number, seen);
-        if self.rx.at(place).is_untold() {
-            self.next_untold = self.next_untold.min(place);
-        }
-    }
-
-    /// Has the stream at a place take the number of the packet that a repair repairs, whose low 16 bits
-    /// begin the payload of the repair, and gives it. None where it is not fresh: the packet then enters
-    /// the jitter alone. Without memory nothing changes.
-    #[tactic(auto, using(crate::proofs::Alongside::set_same))]
-    pub fn restore_at(
-        &mut self,
-        place: usize,
-        low: u16,
-        arrival: &Arrival,
-        remembered: Option<SeqNo>,
-    ) -> Result<Option<SeqNo>, AllocError>
-        requires place { place < length self.old.rx }
-        requires remembered { ForSome remembered (λ n. n < 2 ^ 48) }
-        ensures restored { IfOk result (λ o. (r : StreamsRecord) (ssrc : ℕ) → StandsFor W.remembers S.stands_for self.old r → place_of ssrc self.old.rx ≡ Some place
-            → o ≡ restored_on remembered r.rx ssrc low) }
-        ensures after { OnOk result ((r : StreamsRecord) (ssrc : ℕ) → StandsFor W.remembers S.stands_for self.old r → place_of ssrc self.old.rx ≡ Some place
-            → StandsFor W.remembers S.stands_for self.new (record r { rx = change_at ssrc (after_restored remembered arrival.entry.now low) r.rx })) }
-        ensures small { IfOk result (λ o. IfSome o (λ n. n < 2 ^ 48)) }
-        ensures low { IfOk result (λ o. IfSome o (λ n. n % 65536 ≡ low)) }
-        ensures places { keys_of self.new.rx ≡ keys_of self.old.rx }
-        ensures tx { self.new.tx ≡ self.old.tx }
-        ensures repairs { self.new.repairs ≡ self.old.repairs }
-        ensures threshold { self.new.threshold ≡ self.old.threshold }
-        ensures known { self.new.known ≡ self.old.known }
-        ensures err { OnErr result (self.new ≡ self.old) }
-    {
-        let number = self.rx.at_mut(place).restore(low, arrival, remembered)?;
-        Ok(number)
     }
 }
 

@@ -1,6 +1,6 @@
 ghost use Rattle.std.specs.Prelude.{◌≡◌, is_some};
 
-use media_base::{Beginning, Instant};
+use media_units::{Beginning, Instant};
 use rtp_wire::{AbsSendTime, Extension, ExtensionMap, ExtensionValues};
 
 /// What the packets of all streams of a session share when they are sealed.

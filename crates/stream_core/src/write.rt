@@ -3,9 +3,10 @@ ghost use Rattle.rtp_wire.specs.Extensions.{no_values};
 
 use crate::packet::RtpPacket;
 use crate::payload::Payload;
-use media_base::Instant;
+use media_units::Instant;
 use rtp_base::{Frequency, MediaTime, Pt, SeqNo, Ssrc};
 use rtp_wire::{ExtensionValues, RtpHeader};
+use std::alloc::AllocError;
 use std::marker::Model;
 use thiserror::Error;
 
@@ -21,6 +22,16 @@ pub enum WriteError {
     /// There is no memory left.
     #[error("out of memory")]
     Memory,
+}
+
+impl From<AllocError> for WriteError {
+    ghost use Rattle.stream_core.specs.declared.write.WriteError.TheVariants.{Memory};
+
+    ghost from_gives = { λ _ e. e ≡ Memory };
+
+    fn from(_: AllocError) -> Self {
+        WriteError::Memory
+    }
 }
 
 /// A packet as it is written on a stream. Contracts see the record of its fields, the contributing

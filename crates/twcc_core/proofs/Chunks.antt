@@ -62,17 +62,6 @@ put_fails all rest old at now new end chunk some p h =
     let total = ap length (h.split ∙ ap (λ (x : List ℕ). h.done ++ x) one) in
     omega (arith, p, h.put.0, h.same, halves_len (chunks_of all), halves_len h.done, total, length-append h.done (chunk_of rest ∷ chunks_within (h.fuel - 1) (drop (told_by rest) rest)))
 
-nothing : (fuel : ℕ) (rest : List PacketStatus) → length rest ≡ 0 → chunks_within fuel rest ≡ []
-nothing zero rest e = refl
-nothing (suc fuel) [] e = refl
-nothing (suc fuel) (row ∷ rest) e = absurd (omega arith)
-
-pub put_ends : (all rest : List PacketStatus) (old : List ℕ) (at : ℕ) (now : List ℕ) (end : ℕ) → length rest ≡ 0
-    → IsPut all rest old at now end → Puts old at (halves (chunks_of all)) now (Some end)
-put_ends all rest old at now end e h =
-    let is : chunks_of all ≡ h.done = h.split ∙ rw (nothing h.fuel rest e) (append-nil h.done) in
-    rw is h.put
-
 -- which chunk is the first
 pub run_first : (rows : List PacketStatus) → 7 ≤ run_of rows → (chunk_of rows ≡ symbol_at rows 0 * 8192 + run_of rows) × (told_by rows ≡ run_of rows)
 unfolding chunk_of told_by

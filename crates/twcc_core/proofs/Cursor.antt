@@ -1,6 +1,5 @@
 -- The loops over rows.
-use Rattle.std.proofs.Common.{◌≡◌, ℕ, zero, suc, ◌+◌, ◌-◌, ◌^◌, ◌<◌, ◌≤◌, true, false, cond, eqb, leb, min, List, [], ◌∷◌, ◌++◌, length, take, drop, drop-drop, Option, Some, None, refl, sym, ap, ◌∙◌, append_assoc, arith, length-append}
-use Rattle.std.specs.Prelude.{unwrap_or}
+use Rattle.std.proofs.Common.{◌≡◌, ℕ, zero, suc, ◌+◌, ◌-◌, ◌^◌, ◌<◌, ◌≤◌, true, false, cond, eqb, leb, min, List, [], ◌∷◌, ◌++◌, length, take, drop, drop-drop, Option, Some, refl, sym, ap, ◌∙◌, append_assoc, arith, length-append}
 use Rattle.std.specs.List.{flat_map, prefix_len}
 use Rattle.std.proofs.lemmas.List.{append-nil}
 use Rattle.std.proofs.lemmas.List.Concat.{flat_map-append}
@@ -12,7 +11,7 @@ use Rattle.twcc_core.specs.Statuses.{symbol_of, delta_text}
 use Rattle.twcc_core.specs.Chunks.{symbol_at, run_of, told_by}
 use Rattle.twcc_core.specs.Sizes.{IsCounted, after_row, bytes_of}
 use Rattle.twcc_core.specs.Reports.{size_of}
-use Rattle.twcc_core.specs.Times.{row_moment, moments_from}
+use Rattle.twcc_core.specs.Times.{moments_from}
 use Rattle.twcc_core.proofs.Rows.{behind_more}
 use Rattle.twcc_core.proofs.ReadBack.{run_is, run_within}
 use Rattle.twcc_core.proofs.Sizes.{next_counted, counted_size}
@@ -86,9 +85,6 @@ pub record IsDeltas (all rest : List PacketStatus) (old : List ℕ) (at : ℕ) (
   pub behind : drop end now ≡ drop end old
   pub same : length now ≡ length old
 
-pub deltas_start : (all : List PacketStatus) (old : List ℕ) (at : ℕ) → at ≤ length old → IsDeltas all all old at old at
-deltas_start all old at le = record { done = []; split = refl; put = (omega arith, sym (append-nil (take at old)), le); behind = refl; same = refl }
-
 one_behind : (done : List PacketStatus) (row : PacketStatus) → flat_map delta_text (done ++ row ∷ []) ≡ flat_map delta_text done ++ delta_text row
 one_behind done row = flat_map-append delta_text done (row ∷ []) ∙ ap (λ (t : List ℕ). flat_map delta_text done ++ t) (append-nil (delta_text row))
 
@@ -104,20 +100,6 @@ deltas_more all rest after row old at now new end end' e same p b h =
       same = same ∙ h.same;
     }
 
-pub deltas_fail : (all rest after : List PacketStatus) (row : PacketStatus) (old : List ℕ) (at : ℕ) (now new : List ℕ) (end : ℕ) → rest ≡ row ∷ after
-    → Puts now end (delta_text row) new None
-    → IsDeltas all rest old at now end → Puts old at (flat_map delta_text all) new None
-deltas_fail all rest after row old at now new end e p h =
-    let whole : flat_map delta_text all ≡ flat_map delta_text h.done ++ (delta_text row ++ flat_map delta_text after) =
-    ap (flat_map delta_text) (h.split ∙ ap (λ (t : List PacketStatus). h.done ++ t) e) ∙ flat_map-append delta_text h.done (row ∷ after) in
-    omega (arith, p, h.put.0, h.same, ap length whole, length-append (flat_map delta_text h.done) (delta_text row ++ flat_map delta_text after), length-append (delta_text row) (flat_map delta_text after))
-
-pub deltas_end : (all rest : List PacketStatus) (old : List ℕ) (at : ℕ) (now : List ℕ) (end : ℕ) → rest ≡ []
-    → IsDeltas all rest old at now end → Puts old at (flat_map delta_text all) now (Some end)
-deltas_end all rest old at now end e h =
-    let is : all ≡ h.done = h.split ∙ ap (λ (t : List PacketStatus). h.done ++ t) e ∙ append-nil h.done in
-    rw is h.put
-
 -- ---- the size
 
 -- the rows before these are counted
@@ -125,9 +107,6 @@ pub record IsSized (all rest : List PacketStatus) (size : Size) : Type 0 where
   pub done : List PacketStatus
   pub split : all ≡ done ++ rest
   pub counted : IsCounted size done
-
-pub sized_starts : (all : List PacketStatus) (size : Size) → IsCounted size [] → IsSized all all size
-sized_starts all size h = record { done = []; split = refl; counted = h }
 
 pub sized_more : (all rest after : List PacketStatus) (row : PacketStatus) (size new : Size) → rest ≡ row ∷ after → new ≡ after_row size row → IsSized all rest size → IsSized all after new
 sized_more all rest after row size new e n h =
@@ -150,15 +129,3 @@ sized_ends all rest size e h =
 -- the moments so far stand before those of these rows
 pub record IsTimed (now : List (Option ℕ)) (last : ℕ) (rest : List PacketStatus) (all : List (Option ℕ)) : Type 0 where
   pub so_far : now ++ moments_from last rest ≡ all
-
-pub timed_starts : (last : ℕ) (rows : List PacketStatus) → IsTimed [] last rows (moments_from last rows)
-timed_starts last rows = record { so_far = refl }
-
-pub timed_more : (now new : List (Option ℕ)) (last last' : ℕ) (rest after : List PacketStatus) (all : List (Option ℕ)) (row : PacketStatus) (m : Option ℕ) → rest ≡ row ∷ after → m ≡ row_moment last row
-    → new ≡ now ++ m ∷ [] → last' ≡ unwrap_or m last → IsTimed now last rest all → IsTimed new last' after all
-timed_more now new last last' rest after all row m r e n l h =
-    let so_far = rw (r, ← e) at h.so_far in
-    rw (n, l) (record { so_far = append_assoc now (m ∷ []) (moments_from (unwrap_or m last) after) ∙ so_far })
-
-pub timed_ends : (now : List (Option ℕ)) (last : ℕ) (rest : List PacketStatus) (all : List (Option ℕ)) → rest ≡ [] → IsTimed now last rest all → now ≡ all
-timed_ends now last rest all e h = let so_far = rw e at h.so_far in sym (append-nil now) ∙ so_far

@@ -342,13 +342,6 @@ all_above last first (x ∷ xs) lt h =
     let t : ltb last x.0 ≡ true = lt-ltb _ _ (omega (arith, lt, low)) in
     rw t (ap (λ (ys : List (ℕ × ℕ)). x ∷ ys) (all_above last first xs lt (All-tail (IsLeBy nat_cmp first) x.0 (keys_of xs) h)))
 
-pub let_go : (last : ℕ) (x e : ℕ × ℕ) (xs ys : List (ℕ × ℕ)) → xs ≡ x ∷ ys → slice_get xs 0 ≡ Some e → e.0 ≤ last → filter (λ e. ltb last e.0) ys ≡ filter (λ e. ltb last e.0) xs
-let_go last x e xs ys is at le =
-    let first : x ≡ e = some_of x e (ap (λ (zs : List (ℕ × ℕ)). slice_get zs 0) (sym is) ∙ at) in
-    let t : ltb last x.0 ≡ false = le-ltb _ _ (omega (arith, ap (λ (y : ℕ × ℕ). y.0) first, le)) in
-    let passed : filter (λ e. ltb last e.0) (x ∷ ys) ≡ filter (λ e. ltb last e.0) ys = rw t refl in
-    sym passed ∙ ap (filter (λ (e : ℕ × ℕ). ltb last e.0)) (sym is)
-
 pub none_to_forget : (k : Kept) → first_counted k.arrivals ≡ 0 → k ≡ with_recent k
 none_to_forget k zero' =
     let held : k.arrivals ≡ recent k.arrivals = sym (not_below_zero k.arrivals) ∙ ap (λ (x : ℕ). filter (λ (e : ℕ × ℕ). leb x e.0) k.arrivals) (sym zero') in

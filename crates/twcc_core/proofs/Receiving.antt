@@ -2,8 +2,8 @@
 use Rattle.std.proofs.Common.{◌≡◌, ℕ, zero, suc, ◌+◌, ◌-◌, ◌^◌, ◌<◌, ◌≤◌, true, false, leb, List, [], ◌∷◌, ◌++◌, length, take, Option, Some, None, refl, sym, ap, ◌∙◌, append_assoc, arith, length-append}
 use Rattle.std.specs.Option.{option_map, option_map_or}
 use Rattle.std.proofs.lemmas.Bool.{le-leb, lt-leb, leb-true, leb-false}
-use Rattle.std.proofs.lemmas.List.{append-nil, take_at}
-use Rattle.std.proofs.Math.Seq.{take-length, take-append-add}
+use Rattle.std.proofs.lemmas.List.{take_at}
+use Rattle.std.proofs.Math.Seq.{take-append-add}
 use Rattle.twcc_core.specs.declared.status.PacketStatus.{PacketStatus}
 use Rattle.twcc_core.specs.declared.size.Size.{Size}
 use Rattle.twcc_core.specs.Chunks.{chunks_of}
@@ -40,15 +40,6 @@ next_row arrivals n number last after row e = next_at (row_of (arrival_of arriva
         let b : last_after (arrival_of arrivals number) last ≡ after = ap (λ (t : PacketStatus × ℕ). t.1) both in
         rw (a, b) refl
 
-no_row : (arrivals : List (ℕ × ℕ)) (n number last : ℕ) → None ≡ option_map (with_last (arrival_of arrivals number) last) (row_of (arrival_of arrivals number) last)
-    → rows_from arrivals (suc n) number last ≡ []
-no_row arrivals n number last e = no_at (row_of (arrival_of arrivals number) last) e
-  where
-    no_at : (o : Option PacketStatus) → None ≡ option_map (with_last (arrival_of arrivals number) last) o
-        → option_map_or (λ r. r ∷ rows_from arrivals n (number + 1) (last_after (arrival_of arrivals number) last)) o [] ≡ []
-    no_at None e = refl
-    no_at (Some r) e = absurd cc
-
 pub rows_more : (arrivals : List (ℕ × ℕ)) (all : List PacketStatus) (limit count i base last after : ℕ) (row : PacketStatus) (rows : List PacketStatus) (size : Size) → i < count
     → Some (row, after) ≡ option_map (with_last (arrival_of arrivals (base + i)) last) (row_of (arrival_of arrivals (base + i)) last) → bytes_of (after_row size row) ≤ limit
     → IsRowed arrivals all limit count i base last rows size → IsRowed arrivals all limit count (i + 1) base after (rows ++ row ∷ []) (after_row size row)
@@ -82,13 +73,6 @@ fit_down limit rows i (suc n) le more =
           rw t (fit_down limit rows i n (omega (arith, lt)) (λ j low high. more j low (omega (arith, high))))
     ] refl
 
--- all rows fit
-pub all_within : (limit : ℕ) (rows : List PacketStatus) → (0 < length rows → size_of rows ≤ limit) → rows ≡ rows_within limit rows
-all_within limit rows le =
-    let whole = take-length rows in
-    let n = fit_all limit rows (length rows) (rw whole le) in
-    rw (n, whole) refl
-
 -- the rows so far fit, and with the next they do not
 pub some_within : (limit : ℕ) (rows later : List PacketStatus) (row : PacketStatus) (size : Size) → IsCounted size rows → (0 < length rows → size_of rows ≤ limit) → limit < bytes_of (after_row size row)
     → rows ≡ rows_within limit (rows ++ (row ∷ later))
@@ -118,24 +102,6 @@ rows_full arrivals all limit count i base last after row rows size lt e more h =
     let one = next_row arrivals (count - (i + 1)) (base + i) last after row e in
     let split = rw (k, one) at h.split in
     rw (← split) (some_within limit rows (rows_from arrivals (count - (i + 1)) (base + i + 1) after) row size h.counted h.fits more)
-
-pub rows_broken : (arrivals : List (ℕ × ℕ)) (all : List PacketStatus) (limit count i base last : ℕ) (rows : List PacketStatus) (size : Size) → i < count
-    → None ≡ option_map (with_last (arrival_of arrivals (base + i)) last) (row_of (arrival_of arrivals (base + i)) last)
-    → IsRowed arrivals all limit count i base last rows size → rows ≡ rows_within limit all
-rows_broken arrivals all limit count i base last rows size lt e h =
-    let k : count - i ≡ suc (count - (i + 1)) = omega arith in
-    let none = no_row arrivals (count - (i + 1)) (base + i) last e in
-    let split = rw (k, none) at h.split in
-    let whole : rows ≡ all = sym (append-nil rows) ∙ split in
-    rw (← whole) (all_within limit rows h.fits)
-
-pub rows_end : (arrivals : List (ℕ × ℕ)) (all : List PacketStatus) (limit count i base last : ℕ) (rows : List PacketStatus) (size : Size) → count ≤ i
-    → IsRowed arrivals all limit count i base last rows size → rows ≡ rows_within limit all
-rows_end arrivals all limit count i base last rows size le h =
-    let k : count - i ≡ 0 = omega arith in
-    let split = rw k at h.split in
-    let whole : rows ≡ all = sym (append-nil rows) ∙ split in
-    rw (← whole) (all_within limit rows h.fits)
 
 -- what was counted is not large
 pub counted_bounds : (s : Size) (rows : List PacketStatus) → IsCounted s rows → length rows ≤ 65536 → (s.chunks < 2 ^ 32) × (s.deltas < 2 ^ 32)

@@ -82,9 +82,6 @@ rise_without x xs n le h =
     let k : length (x ∷ xs) - n ≡ suc (length xs - n) = omega (arith, le) in
     rw k at h
 
-pub held_rise : (ys : List TwccSendRecord) (n m : ℕ) → m ≤ n + 1 → IsRising ys (n + 1) → IsRising ys m
-held_rise ys n m le h = fewer_rise ys (n + 1) m le h
-
 pub all_rise : (xs : List TwccSendRecord) (n : ℕ) → length xs ≤ n → IsRising xs n → IsNonDecreasingBy (λ r. r.id.seq) xs
 unfolding IsRising
 all_rise xs n le h = let none : length xs - n ≡ 0 = omega (arith, le) in rw none at h

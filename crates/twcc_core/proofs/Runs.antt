@@ -1,5 +1,5 @@
 -- Rows in runs.
-use Rattle.std.proofs.Common.{◌≡◌, ℕ, zero, suc, ◌+◌, ◌<◌, Bool, true, false, List, [], ◌∷◌, ◌++◌, length, get_or, set, replicate, refl, sym, ap, ◌∙◌, append_assoc, arith, length-append}
+use Rattle.std.proofs.Common.{◌≡◌, ℕ, zero, suc, ◌+◌, ◌<◌, Bool, List, [], ◌∷◌, ◌++◌, length, get_or, set, replicate, refl, sym, ap, ◌∙◌, append_assoc, arith, length-append}
 use Rattle.std.proofs.Math.Dec.{eqb}
 use Rattle.std.specs.Cmp.Lexicographic.{pointwise}
 use Rattle.std.proofs.lemmas.Bool.{ne_eqb}
@@ -36,23 +36,3 @@ empty_is gap (run ∷ runs) e =
 -- the rows that are left are the same exactly where all are
 pub record IsCompared (E : PacketStatus → PacketStatus → Bool) (left right : List PacketStatus) (all : Bool) : Type 0 where
   pub same : pointwise E left right ≡ all
-
-pub compared_more : (E : PacketStatus → PacketStatus → Bool) (left right : List PacketStatus) (a b : PacketStatus) (left' right' : List PacketStatus) (all : Bool) → left ≡ a ∷ left' → right ≡ b ∷ right' → E a b ≡ true
-    → IsCompared E left right all → IsCompared E left' right' all
-compared_more E left right a b left' right' all p q e h = let same = rw (p, q, e) at h.same in record { same = same }
-
-pub compared_other : (E : PacketStatus → PacketStatus → Bool) (left right : List PacketStatus) (a b : PacketStatus) (left' right' : List PacketStatus) (all : Bool) → left ≡ a ∷ left' → right ≡ b ∷ right' → E a b ≡ false
-    → IsCompared E left right all → false ≡ all
-compared_other E left right a b left' right' all p q e h = let same = rw (p, q, e) at h.same in same
-
-pub compared_short : (E : PacketStatus → PacketStatus → Bool) (left right : List PacketStatus) (a : PacketStatus) (left' : List PacketStatus) (all : Bool) → left ≡ a ∷ left' → right ≡ []
-    → IsCompared E left right all → false ≡ all
-compared_short E left right a left' all p q h = let same = rw (p, q) at h.same in same
-
-pub compared_long : (E : PacketStatus → PacketStatus → Bool) (left right : List PacketStatus) (b : PacketStatus) (right' : List PacketStatus) (all : Bool) → left ≡ [] → right ≡ b ∷ right'
-    → IsCompared E left right all → false ≡ all
-compared_long E left right b right' all p q h = let same = rw (p, q) at h.same in same
-
-pub compared_ends : (E : PacketStatus → PacketStatus → Bool) (left right : List PacketStatus) (all : Bool) → left ≡ [] → right ≡ []
-    → IsCompared E left right all → true ≡ all
-compared_ends E left right all p q h = let same = rw (p, q) at h.same in same

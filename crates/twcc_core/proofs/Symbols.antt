@@ -1,7 +1,7 @@
 -- The loops over chunks that are read, and those over symbols.
 use Rattle.std.proofs.Common.{◌≡◌, ℕ, zero, suc, ◌+◌, ◌-◌, ◌/◌, ◌%◌, ◌<◌, ◌≤◌, true, false, ltb, min, List, [], ◌∷◌, ◌++◌, length, get_or, take, drop, replicate, Option, Some, None, refl, sym, ap, subst, ◌∙◌, append_assoc, arith, length-drop}
 use Rattle.std.specs.Option.{option_map, option_and_then}
-use Rattle.std.proofs.lemmas.List.{append-nil, take_more, take_all, take_min, take-replicate, take-append-drop, length-replicate}
+use Rattle.std.proofs.lemmas.List.{take_more, take_min, take-replicate, take-append-drop, length-replicate}
 use Rattle.std.proofs.lemmas.Bool.{le-ltb, lt-ltb}
 use Rattle.twcc_core.specs.declared.status.PacketStatus.{PacketStatus}
 use Rattle.rtp_base.specs.Wire.{half_at}
@@ -14,9 +14,6 @@ use Rattle.twcc_core.specs.Reading.{with_front, Says}
 rows_regroup : (now : List PacketStatus) (s : PacketStatus) (o : Option (List PacketStatus)) → with_front now (option_map (λ later. s ∷ later) o) ≡ with_front (now ++ s ∷ []) o
 rows_regroup now s None = refl
 rows_regroup now s (Some x) = ap (λ (t : List PacketStatus). Some t) (sym (append_assoc now (s ∷ []) x))
-
-pub says_nothing : (front : List PacketStatus) (bytes : List ℕ) → Says front [] bytes front (Some bytes)
-says_nothing front bytes = record { so_far = λ later. refl }
 
 says_one : (front : List PacketStatus) (symbol : ℕ) (bytes : List ℕ) (s : PacketStatus) (after : List ℕ) → Some (s, after) ≡ status_at symbol bytes → Says front (symbol ∷ []) bytes (front ++ s ∷ []) (Some after)
 says_one front symbol bytes s after e = record { so_far = λ later. rw (← e) (rows_regroup front s (statuses_of later after)) }
@@ -45,15 +42,9 @@ says_none front symbols i symbol bytes now new rest lt is e h =
     let split : take i symbols ++ symbol ∷ drop (i + 1) symbols ≡ symbols = rw is (ap (λ (t : List ℕ). take i symbols ++ t) (sym (first_and_rest symbols i lt)) ∙ take-append-drop i symbols) in
     subst (λ (xs : List ℕ). Says front xs bytes new None) split (says_more front (take i symbols) (symbol ∷ drop (i + 1) symbols) bytes now new rest None h (ends_there now symbol (drop (i + 1) symbols) rest new e))
 
-pub says_all : (front : List PacketStatus) (symbols : List ℕ) (i : ℕ) (bytes : List ℕ) (now : List PacketStatus) (rest : List ℕ) → length symbols ≤ i → Says front (take i symbols) bytes now (Some rest) → Says front symbols bytes now (Some rest)
-says_all front symbols i bytes now rest le h = subst (λ (xs : List ℕ). Says front xs bytes now (Some rest)) (take_all i symbols le) h
-
 -- the first symbols are read
 pub record IsRead (front : List PacketStatus) (symbols : List ℕ) (i : ℕ) (bytes : List ℕ) (now : List PacketStatus) (rest : List ℕ) : Type 0 where
   pub says : Says front (take i symbols) bytes now (Some rest)
-
-pub read_starts : (front : List PacketStatus) (symbols bytes : List ℕ) → IsRead front symbols 0 bytes front bytes
-read_starts front symbols bytes = record { says = says_nothing front bytes }
 
 pub read_more : (front : List PacketStatus) (symbols : List ℕ) (i symbol : ℕ) (bytes : List ℕ) (now new : List PacketStatus) (s : PacketStatus) (rest after : List ℕ) → i < length symbols → symbol ≡ get_or symbols i 0
     → Some (s, after) ≡ status_at symbol rest → new ≡ now ++ s ∷ []
@@ -63,9 +54,6 @@ read_more front symbols i symbol bytes now new s rest after lt is e n h = record
 pub read_fails : (front : List PacketStatus) (symbols : List ℕ) (i symbol : ℕ) (bytes : List ℕ) (now : List PacketStatus) (rest : List ℕ) → i < length symbols → symbol ≡ get_or symbols i 0
     → None ≡ status_at symbol rest → IsRead front symbols i bytes now rest → Says front symbols bytes now None
 read_fails front symbols i symbol bytes now rest lt is e h = says_none front symbols i symbol bytes now now rest lt is e h.says
-
-pub read_ends : (front : List PacketStatus) (symbols : List ℕ) (i : ℕ) (bytes : List ℕ) (now : List PacketStatus) (rest : List ℕ) → length symbols ≤ i → IsRead front symbols i bytes now rest → Says front symbols bytes now (Some rest)
-read_ends front symbols i bytes now rest le h = says_all front symbols i bytes now rest le h.says
 
 -- ---- a symbol that comes again and again
 
@@ -78,9 +66,6 @@ get_or_replicate (suc count) (suc i) symbol lt = get_or_replicate count i symbol
 pub record IsRun (front : List PacketStatus) (symbol count i : ℕ) (bytes : List ℕ) (now : List PacketStatus) (rest : List ℕ) : Type 0 where
   pub read : IsRead front (replicate count symbol) i bytes now rest
 
-pub run_starts : (front : List PacketStatus) (symbol count : ℕ) (bytes : List ℕ) → IsRun front symbol count 0 bytes front bytes
-run_starts front symbol count bytes = record { read = read_starts front (replicate count symbol) bytes }
-
 pub run_more : (front : List PacketStatus) (symbol count i : ℕ) (bytes : List ℕ) (now new : List PacketStatus) (s : PacketStatus) (rest after : List ℕ) → i < count
     → Some (s, after) ≡ status_at symbol rest → new ≡ now ++ s ∷ []
     → IsRun front symbol count i bytes now rest → IsRun front symbol count (i + 1) bytes new after
@@ -91,9 +76,6 @@ pub run_fails : (front : List PacketStatus) (symbol count i : ℕ) (bytes : List
     → None ≡ status_at symbol rest → IsRun front symbol count i bytes now rest → Says front (replicate count symbol) bytes now None
 run_fails front symbol count i bytes now rest lt e h =
     read_fails front (replicate count symbol) i symbol bytes now rest (omega (arith, lt, length-replicate count symbol)) (sym (get_or_replicate count i symbol lt)) e h.read
-
-pub run_ends : (front : List PacketStatus) (symbol count i : ℕ) (bytes : List ℕ) (now : List PacketStatus) (rest : List ℕ) → count ≤ i → IsRun front symbol count i bytes now rest → Says front (replicate count symbol) bytes now (Some rest)
-run_ends front symbol count i bytes now rest le h = read_ends front (replicate count symbol) i bytes now rest (omega (arith, le, length-replicate count symbol)) h.read
 
 -- ---- what a chunk tells
 
@@ -131,19 +113,12 @@ pub none_left : (n : ℕ) (bytes : List ℕ) → symbols_within n 0 bytes ≡ So
 none_left zero bytes = refl
 none_left (suc n) bytes = refl
 
-no_bytes : (count : ℕ) (bytes : List ℕ) → 0 < count → symbols_within 0 count bytes ≡ None
-no_bytes zero bytes lt = absurd (omega arith)
-no_bytes (suc count) bytes lt = refl
-
 -- where the bytes are whole the first of them tells symbols
 one_more : (left left' : ℕ) (rest after : List ℕ) → 0 < left → 2 ≤ length rest → left' ≡ left - length (chunk_symbols (half_at rest 0)) → after ≡ drop 2 rest
     → symbols_within (length rest / 2) left rest ≡ option_map (with_symbols (take left (chunk_symbols (half_at rest 0)))) (symbols_within (length after / 2) left' after)
 one_more left left' rest after lt long e d =
     let n : length rest / 2 ≡ suc (length (drop 2 rest) / 2) = omega (arith, length-drop 2 rest) in
     rw (e, d, n) (some_left (length (drop 2 rest) / 2) left rest lt)
-
-too_short : (left : ℕ) (rest : List ℕ) → 0 < left → length rest < 2 → symbols_within (length rest / 2) left rest ≡ None
-too_short left rest lt short = let n : length rest / 2 ≡ 0 = omega arith in rw n (no_bytes left rest lt)
 
 -- what follows the chunks
 abbrev behind : Option (List ℕ × List ℕ) → Option (List ℕ)
@@ -165,12 +140,6 @@ pub passed_more : (left left' : ℕ) (rest after : List ℕ) (all : Option (List
 passed_more left left' rest after all lt long e d h =
     record { same = sym (still_behind (take left (chunk_symbols (half_at rest 0))) (symbols_within (length after / 2) left' after)) ∙ sym (ap behind (one_more left left' rest after lt long e d)) ∙ h.same }
 
-pub passed_fails : (left : ℕ) (rest : List ℕ) (all : Option (List ℕ × List ℕ)) → 0 < left → length rest < 2 → IsPassed left rest all → None ≡ option_map (λ told. told.1) all
-passed_fails left rest all lt short h = sym (ap behind (too_short left rest lt short)) ∙ h.same
-
-pub passed_ends : (left : ℕ) (rest : List ℕ) (all : Option (List ℕ × List ℕ)) → left ≡ 0 → IsPassed left rest all → Some rest ≡ option_map (λ told. told.1) all
-passed_ends left rest all e h = sym (ap behind (ap (λ (n : ℕ). symbols_within (length rest / 2) n rest) e ∙ none_left (length rest / 2) rest)) ∙ h.same
-
 -- what the symbols of chunks say
 abbrev pub said_by : List ℕ → Option (List ℕ × List ℕ) → Option (List PacketStatus)
 said_by deltas o = option_and_then (λ told. statuses_of told.0 deltas) o
@@ -191,41 +160,9 @@ say_on : (now new : List PacketStatus) (symbols deltas rest : List ℕ) (o : Opt
 say_on now new symbols deltas rest None h = refl
 say_on now new symbols deltas rest (Some x) h = h.so_far x.0
 
-say_none : (now new : List PacketStatus) (symbols deltas : List ℕ) (o : Option (List ℕ × List ℕ)) → Says now symbols deltas new None
-    → with_front now (said_by deltas (option_map (with_symbols symbols) o)) ≡ None
-say_none now new symbols deltas None h = refl
-say_none now new symbols deltas (Some x) h = h.so_far x.0
-
 pub said_more : (now new : List PacketStatus) (left left' : ℕ) (rest after deltas later : List ℕ) (all : Option (List PacketStatus)) → 0 < left → 2 ≤ length rest
     → Says now (take left (chunk_symbols (half_at rest 0))) deltas new (Some later) → left' ≡ left - length (chunk_symbols (half_at rest 0)) → after ≡ drop 2 rest
     → IsSaid now left rest deltas all → IsSaid new left' after later all
 said_more now new left left' rest after deltas later all lt long says e d h =
     let symbols : List ℕ = take left (chunk_symbols (half_at rest 0)) in
     record { same = sym (say_on now new symbols deltas later (symbols_within (length after / 2) left' after) says) ∙ sym (ap (λ (o : Option (List ℕ × List ℕ)). with_front now (said_by deltas o)) (one_more left left' rest after lt long e d)) ∙ h.same }
-
-pub said_fails : (now new : List PacketStatus) (left : ℕ) (rest deltas : List ℕ) (all : Option (List PacketStatus)) → 0 < left → 2 ≤ length rest
-    → Says now (take left (chunk_symbols (half_at rest 0))) deltas new None
-    → IsSaid now left rest deltas all → None ≡ all
-said_fails now new left rest deltas all lt long says h =
-    let symbols : List ℕ = take left (chunk_symbols (half_at rest 0)) in
-    let left' : ℕ = left - length (chunk_symbols (half_at rest 0)) in
-    let o : Option (List ℕ × List ℕ) = symbols_within (length (drop 2 rest) / 2) left' (drop 2 rest) in
-    sym (say_none now new symbols deltas o says) ∙ sym (ap (λ (p : Option (List ℕ × List ℕ)). with_front now (said_by deltas p)) (one_more left left' rest (drop 2 rest) lt long refl refl)) ∙ h.same
-
-pub said_short : (now : List PacketStatus) (left : ℕ) (rest deltas : List ℕ) (all : Option (List PacketStatus)) → 0 < left → length rest < 2 → IsSaid now left rest deltas all → None ≡ all
-said_short now left rest deltas all lt short h = sym (ap (λ (o : Option (List ℕ × List ℕ)). with_front now (said_by deltas o)) (too_short left rest lt short)) ∙ h.same
-
-pub said_ends : (now : List PacketStatus) (left : ℕ) (rest deltas : List ℕ) (all : Option (List PacketStatus)) → left ≡ 0 → IsSaid now left rest deltas all → Some now ≡ all
-said_ends now left rest deltas all e h =
-    ap (λ (t : List PacketStatus). Some t) (sym (append-nil now))
-    ∙ sym (ap (λ (o : Option (List ℕ × List ℕ)). with_front now (said_by deltas o)) (ap (λ (n : ℕ). symbols_within (length rest / 2) n rest) e ∙ none_left (length rest / 2) rest)) ∙ h.same
-
--- ---- both together
-
-pub both_read : (deltas : List ℕ) (o : Option (List ℕ × List ℕ)) → Some deltas ≡ option_map (λ told. told.1) o → said_by deltas o ≡ option_and_then (λ told. statuses_of told.0 told.1) o
-both_read deltas None e = refl
-both_read deltas (Some x) e = ap (λ (o : Option (List ℕ)). option_and_then (λ d. statuses_of x.0 d) o) e
-
-pub nothing_read : (o : Option (List ℕ × List ℕ)) → None ≡ option_map (λ told. told.1) o → option_and_then (λ told. statuses_of told.0 told.1) o ≡ None
-nothing_read None e = refl
-nothing_read (Some x) e = ap (λ (o : Option (List ℕ)). option_and_then (λ d. statuses_of x.0 x.1) o) (sym e)

@@ -13,6 +13,9 @@ use crate::{StatusIter, StatusList};
 use rtp_base::wire::{half, put};
 use std::alloc::{AllocError, Global};
 
+// The most rows that a run tells, in 13 bits.
+pub(crate) const MAX_RUN: usize = 8_191;
+
 fn single_bits(chunk: u16) -> [u8; 14]
     ensures { result ≡ one_bit_symbols chunk }
 {
@@ -154,7 +157,7 @@ fn first_run(rows: StatusIter<'_>) -> (usize, StatusIter<'_>)
     let (symbol, _) = split_symbol(rows);
     let mut run = 0;
     let mut rest = rows;
-    while run < 8_191 {
+    while run < MAX_RUN {
         let mut after = rest;
         match after.next() {
             Some(row) if row.symbol() == symbol => rest = after,

@@ -5,17 +5,24 @@ ghost use Rattle.twcc_core.specs.Runs.{left_of};
 
 use crate::feedback::reference_bits;
 use crate::{PacketStatus, StatusIter, Twcc};
-use media_base::{Instant, Listed};
+use media_base::Listed;
+use media_units::Instant;
 use std::alloc::{AllocError, Global};
+
+// A step of deltas, and one of the reference time, in nanoseconds
+// (draft-holmer-rmcat-transport-wide-cc-extensions-01 section 3.1).
+pub(crate) const DELTA_NANOS: u64 = 250_000;
+
+pub(crate) const REFERENCE_NANOS: u64 = 64_000_000;
 
 // So many steps of 250 us after a moment, or before it, in nanoseconds.
 fn later(moment: u64, delta: i16) -> u64
     ensures { result ≡ moment_after moment delta }
 {
     if delta >= 0 {
-        moment.saturating_add(delta as u64 * 250_000)
+        moment.saturating_add(delta as u64 * DELTA_NANOS)
     } else {
-        moment.saturating_sub((0 - i64::from(delta)) as u64 * 250_000)
+        moment.saturating_sub((0 - i64::from(delta)) as u64 * DELTA_NANOS)
     }
 }
 
@@ -61,6 +68,6 @@ fn moments_after(
 pub fn arrivals(alloc: Global, twcc: &Twcc) -> Result<Listed<Option<Instant>>, AllocError>
     ensures { IfOk result (λ moments. moments ≡ moments_of twcc.now) }
 {
-    let start = u64::from(reference_bits(twcc)) * 64_000_000;
+    let start = u64::from(reference_bits(twcc)) * REFERENCE_NANOS;
     moments_after(alloc, start, twcc.rows.iter())
 }

@@ -7,9 +7,10 @@ ghost use Rattle.std.specs.Map.{keys_of};
 ghost use Rattle.twcc_core.specs.Reports.{arrival_of, greatest_of, first_counted, delta_of, row_of, with_last, rows_from, rows_within, report_rows, report_with, missing_from, share_between, loss_of};
 
 use crate::feedback::signed;
+use crate::moments::{DELTA_NANOS, REFERENCE_NANOS};
 use crate::size::Size;
 use crate::{PacketStatus, Share, StatusList, Twcc};
-use media_base::Instant;
+use media_units::Instant;
 use rtp_base::{SeqNo, Ssrc};
 use std::alloc::{AllocError, Global};
 use std::collections::BTreeMap;
@@ -18,6 +19,12 @@ use std::marker::Model;
 
 /// How far a number may be below the greatest: 16 bits tell it from one above.
 const SPAN: u64 = 32_768;
+
+/// How far behind its first number a report tells at most: 16 bits count the numbers.
+const REPORT_SPAN: u64 = 65_534;
+
+/// How far below the greatest the numbers are of which the loss is told.
+const LOSS_SPAN: u64 = 99;
 
 /// Packets received, of which reports are made. Numbers more than 32,768 below the greatest are let go,
 /// so at most 32,769 are held.
@@ -79,7 +86,7 @@ fn next_row(arrival: Option<Instant>, last: u64) -> Option<(PacketStatus, u64)>
     match arrival {
         None => Some((PacketStatus::NotReceived, last)),
         Some(moment) => {
-            let now = moment.as_nanos() / 250_000;
+            let now = moment.as_nanos() / DELTA_NANOS;
             match delta(now, last) {
                 Some(delta) => Some((PacketStatus::Received(delta), now)),
                 None => None,
@@ -249,8 +256,8 @@ impl TwccRecvRegister {
         ensures most { IfOk result (λ rows. base + length rows ≤ 2 ^ 64) }
     {
         let greatest = self.greatest().unwrap_or(0);
-        let count = greatest.saturating_sub(base).min(65_534) + 1;
-        let reference = moment / 64_000_000;
+        let count = greatest.saturating_sub(base).min(REPORT_SPAN) + 1;
+        let reference = moment / REFERENCE_NANOS;
         self.rows(alloc, base, count, 256 * reference, limit)
     }
 
@@ -264,7 +271,7 @@ impl TwccRecvRegister {
     ) -> Twcc
         ensures { result ≡ report_with self.now.reports sender_ssrc ssrc (base, moment) rows }
     {
-        let reference = moment / 64_000_000;
+        let reference = moment / REFERENCE_NANOS;
         Twcc {
             sender_ssrc,
             ssrc,
@@ -324,7 +331,7 @@ impl TwccRecvRegister {
     fn share(&self, lowest: u64, greatest: u64) -> Share
         ensures { result ≡ share_between self.now.arrivals lowest greatest }
     {
-        let start = greatest.saturating_sub(99).max(lowest);
+        let start = greatest.saturating_sub(LOSS_SPAN).max(lowest);
         let total = greatest.saturating_sub(start) + 1;
         Share {
             missing: self.missing(start, total),

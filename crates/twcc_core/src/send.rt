@@ -5,11 +5,15 @@ ghost use Rattle.std.specs.List.Sorted.{IsNonDecreasingBy};
 ghost use Rattle.twcc_core.specs.Sending.{IsRising, IsWithin, last_number, first_told, moment_told, record_told, after_told, greater_of, trip_of, is_told_from, is_missing_from, sent_loss};
 
 use crate::{Share, Twcc, arrivals};
-use media_base::{DataSize, Duration, Instant, Listed};
+use media_base::Listed;
+use media_units::{DataSize, Duration, Instant};
 use rtp_base::{TwccClusterId, TwccPacketId, widen16};
 use std::alloc::{AllocError, Global};
 use std::collections::VecDeque;
 use std::marker::Model;
+
+/// How many packets are remembered.
+const MAX_RECORDS: usize = 1_000;
 
 /// A packet sent, and what the last report of it said.
 #[derive(Clone, Copy, Debug, PartialEq, Eq)]
@@ -171,8 +175,8 @@ impl TwccSendRegister {
             reported: None,
             received: None,
         })?;
-        self.rising = (rising + 1).min(1_000);
-        if self.records.len() > 1_000 {
+        self.rising = (rising + 1).min(MAX_RECORDS);
+        if self.records.len() > MAX_RECORDS {
             self.records.pop_front();
         }
         Ok(())

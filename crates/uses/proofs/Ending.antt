@@ -28,8 +28,8 @@ use Rattle.session_core.specs.Receiving.{Receives}
 use Rattle.session_core.specs.Rounds.{round_interval, after_incoming, after_outgoing, after_checks, after_timeout}
 use Rattle.session_core.specs.Sending.{NextDatagram}
 use Rattle.session_core.specs.SessionRecord.{SessionState, SessionView, SessionRecord, StandsFor}
-use Rattle.uses.specs.Exchange.{payload_told, first_write, end_config, end_of}
-use Rattle.uses.proofs.Exchanged.{Expects, awaited, sent_bytes, packet_bytes, second_carries}
+use Rattle.uses.specs.Exchange.{payload_told, end_config, end_of}
+use Rattle.uses.proofs.Exchanged.{Expects, awaited, sent_bytes, packet_bytes, second_carries, first_write}
 
 -- a value is written over by what it changes to
 set_change : {X : Type 0} (f : X → X) (es : List (ℕ × X)) (i : ℕ) (x : X) → slice_get (values_of es) i ≡ Some x → set_value_at es i (f x) ≡ change_place f es i

@@ -1,9 +1,8 @@
 -- What a session tells of the packet that another one sealed.
 use Rattle.std.proofs.Common.{◌≡◌, ℕ, zero, suc, Bool, true, false, List, [], ◌∷◌, length, Option, Some, None, refl, sym, ap, ◌∙◌, subst, arith, slice_get}
-use Rattle.std.specs.Prelude.{◌==◌, ◌||◌, ◌&&◌, ◌++◌, IfSome, if◌then◌else◌, is_some, is_none, option_and_then, map}
+use Rattle.std.specs.Prelude.{◌==◌, ◌||◌, ◌&&◌, ◌++◌, IfSome, if◌then◌else◌, is_some, is_none, option_and_then, map, replicate}
 use Rattle.std.specs.Map.{values_of}
 use Rattle.std.specs.Option.{option_map, option_to_list}
-use Rattle.std.specs.Prelude.{replicate}
 use Rattle.rtp_wire.specs.BytesLaws.{AreWords}
 use Rattle.rtp_wire.specs.declared.extension.ExtensionMap.{ExtensionMap}
 use Rattle.rtp_wire.specs.declared.header.RtpHeader.{RtpHeader}
@@ -25,7 +24,7 @@ use Rattle.stream_core.specs.Seen.{seen_of}
 use Rattle.stream_core.specs.StreamsRecord.{StreamsRecord, taken_up, polls_at}
 use Rattle.stream_core.specs.Tables.{value_under, place_of}
 use Rattle.stream_core.specs.TxRecord.{TxRecord, declared, written, after_timeout, polled, receipt_of, sealed_header}
-use Rattle.stream_core.specs.Write.{packet_of}
+use Rattle.stream_core.specs.Write.{packet_of, WriteRecord}
 use Rattle.session_core.specs.declared.datagram.Datagram.{Datagram}
 use Rattle.session_core.specs.declared.datagram.Event.{Event}
 use Rattle.session_core.specs.declared.datagram.Event.TheVariants as event
@@ -35,14 +34,29 @@ use Rattle.session_core.specs.News.{no_news, news_told}
 use Rattle.mapping_core.specs.Mapped.{is_early_padding, repairs_expected, has_rtx}
 use Rattle.mapping_core.specs.declared.mapping.Mapping.TheVariants.{Main}
 use Rattle.session_core.specs.Mapping.{rids_for, is_standing, mapped_in, taken_up_for}
-use Rattle.session_core.specs.Receiving.{Receives, Opens, OpensRepair, OpensPadding, OpensIn, number_of, rx_opened, arrival_of, after_opened, packet_from, cut, opened, repaired, padding, stays}
+use Rattle.session_core.specs.Receiving.{time_taken, Receives, Opens, OpensRepair, OpensPadding, OpensIn, number_of, rx_opened, arrival_of, after_opened, packet_from, cut, opened, repaired, padding, stays}
 use Rattle.session_core.specs.Repairs.{repaired_by, original_under}
 use Rattle.session_core.specs.Feedback.{due_of, some_due}
 use Rattle.session_core.specs.Reports.{of_kind}
 use Rattle.session_core.specs.Sending.{sealed_as, sealed_by, Gives, NextPacket, none_due, given, passed, NextDatagram, silent, packet as leaves, compound}
 use Rattle.session_core.specs.SessionRecord.{MediaRecord, SessionState, SessionRecord, streams_in, with_incoming}
-use Rattle.uses.specs.Exchange.{payload_told, first_write, end_config}
+use Rattle.uses.specs.Exchange.{payload_told, end_config}
 use Rattle.uses.proofs.Opening.{sealed_packet, opens_to_it, reads_header}
+use Rattle.rtp_wire.specs.Extensions.{no_values}
+
+-- the packet numbered 1 of type 96 at a moment, without marker, header values and contributing sources
+abbrev pub first_write : ℕ → List ℕ → WriteRecord
+first_write now payload = record {
+  pt = 96;
+  seq_no = 1;
+  time = 0;
+  wallclock = now;
+  marker = false;
+  ext_vals = no_values;
+  nackable = false;
+  payload = payload;
+  csrc = [];
+}
 
 some_same : {X : Type 0} (x y : X) → Some x ≡ Some y → x ≡ y
 some_same x y e = cc
@@ -242,13 +256,13 @@ module _ (cipher : CipherMeaning) (k : SrtpState) (t : Transport) (now : ℕ) (m
 
   -- after it came it is told that the stream is unpaused, and then the packet
   told_then : (r : SessionRecord) (h : RtpHeader) (n : ℕ) (other : List ℕ) → Expects r → Reads h
-      → told (after_opened now h n other r) ≡ event.StreamPaused (pause_of (came_at (arrival_of r.state.types now h (length (cut h other))) n (awaited mid).state)) ∷ event.RtpPacket (packet_from now h n (cut h other)) ∷ []
+      → told (after_opened now h n other r) ≡ event.StreamPaused (pause_of (came_at (arrival_of r.state.types now h (length (cut h other))) n (awaited mid).state)) ∷ event.RtpPacket (packet_from (time_taken (arrival_of r.state.types now h (length (cut h other))) r.rx h.ssrc) now h n (cut h other)) ∷ []
   told_then r h n other x y =
       λ j.
       if x.keys j then []
       else option_to_list (option_map event.AppSpecificFeedback (x.application j))
       ++ (map event.StreamPaused (pauses (rx_opened (seen_of (y.source j) (x.seen j)) (arrival_of r.state.types now h (length (cut h other))) (y.source j) n (x.rx j)))
-      ++ (option_to_list (option_map event.RtpPacket (if y.source j == 0 then r.state.packet else Some (packet_from now h n (cut h other))))
+      ++ (option_to_list (option_map event.RtpPacket (if y.source j == 0 then r.state.packet else Some (packet_from (time_taken (arrival_of r.state.types now h (length (cut h other))) r.rx h.ssrc) now h n (cut h other))))
       ++ news_told (x.news j)))
 
   -- no datagram of the stream is a repair

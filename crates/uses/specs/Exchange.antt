@@ -1,7 +1,7 @@
 -- What two sessions exchange.
-use Rattle.std.specs.Prelude.{ℕ, Bool, false, List, [], ◌∷◌, None, codes}
+use Rattle.std.specs.Prelude.{ℕ, Bool, List, [], ◌∷◌, None, codes}
 use Rattle.mapping_core.specs.declared.rids.Rids.TheVariants.{Any}
-use Rattle.rtp_wire.specs.Extensions.{no_values, no_extensions}
+use Rattle.rtp_wire.specs.Extensions.{no_extensions}
 use Rattle.srtp_core.specs.Toy.{toy_meaning}
 use Rattle.srtp_core.specs.declared.profile.SrtpProfile.TheVariants.{AeadAes128Gcm}
 use Rattle.session_core.specs.declared.config.SessionConfig.{SessionConfig}
@@ -12,27 +12,12 @@ use Rattle.payload_core.specs.declared.codec.Codec.TheVariants.{Vp8}
 use Rattle.payload_core.specs.declared.codec.MediaKind.TheVariants.{Video}
 use Rattle.session_core.specs.Calls.{fresh_session, keyed}
 use Rattle.session_core.specs.SessionRecord.{SessionState, SessionRecord}
-use Rattle.stream_core.specs.Write.{WriteRecord}
 
 -- the payload of what is told: none where it is of streams alone
 abbrev pub payload_told : Event → List ℕ
 payload_told (RtpPacket packet) = packet.payload
 payload_told (AppSpecificFeedback feedback) = feedback.payload
 payload_told _ = []
-
--- the packet numbered 1 of type 96 at a moment, without marker, header values and contributing sources
-abbrev pub first_write : ℕ → List ℕ → WriteRecord
-first_write now payload = record {
-  pt = 96;
-  seq_no = 1;
-  time = 0;
-  wallclock = now;
-  marker = false;
-  ext_vals = no_values;
-  nackable = false;
-  payload = payload;
-  csrc = [];
-}
 
 -- VP8 as type 96, without repairs
 abbrev pub vp8 : Config

@@ -1,7 +1,7 @@
 //! Packets that a receiver misses, sent again.
 ghost use Rattle.std.specs.Prelude.{◌≡◌, [], OnOk};
 
-use media_base::Instant;
+use media_units::Instant;
 use resend_core::{Cached, ResendStore};
 use rtp_base::{NackEntry, SeqNo};
 use rtx_core::{ResendError, ResendQueue};

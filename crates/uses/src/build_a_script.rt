@@ -3,8 +3,9 @@ ghost use Rattle.std.specs.Prelude.{◌≡◌, ◌∷◌, [], IfOk, length};
 ghost use Rattle.media_model.specs.Setup.{streams_of, types_of};
 
 use crate::script_parts::{deliver, packet, payload_type, setup, stream, tick, video, write};
-use media_base::{Bytes, Instant};
+use media_base::Bytes;
 use media_model::{Codec, Setup, Side, Step};
+use media_units::Instant;
 use rtp_wire::Mid;
 use std::alloc::{AllocError, Global};
 

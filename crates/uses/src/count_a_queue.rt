@@ -2,7 +2,7 @@
 ghost use Rattle.std.specs.Prelude.{◌≡◌};
 ghost use Rattle.pace_units.specs.Queue.{merged, total_wait};
 
-use media_base::{Duration, Instant};
+use media_units::{Duration, Instant};
 use pace_units::QueueSnapshot;
 
 /// How long the packets of two queues waited until now, all together.

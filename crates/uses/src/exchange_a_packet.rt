@@ -8,7 +8,8 @@ ghost use Rattle.session_core.specs.SessionRecord.{StandsFor};
 ghost use Rattle.uses.specs.Exchange.{vp8, end_of, payload_told};
 
 use mask_register::MaskRegister;
-use media_base::{Beginning, Bytes, Duration, Instant, Listed};
+use media_base::{Bytes, Listed};
+use media_units::{Beginning, Duration, Instant};
 use payload_core::{Codec, CodecConfig, CodecSpec, FormatParams, PayloadParams};
 use queue_store::QueueStore;
 use rtp_base::{Frequency, Mid, MidRid, Pt, SeqNo, Ssrc};

@@ -4,7 +4,7 @@ ghost use Rattle.std.specs.Option.{option_map};
 ghost use Rattle.resend_core.specs.ResendStore.{Past};
 ghost use Rattle.resend_core.specs.RtxCache.{StandsFor, packet_at, IsCached};
 
-use media_base::Instant;
+use media_units::Instant;
 use resend_core::{Cached, ResendStore, RtxCache};
 use rtp_base::SeqNo;
 use std::alloc::{AllocError, Global};

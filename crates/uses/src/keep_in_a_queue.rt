@@ -4,7 +4,7 @@ ghost use Rattle.std.specs.Bool.{OnFalse};
 ghost use Rattle.resend_core.specs.ResendStore.{made, IsPushedInto};
 ghost use Rattle.queue_store.specs.Queue.{StandsFor, value_at};
 
-use media_base::{Duration, Instant};
+use media_units::{Duration, Instant};
 use queue_store::QueueStore;
 use resend_core::ResendStore;
 use std::alloc::{AllocError, Global};

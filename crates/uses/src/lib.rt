@@ -14,7 +14,6 @@ pub mod map_a_datagram;
 pub mod measure_a_trip;
 pub mod pace_packets;
 pub mod place_a_block;
-pub mod play_a_run;
 pub mod put_into_order;
 pub mod queue_a_packet;
 pub mod read_a_header;

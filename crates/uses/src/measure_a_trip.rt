@@ -5,9 +5,9 @@ ghost use Rattle.report_core.specs.Exchange.{span_of};
 ghost use Rattle.report_core.specs.LastReport.{compact_of, delay_units};
 ghost use Rattle.report_core.specs.Trip.{trip_told};
 
-use media_base::{Beginning, Duration, Instant};
+use media_units::{Beginning, Duration, Instant};
 use report_core::{SenderNews, sender_trip, trips_are_measured};
-use rtcp_wire::SenderInfo;
+use rtcp_items::SenderInfo;
 use rtp_base::ReceptionReport;
 
 /// The round trip that a sender learns: its report came to a receiver, which told of it later in

@@ -3,7 +3,7 @@ ghost use Rattle.std.specs.Prelude.{◌≡◌, IfOk};
 ghost use Rattle.std.specs.Option.{option_map};
 ghost use Rattle.pace_core.specs.Past.{Past, timed};
 
-use media_base::{DataSize, Instant};
+use media_units::{DataSize, Instant};
 use pace_core::{Pacer, QueueState};
 use rtp_base::Mid;
 use std::alloc::AllocError;

@@ -5,7 +5,7 @@ ghost use Rattle.payload_core.specs.Buffer.{is_next};
 ghost use Rattle.payload_core.specs.InOrder.{empty_after};
 ghost use Rattle.payload_core.specs.Reordering.{with_packet, popped, after_pop, frame_of};
 
-use media_base::Instant;
+use media_units::Instant;
 use payload_core::{
     Arrival, Depacketized, DepacketizingBuffer, PacketError, frames_come_out_as_in,
 };

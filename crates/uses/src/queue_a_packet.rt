@@ -3,7 +3,7 @@ ghost use Rattle.std.specs.Prelude.{◌≡◌, IfOk, OnOk, IsErrOf};
 ghost use Rattle.stream_core.specs.TxRecord.{written, after_timeout, after_poll, polled, IsTooLong};
 ghost use Rattle.stream_core.specs.declared.write.WriteError.TheVariants.{PayloadTooLong};
 
-use media_base::Instant;
+use media_units::Instant;
 use std::alloc::Global;
 use stream_core::{PacketReceipt, RtpWrite, StreamTx, Transport, WriteError};
 
@@ -23,8 +23,5 @@ pub fn write_and_poll(
 {
     stream.write_rtp(write)?;
     stream.handle_timeout(now);
-    match stream.poll_packet(alloc, now, transport) {
-        Ok(receipt) => Ok(receipt),
-        Err(_) => Err(WriteError::Memory),
-    }
+    Ok(stream.poll_packet(alloc, now, transport)?)
 }

@@ -29,8 +29,5 @@ pub fn play_calls(alloc: Global, bytes: &[u8]) -> Result<Option<String>, ScriptE
             };
         }
     };
-    match write_pace_log(alloc, &log) {
-        Ok(text) => Ok(Some(text)),
-        Err(_) => Err(ScriptError::Memory),
-    }
+    Ok(Some(write_pace_log(alloc, &log)?))
 }

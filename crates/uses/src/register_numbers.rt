@@ -3,7 +3,7 @@ ghost use Rattle.std.specs.Prelude.{◌≡◌, ◌<◌, ◌^◌, ◌≤◌, None
 ghost use Rattle.repair_core.specs.Entries.{packed};
 ghost use Rattle.repair_core.specs.Rounds.{Heard, came, round, due, wait_of};
 
-use media_base::Instant;
+use media_units::Instant;
 use repair_core::GapWindow;
 use rtp_base::{NackEntry, ReportList, SeqNo};
 

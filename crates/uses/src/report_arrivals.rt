@@ -4,7 +4,7 @@ ghost use Rattle.twcc_core.specs.Reports.{Receiving, StandsFor};
 ghost use Rattle.twcc_core.specs.Reports.{after_report, report_of, with_arrival};
 ghost use Rattle.twcc_core.specs.Sending.{after_applied};
 
-use media_base::{Duration, Instant};
+use media_units::{Duration, Instant};
 use rtp_base::{SeqNo, Ssrc};
 use std::alloc::{AllocError, Global};
 use twcc_core::{Twcc, TwccRecvRegister, TwccSendRegister};

@@ -1,11 +1,12 @@
 //! The parts of a script, made in code, with what most of them have alike filled in.
 ghost use Rattle.std.specs.Prelude.{◌≡◌, [], None, false};
 
-use media_base::{Beginning, Bytes, Duration, Instant, Listed};
+use media_base::{Bytes, Listed};
 use media_model::{
     CipherName, Codec, Key, Local, Media, MediaKind, Mtu, PayloadType, ReportTimes, Setup, Side,
     Sources, SrtcpIndex, Step, Stream, Write,
 };
+use media_units::{Beginning, Duration, Instant};
 use rtp_wire::{Mid, Pt, SeqNo, Ssrc};
 use srtp_core::SrtpProfile;
 use std::alloc::Global;
@@ -90,11 +91,8 @@ pub fn setup(alloc: Global, types: Vec<PayloadType>, media: Vec<Media>) -> Setup
         profile: SrtpProfile::AeadAes128Gcm,
         key: Key::Zero,
         beginning: Beginning { unix_secs: 0 },
-        mtu: Mtu {
-            target: 1150,
-            warn: 1280,
-        },
-        pause_threshold: Duration::from_nanos(1_500_000_000),
+        mtu: Mtu::default(),
+        pause_threshold: Duration::from_nanos(Setup::DEFAULT_PAUSE_NANOS),
         intervals: ReportTimes::default(),
         a: local(1),
         b: local(2),

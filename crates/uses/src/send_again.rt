@@ -5,7 +5,7 @@ ghost use Rattle.stream_core.specs.Tables.{value_under};
 ghost use Rattle.stream_core.specs.TxRecord.{TxRecord};
 ghost use Rattle.uses.specs.SendingAgain.{with_kept, SendsAgain};
 
-use media_base::{Duration, Instant};
+use media_units::{Duration, Instant};
 use repair_core::GapWindow;
 use resend_core::ResendStore;
 use rtp_base::{MidRid, NackEntry, SeqNo, Ssrc};

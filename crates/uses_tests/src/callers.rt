@@ -1,8 +1,6 @@
 use mask_register::MaskRegister;
-use media_base::{Bytes, MemSink, MemSource, SystemTime};
-use media_model::{Setup, Transcript};
-use media_script::read_script;
-use media_units::{Beginning, Bitrate, DataSize, Duration, Instant};
+use media_base::{Bytes, MemSink, MemSource};
+use media_units::{Beginning, Bitrate, DataSize, Duration, Instant, SystemTime};
 use pace_core::{NullPacer, QueuePriority, QueueSnapshot, QueueState};
 use payload_core::{
     Arrival, Codec, CodecDepacketizer, CodecSpec, DepacketizingBuffer, FormatParams, RtpMeta,
@@ -36,7 +34,6 @@ use uses::keep_for_resending::keep_and_find;
 use uses::keep_in_a_queue::{queue_of_one, replace};
 use uses::measure_a_trip::measured_trip;
 use uses::pace_packets::send_next;
-use uses::play_a_run::played;
 use uses::put_into_order::next_frame;
 use uses::queue_a_packet::write_and_poll;
 use uses::read_a_header::{number_of, payload_of};
@@ -48,7 +45,6 @@ use uses::register_numbers::ask_for_missing;
 use uses::report_arrivals::{report_arrival, round_trip};
 use uses::seal_and_open::seal_and_open;
 use uses::send_again::{declare, send_again};
-use uses::tell_a_run::told;
 use uses::time_a_packet::leaves_at;
 use uses::widen_a_number::take_number;
 
@@ -332,75 +328,6 @@ fn a_setup_may_be_played(rt: HostRuntime) -> Result<(), Fail> {
     let (setup, _) = one_write(rt.alloc(), mid(), &[1, 2])?;
     let may = may_be_played(rt.alloc(), &setup)?;
     assert!(rt; may);
-    Ok(())
-}
-
-#[test]
-fn a_run_is_played(rt: HostRuntime) -> Result<(), Fail> {
-    let (setup, steps) = one_write(rt.alloc(), mid(), &[1, 2])?;
-    // Written, ticked, sealed, got, opened, yielded.
-    assert!(rt; played(rt.alloc(), &setup, &steps).entries().len() == 6);
-    Ok(())
-}
-
-// The packet 2 is lost, asked for and sent again under the SSRC 43 (RFC 4588 section 4); or a repair
-// comes of a packet 5 that the other side never sent.
-const REPAIRED: &str = "str0m-media 1
-key zero
-type 96 vp8 90000 rtx=97
-media v video cam
-stream A v 42 43 -
-begin
-write A 1 42 1 96 0 0 1 01
-write A 1 42 2 96 0 0 1 02
-write A 1 42 3 96 0 0 1 03
-tick A 1
-deliver B 1 1
-deliver B 1 3
-tick B 33ms
-deliver A 33ms 1
-tick A 33ms
-deliver B 33ms 4
-";
-
-const FOREIGN: &str =
-    "foreign B 33ms rtp 8061000a000000000000002b00058061000a002b00020000002100050001\n";
-
-// Whether the text of a run ends with this line.
-fn ends_with(
-    alloc: Global,
-    setup: &Setup,
-    run: &Transcript,
-    line: &str,
-) -> Result<bool, AllocError> {
-    let text = told(alloc, setup, run)?;
-    Ok(text.as_str().lines().last() == Some(line))
-}
-
-// Whether the text of a run of a script ends with this line.
-fn is_told(alloc: Global, script: &[u8], line: &str) -> Result<bool, AllocError> {
-    match read_script(alloc, script) {
-        Ok((setup, steps)) => {
-            let run = played(alloc, &setup, &steps);
-            ends_with(alloc, &setup, &run, line)
-        }
-        Err(_) => Ok(false),
-    }
-}
-
-#[test]
-fn a_run_is_told(rt: HostRuntime) -> Result<(), Fail> {
-    let script = format!(in rt.alloc(); "{REPAIRED}end\n")?;
-    let told = is_told(rt.alloc(), script.as_bytes(), "end genuine=yes repairs=yes")?;
-    assert!(rt; told);
-    Ok(())
-}
-
-#[test]
-fn a_foreign_repair_is_told(rt: HostRuntime) -> Result<(), Fail> {
-    let script = format!(in rt.alloc(); "{REPAIRED}{FOREIGN}end\n")?;
-    let told = is_told(rt.alloc(), script.as_bytes(), "end genuine=no repairs=no")?;
-    assert!(rt; told);
     Ok(())
 }
 

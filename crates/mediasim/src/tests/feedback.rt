@@ -14,7 +14,7 @@ const SEALED_FEEDBACK: &str =
     "8fce0003000000010000002a010303028ecc030700010007800000000000002b80000000";
 
 // Setup lines and steps with feedback of an application, and the text of the run.
-const RTCP_RUNS: [(&str, &str, &str); 6] = [
+const RTCP_RUNS: [(&str, &str, &str); 9] = [
     (
         "",
         "app A 1 1 42 01020304\ndeliver B 1 1\n",
@@ -44,7 +44,27 @@ const RTCP_RUNS: [(&str, &str, &str); 6] = [
         "ask B 1 42 pli\ntick B 1\n",
         "called B ask\nticked B 1\nsealed B rtcp 2 0 81ce0002000000020000002a81ce000200020004800000000000002b80000000\nend genuine=yes repairs=yes\n",
     ),
-    // It comes, and a rate that is told; nothing leaves before a tick.
+    // By a full intra request (RFC 5104 section 4.3.1.1), the first of SSRC 2 on 42.
+    (
+        "type 98 vp8 90000 pli fir\n",
+        "ask B 1 42 fir\ntick B 1\n",
+        "called B ask\nticked B 1\nsealed B rtcp 2 0 84ce000400000002000000000002002c0000000084ce002e00020004800000000000000180000000\nend genuine=yes repairs=yes\n",
+    ),
+    // The greatest rate of 42, 1,000,000 bit/s (draft-alvestrand-rmcat-remb section 2.2): the mantissa 250,000 and the
+    // exponent 2.
+    (
+        "",
+        "remb B 1 42 1000000\ntick B 1\n",
+        "called B remb\nticked B 1\nsealed B rtcp 2 0 8fce0005000000020000000052474d44010bd09000000028dd8b4d470109d0948000002a0000000180000000\nend genuine=yes repairs=yes\n",
+    ),
+    // The last request and the last rate leave, in this order, in the next tick alone; a rate is at most 10 Gbit/s:
+    // the mantissa 152,587 and the exponent 16.
+    (
+        "",
+        "ask B 1 42 pli\nremb B 1 42 2000000\nask B 2 42 fir\nremb B 2 42 10000000000000\ntick B 3\ntick B 4\n",
+        "called B ask\ncalled B remb\ncalled B ask\ncalled B remb\nticked B 3\nsealed B rtcp 2 0 84ce000400000002000000000002002c000000008fce0007000000020002000652454d42014254080000002a84ce002e52474d460e8c540e0000002980000000\nticked B 4\nend genuine=yes repairs=yes\n",
+    ),
+    // Requests and a rate: nothing leaves before a tick.
     (
         "",
         "ask B 1 42 pli\nremb B 1 42 10000000000000\nask B 2 42 fir\nask B 2 42 pli\n",
@@ -106,8 +126,9 @@ const BY_PROFILE: [Run; 6] = [
     ),
 ];
 
-// The last index, and the first behind it.
-const USED_UP: [Run; 2] = [
+// The last index, and the first behind it; of feedback of an application, and of a receiver's reports, from the
+// SSRC that its side sends on.
+const USED_UP: [Run; 3] = [
     (
         "rtcp A 2147483648\n",
         "app A 1 1 42 01020304\n",
@@ -128,6 +149,19 @@ const USED_UP: [Run; 2] = [
                 Lines("called B app", 2),
                 Lines("ticked", 0),
                 Ends("fault key B Rtcp\n"),
+            ],
+        ),
+    ),
+    (
+        "stream B v 50 - -\nrtcp B 2147483647\n",
+        "tick B 5000ms\ntick B 10000ms\n",
+        Wanted(
+            3,
+            End::KeyExhausted(Side::B, Counter::Rtcp),
+            &[
+                Lines("sealed", 1),
+                Lines("sealed B rtcp 50 2147483647 ", 1),
+                Ends("\nticked B 10000000000\nfault key B Rtcp\n"),
             ],
         ),
     ),

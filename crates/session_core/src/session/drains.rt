@@ -10,7 +10,7 @@ ghost use Rattle.session_core.specs.declared.error.RtcError.TheVariants.{Stopped
 use super::Session;
 use crate::datagram::{Datagram, DrainFault, Drained, Event};
 use crate::error::RtcError;
-use media_base::{Instant, already_happened};
+use media_units::{Instant, already_happened};
 use repair_core::GapWindow;
 use resend_core::ResendStore;
 use srtp_core::SrtpCipher;

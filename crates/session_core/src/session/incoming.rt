@@ -1,8 +1,7 @@
 //! What comes to a session: the datagrams of RTP and of RTCP.
 ghost use Rattle.std.specs.Prelude.{◌≡◌, ◌==◌, ◌<◌, ◌^◌, ◌↔◌, ◌||◌, ℕ, List, Some, None, true, false, length, drop, is_none, is_some, IfSome, OnOk, is_err, IsTrue, IfOk, IfErr, IfNone, OnErr, IsErrOf};
 ghost use Rattle.rtp_wire.specs.Header.{header_of};
-ghost use Rattle.rtcp_wire.specs.declared.rtcp_fb.RtcpFb.{RtcpFb};
-ghost use Rattle.session_core.specs.Hearing.{ReceivesRtcp, tx_heard};
+ghost use Rattle.session_core.specs.Hearing.{ReceivesRtcp, HearsFront};
 ghost use Rattle.std.specs.Map.{keys_of};
 ghost use Rattle.std.specs.Option.{ForSome};
 ghost use Rattle.stream_core.specs.Seen.{seen_of};
@@ -22,11 +21,11 @@ use crate::hearing::{
     RtcpOpening, ask_all, feedback_in, hear, last_delay, measure, open_rtcp, tell_all,
 };
 use crate::mapping::{first_opening, is_nowhere, is_standing, rids_for, unseen_number};
-use crate::receiving::{Opening, accepts, arrival, is_claimed, open, put_packet, take};
+use crate::receiving::{Opening, accepts, arrival, is_claimed, open, put_packet, take, taken_time};
 use crate::reporting::take_moments;
 use crate::restoring::{accepts_repair, put_restored, repaired_by, restored_arrival};
 use mapping_core::{Mapping, is_early_padding};
-use media_base::{Bytes, Instant, InstantExt};
+use media_units::{Instant, InstantExt};
 use repair_core::GapWindow;
 use resend_core::ResendStore;
 use rtp_base::{Kind, SeqNo, Ssrc};
@@ -271,6 +270,7 @@ impl<C: SrtpCipher, W: GapWindow, S: ResendStore<Sent>> Session<C, W, S> {
         ensures err { OnErr result (self.new ≡ record self.old { rx = self.new.rx; probes = self.new.probes; seen = self.new.seen }) }
     {
         let came = arrival(&self.types, now, header, payload.len());
+        let time = taken_time(place, &came, &self.streams);
         take(
             place,
             &came,
@@ -280,7 +280,7 @@ impl<C: SrtpCipher, W: GapWindow, S: ResendStore<Sent>> Session<C, W, S> {
             &mut self.probes,
         )?;
         self.seen.put(header.ssrc, number)?;
-        put_packet(now, header, number, payload, &mut self.packet);
+        put_packet(time, now, header, number, payload, &mut self.packet);
         Ok(())
     }
 
@@ -327,9 +327,11 @@ impl<C: SrtpCipher, W: GapWindow, S: ResendStore<Sent>> Session<C, W, S> {
         let greatest = self.seen.get(original);
         let number = self.streams.restored_number_at(place, low, &greatest);
         let came = restored_arrival(&self.types, now, header, payload.len());
+        let time = self.streams.restored_time_at(place, &came);
         let fresh = self.streams.restore_at(place, low, &came, greatest)?;
         self.seen.put(original, number)?;
         put_restored(
+            time,
             now,
             &self.types,
             header,
@@ -457,7 +459,8 @@ impl<C: SrtpCipher, W: GapWindow, S: ResendStore<Sent>> Session<C, W, S> {
     /// where a stream keeps them.
     ///
     /// # Errors
-    /// `Stopped` where an earlier call stopped the session; `Memory`.
+    /// `Stopped` where an earlier call stopped the session; `Memory`, and then streams that send were told
+    /// nothing, or the items in front.
     pub fn handle_rtcp_receive(
         &mut self,
         now: Instant,
@@ -474,7 +477,7 @@ impl<C: SrtpCipher, W: GapWindow, S: ResendStore<Sent>> Session<C, W, S> {
           state = record (stopped_from self.old.state) { tx = self.new.state.tx; moments = self.new.state.moments; news = self.new.state.news };
           repairs = self.new.repairs;
         } }
-        ensures heard { IsErrOf result Memory → (told : List RtcpFb) × (self.new.state.tx ≡ tx_heard told self.old.state.tx) }
+        ensures heard { IsErrOf result Memory → HearsFront C.meaning self.old.state.opening bytes.now self.old.state.tx self.new.state.tx }
     {
         if self.stopped {
             return Err(RtcError::Stopped);
@@ -497,7 +500,7 @@ impl<C: SrtpCipher, W: GapWindow, S: ResendStore<Sent>> Session<C, W, S> {
           state = record self.old.state { tx = self.new.state.tx; moments = self.new.state.moments; news = self.new.state.news };
           repairs = self.new.repairs;
         }) }
-        ensures heard { OnErr result ((told : List RtcpFb) × (self.new.state.tx ≡ tx_heard told self.old.state.tx)) }
+        ensures heard { OnErr result (HearsFront C.meaning self.old.state.opening bytes.now self.old.state.tx self.new.state.tx) }
     {
         let Some(RtcpOpening { plain, index }) = open_rtcp(&mut self.opening, bytes)? else {
             return Ok(None);
@@ -516,7 +519,7 @@ impl<C: SrtpCipher, W: GapWindow, S: ResendStore<Sent>> Session<C, W, S> {
             kind: Kind::Rtcp,
             ssrc: sender(plain.as_slice()),
             index: SeqNo::from(u64::from(index)),
-            plain: Bytes::from_vec(plain),
+            plain,
         }))
     }
 }

@@ -14,7 +14,7 @@ use crate::error::RtcError;
 use crate::reporting::{
     ReportTime, SenderItems, answered_where, report_all, sender_items, tell_kinds,
 };
-use media_base::{Duration, Instant, InstantExt, already_happened};
+use media_units::{Duration, Instant, InstantExt, already_happened};
 use repair_core::GapWindow;
 use resend_core::ResendStore;
 use rtcp_wire::{Rtcp, items_fit_by_lengths};

@@ -1,12 +1,13 @@
 //! What is done with two ends, of which one sends with repairs (RFC 4588).
-use crate::calls::{drain, poll, receive_rtcp, streams, tick};
+use crate::calls::{drain, poll, receive_rtcp, tick};
 use crate::carrying::Ids;
 use crate::ends::{
-    End, add_section, at, declare, ended_with, expect_stream, give_keys, mid, put, reset, rid, ssrc,
+    End, add_section, at, declare, ended_with, expect_stream, give_keys, keeps, mid, put, reset,
+    rid, ssrc,
 };
 use crate::leaving::next;
 use crate::packets::{head, hears, joined, opens, opens_rtcp};
-use media_base::{Duration, Instant};
+use media_units::Instant;
 use rtp_base::{Kind, MidRid, Pt, Rid, SeqNo, Ssrc};
 use rtp_wire::ExtensionValues;
 use session_core::{Datagram, MediaKind, RtcError};
@@ -141,13 +142,6 @@ fn are_sent(alloc: Global, outs: &[Out], datagrams: &[Datagram]) -> bool {
         held &= is_sent(alloc, *out, datagram);
     }
     held
-}
-
-fn keeps(end: &mut End, packets: usize, age: u64, cap: Option<u32>) -> bool {
-    let age = Duration::from_nanos(age);
-    streams(end)
-        .set_rtx_cache(ssrc(42), packets, age, cap)
-        .is_ok()
 }
 
 // The SSRC of repairs of a stream: the next one; and the number of the first.

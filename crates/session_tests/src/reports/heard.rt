@@ -2,8 +2,8 @@
 //! end sent (section 6.4.1), and what is counted of both. All that comes is from SSRC 43.
 use crate::reports::steps::Row;
 use crate::reports::steps::Step::{
-    Adds, Asks, Comes, Expects, Frames, Hears, Keeps, Lost, Moves, Named, Received, Repaired,
-    Sends, Sent, Tick, Writes,
+    Adds, Asks, Caps, Comes, Expects, Frames, Hears, Keeps, Lost, Moves, Named, Received, Repaired,
+    Resets, Sends, Sent, Tick, Writes,
 };
 use rtp_base::KeyframeRequestKind::{Fir, Pli};
 use session_core::MediaKind::Video;
@@ -35,6 +35,17 @@ const FIFTH_LOST: &[u8] = &[
     0, 0, 0, 0,
 ];
 
+// The same of SSRC 50.
+const ALL_OF_50_LOST: &[u8] = &[
+    0x81, 0xc9, 0, 7, 0, 0, 0, 43, 0, 0, 0, 50, 255, 0, 0, 0, 0, 0, 0, 10, 0, 0, 0, 0, 0, 0, 0, 0,
+    0, 0, 0, 0,
+];
+
+const FIFTH_OF_50_LOST: &[u8] = &[
+    0x81, 0xc9, 0, 7, 0, 0, 0, 43, 0, 0, 0, 50, 51, 0, 0, 0, 0, 0, 0, 20, 0, 0, 0, 0, 0, 0, 0, 0,
+    0, 0, 0, 0,
+];
+
 // SSRC 43 asks for the number 1 of SSRC 42, for a picture of it, and for one by a full intra request.
 const ASKS: &[u8] = &[
     0x81, 0xcd, 0, 3, 0, 0, 0, 43, 0, 0, 0, 42, 0, 1, 0, 0, 0x81, 0xce, 0, 2, 0, 0, 0, 43, 0, 0, 0,
@@ -51,7 +62,7 @@ const INTRA: &[u8] = &[
 const MISSING: &[u8] = &[0x81, 0xcd, 0, 3, 0, 0, 0, 2, 0, 0, 0, 43, 0, 2, 0, 0];
 
 /// What streams know by reports.
-pub const HEARD: [Row; 6] = [
+pub const HEARD: [Row; 9] = [
     (
         "what is sent and asked for",
         &[
@@ -144,6 +155,64 @@ pub const HEARD: [Row; 6] = [
             Hears(1, ALL_LOST),
             Hears(2, FIFTH_LOST),
             Lost(42, None),
+        ],
+    ),
+    (
+        "with a cap of repairs losses are kept under another SSRC, and counts begin anew",
+        &[
+            Adds(b'v', Video, b""),
+            Sends(42, 47, b'v'),
+            Caps(Some(15)),
+            Writes(42, 0, 1),
+            Tick(1, &[]),
+            Hears(2, ASKS),
+            Sent(42, [1, 2, 1, 1, 1]),
+            Resets(42, 50),
+            Sent(50, [0, 0, 0, 0, 0]),
+            Writes(50, 0, 1),
+            Tick(3, &[]),
+            Sent(50, [1, 2, 0, 0, 0]),
+            Hears(4, ALL_OF_50_LOST),
+            Hears(5, FIFTH_OF_50_LOST),
+            Lost(50, Some((510, 2550))),
+        ],
+    ),
+    (
+        "without a cap they are not, also where they were",
+        &[
+            Adds(b'v', Video, b""),
+            Sends(42, 47, b'v'),
+            Caps(None),
+            Keeps(42),
+            Writes(42, 0, 1),
+            Tick(1, &[]),
+            Hears(2, ALL_LOST),
+            Hears(2, FIFTH_LOST),
+            Lost(42, Some((510, 2550))),
+            Resets(42, 50),
+            Writes(50, 0, 1),
+            Tick(3, &[]),
+            Hears(4, ALL_OF_50_LOST),
+            Hears(5, FIFTH_OF_50_LOST),
+            Lost(50, None),
+        ],
+    ),
+    (
+        "of a stream without repairs they are kept, anew",
+        &[
+            Adds(b'v', Video, b""),
+            Sends(42, 0, b'v'),
+            Keeps(42),
+            Writes(42, 0, 1),
+            Tick(1, &[]),
+            Hears(2, FIFTH_LOST),
+            Resets(42, 50),
+            Writes(50, 0, 1),
+            Tick(3, &[]),
+            Hears(4, ALL_OF_50_LOST),
+            Lost(50, None),
+            Hears(5, FIFTH_OF_50_LOST),
+            Lost(50, Some((510, 2550))),
         ],
     ),
 ];

@@ -1,14 +1,15 @@
 //! What is done with an end that reports.
-use crate::calls::{remove, streams, tick};
-use crate::ends::{End, add_section, ask_frame, at, declare, expect, put, reset, rid, ssrc};
+use crate::calls::{event, remove, streams, tick};
+use crate::ends::{
+    End, add_section, ask_frame, at, declare, expect, keeps, moves, put, reset, rid, ssrc,
+};
 use crate::leaving::{is_next, is_silent, next};
 use crate::packets::{head, hears, joined, opens, seal_numbered};
 use crate::telling::{Told, drains, mid_of, tells};
-use mapping_core::{MainChange, Mapping};
-use media_base::{Bitrate, Instant};
+use media_units::{Bitrate, Instant};
 use report_core::StreamStats;
 use rtp_base::{Frequency, KeyframeRequestKind, Kind, MediaTime, MidRid, Pt, SeqNo, Ssrc};
-use session_core::MediaKind;
+use session_core::{Event, MediaKind};
 use std::alloc::Global;
 use stream_core::{Payload, RtpWrite};
 use twcc_core::Share;
@@ -42,6 +43,8 @@ pub enum Step {
     Removes(u8),
     /// There is no stream that sends on an SSRC.
     Silent(u8),
+    /// Of what it sends on SSRC 42 so many hundredths may be repairs, or any number.
+    Caps(Option<u32>),
     /// Its stream that sends on an SSRC keeps from now on what is reported as lost.
     Keeps(u8),
     /// What is told as lost of that stream, and of how much, if anything is.
@@ -54,6 +57,8 @@ pub enum Step {
     Named(u8, &'static [u8]),
     /// The last RTP time of the stream that receives on an SSRC, in units of 90 kHz, if there is one.
     Timed(u8, Option<u64>),
+    /// The packet that it tells next, or behind one event, has this RTP time, in units of 90 kHz.
+    Dated(u64),
     /// Its stream of an SSRC asks for a key frame.
     Frames(u8, KeyframeRequestKind),
     /// Its stream of an SSRC tells the greatest rate, in bits a second.
@@ -106,16 +111,6 @@ fn tell_rate(end: &mut End, low: u8, rate: u64) -> bool {
     true
 }
 
-fn moves(end: &mut End, low: u8, other: u8) -> bool {
-    let change = MainChange {
-        from: ssrc(low),
-        to: ssrc(other),
-    };
-    streams(end)
-        .take_up(ssrc(other), &Mapping::NewMain(change))
-        .is_ok()
-}
-
 fn is_timed(end: &mut End, low: u8, time: Option<u64>) -> bool {
     let wanted = match time {
         Some(time) => Some(MediaTime::new(time, Frequency::NINETY_KHZ)),
@@ -128,7 +123,19 @@ fn is_timed(end: &mut End, low: u8, time: Option<u64>) -> bool {
     streams.rx(place).last_time() == wanted
 }
 
-fn keeps(alloc: Global, end: &mut End, low: u8) -> bool {
+fn has_time(told: &Option<Event>, time: MediaTime) -> bool {
+    match told {
+        Some(Event::RtpPacket(packet)) => packet.time == time,
+        _ => false,
+    }
+}
+
+fn is_dated(end: &mut End, time: u64) -> bool {
+    let wanted = MediaTime::new(time, Frequency::NINETY_KHZ);
+    has_time(&event(end), wanted) || has_time(&event(end), wanted)
+}
+
+fn keeps_losses(alloc: Global, end: &mut End, low: u8) -> bool {
     let streams = streams(end);
     let Some(place) = streams.tx_place(ssrc(low)) else {
         return false;
@@ -250,7 +257,8 @@ fn streams_go(alloc: Global, end: &mut End, step: Step) -> bool {
         Step::Resets(low, other) => reset(end, low, other, None),
         Step::Timed(low, time) => is_timed(end, low, time),
         Step::Silent(low) => streams(end).tx_place(ssrc(low)).is_none(),
-        Step::Keeps(low) => keeps(alloc, end, low),
+        Step::Caps(cap) => keeps(end, 2000, 3_000_000_000, cap),
+        Step::Keeps(low) => keeps_losses(alloc, end, low),
         Step::Lost(low, lost) => is_lost(end, low, lost),
         Step::Sent(low, counts) => sent_counts(end, low, &counts),
         Step::Received(low, counts) => received_counts(end, low, &counts),
@@ -285,6 +293,7 @@ pub fn goes(alloc: Global, end: &mut End, step: Step) -> bool {
         Step::Tells(all) => tells(end, all),
         Step::Drains(now, all) => drains(end, now, all),
         Step::Wakes(moment) => wakes(end, moment),
+        Step::Dated(time) => is_dated(end, time),
         _ => streams_go(alloc, end, step),
     }
 }

@@ -1,7 +1,7 @@
-//! The RTP times of streams that are received, in 64 bits: each near the last one, and above it after a pause,
-//! which begins at a tick 1.5 s after the last datagram.
+//! The RTP times of streams that are received, and of the packets that are told of them, in 64 bits: each
+//! near the last one, and above it after a pause, which begins at a tick 1.5 s after the last datagram.
 use crate::reports::steps::Row;
-use crate::reports::steps::Step::{Comes, Expects, Repaired, Tick, Timed};
+use crate::reports::steps::Step::{Comes, Dated, Expects, Repaired, Tick, Timed};
 
 /// Times round the end of 32 bits, and after a pause.
 pub const TIMES: [Row; 7] = [
@@ -20,10 +20,13 @@ pub const TIMES: [Row; 7] = [
             Expects(42, 0, b'v'),
             Comes(1_000_000, 42, 1, 0xffff_fff0),
             Timed(42, Some(0xffff_fff0)),
+            Dated(0xffff_fff0),
             Comes(2_000_000, 42, 2, 0x10),
             Timed(42, Some(0x1_0000_0010)),
+            Dated(0x1_0000_0010),
             Comes(3_000_000, 42, 3, 0xffff_fff8),
             Timed(42, Some(0xffff_fff8)),
+            Dated(0xffff_fff8),
         ],
     ),
     (
@@ -43,6 +46,7 @@ pub const TIMES: [Row; 7] = [
             Tick(1_501_000_000, &[]),
             Comes(1_502_000_000, 42, 2, 0x9000_0000),
             Timed(42, Some(0x1_1000_0000)),
+            Dated(0x1_1000_0000),
         ],
     ),
     (
@@ -72,6 +76,7 @@ pub const TIMES: [Row; 7] = [
             Comes(1_000_000, 42, 1, 0xffff_fff0),
             Repaired(2_000_000, 43, 2),
             Timed(42, Some(0xffff_fff0)),
+            Dated(0x1_0000_0000),
         ],
     ),
 ];

@@ -13,7 +13,8 @@ ghost use Rattle.stream_core.specs.Requests.{is_request, request_count, request_
 ghost use Rattle.stream_core.specs.RxRecord.{RxRecord, StandsFor};
 
 use super::StreamRx;
-use media_base::{Bitrate, Bytes, Instant, Listed};
+use media_base::{Bytes, Listed};
+use media_units::{Bitrate, Instant};
 use repair_core::{GapWindow, ReceptionCounts};
 use report_core::{LastSenderReport, ReportIntervals, StreamStats, receiver_report};
 use rtcp_wire::{ReceiverReport, Rtcp, Sdes, SdesItem, SdesType, SenderInfo};

@@ -35,7 +35,7 @@ use crate::repairing::Sent;
 use crate::reports::Tick;
 use crate::ssrc_table::SsrcTable;
 use crate::stream_rx::StreamRx;
-use media_base::Instant;
+use media_units::Instant;
 use repair_core::GapWindow;
 use report_core::{ReportIntervals, moment_report};
 use resend_core::ResendStore;

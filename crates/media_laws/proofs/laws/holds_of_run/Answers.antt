@@ -1,5 +1,5 @@
 use Rattle.media_laws.specs.Keys.{sealing_of}
-use Rattle.media_laws.specs.WireLaws.{WireLaws}
+use Rattle.media_laws.proofs.WireLaws.{WireLaws}
 use Rattle.media_laws.proofs.Cuts.{holds_to_key}
 use Rattle.media_laws.proofs.Fronts.{holds_of_front}
 use Rattle.media_laws.proofs.Holding.{holds_of_run}

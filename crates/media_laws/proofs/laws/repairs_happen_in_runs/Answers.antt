@@ -2,7 +2,7 @@ use Rattle.media_laws.proofs.RepairedTranscript.{repairs_happen}
 use Rattle.media_laws.proofs.Wire.{wire_laws}
 use Rattle.media_laws.specs.Keys.{sealing_of}
 use Rattle.media_laws.specs.RepairedRun.{setup}
-use Rattle.media_laws.specs.WireLaws.{WireLaws}
+use Rattle.media_laws.proofs.WireLaws.{WireLaws}
 use Rattle.media_laws.proofs.laws.repairs_happen_in_runs.Goals as goal
 
 pub returns : goal.returns

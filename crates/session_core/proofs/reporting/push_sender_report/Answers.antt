@@ -1,7 +1,7 @@
 use Rattle.std.proofs.Common.{[], ◌∷◌, ◌++◌, List, ap, ◌∙◌, append_assoc}
 use Rattle.rtcp_wire.specs.declared.packet.Rtcp.{Rtcp}
 use Rattle.rtcp_wire.specs.declared.packet.Rtcp.TheVariants.{SenderReport}
-use Rattle.rtcp_wire.specs.declared.report.SenderReport.{SenderReport as Sent}
+use Rattle.rtcp_items.specs.declared.report.SenderReport.{SenderReport as Sent}
 use Rattle.session_core.proofs.Fitting.{brief_fits}
 use Rattle.session_core.proofs.reporting.push_sender_report.Goals as goal
 

@@ -5,7 +5,7 @@ use Rattle.stream_core.specs.declared.packet.RtpPacket.{RtpPacket}
 use Rattle.session_core.specs.declared.datagram.Opened.{Opened as Opening}
 use Rattle.session_core.specs.Calls.{after_events}
 use Rattle.session_core.specs.Receiving.{Receives}
-use Rattle.session_turns.specs.Reading.{events_opened}
+use Rattle.session_turns.specs.Reading.{events_opened, packet_told}
 use Rattle.media_model.specs.declared.entry.Packet.{Packet}
 use Rattle.media_model.specs.declared.entry.Entry.TheVariants.{Got}
 use Rattle.run_model.specs.Events.{got}
@@ -13,7 +13,6 @@ use Rattle.media_laws.specs.Config.{config_of}
 use Rattle.media_laws.specs.Keys.{sealing_of}
 use Rattle.media_laws.specs.Opening.{got_as}
 use Rattle.media_play.specs.Ends.{EndSession, SessionStands}
-use Rattle.media_play.specs.Packets.{packet_told}
 use Rattle.media_play.specs.Sessions.{EndState, TakesIn, received_entries}
 use Rattle.media_play.proofs.Cutting.{keeps, told_packet}
 use Rattle.media_play.proofs.Rightly.{received_of, opened_read, no_writes_received, right_opening}

@@ -1,17 +1,18 @@
 use Rattle.std.proofs.Common.{◌≡◌, ℕ, List, Option, Some, None, take, sym, ap, subst, ◌∙◌}
 use Rattle.rtp_base.specs.declared.kind.Kind.TheVariants.{Rtcp}
-use Rattle.rtcp_wire.specs.declared.extended.DlrrItem.{DlrrItem}
+use Rattle.rtcp_items.specs.declared.extended.DlrrItem.{DlrrItem}
 use Rattle.rtcp_wire.specs.declared.rtcp_fb.RtcpFb.{RtcpFb}
 use Rattle.srtp_core.specs.RtcpSeals.{sender_of}
 use Rattle.stream_core.specs.RxRecord.{StandsFor as StreamStandsFor}
 use Rattle.stream_core.specs.StreamsRecord.{StreamsView, StreamsRecord, StandsFor as StreamsStand}
 use Rattle.stream_core.specs.Tables.{Along}
 use Rattle.session_core.specs.declared.datagram.Opened.{Opened}
-use Rattle.session_core.specs.Hearing.{RtcpOpensIn, stated, rtcp_opening_of, feedback_in, tx_heard, last_application, last_delay, measured, ntp_of, after_rtcp, AskedByAll, ReceivesRtcp, opened, stays}
+use Rattle.session_core.specs.Hearing.{RtcpOpensIn, stated, rtcp_opening_of, feedback_in, tx_heard, last_application, last_delay, measured, ntp_of, after_rtcp, AskedByAll, ReceivesRtcp, opened, stays, HearsFront, unheard, heard_front}
 use Rattle.session_core.specs.News.{news_heard}
 use Rattle.session_core.specs.Reports.{rx_heard, moments_heard}
-use Rattle.session_core.specs.SessionRecord.{streams_in, SessionState, StandsFor}
+use Rattle.session_core.specs.SessionRecord.{streams_in, SessionState, SessionView, StandsFor}
 use Rattle.session_core.proofs.StreamsIn.{streams_stand}
+use Rattle.session_core.proofs.Failing.{on_err_any}
 use Rattle.session_core.proofs.Heard.{heard_state}
 use Rattle.session_core.proofs.Others.{opening_kept}
 use Rattle.session_core.proofs.session.Session.receive_rtcp.Goals as goal
@@ -33,18 +34,51 @@ returns-in_default-clause-received g c = λ r h.
       },
     )
 
+pub returns-in_err-plain-clause-heard : goal.returns-in_err-plain-clause-heard
+returns-in_err-plain-clause-heard g c = on_err_any c.from_residual.result (unheard (ap (λ (v : SessionView g.row.W.Denot g.row.S.Denot). v.state.tx) c.self.view_is))
+
+pub returns-in_err-feedback-clause-heard : goal.returns-in_err-feedback-clause-heard
+returns-in_err-feedback-clause-heard g c = on_err_any _ (unheard (ap (λ (v : SessionView g.row.W.Denot g.row.S.Denot). v.state.tx) c.self.view_is))
+
+pub returns-in_err-ask_all-clause-heard : goal.returns-in_err-ask_all-clause-heard
+returns-in_err-ask_all-clause-heard g c =
+    on_err_any _ (unheard (ap (λ (v : StreamsView g.row.W.Denot g.row.S.Denot). v.tx) c.in_err-ask_all.ensures.others ∙ ap (λ (v : SessionView g.row.W.Denot g.row.S.Denot). v.state.tx) c.self.view_is))
+
+pub returns-in_err-take_moments-clause-heard : goal.returns-in_err-take_moments-clause-heard
+returns-in_err-take_moments-clause-heard g c =
+    on_err_any _ (unheard (ap (λ (v : StreamsView g.row.W.Denot g.row.S.Denot). v.tx) c.in_ok-ask_all.ensures.others ∙ ap (λ (v : SessionView g.row.W.Denot g.row.S.Denot). v.state.tx) c.self.view_is))
+
+pub returns-in_err-hear-clause-heard : goal.returns-in_err-hear-clause-heard
+returns-in_err-hear-clause-heard g c =
+    on_err_any _ (unheard (ap (λ (v : StreamsView g.row.W.Denot g.row.S.Denot). v.tx) c.in_ok-ask_all.ensures.others ∙ ap (λ (v : SessionView g.row.W.Denot g.row.S.Denot). v.state.tx) c.self.view_is))
+
+pub returns-in_err-tell_all-clause-heard : goal.returns-in_err-tell_all-clause-heard
+returns-in_err-tell_all-clause-heard g c =
+    let K = g.C.SrtpCipher.meaning in
+    let bytes = c.args.bytes.now in
+    let plain = c.in-Some.field-0.plain in
+    let opens : RtcpOpensIn K c.self.inside.opening bytes plain = rw c.in-Some.is at c.in_ok-plain.ensures.opened in
+    let heard : c.in_ok-feedback.feedback.items ≡ feedback_in plain = c.in_ok-feedback.ensures ∙ ap feedback_in c.as_slice.ensures in
+    let told_by : c.as_slice-6.result.now ≡ feedback_in plain = c.as_slice-6.ensures.value ∙ heard in
+    let front = c.in_err-tell_all.ensures.err in
+    let tx : c.tell_all.new.streams.tx ≡ tx_heard (take front.0 (feedback_in plain)) c.self.inside.streams.tx =
+    ap (λ (v : StreamsView g.row.W.Denot g.row.S.Denot). v.tx) front.1
+    ∙ ap (λ (l : List RtcpFb). tx_heard (take front.0 l) c.ask_all.new.streams.tx) told_by
+    ∙ ap (λ (v : StreamsView g.row.W.Denot g.row.S.Denot). tx_heard (take front.0 (feedback_in plain)) v.tx) c.in_ok-ask_all.ensures.others in
+    on_err_any _ (subst (λ (v : SessionView g.row.W.Denot g.row.S.Denot). HearsFront K v.state.opening bytes v.state.tx c.tell_all.new.streams.tx) c.self.view_is (heard_front plain front.0 opens tx))
+
 pub returns-clause-received : goal.returns-clause-received
 returns-clause-received g c = λ r h.
     let K = g.C.SrtpCipher.meaning in
     let R = StreamStandsFor g.W.GapWindow.remembers in
     let bytes = c.args.bytes.now in
     let now = c.args.now in
-    let plain = c.in-Some.field-0.plain.items in
+    let plain = c.in-Some.field-0.plain in
     let mine = subst (λ s. StandsFor g.W.GapWindow.remembers g.S.ResendStore.stands_for s r) (sym c.self.view_is) h in
     let opens : RtcpOpensIn K c.self.inside.opening bytes plain = rw c.in-Some.is at c.in_ok-plain.ensures.opened in
     let index : c.in-Some.field-0.index ≡ stated c.self.inside.opening bytes = rw c.in-Some.is at c.in_ok-plain.ensures.index in
-    let heard : c.in_ok-feedback.feedback.items ≡ feedback_in plain = c.in_ok-feedback.ensures ∙ ap feedback_in c.as_slice.ensures.value in
-    let ssrc : c.sender.result ≡ sender_of (take 8 plain) = c.sender.ensures ∙ ap (λ (l : List ℕ). sender_of (take 8 l)) c.as_slice-7.ensures.value in
+    let heard : c.in_ok-feedback.feedback.items ≡ feedback_in plain = c.in_ok-feedback.ensures ∙ ap feedback_in c.as_slice.ensures in
+    let ssrc : c.sender.result ≡ sender_of (take 8 plain) = c.sender.ensures ∙ ap (λ (l : List ℕ). sender_of (take 8 l)) c.as_slice-7.ensures in
     let stands : c.from-2.result ≡ stated c.self.inside.opening bytes = c.from-2.ensures ∙ c.from.ensures ∙ index in
     let moment : c.to_ntp_duration-ntp.result ≡ ntp_of r.state now = c.to_ntp_duration-ntp.ensures ∙ ap (λ (s : SessionState). ntp_of s now) mine.state in
     let delay : c.last_delay-delay.result ≡ last_delay r.state.local_ssrc r.state.tx (feedback_in plain) None =
@@ -78,8 +112,8 @@ returns-clause-received g c = λ r h.
     ∙ ap (λ (v : StreamsView g.row.W.Denot g.row.S.Denot). tx_heard (feedback_in plain) v.tx) others in
     let application : c.hear-2.new.application ≡ last_application (feedback_in plain) c.self.inside.application =
     c.hear-2.ensures.application ∙ ap (λ (fs : List RtcpFb). last_application fs c.self.inside.application) heard in
-    let told : record { kind = Rtcp; ssrc = c.sender.result; index = c.from-2.result; plain = c.from_vec.result } ≡ rtcp_opening_of r.state.opening bytes plain =
-    (λ j. record { kind = Rtcp; ssrc = ssrc j; index = stands j; plain = c.from_vec.ensures j }) ∙ ap (λ (s : SessionState). rtcp_opening_of s.opening bytes plain) mine.state in (
+    let told : record { kind = Rtcp; ssrc = c.sender.result; index = c.from-2.result; plain = plain } ≡ rtcp_opening_of r.state.opening bytes plain =
+    (λ j. record { kind = Rtcp; ssrc = ssrc j; index = stands j; plain = plain }) ∙ ap (λ (s : SessionState). rtcp_opening_of s.opening bytes plain) mine.state in (
       after_rtcp now plain asked.0 r,
       subst (λ (o : Opened). ReceivesRtcp K r bytes now (after_rtcp now plain asked.0 r) (Some o)) (sym told)
           (opened plain asked.0 (subst (λ (s : SessionState). RtcpOpensIn K s.opening bytes plain) mine.state opens)

@@ -1,12 +1,13 @@
-use Rattle.std.proofs.Common.{◌≡◌, Some, length, sym, ap, subst, ◌∙◌}
+use Rattle.std.proofs.Common.{◌≡◌, Option, Some, unwrap_or, length, sym, ap, subst, ◌∙◌}
 use Rattle.std.specs.Option.{option_map_or}
+use Rattle.rtp_base.specs.declared.media_time.MediaTime.{MediaTime}
 use Rattle.stream_core.specs.RxRecord.{StandsFor as StreamStandsFor}
 use Rattle.stream_core.specs.RxRepairs.{after_restored}
 use Rattle.stream_core.specs.Seen.{SeenStandsFor, seen_of, saw}
-use Rattle.stream_core.specs.StreamsRecord.{restored_on, restored_number_on}
+use Rattle.stream_core.specs.StreamsRecord.{restored_on, restored_number_on, restored_time_on}
 use Rattle.stream_core.specs.Tables.{place_of, change_at, Along}
 use Rattle.stream_core.specs.declared.reports.Arrival.{Arrival}
-use Rattle.session_core.specs.Receiving.{arrival_of, packet_restored}
+use Rattle.session_core.specs.Receiving.{arrival_of, no_time, time_restored, packet_restored}
 use Rattle.session_core.specs.Repairs.{restored_header}
 use Rattle.session_core.specs.SessionRecord.{streams_in, SessionState, SessionView, StandsFor}
 use Rattle.session_core.proofs.Others.{restored_state}
@@ -30,12 +31,19 @@ returns-clause-ok g c = λ r h place.
     let came : c.restored_arrival-came.result ≡ arrival_of r.state.types c.args.now (restored_header r.state.types original low c.args.header.now) (length c.args.payload) =
     c.restored_arrival-came.ensures original low ∙ ap (λ (s : SessionState). arrival_of s.types c.args.now (restored_header s.types original low c.args.header.now) c.len.result) mine.state
     ∙ ap (arrival_of r.state.types c.args.now (restored_header r.state.types original low c.args.header.now)) c.len.ensures in
+    let given = c.restored_time_at-time.result in
+    let timed : MediaTime = time_restored (arrival_of r.state.types c.args.now (restored_header r.state.types original low c.args.header.now) (length c.args.payload)) r.rx original in
+    let time : given ≡ timed =
+    ap (λ (o : Option MediaTime). unwrap_or o no_time)
+    (c.restored_time_at-time.ensures (streams_in r) original stands here ∙ ap (λ (a : Arrival). restored_time_on a r.rx original) came) in
     let after = c.in_ok-fresh.ensures.after (streams_in r) original stands here in
     record {
       state = restored_state _ r.state c.restore_at.new.self.threshold c.restore_at.new.self.tx c.put_restored.new.packet
-          (λ s. packet_restored s.types c.args.now c.args.header.now original c.args.payload (restored_on (seen_of original r.seen) r.rx original low) s.packet) mine.state
+          (λ s. packet_restored timed s.types c.args.now c.args.header.now original c.args.payload (restored_on (seen_of original r.seen) r.rx original low) s.packet) mine.state
           c.in_ok-fresh.ensures.threshold c.in_ok-fresh.ensures.tx
-          (c.put_restored.ensures ∙ ap (λ o. packet_restored c.self.inside.types c.args.now c.args.header.now original c.args.payload o c.self.inside.packet) fresh);
+          (c.put_restored.ensures
+          ∙ ap (λ (t : MediaTime). packet_restored t c.self.inside.types c.args.now c.args.header.now original c.args.payload c.in_ok-fresh.fresh c.self.inside.packet) time
+          ∙ ap (λ o. packet_restored timed c.self.inside.types c.args.now c.args.header.now original c.args.payload o c.self.inside.packet) fresh);
       rx = subst (λ (a : Arrival). Along (StreamStandsFor R) c.restore_at.new.self.rx (change_at original (after_restored (seen_of original r.seen) a low) r.rx)) came
           (subst (λ o. Along (StreamStandsFor R) c.restore_at.new.self.rx (change_at original (after_restored o c.restored_arrival-came.result low) r.rx)) greatest after.rx);
       known = after.known;

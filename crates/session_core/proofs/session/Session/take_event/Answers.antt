@@ -7,13 +7,14 @@ use Rattle.stream_core.specs.Pauses.{next_pause, untold_in}
 use Rattle.stream_core.specs.RxRecord.{StandsFor as RxStandsFor}
 use Rattle.stream_core.specs.StreamsRecord.{StreamsView}
 use Rattle.stream_core.specs.Tables.{Along}
-use Rattle.session_core.specs.Calls.{lacks_keys, after_event, Polled, one_in, events_in}
+use Rattle.session_core.specs.Calls.{lacks_keys, after_event, Polled, events_in}
 use Rattle.session_core.specs.News.{news_count, next_news, after_news}
 use Rattle.session_core.specs.SessionRecord.{streams_in, SessionState, SessionView, StandsFor}
 use Rattle.session_core.proofs.StreamsIn.{streams_stand, moved}
 use Rattle.session_core.proofs.Telling.{emptied, newer, event_is, after_is, has_keys, polls, packet_next, packet_last, news_next, taken_one, state_heard, state_polled, state_emptied, state_newer}
 use Rattle.session_core.proofs.Waiting.{is_either, none_next, fewer_next}
 use Rattle.session_core.proofs.session.Session.take_event.Goals as goal
+use Rattle.stream_core.specs.Requests.{one_of}
 
 pub returns-in-Some-clause-more : goal.returns-in-Some-clause-more
 returns-in-Some-clause-more g c = λ r h.
@@ -116,9 +117,9 @@ returns-in-Some-take-clause-last g c = elim (is_either c.is_empty.result) [
 pub returns-in-Some-take-clause-fewer : goal.returns-in-Some-take-clause-fewer
 returns-in-Some-take-clause-fewer g c =
     let view = ap {A = SessionView g.row.W.Denot g.row.S.Denot} (λ s. events_in s) c.self.view_is in
-    let left = ap one_in c.take-2.ensures.after in
-    let had = ap one_in (sym c.take-2.ensures.value ∙ c.in-Some-take.is) in
-    let nothing = ap one_in c.take.ensures.after in
+    let left = ap one_of c.take-2.ensures.after in
+    let had = ap one_of (sym c.take-2.ensures.value ∙ c.in-Some-take.is) in
+    let nothing = ap one_of c.take.ensures.after in
     let told = ap (λ (v : StreamsView g.row.W.Denot g.row.S.Denot). untold_in v.rx) c.in_default-poll_stream_paused.ensures.none in
     elim (is_either c.is_empty.result) [ inl holds ↦ rw holds tt | inr fails ↦ rw fails (omega arith) ]
 
@@ -172,8 +173,8 @@ returns-clause-more g c = λ r h.
 pub returns-clause-fewer : goal.returns-clause-fewer
 returns-clause-fewer g c =
     let view = ap {A = SessionView g.row.W.Denot g.row.S.Denot} (λ s. events_in s) c.self.view_is in
-    let left = ap one_in c.take-2.ensures.after in
-    let nothing = ap one_in c.take.ensures.after in
+    let left = ap one_of c.take-2.ensures.after in
+    let nothing = ap one_of c.take.ensures.after in
     let told = ap (λ (v : StreamsView g.row.W.Denot g.row.S.Denot). untold_in v.rx) c.in_default-poll_stream_paused.ensures.none in
     let rest = ap news_count c.next.ensures.after in
     let less : news_count (after_news c.self.inside.news) < news_count c.self.inside.news = fewer_next c.self.inside.news c.in-Some-next.event (sym c.next.ensures.event ∙ c.in-Some-next.is) in

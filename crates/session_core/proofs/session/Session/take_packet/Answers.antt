@@ -1,14 +1,27 @@
-use Rattle.std.proofs.Common.{◌≡◌, Some, length, sym, ap, subst, ◌∙◌}
-use Rattle.std.specs.Prelude.{IfSome}
+use Rattle.std.proofs.Common.{◌≡◌, ℕ, Bool, true, false, List, Option, Some, None, length, is_none, refl, sym, ap, subst, ◌∙◌}
+use Rattle.std.specs.Prelude.{IfSome, ◌==◌, if◌then◌else◌}
+use Rattle.rtp_base.specs.declared.media_time.MediaTime.{MediaTime}
+use Rattle.rtp_wire.specs.declared.header.RtpHeader.{RtpHeader}
 use Rattle.stream_core.specs.RxRecord.{StandsFor as StreamStandsFor}
 use Rattle.stream_core.specs.Seen.{seen_of}
 use Rattle.stream_core.specs.Tables.{place_of, Along}
+use Rattle.stream_core.specs.declared.packet.RtpPacket.{RtpPacket}
 use Rattle.stream_core.specs.declared.reports.Arrival.{Arrival}
-use Rattle.session_core.specs.Receiving.{arrival_of, rx_opened, probes_opened, packet_after, cut}
+use Rattle.session_core.specs.Receiving.{arrival_of, rx_opened, probes_opened, time_taken, packet_from, packet_after, cut}
 use Rattle.session_core.specs.SessionRecord.{streams_in, SessionState, SessionView, StandsFor}
 use Rattle.session_core.proofs.Others.{restored_state}
 use Rattle.session_core.proofs.StreamsIn.{streams_stand}
 use Rattle.session_core.proofs.session.Session.take_packet.Goals as goal
+
+-- a packet that is told has the time that its stream gives, and on SSRC 0 none is told
+same_told : (b : Bool) (t u : MediaTime) (now : ℕ) (h : RtpHeader) (n : ℕ) (payload : List ℕ) (before : Option RtpPacket) → (b ≡ false → t ≡ u)
+    → (if b then before else Some (packet_from t now h n payload)) ≡ (if b then before else Some (packet_from u now h n payload))
+same_told true t u now h n payload before same = refl
+same_told false t u now h n payload before same = ap (λ (m : MediaTime). Some (packet_from m now h n payload)) (same refl)
+
+where_placed : (place : Option ℕ) (z : Bool) (P : ℕ → Type 0) (Q : Type 0) → IfSome place P → IfSome place (λ i. P i → Q) → is_none place ≡ z → z ≡ false → Q
+where_placed None z P Q at says e f = absurd cc
+where_placed (Some i) z P Q at says e f = says at
 
 pub returns-clause-ok : goal.returns-clause-ok
 returns-clause-ok g c = λ r p h memory probe place cuts.
@@ -23,10 +36,17 @@ returns-clause-ok g c = λ r p h memory probe place cuts.
     let came : c.arrival-came.result ≡ arrival_of r.state.types c.args.now x (length (cut x p)) =
     c.arrival-came.ensures ∙ ap (λ (s : SessionState). arrival_of s.types c.args.now x c.len.result) mine.state
     ∙ ap (arrival_of r.state.types c.args.now x) (c.len.ensures ∙ ap length cuts) in
-    let packet : c.put_packet.new.packet ≡ packet_after c.args.now x n (cut x p) c.self.inside.packet =
-    c.put_packet.ensures ∙ ap (λ l. packet_after c.args.now x n l c.self.inside.packet) cuts in
+    let given = c.taken_time-time.result in
+    let timed : MediaTime = time_taken (arrival_of r.state.types c.args.now x (length (cut x p))) r.rx x.ssrc in
+    let time : (x.ssrc == 0) ≡ false → given ≡ timed = λ some.
+    where_placed c.args.place (x.ssrc == 0) (λ i. place_of x.ssrc c.self.inside.streams.rx ≡ Some i) (given ≡ time_taken c.arrival-came.result r.rx x.ssrc) here
+    (c.taken_time-time.ensures (streams_in r) x.ssrc (streams_stand R S _ r mine)) probe some
+    ∙ ap (λ (a : Arrival). time_taken a r.rx x.ssrc) came in
+    let packet : c.put_packet.new.packet ≡ packet_after timed c.args.now x n (cut x p) c.self.inside.packet =
+    c.put_packet.ensures ∙ ap (λ l. packet_after given c.args.now x n l c.self.inside.packet) cuts
+    ∙ same_told (x.ssrc == 0) given timed c.args.now x n (cut x p) c.self.inside.packet time in
     record {
-      state = restored_state _ r.state c.take.new.streams.threshold c.take.new.streams.tx c.put_packet.new.packet (λ s. packet_after c.args.now x n (cut x p) s.packet)
+      state = restored_state _ r.state c.take.new.streams.threshold c.take.new.streams.tx c.put_packet.new.packet (λ s. packet_after timed c.args.now x n (cut x p) s.packet)
           mine.state c.in_ok-take.ensures.threshold c.in_ok-take.ensures.tx packet;
       rx = subst (λ (a : Arrival). Along (StreamStandsFor R) c.take.new.streams.rx (rx_opened (seen_of x.ssrc r.seen) a x.ssrc n r.rx)) came
           (subst (λ m. Along (StreamStandsFor R) c.take.new.streams.rx (rx_opened m c.arrival-came.result x.ssrc n r.rx)) memory taken.rx);

@@ -1,5 +1,0 @@
-use Rattle.turn_hears.proofs.Writing.{writes_turn}
-use Rattle.turn_hears.proofs.laws.writes_turn.Goals as goal
-
-pub returns : goal.returns
-returns c = writes_turn

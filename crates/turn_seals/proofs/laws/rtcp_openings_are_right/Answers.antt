@@ -1,5 +1,0 @@
-use Rattle.turn_seals.proofs.Openings.{rtcp_openings_are_right}
-use Rattle.turn_seals.proofs.laws.rtcp_openings_are_right.Goals as goal
-
-pub returns : goal.returns
-returns c = rtcp_openings_are_right

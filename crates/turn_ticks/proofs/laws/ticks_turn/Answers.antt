@@ -1,5 +1,0 @@
-use Rattle.turn_ticks.proofs.Turning.{ticks_turn}
-use Rattle.turn_ticks.proofs.laws.ticks_turn.Goals as goal
-
-pub returns : goal.returns
-returns c = ticks_turn c.packets_drain.ensures c.rounds_name_the_due.ensures c.items_read_back.ensures c.items_fit_by_lengths.ensures
