@@ -123,16 +123,19 @@ fn is_timed(end: &mut End, low: u8, time: Option<u64>) -> bool {
     streams.rx(place).last_time() == wanted
 }
 
-fn has_time(told: &Option<Event>, time: MediaTime) -> bool {
+fn has_time(told: &Option<Event>, ticks: u64) -> bool {
     match told {
-        Some(Event::RtpPacket(packet)) => packet.time == time,
+        Some(Event::RtpPacket(packet)) => {
+            packet.time == MediaTime::new(ticks, Frequency::NINETY_KHZ)
+        }
         _ => false,
     }
 }
 
-fn is_dated(end: &mut End, time: u64) -> bool {
-    let wanted = MediaTime::new(time, Frequency::NINETY_KHZ);
-    has_time(&event(end), wanted) || has_time(&event(end), wanted)
+fn is_dated(end: &mut End, ticks: u64) -> bool {
+    let first = has_time(&event(end), ticks);
+    let second = has_time(&event(end), ticks);
+    first | second
 }
 
 fn keeps_losses(alloc: Global, end: &mut End, low: u8) -> bool {
