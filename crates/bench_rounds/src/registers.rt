@@ -1,5 +1,5 @@
 //! Rounds on the registers of received numbers.
-ghost use Rattle.std.specs.Prelude.{◌<◌, ◌^◌};
+ghost use Rattle.std.specs.Prelude.{◌≡◌, ◌<◌, ◌%◌, ◌^◌};
 
 use media_units::Instant;
 use repair_core::{GapWindow, ReceiverRegister};
@@ -37,7 +37,8 @@ const REGISTERS: u64 = 16;
 
 // The number of a count, in 48 bits.
 fn at(count: u64) -> SeqNo
-    ensures { result < 2 ^ 48 }
+    ensures number { result ≡ count % 2 ^ 48 }
+    ensures bound { result < 2 ^ 48 }
 {
     SeqNo::from(count % 0x1_0000_0000_0000)
 }

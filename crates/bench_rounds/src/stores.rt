@@ -1,5 +1,5 @@
 //! Rounds on the stores of sent packets.
-ghost use Rattle.std.specs.Prelude.{◌<◌};
+ghost use Rattle.std.specs.Prelude.{◌≡◌, ◌<◌, ◌%◌, ◌^◌};
 
 use media_units::{Duration, Instant};
 use resend_core::{Cached, ResendStore, RtxCache};
@@ -125,7 +125,9 @@ impl StoreWork {
 
 // The packet of a count.
 fn sent_packet(count: u64) -> Packet
-    ensures { result.size < 2000 }
+    ensures number { result.number ≡ count % 2 ^ 48 }
+    ensures size { result.size ≡ count % 1200 }
+    ensures bound { result.size < 2000 }
 {
     Packet {
         number: count % 0x1_0000_0000_0000,

@@ -1,4 +1,5 @@
-// A session as an end: one stream, the toy cipher under AEAD_AES_128_GCM, and the register with a mask.
+// A session as an end: one stream, the toy cipher under AEAD_AES_128_GCM, and the register with a
+// mask.
 ghost use Rattle.std.specs.Prelude.{◌<◌, ◌≤◌, ◌^◌, length};
 
 use crate::peer::{Given, Peer, Role, moment};

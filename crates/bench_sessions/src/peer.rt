@@ -9,7 +9,8 @@ use std::alloc::{AllocError, Global};
 pub enum Role {
     /// It sends.
     Sender,
-    /// It sends, keeps what it sends, and sends again, under the next SSRC, as much as is asked for.
+    /// It sends, keeps what it sends, and sends again, under the next SSRC, as much as is asked
+    /// for.
     Repairer,
     /// It receives.
     Receiver,

@@ -1,4 +1,5 @@
-//! Rounds on sessions: one stream, the toy cipher under AEAD_AES_128_GCM, and the register with a mask.
+//! Rounds on sessions: one stream, the toy cipher under AEAD_AES_128_GCM, and the register with a
+//! mask.
 use crate::end::End;
 use crate::peer::{Peer, Role, moment};
 use media_units::Instant;

@@ -1,5 +1,6 @@
-//! The tests of numbers, headers, registers, stores and mapped streams: worked values of the standards, and each
-//! public call that takes memory once with enough of it. What a clause says is not tested.
+//! The tests of numbers, headers, registers, stores and mapped streams: worked values of the
+//! standards, and each public call that takes memory once with enough of it. What a clause says is
+//! not tested.
 #![tactic(auto)]
 
 #[cfg(test)]

@@ -133,8 +133,9 @@ impl MappedStreams {
         rules::map(self.all.as_slice(), rids, types, header)
     }
 
-    /// Has the packets of a stream come under another SSRC, unless that is the one that they had right
-    /// before, or packets of some stream come under it. The time grows with the number of streams.
+    /// Has the packets of a stream come under another SSRC, unless that is the one that they had
+    /// right before, or packets of some stream come under it. The time grows with the number of
+    /// streams.
     #[tactic(auto, using(crate::proofs::GoingOn::go_on_with_main))]
     pub fn change_main(&mut self, change: MainChange)
         ensures changed { self.new ≡ with_main change self.old }

@@ -4,7 +4,11 @@ ghost use Rattle.mask_register.specs.Asks.{unasked, row_of, is_due_row, turned};
 
 use arrayvec::ArrayVec;
 use media_units::{Duration, Instant};
+use repair_core::{MAX_MISORDER, MAX_NACKS};
 use std::marker::Model;
+
+/// How many numbers may be missing: those below the greatest that are still looked at.
+const MOST_MISSING: usize = MAX_MISORDER as usize;
 
 /// How often a missing number was asked for, and when last.
 #[derive(Clone, Copy, Debug)]
@@ -31,7 +35,7 @@ impl Ask {
         ensures value { result ≡ is_due_row self.now now wait }
         ensures few { OnTrue result (self.now.times < 5) }
     {
-        if self.times >= 5 {
+        if self.times >= MAX_NACKS {
             return false;
         }
         if self.times == 0 {
@@ -68,7 +72,7 @@ impl Default for Ask {
 /// The rows of at most 100 missing numbers. Contracts see the list.
 #[derive(Debug, Drop)]
 pub struct Asks {
-    rows: ArrayVec<Ask, 100>,
+    rows: ArrayVec<Ask, MOST_MISSING>,
 }
 
 impl Model for Asks {

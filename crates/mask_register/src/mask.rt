@@ -1,11 +1,10 @@
 ghost use Rattle.std.specs.Prelude.{◌≡◌, ℕ, ◌-◌, ◌<◌, ◌≤◌, ◌==◌, ◌&&◌, ◌||◌, true, nat_le, nat_eq};
 ghost use Rattle.mask_register.specs.Mask.{has};
 
-/// How far below the greatest number one is still looked at.
-pub const REACH: u64 = 100;
+use repair_core::MAX_MISORDER;
 
-/// Which of the numbers up to the greatest were taken: the bit of weight 2^i stands for the number that
-/// is `i` below it. The bits up to 100 are used.
+/// Which of the numbers up to the greatest were taken: the bit of weight 2^i stands for the number
+/// that is `i` below it. The bits up to 100 are used.
 #[derive(Clone, Copy, Debug)]
 pub struct Mask {
     bits: u128,
@@ -43,7 +42,11 @@ impl Mask {
     pub fn shift(&mut self, by: u64)
         ensures { (i : ℕ) → i ≤ 100 → has self.new i ≡ (nat_le by i && has self.old (i - by)) }
     {
-        self.bits = if by <= REACH { self.bits << by } else { 0 };
+        self.bits = if by <= MAX_MISORDER {
+            self.bits << by
+        } else {
+            0
+        };
     }
 
     /// How many numbers were taken from the greatest down to the first that was not.

@@ -7,15 +7,15 @@ ghost use Rattle.mask_register.specs.MaskRegister.{rows_after, due_of, window_of
 use crate::asks::{Ask, Asks};
 use crate::window::Window;
 use media_units::{Duration, Instant};
-use repair_core::GapWindow;
 use repair_core::rounds::{Missing, grace, later, pack, wait};
+use repair_core::{GapWindow, MAX_NACKS};
 use rtp_base::{NackEntry, ReportList, SeqNo};
 use std::alloc::{AllocError, Global};
 use std::ops::Range;
 
 /// The numbers that were taken, as far as the answers need them, as a mask of the last 101, and how
-/// often the missing ones among them were asked for. Taking a number costs the same whatever was lost;
-/// only a round, and what is asked of missing numbers, looks at each of the window.
+/// often the missing ones among them were asked for. Taking a number costs the same whatever was
+/// lost; only a round, and what is asked of missing numbers, looks at each of the window.
 #[derive(Debug, Drop)]
 pub struct MaskRegister {
     window: Option<Window>,
@@ -32,7 +32,7 @@ impl MaskRegister {
         let low = window.lowest().max(from);
         let high = window.greatest.min(to);
         for number in low..high {
-            if window.is_missing(number) && self.asks.row(number).times < 5 {
+            if window.is_missing(number) && self.asks.row(number).times < MAX_NACKS {
                 return true;
             }
         }

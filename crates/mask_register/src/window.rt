@@ -1,9 +1,11 @@
 ghost use Rattle.std.specs.Prelude.{◌≡◌, ℕ, ◌+◌, ◌<◌, ◌≤◌, ◌^◌, false};
 ghost use Rattle.std.specs.Bool.{OnTrue};
 
-use crate::mask::{Mask, REACH};
+use crate::mask::Mask;
+use repair_core::MAX_MISORDER;
 
-/// The first number that was taken, the greatest, and which of the last 101 were. Numbers are below 2^48.
+/// The first number that was taken, the greatest, and which of the last 101 were. Numbers are below
+/// 2^48.
 #[derive(Clone, Copy, Debug)]
 pub struct Window {
     pub first: u64,
@@ -46,7 +48,7 @@ impl Window {
         if self.greatest < number {
             return true;
         }
-        self.first <= number && self.greatest <= number + REACH && self.is_missing(number)
+        self.first <= number && self.greatest <= number + MAX_MISORDER && self.is_missing(number)
     }
 
     /// The window after one more number was taken, at most 100 below the greatest.
@@ -73,7 +75,7 @@ impl Window {
     pub fn lowest(&self) -> u64
         ensures { result ≡ lowest_in self.now }
     {
-        self.first.max(self.greatest.saturating_sub(REACH))
+        self.first.max(self.greatest.saturating_sub(MAX_MISORDER))
     }
 
     /// Whether no number is missing.

@@ -4,8 +4,8 @@ ghost use Rattle.media_base.specs.BitPattern.{IsPattern, IsSymbol, FitsBit, Fits
 
 use std::marker::Model;
 
-/// What the bits of a byte have to be: a text of eight of `0`, `1` and `x` (either), from the highest bit
-/// down. Contracts see the text.
+/// What the bits of a byte have to be: a text of eight of `0`, `1` and `x` (either), from the
+/// highest bit down. Contracts see the text.
 #[derive(Clone, Copy, Debug, PartialEq, Eq)]
 pub struct BitPattern {
     symbols: [u8; 8],

@@ -1,4 +1,5 @@
-//! Bytes and lists as contracts see them, patterns of bits, and the source and the sink of a program.
+//! Bytes and lists as contracts see them, patterns of bits, and the source and the sink of a
+//! program.
 #![tactic(auto)]
 
 mod bit_pattern;

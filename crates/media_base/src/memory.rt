@@ -38,8 +38,8 @@ impl Model for MemSource {
 }
 
 impl MemSource {
-    /// Gives these bytes, at most `piece` a call (at least 1), and fails at the calls listed, counted
-    /// from 0.
+    /// Gives these bytes, at most `piece` a call (at least 1), and fails at the calls listed,
+    /// counted from 0.
     pub fn new(bytes: Vec<u8>, piece: usize, failing: Vec<u64>) -> Self
         ensures left { source_left result ≡ bytes.items }
         ensures piece { result.piece ≡ max piece 1 }
@@ -123,8 +123,8 @@ impl Model for MemSink {
 }
 
 impl MemSink {
-    /// Takes at most `room` bytes in all, at most `piece` a call (at least 1), and fails at the calls
-    /// listed, counted from 0.
+    /// Takes at most `room` bytes in all, at most `piece` a call (at least 1), and fails at the
+    /// calls listed, counted from 0.
     pub fn new(
         alloc: Global,
         room: usize,

@@ -66,7 +66,8 @@ pub trait Source {
 /// Reads to the end of input, at most `limit` bytes.
 ///
 /// # Errors
-/// `TooLong` where there are more than `limit` bytes; `Failed` exactly where the source failed; `Memory`.
+/// `TooLong` where there are more than `limit` bytes; `Failed` exactly where the source failed;
+/// `Memory`.
 pub fn read_all<S: Source>(
     alloc: Global,
     source: &mut S,

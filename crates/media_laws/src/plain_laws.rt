@@ -52,7 +52,8 @@ pub fn rounds_ask_the_due()
     ensures { RoundsAskTheDue }
 {}
 
-/// No two RTP datagrams of a direction of a run share a nonce, also where its last tick was cut off.
+/// No two RTP datagrams of a direction of a run share a nonce, also where its last tick was cut
+/// off.
 pub fn runs_repeat_no_nonce()
     ensures { RunsRepeatNoNonce }
 {}

@@ -7,8 +7,8 @@ use std::marker::Model;
 /// The most bytes of what an application sends as feedback in a run.
 const MOST_BYTES: usize = 800;
 
-/// What an application sends as feedback (RFC 4585 section 6.4): whole words of 4 bytes, at most 800
-/// bytes. Contracts see the list of the bytes.
+/// What an application sends as feedback (RFC 4585 section 6.4): whole words of 4 bytes, at most
+/// 800 bytes. Contracts see the list of the bytes.
 #[derive(Debug, PartialEq, Eq, Drop)]
 pub struct ApplicationData {
     bytes: Bytes,

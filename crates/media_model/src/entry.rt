@@ -136,7 +136,8 @@ pub struct Opened {
 pub enum Call {
     /// To send feedback of the application's own (RFC 4585 section 6.4).
     Application,
-    /// To ask the sender of a stream for a key frame (RFC 4585 section 6.3.1, RFC 5104 section 4.3.1).
+    /// To ask the sender of a stream for a key frame (RFC 4585 section 6.3.1, RFC 5104 section
+    /// 4.3.1).
     Ask,
     /// To tell the sender of a stream the greatest rate (draft-alvestrand-rmcat-remb).
     Remb,

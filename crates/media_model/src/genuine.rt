@@ -22,8 +22,8 @@ struct Seal<'a> {
 }
 
 impl Transcript {
-    /// Whether each datagram that was opened had been sealed by the other side, under the same kind,
-    /// SSRC and index, and is the one that came last to the side that opened it.
+    /// Whether each datagram that was opened had been sealed by the other side, under the same
+    /// kind, SSRC and index, and is the one that came last to the side that opened it.
     pub fn genuine(&self, alloc: Global) -> Result<bool, AllocError>
         ensures value { IfOk result (λ b. b ≡ is_genuine self.now) }
         ensures meaning { IfOk result (λ b. IsTrue b ↔ IsGenuine self.now) }

@@ -21,5 +21,5 @@ pub use setup::{
 };
 pub use sources::Sources;
 pub use srtcp_index::SrtcpIndex;
-pub use step::Step;
+pub use step::{LAST_TIME, Step};
 pub use transcript::Transcript;

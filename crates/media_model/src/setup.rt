@@ -56,10 +56,11 @@ pub struct PayloadType {
     pub rate: u32,
     /// The type of its repairs (RFC 4588 section 8.1), at most 127 in a run.
     pub rtx: Option<Pt>,
-    /// The type of its redundant data (RFC 2198 section 4), at most 127 in a run. What is written under
-    /// it is a packet like any other, without repairs.
+    /// The type of its redundant data (RFC 2198 section 4), at most 127 in a run. What is written
+    /// under it is a packet like any other, without repairs.
     pub red: Option<Pt>,
-    /// Whether a PLI may ask for a key frame of it (RFC 4585 section 6.3.1). Nothing in a run depends on it.
+    /// Whether a PLI may ask for a key frame of it (RFC 4585 section 6.3.1). Nothing in a run
+    /// depends on it.
     pub pli: bool,
     /// Whether a FIR may ask for one (RFC 5104 section 4.3.1). Nothing in a run depends on it.
     pub fir: bool,
@@ -232,8 +233,8 @@ pub struct Setup {
     /// A stream that comes counts as paused once no packet of it came for so long: 1.5 s where a
     /// script says nothing of it.
     pub pause_threshold: Duration,
-    /// After how long the next report of a stream is due: 5 s for sound and 1 s for pictures where a
-    /// script says nothing of it.
+    /// After how long the next report of a stream is due: 5 s for sound and 1 s for pictures where
+    /// a script says nothing of it.
     pub intervals: ReportTimes,
     /// What side A alone brings.
     pub a: Local,
@@ -302,8 +303,8 @@ impl Setup {
         exts
     }
 
-    /// The payload types of what is written, in order: each type, and that of its redundant data where it
-    /// has one.
+    /// The payload types of what is written, in order: each type, and that of its redundant data
+    /// where it has one.
     pub fn types(&self, alloc: Global) -> Result<Vec<Pt>, AllocError>
         ensures { IfOk result (λ v. v.items ≡ types_of self.now) }
     {
@@ -335,8 +336,8 @@ impl Setup {
         Ok(claimed)
     }
 
-    /// The number of the first repair of the stream of this main SSRC. The cost grows with the number of
-    /// starts.
+    /// The number of the first repair of the stream of this main SSRC. The cost grows with the
+    /// number of starts.
     pub fn start(&self, ssrc: Ssrc) -> FirstNumber
         ensures { result ≡ start_of ssrc self.now }
     {

@@ -5,6 +5,9 @@ use media_units::{Bitrate, Instant};
 use rtp_base::KeyframeRequestKind;
 use rtp_wire::{Kind, Ssrc};
 
+/// The greatest time of a step, in nanoseconds: some 115 days.
+pub const LAST_TIME: u64 = 10_000_000_000_000_000;
+
 /// What a script has one side do.
 #[derive(Debug, PartialEq, Eq, Drop)]
 pub enum Step {
@@ -42,8 +45,8 @@ pub enum Step {
         media: Ssrc,
         payload: ApplicationData,
     },
-    /// Its application asks the sender of a stream for a key frame (RFC 4585 section 6.3.1, RFC 5104
-    /// section 4.3.1).
+    /// Its application asks the sender of a stream for a key frame (RFC 4585 section 6.3.1, RFC
+    /// 5104 section 4.3.1).
     Ask {
         side: Side,
         time: Instant,

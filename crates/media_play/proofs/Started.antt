@@ -146,7 +146,7 @@ module _ (cipher : CipherMeaning) (setup : Setup) (side : Side) where
         sections = b.sections;
         known = b.known;
         last_round = b.last_round;
-        target = b.target;
+        target = b.wide;
         feedback = b.feedback;
         released = b.released;
         application = b.application;

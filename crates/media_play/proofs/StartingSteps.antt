@@ -196,14 +196,15 @@ originals_of (L ∷ Ls) = ap (λ l. original_in (incoming_of L) ++ l) (originals
 module _ (cipher : CipherMeaning) (setup : Setup) (side : Side) where
   -- with keys
 
-  keyed_begins : (config : SessionConfig) → 900 ≤ config.mtu.target → config.pause_threshold ≡ setup.pause_threshold → config.intervals ≡ intervals_of setup → config.srtcp_index ≡ (local_of side setup).srtcp_index
+  keyed_begins : (config : SessionConfig) → config.mtu.target ≡ setup.mtu.target → 900 ≤ config.mtu.target → config.pause_threshold ≡ setup.pause_threshold → config.intervals ≡ intervals_of setup → config.srtcp_index ≡ (local_of side setup).srtcp_index
       → config.local_ssrc ≡ (local_of side setup).ssrc → config.beginning ≡ setup.beginning → config.exts ≡ extensions_of setup → AllZip IsRow (session_types config.codecs.params) (rows_of setup.types)
       → Begun cipher setup side [] [] (record (fresh_session config) { state = keyed cipher setup.profile (material_of setup) (is_left side) (fresh_session config).state })
-  keyed_begins config target pauses intervals index ssrc beginning exts types =
+  keyed_begins config target wide pauses intervals index ssrc beginning exts types =
       record {
         seals = ap (λ (i : ℕ). Some (new_state cipher setup.profile (material_of setup) (is_left side) i)) index;
         opens = ap (λ (l : Bool). Some (new_state cipher setup.profile (material_of setup) l 0)) (other_left side);
         target = target;
+        wide = wide;
         runs = refl;
         feedback = refl;
         released = refl;
@@ -226,11 +227,11 @@ module _ (cipher : CipherMeaning) (setup : Setup) (side : Side) where
         known = tt;
       }
 
-  pub starts_keyed : (config : SessionConfig) (v new : EndSession) (material : List ℕ) (left : Bool) → 900 ≤ config.mtu.target → config.pause_threshold ≡ setup.pause_threshold → config.intervals ≡ intervals_of setup → config.srtcp_index ≡ (local_of side setup).srtcp_index
+  pub starts_keyed : (config : SessionConfig) (v new : EndSession) (material : List ℕ) (left : Bool) → config.mtu.target ≡ setup.mtu.target → 900 ≤ config.mtu.target → config.pause_threshold ≡ setup.pause_threshold → config.intervals ≡ intervals_of setup → config.srtcp_index ≡ (local_of side setup).srtcp_index
       → config.local_ssrc ≡ (local_of side setup).ssrc → config.beginning ≡ setup.beginning → config.exts ≡ extensions_of setup → AllZip IsRow (session_types config.codecs.params) (rows_of setup.types)
       → material ≡ material_of setup → left ≡ is_left side → (local_of side setup).srtcp_index ≤ 2 ^ 31 → SessionStands v (fresh_session config)
       → new ≡ record v { state = keyed cipher setup.profile material left v.state } → Starts cipher setup side [] [] new
-  starts_keyed config v new material left target pauses intervals index ssrc beginning exts types key l bounded h is =
+  starts_keyed config v new material left target wide pauses intervals index ssrc beginning exts types key l bounded h is =
       let to = λ (s : SessionState). keyed cipher setup.profile (material_of setup) (is_left side) s in
       let state : new.state ≡ to (fresh_session config).state =
       ap (λ (w : EndSession). w.state) is
@@ -250,7 +251,7 @@ module _ (cipher : CipherMeaning) (setup : Setup) (side : Side) where
           seen = rw is h.seen;
           repairs = rw is h.repairs;
         };
-        begun = keyed_begins config target pauses intervals index ssrc beginning exts types;
+        begun = keyed_begins config target wide pauses intervals index ssrc beginning exts types;
       }
 
   module _ (sent received : List Outgoing) where
@@ -262,6 +263,7 @@ module _ (cipher : CipherMeaning) (setup : Setup) (side : Side) where
       seals = b.seals;
       opens = b.opens;
       target = b.target;
+      wide = b.wide;
       runs = b.runs;
       feedback = b.feedback;
       released = b.released;
@@ -313,6 +315,7 @@ module _ (cipher : CipherMeaning) (setup : Setup) (side : Side) where
       seals = b.seals;
       opens = b.opens;
       target = b.target;
+      wide = b.wide;
       runs = b.runs;
       feedback = b.feedback;
       released = b.released;
@@ -365,6 +368,7 @@ module _ (cipher : CipherMeaning) (setup : Setup) (side : Side) where
       seals = b.seals;
       opens = b.opens;
       target = b.target;
+      wide = b.wide;
       runs = b.runs;
       feedback = b.feedback;
       released = b.released;

@@ -1,6 +1,10 @@
 -- A session before any step, with some of the streams of its setup.
-use Rattle.std.specs.Prelude.{◌≡◌, ◌<◌, ◌≤◌, ◌^◌, ℕ, true, false, List, [], ◌∷◌, map, filter_map, option_to_list, is_some, Option, None, Some}
+use Rattle.std.specs.Prelude.{◌≡◌, ◌<◌, ◌≤◌, ◌^◌, ℕ, true, false, ◌==◌, if◌then◌else◌, List, [], ◌∷◌, map, filter_map, option_to_list, is_some, Option, None, Some}
 use Rattle.std.specs.List.{AllByRecursion, AllZip, flat_map}
+use Rattle.payload_core.specs.declared.codec.Codec.{Codec as CarriedCodec}
+use Rattle.payload_core.specs.declared.codec.Codec.TheVariants as carried
+use Rattle.payload_core.specs.declared.codec.MediaKind.{MediaKind as SectionKind}
+use Rattle.payload_core.specs.declared.codec.MediaKind.TheVariants as section
 use Rattle.payload_core.specs.declared.params.PayloadParams.{PayloadParams}
 use Rattle.rtx_core.specs.Resends.{created, recached}
 use Rattle.srtp_core.specs.Cipher.{CipherMeaning}
@@ -15,7 +19,12 @@ use Rattle.session_core.specs.Sending.{has_mid}
 use Rattle.session_core.specs.SessionRecord.{MediaRecord, SessionRecord, streams_in}
 use Rattle.session_turns.specs.Mirrors.{RxMirrors, RxStands, original_in, ExpectsNone, HasOriginal}
 use Rattle.media_model.specs.declared.entry.Side.{Side}
+use Rattle.media_model.specs.declared.entry.Side.TheVariants.{A, B}
+use Rattle.media_model.specs.declared.setup.Codec.{Codec}
+use Rattle.media_model.specs.declared.setup.Codec.TheVariants as codec
 use Rattle.media_model.specs.declared.setup.Media.{Media}
+use Rattle.media_model.specs.declared.setup.MediaKind.{MediaKind}
+use Rattle.media_model.specs.declared.setup.MediaKind.TheVariants as kind
 use Rattle.media_model.specs.declared.setup.PayloadType.{PayloadType}
 use Rattle.media_model.specs.declared.setup.Setup.{Setup}
 use Rattle.media_model.specs.Sides.{peer_of}
@@ -46,11 +55,39 @@ rows_in t = t ∷ red_rows t t.red
 abbrev pub rows_of : List PayloadType → List PayloadType
 rows_of types = flat_map rows_in types
 
--- what a session is told of a payload type of a setup: its number, and the types of its repairs and of its redundant data
+-- the codec of a session for one of a setup
+abbrev pub codec_of : Codec → CarriedCodec
+codec_of codec.Opus = carried.Opus
+codec_of codec.Pcmu = carried.Pcmu
+codec_of codec.Pcma = carried.Pcma
+codec_of codec.Telephone = carried.Telephone
+codec_of codec.Vp8 = carried.Vp8
+codec_of codec.Vp9 = carried.Vp9
+codec_of codec.H264 = carried.H264
+codec_of codec.H265 = carried.H265
+codec_of codec.H266 = carried.H266
+codec_of codec.Av1 = carried.Av1
+
+-- the kind of a media section of a session for that of a setup
+abbrev pub section_kind : MediaKind → SectionKind
+section_kind kind.Audio = section.Audio
+section_kind kind.Video = section.Video
+
+-- by which number the session of a side is told apart
+abbrev pub identification : Side → ℕ
+identification A = 1
+identification B = 2
+
+-- what a session is told of a payload type of a setup: its number, the types of its repairs and of its redundant data, its
+-- codec, its clock, which has ticks of 1 s where the setup gives no rate, and the feedback that it takes
 pub record IsParams (p : PayloadParams) (t : PayloadType) : Type 0 where
   pub pt : p.pt ≡ t.pt
   pub resend : p.resend ≡ t.rtx
   pub red : p.red ≡ t.red
+  pub codec : p.spec.codec ≡ codec_of t.codec
+  pub clock : p.spec.clock_rate ≡ (if t.rate == 0 then 1 else t.rate)
+  pub pli : p.fb_pli ≡ t.pli
+  pub fir : p.fb_fir ≡ t.fir
 
 -- a payload type of a session is one of these: its number, and the type of its repairs
 pub record IsRow (e : ℕ × TypeRow) (t : PayloadType) : Type 0 where
@@ -118,7 +155,8 @@ pub record Begun (cipher : CipherMeaning) (setup : Setup) (side : Side) (sent re
       ≡ Some (new_state cipher setup.profile (material_of setup) (is_left side) (local_of side setup).srtcp_index)
   pub opens : s.state.opening
       ≡ Some (new_state cipher setup.profile (material_of setup) (is_left (peer_of side)) 0)
-  pub target : 900 ≤ s.state.target
+  pub target : s.state.target ≡ setup.mtu.target
+  pub wide : 900 ≤ s.state.target
   pub runs : s.state.stopped ≡ false
   pub feedback : s.state.feedback ≡ []
   pub released : s.state.released ≡ false

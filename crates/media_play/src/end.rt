@@ -199,8 +199,8 @@ fn later_packet(event: Event, before: Option<RtpPacket>) -> Option<RtpPacket>
     }
 }
 
-/// Takes all that a session tells, and gives the packet of it, if there is one: no entry tells of the
-/// rest.
+/// Takes all that a session tells, and gives the packet of it, if there is one: no entry tells of
+/// the rest.
 fn take_packet<C: SrtpCipher>(
     session: &mut Session<C, MaskRegister, QueueStore<Sent>>,
 ) -> Option<RtpPacket>
@@ -358,6 +358,7 @@ impl<C: SrtpCipher> End<C> {
 
     /// The place of the stream that a request is on, or the rule that the request breaks.
     pub fn check_request(&mut self, ssrc: Ssrc) -> Result<usize, StepFault>
+        ensures place { IfOk result (λ at. place_of ssrc self.old.session.rx ≡ Some at) }
         ensures within { IfOk result (λ at. at < length self.old.session.rx) }
         ensures rule { (setup : Given) (side : Party) (a : Plain) (entries : List Entry)
             → Ready C.meaning setup side self.old a entries
@@ -373,7 +374,10 @@ impl<C: SrtpCipher> End<C> {
     /// Has the stream at this place ask its sender for something at the next tick.
     pub fn request(&mut self, place: usize, what: Request)
         requires { place < length self.old.session.rx }
-        ensures { (setup : Given) (side : Party) (a : Plain) (entries : List Entry) (time : ℕ)
+        ensures made { self.new.session ≡ record self.old.session {
+          rx = change_place (on_view (requesting (requested what))) self.old.session.rx place;
+        } }
+        ensures turns { (setup : Given) (side : Party) (a : Plain) (entries : List Entry) (time : ℕ)
             → ReadyAt C.meaning setup side self.old a entries time
             → TurnsOn C.meaning setup side a self.new entries (Called side time (call_for what) ∷ []) }
     {
@@ -498,8 +502,8 @@ impl<C: SrtpCipher> End<C> {
         }
     }
 
-    /// A tick: gives all that leaves, in order: what asks for missing numbers, then of each stream what was
-    /// asked for and all packets that wait.
+    /// A tick: gives all that leaves, in order: what asks for missing numbers, then of each stream
+    /// what was asked for and all packets that wait.
     ///
     /// # Errors
     /// `KeyExhausted`, with all that leaves until then; `Memory`.

@@ -31,7 +31,8 @@ use crate::request::Request;
 use media_base::Bytes;
 use media_laws::StepFault;
 use media_model::{
-    ApplicationData, Call, Entry, Got, Kind, Opened, Sealed, Setup, Side, Step, Transcript, Write,
+    ApplicationData, Call, Entry, Got, Kind, LAST_TIME, Opened, Sealed, Setup, Side, Step,
+    Transcript, Write,
 };
 use media_units::Instant;
 use rtcp_wire::AppSpecificFeedback as Application;
@@ -40,9 +41,6 @@ use session_core::Datagram;
 use srtp_core::SrtpCipher;
 use std::alloc::{AllocError, Global};
 use std::marker::Model;
-
-/// The greatest time of a step, in nanoseconds.
-const LAST_TIME: u64 = 10_000_000_000_000_000;
 
 /// The two ends, what happened so far, and the time of the last step.
 #[derive(Drop)]

@@ -59,9 +59,9 @@ impl<C: SrtpCipher> Run<C> {
     ///
     /// # Errors
     /// `Rule`, exactly with the first rule that the step breaks; `KeyExhausted`, where it breaks
-    /// none and its side was to seal a datagram behind the last number of a key; `Memory`. The fault
-    /// has the transcript of the steps before, and of one that found a key used up the call, or the
-    /// tick and all that it sealed until then.
+    /// none and its side was to seal a datagram behind the last number of a key; `Memory`. The
+    /// fault has the transcript of the steps before, and of one that found a key used up the call,
+    /// or the tick and all that it sealed until then.
     pub fn play(self, alloc: Global, step: &Step) -> Result<Self, PlayFault>
         ensures played { IfOk result (Plays C.meaning self step.now) }
         ensures refused { IfErr result (λ fault.

@@ -19,7 +19,7 @@ ghost use Rattle.run_model.specs.Transcripts.{outgoing_in};
 ghost use Rattle.media_laws.specs.Keys.{is_left};
 ghost use Rattle.media_play.specs.Knowing.{UsedAs};
 ghost use Rattle.setup_rules.specs.SetupRules.{is_mtu, setup_fault};
-ghost use Rattle.media_play.specs.Starting.{IsParams, AreOnce, outgoing_at, StreamsChange, Starts, IsStarted};
+ghost use Rattle.media_play.specs.Starting.{codec_of, section_kind, identification, IsParams, AreOnce, outgoing_at, StreamsChange, Starts, IsStarted};
 
 use crate::numbers::Numbers;
 use mapping_core::Rids;
@@ -36,7 +36,9 @@ use srtp_core::{KeyingMaterial, SrtpCipher};
 use std::alloc::{AllocError, Global};
 use stream_core::Sent;
 
-fn codec_of(codec: Codec) -> CarriedCodec {
+fn codec_of(codec: Codec) -> CarriedCodec
+    ensures { result ≡ codec_of codec }
+{
     match codec {
         Codec::Opus => CarriedCodec::Opus,
         Codec::Pcmu => CarriedCodec::Pcmu,
@@ -93,7 +95,9 @@ fn primary_types(alloc: Global, setup: &Setup) -> Result<Listed<Pt>, AllocError>
     Ok(types)
 }
 
-fn section_kind(kind: MediaKind) -> SectionKind {
+fn section_kind(kind: MediaKind) -> SectionKind
+    ensures { result ≡ section_kind kind }
+{
     match kind {
         MediaKind::Audio => SectionKind::Audio,
         MediaKind::Video => SectionKind::Video,
@@ -111,7 +115,9 @@ fn is_left(side: Side) -> bool
 }
 
 /// A side's own SSRC, by which its session is told apart.
-fn identification(side: Side) -> u64 {
+fn identification(side: Side) -> u64
+    ensures { result ≡ identification side }
+{
     match side {
         Side::A => 1,
         Side::B => 2,
@@ -157,7 +163,8 @@ fn with_keys<C: SrtpCipher>(
     }
 }
 
-/// Has a session send a stream of a media section. Its repairs, if it has them, begin with a number.
+/// Has a session send a stream of a media section. Its repairs, if it has them, begin with a
+/// number.
 fn declare<C: SrtpCipher>(
     session: &mut Session<C, MaskRegister, QueueStore<Sent>>,
     mid: Mid,
@@ -193,8 +200,8 @@ fn keep<C: SrtpCipher>(
         .set_rtx_cache(ssrc, cache.packets as usize, cache.age, cache.cap)
 }
 
-/// Has a session receive a stream of a media section. Without repairs (RFC 4588) it asks for nothing that
-/// is missing.
+/// Has a session receive a stream of a media section. Without repairs (RFC 4588) it asks for
+/// nothing that is missing.
 fn expect<C: SrtpCipher>(
     session: &mut Session<C, MaskRegister, QueueStore<Sent>>,
     mid: Mid,
@@ -277,8 +284,8 @@ fn add_streams<C: SrtpCipher>(
     Ok(())
 }
 
-/// Adds a media section of a setup to a session of a side, with its streams. The peer takes all types of the
-/// setup, and it expects no stream but these.
+/// Adds a media section of a setup to a session of a side, with its streams. The peer takes all
+/// types of the setup, and it expects no stream but these.
 fn add_media<C: SrtpCipher>(
     alloc: Global,
     session: &mut Session<C, MaskRegister, QueueStore<Sent>>,
@@ -303,8 +310,8 @@ fn add_media<C: SrtpCipher>(
     }
 }
 
-/// The session of a side of a setup that breaks no rule, before any step. It is in a box, which is handed on
-/// quickly.
+/// The session of a side of a setup that breaks no rule, before any step. It is in a box, which is
+/// handed on quickly.
 pub fn start<C: SrtpCipher>(
     alloc: Global,
     cipher: C,

@@ -9,10 +9,10 @@ use Rattle.media_model.specs.declared.setup.PayloadType.{PayloadType}
 use Rattle.media_script.specs.declared.setup_line.SetupLine.{SetupLine}
 use Rattle.media_script.specs.declared.setup_line.SetupLine.TheVariants as line
 use Rattle.media_script.specs.Grammar.{cipher_line, profile_line, key_line, unix_line, mtu_line, pause_line, reports_line, rtcp_line, local_line, ext_line, named_type, behind, with_type, with_flag, done, is_long, type_line, media_line, stream_line, start_line, cache_line, no_other, side_kinds, side_line_of, named_kinds, named_line_of, number_kinds, number_line_of, setup_kinds, setup_line_of, in_few}
-use Rattle.media_script.specs.Names.{codec_text}
+use Rattle.media_script.specs.Names.{cipher_text, codec_text, extension_text, media_kind_text, profile_text}
 use Rattle.media_script.specs.Spelling.{IsNamedType, flag_words, IsSetupLine}
-use Rattle.media_script.specs.Words.{type_behind, ◌>>=◌}
-use Rattle.media_script.proofs.WordLaws.{number_spelled, number_again, millis_spelled, millis_again, at_most_spelled, at_most_again, narrow_spelled, narrow_again, side_spelled, side_again, cipher_spelled, cipher_again, profile_spelled, profile_again, key_spelled, key_again, extension_spelled, extension_again, codec_spelled, codec_again, media_kind_spelled, media_kind_again, rate_spelled, rate_again, named_type_again, name_spelled, name_again, optional_32_spelled, rtx_again, cap_again, rid_spelled, rid_again}
+use Rattle.media_script.specs.Words.{type_behind, ◌>>=◌, ciphers, profiles, codecs, media_kinds, extensions}
+use Rattle.media_script.proofs.WordLaws.{number_spelled, number_again, millis_spelled, millis_again, at_most_spelled, at_most_again, narrow_spelled, narrow_again, side_spelled, side_again, cipher_again, profile_again, key_spelled, key_again, extension_again, codec_again, media_kind_again, rate_spelled, rate_again, named_type_again, name_spelled, name_again, optional_32_spelled, rtx_again, cap_again, rid_spelled, rid_again, one_spelled}
 use Rattle.media_script.proofs.KindLaws.{Tells, done_tells, then_tells, named_type_tells, flag_tells, look_up_tells, none_tells}
 
 -- the words behind this first word
@@ -20,10 +20,10 @@ abbrev Behind : List ℕ → List (List ℕ) → SetupLine → Type 0
 Behind text words said = IsSetupLine (text ∷ words) said
 
 cipher_tells : Tells cipher_line (Behind (codes "cipher"))
-cipher_tells = then_tells cipher_spelled (λ w cipher is. done_tells (λ i. codes "cipher" ∷ is i ∷ []))
+cipher_tells = then_tells (one_spelled cipher_text ciphers) (λ w cipher is. done_tells (λ i. codes "cipher" ∷ is i ∷ []))
 
 profile_tells : Tells profile_line (Behind (codes "profile"))
-profile_tells = then_tells profile_spelled (λ w profile is. done_tells (λ i. codes "profile" ∷ is i ∷ []))
+profile_tells = then_tells (one_spelled profile_text profiles) (λ w profile is. done_tells (λ i. codes "profile" ∷ is i ∷ []))
 
 key_tells : Tells key_line (Behind (codes "key"))
 key_tells = then_tells key_spelled (λ w key is. done_tells (w, is, refl))
@@ -55,7 +55,7 @@ local_tells =
 
 ext_tells : Tells ext_line (Behind (codes "ext"))
 ext_tells =
-    then_tells (narrow_spelled (2 ^ 8)) (λ n id is. then_tells extension_spelled (λ e extension has.
+    then_tells (narrow_spelled (2 ^ 8)) (λ n id is. then_tells (one_spelled extension_text extensions) (λ e extension has.
     done_tells (is.1, λ i. codes "ext" ∷ is.0 i ∷ has i ∷ [])))
 
 -- the line of a type with these options
@@ -64,7 +64,7 @@ type_with pt codec rate rtx red pli fir = line.Type (record { pt = pt; codec = c
 
 type_tells : Tells type_line (Behind (codes "type"))
 type_tells =
-    then_tells (narrow_spelled (2 ^ 8)) (λ p pt is. then_tells codec_spelled (λ c codec has. then_tells rate_spelled (λ w rate goes.
+    then_tells (narrow_spelled (2 ^ 8)) (λ p pt is. then_tells (one_spelled codec_text codecs) (λ c codec has. then_tells rate_spelled (λ w rate goes.
     named_type_tells (codes "rtx=") (λ r rtx again. named_type_tells (codes "red=") (λ d red twice.
     flag_tells (codes "pli") (λ pli. flag_tells (codes "fir") (λ fir.
     done_tells {l = type_with pt codec rate rtx red pli fir}
@@ -76,7 +76,7 @@ type_tells =
 
 media_tells : Tells media_line (Behind (codes "media"))
 media_tells =
-    then_tells (name_spelled 16) (λ m mid is. then_tells media_kind_spelled (λ k kind has. then_tells (name_spelled 255) (λ c cname goes.
+    then_tells (name_spelled 16) (λ m mid is. then_tells (one_spelled media_kind_text media_kinds) (λ k kind has. then_tells (name_spelled 255) (λ c cname goes.
     done_tells (is.1, goes.1, λ i. codes "media" ∷ is.0 i ∷ has i ∷ goes.0 i ∷ []))))
 
 stream_tells : Tells stream_line (Behind (codes "stream"))

@@ -8,8 +8,9 @@ use Rattle.media_model.specs.declared.step.Step.{Step}
 use Rattle.media_model.specs.declared.step.Step.TheVariants as step
 use Rattle.media_script.specs.Grammar.{sources_in, packet_step, write_step, tick_step, deliver_step, foreign_step, app_step, ask_step, remb_step, no_other, call_kinds, call_of, step_kinds, step_of, in_few}
 use Rattle.media_script.specs.Spelling.{IsTime, IsHex, AreSources, Fits, IsStep}
-use Rattle.media_script.specs.Names.{side_text, flag_text}
-use Rattle.media_script.proofs.WordLaws.{number_spelled, number_again, narrow_spelled, narrow_again, time_spelled, time_again, side_spelled, side_again, kind_spelled, kind_again, keyframe_spelled, keyframe_again, flag_spelled, flag_again, hex_spelled, hex_again, app_data_spelled, app_data_again, sources_spelled, sources_again}
+use Rattle.media_script.specs.Names.{flag_text, keyframe_text, kind_text, side_text}
+use Rattle.media_script.specs.Words.{kinds, keyframes}
+use Rattle.media_script.proofs.WordLaws.{number_spelled, number_again, narrow_spelled, narrow_again, time_spelled, time_again, side_spelled, side_again, kind_again, keyframe_again, flag_spelled, flag_again, hex_spelled, hex_again, app_data_spelled, app_data_again, sources_spelled, sources_again, one_spelled}
 use Rattle.media_script.proofs.KindLaws.{Tells, done_tells, then_tells, rest_tells, look_up_tells, none_tells}
 
 -- the words behind this first word
@@ -49,7 +50,7 @@ deliver_tells =
 
 foreign_tells : Tells foreign_step (Behind (codes "foreign"))
 foreign_tells =
-    then_tells side_spelled (λ s side by. then_tells time_spelled (λ t time at. then_tells kind_spelled (λ w kind of. then_tells hex_spelled (λ h bytes is.
+    then_tells side_spelled (λ s side by. then_tells time_spelled (λ t time at. then_tells (one_spelled kind_text kinds) (λ w kind of. then_tells hex_spelled (λ h bytes is.
     done_tells (t, h, at, is, λ i. codes "foreign" ∷ by i ∷ t ∷ of i ∷ h ∷ [])))))
 
 app_tells : Tells app_step (Behind (codes "app"))
@@ -61,7 +62,7 @@ app_tells =
 ask_tells : Tells ask_step (Behind (codes "ask"))
 ask_tells =
     then_tells side_spelled (λ s side by. then_tells time_spelled (λ t time at. then_tells (narrow_spelled (2 ^ 32)) (λ w3 ssrc n3.
-    then_tells keyframe_spelled (λ w4 kind of. done_tells (t, at, n3.1, λ i. codes "ask" ∷ by i ∷ t ∷ n3.0 i ∷ of i ∷ [])))))
+    then_tells (one_spelled keyframe_text keyframes) (λ w4 kind of. done_tells (t, at, n3.1, λ i. codes "ask" ∷ by i ∷ t ∷ n3.0 i ∷ of i ∷ [])))))
 
 remb_tells : Tells remb_step (Behind (codes "remb"))
 remb_tells =

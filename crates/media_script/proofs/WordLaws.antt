@@ -36,7 +36,7 @@ use Rattle.rtp_wire.specs.declared.extension.Extension.{Extension}
 use Rattle.rtp_wire.specs.declared.extension.Extension.TheVariants.{AudioLevel, AbsoluteSendTime, TransportSequenceNumber, RtpMid, RtpStreamId, RepairedRtpStreamId, VideoOrientation, AbsoluteCaptureTime, PlayoutDelay}
 use Rattle.rtp_base.specs.declared.keyframe_request.KeyframeRequestKind.{KeyframeRequestKind}
 use Rattle.rtp_base.specs.declared.keyframe_request.KeyframeRequestKind.TheVariants.{Pli, Fir}
-use Rattle.media_script.specs.Words.{◌>>=◌, below, plain_front, is_number, number_of, narrow_of, millis_of, has_ms, time_of, side_of, flag_of, hex_of, app_data_of, kinds, kind_of, keyframe_of, at_most, key_of, one_of, ciphers, cipher_of, profiles, profile_of, codecs, codec_of, media_kind_of, rate_of, is_name, name_of, extensions, extension_of, numbers_of, has_c, sources_of, type_behind, optional}
+use Rattle.media_script.specs.Words.{◌>>=◌, below, plain_front, is_number, number_of, narrow_of, millis_of, has_ms, time_of, side_of, flag_of, hex_of, app_data_of, kinds, at_most, key_of, one_of, ciphers, profiles, codecs, rate_of, is_name, name_of, extensions, numbers_of, has_c, sources_of, type_behind, optional, keyframes, media_kinds}
 use Rattle.media_script.specs.Names.{side_text, flag_text, kind_text, keyframe_text, cipher_text, profile_text, codec_text, media_kind_text, extension_text}
 use Rattle.media_script.specs.Grammar.{named_type, behind}
 use Rattle.media_script.specs.Spelling.{IsTime, IsHex, IsName, IsKey, IsOptional, IsBelow, IsNamed, IsNamedType, IsSources}
@@ -263,55 +263,36 @@ key_again word (Given bytes) is = go (bytes_eq word (codes "zero")) refl where
 
 -- one of several words
 pub one_spelled : {X : Type 0} (text : X → List ℕ) (xs : List X) (word : List ℕ) (x : X) → one_of text xs word ≡ Some x → word ≡ text x
+unfolding one_of
 one_spelled text [] word x e = absurd cc
 one_spelled {X} text (y ∷ xs) word x e = go (one_spelled text xs word x) (bytes_eq word (text y)) refl e where
   go : (one_of text xs word ≡ Some x → word ≡ text x) → (b : Bool) → bytes_eq word (text y) ≡ b → cond b (Some y) (one_of text xs word) ≡ Some x → word ≡ text x
   go next true p e' = let is : y ≡ x = cc in equal word (text y) p ∙ ap text is
   go next false p e' = next e'
 
-pub kind_spelled : (word : List ℕ) (kind : Kind) → kind_of word ≡ Some kind → word ≡ kind_text kind
-unfolding kind_of
-kind_spelled word kind e = one_spelled kind_text kinds word kind e
-
-pub kind_again : (kind : Kind) → kind_of (kind_text kind) ≡ Some kind
-unfolding kind_of
+pub kind_again : (kind : Kind) → one_of kind_text kinds (kind_text kind) ≡ Some kind
+unfolding one_of
 kind_again Rtp = refl
 kind_again Rtcp = refl
 
-pub keyframe_spelled : (word : List ℕ) (kind : KeyframeRequestKind) → keyframe_of word ≡ Some kind → word ≡ keyframe_text kind
-unfolding keyframe_of
-keyframe_spelled word kind e = one_spelled keyframe_text (Pli ∷ Fir ∷ []) word kind e
-
-pub keyframe_again : (kind : KeyframeRequestKind) → keyframe_of (keyframe_text kind) ≡ Some kind
-unfolding keyframe_of
+pub keyframe_again : (kind : KeyframeRequestKind) → one_of keyframe_text keyframes (keyframe_text kind) ≡ Some kind
+unfolding one_of
 keyframe_again Pli = refl
 keyframe_again Fir = refl
 
-pub cipher_spelled : (word : List ℕ) (cipher : CipherName) → cipher_of word ≡ Some cipher → word ≡ cipher_text cipher
-unfolding cipher_of
-cipher_spelled word cipher e = one_spelled cipher_text ciphers word cipher e
-
-pub cipher_again : (cipher : CipherName) → cipher_of (cipher_text cipher) ≡ Some cipher
-unfolding cipher_of
+pub cipher_again : (cipher : CipherName) → one_of cipher_text ciphers (cipher_text cipher) ≡ Some cipher
+unfolding one_of
 cipher_again Toy = refl
 cipher_again Sha = refl
 
-pub profile_spelled : (word : List ℕ) (profile : SrtpProfile) → profile_of word ≡ Some profile → word ≡ profile_text profile
-unfolding profile_of
-profile_spelled word profile e = one_spelled profile_text profiles word profile e
-
-pub profile_again : (profile : SrtpProfile) → profile_of (profile_text profile) ≡ Some profile
-unfolding profile_of
+pub profile_again : (profile : SrtpProfile) → one_of profile_text profiles (profile_text profile) ≡ Some profile
+unfolding one_of
 profile_again Aes128CmSha1_80 = refl
 profile_again AeadAes128Gcm = refl
 profile_again AeadAes256Gcm = refl
 
-pub codec_spelled : (word : List ℕ) (codec : Codec) → codec_of word ≡ Some codec → word ≡ codec_text codec
-unfolding codec_of
-codec_spelled word codec e = one_spelled codec_text codecs word codec e
-
-pub codec_again : (codec : Codec) → codec_of (codec_text codec) ≡ Some codec
-unfolding codec_of
+pub codec_again : (codec : Codec) → one_of codec_text codecs (codec_text codec) ≡ Some codec
+unfolding one_of
 codec_again Opus = refl
 codec_again Pcmu = refl
 codec_again Pcma = refl
@@ -323,21 +304,13 @@ codec_again H265 = refl
 codec_again H266 = refl
 codec_again Av1 = refl
 
-pub media_kind_spelled : (word : List ℕ) (kind : MediaKind) → media_kind_of word ≡ Some kind → word ≡ media_kind_text kind
-unfolding media_kind_of
-media_kind_spelled word kind e = one_spelled media_kind_text (Audio ∷ Video ∷ []) word kind e
-
-pub media_kind_again : (kind : MediaKind) → media_kind_of (media_kind_text kind) ≡ Some kind
-unfolding media_kind_of
+pub media_kind_again : (kind : MediaKind) → one_of media_kind_text media_kinds (media_kind_text kind) ≡ Some kind
+unfolding one_of
 media_kind_again Audio = refl
 media_kind_again Video = refl
 
-pub extension_spelled : (word : List ℕ) (extension : Extension) → extension_of word ≡ Some extension → word ≡ extension_text extension
-unfolding extension_of
-extension_spelled word extension e = one_spelled extension_text extensions word extension e
-
-pub extension_again : (extension : Extension) → extension_of (extension_text extension) ≡ Some extension
-unfolding extension_of
+pub extension_again : (extension : Extension) → one_of extension_text extensions (extension_text extension) ≡ Some extension
+unfolding one_of
 extension_again AudioLevel = refl
 extension_again AbsoluteSendTime = refl
 extension_again TransportSequenceNumber = refl

@@ -14,7 +14,8 @@ use Rattle.media_model.specs.declared.step.Step.TheVariants as step
 use Rattle.media_script.specs.Draft.{setup_of}
 use Rattle.media_script.specs.Order.{none_said, with_line}
 use Rattle.media_script.specs.Spelling.{words_of, is_passed_over}
-use Rattle.media_script.specs.Words.{◌>>=◌, number_of, narrow_of, millis_of, time_of, side_of, flag_of, hex_of, app_data_of, kind_of, keyframe_of, at_most, cipher_of, profile_of, key_of, codec_of, media_kind_of, rate_of, name_of, extension_of, sources_of, type_behind, optional}
+use Rattle.media_script.specs.Names.{cipher_text, codec_text, extension_text, keyframe_text, kind_text, media_kind_text, profile_text}
+use Rattle.media_script.specs.Words.{◌>>=◌, number_of, narrow_of, millis_of, time_of, side_of, flag_of, hex_of, app_data_of, at_most, key_of, rate_of, name_of, sources_of, type_behind, optional, one_of, kinds, keyframes, ciphers, profiles, codecs, media_kinds, extensions}
 
 -- the words without where they lie in memory
 abbrev pub texts : List (Bor (List ℕ)) → List (List ℕ)
@@ -40,10 +41,10 @@ done l (word ∷ words) = None
 -- what the reader of the first word reads, or the other reader where it is none of these
 abbrev pub look_up :
     {L : Type 0} → (List (List ℕ) → Option L) → List (List ℕ × (List (List ℕ) → Option L)) → List (List ℕ) → Option L
-look_up other kinds [] = None
+look_up other readers [] = None
 look_up other [] (kind ∷ words) = other (kind ∷ words)
-look_up other (k ∷ kinds) (kind ∷ words) =
-    if bytes_eq kind k.0 then k.1 words else look_up other kinds (kind ∷ words)
+look_up other (r ∷ readers) (kind ∷ words) =
+    if bytes_eq kind r.0 then r.1 words else look_up other readers (kind ∷ words)
 
 abbrev pub no_other : {L : Type 0} → List (List ℕ) → Option L
 no_other words = None
@@ -51,10 +52,10 @@ no_other words = None
 -- ---- setup lines, without their first word
 
 abbrev pub cipher_line : List (List ℕ) → Option SetupLine
-cipher_line = and_then cipher_of (λ cipher. done (line.Cipher cipher))
+cipher_line = and_then (one_of cipher_text ciphers) (λ cipher. done (line.Cipher cipher))
 
 abbrev pub profile_line : List (List ℕ) → Option SetupLine
-profile_line = and_then profile_of (λ profile. done (line.Profile profile))
+profile_line = and_then (one_of profile_text profiles) (λ profile. done (line.Profile profile))
 
 abbrev pub key_line : List (List ℕ) → Option SetupLine
 key_line = and_then key_of (λ key. done (line.Key key))
@@ -92,7 +93,7 @@ local_line =
 abbrev pub ext_line : List (List ℕ) → Option SetupLine
 ext_line =
     and_then (narrow_of (2 ^ 8)) (λ id.
-    and_then extension_of (λ extension.
+    and_then (one_of extension_text extensions) (λ extension.
     done (line.Ext (record { id = id; extension = extension }))))
 
 -- the payload type behind a name, where the first of these words has that
@@ -120,7 +121,7 @@ with_flag name more words = more (is_flagged name words) (behind (is_flagged nam
 abbrev pub type_line : List (List ℕ) → Option SetupLine
 type_line =
     and_then (narrow_of (2 ^ 8)) (λ pt.
-    and_then codec_of (λ codec.
+    and_then (one_of codec_text codecs) (λ codec.
     and_then rate_of (λ rate.
     with_type (codes "rtx=") (λ rtx.
     with_type (codes "red=") (λ red.
@@ -131,7 +132,7 @@ type_line =
 abbrev pub media_line : List (List ℕ) → Option SetupLine
 media_line =
     and_then (name_of 16) (λ mid.
-    and_then media_kind_of (λ kind.
+    and_then (one_of media_kind_text media_kinds) (λ kind.
     and_then (name_of 255) (λ cname.
     done (line.Media mid kind cname))))
 
@@ -246,7 +247,7 @@ abbrev pub foreign_step : List (List ℕ) → Option Step
 foreign_step =
     and_then side_of (λ side.
     and_then time_of (λ time.
-    and_then kind_of (λ kind.
+    and_then (one_of kind_text kinds) (λ kind.
     and_then hex_of (λ bytes.
     done (step.Foreign side time kind bytes)))))
 
@@ -264,7 +265,7 @@ ask_step =
     and_then side_of (λ side.
     and_then time_of (λ time.
     and_then (narrow_of (2 ^ 32)) (λ ssrc.
-    and_then keyframe_of (λ kind.
+    and_then (one_of keyframe_text keyframes) (λ kind.
     done (step.Ask side time ssrc kind)))))
 
 abbrev pub remb_step : List (List ℕ) → Option Step

@@ -26,7 +26,6 @@ use Rattle.rtp_wire.specs.declared.extension.Extension.{Extension}
 use Rattle.rtp_wire.specs.declared.extension.Extension.TheVariants.{AudioLevel, AbsoluteSendTime, TransportSequenceNumber, RtpMid, RtpStreamId, RepairedRtpStreamId, VideoOrientation, AbsoluteCaptureTime, PlayoutDelay}
 use Rattle.rtp_base.specs.declared.keyframe_request.KeyframeRequestKind.{KeyframeRequestKind}
 use Rattle.rtp_base.specs.declared.keyframe_request.KeyframeRequestKind.TheVariants.{Pli, Fir}
-use Rattle.media_script.specs.Names.{kind_text, keyframe_text, cipher_text, profile_text, codec_text, media_kind_text, extension_text}
 
 infixl 10 ◌>>=◌
 abbrev pub ◌>>=◌ : {A B : Type 0} → Option A → (A → Option B) → Option B
@@ -99,8 +98,13 @@ key_of word =
     if bytes_eq word (codes "zero") then Some Zero
     else (hex_of word >>= λ bytes. Some (Given bytes))
 
+-- the value of the word in a table of texts, as view shows them, and values
+abbrev pub in_table : {S X : Type 0} → (S → List ℕ) → List (S × X) → List ℕ → Option X
+in_table view [] word = None
+in_table view (row ∷ rows) word = if bytes_eq word (view row.0) then Some row.1 else in_table view rows word
+
 -- the first of these whose text the word is
-abbrev pub one_of : {X : Type 0} → (X → List ℕ) → List X → List ℕ → Option X
+unfoldable pub one_of : {X : Type 0} → (X → List ℕ) → List X → List ℕ → Option X
 one_of text [] word = None
 one_of text (x ∷ xs) word = if bytes_eq word (text x) then Some x else one_of text xs word
 
@@ -108,32 +112,21 @@ one_of text (x ∷ xs) word = if bytes_eq word (text x) then Some x else one_of 
 abbrev pub kinds : List Kind
 kinds = Rtp ∷ Rtcp ∷ []
 
-unfoldable pub kind_of : List ℕ → Option Kind
-kind_of word = one_of kind_text kinds word
-
-unfoldable pub keyframe_of : List ℕ → Option KeyframeRequestKind
-keyframe_of word = one_of keyframe_text (Pli ∷ Fir ∷ []) word
+-- how a key frame is asked for
+abbrev pub keyframes : List KeyframeRequestKind
+keyframes = Pli ∷ Fir ∷ []
 
 abbrev pub ciphers : List CipherName
 ciphers = Toy ∷ Sha ∷ []
 
-unfoldable pub cipher_of : List ℕ → Option CipherName
-cipher_of word = one_of cipher_text ciphers word
-
 abbrev pub profiles : List SrtpProfile
 profiles = Aes128CmSha1_80 ∷ AeadAes128Gcm ∷ AeadAes256Gcm ∷ []
-
-unfoldable pub profile_of : List ℕ → Option SrtpProfile
-profile_of word = one_of profile_text profiles word
 
 abbrev pub codecs : List Codec
 codecs = Opus ∷ Pcmu ∷ Pcma ∷ Telephone ∷ Vp8 ∷ Vp9 ∷ H264 ∷ H265 ∷ H266 ∷ Av1 ∷ []
 
-unfoldable pub codec_of : List ℕ → Option Codec
-codec_of word = one_of codec_text codecs word
-
-unfoldable pub media_kind_of : List ℕ → Option MediaKind
-media_kind_of word = one_of media_kind_text (Audio ∷ Video ∷ []) word
+abbrev pub media_kinds : List MediaKind
+media_kinds = Audio ∷ Video ∷ []
 
 abbrev pub extensions : List Extension
 extensions =
@@ -147,9 +140,6 @@ extensions =
     ∷ AbsoluteCaptureTime
     ∷ PlayoutDelay
     ∷ []
-
-unfoldable pub extension_of : List ℕ → Option Extension
-extension_of word = one_of extension_text extensions word
 
 -- at most 15 numbers of 32 bits, in network order
 unfoldable pub numbers_of : List ℕ → Option (List ℕ)

@@ -1,14 +1,11 @@
 // What setup lines say together.
 ghost use Rattle.std.specs.Prelude.{◌≡◌, OnOk};
-ghost use Rattle.media_script.specs.Draft.{blank, with_index, with_ssrc, told, setup_of};
+ghost use Rattle.media_script.specs.Draft.{blank, with_index, with_ssrc, with_key, told, setup_of};
 
 use crate::media_list::MediaList;
 use crate::setup_line::SetupLine;
 use media_base::Listed;
-use media_model::{
-    CipherName, Key, Local, Media, Mtu, NamedCache, NamedExtension, NamedStart, PayloadType,
-    ReportTimes, Setup, Side, SrtcpIndex,
-};
+use media_model::{CipherName, Key, Local, Media, Mtu, ReportTimes, Setup, Side, SrtcpIndex};
 use media_units::{Beginning, Duration};
 use rtp_wire::Ssrc;
 use srtp_core::SrtpProfile;
@@ -20,27 +17,11 @@ const DEFAULT_UNIX_SECS: u64 = 1_700_000_000;
 /// What the setup lines so far say, and the default of each that does not stand.
 #[derive(Drop)]
 pub struct Draft {
-    pub cipher: CipherName,
-    pub profile: SrtpProfile,
-    /// Required.
-    pub key: Option<Key>,
-    pub beginning: Beginning,
-    pub mtu: Mtu,
-    /// After how long without packets a stream that comes counts as paused.
-    pub pause_threshold: Duration,
-    /// After how long the next report of a stream is due.
-    pub intervals: ReportTimes,
-    /// What side A alone brings.
-    pub a: Local,
-    /// What side B alone brings.
-    pub b: Local,
-    pub exts: Listed<NamedExtension>,
-    pub types: Listed<PayloadType>,
-    pub media: MediaList,
-    /// The numbers of first repairs.
-    pub starts: Listed<NamedStart>,
-    /// What streams keep to send it again.
-    pub caches: Listed<NamedCache>,
+    /// Its media sections stand in `media`.
+    setup: Setup,
+    /// Whether the key stands, which is required.
+    has_key: bool,
+    media: MediaList,
 }
 
 impl Draft {
@@ -48,10 +29,10 @@ impl Draft {
     pub fn new(alloc: Global) -> Self
         ensures { result ≡ blank }
     {
-        Draft {
+        let setup = Setup {
             cipher: CipherName::Toy,
             profile: SrtpProfile::AeadAes128Gcm,
-            key: None,
+            key: Key::Zero,
             beginning: Beginning {
                 unix_secs: DEFAULT_UNIX_SECS,
             },
@@ -68,9 +49,14 @@ impl Draft {
             },
             exts: Listed::new(alloc),
             types: Listed::new(alloc),
-            media: MediaList::new(alloc),
+            media: Listed::new(alloc),
             starts: Listed::new(alloc),
             caches: Listed::new(alloc),
+        };
+        Draft {
+            setup,
+            has_key: false,
+            media: MediaList::new(alloc),
         }
     }
 
@@ -79,9 +65,17 @@ impl Draft {
         ensures { self.new ≡ with_index side index self.old }
     {
         match side {
-            Side::A => self.a.srtcp_index = index,
-            Side::B => self.b.srtcp_index = index,
+            Side::A => self.setup.a.srtcp_index = index,
+            Side::B => self.setup.b.srtcp_index = index,
         }
+    }
+
+    // The keying material of both sides.
+    fn set_key(&mut self, key: Key)
+        ensures { self.new ≡ with_key key self.old }
+    {
+        self.setup.key = key;
+        self.has_key = true;
     }
 
     // The SSRC under which a side speaks of what it receives.
@@ -89,8 +83,8 @@ impl Draft {
         ensures { self.new ≡ with_ssrc side ssrc self.old }
     {
         match side {
-            Side::A => self.a.ssrc = ssrc,
-            Side::B => self.b.ssrc = ssrc,
+            Side::A => self.setup.a.ssrc = ssrc,
+            Side::B => self.setup.b.ssrc = ssrc,
         }
     }
 
@@ -99,17 +93,17 @@ impl Draft {
         ensures { OnOk result (self.new ≡ told self.old line) }
     {
         match line {
-            SetupLine::Cipher(cipher) => self.cipher = cipher,
-            SetupLine::Profile(profile) => self.profile = profile,
-            SetupLine::Key(key) => self.key = Some(key),
-            SetupLine::Unix(beginning) => self.beginning = beginning,
-            SetupLine::Mtu(mtu) => self.mtu = mtu,
-            SetupLine::Pause(threshold) => self.pause_threshold = threshold,
-            SetupLine::Reports(intervals) => self.intervals = intervals,
+            SetupLine::Cipher(cipher) => self.setup.cipher = cipher,
+            SetupLine::Profile(profile) => self.setup.profile = profile,
+            SetupLine::Key(key) => self.set_key(key),
+            SetupLine::Unix(beginning) => self.setup.beginning = beginning,
+            SetupLine::Mtu(mtu) => self.setup.mtu = mtu,
+            SetupLine::Pause(threshold) => self.setup.pause_threshold = threshold,
+            SetupLine::Reports(intervals) => self.setup.intervals = intervals,
             SetupLine::Rtcp(side, index) => self.set_index(side, index),
             SetupLine::Local(side, ssrc) => self.set_ssrc(side, ssrc),
-            SetupLine::Ext(named) => self.exts.push(named)?,
-            SetupLine::Type(payload_type) => self.types.push(payload_type)?,
+            SetupLine::Ext(named) => self.setup.exts.push(named)?,
+            SetupLine::Type(payload_type) => self.setup.types.push(payload_type)?,
             SetupLine::Media { mid, kind, cname } => self.media.push(Media {
                 mid,
                 kind,
@@ -117,8 +111,8 @@ impl Draft {
                 streams: Listed::new(alloc),
             })?,
             SetupLine::Stream { mid, stream } => self.media.push_stream(mid, stream)?,
-            SetupLine::Start(start) => self.starts.push(start)?,
-            SetupLine::Cache(named) => self.caches.push(named)?,
+            SetupLine::Start(start) => self.setup.starts.push(start)?,
+            SetupLine::Cache(named) => self.setup.caches.push(named)?,
         }
         Ok(())
     }
@@ -127,22 +121,11 @@ impl Draft {
     pub fn finish(self) -> Option<Setup>
         ensures { result ≡ setup_of self }
     {
-        let key = self.key?;
-        Some(Setup {
-            cipher: self.cipher,
-            profile: self.profile,
-            key,
-            beginning: self.beginning,
-            mtu: self.mtu,
-            pause_threshold: self.pause_threshold,
-            intervals: self.intervals,
-            a: self.a,
-            b: self.b,
-            exts: self.exts,
-            types: self.types,
-            media: self.media.into_listed(),
-            starts: self.starts,
-            caches: self.caches,
-        })
+        if !self.has_key {
+            return None;
+        }
+        let mut setup = self.setup;
+        setup.media = self.media.into_listed();
+        Some(setup)
     }
 }

@@ -5,8 +5,8 @@ pub fn script_spells_one()
     ensures { SpellsOne }
 {}
 
-/// What is read of a word is how it is spelled, and what is spelled so is read: numbers, moments and
-/// names.
+/// What is read of a word is how it is spelled, and what is spelled so is read: numbers, moments
+/// and names.
 pub fn words_are_spelled()
     ensures { WordsAreSpelled }
 {}

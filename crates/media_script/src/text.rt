@@ -171,7 +171,8 @@ pub fn put_end(text: &mut String, genuine: bool, repairs: bool) -> Result<(), Al
     writeln!(text, "end genuine={genuine} repairs={repairs}")
 }
 
-/// The text of a run that was played to its end, of which the caller says whether its repairs widen.
+/// The text of a run that was played to its end, of which the caller says whether its repairs
+/// widen.
 pub fn write_transcript(
     alloc: Global,
     repairs: bool,

@@ -16,8 +16,8 @@ pub fn put_line(text: &mut String, entry: &Entry) -> Result<(), AllocError>
     Ok(())
 }
 
-/// The last line of the text of a run that was played to its end, with its line feed. The caller says
-/// whether the run's repairs widen.
+/// The last line of the text of a run that was played to its end, with its line feed. The caller
+/// says whether the run's repairs widen.
 pub fn end_line(alloc: Global, repairs: bool, transcript: &Transcript) -> Result<String, AllocError>
     ensures { IfOk result (λ text. string_bytes text ≡ end_text (is_genuine transcript.now) repairs) }
 {

@@ -3,7 +3,8 @@ ghost use Rattle.std.specs.Prelude.{◌≡◌, ◌^◌, IsTrue, IfOk, codes};
 ghost use Rattle.std.specs.Option.{ForSome, option_copied};
 ghost use Rattle.std.specs.Char.{is_ascii_alphanumeric};
 ghost use Rattle.std.specs.List.{list_all};
-ghost use Rattle.media_script.specs.Words.{plain_front, number_of, narrow_of, millis_of, time_of, side_of, flag_of, hex_of, app_data_of, kind_of, keyframe_of, at_most, cipher_of, profile_of, key_of, codec_of, media_kind_of, rate_of, is_name, name_of, extension_of, numbers_of, sources_of, type_behind, optional};
+ghost use Rattle.media_script.specs.Words.{plain_front, number_of, narrow_of, millis_of, time_of, side_of, flag_of, hex_of, app_data_of, at_most, key_of, rate_of, is_name, name_of, numbers_of, sources_of, type_behind, optional, one_of, in_table, kinds, keyframes, ciphers, profiles, codecs, media_kinds, extensions};
+ghost use Rattle.media_script.specs.Names.{kind_text, keyframe_text, cipher_text, profile_text, codec_text, media_kind_text, extension_text};
 ghost use Rattle.media_script.specs.Gives.{Gives};
 
 use crate::error::LineError;
@@ -173,58 +174,57 @@ pub fn first_number(word: &[u8]) -> Result<FirstNumber, LineError>
     }
 }
 
-#[tactic(auto, unfolding(crate::specs::Words::kind_of))]
+// The value of the word in a table.
+fn one_of<T: Copy>(word: &[u8], table: &[(&str, T)]) -> Result<T, LineError>
+    ensures { Gives (λ x. x) result (in_table (λ s. s.now) table.now word.now) }
+{
+    for (text, value) in table {
+        if word == text.as_bytes() {
+            return Ok(*value);
+        }
+    }
+    Err(LineError::Outside)
+}
+
+#[tactic(auto, unfolding(crate::specs::Words::one_of))]
 pub fn kind(word: &[u8]) -> Result<Kind, LineError>
-    ensures { Gives (λ k. k) result (kind_of word.now) }
+    ensures { Gives (λ k. k) result (one_of kind_text kinds word.now) }
 {
-    if word == b"rtp".as_slice() {
-        Ok(Kind::Rtp)
-    } else if word == b"rtcp".as_slice() {
-        Ok(Kind::Rtcp)
-    } else {
-        Err(LineError::Outside)
-    }
+    one_of(word, &[("rtp", Kind::Rtp), ("rtcp", Kind::Rtcp)])
 }
 
-#[tactic(auto, unfolding(crate::specs::Words::keyframe_of))]
+#[tactic(auto, unfolding(crate::specs::Words::one_of))]
 pub fn keyframe(word: &[u8]) -> Result<KeyframeRequestKind, LineError>
-    ensures { Gives (λ k. k) result (keyframe_of word.now) }
+    ensures { Gives (λ k. k) result (one_of keyframe_text keyframes word.now) }
 {
-    if word == b"pli".as_slice() {
-        Ok(KeyframeRequestKind::Pli)
-    } else if word == b"fir".as_slice() {
-        Ok(KeyframeRequestKind::Fir)
-    } else {
-        Err(LineError::Outside)
-    }
+    one_of(
+        word,
+        &[
+            ("pli", KeyframeRequestKind::Pli),
+            ("fir", KeyframeRequestKind::Fir),
+        ],
+    )
 }
 
-#[tactic(auto, unfolding(crate::specs::Words::cipher_of))]
+#[tactic(auto, unfolding(crate::specs::Words::one_of))]
 pub fn cipher(word: &[u8]) -> Result<CipherName, LineError>
-    ensures { Gives (λ c. c) result (cipher_of word.now) }
+    ensures { Gives (λ c. c) result (one_of cipher_text ciphers word.now) }
 {
-    if word == b"toy".as_slice() {
-        Ok(CipherName::Toy)
-    } else if word == b"sha".as_slice() {
-        Ok(CipherName::Sha)
-    } else {
-        Err(LineError::Outside)
-    }
+    one_of(word, &[("toy", CipherName::Toy), ("sha", CipherName::Sha)])
 }
 
-#[tactic(auto, unfolding(crate::specs::Words::profile_of))]
+#[tactic(auto, unfolding(crate::specs::Words::one_of))]
 pub fn profile(word: &[u8]) -> Result<SrtpProfile, LineError>
-    ensures { Gives (λ p. p) result (profile_of word.now) }
+    ensures { Gives (λ p. p) result (one_of profile_text profiles word.now) }
 {
-    if word == b"cm".as_slice() {
-        Ok(SrtpProfile::Aes128CmSha1_80)
-    } else if word == b"gcm128".as_slice() {
-        Ok(SrtpProfile::AeadAes128Gcm)
-    } else if word == b"gcm256".as_slice() {
-        Ok(SrtpProfile::AeadAes256Gcm)
-    } else {
-        Err(LineError::Outside)
-    }
+    one_of(
+        word,
+        &[
+            ("cm", SrtpProfile::Aes128CmSha1_80),
+            ("gcm128", SrtpProfile::AeadAes128Gcm),
+            ("gcm256", SrtpProfile::AeadAes256Gcm),
+        ],
+    )
 }
 
 #[tactic(auto, unfolding(crate::specs::Words::key_of))]
@@ -238,73 +238,55 @@ pub fn key(alloc: Global, word: &[u8]) -> Result<Key, LineError>
     Ok(Key::Given(Bytes::from_vec(bytes)))
 }
 
-#[tactic(auto, unfolding(crate::specs::Words::codec_of))]
+#[tactic(auto, unfolding(crate::specs::Words::one_of))]
 pub fn codec(word: &[u8]) -> Result<Codec, LineError>
-    ensures { Gives (λ c. c) result (codec_of word.now) }
+    ensures { Gives (λ c. c) result (one_of codec_text codecs word.now) }
 {
-    if word == b"opus".as_slice() {
-        Ok(Codec::Opus)
-    } else if word == b"pcmu".as_slice() {
-        Ok(Codec::Pcmu)
-    } else if word == b"pcma".as_slice() {
-        Ok(Codec::Pcma)
-    } else if word == b"telephone".as_slice() {
-        Ok(Codec::Telephone)
-    } else if word == b"vp8".as_slice() {
-        Ok(Codec::Vp8)
-    } else if word == b"vp9".as_slice() {
-        Ok(Codec::Vp9)
-    } else if word == b"h264".as_slice() {
-        Ok(Codec::H264)
-    } else if word == b"h265".as_slice() {
-        Ok(Codec::H265)
-    } else if word == b"h266".as_slice() {
-        Ok(Codec::H266)
-    } else if word == b"av1".as_slice() {
-        Ok(Codec::Av1)
-    } else {
-        Err(LineError::Outside)
-    }
+    one_of(
+        word,
+        &[
+            ("opus", Codec::Opus),
+            ("pcmu", Codec::Pcmu),
+            ("pcma", Codec::Pcma),
+            ("telephone", Codec::Telephone),
+            ("vp8", Codec::Vp8),
+            ("vp9", Codec::Vp9),
+            ("h264", Codec::H264),
+            ("h265", Codec::H265),
+            ("h266", Codec::H266),
+            ("av1", Codec::Av1),
+        ],
+    )
 }
 
-#[tactic(auto, unfolding(crate::specs::Words::media_kind_of))]
+#[tactic(auto, unfolding(crate::specs::Words::one_of))]
 pub fn media_kind(word: &[u8]) -> Result<MediaKind, LineError>
-    ensures { Gives (λ k. k) result (media_kind_of word.now) }
+    ensures { Gives (λ k. k) result (one_of media_kind_text media_kinds word.now) }
 {
-    if word == b"audio".as_slice() {
-        Ok(MediaKind::Audio)
-    } else if word == b"video".as_slice() {
-        Ok(MediaKind::Video)
-    } else {
-        Err(LineError::Outside)
-    }
+    one_of(
+        word,
+        &[("audio", MediaKind::Audio), ("video", MediaKind::Video)],
+    )
 }
 
-#[tactic(auto, unfolding(crate::specs::Words::extension_of))]
+#[tactic(auto, unfolding(crate::specs::Words::one_of))]
 pub fn extension(word: &[u8]) -> Result<Extension, LineError>
-    ensures { Gives (λ e. e) result (extension_of word.now) }
+    ensures { Gives (λ e. e) result (one_of extension_text extensions word.now) }
 {
-    if word == b"level".as_slice() {
-        Ok(Extension::AudioLevel)
-    } else if word == b"abs".as_slice() {
-        Ok(Extension::AbsoluteSendTime)
-    } else if word == b"twcc".as_slice() {
-        Ok(Extension::TransportSequenceNumber)
-    } else if word == b"mid".as_slice() {
-        Ok(Extension::RtpMid)
-    } else if word == b"rid".as_slice() {
-        Ok(Extension::RtpStreamId)
-    } else if word == b"rrid".as_slice() {
-        Ok(Extension::RepairedRtpStreamId)
-    } else if word == b"orient".as_slice() {
-        Ok(Extension::VideoOrientation)
-    } else if word == b"capture".as_slice() {
-        Ok(Extension::AbsoluteCaptureTime)
-    } else if word == b"delay".as_slice() {
-        Ok(Extension::PlayoutDelay)
-    } else {
-        Err(LineError::Outside)
-    }
+    one_of(
+        word,
+        &[
+            ("level", Extension::AudioLevel),
+            ("abs", Extension::AbsoluteSendTime),
+            ("twcc", Extension::TransportSequenceNumber),
+            ("mid", Extension::RtpMid),
+            ("rid", Extension::RtpStreamId),
+            ("rrid", Extension::RepairedRtpStreamId),
+            ("orient", Extension::VideoOrientation),
+            ("capture", Extension::AbsoluteCaptureTime),
+            ("delay", Extension::PlayoutDelay),
+        ],
+    )
 }
 
 // The most bytes of contributing sources: 15 of 32 bits (RFC 3550 section 5.1).

@@ -129,8 +129,8 @@ impl<T: Amount> ValueHistory<T> {
         self.total
     }
 
-    /// Lets go of what was added longer ago than 1 s, up to the first that was not. Where the moments
-    /// do not fall, what is held then is all that is not older.
+    /// Lets go of what was added longer ago than 1 s, up to the first that was not. Where the
+    /// moments do not fall, what is held then is all that is not older.
     pub fn purge_old(&mut self, now: Instant)
         ensures purged { self.new ≡ record self.old { held = purged self.old.limit now self.old.held } }
         ensures unfalling { IsUnfalling self.old.held

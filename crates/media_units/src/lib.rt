@@ -1,5 +1,5 @@
-//! Moments, lengths of time and the calendar, rates and what is owed at a rate, and amounts that count for
-//! some time, all in whole numbers.
+//! Moments, lengths of time and the calendar, rates and what is owed at a rate, and amounts that
+//! count for some time, all in whole numbers.
 #![tactic(auto)]
 
 mod history;
@@ -11,7 +11,7 @@ mod wallclock;
 
 pub use history::{Amount, ValueHistory};
 pub use rate::{Bitrate, DataSize, Debt};
-pub use soonest::Soonest;
+pub use soonest::{Soonest, earlier};
 pub use time::{Duration, Instant, already_happened, not_happening};
 pub use trip::calculate_rtt;
 pub use wallclock::{

@@ -1,4 +1,5 @@
-ghost use Rattle.media_units.specs.Soonest.{IsSoonest};
+ghost use Rattle.std.specs.Prelude.{◌≡◌};
+ghost use Rattle.media_units.specs.Soonest.{IsSoonest, earlier};
 
 use crate::Instant;
 
@@ -12,8 +13,8 @@ pub trait Soonest: Sized {
         ensures { soonest_gives self other result };
 }
 
-/// A moment that may be there, and what comes with it. On a tie it is the second pair. With no moment it
-/// is None and a default.
+/// A moment that may be there, and what comes with it. On a tie it is the second pair. With no
+/// moment it is None and a default.
 impl<T: Default + Drop> Soonest for (Option<Instant>, T) {
     ghost soonest_gives = { IsSoonest T.is_default };
 
@@ -24,5 +25,16 @@ impl<T: Default + Drop> Soonest for (Option<Instant>, T) {
             (None, Some(_)) => other,
             (None, None) => (None, T::default()),
         }
+    }
+}
+
+/// The earlier of two moments that may be there.
+pub fn earlier(one: Option<Instant>, other: Option<Instant>) -> Option<Instant>
+    ensures { result ≡ earlier one other }
+{
+    match (one, other) {
+        (Some(one), Some(other)) => Some(one.min(other)),
+        (Some(one), None) => Some(one),
+        (None, other) => other,
     }
 }

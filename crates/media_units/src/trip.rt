@@ -3,11 +3,13 @@ ghost use Rattle.media_units.specs.Trip.{middle_bits, trip_nanos};
 
 use crate::Duration;
 
-/// The round trip to a peer by its report block (RFC 3550, section 6.4.1), rounded down to nanoseconds.
+/// The round trip to a peer by its report block (RFC 3550, section 6.4.1), rounded down to
+/// nanoseconds.
 ///
-/// `ntp` is the moment now, counted from 1900. `delay` is the block's delay since the last report, in
-/// 65,536ths of a second; it is 0 where the peer had no report. `last_report` is the middle 32 bits of
-/// the moment of that report. None where the peer had no report, or reports more than has passed.
+/// `ntp` is the moment now, counted from 1900. `delay` is the block's delay since the last report,
+/// in 65,536ths of a second; it is 0 where the peer had no report. `last_report` is the middle 32
+/// bits of the moment of that report. None where the peer had no report, or reports more than has
+/// passed.
 pub fn calculate_rtt(ntp: Duration, delay: u32, last_report: u32) -> Option<Duration>
     ensures { SomeIff result ((0 < delay) × (delay + last_report ≤ middle_bits ntp))
         (trip_nanos (middle_bits ntp - delay - last_report)) }

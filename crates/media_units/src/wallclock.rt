@@ -89,8 +89,8 @@ impl InstantExt for Instant {
 /// Seconds from 1900 to the Unix epoch: 70 years, 17 of them with a leap day (RFC 868).
 pub const SECONDS_1900: u64 = 2_208_988_800;
 
-/// A moment of the calendar, and the 64 bits that tell it in RTCP (RFC 3550, section 4): seconds from
-/// 1900 in the upper 32 bits, their fraction in the lower.
+/// A moment of the calendar, and the 64 bits that tell it in RTCP (RFC 3550, section 4): seconds
+/// from 1900 in the upper 32 bits, their fraction in the lower.
 pub trait SystemTimeExt {
     /// Nanoseconds from the Unix epoch.
     ghost unix: { Self → ℕ };

@@ -4,6 +4,7 @@ ghost use Rattle.std.specs.Io.KnownBytes.{Appends};
 ghost use Rattle.std.specs.Option.{option_copied};
 ghost use Rattle.mediabench.specs.declared.error.End.{End as Ended};
 ghost use Rattle.mediabench.specs.declared.table.Row.{Row as Listed};
+ghost use Rattle.mediabench.specs.Ends.{end_of};
 ghost use Rattle.mediabench.specs.Command.{IsNamed, Does, AsksForSome};
 ghost use Rattle.mediabench.specs.Text.{names_text};
 
@@ -39,8 +40,7 @@ fn row_of<'a>(rows: &'a [Row], name: &str) -> Option<&'a Row>
 
 // The end of a command.
 fn end_of(done: Result<(), BenchError>) -> End
-    ensures done { result ≡ End.Done → IsOk done }
-    ensures other { result ≡ End.Usage → ⊥ }
+    ensures { result ≡ end_of done }
 {
     match done {
         Ok(()) => End::Done,
@@ -49,8 +49,8 @@ fn end_of(done: Result<(), BenchError>) -> End
 }
 
 /// Does what the words behind the program's name say: `rows` writes the names of the rows of the
-/// table, each on a line; `run` times all rows, and writes a line for each when it is known; `run NAME`
-/// does so for one.
+/// table, each on a line; `run` times all rows, and writes a line for each when it is known; `run
+/// NAME` does so for one.
 ///
 /// It ends with `Usage` exactly where the words are none of these or no row has the name, and is
 /// `Stopped` where the clock cannot be read, memory runs out or the sink fails.

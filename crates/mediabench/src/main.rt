@@ -1,5 +1,5 @@
-//! Times the operations of the other crates: `rows` writes the names of the rows of the table, `run`
-//! times all of them, and `run NAME` one.
+//! Times the operations of the other crates: `rows` writes the names of the rows of the table,
+//! `run` times all of them, and `run NAME` one.
 #![tactic(auto)]
 
 mod bench_main;

@@ -3,7 +3,7 @@ use Rattle.std.proofs.Common.{◌≡◌, inl, inr, ℕ, zero, suc, ◌<◌, ◌�
 use Rattle.std.specs.Prelude.{slice_get}
 use Rattle.std.specs.declared.option.Option.{Option}
 use Rattle.std.specs.Io.KnownBytes.{Consumes, IsAtEnd}
-use Rattle.std.proofs.lemmas.List.{append-nil, length-append}
+use Rattle.std.proofs.lemmas.List.{append-nil}
 use Rattle.media_model.specs.declared.entry.Entry.{Entry}
 use Rattle.pace_core.specs.declared.run.PaceCall.{PaceCall}
 use Rattle.pace_core.specs.Past.{Past, made}
@@ -18,6 +18,7 @@ use Rattle.mediasim.specs.Command.{IsCommand, Makes}
 use Rattle.mediasim.specs.Ends.{Tells}
 use Rattle.mediasim.specs.MediaMain.{Cause, Answers, TellsCalls, RunsCalls, ArePaced}
 use Rattle.mediasim.specs.PaceCommand.{PaceEnds, PaceMakes, EndsInPace, AnswersCalls, PlaysAllCalls}
+use Rattle.mediasim.proofs.Whole.{read_within}
 
 -- what is read to the end of input is all that the source tells
 calls_read : (left left' : Option (List ℕ)) (read : List ℕ) (rate : ℕ) (calls : List PaceCall) → TellsCalls left rate calls → Consumes left left' read
@@ -26,16 +27,6 @@ calls_read None left' read rate calls told taken end = absurd told
 calls_read (Some xs) None read rate calls told taken end = absurd taken
 calls_read (Some xs) (Some ys) read rate calls told taken end =
     subst (λ (bs : List ℕ). IsPaceScript bs rate calls) (taken ∙ ap (λ (zs : List ℕ). read ++ zs) end ∙ append-nil read) told
-
--- no more is read than the source tells
-read_within : (left left' : Option (List ℕ)) (bytes read : List ℕ) → left ≡ Some bytes → Consumes left left' read → length read ≤ length bytes
-read_within None left' bytes read is taken = absurd cc
-read_within (Some xs) None bytes read is taken = absurd taken
-read_within (Some xs) (Some ys) bytes read is taken =
-    let same : bytes ≡ read ++ ys = cc (is, taken) in
-    let total = length-append read ys in
-    let len : length bytes ≡ length (read ++ ys) = ap length same in
-    omega (arith, total, len)
 
 -- where the words name pace, pace made it, and there is no transcript
 pace_made : (words : List (List ℕ)) (command : Command) (read : List ℕ) (end : End) (transcript : Option (List Entry)) (text : List ℕ)

@@ -42,7 +42,7 @@ tells_read (Some xs) (Some ys) read setup steps told taken end =
     subst (λ (bs : List ℕ). IsScript bs setup steps) (taken ∙ ap (λ (zs : List ℕ). read ++ zs) end ∙ append-nil read) told
 
 -- no more is read than the source tells
-read_within : (left left' : Option (List ℕ)) (bytes read : List ℕ) → left ≡ Some bytes → Consumes left left' read → length read ≤ length bytes
+pub read_within : (left left' : Option (List ℕ)) (bytes read : List ℕ) → left ≡ Some bytes → Consumes left left' read → length read ≤ length bytes
 read_within None left' bytes read is taken = absurd cc
 read_within (Some xs) None bytes read is taken = absurd taken
 read_within (Some xs) (Some ys) bytes read is taken =

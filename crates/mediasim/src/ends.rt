@@ -19,8 +19,8 @@ pub enum End {
     Step(u64, StepFault),
     /// A step had the side seal a datagram behind the last number of a key.
     KeyExhausted(Side, Counter),
-    /// The first call of a pace script, counted from 1, that may not come: its moment falls, or it sends
-    /// a packet that no poll gave a queue for.
+    /// The first call of a pace script, counted from 1, that may not come: its moment falls, or it
+    /// sends a packet that no poll gave a queue for.
     Call(u64),
     /// The source failed.
     ReadFault,
@@ -89,6 +89,7 @@ pub fn tell_line<K: Sink>(sink: &mut K, end: End, line: &[u8]) -> Report
     ensures tells { Tells (K.written sink.old) (K.written sink.new) end None line.now result.end result.transcript }
     ensures kept { (result.end ≡ end) ⊎ ((result.end ≡ End.WriteFault)
         × Rose (K.fault_count sink.old) (K.fault_count sink.new)) }
+    ensures write_told { (result.end ≡ End.WriteFault) ⊎ (K.fault_count sink.new ≡ K.fault_count sink.old) }
 {
     match write_all(sink, line) {
         Ok(()) => Report::new(end, None),

@@ -73,6 +73,7 @@ fn write_gathered<K: Sink>(sink: &mut K, gathered: &mut String) -> Result<(), Fa
         × ((out ≡ []) ⊎ (string_bytes gathered.new ≡ []))) }
     ensures front { OnErr result (WritesFront (K.written sink.old) (K.written sink.new) (string_bytes gathered.old)) }
     ensures cause { HasCause (K.fault_count sink.old) (K.fault_count sink.new) result }
+    ensures told { OnOk result (K.fault_count sink.new ≡ K.fault_count sink.old) }
 {
     if gathered.len() < PIECE {
         return Ok(());
@@ -85,8 +86,8 @@ fn write_gathered<K: Sink>(sink: &mut K, gathered: &mut String) -> Result<(), Fa
 /// Writes the lines of entries, and a last line. Memory is taken for some lines at a time.
 ///
 /// # Errors
-/// `Failed` only where the sink failed, with a front of the text written; `Memory`, with the lines of
-/// some entries at the front written.
+/// `Failed` exactly where the sink failed, with a front of the text written; `Memory`, with the
+/// lines of some entries at the front written.
 pub fn write_text<K: Sink>(
     alloc: Global,
     sink: &mut K,
@@ -100,6 +101,7 @@ pub fn write_text<K: Sink>(
         → (count : ℕ) × Appends (K.written sink.old) (K.written sink.new) (entries_text (take count entries.now)) }
     ensures failed { IsErrOf result TextError.Failed → Rose (K.fault_count sink.old) (K.fault_count sink.new) }
     ensures later { K.fault_count sink.old ≤ K.fault_count sink.new }
+    ensures told { IsErrOf result TextError.Failed ⊎ (K.fault_count sink.new ≡ K.fault_count sink.old) }
 {
     let mut gathered = String::new(alloc);
     for entry in entries {

@@ -1,5 +1,5 @@
-//! Plays a script from standard input, of two media sessions (`run`) or of a pacer's calls (`pace`), and
-//! writes what happened to standard output.
+//! Plays a script from standard input, of two media sessions (`run`) or of a pacer's calls
+//! (`pace`), and writes what happened to standard output.
 #![tactic(auto)]
 
 mod command;

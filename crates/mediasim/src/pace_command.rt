@@ -1,5 +1,5 @@
 // The command pace: what it makes of a whole input.
-ghost use Rattle.std.specs.Prelude.{◌≡◌, ◌++◌, All, string_bytes, IfOk, OnOk};
+ghost use Rattle.std.specs.Prelude.{◌≡◌, ◌⊎◌, ◌++◌, All, string_bytes, IfOk, OnOk};
 ghost use Rattle.media_base.specs.Causes.{Rose};
 ghost use Rattle.pace_core.specs.Run.{IsShort};
 ghost use Rattle.mediasim.specs.declared.command.Command.TheVariants.{Pace};
@@ -72,11 +72,13 @@ fn play_script(alloc: Global, bytes: &[u8]) -> Result<Ending, AllocError>
     }
 }
 
-/// Plays the pace script that these bytes spell on a leaky bucket pacer, and writes the text of its log.
+/// Plays the pace script that these bytes spell on a leaky bucket pacer, and writes the text of its
+/// log.
 pub fn pace_command<K: Sink>(alloc: Global, bytes: &[u8], sink: &mut K) -> Report
     ensures status { result.status ≡ status_of result.end }
     ensures carries { Carries Pace bytes.now (K.written sink.old) (K.written sink.new) result.end result.transcript }
     ensures write_fault { result.end ≡ End.WriteFault → Rose (K.fault_count sink.old) (K.fault_count sink.new) }
+    ensures write_told { (result.end ≡ End.WriteFault) ⊎ (K.fault_count sink.new ≡ K.fault_count sink.old) }
 {
     match play_script(alloc, bytes) {
         Ok(ending) => tell_line(sink, ending.end, ending.text.as_bytes()),

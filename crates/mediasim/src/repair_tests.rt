@@ -100,7 +100,8 @@ const REPAIRS: [Row; 4] = [
     ),
 ];
 
-// Repairs of no byte and of one restore nothing; one of two bytes has an empty payload. None opens twice.
+// Repairs of no byte and of one restore nothing; one of two bytes has an empty payload. None opens
+// twice.
 const SHORT_REPAIRS: [Row; 3] = [
     (
         "no number",
@@ -144,8 +145,8 @@ const SHORT_REPAIRS: [Row; 3] = [
     ),
 ];
 
-// A repair of number 9 without a payload, one of number 11 with one byte, and one of number 10 that has
-// the number 5 alone.
+// A repair of number 9 without a payload, one of number 11 with one byte, and one of number 10 that
+// has the number 5 alone.
 const NO_PAYLOAD: &str =
     "foreign B 1 rtp 80610009000000000000002b80610009002b00020000002200000001\n";
 

@@ -1,5 +1,5 @@
 // The command run: what it makes of a whole input.
-ghost use Rattle.std.specs.Prelude.{◌≡◌, ◌++◌, ℕ, Some, None, take, string_bytes, IfOk, IfErr};
+ghost use Rattle.std.specs.Prelude.{◌≡◌, ◌⊎◌, ◌++◌, ℕ, Some, None, take, string_bytes, IfOk, IfErr};
 ghost use Rattle.media_base.specs.Causes.{Rose};
 ghost use Rattle.media_laws.specs.Play.{Played};
 ghost use Rattle.media_play.specs.Running.{HasCause, Holds};
@@ -210,6 +210,7 @@ pub fn run_command<K: Sink>(alloc: Global, bytes: &[u8], sink: &mut K) -> Report
     ensures status { result.status ≡ status_of result.end }
     ensures carries { Carries Run bytes.now (K.written sink.old) (K.written sink.new) result.end result.transcript }
     ensures write_fault { result.end ≡ End.WriteFault → Rose (K.fault_count sink.old) (K.fault_count sink.new) }
+    ensures write_told { (result.end ≡ End.WriteFault) ⊎ (K.fault_count sink.new ≡ K.fault_count sink.old) }
 {
     let Ending { end, entries, last } = play_script(alloc, bytes);
     match write_text(alloc, sink, entries.entries(), last.as_slice()) {

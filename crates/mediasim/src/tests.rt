@@ -158,8 +158,8 @@ fn with_payloads(alloc: Global, steps: &str) -> Result<String, Fail> {
     Ok(text)
 }
 
-// What the run of `ONE_WRITE` and a seal of the toy cipher says under another cipher, under which that
-// does not open.
+// What the run of `ONE_WRITE` and a seal of the toy cipher says under another cipher, under which
+// that does not open.
 const ONE_OF_TWO: &[Says] = &[
     Lines("got B rtp", 2),
     Lines("yielded B", 1),
@@ -170,11 +170,11 @@ const ONE_OF_TWO: &[Says] = &[
 const WRITE_AND_FOREIGN: &str =
     "write A 1 42 1 96 0 0 0 0102\ntick A 1\ndeliver B 1 1\nforeign B 1 rtp 80600002000000000000002a0380600002002a00020000002803000001\n";
 
-// `ONE_WRITE` by setup: AEAD_AES_256_GCM, whose session key ends with the number of the second round;
-// AES_CM_128_HMAC_SHA1_80, whose tag is HMAC-SHA1 (RFC 2104) under the key
+// `ONE_WRITE` by setup: AEAD_AES_256_GCM, whose session key ends with the number of the second
+// round; AES_CM_128_HMAC_SHA1_80, whose tag is HMAC-SHA1 (RFC 2104) under the key
 // 0000000000000001000000000000000000000001; the mid v under the id 1 (RFC 8285 section 4.2), with a
-// datagram of an SSRC that no stream has; the type of redundant data (RFC 2198) of another type; and the
-// other cipher.
+// datagram of an SSRC that no stream has; the type of redundant data (RFC 2198) of another type;
+// and the other cipher.
 const WRITES: [Run; 8] = [
     ("", ONE_WRITE, Wanted(0, Done, &[Is(ONE_WRITE_TEXT)])),
     (
@@ -438,8 +438,8 @@ fn script_of(alloc: Global, lines: &str, steps: &str) -> Result<Vec<u8>, Fail> {
 }
 
 // A write, and the reports of both sides on it: the sender's report and description, the receiver's
-// report and moment, and the sender's next report with its answer. The toy cipher seals them under a key
-// of zeros; moment 0 is 1,700,000,000 s after 1970.
+// report and moment, and the sender's next report with its answer. The toy cipher seals them under
+// a key of zeros; moment 0 is 1,700,000,000 s after 1970.
 const REPORT_LINES: &str =
     "key zero\ntype 96 vp8 90000 rtx=97\nmedia v video cam\nstream A v 42 43 -\n";
 

@@ -1,5 +1,5 @@
-//! A leaky bucket pacer: what is sent is owed, what is owed drains at a rate, and a queue has its turn
-//! where little is owed.
+//! A leaky bucket pacer: what is sent is owed, what is owed drains at a rate, and a queue has its
+//! turn where little is owed.
 ghost use Rattle.pace_core.specs.Bucket.{burst};
 ghost use Rattle.pace_core.specs.Past.{
   Past,
@@ -48,8 +48,8 @@ const MAX_DEBT_IN_TIME: u64 = 500_000_000;
 // How much padding is asked for at once, as a time at the rate, in nanoseconds.
 const PADDING_BURST_INTERVAL: u64 = 5_000_000;
 
-// How long after a timeout the next one is wanted, and what may be owed when a packet is let out, as a time
-// at the rate, in nanoseconds.
+// How long after a timeout the next one is wanted, and what may be owed when a packet is let out,
+// as a time at the rate, in nanoseconds.
 const PACING: u64 = 40_000_000;
 
 // What may be owed at most when a packet is let out: 63,000 bytes, in billionths of a bit.
@@ -74,8 +74,8 @@ pub struct LeakyBucketPacer {
     clusters: Clusters,
 }
 
-// A queue that is let out, if any, and when something is let out or padding is asked for next, if that
-// can be told.
+// A queue that is let out, if any, and when something is let out or padding is asked for next, if
+// that can be told.
 #[derive(Clone, Copy)]
 struct Turn {
     queue: Option<MidRid>,
@@ -239,8 +239,8 @@ impl LeakyBucketPacer {
         }
     }
 
-    // Drains what is owed, sets the rate for these queues, and chooses at most one of them, which is
-    // asked for padding where it is in the answer.
+    // Drains what is owed, sets the rate for these queues, and chooses at most one of them, which
+    // is asked for padding where it is in the answer.
     fn time(&mut self, now: Instant, queues: &[QueueState]) -> Option<PaddingRequest>
         ensures asked { (past : Past) → StandsFor self.old past → result ≡ asked_at past now queues.now }
         ensures stands { (past : Past) → StandsFor self.old past → StandsFor self.new (timed past now queues.now) }

@@ -24,8 +24,8 @@ use rtp_base::{MidRid, TwccClusterId};
 use std::alloc::{AllocError, Global};
 use std::mem;
 
-// A queue at the last timeout: the packets that were not polled since, when the snapshot was made, and when
-// it was sent on last.
+// A queue at the last timeout: the packets that were not polled since, when the snapshot was made,
+// and when it was sent on last.
 #[derive(Clone, Copy, Debug)]
 struct NullQueue {
     midrid: MidRid,
@@ -34,7 +34,8 @@ struct NullQueue {
     last_sent: Option<Instant>,
 }
 
-/// A pacer that does not pace: of the queues that hold packets the least recently sent one is polled.
+/// A pacer that does not pace: of the queues that hold packets the least recently sent one is
+/// polled.
 #[derive(Debug, Drop)]
 pub struct NullPacer {
     queues: Vec<NullQueue>,
@@ -89,7 +90,8 @@ fn mark(queues: &mut [NullQueue], key: &MidRid, now: Instant)
     }
 }
 
-// When a queue was sent on last: as is noted at its place, where it stands there, else as the sends tell.
+// When a queue was sent on last: as is noted at its place, where it stands there, else as the sends
+// tell.
 fn last_sent(noted: &[NullQueue], place: usize, sends: &Sends, key: &MidRid) -> Option<Instant>
     ensures { AreNoted sends.now noted.now → result ≡ last_of sends.now key.now }
 {
@@ -154,8 +156,8 @@ impl Pacer for NullPacer {
         (self.unsent_since, Reason::Pacer(PacerReason::Handle))
     }
 
-    /// It asks for no padding. A queue that does not stand where it did at the timeout before is looked for
-    /// among those that were sent on.
+    /// It asks for no padding. A queue that does not stand where it did at the timeout before is
+    /// looked for among those that were sent on.
     fn handle_timeout(
         &mut self,
         _now: Instant,

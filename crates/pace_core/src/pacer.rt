@@ -21,8 +21,9 @@ use pace_units::{PaddingRequest, ProbeClusterConfig, QueueState, Reason};
 use rtp_base::{MidRid, TwccClusterId};
 use std::alloc::{AllocError, Global};
 
-/// What says which queue is sent from next, and when. It is told of queues at timeouts; a poll gives one of
-/// them, and each packet that is sent then is registered. Its answers are read off what it was told.
+/// What says which queue is sent from next, and when. It is told of queues at timeouts; a poll
+/// gives one of them, and each packet that is sent then is registered. Its answers are read off
+/// what it was told.
 pub trait Pacer {
     ghost use Rattle.rtp_base.specs.declared.ids.MidRid.{MidRid};
     ghost use Rattle.pace_units.specs.declared.queue.QueueState.{QueueState};
@@ -53,8 +54,8 @@ pub trait Pacer {
     fn poll_timeout(&self) -> (Option<Instant>, Reason)
         ensures { (past : Past) → stands_for self.now past → result ≡ timeout_in past };
 
-    /// Tells the moment and the queues. Answers the padding that is asked for, if any. Without memory
-    /// nothing changes.
+    /// Tells the moment and the queues. Answers the padding that is asked for, if any. Without
+    /// memory nothing changes.
     fn handle_timeout(
         &mut self,
         now: Instant,
@@ -64,7 +65,8 @@ pub trait Pacer {
         ensures ok { OnOk result ((past : Past) → stands_for self.old past → stands_for self.new (timed past now queues.now)) }
         ensures err { OnErr result ((past : Past) → stands_for self.old past → stands_for self.new past) };
 
-    /// The queue that is sent from next, if any, and the cluster that the packet belongs to, if any.
+    /// The queue that is sent from next, if any, and the cluster that the packet belongs to, if
+    /// any.
     fn poll_queue(&mut self) -> Option<(MidRid, Option<TwccClusterId>)>
         ensures queue { (past : Past) → stands_for self.old past → result ≡ queue_in past }
         ensures polled { (past : Past) → stands_for self.old past → stands_for self.new (polled past) };
@@ -106,8 +108,8 @@ impl PacerImpl {
         PacerImpl::Null(NullPacer::new(alloc))
     }
 
-    /// Starts a cluster after those that run or wait. A null pacer sends none. Without memory nothing
-    /// changes.
+    /// Starts a cluster after those that run or wait. A null pacer sends none. Without memory
+    /// nothing changes.
     pub fn start_probe(&mut self, config: ProbeClusterConfig) -> Result<(), AllocError>
         ensures ok { OnOk result ((past : Past) → ImplStandsFor self.old past → ImplStandsFor self.new (probe_started past config)) }
         ensures err { OnErr result ((past : Past) → ImplStandsFor self.old past → ImplStandsFor self.new past) }

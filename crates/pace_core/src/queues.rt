@@ -66,8 +66,8 @@ impl Totals {
         self.packets == 0
     }
 
-    /// The rate at which all of it is drained: `base`, or a greater one that is needed so that no packet
-    /// waits longer than two seconds.
+    /// The rate at which all of it is drained: `base`, or a greater one that is needed so that no
+    /// packet waits longer than two seconds.
     pub fn adjusted(&self, base: Bitrate) -> Bitrate
         ensures { result ≡ rate_for base self.now.packets self.now.bytes self.now.waited }
     {
@@ -109,8 +109,8 @@ pub fn first_holding(queues: &[QueueState]) -> Option<&QueueState>
     None
 }
 
-/// Of the unpaced queues that hold packets and one that was not sent, the one whose first waits longest;
-/// of equals the first.
+/// Of the unpaced queues that hold packets and one that was not sent, the one whose first waits
+/// longest; of equals the first.
 pub fn longest_unpaced(queues: &[QueueState]) -> Option<&QueueState>
     ensures { option_copied result ≡ unpaced_from None queues.now }
 {
@@ -170,8 +170,8 @@ fn with_turn<'a>(best: Option<&'a QueueState>, queue: &'a QueueState) -> Option<
     }
 }
 
-/// Of the queues that hold packets the one that is least by what they are and then by the last packet
-/// sent; of equals the first.
+/// Of the queues that hold packets the one that is least by what they are and then by the last
+/// packet sent; of equals the first.
 pub fn turn(queues: &[QueueState]) -> Option<&QueueState>
     ensures { option_copied result ≡ turn_from None queues.now }
 {

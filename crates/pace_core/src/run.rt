@@ -74,8 +74,8 @@ pub enum PaceError {
     /// There is no memory for more.
     #[error("out of memory")]
     Memory,
-    /// The call at this place, counted from 0, may not come: its moment falls, or it sends what no poll
-    /// gave a queue for.
+    /// The call at this place, counted from 0, may not come: its moment falls, or it sends what no
+    /// poll gave a queue for.
     #[error("the call at place {0} may not come")]
     Call(usize),
 }
@@ -90,8 +90,8 @@ pub struct PaceFault {
     pub sofar: PaceLog,
 }
 
-// A pacer, when each queue was sent on last, the latest moment, the queue that a poll gave last until it is
-// sent from, and room for the states of the queues.
+// A pacer, when each queue was sent on last, the latest moment, the queue that a poll gave last
+// until it is sent from, and room for the states of the queues.
 #[derive(Drop)]
 struct Player {
     pacer: LeakyBucketPacer,
@@ -303,13 +303,14 @@ pub fn are_short(calls: &[PaceCall]) -> bool
 
 /// Plays the calls on a new leaky bucket pacer of that rate. Each packet has at most 2,000 bytes.
 ///
-/// The log has what each call answered. The run ends at the first call whose moment is before one that was
-/// told, or which sends a packet where no poll gave a queue since the last packet, and for want of memory.
+/// The log has what each call answered. The run ends at the first call whose moment is before one
+/// that was told, or which sends a packet where no poll gave a queue since the last packet, and for
+/// want of memory.
 ///
-/// What is let out keeps within an envelope: where in the log each packet answers a poll since the last
-/// timeout and is at most 460 ms at its rate, the bits sent from one packet to another, both included, are
-/// at most the rate times the time from the timeout before the first to the timeout before the last, and
-/// the burst at the last, and the last packet.
+/// What is let out keeps within an envelope: where in the log each packet answers a poll since the
+/// last timeout and is at most 460 ms at its rate, the bits sent from one packet to another, both
+/// included, are at most the rate times the time from the timeout before the first to the timeout
+/// before the last, and the burst at the last, and the last packet.
 pub fn pace_run(alloc: Global, rate: Bitrate, calls: &[PaceCall]) -> Result<PaceLog, PaceFault>
     requires { All IsShort calls.now }
     ensures played { IfOk result (λ log. log ≡ entries (made (Some rate)) calls.now) }

@@ -58,8 +58,8 @@ fn put_entry(text: &mut String, entry: &PaceEntry) -> Result<(), AllocError>
     }
 }
 
-/// The lines of a log, without a last line. Setting a rate, and a timeout that asks for no padding, have
-/// none.
+/// The lines of a log, without a last line. Setting a rate, and a timeout that asks for no padding,
+/// have none.
 pub fn log_text(alloc: Global, log: &PaceLog) -> Result<String, AllocError>
     ensures { IfOk result (λ text. string_bytes text ≡ log_text log.now) }
 {

@@ -63,8 +63,9 @@ fn follows(rt: &impl Abort, config: ProbeClusterConfig, calls: &[Call]) {
     }
 }
 
-// The first padding comes 2 ms after the beginning, the next ones 2 ms apart and not before the bytes sent would have
-// left at the rate; at the end so many bytes as are left; and where only a packet is missing 240.
+// The first padding comes 2 ms after the beginning, the next ones 2 ms apart and not before the
+// bytes sent would have left at the rate; at the end so many bytes as are left; and where only a
+// packet is missing 240.
 const WHOLE: [Call; 18] = [
     Time(0),
     Ask(1_999, None),
@@ -96,7 +97,8 @@ const SPENT: [Call; 5] = [
     Ask(20_000, None),
 ];
 
-// At rate 0 none is due once it was started, and a cluster of no bytes and no packets ends as it starts.
+// At rate 0 none is due once it was started, and a cluster of no bytes and no packets ends as it
+// starts.
 const ZERO: [Call; 5] = [
     Time(0),
     Complete(false),
@@ -147,8 +149,8 @@ fn clusters_at_their_edges(rt: HostRuntime) {
     );
 }
 
-// The first probe of a session is sent whatever the application sends, a periodic one where it sends less
-// than it may.
+// The first probe of a session is sent whatever the application sends, a periodic one where it
+// sends less than it may.
 #[test]
 fn probes_of_silence(rt: HostRuntime) {
     for (kind, alr) in [(ProbeKind::Initial, false), (ProbeKind::PeriodicAlr, true)] {
@@ -157,8 +159,8 @@ fn probes_of_silence(rt: HostRuntime) {
     }
 }
 
-// Media is active, the link is overused, the estimate, the least rate, and the rates of padding and of pacing, in
-// kbit/s.
+// Media is active, the link is overused, the estimate, the least rate, and the rates of padding and
+// of pacing, in kbit/s.
 const RATES: [(bool, bool, u64, u64, u64, u64); 8] = [
     (true, false, 450, 800, 450, 495),
     (true, false, 700, 800, 700, 770),

@@ -77,8 +77,8 @@ fn leaky_burst(rt: HostRuntime) {
     assert!(rt; burst(&rt, rt.alloc()).is_ok());
 }
 
-// Before anything was sent the first queue that holds packets, also before an unpaced one; then the unpaced one that
-// waits longest, and of equals the first.
+// Before anything was sent the first queue that holds packets, also before an unpaced one; then the
+// unpaced one that waits longest, and of equals the first.
 const MIXED: Queues = [
     Held(b'e', 0, 0, Fresh),
     Held(b'v', 1, 100, Fresh),
@@ -123,8 +123,8 @@ const FIRST: [(Step, Seen); 14] = [
     (Poll, Gave(None)),
 ];
 
-// The one that was sent on longest ago, of equals the first; one that was never sent on before all; media before
-// padding.
+// The one that was sent on longest ago, of equals the first; one that was never sent on before all;
+// media before padding.
 const TURNS: [(Step, Seen); 11] = [
     (Send(0, 0, b'v'), Nothing),
     (
@@ -183,8 +183,9 @@ const TURNS: [(Step, Seen); 11] = [
     (Poll, Gave(None)),
 ];
 
-// Padding is asked of the queue that was sent on last, of equals the last; where both debts are drained; not beside
-// packets that are held; and only of queues for it. 5 ms at 50 kbit/s are 31 bytes.
+// Padding is asked of the queue that was sent on last, of equals the last; where both debts are
+// drained; not beside packets that are held; and only of queues for it. 5 ms at 50 kbit/s are 31
+// bytes.
 const PADDED: [(Step, Seen); 28] = [
     (Step::Padding(50_000), Nothing),
     (Timeout(5, EMPTY), Asked(Some((b'v', 31)))),
@@ -232,7 +233,8 @@ const PADDED: [(Step, Seen); 28] = [
     (Send(5_000_000, 1, b'v'), Nothing),
     (Timeout(5_000_000, EMPTY), Asked(None)),
     (Wake, Wakes(Some(5_001_000), PADDING)),
-    // At rate 0 no padding is waited for; at 1 kbit/s the 8 bits drain in 8 ms, and no byte is asked for then.
+    // At rate 0 no padding is waited for; at 1 kbit/s the 8 bits drain in 8 ms, and no byte is
+    // asked for then.
     (Step::Padding(0), Nothing),
     (Timeout(5_000_000, EMPTY), Asked(None)),
     (Wake, Wakes(Some(45_000_000), HANDLE)),
@@ -243,9 +245,9 @@ const PADDED: [(Step, Seen); 28] = [
 
 const NOTHING_HELD: Queues = [Held(b'v', 1, 0, Fresh), NO, NO, NO];
 
-// The debt in bits after each step, and the rate of the last timeout. A debt is cut to 500 ms at the rate, and drains
-// at the rate of the timeout before, whatever is set since; at exactly the burst of 4,000 bits none is let out, and a
-// nanosecond later one is.
+// The debt in bits after each step, and the rate of the last timeout. A debt is cut to 500 ms at
+// the rate, and drains at the rate of the timeout before, whatever is set since; at exactly the
+// burst of 4,000 bits none is let out, and a nanosecond later one is.
 const OWED: [(Step, Seen, u64, u64); 17] = [
     (Timeout(0, NOTHING_HELD), Asked(None), 0, 1_000_000),
     (Send(0, 100_000, b'v'), Nothing, 500_000, 1_000_000),
@@ -373,8 +375,9 @@ fn cluster(number: u64) -> ProbeClusterConfig {
 
 const ONE_HELD: Queues = [Held(b'v', 1, 240, Fresh), NO, NO, NO];
 
-// The cluster that runs after each step, and the one that ended. Padding is asked for 2 ms after the beginning at the
-// earliest and then each 2 ms; media counts too; a second cluster follows at once.
+// The cluster that runs after each step, and the one that ended. Padding is asked for 2 ms after
+// the beginning at the earliest and then each 2 ms; media counts too; a second cluster follows at
+// once.
 type Probing = (Step, Seen, Option<u64>, Option<u64>);
 
 const IN_A_ROW: [Probing; 16] = [
@@ -455,7 +458,8 @@ fn probes(
     Ok(())
 }
 
-// The rate of a timeout that drops the clusters is still theirs, and the pacing rate comes back after it.
+// The rate of a timeout that drops the clusters is still theirs, and the pacing rate comes back
+// after it.
 const DROPPED: [(Step, Seen, u64, u64); 2] = [
     (Timeout(1, [NO, NO, NO, NO]), Asked(None), 0, 1_920_000),
     (Timeout(1, [NO, NO, NO, NO]), Asked(None), 0, 1_000_000),
@@ -482,8 +486,9 @@ fn clusters_run_one_after_another(rt: HostRuntime) {
     assert!(rt; probes(&rt, rt.alloc(), &mut pacer, &NEVER).is_ok());
 }
 
-// Packets leave at once, from the queue that was sent on longest ago; one that was never sent on goes before all, and
-// of equals the first. After a poll the wake is when the snapshot was made, until a packet is sent or a timeout.
+// Packets leave at once, from the queue that was sent on longest ago; one that was never sent on
+// goes before all, and of equals the first. After a poll the wake is when the snapshot was made,
+// until a packet is sent or a timeout.
 const NULL: [(Step, Seen); 23] = [
     (Step::Pacing(0), Nothing),
     (Step::Padding(1_000_000), Nothing),

@@ -11,7 +11,8 @@ use std::process::Abort;
 enum Call {
     Pacing(u64),
     Padding(u64),
-    // A timeout at a moment, with so many packets of 1,000 bytes each, and whether padding may be asked for.
+    // A timeout at a moment, with so many packets of 1,000 bytes each, and whether padding may be
+    // asked for.
     Timeout(u64, u32, bool),
     Poll,
     // A packet at a moment, of so many bytes.

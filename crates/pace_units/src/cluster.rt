@@ -18,8 +18,8 @@ use media_units::{DataSize, Instant, already_happened, not_happening};
 // The greatest size of a packet of padding.
 const MAX_PADDING_PACKET_SIZE: u64 = 240;
 
-/// A cluster, what was sent of it and how many packets, when it was started, and when padding was asked
-/// for last.
+/// A cluster, what was sent of it and how many packets, when it was started, and when padding was
+/// asked for last.
 #[derive(Clone, Copy, Debug)]
 pub struct ProbeClusterState {
     config: ProbeClusterConfig,
@@ -58,9 +58,9 @@ impl ProbeClusterState {
             .saturating_add(self.config.min_probe_delta())
     }
 
-    /// When the next packet is due: the later of the moment at which what was sent would have been sent
-    /// at the rate, rounded up, and that of the next padding. It is at once before the cluster is
-    /// started, and never at rate 0.
+    /// When the next packet is due: the later of the moment at which what was sent would have been
+    /// sent at the rate, rounded up, and that of the next padding. It is at once before the cluster
+    /// is started, and never at rate 0.
     pub fn next_probe_time(&self) -> Instant
         ensures { result ≡ next_time self.now }
     {
@@ -76,7 +76,8 @@ impl ProbeClusterState {
         if sent < padded { padded } else { sent }
     }
 
-    /// Whether it was started and all of it was sent: its bytes and its packets, whatever the moment.
+    /// Whether it was started and all of it was sent: its bytes and its packets, whatever the
+    /// moment.
     pub fn is_complete(&self, _now: Instant) -> bool
         ensures { result ≡ is_complete self.now }
     {
@@ -106,8 +107,8 @@ impl ProbeClusterState {
         if left < most { left } else { most }
     }
 
-    /// The bytes of padding that are asked for now. None before the next packet is due or before the
-    /// next padding, twice at one moment, and where no bytes are left. It starts the cluster.
+    /// The bytes of padding that are asked for now. None before the next packet is due or before
+    /// the next padding, twice at one moment, and where no bytes are left. It starts the cluster.
     pub fn next_packet(&mut self, now: Instant) -> Option<DataSize>
         ensures size { result ≡ asked_size self.old now }
         ensures after { self.new ≡ after_ask self.old now }

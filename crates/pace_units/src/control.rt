@@ -26,9 +26,10 @@ impl PacerControl {
         PacerControl {}
     }
 
-    /// The rates for an estimate. Padding is sent while media is active and the link is not overused: at
-    /// 50,000 bits a second or at the least rate that was asked for, but not above the estimate. Packets
-    /// are let out at eleven tenths of the estimate, rounded down, or at the rate of padding.
+    /// The rates for an estimate. Padding is sent while media is active and the link is not
+    /// overused: at 50,000 bits a second or at the least rate that was asked for, but not above the
+    /// estimate. Packets are let out at eleven tenths of the estimate, rounded down, or at the rate
+    /// of padding.
     pub fn calculate(
         &self,
         has_active_media: bool,

@@ -5,8 +5,9 @@ use crate::probe::ProbeClusterConfig;
 use media_units::{Bitrate, DataSize, Instant};
 use rtp_base::TwccClusterId;
 
-/// What became of a packet that was sent: its transport number, its size, when it was sent, when it was
-/// received, None where it was not, and the cluster of probes that it belongs to, if it is a probe.
+/// What became of a packet that was sent: its transport number, its size, when it was sent, when it
+/// was received, None where it was not, and the cluster of probes that it belongs to, if it is a
+/// probe.
 #[derive(Clone, Copy, Debug)]
 pub struct SendRecord {
     /// Its transport number.
@@ -21,8 +22,8 @@ pub struct SendRecord {
     pub cluster: Option<TwccClusterId>,
 }
 
-/// What estimates the bandwidth. Its meaning is a plain state and, for each call, the answer and the state
-/// after it.
+/// What estimates the bandwidth. Its meaning is a plain state and, for each call, the answer and
+/// the state after it.
 pub trait Estimator {
     ghost use Rattle.pace_units.specs.declared.probe.ProbeClusterConfig.{ProbeClusterConfig};
     ghost use Rattle.pace_units.specs.declared.estimator.SendRecord.{SendRecord};
@@ -81,7 +82,8 @@ pub trait Estimator {
     /// After it was made to begin anew with an estimate.
     ghost after_reset: { State → ℕ → State };
 
-    /// Tells the moment, and whether probes may be sent. Answers the cluster that is to be sent, if any.
+    /// Tells the moment, and whether probes may be sent. Answers the cluster that is to be sent, if
+    /// any.
     fn handle_timeout(&mut self, now: Instant, can_probe: bool) -> Option<ProbeClusterConfig>
         ensures probe { result ≡ probe_at (state self.old) now can_probe }
         ensures after { state self.new ≡ after_timeout (state self.old) now can_probe };

@@ -18,8 +18,8 @@ use media_units::{Bitrate, DataSize, Instant, already_happened};
 use rtp_base::TwccClusterId;
 use std::marker::Model;
 
-/// An estimator of one estimate, which is due from the first timeout on, and of no cluster. It takes no
-/// memory. Contracts see the script of that estimate, and how far it came.
+/// An estimator of one estimate, which is due from the first timeout on, and of no cluster. It
+/// takes no memory. Contracts see the script of that estimate, and how far it came.
 #[derive(Debug, Drop)]
 pub struct FixedEstimate {
     rate: Bitrate,

@@ -1,5 +1,5 @@
-//! What pacers count with: snapshots of the queues of packets, clusters of probes, the rates that follow an
-//! estimate of the bandwidth, and what an estimator of it is.
+//! What pacers count with: snapshots of the queues of packets, clusters of probes, the rates that
+//! follow an estimate of the bandwidth, and what an estimator of it is.
 #![tactic(auto)]
 
 mod cluster;

@@ -47,8 +47,8 @@ impl ProbeKind {
     }
 }
 
-/// What a cluster is to be: its number, its rate, how long it lasts, how many packets it has at least, how
-/// far apart the moments are at which padding is asked for, and why it is sent.
+/// What a cluster is to be: its number, its rate, how long it lasts, how many packets it has at
+/// least, how far apart the moments are at which padding is asked for, and why it is sent.
 #[derive(Clone, Copy, Debug)]
 pub struct ProbeClusterConfig {
     cluster: TwccClusterId,

@@ -120,7 +120,8 @@ impl QueueSnapshot {
         };
     }
 
-    /// Counts another queue in, as if both were one. Sums are at most the greatest value of their type.
+    /// Counts another queue in, as if both were one. Sums are at most the greatest value of their
+    /// type.
     pub fn merge(&mut self, other: &Self)
         ensures { self.new ≡ merged self.old other.now }
     {
@@ -137,8 +138,8 @@ impl QueueSnapshot {
         self.priority = first_of_priorities(self.priority, other.priority);
     }
 
-    /// How long the packets waited until `now`, all together, at most 2^64 - 1 ns. Before the snapshot
-    /// was made it is what it was then.
+    /// How long the packets waited until `now`, all together, at most 2^64 - 1 ns. Before the
+    /// snapshot was made it is what it was then.
     pub fn total_queue_time(&self, now: Instant) -> Duration
         ensures { result ≡ total_wait self.now now }
     {

@@ -22,8 +22,8 @@ use media_units::{Bitrate, DataSize, Instant};
 use rtp_base::TwccClusterId;
 use std::marker::Model;
 
-/// An estimator whose estimates and clusters are given to it, each with the moment from which on it is due.
-/// Contracts see its script and how far it came.
+/// An estimator whose estimates and clusters are given to it, each with the moment from which on it
+/// is due. Contracts see its script and how far it came.
 #[derive(Debug, Drop)]
 pub struct ScriptedEstimate {
     estimates: Listed<(Instant, Bitrate)>,
@@ -67,8 +67,8 @@ fn due_at<T>(all: &[(Instant, T)], due: usize, now: Instant) -> usize
 }
 
 impl ScriptedEstimate {
-    /// An estimator that gives these estimates and clusters in order. What stands behind one of a later
-    /// moment is not due before that one.
+    /// An estimator that gives these estimates and clusters in order. What stands behind one of a
+    /// later moment is not due before that one.
     pub fn new(
         estimates: Listed<(Instant, Bitrate)>,
         probes: Listed<(Instant, ProbeClusterConfig)>,

@@ -11,7 +11,8 @@ use Rattle.payload_core.specs.declared.buffer.Depacketized.{Depacketized}
 use Rattle.payload_core.specs.declared.error.PacketError.{PacketError}
 use Rattle.payload_core.specs.declared.payload.CodecDepacketizer.{CodecDepacketizer}
 use Rattle.payload_core.specs.declared.payload.CodecExtra.{CodecExtra}
-use Rattle.payload_core.specs.Buffer.{settled, is_next, is_past, earliest, timed_out}
+use Rattle.payload_core.specs.Buffer.{settled, is_next, is_past, timed_out}
+use Rattle.media_units.specs.Soonest.{earlier}
 use Rattle.payload_core.specs.Packets.{extra_of}
 use Rattle.payload_core.specs.Waiting.{Waiting}
 
@@ -98,7 +99,7 @@ blocked b =
 
 -- when a front that is blocked is given
 abbrev pub next_moment : {I : Type 0} → Waiting I → Option ℕ → Option ℕ
-next_moment b timeout = option_and_then (λ f. earliest b.deadline (timed_out f.1 timeout)) (blocked b)
+next_moment b timeout = option_and_then (λ f. earlier b.deadline (timed_out f.1 timeout)) (blocked b)
 
 -- the numbers that are missing before a front that is blocked, from one to before another, and its arrival
 abbrev pub candidate : {I : Type 0} → Waiting I → Option (ℕ × ℕ × ℕ)

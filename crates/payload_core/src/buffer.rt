@@ -1,15 +1,15 @@
 //! Packets put back into the order of their numbers.
-ghost use Rattle.std.specs.Prelude.{◌≡◌, List, [], ◌∷◌, ◌++◌, OnOk, OnErr};
+ghost use Rattle.std.specs.Prelude.{◌≡◌, List, [], ◌∷◌, ◌++◌, IsOk, IsTrue, OnOk, OnErr};
 ghost use Rattle.std.specs.Option.{option_map};
 ghost use Rattle.payload_core.specs.History.{EventsDetermine};
 ghost use Rattle.payload_core.specs.InOrder.{ComesOutAsIn};
 ghost use Rattle.payload_core.specs.Reordering.{frame_of};
-ghost use Rattle.payload_core.specs.Buffer.{settled, is_next, earliest, is_past, timed_out};
+ghost use Rattle.payload_core.specs.Buffer.{settled, is_next, is_past, timed_out};
 
 use crate::error::PacketError;
 use crate::payload::{CodecDepacketizer, CodecExtra};
 use media_base::Bytes;
-use media_units::{Duration, Instant};
+use media_units::{Duration, Instant, earlier};
 use rtp_wire::{MediaTime, RtpHeader, SeqNo};
 use std::alloc::{AllocError, Global};
 use std::collections::{BTreeMap, BTreeSet};
@@ -79,7 +79,8 @@ impl<I> Model for DepacketizingBuffer<I> {
     } };
 }
 
-// Padding numbers that are next count as given, and those that were passed go. Gives the last number.
+// Padding numbers that are next count as given, and those that were passed go. Gives the last
+// number.
 fn settle(last: Option<u64>, paddings: &mut BTreeSet<u64>) -> Option<u64>
     ensures { (result, paddings.new.keys) ≡ settled last paddings.old.keys }
 {
@@ -112,16 +113,6 @@ fn is_past(moment: Option<Instant>, now: Instant) -> bool
     match moment {
         Some(moment) => moment <= now,
         None => false,
-    }
-}
-
-fn earliest(one: Option<Instant>, other: Option<Instant>) -> Option<Instant>
-    ensures { result ≡ earliest one other }
-{
-    match (one, other) {
-        (Some(one), Some(other)) => Some(one.min(other)),
-        (Some(one), None) => Some(one),
-        (None, other) => other,
     }
 }
 
@@ -158,7 +149,8 @@ impl<I: Drop> DepacketizingBuffer<I> {
     ghost use Rattle.payload_core.specs.History.{Event, pushed, padded, StandsFor, given_now, GivesByRule};
     ghost use Rattle.payload_core.specs.Reordering.{nothing_waits, is_known, with_packet, with_padding, is_late, turn, popped, after_pop, blocked, next_moment, candidate};
 
-    /// Nothing waits, and nothing was given. More than so many packets do not wait for a missing one.
+    /// Nothing waits, and nothing was given. More than so many packets do not wait for a missing
+    /// one.
     #[tactic(auto, using(crate::proofs::Histories::new_stands))]
     pub fn new(alloc: Global, depack: CodecDepacketizer, hold_back: usize) -> Self
         ensures value { result ≡ nothing_waits depack hold_back }
@@ -185,12 +177,13 @@ impl<I: Drop> DepacketizingBuffer<I> {
         self.packets.contains_key(&number) || self.paddings.contains(&number)
     }
 
-    /// Puts a packet among those that wait. One at or below the last number that was given, and a second
-    /// one of a number, are dropped. Without memory nothing changes. The time grows with the logarithm of
-    /// the packets that wait.
+    /// Puts a packet among those that wait. One at or below the last number that was given, and a
+    /// second one of a number, are dropped. Without memory nothing changes. The time grows with the
+    /// logarithm of the packets that wait.
     pub fn push(&mut self, meta: RtpMeta<I>, payload: Bytes) -> Result<(), AllocError>
         ensures ok { OnOk result (self.new ≡ with_packet self.old (record { meta = meta; payload = payload })) }
         ensures err { OnErr result (self.new ≡ self.old) }
+        ensures known { IsTrue (is_known self.old meta.seq_no) → IsOk result }
         ensures stands { (events : List (Event I)) → StandsFor self.old events
             → OnOk result (StandsFor self.new (events ++ pushed (record { meta = meta; payload = payload }) ∷ [])) }
     {
@@ -202,11 +195,12 @@ impl<I: Drop> DepacketizingBuffer<I> {
         Ok(())
     }
 
-    /// Tells that a number carries no frame here: once it is next it counts as given. Without memory
-    /// nothing changes.
+    /// Tells that a number carries no frame here: once it is next it counts as given. Without
+    /// memory nothing changes.
     pub fn push_padding(&mut self, seq_no: SeqNo) -> Result<(), AllocError>
         ensures ok { OnOk result (self.new ≡ with_padding self.old seq_no) }
         ensures err { OnErr result (self.new ≡ self.old) }
+        ensures known { IsTrue (is_known self.old seq_no) → IsOk result }
         ensures stands { (events : List (Event I)) → StandsFor self.old events
             → OnOk result (StandsFor self.new (events ++ padded seq_no ∷ [])) }
     {
@@ -244,11 +238,11 @@ impl<I: Drop> DepacketizingBuffer<I> {
         None
     }
 
-    /// Gives the front, the packet with the lowest number: where nothing was given yet or it is the next
-    /// number; else, and then not contiguous, where more packets wait than are held back, the recovery
-    /// deadline has come, or a timeout is given and has passed since the packet came. None exactly where
-    /// none of this holds or nothing waits. Unsupported comes exactly for a format of video, and
-    /// ShortTelephone exactly for a telephone event under 4 bytes: such a front is gone.
+    /// Gives the front, the packet with the lowest number: where nothing was given yet or it is the
+    /// next number; else, and then not contiguous, where more packets wait than are held back, the
+    /// recovery deadline has come, or a timeout is given and has passed since the packet came. None
+    /// exactly where none of this holds or nothing waits. Unsupported comes exactly for a format of
+    /// video, and ShortTelephone exactly for a telephone event under 4 bytes: such a front is gone.
     pub fn pop(
         &mut self,
         now: Instant,
@@ -283,19 +277,19 @@ impl<I: Drop> DepacketizingBuffer<I> {
         Some((*number, arrival.meta.received))
     }
 
-    /// When the front is given that waits for a missing packet: the earlier of the recovery deadline and
-    /// the end of its timeout. None where nothing waits so, or neither is there.
+    /// When the front is given that waits for a missing packet: the earlier of the recovery
+    /// deadline and the end of its timeout. None where nothing waits so, or neither is there.
     pub fn poll_timeout(&self, audio_timeout: Option<Duration>) -> Option<Instant>
         ensures { result ≡ next_moment self.now audio_timeout }
     {
         let Some((_, received)) = self.blocked() else {
             return None;
         };
-        earliest(self.deadline, timed_out(received, audio_timeout))
+        earlier(self.deadline, timed_out(received, audio_timeout))
     }
 
-    /// The numbers that are missing before the front that waits for them, and when that came. None where
-    /// nothing waits so.
+    /// The numbers that are missing before the front that waits for them, and when that came. None
+    /// where nothing waits so.
     pub fn recovery_candidate(&self) -> Option<(Range<SeqNo>, Instant)>
         ensures { option_map (λ x. (x.0.start, x.0.end, x.1)) result ≡ candidate self.now }
     {

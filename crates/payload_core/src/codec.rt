@@ -62,7 +62,8 @@ impl Codec {
     ghost use Rattle.payload_core.specs.declared.codec.MediaKind.TheVariants.{Video};
     ghost use Rattle.payload_core.specs.Codecs.{kind_of, is_heard, is_tele, same_kind};
 
-    /// Whether it is carried on a media of sound or of pictures; telephone events are on one of sound.
+    /// Whether it is carried on a media of sound or of pictures; telephone events are on one of
+    /// sound.
     pub fn kind(self) -> MediaKind
         ensures { result ≡ kind_of self }
     {
@@ -94,8 +95,8 @@ impl Codec {
     }
 }
 
-/// Parameters of a format, as an offer tells them (RFC 8866 section 6.15). None is what the format's
-/// own standard says for one that is not told.
+/// Parameters of a format, as an offer tells them (RFC 8866 section 6.15). None is what the
+/// format's own standard says for one that is not told.
 #[derive(Clone, Copy, Debug, Default, PartialEq, Eq)]
 pub struct FormatParams {
     /// Opus: the least milliseconds of sound in a packet (RFC 7587 section 6.1).
@@ -131,7 +132,8 @@ pub struct CodecSpec {
 }
 
 impl CodecSpec {
-    /// The ticks in a second of the RTP time. No format here counts in another clock than it is named by.
+    /// The ticks in a second of the RTP time. No format here counts in another clock than it is
+    /// named by.
     pub fn rtp_clock_rate(&self) -> Frequency
         ensures { result ≡ self.now.clock_rate }
     {

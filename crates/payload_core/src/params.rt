@@ -53,8 +53,8 @@ impl PayloadParams {
         }
     }
 
-    /// What probes are sent as, which carry no media: no codec in the clock of video, with feedback for
-    /// the whole transport alone.
+    /// What probes are sent as, which carry no media: no codec in the clock of video, with feedback
+    /// for the whole transport alone.
     pub fn new_probe(pt: Pt) -> Self
         ensures { result ≡ probe_params pt }
     {
@@ -84,8 +84,8 @@ impl PayloadParams {
     }
 }
 
-/// The payload types that are agreed on, in the order of preference, and the distances of RED. Contracts
-/// see both lists.
+/// The payload types that are agreed on, in the order of preference, and the distances of RED.
+/// Contracts see both lists.
 #[derive(Debug, Drop)]
 pub struct CodecConfig {
     all: Vec<PayloadParams>,
@@ -200,8 +200,8 @@ impl CodecConfig {
         self.all.iter().any(|p| is_tele_type(p, pt))
     }
 
-    /// The greatest telephone event under a payload type: 15. None exactly where no such type carries
-    /// telephone events. The time grows with the number of types.
+    /// The greatest telephone event under a payload type: 15. None exactly where no such type
+    /// carries telephone events. The time grows with the number of types.
     pub fn tele_event_max(&self, pt: Pt) -> Option<u8>
         ensures { result ≡ tele_event_max self.now.params pt }
     {

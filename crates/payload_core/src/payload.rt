@@ -72,10 +72,10 @@ impl Payloader {
         None
     }
 
-    /// Puts a frame into one packet of at most so many bytes of payload, and hands it to the sink as it
-    /// is. In this order Unsupported comes exactly for a format of video, TooBig exactly for a frame above
-    /// the limit, and ShortTelephone exactly for a telephone event under 4 bytes. A frame that is refused
-    /// changes nothing.
+    /// Puts a frame into one packet of at most so many bytes of payload, and hands it to the sink
+    /// as it is. In this order Unsupported comes exactly for a format of video, TooBig exactly for
+    /// a frame above the limit, and ShortTelephone exactly for a telephone event under 4 bytes. A
+    /// frame that is refused changes nothing.
     pub fn push_sample<S: PacketSink>(
         &mut self,
         frame: MediaPacket,
@@ -168,8 +168,9 @@ impl CodecDepacketizer {
         }
     }
 
-    /// What the frame in a packet tells beside its bytes, which are the payload. Unsupported comes exactly
-    /// for a format of video, and ShortTelephone exactly for a telephone event under 4 bytes.
+    /// What the frame in a packet tells beside its bytes, which are the payload. Unsupported comes
+    /// exactly for a format of video, and ShortTelephone exactly for a telephone event under 4
+    /// bytes.
     pub fn depacketize(&self, payload: &[u8]) -> Result<CodecExtra, PacketError>
         ensures { result ≡ extra_of self.now.codec self.now.clock_rate payload.now }
     {

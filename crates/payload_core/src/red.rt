@@ -1,5 +1,5 @@
 //! Redundant audio data (RED, RFC 2198): a frame together with older ones.
-ghost use Rattle.std.specs.Prelude.{◌≡◌, ◌+◌, ◌*◌, ◌≤◌, length, IfSome};
+ghost use Rattle.std.specs.Prelude.{◌≡◌, ◌+◌, ◌*◌, ◌≤◌, length, None, Err, IfSome};
 ghost use Rattle.payload_core.specs.Red.{redundant_count, first_block, primary_block, blocks_from, block_of, blocks_of, of_type};
 ghost use Rattle.std.specs.Option.{option_map};
 
@@ -16,8 +16,8 @@ pub const MAX_RED_RECOVERY_DEPTH: u64 = 8;
 pub struct RedBlock<'a> {
     /// What the frame is, 7 bits on the wire.
     pub pt: Pt,
-    /// How many ticks of the clock before the packet's time the frame began, 14 bits on the wire; 0 of
-    /// the primary block.
+    /// How many ticks of the clock before the packet's time the frame began, 14 bits on the wire; 0
+    /// of the primary block.
     pub timestamp_offset: u16,
     /// The frame, at most 1,023 bytes of a redundant block.
     pub payload: &'a [u8],
@@ -107,12 +107,14 @@ pub struct RedDecoder;
 impl RedDecoder {
     ghost use Rattle.payload_core.specs.Red.{red_of};
     ghost use Rattle.payload_core.specs.RedReading.{Gives};
+    ghost use Rattle.payload_core.specs.declared.red.RedError.TheVariants.{BadRed};
 
-    /// The blocks of a payload, the primary one last; they borrow it. BadRed exactly where a header is
-    /// cut or the lengths pass the end.
+    /// The blocks of a payload, the primary one last; they borrow it. BadRed where a header is cut
+    /// (no memory is asked for then) or the lengths pass the end.
     #[tactic(auto, unfolding(crate::specs::Red::red_of))]
     pub fn decode(alloc: Global, bytes: &[u8]) -> Result<Vec<RedBlock<'_>>, RedError>
-        ensures { Gives (λ v. blocks_of v.items) result (red_of bytes.now) }
+        ensures blocks { Gives (λ v. blocks_of v.items) result (red_of bytes.now) }
+        ensures cut { redundant_count bytes.now ≡ None → result ≡ Err BadRed }
     {
         let Some(count) = redundant_count(bytes) else {
             return Err(RedError::BadRed);

@@ -25,8 +25,8 @@ pub struct SentFrame {
     pub payload: Bytes,
 }
 
-/// Puts older frames beside each that is sent. Contracts see its types, its distances and the frames that
-/// it remembers, the last one first.
+/// Puts older frames beside each that is sent. Contracts see its types, its distances and the
+/// frames that it remembers, the last one first.
 #[derive(Debug, Drop)]
 pub struct RedSender {
     red_type: Pt,
@@ -95,8 +95,8 @@ fn older_block(pt: Pt, time: u64, sent: &SentFrame) -> RedBlock<'_>
 impl RedSender {
     ghost use Rattle.payload_core.specs.Sending.{no_frames, synced, chosen, frame_blocks, with_frame, without_last, trimmed, with_sent, wrapped};
 
-    /// Sends frames of a type under the type of RED, with the frames that are so many packets back. No
-    /// frame was sent.
+    /// Sends frames of a type under the type of RED, with the frames that are so many packets back.
+    /// No frame was sent.
     pub fn new(alloc: Global, red_pt: Pt, pt: Pt, distances: &[u32]) -> Result<Self, AllocError>
         ensures { IfOk result (λ s. s ≡ no_frames red_pt pt distances.now) }
     {
@@ -109,8 +109,8 @@ impl RedSender {
         })
     }
 
-    /// Takes on types and distances that may have changed. The frames that were sent stay, unless they
-    /// are of another type. Without memory nothing changes.
+    /// Takes on types and distances that may have changed. The frames that were sent stay, unless
+    /// they are of another type. Without memory nothing changes.
     pub fn sync(
         &mut self,
         alloc: Global,
@@ -201,10 +201,11 @@ impl RedSender {
         self.sent.truncate(depth);
     }
 
-    /// The packet under the type of RED: its frame as the last block, and before it the frames at the
-    /// distances whose offset and length fit their fields and which the limit leaves room for, the
-    /// nearest last; of these the nearer come first to the room. The frame is remembered. Without memory
-    /// nothing changes. The time grows with the distances and with the greatest of them.
+    /// The packet under the type of RED: its frame as the last block, and before it the frames at
+    /// the distances whose offset and length fit their fields and which the limit leaves room for,
+    /// the nearest last; of these the nearer come first to the room. The frame is remembered.
+    /// Without memory nothing changes. The time grows with the distances and with the greatest of
+    /// them.
     pub fn wrap(
         &mut self,
         alloc: Global,
@@ -241,8 +242,8 @@ impl RedSender {
     }
 }
 
-/// What a sender of RED makes of a frame is read again, and is within the limit where the frame with its
-/// own header is.
+/// What a sender of RED makes of a frame is read again, and is within the limit where the frame
+/// with its own header is.
 #[tactic(auto, using(crate::proofs::SentAgain::sent_again))]
 pub fn frames_are_sent_again()
     ensures { FramesAreSentAgain }

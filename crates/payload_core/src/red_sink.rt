@@ -19,8 +19,8 @@ pub struct RedSink<'a, S> {
 }
 
 impl<'a, S> RedSink<'a, S> {
-    /// Hands packets on to this sink, with the frames that this sender remembers, in payloads of at most so many
-    /// bytes.
+    /// Hands packets on to this sink, with the frames that this sender remembers, in payloads of at
+    /// most so many bytes.
     pub fn new(
         alloc: Global,
         sink: &'a mut S,

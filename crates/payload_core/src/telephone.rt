@@ -37,8 +37,8 @@ fn whole_units(duration: Duration, clock_rate: Frequency) -> u128
 impl TelephoneEvent {
     ghost use Rattle.payload_core.specs.Telephone.{event_of, bytes_of};
 
-    /// The event that the first four bytes of a payload tell, in a clock. None exactly where fewer than
-    /// four stand.
+    /// The event that the first four bytes of a payload tell, in a clock. None exactly where fewer
+    /// than four stand.
     pub fn parse(bytes: &[u8], clock_rate: Frequency) -> Option<Self>
         ensures { result ≡ event_of clock_rate bytes.now }
     {

@@ -124,7 +124,8 @@ fn has_second_behind_first(kept: &Kept) -> bool {
     }
 }
 
-// Two frames of one time on their way through a sender of RED: the second goes out behind the first.
+// Two frames of one time on their way through a sender of RED: the second goes out behind the
+// first.
 #[test]
 fn frames_go_out_behind_older_ones(rt: HostRuntime) {
     let mut kept = Kept {

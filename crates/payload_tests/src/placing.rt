@@ -53,7 +53,8 @@ enum Step {
 
 use Step::{Clears, Place, Recovers, Took, TookEach};
 
-/// The numbers that came and their times, those that came and whose times are forgotten, and what then is done.
+/// The numbers that came and their times, those that came and whose times are forgotten, and what
+/// then is done.
 type Row = (&'static [(u32, u64)], &'static [u32], &'static [Step]);
 
 fn goes(stream: &mut Stream, step: Step) -> bool {

@@ -12,7 +12,8 @@ fn is_bad(rt: &HostRuntime, bytes: &[u8]) -> bool {
     }
 }
 
-// What is told of a block: its type, how many ticks before the packet it is, its bytes, whether it is the primary one.
+// What is told of a block: its type, how many ticks before the packet it is, its bytes, whether it
+// is the primary one.
 #[derive(Clone, Copy)]
 struct Told<'a>(u8, u16, &'a [u8], bool);
 
@@ -30,8 +31,9 @@ fn reads(rt: &HostRuntime, bytes: &[u8], told: &[Told<'_>]) -> bool {
     same && blocks.len() == told.len()
 }
 
-// Bits of a redundant header: 1, a type of 7, an offset of 14, a length of 10; the last header is 0 and a type
-// (RFC 2198 section 3). Type 111 with its first bit is ef, without it 6f; 960 ticks and 2 bytes are 0f0002.
+// Bits of a redundant header: 1, a type of 7, an offset of 14, a length of 10; the last header is 0
+// and a type (RFC 2198 section 3). Type 111 with its first bit is ef, without it 6f; 960 ticks and
+// 2 bytes are 0f0002.
 #[test]
 fn red_datagrams(rt: HostRuntime) {
     let two = [0xef, 0x0f, 0, 2, 0x6f, 1, 2, 3];
@@ -54,7 +56,8 @@ fn red_datagrams(rt: HostRuntime) {
     assert!(rt; reads(&rt, &greatest_offset, &told));
 }
 
-// Headers that are cut, and lengths past the end: of eight bytes each start is bad up to the end of the block.
+// Headers that are cut, and lengths past the end: of eight bytes each start is bad up to the end of
+// the block.
 #[test]
 fn red_that_is_cut(rt: HostRuntime) {
     let two = [0xef, 0x0f, 0, 2, 0x6f, 1, 2, 3];
@@ -118,8 +121,9 @@ fn sends_as(
     Ok(true)
 }
 
-// Frames one and two packets back, the nearest last; a limit that has room for the nearer alone; then only those one
-// packet back, of which one at the packet's own time has offset 0 and one after it none.
+// Frames one and two packets back, the nearest last; a limit that has room for the nearer alone;
+// then only those one packet back, of which one at the packet's own time has offset 0 and one after
+// it none.
 #[test]
 fn red_at_distances(rt: HostRuntime) -> Result<(), AllocError> {
     let two_back = [

@@ -4,8 +4,8 @@ use media_units::Duration;
 use payload_core::{TelephoneEvent, duration_from_units};
 use rtp_base::Frequency;
 
-// Durations are in ticks of the clock on the wire (RFC 4733 section 2.3.5): 8,000 of them are a second of G.711,
-// 48,000 one of Opus. Parts of a nanosecond are rounded up.
+// Durations are in ticks of the clock on the wire (RFC 4733 section 2.3.5): 8,000 of them are a
+// second of G.711, 48,000 one of Opus. Parts of a nanosecond are rounded up.
 #[test]
 fn durations_of_ticks(rt: HostRuntime) {
     let rows = [
@@ -69,8 +69,8 @@ fn ticks_of_durations(rt: HostRuntime) {
     }
 }
 
-// An event, its end, a reserved bit that is passed over, its volume and 16 bits of ticks (RFC 4733 section 2.3); what
-// stands behind the four bytes is passed over.
+// An event, its end, a reserved bit that is passed over, its volume and 16 bits of ticks (RFC 4733
+// section 2.3); what stands behind the four bytes is passed over.
 #[test]
 fn events_are_read(rt: HostRuntime) {
     let bytes = [5, 0xca, 0, 1, 7];

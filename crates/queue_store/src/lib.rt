@@ -1,5 +1,5 @@
-//! What was sent and is kept to be resent (RFC 4588), as a queue by rising position: positions and moments in one
-//! queue, values in another beside it.
+//! What was sent and is kept to be resent (RFC 4588), as a queue by rising position: positions and
+//! moments in one queue, values in another beside it.
 #![tactic(auto)]
 
 mod queue;

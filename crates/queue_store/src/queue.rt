@@ -15,9 +15,9 @@ use resend_core::{ResendStore, event_laws};
 use std::alloc::{AllocError, Global};
 use std::sync::ledger::Ledger;
 
-/// Values under rising positions, each until it is too old or its room is needed: a queue in which a
-/// position is found at once where all between it and the greatest are held, else by halving. It holds
-/// no position that is its size or more below the greatest.
+/// Values under rising positions, each until it is too old or its room is needed: a queue in which
+/// a position is found at once where all between it and the greatest are held, else by halving. It
+/// holds no position that is its size or more below the greatest.
 #[derive(Debug, Drop)]
 pub struct QueueStore<T> {
     stamps: Stamps,
@@ -43,8 +43,8 @@ impl<T: Drop> QueueStore<T> {
         }
     }
 
-    /// Makes room for four times the values that are held, at most for one more than the size. Without memory nothing
-    /// changes.
+    /// Makes room for four times the values that are held, at most for one more than the size.
+    /// Without memory nothing changes.
     #[inline(never)]
     fn grow(&mut self) -> Result<(), AllocError>
         ensures { self.new ≡ self.old }
@@ -76,8 +76,9 @@ impl<T: Drop> QueueStore<T> {
         Ok(())
     }
 
-    /// The value of a position, where it is held, found by halving alone: each comparison of positions is
-    /// a step. Where it is not among the n that are held there are at least log2 (n + 2) - 1.
+    /// The value of a position, where it is held, found by halving alone: each comparison of
+    /// positions is a step. Where it is not among the n that are held there are at least log2 (n +
+    /// 2) - 1.
     pub fn get_counted<L: Ledger>(&self, position: u64, steps: &mut Steps<L>) -> Option<&T>
         ensures value { option_copied result ≡ value_at self.now position }
         ensures cost { 2 ^ (steps.new - steps.old) ≤ 2 * length self.now.stamps + 1 }

@@ -18,8 +18,8 @@ pub struct Stamp {
     pub moment: Instant,
 }
 
-/// Rising positions, each with a moment. The lowest and the greatest stand beside them. Contracts see the
-/// list.
+/// Rising positions, each with a moment. The lowest and the greatest stand beside them. Contracts
+/// see the list.
 #[derive(Debug, Drop)]
 pub struct Stamps {
     all: VecDeque<Stamp>,
@@ -50,8 +50,8 @@ impl Stamps {
         }
     }
 
-    /// The index of a position, else the index where it would stand, found by halving. Each comparison is
-    /// a step; where it does not stand here, there are no fewer than halving needs.
+    /// The index of a position, else the index where it would stand, found by halving. Each
+    /// comparison is a step; where it does not stand here, there are no fewer than halving needs.
     pub fn search_counted<L: Ledger>(
         &self,
         position: u64,
@@ -88,7 +88,8 @@ impl Stamps {
         self.search_counted(position, &mut steps)
     }
 
-    // The index of a position that stands so far before the greatest, where none between them is left out.
+    // The index of a position that stands so far before the greatest, where none between them is
+    // left out.
     #[inline(always)]
     fn index_from_end(&self, position: u64, distance: u64) -> Option<usize>
         ensures { IfSome result (IsFound self.now position) }
@@ -120,8 +121,8 @@ impl Stamps {
         Some((position - self.low) as usize)
     }
 
-    /// The index of a position, else the index where it would stand: at once where all between it and
-    /// the greatest stand here, else by halving.
+    /// The index of a position, else the index where it would stand: at once where all between it
+    /// and the greatest stand here, else by halving.
     #[inline(never)]
     fn search_far(&self, position: u64) -> Result<usize, usize>
         ensures found { IfOk result (IsFound self.now position) }
@@ -133,8 +134,8 @@ impl Stamps {
         }
     }
 
-    /// The index of a position, else the index where it would stand: at once where it is above all, or
-    /// where all between it and the greatest stand here, else by halving.
+    /// The index of a position, else the index where it would stand: at once where it is above all,
+    /// or where all between it and the greatest stand here, else by halving.
     #[inline(always)]
     pub fn search(&self, position: u64) -> Result<usize, usize>
         ensures found { IfOk result (IsFound self.now position) }
@@ -191,7 +192,8 @@ impl Stamps {
         Ok(())
     }
 
-    /// Puts a stamp at its place, at the end without moving another. Without memory nothing changes.
+    /// Puts a stamp at its place, at the end without moving another. Without memory nothing
+    /// changes.
     #[inline(always)]
     #[tactic(auto, using(std::proofs::lemmas::List::Edits::insert_end))]
     pub fn insert(&mut self, index: usize, stamp: Stamp) -> Result<(), AllocError>

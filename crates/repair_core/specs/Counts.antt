@@ -1,6 +1,5 @@
 -- What is counted of the packets of a source beside which numbers came (RFC 3550, sections 6.4.1, A.3 and A.8).
-use Rattle.std.specs.Prelude.{ℕ, ◌+◌, ◌-◌, ◌*◌, ◌/◌, ◌%◌, ◌^◌, ◌<◌, ◌==◌, ℤ, pos, ◌-ℤ◌, nat_le, min, unwrap_or, if◌then◌else◌, Bool, Option, Some, None}
-use Rattle.rtp_base.specs.Fields.{IsSigned24}
+use Rattle.std.specs.Prelude.{ℕ, ◌+◌, ◌-◌, ◌*◌, ◌/◌, ◌%◌, ◌^◌, ◌==◌, ℤ, pos, ◌-ℤ◌, nat_le, min, unwrap_or, if◌then◌else◌, Bool, Option, Some, None}
 use Rattle.rtp_base.specs.declared.reception_report.ReceptionReport.{ReceptionReport}
 use Rattle.repair_core.specs.declared.jitter.TimePoint.{TimePoint}
 use Rattle.repair_core.specs.Jitter.{entered, jitter_after, rtp_jitter}
@@ -53,16 +52,6 @@ fraction_of last expected received =
 -- a report of a source whose SSRC and last sender report are left 0
 abbrev pub block_of : ℕ → ℤ → ℕ → ℕ → ReceptionReport
 block_of fraction lost last jitter = record { ssrc = 0; fraction_lost = fraction; packets_lost = lost; max_seq = last % 2 ^ 32; jitter = jitter; last_sr_time = 0; last_sr_delay = 0 }
-
--- the fields of a report fit their places on the wire
-pub record IsTellable (r : ReceptionReport) : Type 0 where
-  pub ssrc : r.ssrc < 2 ^ 32
-  pub fraction : r.fraction_lost < 256
-  pub lost : IsSigned24 r.packets_lost
-  pub greatest : r.max_seq < 2 ^ 32
-  pub jitter : r.jitter < 2 ^ 32
-  pub last : r.last_sr_time < 2 ^ 32
-  pub delay : r.last_sr_delay < 2 ^ 32
 
 -- the report, where a packet came, of the first number and the greatest
 abbrev pub report_with : Option ℕ → Option ℕ → Counts → Option ReceptionReport

@@ -3,7 +3,8 @@ ghost use Rattle.std.specs.Prelude.{◌≡◌, ◌<◌, ◌^◌, IfSome};
 ghost use Rattle.std.specs.Option.{ForSome};
 ghost use Rattle.rtp_base.specs.Fields.{IsSigned24};
 ghost use Rattle.repair_core.specs.Jitter.{rtp_jitter};
-ghost use Rattle.repair_core.specs.Counts.{no_counts, after_point, counted, told, counts_report, counts_after, expected_of, lost_of, fraction_of, block_of, IsTellable};
+ghost use Rattle.rtp_base.specs.ReceptionReport.{IsReceptionReport};
+ghost use Rattle.repair_core.specs.Counts.{no_counts, after_point, counted, told, counts_report, counts_after, expected_of, lost_of, fraction_of, block_of};
 
 use crate::jitter::{Jitter, TimePoint};
 use rtp_base::{ReceptionReport, SeqNo, Ssrc};
@@ -27,6 +28,7 @@ pub struct ReceptionCounts {
 
 impl Model for ReceptionCounts {
     ghost use Rattle.std.specs.Prelude.{◌<◌, ◌^◌};
+    ghost use Rattle.rtp_base.specs.ReceptionReport.{IsReceptionReport};
     ghost use Rattle.repair_core.specs.Counts.{Counts};
 
     ghost Value = { Counts };
@@ -52,8 +54,8 @@ impl ReceptionCounts {
         }
     }
 
-    /// A packet came under a number, which was fresh or not. It counts as received where it was, and
-    /// enters the jitter in any case. The clock rate is at least 1.
+    /// A packet came under a number, which was fresh or not. It counts as received where it was,
+    /// and enters the jitter in any case. The clock rate is at least 1.
     pub fn arrived(&mut self, seq: SeqNo, fresh: bool, point: TimePoint)
         requires { 0 < point.clock_rate }
         ensures { self.new ≡ counted seq fresh point self.old }
@@ -80,7 +82,7 @@ impl ReceptionCounts {
         requires { ForSome greatest (λ n. n < 2 ^ 48) }
         ensures report { result ≡ counts_report greatest self.old }
         ensures after { self.new ≡ counts_after greatest self.old }
-        ensures bits { IfSome result IsTellable }
+        ensures bits { IfSome result IsReceptionReport }
     {
         let first = self.first?;
         let last = greatest?;
@@ -125,7 +127,7 @@ fn fraction(expected_then: u64, received_then: u64, expected: u64, received: u64
 fn block(fraction_lost: u8, packets_lost: i32, last: SeqNo, jitter: u32) -> ReceptionReport
     requires { IsSigned24 packets_lost }
     ensures block { result ≡ block_of fraction_lost packets_lost last jitter }
-    ensures bits { IsTellable result }
+    ensures bits { IsReceptionReport result }
 {
     ReceptionReport {
         ssrc: Ssrc::from(0),

@@ -16,8 +16,8 @@ pub fn taken_is_not_fresh()
     ensures { TakenIsNotFresh }
 {}
 
-/// A register that is started from a remembered greatest number accepts no number up to it, whatever
-/// comes after.
+/// A register that is started from a remembered greatest number accepts no number up to it,
+/// whatever comes after.
 #[tactic(auto, using(crate::proofs::FreshLaws::remembered_is_not_fresh))]
 pub fn remembered_is_not_fresh()
     ensures { RememberedIsNotFresh }

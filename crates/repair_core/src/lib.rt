@@ -16,7 +16,7 @@ pub use gap_window::GapWindow;
 pub use jitter::TimePoint;
 pub use laws::{remembered_is_not_fresh, rounds_name_the_due, taken_is_not_fresh};
 pub use register::ReceiverRegister;
-pub use register_nack::NackRegister;
+pub use register_nack::{MAX_MISORDER, MAX_NACKS, NackRegister};
 
 /// What a round of asking is made of (RFC 4585 section 6.2.1), for every register.
 pub mod rounds {

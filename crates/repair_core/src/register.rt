@@ -15,7 +15,8 @@ use std::alloc::{AllocError, Global};
 use std::ops::Range;
 
 /// What is kept of the packets of a source: which numbers came, how many, and how evenly (RFC 3550
-/// section 6.4.1). Numbers are below 2^48. After `new` no call takes memory. Any window keeps the numbers.
+/// section 6.4.1). Numbers are below 2^48. After `new` no call takes memory. Any window keeps the
+/// numbers.
 #[derive(Debug, Drop)]
 pub struct ReceiverRegister<W: GapWindow = NackRegister> {
     nack: W,
@@ -55,8 +56,8 @@ impl<W: GapWindow> ReceiverRegister<W> {
         self.nack.accepts(seq)
     }
 
-    /// Takes a number that was rebuilt from redundancy (RFC 2198). It is neither asked for nor taken
-    /// again, and does not count as received.
+    /// Takes a number that was rebuilt from redundancy (RFC 2198). It is neither asked for nor
+    /// taken again, and does not count as received.
     pub fn mark_recovered(&mut self, seq: SeqNo)
         requires { seq < 2 ^ 48 }
         ensures { (past : Reception) → StandsFor W.remembers self.old past → StandsFor W.remembers self.new (recovered past seq) }
@@ -124,8 +125,8 @@ impl<W: GapWindow> ReceiverRegister<W> {
         self.nack.max_seq()
     }
 
-    /// A report of the source, with its SSRC and the last sender report left 0; None where no packet
-    /// came. The fraction lost is that since the report before (RFC 3550 section 6.4.1).
+    /// A report of the source, with its SSRC and the last sender report left 0; None where no
+    /// packet came. The fraction lost is that since the report before (RFC 3550 section 6.4.1).
     pub fn reception_report(&mut self) -> Option<ReceptionReport>
         ensures report { (past : Reception) → StandsFor W.remembers self.old past → result ≡ report_of past }
         ensures after { (past : Reception) → StandsFor W.remembers self.old past → StandsFor W.remembers self.new (after_report past) }

@@ -231,8 +231,8 @@ impl NackRegister {
         self.greatest
     }
 
-    /// Remembers up to where no number may be asked for again. Over many calls it passes each number
-    /// once.
+    /// Remembers up to where no number may be asked for again. Over many calls it passes each
+    /// number once.
     fn settle(&mut self)
         ensures { self.new ≡ self.old }
     {
@@ -241,8 +241,9 @@ impl NackRegister {
     }
 
     /// When the missing numbers of the range are given up: None while one of them may be asked for
-    /// again, else three round trips after the latest ask, or after `received` where none is missing,
-    /// where 100 ms stand for an unknown trip. None too where that is past the last moment.
+    /// again, else three round trips after the latest ask, or after `received` where none is
+    /// missing, where 100 ms stand for an unknown trip. None too where that is past the last
+    /// moment.
     #[tactic(auto, using(crate::proofs::GapLaws::give_up_is))]
     pub fn recovery_deadline(
         &self,
@@ -381,7 +382,8 @@ impl NackRegister {
     }
 }
 
-/// How long a number is not asked for again: the round trip, 100 ms where it is not known, and 5 ms.
+/// How long a number is not asked for again: the round trip, 100 ms where it is not known, and 5
+/// ms.
 pub fn wait(trip: Option<Duration>) -> Duration
     ensures { result ≡ wait_of trip }
 {

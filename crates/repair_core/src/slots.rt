@@ -9,7 +9,8 @@ use std::marker::Model;
 /// How many numbers a window spans.
 pub const WINDOW: u64 = MAX_MISORDER + 1;
 
-/// What is known of one number: whether it was taken, else how often it was asked for, and when last.
+/// What is known of one number: whether it was taken, else how often it was asked for, and when
+/// last.
 #[derive(Clone, Copy, Debug)]
 pub struct Slot {
     pub number: u64,
@@ -32,7 +33,8 @@ impl Slot {
     }
 }
 
-/// 101 slots, each for the numbers that leave its place when divided by 101. Contracts see the list.
+/// 101 slots, each for the numbers that leave its place when divided by 101. Contracts see the
+/// list.
 #[derive(Debug, Drop)]
 pub struct Slots {
     all: Vec<Slot>,

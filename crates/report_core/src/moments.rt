@@ -12,7 +12,14 @@ ghost use Rattle.std.specs.Prelude.{
   OnOk,
   OnErr,
   position,
+  ◌≢◌,
+  Ok,
+  None,
+  IsOk,
 };
+ghost use Rattle.std.specs.VecDeque.Iter.{deque_iter_rest, deque_iter_steps};
+ghost use Rattle.std.specs.Iterator.Runs.{YieldsRefsInOrder};
+ghost use Rattle.report_core.specs.declared.moments.ReceiverMoment.{ReceiverMoment as Moment};
 ghost use Rattle.report_core.specs.Moments.{
   moment_of,
   with_moment,
@@ -30,7 +37,7 @@ use media_units::Instant;
 use rtcp_items::{Dlrr, DlrrItem, ExtendedReport, ReportBlock, Rrtr};
 use rtp_base::Ssrc;
 use std::alloc::{AllocError, Global};
-use std::collections::VecDeque;
+use std::collections::{VecDeque, vec_deque};
 use std::marker::Model;
 
 /// How many moments wait at most.
@@ -138,12 +145,21 @@ impl ReceiverMoments {
         self.waiting.is_empty()
     }
 
+    /// The moments that wait, oldest first.
+    pub fn iter(&self) -> vec_deque::Iter<'_, ReceiverMoment>
+        ensures rest { deque_iter_rest result ≡ self.now }
+        ensures runs { YieldsRefsInOrder (deque_iter_steps {X = Moment}) deque_iter_rest }
+    {
+        self.waiting.iter()
+    }
+
     /// Takes in the moment of a receiver that came at a moment. It stands in place of the one of
-    /// its SSRC that waits, or behind the others; of more than 300 the oldest goes. Without memory
-    /// nothing changes. The time grows with the number that waits.
+    /// its SSRC that waits, which needs no memory, or behind the others; of more than 300 the
+    /// oldest goes. Without memory nothing changes. The time grows with the number that waits.
     pub fn take(&mut self, ssrc: Ssrc, moment: &Rrtr, now: Instant) -> Result<(), AllocError>
         ensures ok { OnOk result (self.new ≡ with_moment (moment_of ssrc moment.now now) self.old) }
         ensures err { OnErr result (self.new ≡ self.old) }
+        ensures waits { position (λ m. m.ssrc == ssrc) self.old ≢ None → IsOk result }
     {
         let latest = ReceiverMoment {
             ssrc,
@@ -172,15 +188,16 @@ impl ReceiverMoments {
     }
 
     /// The extended report that answers the first 50 that wait, at a moment, with the sender's SSRC
-    /// (RFC 3611 section 4.5). None exactly where none waits. They wait on until `answered` is called. The
-    /// time grows with the number that is answered.
+    /// (RFC 3611 section 4.5). None exactly where none waits. They wait on until `answered` is
+    /// called. The time grows with the number that is answered.
     pub fn answer(
         &self,
         alloc: Global,
         sender_ssrc: Ssrc,
         now: Instant,
     ) -> Result<Option<ExtendedReport>, AllocError>
-        ensures { IfOk result (λ r. r ≡ answer_of sender_ssrc now self.now) }
+        ensures answer { IfOk result (λ r. r ≡ answer_of sender_ssrc now self.now) }
+        ensures none { self.now ≡ [] → result ≡ Ok None }
     {
         if self.waiting.is_empty() {
             return Ok(None);

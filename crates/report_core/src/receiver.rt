@@ -1,5 +1,5 @@
 //! What a receiver reports: how it receives, and the moment at which it says so.
-ghost use Rattle.std.specs.Prelude.{◌≡◌, IfOk};
+ghost use Rattle.std.specs.Prelude.{◌≡◌, None, IfOk, IsOk};
 ghost use Rattle.report_core.specs.Receiver.{receiver_report_of, moment_report_of};
 
 use media_base::Listed;
@@ -14,7 +14,8 @@ pub fn receiver_report(
     sender_ssrc: Ssrc,
     block: Option<ReceptionReport>,
 ) -> Result<ReceiverReport, AllocError>
-    ensures { IfOk result (λ r. r ≡ receiver_report_of sender_ssrc block) }
+    ensures report { IfOk result (λ r. r ≡ receiver_report_of sender_ssrc block) }
+    ensures none { block ≡ None → IsOk result }
 {
     let mut reports = Listed::new(alloc);
     if let Some(block) = block {

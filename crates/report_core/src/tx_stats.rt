@@ -1,5 +1,5 @@
 //! What is counted of an outgoing stream, and what its receivers report as lost.
-ghost use Rattle.std.specs.Prelude.{◌≡◌, ◌*◌, ◌<◌, ◌≤◌, OnOk, OnErr, IfSome};
+ghost use Rattle.std.specs.Prelude.{◌≡◌, ◌*◌, ◌<◌, ◌≤◌, None, IsOk, OnOk, OnErr, IfSome};
 ghost use Rattle.report_core.specs.Traffic.{more, with_packet};
 ghost use Rattle.report_core.specs.Loss.{loss_told};
 ghost use Rattle.report_core.specs.TxStats.{
@@ -112,6 +112,7 @@ impl StreamTxStats {
     ) -> Result<(), AllocError>
         ensures ok { OnOk result (self.new ≡ after_block (loss_told last_sent block.now) self.old) }
         ensures err { OnErr result (self.new ≡ self.old) }
+        ensures unkept { self.old.losses ≡ None → IsOk result }
     {
         match &mut self.losses {
             Some(losses) => losses.update_with_rr(last_sent, block),

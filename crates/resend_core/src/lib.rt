@@ -1,5 +1,6 @@
-//! What was sent and is kept to be resent (RFC 4588): a ring of values under rising positions, each until it
-//! is too old or its room is needed, and the cache of sent packets, found by number and by size.
+//! What was sent and is kept to be resent (RFC 4588): a ring of values under rising positions, each
+//! until it is too old or its room is needed, and the cache of sent packets, found by number and by
+//! size.
 #![tactic(auto)]
 
 mod laws;

@@ -9,7 +9,8 @@ use std::alloc::{AllocError, Global};
 
 /// What holds values under rising positions, each until it is too old or its room is needed.
 pub trait ResendStore<T: Drop>: Drop {
-    /// It was made with these limits, and this happened to it. One value may stand for several pasts.
+    /// It was made with these limits, and this happened to it. One value may stand for several
+    /// pasts.
     ghost stands_for: { Self → Past T → Type 0 };
 
     /// The value that is held under a position.
@@ -18,12 +19,12 @@ pub trait ResendStore<T: Drop>: Drop {
     /// It, with another value held under a position.
     ghost with_value: { Self → ℕ → T → Self };
 
-    /// The position below which no push is looked at, where there is one: the first that was pushed,
-    /// then one above the greatest that was dropped for its age.
+    /// The position below which no push is looked at, where there is one: the first that was
+    /// pushed, then one above the greatest that was dropped for its age.
     ghost mark: { Self → Option ℕ };
 
-    /// One with room for so many values at first, and in the end for the greatest number, which holds
-    /// no value longer than the age.
+    /// One with room for so many values at first, and in the end for the greatest number, which
+    /// holds no value longer than the age.
     fn new(
         alloc: Global,
         initial_size: usize,
@@ -33,8 +34,9 @@ pub trait ResendStore<T: Drop>: Drop {
         ensures stands { IfOk result (λ s. stands_for s (made initial_size max_age max_size)) }
         ensures marks { IfOk result (λ s. mark s ≡ None) };
 
-    /// Stores a value under its position, or passes over it: where values are held for no time, where
-    /// an eviction came at a later moment, and below the mark. Without memory nothing changes.
+    /// Stores a value under its position, or passes over it: where values are held for no time,
+    /// where an eviction came at a later moment, and below the mark. Without memory nothing
+    /// changes.
     fn push(&mut self, position: u64, timestamp: Instant, value: T) -> Result<(), AllocError>
         ensures ok { OnOk result ((past : Past T) → stands_for self.old past → IsPushedInto stands_for past position timestamp value self.new) }
         ensures passed { (past : Past T) → stands_for self.old past → IsPassedOver (mark self.old) past position timestamp → (self.new ≡ self.old) × IsOk result }

@@ -5,8 +5,8 @@ ghost use Rattle.resend_core.specs.Ring.{slot_of, held, place_in, has_room, is_o
 use media_units::{Duration, Instant};
 use std::alloc::{AllocError, Global};
 
-/// A value under its position, and when it was stored. Position and value, which a look-up reads, stand
-/// side by side.
+/// A value under its position, and when it was stored. Position and value, which a look-up reads,
+/// stand side by side.
 #[derive(Debug, Drop)]
 pub struct Entry<T> {
     pub position: u64,
@@ -179,8 +179,8 @@ fn lower(first: Option<u64>, position: u64) -> Option<u64>
     }
 }
 
-/// What stays of a slot when the entries of positions below the first are dropped, all of them where
-/// there is none.
+/// What stays of a slot when the entries of positions below the first are dropped, all of them
+/// where there is none.
 fn kept<T: Drop>(slot: Option<Entry<T>>, first: Option<u64>) -> Option<Entry<T>>
     ensures { result ≡ kept_from first slot }
 {

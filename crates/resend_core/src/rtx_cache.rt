@@ -26,8 +26,8 @@ pub trait Cached: Drop {
         ensures { result ≡ size self.now };
 }
 
-/// Packets that were sent, each until it is too old or its room is needed (RFC 4588). They are found
-/// by number, and by size for padding. They are held in any store.
+/// Packets that were sent, each until it is too old or its room is needed (RFC 4588). They are
+/// found by number, and by size for padding. They are held in any store.
 #[derive(Drop)]
 pub struct RtxCache<P: Cached, S: ResendStore<P> = EvictingBuffer<P>> {
     packets: S,
@@ -55,8 +55,8 @@ impl<P: Cached, S: ResendStore<P>> RtxCache<P, S> {
         RtxCache::new(alloc, self.packets.max_size(), self.packets.max_age())
     }
 
-    /// Stores a packet under its number, and drops those that are too old. Its payload is below 2,000
-    /// bytes. Without memory nothing changes.
+    /// Stores a packet under its number, and drops those that are too old. Its payload is below
+    /// 2,000 bytes. Without memory nothing changes.
     pub fn cache_sent_packet(&mut self, packet: P, now: Instant) -> Result<(), AllocError>
         requires { P.size packet < 2000 }
         ensures ok { OnOk result ((past : Past P) → StandsFor S.stands_for P.size self.old past → IsCached S.stands_for P.size past (P.number packet) now packet self.new) }

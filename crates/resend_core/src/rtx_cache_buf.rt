@@ -245,7 +245,8 @@ impl<T: Drop> EvictingBuffer<T> {
 
     /// Drops the values that are older than the age, from the lowest position on, up to the first
     /// that is not. A moment before the last such call is passed over. Where positions rise by ones
-    /// it looks at no more values than it drops and one; where they jump, at each slot at most twice.
+    /// it looks at no more values than it drops and one; where they jump, at each slot at most
+    /// twice.
     pub fn maybe_evict(&mut self, now: Instant)
         ensures stands { (past : Past T) → StandsFor self.old past → StandsFor self.new (with_event past (evicted now)) }
         ensures marks { (past : Past T) → StandsFor self.old past → MarksEviction (value_at self.old) (value_at self.new) self.old.mark self.new.mark }

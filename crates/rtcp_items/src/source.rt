@@ -14,7 +14,8 @@ pub struct Goodbye {
 /// What an item of a description tells (RFC 3550 section 12.2).
 #[derive(Clone, Copy, Debug, PartialEq, Eq)]
 pub enum SdesType {
-    /// The name of the source's endpoint, which stays the same over its SSRCs (RFC 3550 section 6.5.1).
+    /// The name of the source's endpoint, which stays the same over its SSRCs (RFC 3550 section
+    /// 6.5.1).
     CNAME,
     NAME,
     EMAIL,

@@ -30,8 +30,8 @@ const DESCRIPTIONS: [u8; 24] = [
     0x82, 0xca, 0, 5, 0, 0, 0, 42, 1, 3, 99, 97, 109, 6, 0, 0, 0, 0, 0, 43, 0, 0, 0, 0,
 ];
 
-// A NACK of 2, one of 10, 11 and 13 (RFC 4585 section 6.2.1), a PLI (section 6.3.1) and a FIR (RFC 5104 section
-// 4.3.1.1).
+// A NACK of 2, one of 10, 11 and 13 (RFC 4585 section 6.2.1), a PLI (section 6.3.1) and a FIR (RFC
+// 5104 section 4.3.1.1).
 const LOST: [u8; 16] = [0x81, 0xcd, 0, 3, 0, 0, 0, 2, 0, 0, 0, 42, 0, 2, 0, 0];
 
 const NACK: [u8; 16] = [0x81, 0xcd, 0, 3, 0, 0, 0, 1, 0, 0, 0, 42, 0, 10, 0, 5];
@@ -42,16 +42,16 @@ const FIR: [u8; 20] = [
     0x84, 0xce, 0, 4, 0, 0, 0, 1, 0, 0, 0, 0, 0, 0, 0, 42, 3, 0, 0, 0,
 ];
 
-// Transport-wide feedback of ten packets from 10 on: a run of seven with deltas of 8 bits, and a vector of one with
-// a delta of -1 in 16 bits, one that did not come and one with a delta of 255
+// Transport-wide feedback of ten packets from 10 on: a run of seven with deltas of 8 bits, and a
+// vector of one with a delta of -1 in 16 bits, one that did not come and one with a delta of 255
 // (draft-holmer-rmcat-transport-wide-cc-extensions-01 section 3.1).
 const TWCC: [u8; 36] = [
     0x8f, 0xcd, 0, 8, 0, 0, 0, 1, 0, 0, 0, 42, 0, 10, 0, 10, 0xff, 0xff, 0xfe, 5, 0x20, 7, 0xe1, 0,
     4, 4, 4, 4, 4, 4, 4, 0xff, 0xff, 0xff, 0, 0,
 ];
 
-// Feedback of an application (RFC 4585 section 6.4), and a REMB of 262,144 bits a second for two sources:
-// exponent 1, mantissa 131,072 (draft-alvestrand-rmcat-remb section 2.2).
+// Feedback of an application (RFC 4585 section 6.4), and a REMB of 262,144 bits a second for two
+// sources: exponent 1, mantissa 131,072 (draft-alvestrand-rmcat-remb section 2.2).
 const APPLICATION: [u8; 16] = [0x8f, 0xce, 0, 3, 0, 0, 0, 1, 0, 0, 0, 42, 1, 2, 3, 4];
 
 const REMB: [u8; 28] = [

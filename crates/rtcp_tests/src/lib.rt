@@ -1,5 +1,6 @@
-//! The tests of compound RTCP, of transport-wide feedback and of what reports count and tell: worked values of the
-//! standards, and each public call that takes memory once with enough of it. What a clause says is not tested.
+//! The tests of compound RTCP, of transport-wide feedback and of what reports count and tell:
+//! worked values of the standards, and each public call that takes memory once with enough of it.
+//! What a clause says is not tested.
 #![tactic(auto)]
 
 #[cfg(test)]

@@ -11,8 +11,8 @@ use twcc_core::{
 /// Of feedback its first number, its reference time, its count, and what became of each packet.
 type Feedback = (u16, i32, u8, &'static [PacketStatus]);
 
-// Seven packets 1 ms after one another, one that is missing and one 250 us before the last, from the
-// number 65,535 on: a run, a vector, deltas and fill.
+// Seven packets 1 ms after one another, one that is missing and one 250 us before the last, from
+// the number 65,535 on: a run, a vector, deltas and fill.
 const WORKED: [u8; 32] = [
     0, 0, 0, 1, 0, 0, 0, 42, 0xff, 0xff, 0, 9, 0xff, 0xff, 0xff, 7, 0x20, 7, 0xc8, 0, 4, 4, 4, 4,
     4, 4, 4, 0xff, 0xff, 0, 0, 0,
@@ -103,7 +103,8 @@ fn cut_feedback(rt: HostRuntime) {
     assert!(rt; is_whole(rt.alloc(), 29) == Ok(true));
 }
 
-// A vector of one bit a symbol, and the reserved symbol 3 in one of two bits, which says no arrival.
+// A vector of one bit a symbol, and the reserved symbol 3 in one of two bits, which says no
+// arrival.
 const VECTORS: [u8; 24] = [
     0, 0, 0, 1, 0, 0, 0, 42, 0, 5, 0, 16, 0, 0, 1, 7, 0xa8, 1, 0xdc, 0, 255, 3, 9, 1,
 ];
@@ -497,21 +498,24 @@ fn shares_missing(rt: HostRuntime) {
     assert!(rt; is_received(rt.alloc(), &MANY_CAME) == Ok(true));
 }
 
-/// What is sent, what is reported of it, and what a register of packets that are sent answers. Moments are
-/// in nanoseconds.
+/// What is sent, what is reported of it, and what a register of packets that are sent answers.
+/// Moments are in nanoseconds.
 #[derive(Clone, Copy)]
 enum Sending {
     /// A packet of this number is sent at a moment.
     Sends(u64, u64),
-    /// A packet of each number from the first on, and below the second, is sent at the moment of its number.
+    /// A packet of each number from the first on, and below the second, is sent at the moment of
+    /// its number.
     SendsEach(u64, u64),
-    /// This is reported at a moment. It tells of these numbers, each sent at its own moment, and when each came.
+    /// This is reported at a moment. It tells of these numbers, each sent at its own moment, and
+    /// when each came.
     Tells(Feedback, u64, &'static [(u64, Option<u64>)]),
     /// This is reported at a moment, and tells of so many packets.
     TellsOf(Feedback, u64, usize),
     /// The round trip.
     Trip(Option<u64>),
-    /// Of the packets that were reported in so many nanoseconds before a moment so many are missing.
+    /// Of the packets that were reported in so many nanoseconds before a moment so many are
+    /// missing.
     Loses(u64, u64, Option<Share>),
 }
 
@@ -685,7 +689,8 @@ fn reports_of_what_was_let_go(rt: HostRuntime) {
     assert!(rt; is_sent(rt.alloc(), &LET_GO) == Ok(true));
 }
 
-// When three packets came of which the second is missing, and what is told of them where they were sent.
+// When three packets came of which the second is missing, and what is told of them where they were
+// sent.
 const CAME: [Option<u64>; 3] = [Some(64_000_000_000), None, Some(64_000_500_000)];
 
 const TOLD: [(u64, Option<u64>); 3] = [

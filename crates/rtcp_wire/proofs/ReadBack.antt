@@ -33,7 +33,8 @@ use Rattle.rtcp_wire.specs.declared.request.FirEntry.{FirEntry}
 use Rattle.rtcp_wire.specs.declared.request.Pli.{Pli as PliItem}
 use Rattle.rtp_base.specs.declared.reception_report.ReceptionReport.{ReceptionReport}
 use Rattle.twcc_core.specs.Laws.{FeedbackReadsBack}
-use Rattle.rtcp_wire.specs.Laws.{IsNackEntry, IsFirEntry, IsReport, IsDlrrItem, IsBlock, IsHeld, held, held_block, held_info, held_rate}
+use Rattle.rtp_base.specs.ReceptionReport.{IsReceptionReport}
+use Rattle.rtcp_wire.specs.Laws.{IsNackEntry, IsFirEntry, IsDlrrItem, IsBlock, IsHeld, held, held_block, held_info, held_rate}
 use Rattle.std.specs.Option.{option_map, option_and_then}
 use Rattle.rtcp_wire.specs.Extended.{dlrr_item_at, dlrr_item_text, block_of, block_at, block_kind, block_content, block_text, kept, blocks_within, blocks_of, extended_report_of, extended_report_body}
 use Rattle.rtcp_items.specs.declared.extended.DlrrItem.{DlrrItem}
@@ -110,7 +111,7 @@ lost_again (negsuc n) whole =
     let back : 16777216 - suc (16777215 - n) ≡ n = omega arith in
     ap signed24 e ∙ rw (high, low, back) refl
 
-report_again : (r : ReceptionReport) (rest : List ℕ) → IsReport r → (report_at (report_text r ++ rest) ≡ r) × (drop 24 (report_text r ++ rest) ≡ rest)
+report_again : (r : ReceptionReport) (rest : List ℕ) → IsReceptionReport r → (report_at (report_text r ++ rest) ≡ r) × (drop 24 (report_text r ++ rest) ≡ rest)
 unfolding report_at report_text
 report_again r rest whole =
     let make : ℕ → ℕ → ℤ → ℕ → ℕ → ℕ → ℕ → ReceptionReport = λ a b c d e f g. record { ssrc = a; fraction_lost = b; packets_lost = c; max_seq = d; jitter = e; last_sr_time = f; last_sr_delay = g } in
@@ -214,11 +215,11 @@ receiver_report_is count body long =
     let t : ltb (length body) (4 + count * 24) ≡ false = le-ltb _ _ long in
     rw t refl
 
-receiver_report_again : (r : ReceiverItem) → r.sender_ssrc < 2 ^ 32 → AllByRecursion IsReport r.reports → receiver_report_of (length r.reports) (receiver_report_body r) ≡ Some r
+receiver_report_again : (r : ReceiverItem) → r.sender_ssrc < 2 ^ 32 → AllByRecursion IsReceptionReport r.reports → receiver_report_of (length r.reports) (receiver_report_body r) ≡ Some r
 unfolding receiver_report_body
 receiver_report_again r s rows =
     let len = rows_len report_text 24 report_len r.reports in
-    let again : rows_of report_at 24 (length r.reports) (flat_map report_text r.reports) ≡ r.reports = ap (rows_of report_at 24 (length r.reports)) (sym (append-nil (flat_map report_text r.reports))) ∙ rows_again report_at report_text 24 IsReport report_again r.reports [] rows in
+    let again : rows_of report_at 24 (length r.reports) (flat_map report_text r.reports) ≡ r.reports = ap (rows_of report_at 24 (length r.reports)) (sym (append-nil (flat_map report_text r.reports))) ∙ rows_again report_at report_text 24 IsReceptionReport report_again r.reports [] rows in
     let a : from_be_bytes w32 (to_be_bytes w32 r.sender_ssrc) ≡ r.sender_ssrc = from_be_bytes-to_be_bytes_4 r.sender_ssrc s in
     receiver_report_is (length r.reports) (receiver_report_body r) (omega (arith, len)) ∙ rw (a, again) refl
 
@@ -253,12 +254,12 @@ sender_report_is count body long =
     let t : ltb (length body) (24 + count * 24) ≡ false = le-ltb _ _ long in
     rw t refl
 
-sender_report_again : (r : SenderItem) → r.sender_info.ssrc < 2 ^ 32 → r.sender_info.rtp_time < 2 ^ 32 → r.sender_info.sender_packet_count < 2 ^ 32 → r.sender_info.sender_octet_count < 2 ^ 32 → AllByRecursion IsReport r.reports
+sender_report_again : (r : SenderItem) → r.sender_info.ssrc < 2 ^ 32 → r.sender_info.rtp_time < 2 ^ 32 → r.sender_info.sender_packet_count < 2 ^ 32 → r.sender_info.sender_octet_count < 2 ^ 32 → AllByRecursion IsReceptionReport r.reports
     → sender_report_of (length r.reports) (sender_report_body r) ≡ Some (record { sender_info = held_info r.sender_info; reports = r.reports })
 unfolding sender_report_body
 sender_report_again r ssrc time packets octets rows =
     let len = rows_len report_text 24 report_len r.reports in
-    let again : rows_of report_at 24 (length r.reports) (flat_map report_text r.reports) ≡ r.reports = ap (rows_of report_at 24 (length r.reports)) (sym (append-nil (flat_map report_text r.reports))) ∙ rows_again report_at report_text 24 IsReport report_again r.reports [] rows in
+    let again : rows_of report_at 24 (length r.reports) (flat_map report_text r.reports) ≡ r.reports = ap (rows_of report_at 24 (length r.reports)) (sym (append-nil (flat_map report_text r.reports))) ∙ rows_again report_at report_text 24 IsReceptionReport report_again r.reports [] rows in
     let info = sender_info_again r.sender_info (flat_map report_text r.reports) ssrc time packets octets in
     let make : SenderInfo → List ℕ → Option SenderItem = λ s rest. Some (record { sender_info = s; reports = rows_of report_at 24 (length r.reports) rest }) in
     let whole : List ReceptionReport → Option SenderItem = λ xs. Some (record { sender_info = held_info r.sender_info; reports = xs }) in

@@ -3,10 +3,9 @@ use Rattle.std.specs.Prelude.{◌≡◌, ℕ, ◌*◌, min, map, take, ◌%◌, 
 use Rattle.std.specs.List.{flat_map, AllByRecursion}
 use Rattle.rtcp_wire.specs.declared.packet.Rtcp.{Rtcp}
 use Rattle.rtcp_wire.specs.declared.packet.Rtcp.TheVariants.{SenderReport, ReceiverReport, SourceDescription, Goodbye, ExtendedReport, Nack, Pli, Fir, Twcc, Remb, AppSpecificFeedback}
-use Rattle.rtp_base.specs.Fields.{IsSigned24}
 use Rattle.rtp_base.specs.declared.nack_entry.NackEntry.{NackEntry}
 use Rattle.rtcp_wire.specs.declared.request.FirEntry.{FirEntry}
-use Rattle.rtp_base.specs.declared.reception_report.ReceptionReport.{ReceptionReport}
+use Rattle.rtp_base.specs.ReceptionReport.{IsReceptionReport}
 use Rattle.rtcp_items.specs.declared.report.SenderInfo.{SenderInfo}
 use Rattle.rtcp_items.specs.declared.extended.DlrrItem.{DlrrItem}
 use Rattle.rtcp_items.specs.declared.extended.ReportBlock.{ReportBlock}
@@ -33,15 +32,6 @@ IsNackEntry e = (e.pid < 2 ^ 16) × (e.blp < 2 ^ 16)
 
 abbrev pub IsFirEntry : FirEntry → Type 0
 IsFirEntry e = e.ssrc < 2 ^ 32
-
-pub record IsReport (r : ReceptionReport) : Type 0 where
-  pub ssrc : r.ssrc < 2 ^ 32
-  pub fraction : r.fraction_lost < 256
-  pub lost : IsSigned24 r.packets_lost
-  pub greatest : r.max_seq < 2 ^ 32
-  pub jitter : r.jitter < 2 ^ 32
-  pub last : r.last_sr_time < 2 ^ 32
-  pub delay : r.last_sr_delay < 2 ^ 32
 
 -- what the wire holds of a moment, and of a rate
 abbrev pub held_info : SenderInfo → SenderInfo
@@ -90,9 +80,9 @@ IsSdes s = (s.ssrc < 2 ^ 32) × AllByRecursion IsSdesItem s.values
 -- reports, descriptions, goodbyes and feedback whose fields fit, and application feedback whose words are not those
 -- of a REMB
 abbrev pub FieldsFit : Rtcp → Type 0
-FieldsFit (SenderReport r) = (r.sender_info.ssrc < 2 ^ 32) × (r.sender_info.rtp_time < 2 ^ 32) × (r.sender_info.sender_packet_count < 2 ^ 32) × (r.sender_info.sender_octet_count < 2 ^ 32) × AllByRecursion IsReport r.reports
+FieldsFit (SenderReport r) = (r.sender_info.ssrc < 2 ^ 32) × (r.sender_info.rtp_time < 2 ^ 32) × (r.sender_info.sender_packet_count < 2 ^ 32) × (r.sender_info.sender_octet_count < 2 ^ 32) × AllByRecursion IsReceptionReport r.reports
 FieldsFit (Remb r) = (r.sender_ssrc < 2 ^ 32) × (r.bitrate < 2 ^ 64) × AllByRecursion (λ s. s < 2 ^ 32) r.ssrcs
-FieldsFit (ReceiverReport r) = (r.sender_ssrc < 2 ^ 32) × AllByRecursion IsReport r.reports
+FieldsFit (ReceiverReport r) = (r.sender_ssrc < 2 ^ 32) × AllByRecursion IsReceptionReport r.reports
 FieldsFit (SourceDescription d) = AllByRecursion IsSdes d.reports
 FieldsFit (Goodbye g) = AllByRecursion (λ s. s < 2 ^ 32) g.reports
 FieldsFit (Nack n) = (n.sender_ssrc < 2 ^ 32) × (n.ssrc < 2 ^ 32) × (length n.reports ≤ 31) × AllByRecursion IsNackEntry n.reports

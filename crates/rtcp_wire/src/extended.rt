@@ -103,7 +103,8 @@ fn read_first_block<'a>(
     }
 }
 
-// Reads the first 31 blocks of known types, or None where a block before the last of these is too short.
+// Reads the first 31 blocks of known types, or None where a block before the last of these is too
+// short.
 fn read_blocks(alloc: Global, bytes: &[u8]) -> Result<Option<Listed<ReportBlock>>, AllocError>
     ensures { IfOk result (λ blocks. blocks ≡ blocks_of bytes.now) }
 {

@@ -5,7 +5,8 @@ ghost use Rattle.rtcp_wire.specs.Frame.{view, frame_at, unpadded};
 
 use rtp_base::wire;
 
-// An item in bytes: its count or format, its type, what stands after its header, and what follows it.
+// An item in bytes: its count or format, its type, what stands after its header, and what follows
+// it.
 #[derive(Drop)]
 pub struct Frame<'a> {
     pub count: u8,

@@ -103,9 +103,10 @@ impl Rtcp {
     ghost use Rattle.rtcp_wire.specs.Wire.{LeavesRest};
     ghost use Rattle.rtcp_wire.specs.Remb.{is_remb};
 
-    /// Reads the items of a datagram, in order, and adds them to a list. Reading stops at an item whose
-    /// version is not 2, whose length runs past the end or that is too short for its fields; unknown
-    /// types and formats are passed over. Without memory some items at the front were added.
+    /// Reads the items of a datagram, in order, and adds them to a list. Reading stops at an item
+    /// whose version is not 2, whose length runs past the end or that is too short for its fields;
+    /// unknown types and formats are passed over. Without memory some items at the front were
+    /// added.
     pub fn read_packet(
         alloc: Global,
         bytes: &[u8],
@@ -157,7 +158,8 @@ impl Rtcp {
         }
     }
 
-    // Adds the item, if its type and format are known, and says whether its bytes are long enough for it.
+    // Adds the item, if its type and format are known, and says whether its bytes are long enough
+    // for it.
     #[tactic(auto, unfolding(crate::specs::Items::reading_of))]
     fn read_item(
         alloc: Global,
@@ -235,10 +237,10 @@ impl Rtcp {
         }
     }
 
-    /// Writes items, whole and in order, while they fit, and takes them off the list. The answer is how
-    /// many bytes were written; what stands behind them stays. Counts and lengths fit their fields, so a
-    /// source's texts have at most 255 bytes; none of its items has the type 0, which ends their list; and
-    /// bodies have whole words.
+    /// Writes items, whole and in order, while they fit, and takes them off the list. The answer is
+    /// how many bytes were written; what stands behind them stays. Counts and lengths fit their
+    /// fields, so a source's texts have at most 255 bytes; none of its items has the type 0, which
+    /// ends their list; and bodies have whole words.
     pub fn write_packet(items: &mut VecDeque<Rtcp>, out: &mut [u8]) -> usize
         requires { AllByRecursion IsWritable items.old.items }
         ensures count { result ≡ length (flat_map text_of (take (fitting (length out.old) items.old.items) items.old.items)) }

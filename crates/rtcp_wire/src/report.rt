@@ -1,6 +1,5 @@
 //! Reports on what was sent and received (RFC 3550 section 6.4).
 ghost use Rattle.std.specs.Prelude.{◌≡◌, ◌<◌, ◌≤◌, length, IfOk};
-ghost use Rattle.rtp_base.specs.Fields.{signed24};
 ghost use Rattle.rtp_base.specs.Wire.{Puts};
 ghost use Rattle.rtcp_wire.specs.Reports.{receiver_report_of, receiver_report_body, sender_info_at, sender_info_text, sender_report_of, sender_report_body};
 
@@ -8,7 +7,7 @@ use crate::row::{Put, Row, read_many, write_rows};
 use media_units::{SystemTime, SystemTimeExt};
 use rtcp_items::{ReceiverReport, SenderInfo, SenderReport};
 use rtp_base::ReceptionReport;
-use rtp_base::wire::{double, put, word};
+use rtp_base::wire::{double, put, signed, word};
 use std::alloc::{AllocError, Global};
 
 impl Row for ReceptionReport {
@@ -60,18 +59,6 @@ impl Put for ReceptionReport {
             self.last_sr_delay,
         ];
         write_rows(&words, out, at)
-    }
-}
-
-// 24 bits as a signed number.
-fn signed(bits: u32) -> i32
-    requires { bits < 16777216 }
-    ensures { result ≡ signed24 bits }
-{
-    if bits < 0x80_0000 {
-        bits as i32
-    } else {
-        bits as i32 - 0x100_0000
     }
 }
 

@@ -44,8 +44,8 @@ pub enum RtcpFb {
 impl RtcpFb {
     ghost use Rattle.rtcp_wire.specs.Streams.{feedback_of, feedback_of_block, stream_of, concerns_received};
 
-    /// What items say of single streams, in order: each report, description, entry and SSRC of a list by
-    /// itself. A REMB is feedback for each SSRC that it lists.
+    /// What items say of single streams, in order: each report, description, entry and SSRC of a
+    /// list by itself. A REMB is feedback for each SSRC that it lists.
     pub fn from_rtcp(alloc: Global, items: VecDeque<Rtcp>) -> Result<Vec<RtcpFb>, AllocError>
         ensures { IfOk result (λ feedback. feedback.items ≡ flat_map feedback_of items.items) }
     {
@@ -142,8 +142,9 @@ impl RtcpFb {
         }
     }
 
-    /// The SSRC of the stream that it concerns: of a picture or packets that are asked for, of transport-wide
-    /// feedback and of what an application says that of the media, of a receiver's moment that of the receiver.
+    /// The SSRC of the stream that it concerns: of a picture or packets that are asked for, of
+    /// transport-wide feedback and of what an application says that of the media, of a receiver's
+    /// moment that of the receiver.
     pub fn ssrc(&self) -> Ssrc
         ensures { result ≡ stream_of self.now }
     {
@@ -163,8 +164,8 @@ impl RtcpFb {
         }
     }
 
-    /// Whether it concerns a stream that is received: what its sender says of itself, and the answers to
-    /// the moments that were sent to it. All else concerns a stream that is sent.
+    /// Whether it concerns a stream that is received: what its sender says of itself, and the
+    /// answers to the moments that were sent to it. All else concerns a stream that is sent.
     pub fn is_for_rx(&self) -> bool
         ensures { result ≡ concerns_received self.now }
     {

@@ -110,8 +110,8 @@ fn keep_item(
     Ok(())
 }
 
-// Reads the items before the zero that ends their list, keeps the first 31, and gives the bytes from that
-// zero on, or None where an item is too short or no zero comes.
+// Reads the items before the zero that ends their list, keeps the first 31, and gives the bytes
+// from that zero on, or None where an item is too short or no zero comes.
 fn read_items(alloc: Global, bytes: &[u8]) -> Result<Option<(Listed<SdesItem>, &[u8])>, AllocError>
     ensures found { IfOk result (λ r. option_map (λ x. (x.0, x.1.now)) r ≡ first_31 (sdes_items_of bytes.now)) }
     ensures within { IfOk result (λ r. IfSome r (λ x. length x.1.now ≤ length bytes.now)) }

@@ -3,6 +3,7 @@ pub mod Ids
 pub mod Kind
 pub mod NackEntry
 pub mod Name
+pub mod ReceptionReport
 pub mod Widen
 pub mod Window
 pub mod Wire

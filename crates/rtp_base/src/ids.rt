@@ -73,7 +73,8 @@ impl From<TwccClusterId> for u64 {
     }
 }
 
-/// The number of a packet on its transport, and the cluster of probes that it belongs to, if it is a probe.
+/// The number of a packet on its transport, and the cluster of probes that it belongs to, if it is
+/// a probe.
 #[derive(Clone, Copy, Debug, PartialEq, Eq, PartialOrd, Ord, Hash)]
 pub struct TwccPacketId {
     /// Its number, which counts all packets of the transport.
@@ -108,7 +109,8 @@ impl TwccPacketId {
 pub struct MidRid(pub Mid, pub Option<Rid>);
 
 impl MidRid {
-    /// Whether a stream is asked for by `self`: it has the same mid, and the same rid where one is asked for.
+    /// Whether a stream is asked for by `self`: it has the same mid, and the same rid where one is
+    /// asked for.
     pub fn special_equals(&self, held: &MidRid) -> bool
         ensures { IsTrue result ↔ Matches self.now held.now }
     {

@@ -1,7 +1,7 @@
-//! What RTP counts and names: sequence numbers, sources and other identifiers, times in ticks of a clock,
-//! the widening of numbers cut to 16 or 32 bits, and the window of repairs (RFC 3550, RFC 3711); and the
-//! rows of RTCP that registers make, in lists of at most 31 (RFC 3550 section 6.4.1, RFC 4585 section 6.2.1);
-//! and fields in bytes, the high byte first (RFC 3550 section 4).
+//! What RTP counts and names: sequence numbers, sources and other identifiers, times in ticks of a
+//! clock, the widening of numbers cut to 16 or 32 bits, and the window of repairs (RFC 3550, RFC
+//! 3711); and the rows of RTCP that registers make, in lists of at most 31 (RFC 3550 section 6.4.1,
+//! RFC 4585 section 6.2.1); and fields in bytes, the high byte first (RFC 3550 section 4).
 #![tactic(auto)]
 
 mod ids;

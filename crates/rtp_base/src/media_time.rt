@@ -59,7 +59,8 @@ impl Frequency {
     }
 }
 
-/// A time in ticks of a clock: `numer` ticks of 1 / `frequency` seconds. Two times are equal where both fields are.
+/// A time in ticks of a clock: `numer` ticks of 1 / `frequency` seconds. Two times are equal where
+/// both fields are.
 #[derive(Clone, Copy, Debug, PartialEq, Eq, Hash)]
 pub struct MediaTime {
     /// How many ticks.
@@ -91,7 +92,8 @@ impl MediaTime {
         self.frequency
     }
 
-    /// The same time in ticks of another clock, rounded down. Ticks past 64 bits are the greatest number of 64 bits.
+    /// The same time in ticks of another clock, rounded down. Ticks past 64 bits are the greatest
+    /// number of 64 bits.
     pub fn rebase(self, clock: Frequency) -> Self
         ensures ticks { result.numer ≡ min (self.numer * clock / self.frequency) (2 ^ 64 - 1) }
         ensures clock { result.frequency ≡ clock }

@@ -107,7 +107,8 @@ impl Name {
     }
 }
 
-/// The identification of a media section (RFC 9143 section 14): 1 to 16 ASCII bytes. Contracts see the list of the bytes.
+/// The identification of a media section (RFC 9143 section 14): 1 to 16 ASCII bytes. Contracts see
+/// the list of the bytes.
 #[derive(Clone, Copy, Debug, PartialEq, Eq)]
 pub struct Mid(Name);
 
@@ -147,7 +148,8 @@ impl fmt::Display for Mid {
     }
 }
 
-/// The identification of a stream in its media section (RFC 8852): 1 to 16 ASCII bytes. Contracts see the list of the bytes.
+/// The identification of a stream in its media section (RFC 8852): 1 to 16 ASCII bytes. Contracts
+/// see the list of the bytes.
 #[derive(Clone, Copy, Debug, PartialEq, Eq)]
 pub struct Rid(Name);
 

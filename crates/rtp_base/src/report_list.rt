@@ -6,8 +6,8 @@ use arrayvec::ArrayVec;
 use std::marker::Model;
 use std::slice;
 
-/// At most 31 values in a row, as many as the 5-bit count of an RTCP header can say (RFC 3550 section
-/// 6.4.1). It takes no memory of its own. Contracts see the list of them.
+/// At most 31 values in a row, as many as the 5-bit count of an RTCP header can say (RFC 3550
+/// section 6.4.1). It takes no memory of its own. Contracts see the list of them.
 #[derive(Debug, Drop)]
 pub struct ReportList<T> {
     all: ArrayVec<T, 31>,

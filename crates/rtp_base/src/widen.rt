@@ -2,7 +2,8 @@ ghost use Rattle.std.specs.Prelude.{◌≡◌, ◌<◌, ◌^◌};
 ghost use Rattle.std.specs.Option.{ForSome};
 ghost use Rattle.rtp_base.specs.Widen.{rollover, widen16 as widened16, widen32 as widened32, WidensToItself};
 
-// The rollover count of a number with low part `low`, after one with rollover count `roc` and low part `last`.
+// The rollover count of a number with low part `low`, after one with rollover count `roc` and low
+// part `last`.
 fn rollover_after(half: u64, roc: u64, last: u64, low: u64) -> u64
     ensures { result ≡ rollover half roc last low }
 {
@@ -19,8 +20,8 @@ fn rollover_after(half: u64, roc: u64, last: u64, low: u64) -> u64
     }
 }
 
-/// The sequence number of which a header has the low 16 bits, after the last one. A rollover count of 0 is not lowered,
-/// and one of 2^32 - 1 is not raised (RFC 3711 section 3.3.1 and appendix A).
+/// The sequence number of which a header has the low 16 bits, after the last one. A rollover count
+/// of 0 is not lowered, and one of 2^32 - 1 is not raised (RFC 3711 section 3.3.1 and appendix A).
 pub fn widen16(last: Option<u64>, low: u16) -> u64
     ensures value { result ≡ widened16 last low }
     ensures bound { ForSome last (λ p. p < 2 ^ 48) → result < 2 ^ 48 }
@@ -32,8 +33,8 @@ pub fn widen16(last: Option<u64>, low: u16) -> u64
     rollover_after(32768, last / 65536, last % 65536, low) * 65536 + low
 }
 
-/// The number of which `low` is the low 32 bits, after the last one. The high part 0 is not lowered, and 2^32 - 1 is not
-/// raised.
+/// The number of which `low` is the low 32 bits, after the last one. The high part 0 is not
+/// lowered, and 2^32 - 1 is not raised.
 pub fn widen32(last: Option<u64>, low: u32) -> u64
     ensures { result ≡ widened32 last low }
 {

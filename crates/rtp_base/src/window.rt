@@ -4,8 +4,9 @@ ghost use Rattle.rtp_base.specs.Window.{holds, is_fresh_after, with_fresh, great
 
 use crate::number::SeqNo;
 
-/// The numbers of repair datagrams that were taken, as far as it takes to tell which are fresh: those above the greatest, and
-/// those above the greatest less 128 that were not taken. Where it begins after a floor, no number up to that is fresh.
+/// The numbers of repair datagrams that were taken, as far as it takes to tell which are fresh:
+/// those above the greatest, and those above the greatest less 128 that were not taken. Where it
+/// begins after a floor, no number up to that is fresh.
 #[derive(Clone, Copy, Debug)]
 pub struct SeqNoWindow {
     floor: Option<u64>,

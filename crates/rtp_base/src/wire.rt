@@ -1,6 +1,7 @@
 //! Fields in bytes, the high byte first (RFC 3550 section 4).
 ghost use Rattle.std.specs.Prelude.{◌≡◌, ◌+◌, ◌^◌, ◌<◌, ◌≤◌, ◌++◌, length, take, drop, None};
 ghost use Rattle.std.specs.Int.{w32, to_be_bytes};
+ghost use Rattle.rtp_base.specs.Fields.{signed24};
 ghost use Rattle.rtp_base.specs.Wire.{half_at, triple_at, triple_bytes, word_at, double_at, Puts, LeavesBehind};
 
 /// The number in the two bytes at a place.
@@ -40,6 +41,18 @@ pub fn double(bytes: &[u8], at: usize) -> u64
     u64::from_be_bytes([
         rest[0], rest[1], rest[2], rest[3], rest[4], rest[5], rest[6], rest[7],
     ])
+}
+
+/// 24 bits as a signed number (RFC 3550 section 6.4.1).
+pub fn signed(bits: u32) -> i32
+    requires { bits < 2 ^ 24 }
+    ensures { result ≡ signed24 bits }
+{
+    if bits < 0x80_0000 {
+        bits as i32
+    } else {
+        bits as i32 - 0x100_0000
+    }
 }
 
 /// The three bytes of a number's low 24 bits.

@@ -5,6 +5,7 @@ use Rattle.std.specs.Int.{w16, w32, to_be_bytes}
 use Rattle.rtp_base.specs.Wire.{half_at, word_at}
 use Rattle.rtp_wire.specs.Bytes.{words_of}
 use Rattle.rtp_wire.specs.declared.extension.ExtensionMap.{ExtensionMap}
+use Rattle.rtp_wire.specs.declared.values.ExtensionValues.{ExtensionValues}
 use Rattle.rtp_wire.specs.declared.header.RtpHeader.{RtpHeader}
 use Rattle.rtp_wire.specs.Extensions.{no_values, values_of, extension_bytes, written_values}
 
@@ -57,6 +58,11 @@ has_header bytes =
     && nat_le (sources_end bytes) (length bytes)
     && (not (has_extension_bit bytes) || (nat_le (sources_end bytes + 4) (length bytes) && nat_le (header_end bytes) (length bytes)))
 
+-- the values of a header that stands: none without an extension
+abbrev pub ext_vals_of : ExtensionMap → List ℕ → ExtensionValues
+ext_vals_of exts bytes =
+    if has_extension_bit bytes then values_of exts (extension_profile bytes) (extension_data bytes) else no_values
+
 -- the fields of a header that stands
 abbrev pub fields_of : ExtensionMap → List ℕ → RtpHeader
 fields_of exts bytes = record {
@@ -68,7 +74,7 @@ fields_of exts bytes = record {
   ssrc = word_at bytes 8;
   csrc_count = source_count bytes;
   csrc = sources bytes ++ replicate (15 - source_count bytes) 0;
-  ext_vals = if has_extension_bit bytes then values_of exts (extension_profile bytes) (extension_data bytes) else no_values;
+  ext_vals = ext_vals_of exts bytes;
   header_len = header_end bytes;
 }
 

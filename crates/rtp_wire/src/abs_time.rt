@@ -44,8 +44,8 @@ impl AbsSendTime {
         AbsSendTime((units_of(moment.to_ntp_duration(beginning)) % 0x100_0000) as u32)
     }
 
-    /// The moment of a run that is nearest at or before `now` and has these 24 bits, rounded down: the beginning where that
-    /// is before it.
+    /// The moment of a run that is nearest at or before `now` and has these 24 bits, rounded down:
+    /// the beginning where that is before it.
     pub fn moment(self, now: Instant, beginning: &Beginning) -> Instant
         ensures value { result ≡ sent_at self beginning.now.unix_secs now }
         ensures before { result ≤ now }

@@ -26,7 +26,8 @@ pub enum Extension {
     PlayoutDelay,
 }
 
-/// Which id, from 1 to 14, names which extension. Contracts see the list of 15 places: place i is what the id i names.
+/// Which id, from 1 to 14, names which extension. Contracts see the list of 15 places: place i is
+/// what the id i names.
 #[derive(Clone, Copy, Debug, PartialEq, Eq)]
 pub struct ExtensionMap {
     places: [Option<Extension>; 15],
@@ -89,8 +90,8 @@ impl ExtensionMap {
         ExtensionMap { places: [None; 15] }
     }
 
-    /// The ids of this library: 1 audio level, 2 absolute send time, 3 transport sequence number, 4 mid, 10 rid, 11 repaired
-    /// rid, 13 video orientation.
+    /// The ids of this library: 1 audio level, 2 absolute send time, 3 transport sequence number, 4
+    /// mid, 10 rid, 11 repaired rid, 13 video orientation.
     pub fn standard() -> Self
         ensures { result ≡ standard_extensions }
     {

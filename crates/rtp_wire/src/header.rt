@@ -37,8 +37,9 @@ pub struct RtpHeader {
 }
 
 impl RtpHeader {
-    ghost use Rattle.rtp_wire.specs.Header.{sources_end, header_end, has_header, has_extension_bit, fields_of, header_of, sources, header_bytes, fixed_bytes, source_count};
+    ghost use Rattle.rtp_wire.specs.Header.{sources_end, header_end, has_header, has_extension_bit, ext_vals_of, header_of, sources, header_bytes, fixed_bytes, source_count};
     ghost use Rattle.rtp_wire.specs.HeaderLaws.{IsHeader, IsReadAgain};
+    ghost use Rattle.rtp_wire.specs.Extensions.{no_values};
     ghost use Rattle.rtp_wire.specs.Padding.{unpadded};
     ghost use Rattle.std.specs.Option.{option_copied};
 
@@ -82,21 +83,36 @@ impl RtpHeader {
         end + 4 <= bytes.len() && Self::header_end(bytes) <= bytes.len()
     }
 
-    // Puts the sources to the front of zeros.
-    fn put_sources(places: &mut [u32; 15], bytes: &[u8])
+    // The sources, and zeros behind them.
+    fn sources(bytes: &[u8]) -> [u32; 15]
         requires fixed { 12 ≤ length bytes.now }
         requires whole { sources_end bytes.now ≤ length bytes.now }
-        requires zeros { places.old ≡ replicate 15 0 }
-        ensures { places.new ≡ sources bytes.now ++ replicate (15 - source_count bytes.now) 0 }
+        ensures { result ≡ sources bytes.now ++ replicate (15 - source_count bytes.now) 0 }
     {
-        let count = usize::from(bytes[0] & 15);
-        for i in 0..count {
+        let mut places = [0; 15];
+        for i in 0..usize::from(bytes[0] & 15) {
             places[i] = word(bytes, 12 + 4 * i);
+        }
+        places
+    }
+
+    // Takes in the values of the extension, if there is one.
+    fn put_values(values: &mut ExtensionValues, bytes: &[u8], exts: &ExtensionMap)
+        requires stands { IsTrue (has_header bytes.now) }
+        requires none { values.old ≡ no_values }
+        ensures { values.new ≡ ext_vals_of exts.now bytes.now }
+    {
+        if Self::is_extended(bytes) {
+            let end = Self::sources_end(bytes);
+            let (_, rest) = bytes.split_at(end + 4);
+            let (data, _) = rest.split_at(4 * usize::from(half(bytes, end + 2)));
+            values.fill(exts, half(bytes, end), data);
         }
     }
 
-    /// The header at the front of the bytes. None exactly where fewer than 12 bytes stand, the version is not 2, or the
-    /// contributing sources, the extension's own header or its data run past the end.
+    /// The header at the front of the bytes. None exactly where fewer than 12 bytes stand, the
+    /// version is not 2, or the contributing sources, the extension's own header or its data run
+    /// past the end.
     #[tactic(auto, unfolding(crate::specs::Header::header_of))]
     pub fn parse(bytes: &[u8], exts: &ExtensionMap) -> Option<RtpHeader>
         ensures { result ≡ header_of exts.now bytes.now }
@@ -104,14 +120,9 @@ impl RtpHeader {
         if !Self::stands(bytes) {
             return None;
         }
-        Some(Self::fields(bytes, exts))
-    }
-
-    fn fields(bytes: &[u8], exts: &ExtensionMap) -> RtpHeader
-        requires { IsTrue (has_header bytes.now) }
-        ensures { result ≡ fields_of exts.now bytes.now }
-    {
-        let mut header = RtpHeader {
+        let mut ext_vals = ExtensionValues::none();
+        Self::put_values(&mut ext_vals, bytes, exts);
+        Some(RtpHeader {
             has_padding: (bytes[0] >> 5) & 1 == 1,
             marker: bytes[1] >> 7 == 1,
             payload_type: Pt::from(bytes[1] & 0x7f),
@@ -119,18 +130,10 @@ impl RtpHeader {
             timestamp: word(bytes, 4),
             ssrc: Ssrc::from(word(bytes, 8)),
             csrc_count: usize::from(bytes[0] & 15),
-            csrc: [0; 15],
-            ext_vals: ExtensionValues::none(),
+            csrc: Self::sources(bytes),
+            ext_vals,
             header_len: Self::header_end(bytes),
-        };
-        Self::put_sources(&mut header.csrc, bytes);
-        if Self::is_extended(bytes) {
-            let end = Self::sources_end(bytes);
-            let (_, rest) = bytes.split_at(end + 4);
-            let (data, _) = rest.split_at(4 * usize::from(half(bytes, end + 2)));
-            header.ext_vals.fill(exts, half(bytes, end), data);
-        }
-        header
+        })
     }
 
     fn fixed_bytes(&self, extended: bool) -> [u8; 12]
@@ -170,9 +173,10 @@ impl RtpHeader {
         are_words(&self.csrc);
     }
 
-    /// Writes the header to the front of the bytes, and gives its length: the low 7 bits of the type, the first
-    /// `csrc_count` sources, and the values that are there and have an id, in the one-byte form (RFC 8285 section 4.2) with
-    /// ids ascending. Where no value is written there is no extension, and its bit is clear.
+    /// Writes the header to the front of the bytes, and gives its length: the low 7 bits of the
+    /// type, the first `csrc_count` sources, and the values that are there and have an id, in the
+    /// one-byte form (RFC 8285 section 4.2) with ids ascending. Where no value is written there is
+    /// no extension, and its bit is clear.
     #[tactic(auto, unfolding(crate::specs::Header::header_bytes))]
     pub fn write_to(&self, buf: &mut [u8], exts: &ExtensionMap) -> usize
         requires room { 160 ≤ length buf.old }
@@ -190,8 +194,8 @@ impl RtpHeader {
         12 + 4 * self.csrc_count + extension
     }
 
-    /// The payload without its padding. None exactly where it is empty, or its last byte, the length of the padding, is 0
-    /// or above the length of the payload.
+    /// The payload without its padding. None exactly where it is empty, or its last byte, the
+    /// length of the padding, is 0 or above the length of the payload.
     pub fn unpad_payload(payload: &[u8]) -> Option<&[u8]>
         ensures { option_copied result ≡ unpadded payload.now }
     {
@@ -202,7 +206,8 @@ impl RtpHeader {
         Some(&payload[..payload.len() - padding])
     }
 
-    /// The sequence number of which the header has the low 16 bits, after the last one (RFC 3711 section 3.3.1).
+    /// The sequence number of which the header has the low 16 bits, after the last one (RFC 3711
+    /// section 3.3.1).
     pub fn sequence_number(&self, last: Option<SeqNo>) -> SeqNo
         ensures { result ≡ widen16 last self.now.sequence_number }
     {
@@ -213,8 +218,8 @@ impl RtpHeader {
         SeqNo::from(wide16(last, self.sequence_number))
     }
 
-    /// The low 16 bits of the number of the packet that a repair repairs, and that packet's payload (RFC 4588 section 4).
-    /// None exactly where fewer than 2 bytes stand.
+    /// The low 16 bits of the number of the packet that a repair repairs, and that packet's payload
+    /// (RFC 4588 section 4). None exactly where fewer than 2 bytes stand.
     pub fn read_original_sequence_number(payload: &[u8]) -> Option<(u16, &[u8])>
         ensures { option_map (λ p. (p.0, p.1.now)) result ≡ original_of payload.now }
     {
@@ -225,8 +230,8 @@ impl RtpHeader {
         Some((half(payload, 0), original))
     }
 
-    /// Writes the low 16 bits of the number of the packet that a repair repairs to the front of its payload, and gives their
-    /// length, 2.
+    /// Writes the low 16 bits of the number of the packet that a repair repairs to the front of its
+    /// payload, and gives their length, 2.
     pub fn write_original_sequence_number(payload: &mut [u8], number: SeqNo) -> usize
         requires { 2 ≤ length payload.old }
         ensures bytes { payload.new ≡ to_be_bytes w16 (number % 65536) ++ drop 2 payload.old }
@@ -238,8 +243,8 @@ impl RtpHeader {
         2
     }
 
-    /// Writes the payload of a packet that is only padding, of an asked length from 16 to 240 bytes in whole blocks of 16, and
-    /// gives its length.
+    /// Writes the payload of a packet that is only padding, of an asked length from 16 to 240 bytes
+    /// in whole blocks of 16, and gives its length.
     pub fn create_padding_packet(payload: &mut [u8], asked: usize) -> usize
         requires low { 16 ≤ asked }
         requires high { asked ≤ 240 }

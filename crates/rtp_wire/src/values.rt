@@ -178,8 +178,8 @@ impl ExtensionValues {
         }
     }
 
-    /// The values that an extension of this profile has under a map (RFC 8285 sections 4.2 and 4.3): none where the profile
-    /// is neither 0xBEDE nor one from 0x1000 to 0x100F.
+    /// The values that an extension of this profile has under a map (RFC 8285 sections 4.2 and
+    /// 4.3): none where the profile is neither 0xBEDE nor one from 0x1000 to 0x100F.
     pub fn read(exts: &ExtensionMap, profile: u16, bytes: &[u8]) -> Self
         ensures { result ≡ values_of exts.now profile bytes.now }
     {

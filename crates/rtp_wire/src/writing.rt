@@ -51,7 +51,8 @@ impl ExtensionValues {
     ghost use Rattle.rtp_wire.specs.Extensions.{element_at, element_bytes, written_data, extension_bytes};
     ghost use Rattle.std.specs.List.{flat_map};
 
-    // Writes the value of an extension to the front of the bytes, and gives its length: None where it is not there.
+    // Writes the value of an extension to the front of the bytes, and gives its length: None where
+    // it is not there.
     fn put_value(&self, extension: Extension, bytes: &mut [u8]) -> Option<usize>
         requires { length (bytes_or_none (value_bytes extension self.now)) ≤ length bytes.old }
         ensures bytes { bytes.new ≡ bytes_or_none (value_bytes extension self.now) ++ drop (unwrap_or result 0) bytes.old }
@@ -99,7 +100,8 @@ impl ExtensionValues {
         }
     }
 
-    // Writes an element of the one-byte form, if the value of the extension is there, and gives its length.
+    // Writes an element of the one-byte form, if the value of the extension is there, and gives its
+    // length.
     fn put_element(&self, id: u8, extension: Extension, bytes: &mut [u8]) -> usize
         requires low { 1 ≤ id }
         requires high { id ≤ 14 }
@@ -138,7 +140,8 @@ impl ExtensionValues {
         }
     }
 
-    // Writes the elements of these values, ids ascending, and gives their length. A value is written once.
+    // Writes the elements of these values, ids ascending, and gives their length. A value is
+    // written once.
     fn put_elements(&self, bytes: &mut [u8], exts: &ExtensionMap) -> usize
         requires { 76 ≤ length bytes.old }
         ensures bytes { bytes.new ≡ written_data exts.now self.now ++ drop result bytes.old }
@@ -157,9 +160,10 @@ impl ExtensionValues {
         at
     }
 
-    /// Writes the extension of these values under a map to the front of the bytes, and gives its length: the one-byte form
-    /// (RFC 8285 section 4.2) with its own header, ids ascending, of the values that are there and whose extension has an id,
-    /// and zeros to a whole word. It is 0 where nothing is written.
+    /// Writes the extension of these values under a map to the front of the bytes, and gives its
+    /// length: the one-byte form (RFC 8285 section 4.2) with its own header, ids ascending, of the
+    /// values that are there and whose extension has an id, and zeros to a whole word. It is 0
+    /// where nothing is written.
     #[tactic(auto, unfolding(crate::specs::Extensions::extension_bytes))]
     pub fn write(&self, bytes: &mut [u8], exts: &ExtensionMap) -> usize
         requires { 88 ≤ length bytes.old }

@@ -42,8 +42,8 @@ impl ByteLog {
         }
     }
 
-    /// Adds the bytes of a payload. Without memory, or where their sum would have more than 64 bits,
-    /// nothing is added.
+    /// Adds the bytes of a payload. Without memory, or where their sum would have more than 64
+    /// bits, nothing is added.
     #[tactic(auto, using(crate::proofs::Logs::bytes_snoc))]
     pub fn push(&mut self, moment: Instant, bytes: usize) -> Result<(), AllocError>
         ensures ok { OnOk result (self.new ≡ self.old ++ (moment, bytes) ∷ []) }
@@ -84,7 +84,8 @@ impl ByteLog {
         true
     }
 
-    /// Lets go of what counts no more, from the first on, up to one that does: each entry goes once.
+    /// Lets go of what counts no more, from the first on, up to one that does: each entry goes
+    /// once.
     pub fn forget_old(&mut self, now: Instant)
         ensures { self.new ≡ recent now self.old }
     {

@@ -1,5 +1,6 @@
-//! Repairs (RFC 4588). What an outgoing stream sends again: the packets that it keeps, those that the peer asked for,
-//! the numbers of repairs, and how much of what it sends may be repairs. Which repairs an incoming stream takes.
+//! Repairs (RFC 4588). What an outgoing stream sends again: the packets that it keeps, those that
+//! the peer asked for, the numbers of repairs, and how much of what it sends may be repairs. Which
+//! repairs an incoming stream takes.
 #![tactic(auto)]
 
 mod byte_log;

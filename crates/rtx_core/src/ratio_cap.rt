@@ -9,9 +9,9 @@ use std::marker::Model;
 /// How long a reading stands, in milliseconds.
 const READING_AGE: u64 = 50;
 
-/// How many hundredths of the bytes of payloads that a stream sends may be those of repairs, and what it
-/// sent in the last second. It is read at most every 50 ms whether they are more; before the first
-/// reading they are not.
+/// How many hundredths of the bytes of payloads that a stream sends may be those of repairs, and
+/// what it sent in the last second. It is read at most every 50 ms whether they are more; before
+/// the first reading they are not.
 #[derive(Debug, Drop)]
 pub struct RatioCap {
     hundredths: u32,
@@ -81,8 +81,9 @@ impl RatioCap {
         is_above(self.hundredths, self.sent.sum(now), self.resent.sum(now))
     }
 
-    /// Whether the cap is met at a moment, by a reading at it where one is due. A reading looks at what was
-    /// sent more than a second ago and not forgotten since; each packet that is sent forgets that.
+    /// Whether the cap is met at a moment, by a reading at it where one is due. A reading looks at
+    /// what was sent more than a second ago and not forgotten since; each packet that is sent
+    /// forgets that.
     pub fn is_met(&self, now: Instant) -> bool
         ensures { result ≡ (after_reading now self.now).met }
     {

@@ -7,9 +7,10 @@ use crate::resend::NUMBER_LIMIT;
 use rtp_base::{SeqNo, SeqNoWindow, widen16};
 use std::marker::Model;
 
-/// Which repairs of a stream were taken (RFC 4588), by their own numbers. It begins with the first repair
-/// that opens: up to the greatest number that is seen on the SSRC of that repair by then, no number is
-/// fresh. What is seen is handed in by the caller, below 2^48; once a repair has opened, it does not count.
+/// Which repairs of a stream were taken (RFC 4588), by their own numbers. It begins with the first
+/// repair that opens: up to the greatest number that is seen on the SSRC of that repair by then, no
+/// number is fresh. What is seen is handed in by the caller, below 2^48; once a repair has opened,
+/// it does not count.
 #[derive(Debug, Drop)]
 pub struct RepairWindow {
     window: Option<SeqNoWindow>,

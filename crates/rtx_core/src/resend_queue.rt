@@ -24,9 +24,9 @@ pub const DEFAULT_RTX_CACHE_DURATION: u64 = 3;
 /// How many hundredths of what is sent may be repairs.
 pub const DEFAULT_RTX_RATIO_CAP: u32 = 15;
 
-/// What an outgoing stream sends again (RFC 4588): the packets that it keeps, of those what the peer asked
-/// for, in order, and the number of the next repair. Where more of what it sent than a cap were repairs,
-/// what is asked for is dropped.
+/// What an outgoing stream sends again (RFC 4588): the packets that it keeps, of those what the
+/// peer asked for, in order, and the number of the next repair. Where more of what it sent than a
+/// cap were repairs, what is asked for is dropped.
 #[derive(Drop)]
 pub struct ResendQueue<P: Cached, S: ResendStore<P>> {
     alloc: Global,
@@ -87,8 +87,8 @@ fn push_all(resends: &mut VecDeque<Resend>, more: &[Resend]) -> Result<(), Alloc
 }
 
 impl<P: Cached, S: ResendStore<P>> ResendQueue<P, S> {
-    /// Nothing was sent. Repairs begin with a number of at most 2^48, which is one too many. The cache has
-    /// room for 2,000 packets, each for 3 s, and the cap is 15 hundredths.
+    /// Nothing was sent. Repairs begin with a number of at most 2^48, which is one too many. The
+    /// cache has room for 2,000 packets, each for 3 s, and the cap is 15 hundredths.
     pub fn new(alloc: Global, first_seq_no: SeqNo) -> Result<Self, AllocError>
         requires { first_seq_no ≤ 2 ^ 48 }
         ensures { IfOk result (λ q. StandsFor S.stands_for P.size q (created first_seq_no)) }
@@ -104,8 +104,8 @@ impl<P: Cached, S: ResendStore<P>> ResendQueue<P, S> {
         })
     }
 
-    /// One with the same limits for which nothing was sent. Its repairs begin with a number of at most
-    /// 2^48, which is one too many.
+    /// One with the same limits for which nothing was sent. Its repairs begin with a number of at
+    /// most 2^48, which is one too many.
     pub fn anew(&self, first_seq_no: SeqNo) -> Result<Self, AllocError>
         requires { first_seq_no ≤ 2 ^ 48 }
         ensures { (r : ResendRecord P) → StandsFor S.stands_for P.size self.now r → IfOk result (λ q. StandsFor S.stands_for P.size q (begun_anew first_seq_no r)) }
@@ -140,9 +140,10 @@ impl<P: Cached, S: ResendStore<P>> ResendQueue<P, S> {
         }
     }
 
-    /// Makes the cache anew, with room for so many packets, each for an age; none is kept where one of the
-    /// two is 0. Sets how many hundredths of what is sent may be repairs, any number where it is None. What
-    /// was asked for stays, and goes where it is not kept any more. Without memory nothing changes.
+    /// Makes the cache anew, with room for so many packets, each for an age; none is kept where one
+    /// of the two is 0. Sets how many hundredths of what is sent may be repairs, any number where
+    /// it is None. What was asked for stays, and goes where it is not kept any more. Without memory
+    /// nothing changes.
     pub fn set_rtx_cache(
         &mut self,
         max_packets: usize,
@@ -158,7 +159,8 @@ impl<P: Cached, S: ResendStore<P>> ResendQueue<P, S> {
         Ok(())
     }
 
-    /// Counts a packet that was sent for the first time and is not kept. Without memory nothing changes.
+    /// Counts a packet that was sent for the first time and is not kept. Without memory nothing
+    /// changes.
     pub fn count_sent(&mut self, now: Instant, bytes: usize) -> Result<(), AllocError>
         ensures ok { OnOk result (self.new ≡ record self.old { state = after_first now bytes self.old.state }) }
         ensures err { OnErr result (self.new ≡ self.old) }
@@ -169,7 +171,8 @@ impl<P: Cached, S: ResendStore<P>> ResendQueue<P, S> {
         }
     }
 
-    /// Counts a packet, as sent for the first time, and forgets nothing. Without memory nothing changes.
+    /// Counts a packet, as sent for the first time, and forgets nothing. Without memory nothing
+    /// changes.
     fn push_sent(&mut self, now: Instant, bytes: usize) -> Result<(), AllocError>
         ensures ok { OnOk result (self.new ≡ record self.old { state = record self.old.state { cap = option_map (with_pushed now bytes) self.old.state.cap } }) }
         ensures err { OnErr result (self.new ≡ self.old) }
@@ -208,8 +211,8 @@ impl<P: Cached, S: ResendStore<P>> ResendQueue<P, S> {
         self.cache.cache_sent_packet(packet, now)
     }
 
-    /// Counts a packet that was sent for the first time, and keeps it, to be sent again, until it is too
-    /// old or its room is needed. What is too old goes. Without memory nothing changes.
+    /// Counts a packet that was sent for the first time, and keeps it, to be sent again, until it
+    /// is too old or its room is needed. What is too old goes. Without memory nothing changes.
     #[tactic(auto, using(crate::proofs::Caching::counted_back, crate::proofs::Caching::forgotten))]
     pub fn cache_sent_packet(&mut self, packet: P, now: Instant) -> Result<(), AllocError>
         requires size { P.size packet < 2000 }
@@ -297,9 +300,9 @@ impl<P: Cached, S: ResendStore<P>> ResendQueue<P, S> {
         push_all(&mut self.resends, &more)
     }
 
-    /// Takes in the entries of a NACK (RFC 4585 section 6.2.1): asks for the packets that they name, in
-    /// order, as far as they are kept. The numbers are those nearest to the number that was kept last.
-    /// Without memory nothing changes.
+    /// Takes in the entries of a NACK (RFC 4585 section 6.2.1): asks for the packets that they
+    /// name, in order, as far as they are kept. The numbers are those nearest to the number that
+    /// was kept last. Without memory nothing changes.
     pub fn handle_nack(&mut self, entries: &[NackEntry], now: Instant) -> Result<(), AllocError>
         ensures ok { OnOk result ((r : ResendRecord P) → StandsFor S.stands_for P.size self.old r → (more : List Resend) × Asks P.size now r.cache (numbers_of (last_position r.cache.events) entries.now) more × StandsFor S.stands_for P.size self.new (record r { state = asked_for more r.state })) }
         ensures asked { OnOk result ((r : ResendRecord P) → StandsFor S.stands_for P.size self.old r → self.new.state ≡ asked_for (resends_of P.size now (packet_at S.value_at self.old.cache) (numbers_of (last_position r.cache.events) entries.now)) self.old.state) }
@@ -353,8 +356,9 @@ impl<P: Cached, S: ResendStore<P>> ResendQueue<P, S> {
         first_held(&self.resends, &self.cache)
     }
 
-    /// The packet that is to be sent again next: the first that was asked for and is kept. None where there
-    /// is none, or where the cap is met at the moment. It looks at those that are not kept any more.
+    /// The packet that is to be sent again next: the first that was asked for and is kept. None
+    /// where there is none, or where the cap is met at the moment. It looks at those that are not
+    /// kept any more.
     pub fn peek(&self, now: Instant) -> Option<&P>
         ensures due { (r : ResendRecord P) → StandsFor S.stands_for P.size self.now r → IsNext now r (next_of now (packet_at S.value_at self.now.cache) self.now.state) }
         ensures packet { option_copied result ≡ option_map (λ f. f.0) (next_of now (packet_at S.value_at self.now.cache) self.now.state) }
@@ -387,12 +391,12 @@ impl<P: Cached, S: ResendStore<P>> ResendQueue<P, S> {
         }
     }
 
-    /// Takes what `peek` gives, and with it all that was asked for before it, and gives the number under
-    /// which it is sent again; where `peek` gives nothing, nothing is asked for any more.
+    /// Takes what `peek` gives, and with it all that was asked for before it, and gives the number
+    /// under which it is sent again; where `peek` gives nothing, nothing is asked for any more.
     ///
     /// # Errors
-    /// `Exhausted` where something is to be sent again and 2^48 numbers were used; `Memory`. Nothing
-    /// changes then.
+    /// `Exhausted` where something is to be sent again and 2^48 numbers were used; `Memory`.
+    /// Nothing changes then.
     pub fn pop(&mut self, now: Instant) -> Result<Option<SeqNo>, ResendError>
         ensures number { IfOk result (λ o. o ≡ number_of (next_of now (packet_at S.value_at self.old.cache) self.old.state) self.old.state) }
         ensures small { IfOk result (λ o. IfSome o (λ n. n < 2 ^ 48)) }

@@ -1,5 +1,5 @@
-//! The tests of sealing and of scripts: worked values of the standards, and each public call that takes memory
-//! once with enough of it. What a clause says is not tested.
+//! The tests of sealing and of scripts: worked values of the standards, and each public call that
+//! takes memory once with enough of it. What a clause says is not tested.
 #![tactic(auto)]
 
 #[cfg(test)]

@@ -19,7 +19,8 @@ pause 250\nreports 4000 18446744073709\nlocal A 4294967295\nbegin\n\
 write A 5ms 42 18446744073709551615 96 4294967295 1 0 8060Ff c=0000002AffFFffff\ntick B 1000\ndeliver A 0 3\n\
 foreign A 1 rtcp -\napp B 2ms 4294967295 0 0102fFfF\nforeign B 1 rtp 80\n#\nend\n\n# end\n";
 
-// Setup lines, the cipher and the profile that they say, and the length of the material of `key zero`.
+// Setup lines, the cipher and the profile that they say, and the length of the material of `key
+// zero`.
 const CIPHERS: [(&str, CipherName, SrtpProfile, usize); 6] = [
     ("", CipherName::Toy, SrtpProfile::AeadAes128Gcm, 56),
     (

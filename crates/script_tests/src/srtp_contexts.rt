@@ -205,8 +205,8 @@ fn opens<C: SrtpCipher>(
     }
 }
 
-// Packets, and what the toy cipher makes of them under a zero master key, which enciphers a block to
-// itself.
+// Packets, and what the toy cipher makes of them under a zero master key, which enciphers a block
+// to itself.
 const UNDER_ZERO: [(SrtpProfile, &[u8], &str); 3] = [
     (
         SrtpProfile::AeadAes128Gcm,
@@ -290,8 +290,8 @@ fn gives_feedback(context: &mut SrtpContext<ShaCipher>, text: &str) -> Result<bo
     Ok(reads(&sealed, text) && opened)
 }
 
-// What the right side of a profile gives: the texts of a packet under rollover count 2 and of feedback
-// under index 7, and that feedback with the E bit clear.
+// What the right side of a profile gives: the texts of a packet under rollover count 2 and of
+// feedback under index 7, and that feedback with the E bit clear.
 type Given = (SrtpProfile, &'static str, &'static str, &'static [u8]);
 
 fn gives(
@@ -310,7 +310,8 @@ fn right_side_gives(rt: &(impl AllocGlobal + Abort), given: &Given) -> Result<bo
     gives(rt, &mut context, given)
 }
 
-// Computed apart from this crate, of the formulas of RFC 3711 and RFC 7714 with SHA-1 for the cipher.
+// Computed apart from this crate, of the formulas of RFC 3711 and RFC 7714 with SHA-1 for the
+// cipher.
 const RIGHT_SIDE: [Given; 3] = [
     (
         SrtpProfile::Aes128CmSha1_80,
@@ -404,7 +405,8 @@ fn changes_of_both<C: SrtpCipher>(
     Ok((of_packet, of_feedback))
 }
 
-// Sealed datagrams of 30 bytes, an RTP and an RTCP one: how many changes of one bit each opens with.
+// Sealed datagrams of 30 bytes, an RTP and an RTCP one: how many changes of one bit each opens
+// with.
 fn changes_that_open<C: SrtpCipher>(
     rt: &(impl AllocGlobal + Abort),
     cipher: C,
@@ -417,9 +419,9 @@ fn changes_that_open<C: SrtpCipher>(
     }
 }
 
-// Profiles, and how many changes of the feedback open under the toy cipher: each of the 31 bits of the
-// index stands at the same columns of the associated data and of the initial value, so a change of one
-// makes another seal.
+// Profiles, and how many changes of the feedback open under the toy cipher: each of the 31 bits of
+// the index stands at the same columns of the associated data and of the initial value, so a change
+// of one makes another seal.
 const INDICES: [(SrtpProfile, usize); 3] = [
     (SrtpProfile::Aes128CmSha1_80, 0),
     (SrtpProfile::AeadAes128Gcm, 31),

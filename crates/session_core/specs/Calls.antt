@@ -11,7 +11,8 @@ use Rattle.srtp_core.specs.declared.profile.SrtpProfile.{SrtpProfile}
 use Rattle.stream_core.specs.declared.packet.RtpPacket.{RtpPacket}
 use Rattle.stream_core.specs.declared.stream_paused.StreamPaused.{StreamPaused}
 use Rattle.stream_core.specs.Known.{none_known}
-use Rattle.stream_core.specs.Pauses.{on_record, told as stream_told, next_pause, after_pause, pauses, untold_in, first_pause, sooner}
+use Rattle.stream_core.specs.Pauses.{on_record, told as stream_told, next_pause, after_pause, pauses, untold_in, first_pause}
+use Rattle.media_units.specs.Soonest.{earlier}
 use Rattle.stream_core.specs.RxRecord.{expected}
 use Rattle.stream_core.specs.Tables.{each}
 use Rattle.session_core.specs.declared.config.SessionConfig.{SessionConfig}
@@ -131,8 +132,8 @@ with_feedback x s = record s { feedback = s.feedback ++ x ∷ [] }
 -- some packet was written since the last one
 abbrev pub wake_of : SessionRecord → Option ℕ
 wake_of r =
-    sooner (sooner (reports_at r) (requests_at r))
-    (sooner (round_at r) (sooner (sooner (first_pause r.rx) r.probes.state.pause_at) (send_at r.state)))
+    earlier (earlier (reports_at r) (requests_at r))
+    (earlier (round_at r) (earlier (earlier (first_pause r.rx) r.probes.state.pause_at) (send_at r.state)))
 
 abbrev pub is_app : List ℕ → Option (List ℕ × ℕ) → Bool
 is_app mid None = false

@@ -15,7 +15,8 @@ use Rattle.report_core.specs.declared.moments.ReceiverMoment.{ReceiverMoment}
 use Rattle.report_core.specs.Moments.{moment_of, with_moment, answer_of, unanswered}
 use Rattle.report_core.specs.Sender.{report_of, name_of}
 use Rattle.stream_core.specs.Names.{described_by}
-use Rattle.stream_core.specs.Pauses.{on_record, sooner}
+use Rattle.stream_core.specs.Pauses.{on_record}
+use Rattle.media_units.specs.Soonest.{earlier}
 use Rattle.stream_core.specs.Reporting.{is_among, due_tx_mids, incoming_items, sender_info_at, tx_reported, with_kind, with_news, report_before, tx_report_before}
 use Rattle.stream_core.specs.RxRecord.{RxRecord}
 use Rattle.stream_core.specs.Tables.{each, change_at}
@@ -119,7 +120,7 @@ told_kind medias x = of_kind x.reports.clock.is_audio (media_of x.mid medias) x
 
 -- when the next report is due, where there is a stream
 abbrev pub reports_at : SessionRecord → Option ℕ
-reports_at r = sooner (report_before r.state.intervals None r.rx) (tx_report_before r.state.intervals None r.state.tx)
+reports_at r = earlier (report_before r.state.intervals None r.rx) (tx_report_before r.state.intervals None r.state.tx)
 
 -- the incoming streams and the moments of receivers that wait, after feedback came at a moment: a sender's report, the
 -- description of a source, and a receiver's moment

@@ -31,14 +31,14 @@ pub struct SessionConfig {
     pub local_ssrc: Ssrc,
     /// For how long nothing comes on an incoming stream until it is paused; 1.5 s are usual.
     pub pause_threshold: Duration,
-    /// How long after a report of a stream the next one is due: 5 s for sound and 1 s for pictures are
-    /// usual.
+    /// How long after a report of a stream the next one is due: 5 s for sound and 1 s for pictures
+    /// are usual.
     pub intervals: ReportIntervals,
     /// The index of its first SRTCP datagram, at most 2^31; at 2^31 there is none.
     pub srtcp_index: u64,
     /// The ids of the header extensions (RFC 8285).
     pub exts: ExtensionMap,
-    /// The payload types that both ends know, what they carry, and the types of their repairs and of their
-    /// redundant data. Of two under one number the later one counts.
+    /// The payload types that both ends know, what they carry, and the types of their repairs and
+    /// of their redundant data. Of two under one number the later one counts.
     pub codecs: CodecConfig,
 }

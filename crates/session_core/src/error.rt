@@ -15,11 +15,12 @@ pub enum RtcError {
     /// An earlier call answered `Memory`, `KeyExhausted` or `RepairsExhausted`.
     #[error("the session is stopped")]
     Stopped,
-    /// A datagram was due behind the last number that its key can seal. The session is stopped then.
+    /// A datagram was due behind the last number that its key can seal. The session is stopped
+    /// then.
     #[error("a key has no number left")]
     KeyExhausted(Counter),
-    /// A packet that the peer asked for was due, and the 2^48 numbers of the repairs of its stream, under
-    /// this SSRC, were used. The session is stopped then.
+    /// A packet that the peer asked for was due, and the 2^48 numbers of the repairs of its stream,
+    /// under this SSRC, were used. The session is stopped then.
     #[error("the numbers of repairs are used up")]
     RepairsExhausted(Ssrc),
     /// The keying material has another length than the profile's.

@@ -11,12 +11,9 @@ use media_base::Bytes;
 use rtcp_wire::Rtcp;
 use rtp_base::wire::word;
 use rtp_base::{Kind, SeqNo, Ssrc};
-use srtp_core::{Counter, SRTCP_OVERHEAD, SrtpCipher, SrtpContext, SrtpError};
+use srtp_core::{Counter, SRTCP_INDEX_LIMIT, SRTCP_OVERHEAD, SrtpCipher, SrtpContext, SrtpError};
 use std::alloc::{AllocError, Global};
 use std::collections::VecDeque;
-
-/// The first index that no SRTCP datagram has.
-const INDEX_LIMIT: u64 = 1 << 31;
 
 /// The most bytes of a compound under a target for the length of datagrams.
 fn room(target: usize) -> usize
@@ -82,7 +79,7 @@ pub fn is_used_up<C: SrtpCipher>(sealing: &Option<SrtpContext<C>>) -> bool
     ensures { result ≡ is_used_up sealing.now }
 {
     match sealing {
-        Some(context) => context.srtcp_index() == INDEX_LIMIT,
+        Some(context) => context.srtcp_index() == SRTCP_INDEX_LIMIT,
         None => false,
     }
 }

@@ -91,9 +91,9 @@ fn tell_stream<W: GapWindow, S: ResendStore<Sent>>(
     Ok(())
 }
 
-/// Has an item tell the stream that it concerns, of those that send: a reception block what was lost, where
-/// that is kept, and that the peer knows its SSRC; what asks for packets or a key frame counts. Without
-/// memory nothing changes.
+/// Has an item tell the stream that it concerns, of those that send: a reception block what was
+/// lost, where that is kept, and that the peer knows its SSRC; what asks for packets or a key frame
+/// counts. Without memory nothing changes.
 fn tell<W: GapWindow, S: ResendStore<Sent>>(
     item: &RtcpFb,
     streams: &mut Streams<W, S>,
@@ -124,8 +124,8 @@ pub fn tell_all<W: GapWindow, S: ResendStore<Sent>>(
     Ok(())
 }
 
-/// Has an item change what it concerns: the report of a sender and the description of a source the stream
-/// that comes from it, feedback of an application what is told next.
+/// Has an item change what it concerns: the report of a sender and the description of a source the
+/// stream that comes from it, feedback of an application what is told next.
 fn hear_item<W: GapWindow, S: ResendStore<Sent>>(
     item: RtcpFb,
     now: Instant,
@@ -149,8 +149,8 @@ fn hear_item<W: GapWindow, S: ResendStore<Sent>>(
 }
 
 /// Has feedback change what it concerns, in order: reports of senders (RFC 3550 section 6.4.1) and
-/// descriptions of sources (section 6.5) the streams that come from them, feedback of an application what is
-/// told next.
+/// descriptions of sources (section 6.5) the streams that come from them, feedback of an
+/// application what is told next.
 pub fn hear<W: GapWindow, S: ResendStore<Sent>>(
     feedback: Vec<RtcpFb>,
     now: Instant,
@@ -241,8 +241,8 @@ fn trip(ntp: Duration, delay: &DlrrItem) -> Option<Duration>
     calculate_rtt(ntp, delay.last_rr_delay, delay.last_rr_time)
 }
 
-/// Has the incoming streams know the round trip that an item tells, if there is one, at a moment, given
-/// from 1900.
+/// Has the incoming streams know the round trip that an item tells, if there is one, at a moment,
+/// given from 1900.
 pub fn measure<W: GapWindow, S: ResendStore<Sent>>(
     ntp: Duration,
     delay: &Option<DlrrItem>,
@@ -260,8 +260,8 @@ pub fn measure<W: GapWindow, S: ResendStore<Sent>>(
     }
 }
 
-/// A packet of goodbyes alone (RFC 3550 section 6.6) changes nothing of a session: neither streams that
-/// send nor streams that receive end by it.
+/// A packet of goodbyes alone (RFC 3550 section 6.6) changes nothing of a session: neither streams
+/// that send nor streams that receive end by it.
 pub fn goodbyes_change_nothing()
     ensures { GoodbyesChangeNothing }
 {}

@@ -1,5 +1,5 @@
-//! A session: what it seals and opens, the streams that it sends and receives, and their media sections
-//! (RFC 3550 section 3, RFC 3711).
+//! A session: what it seals and opens, the streams that it sends and receives, and their media
+//! sections (RFC 3550 section 3, RFC 3711).
 #![tactic(auto)]
 
 mod config;

@@ -1,5 +1,5 @@
-//! Datagrams that come under an SSRC of no table: under which number they may open, before it is taken up
-//! of which stream they are.
+//! Datagrams that come under an SSRC of no table: under which number they may open, before it is
+//! taken up of which stream they are.
 ghost use Rattle.std.specs.Prelude.{◌≡◌, ◌<◌, ◌^◌, ◌%◌, ◌==◌, ℕ, List, Some, None, false, IfSome};
 ghost use Rattle.std.specs.Option.{option_copied};
 ghost use Rattle.stream_core.specs.RxRecord.{RxRecord};
@@ -22,8 +22,8 @@ use stream_core::{
     PayloadTypes, Seen, Sent, Streams, first_number, first_repair, first_repair_number,
 };
 
-/// What the media section expects whose mid a header carries; None where there is no such section. The time
-/// grows with the number of media sections.
+/// What the media section expects whose mid a header carries; None where there is no such section.
+/// The time grows with the number of media sections.
 pub fn rids_for<'a>(medias: &'a [Media], header: &RtpHeader) -> Option<&'a Rids>
     ensures { option_copied result ≡ rids_for header.now medias.now }
 {
@@ -43,16 +43,16 @@ pub fn is_nowhere(mapping: &Mapping) -> bool
     matches!(mapping, Mapping::Nowhere(_))
 }
 
-/// Whether an SSRC is that of probes, of a stream or of a stream's repairs: at most two look-ups in hash
-/// tables.
+/// Whether an SSRC is that of probes, of a stream or of a stream's repairs: at most two look-ups in
+/// hash tables.
 pub fn is_standing<W: GapWindow, S: ResendStore<Sent>>(ssrc: Ssrc, streams: &Streams<W, S>) -> bool
     ensures { (r : StreamsRecord) → StreamsStand W.remembers S.stands_for streams.now r → result ≡ is_standing ssrc r.rx r.known.originals }
 {
     ssrc.is_probe() || streams.rx_place(ssrc).is_some() || streams.original(ssrc).is_some()
 }
 
-/// The number of a datagram of an SSRC that is near the greatest that was seen on it, where no datagram of
-/// that SSRC opened under it.
+/// The number of a datagram of an SSRC that is near the greatest that was seen on it, where no
+/// datagram of that SSRC opened under it.
 pub fn unseen_number(header: &RtpHeader, seen: &Seen) -> Option<SeqNo>
     ensures number { (numbers : List (ℕ × List ℕ)) → SeenStandsFor seen.now numbers → result ≡ unseen_number numbers header.now }
     ensures small { IfSome result (λ n. n < 2 ^ 48) }
@@ -90,8 +90,8 @@ fn as_repair(number: Option<SeqNo>) -> Option<(SeqNo, bool)>
     }
 }
 
-/// The number under which the first datagram of a stream may open, and whether it is a repair: it is one
-/// where its type is one of repairs.
+/// The number under which the first datagram of a stream may open, and whether it is a repair: it
+/// is one where its type is one of repairs.
 fn first_under(
     types: &PayloadTypes,
     seen: &Seen,
@@ -118,8 +118,8 @@ fn first_under(
     }
 }
 
-/// The number under which a datagram of an SSRC of no table may open once it is taken up of which stream it
-/// is, and whether it is a repair then. Nothing changes.
+/// The number under which a datagram of an SSRC of no table may open once it is taken up of which
+/// stream it is, and whether it is a repair then. Nothing changes.
 pub fn first_opening<W: GapWindow, S: ResendStore<Sent>>(
     types: &PayloadTypes,
     streams: &Streams<W, S>,

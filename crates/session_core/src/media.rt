@@ -11,8 +11,8 @@ use rtp_base::{Mid, Pt, Rid};
 use std::alloc::{AllocError, Global};
 use std::marker::Model;
 
-/// A media section (RFC 8866 section 5.14). Contracts see the record of its mid, its kind, its CNAME, the
-/// payload types of the peer, and which streams it expects by their rids.
+/// A media section (RFC 8866 section 5.14). Contracts see the record of its mid, its kind, its
+/// CNAME, the payload types of the peer, and which streams it expects by their rids.
 #[derive(Debug, Drop)]
 pub struct Media {
     mid: Mid,
@@ -38,8 +38,8 @@ impl Model for Media {
 
 impl Media {
     /// A section of a mid, for sound or pictures, with the canonical name of its sources (RFC 3550
-    /// section 6.5.1) and the payload types that the peer takes, in its order of preference (RFC 3264
-    /// section 6.1). It expects streams of any rid, or of none.
+    /// section 6.5.1) and the payload types that the peer takes, in its order of preference (RFC
+    /// 3264 section 6.1). It expects streams of any rid, or of none.
     pub fn new(mid: Mid, kind: MediaKind, cname: Bytes, remote_pts: Listed<Pt>) -> Self
         ensures { result ≡ record { mid = mid; kind = kind; cname = cname; remote_pts = remote_pts; rids = Any } }
     {
@@ -94,8 +94,8 @@ impl Media {
         self.rids = rids;
     }
 
-    /// Expects one more rid, and from then on no stream without one. Without memory nothing changes. The
-    /// time grows with the number of rids.
+    /// Expects one more rid, and from then on no stream without one. Without memory nothing
+    /// changes. The time grows with the number of rids.
     pub fn expect_rid_rx(&mut self, alloc: Global, rid: Rid) -> Result<(), AllocError>
         ensures ok { OnOk result (self.new ≡ record self.old { rids = with_rid rid self.old.rids }) }
         ensures err { OnErr result (self.new ≡ self.old) }

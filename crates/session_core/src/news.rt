@@ -16,7 +16,8 @@ use std::collections::VecDeque;
 use std::marker::Model;
 use stream_core::{Sent, Streams};
 
-/// The peer asks for a key frame of an outgoing stream (RFC 4585 section 6.3.1, RFC 5104 section 4.3.1).
+/// The peer asks for a key frame of an outgoing stream (RFC 4585 section 6.3.1, RFC 5104 section
+/// 4.3.1).
 #[derive(Clone, Copy, Debug, PartialEq, Eq)]
 pub struct KeyframeRequest {
     /// The media section of the stream.
@@ -50,9 +51,9 @@ pub struct RembRequest {
     pub bitrate: Bitrate,
 }
 
-/// What the peer asked and told of streams and was not told to the application: of each stream the last
-/// request for a key frame, the last report of its sender and the last rate, in the order in which the
-/// streams came. Contracts see the lists of them.
+/// What the peer asked and told of streams and was not told to the application: of each stream the
+/// last request for a key frame, the last report of its sender and the last rate, in the order in
+/// which the streams came. Contracts see the lists of them.
 #[derive(Drop)]
 pub struct News {
     keyframes: VecDeque<(Ssrc, KeyframeRequest)>,
@@ -127,8 +128,8 @@ impl News {
         Some(Event::Remb(rate))
     }
 
-    /// Takes out what waits of the streams of a media section. The time grows with the streams of which
-    /// something waits.
+    /// Takes out what waits of the streams of a media section. The time grows with the streams of
+    /// which something waits.
     pub fn remove_section(&mut self, mid: Mid)
         ensures { self.new ≡ news_without mid self.old }
     {
@@ -223,8 +224,8 @@ impl News {
         }
     }
 
-    /// Takes in what feedback asks and tells of streams at a moment, in order. The time grows with the
-    /// items, and with the streams of which something waits.
+    /// Takes in what feedback asks and tells of streams at a moment, in order. The time grows with
+    /// the items, and with the streams of which something waits.
     pub fn hear<W: GapWindow, S: ResendStore<Sent>>(
         &mut self,
         streams: &Streams<W, S>,

@@ -23,11 +23,11 @@ use stream_core::{Arrival, Payload, PayloadTypes, RtpPacket, Sent, StreamRx, Str
 pub struct Opening {
     /// The header's bytes, and the payload with its padding.
     pub plain: Payload,
-    /// Of a repair, the low 16 bits of the number of the packet that it repairs (RFC 4588 section 4), if
-    /// its payload has so many.
+    /// Of a repair, the low 16 bits of the number of the packet that it repairs (RFC 4588 section
+    /// 4), if its payload has so many.
     pub original: Option<u16>,
-    /// The payload without its padding; of a repair what stands behind that number. It shares the bytes of
-    /// the plain datagram.
+    /// The payload without its padding; of a repair what stands behind that number. It shares the
+    /// bytes of the plain datagram.
     pub payload: Payload,
 }
 
@@ -36,8 +36,8 @@ pub fn header_numbers_fit()
     ensures { HeaderNumbersFit }
 {}
 
-/// Whether a datagram with this header may be taken: on SSRC 0 each, on another one those of the types
-/// that both ends know.
+/// Whether a datagram with this header may be taken: on SSRC 0 each, on another one those of the
+/// types that both ends know.
 pub fn is_claimed(types: &PayloadTypes, header: &RtpHeader) -> bool
     ensures { result ≡ is_claimed types.now header.now }
 {
@@ -79,8 +79,9 @@ fn split_carried(repair: bool, carried: &[u8]) -> (Option<u16>, &[u8])
     }
 }
 
-/// Of a payload the number that stands in front of what a repair carries, if it is one, and where what it
-/// carries stands: behind so many bytes, and so many. None where it does not end in padding though it should.
+/// Of a payload the number that stands in front of what a repair carries, if it is one, and where
+/// what it carries stands: behind so many bytes, and so many. None where it does not end in padding
+/// though it should.
 #[tactic(auto, using(crate::proofs::Carried::carried_run))]
 fn carried_run(
     header: &RtpHeader,
@@ -98,7 +99,8 @@ fn carried_run(
     Some((original, cut.len() - carried.len(), carried.len()))
 }
 
-/// The plain datagram of its header's bytes and its payload, and a run of the payload, which shares its bytes.
+/// The plain datagram of its header's bytes and its payload, and a run of the payload, which shares
+/// its bytes.
 #[tactic(auto, using(crate::proofs::Carried::run_behind))]
 fn joined(
     alloc: Global,
@@ -172,8 +174,8 @@ pub fn open<C: SrtpCipher>(
     }
 }
 
-/// Where the stream of an SSRC stands, None on SSRC 0, and the number under which its datagram with these
-/// low 16 bits may open.
+/// Where the stream of an SSRC stands, None on SSRC 0, and the number under which its datagram with
+/// these low 16 bits may open.
 pub fn accepts<W: GapWindow, S: ResendStore<Sent>>(
     ssrc: Ssrc,
     low: u16,
@@ -202,8 +204,8 @@ pub fn accepts<W: GapWindow, S: ResendStore<Sent>>(
     }
 }
 
-/// How a packet of this header came at a moment, with so many bytes of payload: the clock of a type that is
-/// not known has one tick in a second.
+/// How a packet of this header came at a moment, with so many bytes of payload: the clock of a type
+/// that is not known has one tick in a second.
 pub fn arrival(types: &PayloadTypes, now: Instant, header: &RtpHeader, bytes: usize) -> Arrival
     ensures { result ≡ arrival_of types.now now header.now bytes }
 {
@@ -221,7 +223,8 @@ pub fn arrival(types: &PayloadTypes, now: Instant, header: &RtpHeader, bytes: us
     }
 }
 
-/// Has the stream at a place, or with none that of SSRC 0, take a number under which a datagram opened.
+/// Has the stream at a place, or with none that of SSRC 0, take a number under which a datagram
+/// opened.
 pub fn take<W: GapWindow, S: ResendStore<Sent>>(
     place: Option<usize>,
     arrival: &Arrival,
@@ -251,8 +254,8 @@ pub fn take<W: GapWindow, S: ResendStore<Sent>>(
     Ok(())
 }
 
-/// The RTP time of a packet that so comes on the stream at a place, as that widens it; with none, on SSRC
-/// 0, no packet is told.
+/// The RTP time of a packet that so comes on the stream at a place, as that widens it; with none,
+/// on SSRC 0, no packet is told.
 pub fn taken_time<W: GapWindow, S: ResendStore<Sent>>(
     place: Option<usize>,
     arrival: &Arrival,
@@ -288,7 +291,8 @@ pub fn packet_from(
     }
 }
 
-/// Has the packet of a datagram that opened wait to be told, but on SSRC 0, where the one before stays.
+/// Has the packet of a datagram that opened wait to be told, but on SSRC 0, where the one before
+/// stays.
 pub fn put_packet(
     time: MediaTime,
     now: Instant,

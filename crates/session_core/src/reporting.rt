@@ -1,5 +1,5 @@
-//! What a session reports of the streams that it sends (RFC 3550 section 6.4.1), and what it hears of
-//! reports.
+//! What a session reports of the streams that it sends (RFC 3550 section 6.4.1), and what it hears
+//! of reports.
 ghost use Rattle.std.specs.Prelude.{◌≡◌, ◌++◌, ◌<◌, ℕ, List, [], is_some, if◌then◌else◌, length, slice_get, Some, IfOk, OnOk, OnErr};
 ghost use Rattle.std.specs.List.{AllByRecursion};
 ghost use Rattle.std.specs.Map.{values_of};
@@ -38,7 +38,8 @@ use stream_core::{PayloadTypes, Sent, Streams, is_among};
 /// The most bytes of the name of a source (RFC 3550 section 6.5).
 const MAX_CNAME_LEN: usize = 255;
 
-/// What the reports of senders are made by: the clocks of the payload types, the calendar, and the moment.
+/// What the reports of senders are made by: the clocks of the payload types, the calendar, and the
+/// moment.
 #[derive(Clone, Copy)]
 pub struct ReportTime<'a> {
     /// The payload types.
@@ -49,8 +50,8 @@ pub struct ReportTime<'a> {
     pub moment: Instant,
 }
 
-/// The media section in which an outgoing stream reports in a tick: its own, where the report of some
-/// stream of that is due.
+/// The media section in which an outgoing stream reports in a tick: its own, where the report of
+/// some stream of that is due.
 fn reports_in<'a>(mids: &[Mid], medias: &'a [Media], mid: Mid) -> Option<&'a Media>
     ensures { (x : TxRecord) → x.mid ≡ mid → option_copied result ≡ reports_in mids.now medias.now x }
 {
@@ -61,7 +62,8 @@ fn reports_in<'a>(mids: &[Mid], medias: &'a [Media], mid: Mid) -> Option<&'a Med
     }
 }
 
-/// Puts the description of a source by its name behind the other items, where that has 1 to 255 bytes.
+/// Puts the description of a source by its name behind the other items, where that has 1 to 255
+/// bytes.
 fn push_description(
     alloc: Global,
     ssrc: Ssrc,
@@ -107,8 +109,8 @@ pub struct SenderItems {
     pub some: bool,
 }
 
-/// Puts what the outgoing stream at a place reports in a tick behind the other items, where the report of
-/// some stream of its media section is due, and tells whether it reports.
+/// Puts what the outgoing stream at a place reports in a tick behind the other items, where the
+/// report of some stream of its media section is due, and tells whether it reports.
 fn push_items_of<W: GapWindow, S: ResendStore<Sent>>(
     alloc: Global,
     streams: &Streams<W, S>,
@@ -134,9 +136,9 @@ fn push_items_of<W: GapWindow, S: ResendStore<Sent>>(
     Ok(true)
 }
 
-/// What outgoing streams report in a tick, in order: of each of these media sections the report of some
-/// stream is due. Tells whether some stream reports. The time grows with the number of streams, and with
-/// that of the media sections and of those named for each.
+/// What outgoing streams report in a tick, in order: of each of these media sections the report of
+/// some stream is due. Tells whether some stream reports. The time grows with the number of
+/// streams, and with that of the media sections and of those named for each.
 pub fn sender_items<W: GapWindow, S: ResendStore<Sent>>(
     alloc: Global,
     streams: &Streams<W, S>,
@@ -158,7 +160,8 @@ pub fn sender_items<W: GapWindow, S: ResendStore<Sent>>(
     Ok(SenderItems { items, some })
 }
 
-/// The outgoing stream at a place reported, where the report of some stream of its media section was due.
+/// The outgoing stream at a place reported, where the report of some stream of its media section
+/// was due.
 fn report_at<W: GapWindow, S: ResendStore<Sent>>(
     streams: &mut Streams<W, S>,
     place: usize,
@@ -175,8 +178,8 @@ fn report_at<W: GapWindow, S: ResendStore<Sent>>(
     streams.tx_at(place).reported(moment);
 }
 
-/// The outgoing streams reported of whose media section the report of some stream was due. The time grows
-/// as that of `sender_items`.
+/// The outgoing streams reported of whose media section the report of some stream was due. The time
+/// grows as that of `sender_items`.
 pub fn report_all<W: GapWindow, S: ResendStore<Sent>>(
     streams: &mut Streams<W, S>,
     medias: &[Media],
@@ -219,8 +222,8 @@ fn tell_kind<W: GapWindow, S: ResendStore<Sent>>(
     streams.tx_at(place).tell_kind(is_audio);
 }
 
-/// Tells each outgoing stream its kind that was not told it and has a media section. The time grows with
-/// the number of streams.
+/// Tells each outgoing stream its kind that was not told it and has a media section. The time grows
+/// with the number of streams.
 pub fn tell_kinds<W: GapWindow, S: ResendStore<Sent>>(streams: &mut Streams<W, S>, medias: &[Media])
     ensures { streams.new ≡ record streams.old { tx = each (told_kind medias.now) streams.old.tx } }
 {
@@ -229,8 +232,8 @@ pub fn tell_kinds<W: GapWindow, S: ResendStore<Sent>>(streams: &mut Streams<W, S
     }
 }
 
-/// Has the moment of a receiver wait for an answer, where feedback tells one (RFC 3611 section 4.4).
-/// Without memory nothing changes.
+/// Has the moment of a receiver wait for an answer, where feedback tells one (RFC 3611 section
+/// 4.4). Without memory nothing changes.
 fn take_moment(item: &RtcpFb, now: Instant, moments: &mut ReceiverMoments) -> Result<(), AllocError>
     ensures ok { OnOk result (moments.new ≡ moments_heard_by now item.now moments.old) }
     ensures err { OnErr result (moments.new ≡ moments.old) }

@@ -1,5 +1,5 @@
-//! Repairs that come (RFC 4588): of which stream they are, under which number they may open, and the
-//! packets that they restore.
+//! Repairs that come (RFC 4588): of which stream they are, under which number they may open, and
+//! the packets that they restore.
 ghost use Rattle.std.specs.Prelude.{◌≡◌, ◌<◌, ◌^◌, ◌%◌, ℕ, List, Some, length, option_and_then, IfSome};
 ghost use Rattle.std.specs.Option.{option_map};
 ghost use Rattle.stream_core.specs.Seen.{SeenStandsFor};
@@ -23,8 +23,8 @@ pub fn is_known(types: &PayloadTypes, pt: Pt) -> bool
     types.has(pt) || types.primary(pt).is_some()
 }
 
-/// The SSRC of the stream whose repairs come under the SSRC of a datagram, and where it stands, where both
-/// ends know the type of the datagram.
+/// The SSRC of the stream whose repairs come under the SSRC of a datagram, and where it stands,
+/// where both ends know the type of the datagram.
 fn original_under<W: GapWindow, S: ResendStore<Sent>>(
     types: &PayloadTypes,
     streams: &Streams<W, S>,
@@ -47,9 +47,9 @@ fn original_under<W: GapWindow, S: ResendStore<Sent>>(
     }
 }
 
-/// The SSRC of the stream that a datagram repairs, and where that stands, where the datagram is a repair:
-/// it comes under the SSRC of the stream's repairs, of a type that both ends know, or under the stream's
-/// own, of a type of repairs. At most three look-ups in hash tables.
+/// The SSRC of the stream that a datagram repairs, and where that stands, where the datagram is a
+/// repair: it comes under the SSRC of the stream's repairs, of a type that both ends know, or under
+/// the stream's own, of a type of repairs. At most three look-ups in hash tables.
 pub fn repaired_by<W: GapWindow, S: ResendStore<Sent>>(
     types: &PayloadTypes,
     streams: &Streams<W, S>,
@@ -72,8 +72,9 @@ pub fn repaired_by<W: GapWindow, S: ResendStore<Sent>>(
     }
 }
 
-/// The own number under which a repair of the stream at a place may open: where it is fresh among the
-/// repairs of the stream; with padding where no datagram under its SSRC opened under that number.
+/// The own number under which a repair of the stream at a place may open: where it is fresh among
+/// the repairs of the stream; with padding where no datagram under its SSRC opened under that
+/// number.
 pub fn accepts_repair<W: GapWindow, S: ResendStore<Sent>>(
     header: &RtpHeader,
     place: usize,
@@ -118,8 +119,8 @@ fn restored_header(
     restored
 }
 
-/// How the packet that a repair restores came at a moment, by the clock of its type, with so many bytes of
-/// payload.
+/// How the packet that a repair restores came at a moment, by the clock of its type, with so many
+/// bytes of payload.
 pub fn restored_arrival(
     types: &PayloadTypes,
     now: Instant,
@@ -134,7 +135,8 @@ pub fn restored_arrival(
     arrival(types, now, &restored, bytes)
 }
 
-/// Has the packet that a repair restored, of this RTP time, wait to be told, where its number is fresh.
+/// Has the packet that a repair restored, of this RTP time, wait to be told, where its number is
+/// fresh.
 pub fn put_restored(
     time: MediaTime,
     now: Instant,

@@ -30,8 +30,8 @@ pub fn is_silent<C: SrtpCipher>(now: Instant, sealing: &Option<SrtpContext<C>>) 
     now == already_happened() || sealing.is_none()
 }
 
-/// Whether the stream at a place has a packet to be sealed, or, where those may leave, one that is asked
-/// for, and its mid is a media section's.
+/// Whether the stream at a place has a packet to be sealed, or, where those may leave, one that is
+/// asked for, and its mid is a media section's.
 fn is_due<W: GapWindow, S: ResendStore<Sent>>(
     streams: &Streams<W, S>,
     place: usize,
@@ -45,8 +45,8 @@ fn is_due<W: GapWindow, S: ResendStore<Sent>>(
     has_mid(medias, stream.mid()) && (stream.is_ready() || released && streams.is_asked(place))
 }
 
-/// The place of the first stream that is due, where none before `from` is. The time grows with the number
-/// of streams from there to it, and with that of the media sections.
+/// The place of the first stream that is due, where none before `from` is. The time grows with the
+/// number of streams from there to it, and with that of the media sections.
 pub fn first_due<W: GapWindow, S: ResendStore<Sent>>(
     streams: &Streams<W, S>,
     medias: &[Media],

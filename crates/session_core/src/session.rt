@@ -32,10 +32,10 @@ use std::marker::Model;
 use stream_core::{PayloadTypes, RtpPacket, Seen, Sent, StreamRx, Streams, Transport};
 
 /// What one end of a connection sends and receives: contexts that seal and open, streams, and media
-/// sections. It does no input or output: it is handed the datagrams that come and the moments of ticks,
-/// and is asked for what leaves. Without keys nothing opens or leaves, and at moment 0 nothing leaves.
-/// After a call answered `RtcError::Memory`, `KeyExhausted` or `RepairsExhausted` each call that can
-/// answer an `RtcError` answers `Stopped`.
+/// sections. It does no input or output: it is handed the datagrams that come and the moments of
+/// ticks, and is asked for what leaves. Without keys nothing opens or leaves, and at moment 0
+/// nothing leaves. After a call answered `RtcError::Memory`, `KeyExhausted` or `RepairsExhausted`
+/// each call that can answer an `RtcError` answers `Stopped`.
 #[derive(Drop)]
 pub struct Session<C: SrtpCipher, W: GapWindow, S: ResendStore<Sent>> {
     alloc: Global,
@@ -154,8 +154,8 @@ fn contexts<C: SrtpCipher>(
 }
 
 impl<C: SrtpCipher, W: GapWindow, S: ResendStore<Sent>> Session<C, W, S> {
-    /// A session without keys, streams and media sections. The time grows with the square of the number of
-    /// codecs.
+    /// A session without keys, streams and media sections. The time grows with the square of the
+    /// number of codecs.
     pub fn new(alloc: Global, config: SessionConfig) -> Result<Self, AllocError>
         requires target { 900 ≤ config.mtu.target }
         requires order { config.mtu.target ≤ config.mtu.warn }
@@ -220,13 +220,13 @@ impl<C: SrtpCipher, W: GapWindow, S: ResendStore<Sent>> Session<C, W, S> {
     ghost use Rattle.session_core.specs.declared.error.RtcError.TheVariants.{Stopped, Memory, KeyLength};
     ghost use Rattle.session_core.specs.Calls.{keyed};
 
-    /// Sets the keys of both directions, in place of those before: with `left` it seals as the left side
-    /// of the material and opens as the right one. The index of SRTCP datagrams begins with the
-    /// configured one under the first keys, and with 0 under later ones.
+    /// Sets the keys of both directions, in place of those before: with `left` it seals as the left
+    /// side of the material and opens as the right one. The index of SRTCP datagrams begins with
+    /// the configured one under the first keys, and with 0 under later ones.
     ///
     /// # Errors
-    /// `Stopped` where an earlier call stopped the session; `KeyLength` where the material has another
-    /// length than the profile's, and then nothing changes; `Memory`.
+    /// `Stopped` where an earlier call stopped the session; `KeyLength` where the material has
+    /// another length than the profile's, and then nothing changes; `Memory`.
     pub fn set_keying_material(
         &mut self,
         cipher: C,
@@ -290,11 +290,11 @@ impl<C: SrtpCipher, W: GapWindow, S: ResendStore<Sent>> Session<C, W, S> {
         }
     }
 
-    /// Takes out the media sections of a mid, with their streams: those that send, with the packets that wait
-    /// on them and those that they keep, and those that receive; what the peer asked and told of these is told
-    /// no more. A packet that came on one of them and waits is told, and the numbers that opened under its SSRC
-    /// stay remembered. The time grows with the number of media sections, and with the square of the number of
-    /// streams.
+    /// Takes out the media sections of a mid, with their streams: those that send, with the packets
+    /// that wait on them and those that they keep, and those that receive; what the peer asked and
+    /// told of these is told no more. A packet that came on one of them and waits is told, and the
+    /// numbers that opened under its SSRC stay remembered. The time grows with the number of media
+    /// sections, and with the square of the number of streams.
     pub fn remove_media(&mut self, mid: Mid)
         ensures { (r : SessionRecord) → StandsFor W.remembers S.stands_for self.old r
             → StandsFor W.remembers S.stands_for self.new (without_media mid r) }
@@ -367,7 +367,8 @@ impl<C: SrtpCipher, W: GapWindow, S: ResendStore<Sent>> Session<C, W, S> {
         self.app
     }
 
-    /// Sets the mid and the place of the data channel in the description, which do not change any more.
+    /// Sets the mid and the place of the data channel in the description, which do not change any
+    /// more.
     ///
     /// # Errors
     /// `MidChanged` where another mid was set, else `IndexChanged` where another place was. Nothing
@@ -413,8 +414,8 @@ impl<C: SrtpCipher, W: GapWindow, S: ResendStore<Sent>> Session<C, W, S> {
         &mut self.streams
     }
 
-    /// The first media section of a mid, to be changed in its place. The time grows with the number of media
-    /// sections.
+    /// The first media section of a mid, to be changed in its place. The time grows with the number
+    /// of media sections.
     pub fn media_by_mid_mut(&mut self, mid: Mid) -> Option<&mut Media>
         ensures* writes_back { sem 𝓛 (LendsMedia C.row C.Key128.row C.Key256.row W.row S.row C.SrtpCipher W.GapWindow S.ResendStore self.entry mid result) }
         ensures value { option_copied_mut result ≡ media_of mid self.old.state.medias }

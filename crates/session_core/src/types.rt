@@ -6,8 +6,8 @@ use payload_core::{CodecConfig, PayloadParams};
 use std::alloc::{AllocError, Global};
 use stream_core::{PayloadTypes, TypeRow};
 
-/// Adds the row of a payload type, and that of its redundant data (RED, RFC 2198) where that has none: of
-/// the same clock, and without repairs.
+/// Adds the row of a payload type, and that of its redundant data (RED, RFC 2198) where that has
+/// none: of the same clock, and without repairs.
 fn add_params(types: &mut PayloadTypes, params: &PayloadParams) -> Result<(), AllocError>
     ensures { OnOk result (types.new ≡ with_params params.now types.old) }
 {

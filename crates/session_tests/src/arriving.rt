@@ -53,8 +53,8 @@ fn is_told(wanted: &Wanted<'_>, told: &Option<Event>) -> bool {
     }
 }
 
-/// Whether bytes that come open, and nothing but this packet is told, once, behind the stream that it
-/// unpauses.
+/// Whether bytes that come open, and nothing but this packet is told, once, behind the stream that
+/// it unpauses.
 pub fn tells(end: &mut End, bytes: &[u8], wanted: &Wanted<'_>) -> bool {
     let Ok(opened) = receive(end, moment(), bytes) else {
         return false;

@@ -1,4 +1,5 @@
-//! The calls of a session, each once: what its contract says is no part of the proofs of tests then.
+//! The calls of a session, each once: what its contract says is no part of the proofs of tests
+//! then.
 use crate::ends::End;
 use mask_register::MaskRegister;
 use media_units::Instant;

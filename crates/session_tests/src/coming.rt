@@ -1,4 +1,5 @@
-//! Datagrams that come to an end which receives: what opens, what is told, and which streams stand then.
+//! Datagrams that come to an end which receives: what opens, what is told, and which streams stand
+//! then.
 use crate::calls::{event, receive, section_mut, streams, tick};
 use crate::carrying::{Ids, map_of};
 use crate::ends::{
@@ -25,8 +26,8 @@ pub enum Made {
     Forged,
 }
 
-/// The elements of a header extension, in whole words: the mid has the id 4, the rid 5, and the rid of what
-/// is repaired 6 (RFC 8285 section 4.2).
+/// The elements of a header extension, in whole words: the mid has the id 4, the rid 5, and the rid
+/// of what is repaired 6 (RFC 8285 section 4.2).
 pub type Names = &'static [u8];
 
 /// A datagram that comes: its SSRC, type and number, the names that it carries, and its payload.
@@ -70,7 +71,8 @@ pub enum Step {
     Rolls(u8, u32),
     /// The stream of this SSRC asks for a key frame by a full intra request.
     Frames(u8),
-    /// A tick at a moment in nanoseconds; then this compound leaves alone, none where there are no bytes.
+    /// A tick at a moment in nanoseconds; then this compound leaves alone, none where there are no
+    /// bytes.
     Ticks(u64, &'static [u8]),
 }
 
@@ -264,7 +266,8 @@ fn goes_through(alloc: Global, end: &mut End, expects: Expects, steps: &[Step]) 
     gone
 }
 
-// Makes an end, and takes it through the steps: the one function that owns a session, with one exit.
+// Makes an end, and takes it through the steps: the one function that owns a session, with one
+// exit.
 fn play(alloc: Global, expects: Expects, steps: &[Step]) -> usize {
     let Some(config) = config(alloc, map_of(Ids::All), 1150, 0) else {
         return 0;

@@ -46,8 +46,8 @@ impl Rng for Draws {
     }
 }
 
-// What a generator draws again and again, and the pair that is drawn where SSRC 42 is sent with repairs on SSRC
-// 43, and SSRC 50 received with repairs on SSRC 51.
+// What a generator draws again and again, and the pair that is drawn where SSRC 42 is sent with
+// repairs on SSRC 43, and SSRC 50 received with repairs on SSRC 51.
 const PAIRS: [([u32; 4], Option<(u32, u32)>); 8] = [
     ([42, 42, 42, 42], None),
     ([42, 7, 7, 8], Some((7, 8))),

@@ -29,8 +29,8 @@ pub fn moment() -> Instant {
     Instant::from_nanos(1_500_000_000)
 }
 
-/// When the first report is due of a stream that receives, or of one that sends whose kind was told:
-/// 10,000,000 s after moment 0, in nanoseconds.
+/// When the first report is due of a stream that receives, or of one that sends whose kind was
+/// told: 10,000,000 s after moment 0, in nanoseconds.
 pub const FIRST_REPORT: u64 = 10_000_000_000_000_000;
 
 /// The same of a stream that sends before its first tick: 100 years of 365 days after moment 0.
@@ -80,9 +80,9 @@ fn codecs(alloc: Global) -> Option<CodecConfig> {
     CodecConfig::new(alloc, params).ok()
 }
 
-/// What both ends are made with: the types that they know, and header extensions. The target for their
-/// feedback is cut to 900 to 1,500 bytes, the first index of SRTCP datagrams to at most 2^31. Their own SSRC
-/// is 2. Their reports are so far apart that none is due.
+/// What both ends are made with: the types that they know, and header extensions. The target for
+/// their feedback is cut to 900 to 1,500 bytes, the first index of SRTCP datagrams to at most 2^31.
+/// Their own SSRC is 2. Their reports are so far apart that none is due.
 pub fn config(
     alloc: Global,
     exts: ExtensionMap,
@@ -155,7 +155,8 @@ pub fn add_section(alloc: Global, end: &mut End, mid: Mid, kind: MediaKind, cnam
     }
 }
 
-/// Has an end receive on an SSRC, with repairs on another. It asks for what is missing, or does not.
+/// Has an end receive on an SSRC, with repairs on another. It asks for what is missing, or does
+/// not.
 pub fn expect(end: &mut End, low: u8, rtx: Option<Ssrc>, mid_rid: MidRid, suppress: bool) -> bool {
     streams(end)
         .expect_stream_rx(ssrc(low), rtx, mid_rid, suppress)
@@ -183,8 +184,8 @@ pub fn declare(end: &mut End, low: u8, repairs: Option<(u8, u64)>, mid_rid: MidR
         .is_ok()
 }
 
-/// Has an end send what it sends on an SSRC under another one, which it does not use yet, with repairs on a
-/// third from a number on, or without repairs.
+/// Has an end send what it sends on an SSRC under another one, which it does not use yet, with
+/// repairs on a third from a number on, or without repairs.
 pub fn reset(end: &mut End, low: u8, other: u8, repairs: Option<(u8, u64)>) -> bool {
     let repairs = repairs_of(repairs);
     let streams = streams(end);
@@ -206,7 +207,8 @@ pub fn moves(end: &mut End, low: u8, other: u8) -> bool {
         .is_ok()
 }
 
-/// Has an end keep so many packets of SSRC 42, for so long, with so many hundredths of repairs, or any number.
+/// Has an end keep so many packets of SSRC 42, for so long, with so many hundredths of repairs, or
+/// any number.
 pub fn keeps(end: &mut End, packets: usize, age: u64, cap: Option<u32>) -> bool {
     let age = Duration::from_nanos(age);
     streams(end)

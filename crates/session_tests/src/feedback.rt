@@ -9,15 +9,16 @@ use session_core::{Event, RtcError};
 use srtp_core::Counter;
 use std::alloc::Global;
 
-/// Feedback of an application from SSRC 1 on SSRC 42 with the words 01020304 (RFC 4585 section 6.4),
-/// sealed: the first 8 bytes, the rest XOR the key stream, the tag, and the E bit with the index 0.
+/// Feedback of an application from SSRC 1 on SSRC 42 with the words 01020304 (RFC 4585 section
+/// 6.4), sealed: the first 8 bytes, the rest XOR the key stream, the tag, and the E bit with the
+/// index 0.
 pub const FEEDBACK: [u8; 36] = [
     0x8f, 0xce, 0, 3, 0, 0, 0, 1, 0, 0, 0, 0x2a, 1, 3, 3, 2, 0x8e, 0xcc, 3, 7, 0, 1, 0, 7, 0x80, 0,
     0, 0, 0, 0, 0, 0x2b, 0x80, 0, 0, 0,
 ];
 
-// A receiver report of SSRC 1 without blocks (RFC 3550 section 6.4.2) that is not encrypted: it, its
-// tag, and the index 0.
+// A receiver report of SSRC 1 without blocks (RFC 3550 section 6.4.2) that is not encrypted: it,
+// its tag, and the index 0.
 const CLEAR: [u8; 28] = [
     0x80, 0xc9, 0, 1, 0, 0, 0, 1, 0x80, 0xc9, 0, 1, 0, 1, 0, 7, 0, 0, 0, 0, 0, 0, 0, 1, 0, 0, 0, 0,
 ];
@@ -117,7 +118,8 @@ fn opens_clear(b: &mut End) -> bool {
     answers == [true, false, false, false, false, false]
 }
 
-/// Has a sender hear a report of its SSRC, which acknowledges it; whether that opens and nothing is told.
+/// Has a sender hear a report of its SSRC, which acknowledges it; whether that opens and nothing is
+/// told.
 pub fn acknowledge(alloc: Global, a: &mut End) -> bool {
     let Some(report) = seal_rtcp(alloc, &REPORT, false) else {
         return false;

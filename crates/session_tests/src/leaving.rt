@@ -7,7 +7,8 @@ use session_core::Datagram;
 use std::alloc::Global;
 use stream_core::{Payload, RtpWrite};
 
-/// Writes a packet with the payload 0102 on SSRC 42, if there is such a stream; it leaves at the next poll.
+/// Writes a packet with the payload 0102 on SSRC 42, if there is such a stream; it leaves at the
+/// next poll.
 pub fn write(alloc: Global, end: &mut End, number: u64, values: ExtensionValues) -> bool {
     let Ok(payload) = Payload::from_slice(alloc, &[1, 2]) else {
         return false;

@@ -1,6 +1,7 @@
-//! Datagrams under an SSRC that no stream has: to which stream they map by what their headers carry (RFC
-//! 8843 section 9.2, RFC 8852, RFC 4588 section 8), and what is taken up of it. Type 97 repairs type 96, which
-//! is sent under type 98 with older frames; type 100 has no repairs, and 99 is none.
+//! Datagrams under an SSRC that no stream has: to which stream they map by what their headers carry
+//! (RFC 8843 section 9.2, RFC 8852, RFC 4588 section 8), and what is taken up of it. Type 97
+//! repairs type 96, which is sent under type 98 with older frames; type 100 has no repairs, and 99
+//! is none.
 use crate::coming::Brings::{Nothing, Opens, Tells};
 use crate::coming::Expects::{Any, Only, Without};
 use crate::coming::Made::{Forged, Padded, Plain};
@@ -38,7 +39,8 @@ const OF_HI_ALONE: Names = &[0x61, b'h', b'i', 0];
 // SSRC 2 asks on SSRC 50 for the number 2 (RFC 4585 section 6.2.1).
 const ASKS_2: &[u8] = &[0x81, 0xcd, 0, 3, 0, 0, 0, 2, 0, 0, 0, 50, 0, 2, 0, 0];
 
-// The first full intra request of SSRC 50, the next one, and the first of SSRC 60 (RFC 5104 section 4.3.1.1).
+// The first full intra request of SSRC 50, the next one, and the first of SSRC 60 (RFC 5104 section
+// 4.3.1.1).
 const INTRA_0: &[u8] = &[
     0x84, 0xce, 0, 4, 0, 0, 0, 2, 0, 0, 0, 0, 0, 0, 0, 50, 0, 0, 0, 0,
 ];

@@ -49,7 +49,8 @@ pub fn joined(alloc: Global, parts: &[&[u8]]) -> Option<Vec<u8>> {
     Some(bytes)
 }
 
-/// The head of an RTP packet (RFC 3550 section 5.1): its first byte, its type, number, RTP time and SSRC.
+/// The head of an RTP packet (RFC 3550 section 5.1): its first byte, its type, number, RTP time and
+/// SSRC.
 pub fn head(first: u8, pt: u8, number: u64, time: u32, low: u8) -> [u8; 12] {
     let [high, lower] = ((number % 65_536) as u16).to_be_bytes();
     let [a, b, c, d] = time.to_be_bytes();
@@ -65,7 +66,8 @@ fn context(alloc: Global, left: bool) -> Option<SrtpContext<ToyCipher>> {
     SrtpContext::new(alloc, ToyCipher, profile, &material, left).ok()
 }
 
-/// Seals a packet of this number as the sender does, if it begins with the low 16 bits of the number.
+/// Seals a packet of this number as the sender does, if it begins with the low 16 bits of the
+/// number.
 pub fn seal_numbered(alloc: Global, plain: &[u8], number: u64) -> Option<Vec<u8>> {
     let Some(header) = RtpHeader::parse(plain, &ExtensionMap::empty()) else {
         return None;
@@ -97,7 +99,8 @@ pub fn packet_of(alloc: Global, low: u8, number: u8) -> Option<Vec<u8>> {
     seal_numbered(alloc, &packet, u64::from(number))
 }
 
-/// Seals a packet of at least 8 bytes of RTCP as the sender does, or as the receiver, under the index 0.
+/// Seals a packet of at least 8 bytes of RTCP as the sender does, or as the receiver, under the
+/// index 0.
 pub fn seal_rtcp(alloc: Global, plain: &[u8], left: bool) -> Option<Vec<u8>> {
     if plain.len() < 8 {
         return None;

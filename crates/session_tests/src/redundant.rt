@@ -12,8 +12,8 @@ use std::test::Fail;
 use stream_core::{Arrival, Payload, RtpWrite, StreamRx, StreamTx, Transport};
 use twcc_core::Share;
 
-/// What is done with an incoming stream on which 10, 11 and 14 came, frames of 20 ms of a clock of 48 kHz,
-/// or asked of it.
+/// What is done with an incoming stream on which 10, 11 and 14 came, frames of 20 ms of a clock of
+/// 48 kHz, or asked of it.
 #[derive(Clone, Copy)]
 enum Step {
     /// A block of this time, which came in a datagram of this number, has this place.

@@ -1,5 +1,5 @@
-//! Reports (RFC 3550 section 6.4, RFC 3611 sections 4.4 and 4.5) and requests to senders: when they leave,
-//! and what they tell.
+//! Reports (RFC 3550 section 6.4, RFC 3611 sections 4.4 and 4.5) and requests to senders: when they
+//! leave, and what they tell.
 mod counted;
 mod due;
 mod heard;
@@ -64,8 +64,8 @@ fn holds(alloc: Global, end: &mut End, asked: Asked) -> bool {
     keyed & held
 }
 
-// Makes an end that reports every 5 s and every 1 s, and asks it: the one function that owns a session,
-// with one exit.
+// Makes an end that reports every 5 s and every 1 s, and asks it: the one function that owns a
+// session, with one exit.
 fn play(alloc: Global, asked: Asked) -> bool {
     let Some(mut made) = config(alloc, map_of(Ids::Nothing), 1150, 0) else {
         return false;
@@ -93,8 +93,8 @@ fn reports_hold(rt: HostRuntime) {
     }
 }
 
-// Of how many receivers moments came, and how many the reports answer, one after the other: each at most
-// 50, of the last 300 in all.
+// Of how many receivers moments came, and how many the reports answer, one after the other: each at
+// most 50, of the last 300 in all.
 const MOMENTS: [Receivers; 6] = [
     Receivers(0, 1, &[0]),
     Receivers(49, 1, &[49, 0]),

@@ -1,5 +1,5 @@
-//! Repairs that come (RFC 4588): what opens, and which packets are restored. Type 97 repairs type 96, and 99 is
-//! no type.
+//! Repairs that come (RFC 4588): what opens, and which packets are restored. Type 97 repairs type
+//! 96, and 99 is no type.
 use crate::coming::Brings::{Nothing, Opens, Tells};
 use crate::coming::Expects::Any;
 use crate::coming::Made::{Forged, Padded, Plain};
@@ -7,7 +7,8 @@ use crate::coming::Step::{Comes, Has, Receives, Removes, Rolls, Ticks};
 use crate::coming::{Came, Row};
 use crate::mapped::NONE;
 
-// SSRC 2 asks on SSRC 42 for the number 2, and for the numbers 101 and 102 (RFC 4585 section 6.2.1).
+// SSRC 2 asks on SSRC 42 for the number 2, and for the numbers 101 and 102 (RFC 4585 section
+// 6.2.1).
 const ASKS_2: &[u8] = &[0x81, 0xcd, 0, 3, 0, 0, 0, 2, 0, 0, 0, 42, 0, 2, 0, 0];
 
 const ASKS_101_AND_102: &[u8] = &[0x81, 0xcd, 0, 3, 0, 0, 0, 2, 0, 0, 0, 42, 0, 101, 0, 1];

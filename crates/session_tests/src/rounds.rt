@@ -21,8 +21,8 @@ enum Begins {
 
 use Begins::{Bare, Keyed, UsedUp};
 
-// SSRC 2, that of the end while it sends nothing, asks on SSRC 42 for the number 11 (RFC 4585 section
-// 6.2.1).
+// SSRC 2, that of the end while it sends nothing, asks on SSRC 42 for the number 11 (RFC 4585
+// section 6.2.1).
 const ASKS_11: &[u8] = &[0x81, 0xcd, 0, 3, 0, 0, 0, 2, 0, 0, 0, 42, 0, 11, 0, 0];
 
 // The same for the number 13.
@@ -49,17 +49,17 @@ const WORDS_AND_ASKS: &[u8] = &[
     42, 0, 11, 0, 0,
 ];
 
-// SSRC 2 asks on SSRC 42 for the numbers from 12 to 111: from 12, 29, 46, 63, 80 and 97 on, with the
-// next 16, and the last 14.
+// SSRC 2 asks on SSRC 42 for the numbers from 12 to 111: from 12, 29, 46, 63, 80 and 97 on, with
+// the next 16, and the last 14.
 const ASKS_100: &[u8] = &[
     0x81, 0xcd, 0, 8, 0, 0, 0, 2, 0, 0, 0, 42, 0, 12, 0xff, 0xff, 0, 29, 0xff, 0xff, 0, 46, 0xff,
     0xff, 0, 63, 0xff, 0xff, 0, 80, 0xff, 0xff, 0, 97, 0x3f, 0xff,
 ];
 
 // Moment 0 is 1,700,000,000 s after 1970, 3,908,988,800 s after 1900 (RFC 868), and this is 28,544
-// modulo 65,536. So 10 ms later the middle 32 bits of the NTP time (RFC 3550 section 4) are
-// 28,544 * 65,536 + 655 = 0x6f80028f. Less the delay of an item and the moment that it names they are
-// the round trip, in 65,536ths of a second.
+// modulo 65,536. So 10 ms later the middle 32 bits of the NTP time (RFC 3550 section 4) are 28,544
+// * 65,536 + 655 = 0x6f80028f. Less the delay of an item and the moment that it names they are the
+// round trip, in 65,536ths of a second.
 const NONE_AT_ALL: &[u8] = &[0, 0, 0, 2, 0x6f, 0x80, 2, 0x8e, 0, 0, 0, 1];
 // After a second at the peer.
 const NONE_LATER: &[u8] = &[0, 0, 0, 2, 0x6f, 0x7f, 2, 0x8f, 0, 1, 0, 0];
@@ -668,7 +668,8 @@ fn goes_through(alloc: Global, end: &mut End, begins: Begins, steps: &[Step]) ->
     held
 }
 
-// Makes an end, and takes it through the steps: the one function that owns a session, with one exit.
+// Makes an end, and takes it through the steps: the one function that owns a session, with one
+// exit.
 fn play(alloc: Global, begins: Begins, steps: &[Step]) -> bool {
     let index = match begins {
         UsedUp => 2_147_483_648,

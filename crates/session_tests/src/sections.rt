@@ -1,4 +1,5 @@
-//! What is set of an end beside its streams, and asked of it: media sections, the data channel, keys.
+//! What is set of an end beside its streams, and asked of it: media sections, the data channel,
+//! keys.
 use crate::ends::{End, give_keys, mid};
 use rtp_base::Mid;
 use session_core::AppError;

@@ -48,8 +48,8 @@ pub enum Step {
     Stale(u64, u8, u8),
     /// Feedback of the peer's application comes at a moment.
     Words(u64),
-    /// An extended report of SSRC 9 with these items comes at a moment: each tells how long ago a moment of
-    /// an SSRC came in (RFC 3611 sections 2 and 4.5).
+    /// An extended report of SSRC 9 with these items comes at a moment: each tells how long ago a
+    /// moment of an SSRC came in (RFC 3611 sections 2 and 4.5).
     Hears(u64, &'static [&'static [u8]]),
     /// A tick at a moment; then one packet of feedback leaves, none where there are no bytes.
     Tick(u64, &'static [u8]),
@@ -61,7 +61,8 @@ pub enum Step {
     Drains(u64, &'static [Told]),
     /// This is done with its first stream that receives.
     Stream(First),
-    /// A tick at a moment; the key is used up then, and the next tick answers that the end is stopped.
+    /// A tick at a moment; the key is used up then, and the next tick answers that the end is
+    /// stopped.
     Ends(u64),
 }
 

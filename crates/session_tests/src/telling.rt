@@ -6,7 +6,8 @@ use rtp_base::{KeyframeRequestKind, Mid, SeqNo};
 use session_core::Event;
 use stream_core::StreamPaused;
 
-/// An event. A media section is named by the letter of its mid; its streams are those of the rid hi.
+/// An event. A media section is named by the letter of its mid; its streams are those of the rid
+/// hi.
 #[derive(Clone, Copy)]
 pub enum Told {
     /// Feedback of an application with the words 01020304.
@@ -65,7 +66,8 @@ fn is_rate(event: &Event, letter: u8, rate: u64) -> bool {
     }
 }
 
-/// Whether it is told that the stream of this SSRC, of the media section v, was paused, or unpaused.
+/// Whether it is told that the stream of this SSRC, of the media section v, was paused, or
+/// unpaused.
 pub fn is_pause(told: &StreamPaused, low: u8, paused: bool) -> bool {
     let wanted = StreamPaused {
         ssrc: ssrc(low),

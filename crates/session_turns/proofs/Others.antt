@@ -15,7 +15,8 @@ use Rattle.repair_core.specs.Counts.{Counts, lost_of, report_with}
 use Rattle.rtcp_wire.specs.Descriptions.{ended, sdes_item_text, sdes_text, descriptions_body}
 use Rattle.rtcp_wire.specs.Extended.{block_content, block_text, dlrr_item_text, extended_report_body}
 use Rattle.rtcp_wire.specs.Feedback.{pli_body, fir_body}
-use Rattle.rtcp_wire.specs.Laws.{held, IsReport, IsDlrrItem, ItemsReadBack, ItemsFitByLengths}
+use Rattle.rtp_base.specs.ReceptionReport.{IsReceptionReport}
+use Rattle.rtcp_wire.specs.Laws.{held, IsDlrrItem, ItemsReadBack, ItemsFitByLengths}
 use Rattle.rtcp_wire.specs.Remb.{remb_name, exponent_of, mantissa_of, remb_body}
 use Rattle.rtcp_wire.specs.Reports.{receiver_report_body, sender_info_text, sender_report_body}
 use Rattle.rtcp_wire.specs.Rows.{report_text, fir_entry_text}
@@ -96,7 +97,7 @@ same_report r =
     λ i. same_word r.ssrc i ++ (lost_word r.fraction_lost (bits24 r.packets_lost) i ++ (same_word r.max_seq i
     ++ (same_word r.jitter i ++ (same_word r.last_sr_time i ++ (same_word r.last_sr_delay i ++ [])))))
 
-report_fits : (r : ReceptionReport) → IsSigned24 r.packets_lost → IsReport (low_report r)
+report_fits : (r : ReceptionReport) → IsSigned24 r.packets_lost → IsReceptionReport (low_report r)
 report_fits r signed = record {
   ssrc = is_low r.ssrc;
   fraction = omega arith;

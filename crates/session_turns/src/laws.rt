@@ -7,8 +7,8 @@ use rtcp_wire::{frames_read_back, items_fit_by_lengths, items_read_back};
 use rtp_wire::{header_reads_own_bytes, written_header_is_read_again};
 use session_core::{header_numbers_fit, tick_items_fit};
 
-/// Of RTP that comes to a session that mirrors a plain one nothing is mapped to a stream: its media sections expect no stream
-/// but those that are declared, and the SSRC of each is in a table.
+/// Of RTP that comes to a session that mirrors a plain one nothing is mapped to a stream: its media
+/// sections expect no stream but those that are declared, and the SSRC of each is in a table.
 pub fn maps_nothing()
     ensures { MapsNothing }
 {}
@@ -43,15 +43,16 @@ fn packets_drain()
     written_header_is_read_again();
 }
 
-/// Where an error ends the drain of a session on which nothing but packets waits, the packets before
-/// it are the first sendings and repairs that polls of the plain streams give.
+/// Where an error ends the drain of a session on which nothing but packets waits, the packets
+/// before it are the first sendings and repairs that polls of the plain streams give.
 fn packets_cut()
     ensures { PacketsCut }
 {
     written_header_is_read_again();
 }
 
-/// An RTP datagram that comes is a turn: it opens on the stream of its SSRC, as a first sending or as a repair, or on none.
+/// An RTP datagram that comes is a turn: it opens on the stream of its SSRC, as a first sending or
+/// as a repair, or on none.
 pub fn opens_turn()
     ensures { OpensTurn }
 {
@@ -65,7 +66,8 @@ pub fn writes_turn()
     ensures { WritesTurn }
 {}
 
-/// An RTCP datagram that comes is a turn: what it asks for is asked for, and the round trip that it tells is known.
+/// An RTCP datagram that comes is a turn: what it asks for is asked for, and the round trip that it
+/// tells is known.
 pub fn hears_turn()
     ensures { HearsTurn }
 {}
@@ -97,8 +99,8 @@ pub fn calls_are_right()
     ensures { CallsAreRight }
 {}
 
-/// An RTP datagram that opens is the seal of the plain that is told, which reads with the SSRC that is told, and with the
-/// low 16 bits of the number.
+/// An RTP datagram that opens is the seal of the plain that is told, which reads with the SSRC that
+/// is told, and with the low 16 bits of the number.
 pub fn openings_are_right()
     ensures { OpeningsAreRight }
 {
@@ -107,7 +109,8 @@ pub fn openings_are_right()
     maps_nothing();
 }
 
-/// An RTCP datagram that opens is the seal of the plain that is told, under the index that it states.
+/// An RTCP datagram that opens is the seal of the plain that is told, under the index that it
+/// states.
 pub fn rtcp_openings_are_right()
     ensures { RtcpOpeningsAreRight }
 {}

@@ -1,5 +1,6 @@
-//! What a session does at each call of a run is a turn of the plain sessions of `run_model`: a write, a tick with its drain, a
-//! datagram that comes, a call of the application; and what it seals and opens is right.
+//! What a session does at each call of a run is a turn of the plain sessions of `run_model`: a
+//! write, a tick with its drain, a datagram that comes, a call of the application; and what it
+//! seals and opens is right.
 #![tactic(auto)]
 
 mod laws;

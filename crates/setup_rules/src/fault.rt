@@ -13,16 +13,16 @@ pub enum SetupFault {
     /// one above 1,500.
     #[error("the lengths of datagrams are out of bounds or out of order")]
     Mtu,
-    /// The Unix time of the moment 0 is above 2,075,000,000 s, or one of the two intervals of reports,
-    /// the threshold of pauses or the age of a cache above 10^16 ns.
+    /// The Unix time of the moment 0 is above 2,075,000,000 s, or one of the two intervals of
+    /// reports, the threshold of pauses or the age of a cache above 10^16 ns.
     #[error("a time is too great")]
     Times,
     /// An id of a header extension is outside 1 to 14, or stands twice, or an extension stands
     /// twice.
     #[error("an id of a header extension is out of bounds, or an id or an extension stands twice")]
     ExtId,
-    /// A payload type, of packets, of their repairs or of their redundant data, is claimed twice, or is
-    /// above 127.
+    /// A payload type, of packets, of their repairs or of their redundant data, is claimed twice,
+    /// or is above 127.
     #[error("a payload type is claimed twice or above 127")]
     TypeTwice,
     /// An SSRC among the main, RTX and local ones of both sides is 0.

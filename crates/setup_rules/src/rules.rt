@@ -7,7 +7,7 @@ ghost use Rattle.setup_rules.specs.SetupRules.{has};
 ghost use Rattle.setup_rules.specs.SetupRules.{repeats, clash, any_ext_wrong, both_of, all_ssrcs, is_mtu, are_long, is_beyond, any_mid_again, rids_meet, meets, any_rid_again, is_old, any_size_wrong, media_fault, setup_fault};
 
 use crate::fault::SetupFault;
-use media_model::{Media, Mtu, NamedCache, NamedExtension, ReportTimes, Setup, Stream};
+use media_model::{LAST_TIME, Media, Mtu, NamedCache, NamedExtension, ReportTimes, Setup, Stream};
 use rtp_wire::{Mid, Pt, Rid};
 use std::alloc::{AllocError, Global};
 
@@ -22,10 +22,6 @@ const GREATEST_WARN: u64 = 1_500;
 
 /// The greatest Unix time of the moment 0, in seconds: the NTP seconds of every step fit 32 bits.
 const MAX_UNIX_SECS: u64 = 2_075_000_000;
-
-/// The greatest interval of reports, threshold of pauses and age of a cache, in nanoseconds: that of
-/// the time of a step.
-const MAX_NANOS: u64 = 10_000_000_000_000_000;
 
 /// The most packets of a cache.
 const MOST_PACKETS: u64 = 32_000;
@@ -120,7 +116,7 @@ fn is_mtu(mtu: &Mtu) -> bool
 fn are_long(intervals: &ReportTimes) -> bool
     ensures { result ≡ are_long intervals.now }
 {
-    intervals.audio.as_nanos() > MAX_NANOS || intervals.video.as_nanos() > MAX_NANOS
+    intervals.audio.as_nanos() > LAST_TIME || intervals.video.as_nanos() > LAST_TIME
 }
 
 fn any_cache_old(caches: &[NamedCache]) -> bool
@@ -128,7 +124,7 @@ fn any_cache_old(caches: &[NamedCache]) -> bool
 {
     caches
         .iter()
-        .any(|named| named.cache.age.as_nanos() > MAX_NANOS)
+        .any(|named| named.cache.age.as_nanos() > LAST_TIME)
 }
 
 /// Whether a time of the setup is too great.
@@ -137,7 +133,7 @@ fn is_beyond(setup: &Setup) -> bool
 {
     setup.beginning.unix_secs > MAX_UNIX_SECS
         || are_long(&setup.intervals)
-        || setup.pause_threshold.as_nanos() > MAX_NANOS
+        || setup.pause_threshold.as_nanos() > LAST_TIME
         || any_cache_old(setup.caches.as_slice())
 }
 

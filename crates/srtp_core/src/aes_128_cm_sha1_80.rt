@@ -55,7 +55,7 @@ fn padded_salt(salt: &RtpSalt) -> [u8; 16]
     ensures { result ≡ salt.now ++ replicate 2 0 }
 {
     let mut bytes = [0; 16];
-    let (front, _) = bytes.split_at_mut(14);
+    let (front, _) = bytes.split_at_mut(SALT_LEN);
     front.copy_from_slice(salt);
     bytes
 }

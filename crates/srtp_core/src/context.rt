@@ -20,8 +20,8 @@ use std::marker::Model;
 /// The greatest RTP datagram that is opened, in bytes.
 const MAX_DATAGRAM_LEN: usize = 2000;
 
-/// The first index that no SRTCP datagram has.
-const MAX_SRTCP_INDEX: u64 = 2_147_483_648;
+/// The first index that no SRTCP datagram has (RFC 3711 section 3.4).
+pub const SRTCP_INDEX_LIMIT: u64 = 1 << 31;
 
 #[derive(Drop)]
 enum Keys<C: SrtpCipher> {
@@ -196,8 +196,8 @@ impl<C: SrtpCipher> SrtpContext<C> {
         }
     }
 
-    /// Seals an RTCP packet under the next index, with the E bit set (RFC 3711 section 3.4, RFC 7714
-    /// section 9).
+    /// Seals an RTCP packet under the next index, with the E bit set (RFC 3711 section 3.4, RFC
+    /// 7714 section 9).
     ///
     /// # Errors
     /// `KeyExhausted` exactly where the index is 2^31; `Memory`. Then nothing changes.
@@ -212,7 +212,7 @@ impl<C: SrtpCipher> SrtpContext<C> {
         ensures memory { self.old.srtcp_index ≢ 2 ^ 31 → IfErr result (λ e. e ≡ SrtpError.Memory) }
         ensures bound { self.new.srtcp_index ≤ 2 ^ 31 }
     {
-        if self.srtcp_index == MAX_SRTCP_INDEX {
+        if self.srtcp_index == SRTCP_INDEX_LIMIT {
             return Err(SrtpError::KeyExhausted);
         }
         let index = self.srtcp_index as u32;
@@ -222,8 +222,8 @@ impl<C: SrtpCipher> SrtpContext<C> {
     }
 
     /// Opens an RTCP packet. `None` where the datagram is not the seal, under the index that it
-    /// states, of a packet of at least 8 bytes: encrypted where it states the E bit, else plain with
-    /// a tag.
+    /// states, of a packet of at least 8 bytes: encrypted where it states the E bit, else plain
+    /// with a tag.
     ///
     /// # Errors
     /// Where there is no memory.

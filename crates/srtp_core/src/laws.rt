@@ -51,8 +51,8 @@ pub fn rtcp_opens_sealed<C: SrtpCipher>()
     ensures { RtcpOpensSealed C.meaning }
 {}
 
-/// A sealed SRTCP datagram begins with the first 8 bytes of its packet, and is longer by its word of
-/// 4 bytes and its tag.
+/// A sealed SRTCP datagram begins with the first 8 bytes of its packet, and is longer by its word
+/// of 4 bytes and its tag.
 pub fn rtcp_seal_keeps_header<C: SrtpCipher>()
     ensures { RtcpSealKeepsHeader C.meaning }
 {}

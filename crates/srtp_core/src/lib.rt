@@ -23,7 +23,7 @@ mod srtcp;
 mod toy;
 
 pub use cipher::SrtpCipher;
-pub use context::SrtpContext;
+pub use context::{SRTCP_INDEX_LIMIT, SrtpContext};
 pub use counter::Counter;
 pub use error::SrtpError;
 pub use hmac::sha1_hmac;

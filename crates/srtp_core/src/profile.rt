@@ -48,8 +48,8 @@ impl SrtpProfile {
         }
     }
 
-    /// The index that an SRTCP datagram states (RFC 3711 section 3.4, RFC 7714 section 9), below 2^31.
-    /// `None` where it is too short to state one.
+    /// The index that an SRTCP datagram states (RFC 3711 section 3.4, RFC 7714 section 9), below
+    /// 2^31. `None` where it is too short to state one.
     #[tactic(auto, unfolding(crate::specs::RtcpSeals::stated_word))]
     pub fn stated_index(&self, datagram: &[u8]) -> Option<u32>
         ensures some { IfSome result (λ i. i ≡ stated_index self.now datagram.now) }

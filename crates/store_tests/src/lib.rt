@@ -1,5 +1,5 @@
-//! The tests of the two forms of each store: that both registers answer alike, what a queue of sent packets keeps, what
-//! a cache answers, and what is sent again from either.
+//! The tests of the two forms of each store: that both registers answer alike, what a queue of sent
+//! packets keeps, what a cache answers, and what is sent again from either.
 #![tactic(auto)]
 
 #[cfg(test)]

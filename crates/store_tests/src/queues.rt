@@ -8,7 +8,8 @@ fn seconds(count: u64) -> Instant {
     Instant::from_nanos((count % 100) * 1_000_000_000)
 }
 
-// Stores pairs of a position and a second, evicts at a second, and tells which of some positions are held.
+// Stores pairs of a position and a second, evicts at a second, and tells which of some positions
+// are held.
 fn held<S: ResendStore<char>>(
     alloc: Global,
     sizes: (usize, usize),
@@ -28,7 +29,8 @@ fn held<S: ResendStore<char>>(
     Ok(held)
 }
 
-// What was stored, the moment of an eviction, and what is held then. Values are held for ten seconds.
+// What was stored, the moment of an eviction, and what is held then. Values are held for ten
+// seconds.
 const ROWS: [((usize, usize), &[(u64, u64)], u64, &[u64], &[bool]); 5] = [
     (
         (2, 10),
@@ -72,7 +74,8 @@ fn both_hold(rt: HostRuntime) -> Result<(), Fail> {
     Ok(())
 }
 
-// What is stored is found, replaced and changed in its place, also out of order; below the mark nothing is stored.
+// What is stored is found, replaced and changed in its place, also out of order; below the mark
+// nothing is stored.
 #[test]
 fn queue_keeps(rt: HostRuntime) -> Result<(), Fail> {
     let mut queue = QueueStore::new(rt.alloc(), 4, Duration::from_secs(10), 10)?;

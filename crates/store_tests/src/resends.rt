@@ -30,7 +30,8 @@ enum Step {
 
 use Step::{Anew, Clear, Counted, Nack, Next, Sent, Taken, UsedUp};
 
-/// The number of the first repair; how many packets are kept, and for how many milliseconds; the cap.
+/// The number of the first repair; how many packets are kept, and for how many milliseconds; the
+/// cap.
 type Made = (u64, usize, u64, Option<u32>);
 
 const SECONDS: Made = (5, 2_000, 3_000, None);
@@ -105,7 +106,8 @@ const USED_UP: [Step; 7] = [
     Next(0, Some(1)),
 ];
 
-// At an age of three seconds a packet is kept, and above it not, also where it was asked for before.
+// At an age of three seconds a packet is kept, and above it not, also where it was asked for
+// before.
 const AGES: [Step; 9] = [
     Sent(1, 1, 0),
     Sent(2, 1, 3_000),

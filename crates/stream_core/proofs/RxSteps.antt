@@ -11,18 +11,19 @@ use Rattle.std.specs.Map.{values_of}
 use Rattle.std.specs.Option.{option_map, option_map_or}
 use Rattle.indexmap.specs.IndexMap.{set_value_at}
 use Rattle.repair_core.specs.Rounds.{Heard}
-use Rattle.stream_core.specs.Pauses.{on_view, on_record, told_of, told, first_where, view_untold, is_untold, next_pause, after_pause, untold_in, pause_before, sooner}
+use Rattle.stream_core.specs.Pauses.{on_view, on_record, told_of, told, first_where, view_untold, is_untold, next_pause, after_pause, untold_in, pause_before}
+use Rattle.media_units.specs.Soonest.{earlier}
 use Rattle.stream_core.specs.RxRecord.{RxState, RxView, RxRecord, StandsFor}
 use Rattle.stream_core.specs.Tables.{each, change_place, Along}
 use Rattle.stream_core.proofs.Alongside.{change_along, value_along}
 
 pub pause_more : (first : Option ℕ) (rs : List (ℕ × RxRecord)) (i : ℕ) (r : RxRecord) → slice_get (values_of rs) i ≡ Some r
-    → pause_before (sooner first r.state.pause_at) (drop (i + 1) rs) ≡ pause_before first (drop i rs)
-pause_more first rs i r at = ap (λ n. pause_before (sooner first r.state.pause_at) (drop n rs)) (add-one i) ∙ by rs i at
+    → pause_before (earlier first r.state.pause_at) (drop (i + 1) rs) ≡ pause_before first (drop i rs)
+pause_more first rs i r at = ap (λ n. pause_before (earlier first r.state.pause_at) (drop n rs)) (add-one i) ∙ by rs i at
   where
-    by : (rs : List (ℕ × RxRecord)) (i : ℕ) → slice_get (values_of rs) i ≡ Some r → pause_before (sooner first r.state.pause_at) (drop (suc i) rs) ≡ pause_before first (drop i rs)
+    by : (rs : List (ℕ × RxRecord)) (i : ℕ) → slice_get (values_of rs) i ≡ Some r → pause_before (earlier first r.state.pause_at) (drop (suc i) rs) ≡ pause_before first (drop i rs)
     by [] i at = absurd cc
-    by (e ∷ es) zero at = let same : r ≡ e.1 = cc in ap (λ (x : RxRecord). pause_before (sooner first x.state.pause_at) es) same
+    by (e ∷ es) zero at = let same : r ≡ e.1 = cc in ap (λ (x : RxRecord). pause_before (earlier first x.state.pause_at) es) same
     by (e ∷ es) (suc i) at = by es i at
 
 module _ {W : Type 0} (remembers : W → Heard → Type 0) where
@@ -117,13 +118,13 @@ value_set (e ∷ es) (suc i) old new x at is = value_set es i old new x at is
 
 -- the first moment of all reports, where that of one stream more is taken in
 pub report_more : (intervals : ReportIntervals) (first : Option ℕ) (rs : List (ℕ × RxRecord)) (i : ℕ) (r : RxRecord) → slice_get (values_of rs) i ≡ Some r
-    → report_before intervals (sooner first (Some (report_at intervals r.state))) (drop (i + 1) rs) ≡ report_before intervals first (drop i rs)
-report_more intervals first rs i r at = ap (λ n. report_before intervals (sooner first (Some (report_at intervals r.state))) (drop n rs)) (add-one i) ∙ by rs i at
+    → report_before intervals (earlier first (Some (report_at intervals r.state))) (drop (i + 1) rs) ≡ report_before intervals first (drop i rs)
+report_more intervals first rs i r at = ap (λ n. report_before intervals (earlier first (Some (report_at intervals r.state))) (drop n rs)) (add-one i) ∙ by rs i at
   where
     by : (rs : List (ℕ × RxRecord)) (i : ℕ) → slice_get (values_of rs) i ≡ Some r
-        → report_before intervals (sooner first (Some (report_at intervals r.state))) (drop (suc i) rs) ≡ report_before intervals first (drop i rs)
+        → report_before intervals (earlier first (Some (report_at intervals r.state))) (drop (suc i) rs) ≡ report_before intervals first (drop i rs)
     by [] i at = absurd cc
-    by (e ∷ es) zero at = let same : r ≡ e.1 = cc in ap (λ (x : RxRecord). report_before intervals (sooner first (Some (report_at intervals x.state))) es) same
+    by (e ∷ es) zero at = let same : r ≡ e.1 = cc in ap (λ (x : RxRecord). report_before intervals (earlier first (Some (report_at intervals x.state))) es) same
     by (e ∷ es) (suc i) at = by es i at
 
 -- the media section of a stream, where its report is due

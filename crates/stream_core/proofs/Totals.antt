@@ -11,7 +11,7 @@ use Rattle.pace_units.specs.declared.queue.QueuePriority.{QueuePriority}
 use Rattle.pace_units.specs.declared.queue.QueuePriority.TheVariants.{Media, Empty}
 use Rattle.pace_units.specs.declared.queue.QueueSnapshot.{QueueSnapshot}
 use Rattle.stream_core.specs.declared.packet.RtpPacket.{RtpPacket}
-use Rattle.stream_core.specs.Pauses.{sooner}
+use Rattle.media_units.specs.Soonest.{earlier}
 use Rattle.stream_core.specs.Queue.{are_stamped, with_stamp, stamp_of, stamped, stamps_of, payload_bytes, waits, earliest_of, snapshot_of}
 use Rattle.stream_core.specs.Totals.{RiseTo, IsSummable, Totals, goes_on, first_stamp}
 use Rattle.stream_core.proofs.Stamps.{first, second, all_stamped, stamped_push}
@@ -254,18 +254,18 @@ waits_are m now (t ∷ ts) h le =
     let rest : waits now ts + sum ts ≡ length ts * now = waits_are m now ts h.2 le in
     omega arith
 
-pub sooner_assoc : (a b c : Option ℕ) → sooner (sooner a b) c ≡ sooner a (sooner b c)
+pub sooner_assoc : (a b c : Option ℕ) → earlier (earlier a b) c ≡ earlier a (earlier b c)
 sooner_assoc None b c = refl
 sooner_assoc (Some t) None c = refl
 sooner_assoc (Some t) (Some u) None = refl
 sooner_assoc (Some t) (Some u) (Some v) = ap Some (omega arith)
 
-earliest_low : (t : ℕ) (ts : List ℕ) → AllByRecursion (λ u. t ≤ u) ts → sooner (Some t) (earliest_of ts) ≡ Some t
+earliest_low : (t : ℕ) (ts : List ℕ) → AllByRecursion (λ u. t ≤ u) ts → earlier (Some t) (earliest_of ts) ≡ Some t
 earliest_low t [] h = refl
 earliest_low t (u ∷ us) h =
     let low : t ≤ u = h.0 in
     let least : min t u ≡ t = omega arith in
-    sym (sooner_assoc (Some t) (Some u) (earliest_of us)) ∙ ap (λ v. sooner (Some v) (earliest_of us)) least ∙ earliest_low t us h.1
+    sym (sooner_assoc (Some t) (Some u) (earliest_of us)) ∙ ap (λ v. earlier (Some v) (earliest_of us)) least ∙ earliest_low t us h.1
 
 -- where the stamps rise, the first is the earliest
 pub earliest_is : (n m : ℕ) (ps : List RtpPacket) → are_stamped n ps ≡ true → RiseTo m (stamps_of ps) → earliest_of (stamps_of ps) ≡ first_stamp ps
@@ -296,7 +296,7 @@ pub waits_more : (now : ℕ) (o : Option ℕ) (ts : List ℕ) → waits now (con
 waits_more now None ts = omega arith
 waits_more now (Some t) ts = waits_cons now t ts
 
-pub earliest_more : (o : Option ℕ) (ts : List ℕ) → earliest_of (cons_option o ts) ≡ sooner o (earliest_of ts)
+pub earliest_more : (o : Option ℕ) (ts : List ℕ) → earliest_of (cons_option o ts) ≡ earlier o (earliest_of ts)
 earliest_more None ts = refl
 earliest_more (Some t) ts = refl
 
@@ -338,5 +338,5 @@ bytes_at xs i x lt is = ap payload_bytes (more_is xs i x lt is) ∙ bytes_cons x
 pub waits_at : (now : ℕ) (xs : List RtpPacket) (i : ℕ) (x : RtpPacket) → i < length xs → x ≡ get_or xs i x → waits now (stamps_of (drop i xs)) ≡ option_map_or (λ t. now - t) x.timestamp 0 + waits now (stamps_of (drop (i + 1) xs))
 waits_at now xs i x lt is = ap (λ l. waits now (stamps_of l)) (more_is xs i x lt is) ∙ waits_more now x.timestamp (stamps_of (drop (i + 1) xs))
 
-pub earliest_at : (xs : List RtpPacket) (i : ℕ) (x : RtpPacket) → i < length xs → x ≡ get_or xs i x → earliest_of (stamps_of (drop i xs)) ≡ sooner x.timestamp (earliest_of (stamps_of (drop (i + 1) xs)))
+pub earliest_at : (xs : List RtpPacket) (i : ℕ) (x : RtpPacket) → i < length xs → x ≡ get_or xs i x → earliest_of (stamps_of (drop i xs)) ≡ earlier x.timestamp (earliest_of (stamps_of (drop (i + 1) xs)))
 earliest_at xs i x lt is = ap (λ l. earliest_of (stamps_of l)) (more_is xs i x lt is) ∙ earliest_more x.timestamp (stamps_of (drop (i + 1) xs))

@@ -4,20 +4,20 @@ use Rattle.std.proofs.lemmas.List.{append_assoc}
 use Rattle.std.specs.Prelude.{if◌then◌else◌}
 use Rattle.std.specs.Map.{values_of}
 use Rattle.report_core.specs.declared.clock.ReportIntervals.{ReportIntervals}
-use Rattle.stream_core.specs.Pauses.{sooner}
+use Rattle.media_units.specs.Soonest.{earlier}
 use Rattle.stream_core.specs.Reporting.{tx_report_at, is_tx_report_due, due_tx_mids, tx_report_before}
 use Rattle.stream_core.specs.TxRecord.{TxRecord}
 
 module _ (intervals : ReportIntervals) where
   -- the first moment
   pub sender_more : (first : Option ℕ) (es : List (ℕ × TxRecord)) (i : ℕ) (x : TxRecord) → slice_get (values_of es) i ≡ Some x
-      → tx_report_before intervals (sooner first (Some (tx_report_at intervals x))) (drop (i + 1) es) ≡ tx_report_before intervals first (drop i es)
-  sender_more first es i x at = ap (λ n. tx_report_before intervals (sooner first (Some (tx_report_at intervals x))) (drop n es)) (add-one i) ∙ by es i at
+      → tx_report_before intervals (earlier first (Some (tx_report_at intervals x))) (drop (i + 1) es) ≡ tx_report_before intervals first (drop i es)
+  sender_more first es i x at = ap (λ n. tx_report_before intervals (earlier first (Some (tx_report_at intervals x))) (drop n es)) (add-one i) ∙ by es i at
     where
       by : (es : List (ℕ × TxRecord)) (i : ℕ) → slice_get (values_of es) i ≡ Some x
-          → tx_report_before intervals (sooner first (Some (tx_report_at intervals x))) (drop (suc i) es) ≡ tx_report_before intervals first (drop i es)
+          → tx_report_before intervals (earlier first (Some (tx_report_at intervals x))) (drop (suc i) es) ≡ tx_report_before intervals first (drop i es)
       by [] i at = absurd cc
-      by (e ∷ es) zero at = let same : x ≡ e.1 = cc in ap (λ (y : TxRecord). tx_report_before intervals (sooner first (Some (tx_report_at intervals y))) es) same
+      by (e ∷ es) zero at = let same : x ≡ e.1 = cc in ap (λ (y : TxRecord). tx_report_before intervals (earlier first (Some (tx_report_at intervals y))) es) same
       by (e ∷ es) (suc i) at = by es i at
 
   module _ (now : ℕ) where

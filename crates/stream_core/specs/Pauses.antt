@@ -2,6 +2,7 @@
 use Rattle.std.specs.Prelude.{◌≡◌, ℕ, zero, suc, nat_le, min, Bool, true, false, is_none, if◌then◌else◌, List, [], ◌∷◌, take, slice_get, Option, Some, None, option_and_then}
 use Rattle.std.specs.Map.{values_of}
 use Rattle.std.specs.Option.{option_map, option_map_or}
+use Rattle.media_units.specs.Soonest.{earlier}
 use Rattle.stream_core.specs.declared.stream_paused.StreamPaused.{StreamPaused}
 use Rattle.stream_core.specs.RxRecord.{RxState, RxView, RxRecord}
 use Rattle.stream_core.specs.Tables.{change_place}
@@ -40,16 +41,10 @@ first_where p (e ∷ es) = if p e.1 then Some zero else option_map suc (first_wh
 abbrev pub with_trip : Option ℕ → RxState → RxState
 with_trip trip s = record s { trip = trip }
 
--- the earlier of two moments, where there are some
-abbrev pub sooner : Option ℕ → Option ℕ → Option ℕ
-sooner None o = o
-sooner (Some t) None = Some t
-sooner (Some t) (Some u) = Some (min t u)
-
 -- the first moment at which some stream is paused unless something comes, or an earlier one
 abbrev pub pause_before : Option ℕ → List (ℕ × RxRecord) → Option ℕ
 pause_before first [] = first
-pause_before first (e ∷ es) = pause_before (sooner first e.1.state.pause_at) es
+pause_before first (e ∷ es) = pause_before (earlier first e.1.state.pause_at) es
 
 abbrev pub first_pause : List (ℕ × RxRecord) → Option ℕ
 first_pause rs = pause_before None rs

@@ -3,7 +3,7 @@ use Rattle.std.specs.Prelude.{◌≡◌, ◌==◌, ℕ, zero, suc, ◌-◌, ◌%
 use Rattle.std.specs.List.{list_any, filter, filter_map, sum_by}
 use Rattle.pace_units.specs.declared.queue.QueuePriority.TheVariants.{Media, Empty}
 use Rattle.pace_units.specs.declared.queue.QueueSnapshot.{QueueSnapshot}
-use Rattle.stream_core.specs.Pauses.{sooner}
+use Rattle.media_units.specs.Soonest.{earlier}
 use Rattle.stream_core.specs.declared.packet.RtpPacket.{RtpPacket}
 
 -- a packet that may wait to be sealed: it has a number of 48 bits, whose low 16 bits are in its header, at most 1,400
@@ -73,7 +73,7 @@ waits now ts = sum_by (λ t. now - t) ts
 -- the earliest of these moments
 abbrev pub earliest_of : List ℕ → Option ℕ
 earliest_of [] = None
-earliest_of (t ∷ ts) = sooner (Some t) (earliest_of ts)
+earliest_of (t ∷ ts) = earlier (Some t) (earliest_of ts)
 
 -- what a pacer is told at a moment of packets that wait, of which one was sent last at a moment. It counts those that
 -- have a stamp. A number that its type cannot hold is the type's greatest

@@ -23,7 +23,8 @@ use Rattle.stream_core.specs.declared.payload_types.TypeRow.{TypeRow}
 use Rattle.stream_core.specs.declared.reports.Tick.{Tick}
 use Rattle.stream_core.specs.Arrivals.{asked_of}
 use Rattle.stream_core.specs.Missing.{nack_of, after_round}
-use Rattle.stream_core.specs.Pauses.{on_record, sooner}
+use Rattle.stream_core.specs.Pauses.{on_record}
+use Rattle.media_units.specs.Soonest.{earlier}
 use Rattle.stream_core.specs.Requests.{is_request, request_count, request_items, told_requests}
 use Rattle.stream_core.specs.RxRecord.{RxState, RxView, RxRecord}
 use Rattle.stream_core.specs.Tables.{each, value_under}
@@ -163,7 +164,7 @@ IsBrief _ = ⊥
 -- the first moment at which a report of an incoming stream is due, or an earlier one
 abbrev pub report_before : ReportIntervals → Option ℕ → List (ℕ × RxRecord) → Option ℕ
 report_before intervals first [] = first
-report_before intervals first (e ∷ es) = report_before intervals (sooner first (Some (report_at intervals e.1.state))) es
+report_before intervals first (e ∷ es) = report_before intervals (earlier first (Some (report_at intervals e.1.state))) es
 
 -- a sender report came at a moment
 abbrev pub with_news : SenderInfo → ℕ → RxState → RxState
@@ -183,7 +184,7 @@ due_tx_mids intervals now (e ∷ es) =
 
 abbrev pub tx_report_before : ReportIntervals → Option ℕ → List (ℕ × TxRecord) → Option ℕ
 tx_report_before intervals first [] = first
-tx_report_before intervals first (e ∷ es) = tx_report_before intervals (sooner first (Some (tx_report_at intervals e.1))) es
+tx_report_before intervals first (e ∷ es) = tx_report_before intervals (earlier first (Some (tx_report_at intervals e.1))) es
 
 -- the clock of a type
 abbrev pub clock_under : List (ℕ × TypeRow) → ℕ → Option ℕ

@@ -15,8 +15,9 @@ use rtp_wire::RtpHeader;
 use std::alloc::{AllocError, Global};
 use std::marker::Model;
 
-/// What tells of which incoming stream a datagram is: the SSRCs of repairs, and the headers by which an
-/// SSRC that no table has is a stream's (RFC 8843 section 9.2, RFC 8852, RFC 4588 section 8).
+/// What tells of which incoming stream a datagram is: the SSRCs of repairs, and the headers by
+/// which an SSRC that no table has is a stream's (RFC 8843 section 9.2, RFC 8852, RFC 4588 section
+/// 8).
 #[derive(Drop)]
 pub struct KnownStreams {
     // Under each SSRC of repairs that comes, the SSRC of the stream that is repaired.
@@ -39,8 +40,8 @@ fn renamed(change: &MainChange, ssrc: Ssrc) -> Ssrc
     if ssrc == change.from { change.to } else { ssrc }
 }
 
-/// Has the repairs of a stream that had one SSRC be those of the other one, under each SSRC of repairs. The
-/// time grows with the number of these.
+/// Has the repairs of a stream that had one SSRC be those of the other one, under each SSRC of
+/// repairs. The time grows with the number of these.
 fn rename_all(originals: &mut SsrcTable<Ssrc>, change: &MainChange)
     ensures { originals.new ≡ each (renamed_to change.now) originals.old }
 {
@@ -50,8 +51,8 @@ fn rename_all(originals: &mut SsrcTable<Ssrc>, change: &MainChange)
     }
 }
 
-/// Puts the SSRC of a stream under that of its repairs, if it has one, behind the others; where another
-/// stream has that one it stays with it.
+/// Puts the SSRC of a stream under that of its repairs, if it has one, behind the others; where
+/// another stream has that one it stays with it.
 fn put_original(
     originals: &mut SsrcTable<Ssrc>,
     ssrc: Ssrc,
@@ -85,16 +86,17 @@ impl KnownStreams {
         Some(*self.originals.at(place))
     }
 
-    /// Of which stream a datagram with this header is, where the media section of its mid expects `rids`;
-    /// None where no section has its mid. The time grows with the number of streams, of types and of rids.
+    /// Of which stream a datagram with this header is, where the media section of its mid expects
+    /// `rids`; None where no section has its mid. The time grows with the number of streams, of
+    /// types and of rids.
     pub fn map(&self, rids: Option<&Rids>, types: &[TypeClaim], header: &RtpHeader) -> Mapping
         ensures { result ≡ mapped (option_copied rids.entry) types.now self.now.streams header.now }
     {
         self.streams.map(rids, types, header)
     }
 
-    /// One more stream, behind the others. Without memory nothing changes. The time grows with the number
-    /// of streams.
+    /// One more stream, behind the others. Without memory nothing changes. The time grows with the
+    /// number of streams.
     pub fn expect(&mut self, stream: &IncomingStream) -> Result<(), AllocError>
         ensures ok { OnOk result (self.new ≡ with_known stream.now self.old) }
         ensures err { OnErr result (self.new ≡ self.old) }
@@ -118,8 +120,8 @@ impl KnownStreams {
         self.streams.remove(ssrc);
     }
 
-    /// The streams of a media section are known no more. The time grows with the square of the number of
-    /// streams.
+    /// The streams of a media section are known no more. The time grows with the square of the
+    /// number of streams.
     pub fn remove_section(&mut self, mid: Mid)
         ensures { self.new ≡ known_without_section mid self.old }
     {
@@ -127,8 +129,8 @@ impl KnownStreams {
         self.streams.remove_section(mid);
     }
 
-    /// Repairs of the stream of an SSRC come under another one, where that is of no other stream's repairs.
-    /// Without memory nothing changes.
+    /// Repairs of the stream of an SSRC come under another one, where that is of no other stream's
+    /// repairs. Without memory nothing changes.
     pub fn take_repairs(&mut self, rtx: Ssrc, main: Ssrc) -> Result<(), AllocError>
         ensures ok { OnOk result (self.new ≡ with_original_of rtx main self.old) }
         ensures err { OnErr result (self.new ≡ self.old) }
@@ -144,8 +146,8 @@ impl KnownStreams {
         self.streams.change_main(*change);
     }
 
-    /// The repairs of a stream come under another SSRC, or for the first time under one. Without memory
-    /// nothing changes. The time grows with the number of streams.
+    /// The repairs of a stream come under another SSRC, or for the first time under one. Without
+    /// memory nothing changes. The time grows with the number of streams.
     pub fn change_repairs(&mut self, change: &RepairsChange) -> Result<(), AllocError>
         ensures ok { OnOk result (self.new ≡ with_repairs change.now self.old) }
         ensures err { OnErr result (self.new ≡ self.old) }

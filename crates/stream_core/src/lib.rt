@@ -1,5 +1,5 @@
-//! The streams of a session: what is written and waits to be sealed, and the numbers that were taken.
-//! Each is told by the SSRC of its packets (RFC 3550 section 3).
+//! The streams of a session: what is written and waits to be sealed, and the numbers that were
+//! taken. Each is told by the SSRC of its packets (RFC 3550 section 3).
 #![tactic(auto)]
 
 mod known_streams;
@@ -32,6 +32,6 @@ pub use ssrc_table::SsrcTable;
 pub use stream_paused::StreamPaused;
 pub use stream_rx::{StreamRx, first_number, first_repair, first_repair_number};
 pub use stream_tx::{PacketReceipt, StreamTx};
-pub use streams::{Streams, is_among, sooner};
+pub use streams::{Streams, is_among};
 pub use transport::Transport;
 pub use write::{RtpWrite, WriteError};

@@ -13,8 +13,8 @@ use std::alloc::AllocError;
 pub struct RtpPacket {
     /// Its extended sequence number, of which its header has the low 16 bits.
     pub seq_no: SeqNo,
-    /// Its RTP time. A packet that came has it as its stream widens it, in the clock of its payload type; one
-    /// that was written in ticks of 1 s, since its clock is not known then.
+    /// Its RTP time. A packet that came has it as its stream widens it, in the clock of its payload
+    /// type; one that was written in ticks of 1 s, since its clock is not known then.
     pub time: MediaTime,
     /// Its header. A packet that waits has neither the length of its header nor the values that it
     /// gets when it is sealed.

@@ -5,8 +5,8 @@ use std::alloc::{AllocError, Global};
 use std::marker::Model;
 use std::rc::RcSlice;
 
-/// The bytes behind the header of a packet, which several packets may share: a run of bytes that are
-/// held once. Contracts see the list of the run.
+/// The bytes behind the header of a packet, which several packets may share: a run of bytes that
+/// are held once. Contracts see the list of the run.
 #[derive(Debug, Drop)]
 pub struct Payload {
     all: RcSlice<u8>,

@@ -22,8 +22,8 @@ pub struct TypeRow {
     pub clock: Frequency,
     /// The type of repairs of its packets (RFC 4588 section 8.1), where there is one.
     pub rtx: Option<Pt>,
-    /// The type under which it is sent with older frames (RED, RFC 2198), where there is one. Its datagrams
-    /// are taken where it has a row of its own.
+    /// The type under which it is sent with older frames (RED, RFC 2198), where there is one. Its
+    /// datagrams are taken where it has a row of its own.
     pub red: Option<Pt>,
 }
 
@@ -39,8 +39,8 @@ impl TypeRow {
     }
 }
 
-/// The payload types that both ends know, each under its number, in the order in which they were added.
-/// Contracts see the list of numbers and rows.
+/// The payload types that both ends know, each under its number, in the order in which they were
+/// added. Contracts see the list of numbers and rows.
 #[derive(Drop)]
 pub struct PayloadTypes {
     rows: IndexMap<Pt, TypeRow>,
@@ -66,8 +66,8 @@ impl Model for PayloadTypes {
     ghost invariant = { λ t. ArePrimaries t.primaries t.rows.entries × ArePlaces t.places t.rows.entries × (t.claims.items ≡ claims_in t.rows.entries) };
 }
 
-/// Under each type the first one whose packets have repairs of it. The time grows with the number of
-/// types.
+/// Under each type the first one whose packets have repairs of it. The time grows with the number
+/// of types.
 fn primaries_of(rows: &IndexMap<Pt, TypeRow>) -> [Option<Pt>; 256]
     ensures { ArePrimaries result rows.now.entries }
 {
@@ -84,7 +84,8 @@ fn primaries_of(rows: &IndexMap<Pt, TypeRow>) -> [Option<Pt>; 256]
     primaries
 }
 
-/// Puts a row in the place of the one with its number, or behind the others, and its claim beside it.
+/// Puts a row in the place of the one with its number, or behind the others, and its claim beside
+/// it.
 fn put_row(
     rows: &mut IndexMap<Pt, TypeRow>,
     claims: &mut Vec<TypeClaim>,
@@ -124,8 +125,8 @@ impl PayloadTypes {
         }
     }
 
-    /// Adds a type, or puts it in the place of the one with its number. Without memory nothing changes.
-    /// The time grows with the number of types.
+    /// Adds a type, or puts it in the place of the one with its number. Without memory nothing
+    /// changes. The time grows with the number of types.
     pub fn add(&mut self, row: TypeRow) -> Result<(), AllocError>
         ensures ok { OnOk result (self.new ≡ insert_entry nat_eq self.old row.pt row) }
         ensures err { OnErr result (self.new ≡ self.old) }
@@ -196,8 +197,8 @@ impl PayloadTypes {
         self.claims.as_slice()
     }
 
-    /// The first type whose packets have repairs of a type: one look-up in an array. None where it is no
-    /// type of repairs.
+    /// The first type whose packets have repairs of a type: one look-up in an array. None where it
+    /// is no type of repairs.
     pub fn primary(&self, pt: Pt) -> Option<Pt>
         ensures { result ≡ primary_type_of self.now pt }
     {

@@ -19,7 +19,8 @@ use rtx_core::{ResendError, ResendQueue};
 use std::alloc::{AllocError, Global};
 use std::marker::Model;
 
-/// A packet that was sent and may be sent again. Contracts see the packet and the type of its repairs.
+/// A packet that was sent and may be sent again. Contracts see the packet and the type of its
+/// repairs.
 #[derive(Debug, Drop)]
 pub struct Sent {
     packet: RtpPacket,
@@ -113,7 +114,8 @@ impl Sent {
     }
 }
 
-/// What is to be sent again next, under its own number. Where nothing is, nothing is asked for any more.
+/// What is to be sent again next, under its own number. Where nothing is, nothing is asked for any
+/// more.
 ///
 /// # Errors
 /// `Exhausted` where something is and 2^48 numbers were used; `Memory`. Nothing changes then.
@@ -147,8 +149,8 @@ fn poll_repair<S: ResendStore<Sent>>(
     }
 }
 
-/// A packet is sent for the first time: it is kept to be sent again, where it may be, and else counted.
-/// Without memory nothing changes.
+/// A packet is sent for the first time: it is kept to be sent again, where it may be, and else
+/// counted. Without memory nothing changes.
 fn keep<S: ResendStore<Sent>>(
     repairs: &mut ResendQueue<Sent, S>,
     packet: &RtpPacket,
@@ -200,12 +202,12 @@ fn poll_first<S: ResendStore<Sent>>(
     Ok(Some(receipt))
 }
 
-/// What a stream with repairs gives at a moment: first what is to be sent again, then the packet at the
-/// front of those that wait.
+/// What a stream with repairs gives at a moment: first what is to be sent again, then the packet at
+/// the front of those that wait.
 ///
 /// # Errors
-/// `Exhausted` where something is to be sent again and 2^48 numbers were used, and nothing changes then;
-/// `Memory`, and then nothing changes but that nothing may be asked for any more.
+/// `Exhausted` where something is to be sent again and 2^48 numbers were used, and nothing changes
+/// then; `Memory`, and then nothing changes but that nothing may be asked for any more.
 pub(crate) fn poll_both<S: ResendStore<Sent>>(
     alloc: Global,
     stream: &mut StreamTx,

@@ -1,5 +1,5 @@
-//! What streams keep for their reports (RFC 3550 section 6.4): how a packet came, what was counted of
-//! packets, and when reports are due. Each call takes constant time.
+//! What streams keep for their reports (RFC 3550 section 6.4): how a packet came, what was counted
+//! of packets, and when reports are due. Each call takes constant time.
 ghost use Rattle.std.specs.Prelude.{◌≡◌, ◌+◌, ◌<◌, ◌≤◌, length, Some};
 ghost use Rattle.stream_core.specs.Arrivals.{
   point_of,
@@ -140,8 +140,8 @@ impl RxReports {
         self.counts = ReceptionCounts::new();
     }
 
-    /// The RTP time of a packet, widened by the last one, where the stream was paused before the packet or
-    /// not.
+    /// The RTP time of a packet, widened by the last one, where the stream was paused before the
+    /// packet or not.
     pub(crate) fn time_of(&self, arrival: &Arrival, was_paused: bool) -> MediaTime
         ensures { result ≡ time_of was_paused arrival.entry.now self.now }
     {
@@ -157,7 +157,8 @@ impl RxReports {
         self.times.take(arrival.rtp_time, was_paused, arrival.clock)
     }
 
-    /// A packet came under a number that is not fresh: of what reports tell it enters the jitter alone.
+    /// A packet came under a number that is not fresh: of what reports tell it enters the jitter
+    /// alone.
     pub(crate) fn came_late(&mut self, arrival: &Arrival)
         ensures { self.new ≡ with_late arrival.entry.now self.old }
     {
@@ -255,8 +256,8 @@ impl TxReports {
         self.sent.count(packet.payload.len());
     }
 
-    /// A packet is sent again: its payload stands behind the header and the two bytes of the original
-    /// number (RFC 4588 section 4).
+    /// A packet is sent again: its payload stands behind the header and the two bytes of the
+    /// original number (RFC 4588 section 4).
     pub(crate) fn resent(&mut self, repair: &PacketReceipt)
         ensures { self.new ≡ with_repair repair.now self.old }
     {

@@ -1,5 +1,6 @@
-//! What an incoming stream asks of its sender: a key frame (RFC 4585 section 6.3.1, RFC 5104 section
-//! 4.3.1), and to send no faster (draft-alvestrand-rmcat-remb). Each call takes constant time.
+//! What an incoming stream asks of its sender: a key frame (RFC 4585 section 6.3.1, RFC 5104
+//! section 4.3.1), and to send no faster (draft-alvestrand-rmcat-remb). Each call takes constant
+//! time.
 ghost use Rattle.std.specs.Prelude.{◌≡◌, ◌<◌, ◌+◌, ◌++◌, OnOk, OnErr};
 ghost use Rattle.std.specs.VecDeque.{deque_len};
 ghost use Rattle.stream_core.specs.Requests.{
@@ -68,8 +69,8 @@ impl RxRequests {
         self.bitrate = None;
     }
 
-    /// Puts the item that asks the source of an SSRC for a key frame behind the others, if one is asked
-    /// for.
+    /// Puts the item that asks the source of an SSRC for a key frame behind the others, if one is
+    /// asked for.
     fn push_keyframe(
         &self,
         sender_ssrc: Ssrc,
@@ -100,7 +101,8 @@ impl RxRequests {
         Ok(())
     }
 
-    /// Puts the items that ask the source of an SSRC behind the others: for a key frame, then for a rate.
+    /// Puts the items that ask the source of an SSRC behind the others: for a key frame, then for a
+    /// rate.
     pub(crate) fn push_items(
         &self,
         alloc: Global,

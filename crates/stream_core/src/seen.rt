@@ -11,9 +11,9 @@ use std::marker::Model;
 /// Numbers have 48 bits.
 pub(crate) const NUMBER_LIMIT: u64 = 1 << 48;
 
-/// The numbers under which datagrams opened, for each SSRC: the greatest, and which of the last 128 came.
-/// Contracts see the list of SSRCs and windows, in the order in which the SSRCs came first; it stands for
-/// the lists of the numbers.
+/// The numbers under which datagrams opened, for each SSRC: the greatest, and which of the last 128
+/// came. Contracts see the list of SSRCs and windows, in the order in which the SSRCs came first;
+/// it stands for the lists of the numbers.
 #[derive(Drop)]
 pub struct Seen {
     windows: SsrcTable<SeqNoWindow>,
@@ -62,8 +62,8 @@ impl Seen {
         }
     }
 
-    /// Whether no datagram opened under an SSRC and this number, and it is above the greatest of the SSRC
-    /// less 128: one look-up in a hash table.
+    /// Whether no datagram opened under an SSRC and this number, and it is above the greatest of
+    /// the SSRC less 128: one look-up in a hash table.
     pub fn accepts(&self, ssrc: Ssrc, number: SeqNo) -> bool
         ensures { (seen : List (ℕ × List ℕ)) → SeenStandsFor self.now seen → result ≡ is_unseen ssrc number seen }
     {

@@ -4,8 +4,7 @@ ghost use Rattle.stream_core.specs.Queue.{with_stamp, stamps_of, payload_bytes, 
 ghost use Rattle.stream_core.specs.Totals.{goes_on, first_stamp};
 
 use crate::packet::RtpPacket;
-use crate::streams::sooner;
-use media_units::{Duration, Instant, already_happened};
+use media_units::{Duration, Instant, already_happened, earlier};
 use pace_units::{QueuePriority, QueueSnapshot};
 use std::alloc::{AllocError, Global};
 use std::collections::VecDeque;
@@ -59,7 +58,8 @@ impl Waiting {
         self.packet.timestamp
     }
 
-    /// The nanoseconds from the time stamp to `now`, none where it is later or there is no time stamp.
+    /// The nanoseconds from the time stamp to `now`, none where it is later or there is no time
+    /// stamp.
     fn wait(&self, now: Instant) -> u64
         ensures { result ≡ option_map_or (λ t. now - t) self.now.timestamp 0 }
     {
@@ -120,8 +120,8 @@ fn goes_on(stamped: usize, last_tick: Instant, now: Instant, rising: bool) -> bo
     stamped == 0 || rising && last_tick <= now
 }
 
-/// The nanoseconds from the time stamps to `now`, all together, at most 2^64 - 1, and the earliest of
-/// them. It goes over all packets.
+/// The nanoseconds from the time stamps to `now`, all together, at most 2^64 - 1, and the earliest
+/// of them. It goes over all packets.
 fn waits(packets: &VecDeque<Waiting>, now: Instant) -> (u64, Option<Instant>)
     ensures total { result.0 ≡ min (waits now (stamps_of packets.now.items)) (2 ^ 64 - 1) }
     ensures first { result.1 ≡ earliest_of (stamps_of packets.now.items) }
@@ -130,7 +130,7 @@ fn waits(packets: &VecDeque<Waiting>, now: Instant) -> (u64, Option<Instant>)
     let mut first = None;
     for place in 0..packets.len() {
         total = total.saturating_add(packets[place].wait(now));
-        first = sooner(first, packets[place].stamp());
+        first = earlier(first, packets[place].stamp());
     }
     (total, first)
 }
@@ -274,10 +274,11 @@ impl SendQueue {
         (total.min(u128::from(u64::MAX)) as u64, first)
     }
 
-    /// What a pacer is told of the packets that were stamped: how many there are, the bytes of their
-    /// payloads, how long they waited until `now`, and the earliest time stamp. `last_emitted` is when
-    /// one was sent last. It goes over no packets, or, rarely, over all: where `now` is before the time
-    /// stamp given last, and after one was given that is before another, until those are gone.
+    /// What a pacer is told of the packets that were stamped: how many there are, the bytes of
+    /// their payloads, how long they waited until `now`, and the earliest time stamp.
+    /// `last_emitted` is when one was sent last. It goes over no packets, or, rarely, over all:
+    /// where `now` is before the time stamp given last, and after one was given that is before
+    /// another, until those are gone.
     pub fn snapshot(&self, now: Instant, last_emitted: Option<Instant>) -> QueueSnapshot
         ensures { result ≡ snapshot_of now last_emitted self.now }
     {

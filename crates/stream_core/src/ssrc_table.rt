@@ -15,7 +15,8 @@ use rtp_base::{Mid, Ssrc};
 use std::alloc::{AllocError, Global};
 use std::marker::Model;
 
-/// Streams, each under its SSRC, in order of declaration. Contracts see the list of SSRCs and streams.
+/// Streams, each under its SSRC, in order of declaration. Contracts see the list of SSRCs and
+/// streams.
 #[derive(Drop)]
 pub struct SsrcTable<T> {
     streams: IndexMap<Ssrc, T>,
@@ -76,7 +77,8 @@ impl<T: Drop> SsrcTable<T> {
         }
     }
 
-    /// Puts a stream behind the others, under an SSRC that none has. Without memory nothing changes.
+    /// Puts a stream behind the others, under an SSRC that none has. Without memory nothing
+    /// changes.
     pub fn add(&mut self, ssrc: Ssrc, stream: T) -> Result<(), AllocError>
         requires { place_of ssrc self.old ≡ None }
         ensures ok { OnOk result (self.new ≡ self.old ++ (ssrc, stream) ∷ []) }
@@ -86,8 +88,8 @@ impl<T: Drop> SsrcTable<T> {
         Ok(())
     }
 
-    /// Puts a stream behind the others; where its SSRC has one already, that one stays. Without memory
-    /// nothing changes.
+    /// Puts a stream behind the others; where its SSRC has one already, that one stays. Without
+    /// memory nothing changes.
     pub fn add_new(&mut self, ssrc: Ssrc, stream: T) -> Result<(), AllocError>
         ensures ok { OnOk result (self.new ≡ with_new ssrc stream self.old) }
         ensures err { OnErr result (self.new ≡ self.old) }
@@ -98,8 +100,8 @@ impl<T: Drop> SsrcTable<T> {
         self.add(ssrc, stream)
     }
 
-    /// Has the stream at a place stand there under another SSRC, which none has. Without memory nothing
-    /// changes. The time grows with the number of streams.
+    /// Has the stream at a place stand there under another SSRC, which none has. Without memory
+    /// nothing changes. The time grows with the number of streams.
     pub fn rename(&mut self, place: usize, ssrc: Ssrc) -> Result<(), AllocError>
         requires place { place < length self.old }
         requires new { place_of ssrc self.old ≡ None }
@@ -116,8 +118,8 @@ impl<T: Drop> SsrcTable<T> {
         Ok(())
     }
 
-    /// Takes out the stream of an SSRC, and tells whether there was one. The time grows with the number
-    /// of streams declared after it.
+    /// Takes out the stream of an SSRC, and tells whether there was one. The time grows with the
+    /// number of streams declared after it.
     pub fn remove(&mut self, ssrc: Ssrc) -> bool
         ensures removed { self.new ≡ without_key ssrc self.old }
         ensures found { result ≡ is_some (place_of ssrc self.old) }
@@ -161,8 +163,8 @@ fn receives_for(streams: &MappedStreams, ssrc: Ssrc, mid: Mid) -> bool
 }
 
 impl SsrcTable<Ssrc> {
-    /// Takes out the entries of streams of a media section. The time grows with the product of the numbers
-    /// of entries and of streams.
+    /// Takes out the entries of streams of a media section. The time grows with the product of the
+    /// numbers of entries and of streams.
     pub fn remove_received(&mut self, streams: &MappedStreams, mid: Mid)
         ensures { self.new ≡ filter (λ e. not (receives_for mid e.1 streams.now)) self.old }
     {
@@ -184,8 +186,8 @@ impl SsrcTable<Ssrc> {
         );
     }
 
-    /// Has repairs of a stream come under one SSRC alone: takes out its others. The time grows with the
-    /// number of entries.
+    /// Has repairs of a stream come under one SSRC alone: takes out its others. The time grows with
+    /// the number of entries.
     pub fn keep_only(&mut self, change: &RepairsChange)
         ensures { self.new ≡ filter (is_kept change.now) self.old }
     {
@@ -200,7 +202,8 @@ impl SsrcTable<Ssrc> {
 }
 
 impl SsrcTable<StreamTx> {
-    /// Whether a stream of a media section stands under an SSRC. The time grows with the number of streams.
+    /// Whether a stream of a media section stands under an SSRC. The time grows with the number of
+    /// streams.
     fn sends_for(&self, ssrc: Ssrc, mid: Mid) -> bool
         ensures { result ≡ sends_for mid ssrc self.now }
     {
@@ -235,8 +238,8 @@ impl<W: GapWindow> SsrcTable<StreamRx<W>> {
 }
 
 impl<T: Drop> SsrcTable<T> {
-    /// Takes out what stands under the SSRCs of streams of a media section. The time grows with the product
-    /// of the numbers of entries and of streams.
+    /// Takes out what stands under the SSRCs of streams of a media section. The time grows with the
+    /// product of the numbers of entries and of streams.
     pub fn remove_sent(&mut self, streams: &SsrcTable<StreamTx>, mid: Mid)
         ensures { self.new ≡ kept_without mid streams.now self.old }
     {

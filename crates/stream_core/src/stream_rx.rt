@@ -20,11 +20,11 @@ use rtx_core::RepairWindow;
 use std::alloc::{AllocError, Global};
 use std::marker::Model;
 
-/// A stream that a session receives (RFC 3550 section 3). Its window is made when the first number is
-/// taken, from the greatest number that is remembered of its SSRC by then. What is remembered is handed
-/// in by the caller, below 2^48; once there is a window, it does not count. Repairs (RFC 4588) have
-/// numbers and a window of their own. A stream is paused at first, and again where nothing came for its
-/// threshold.
+/// A stream that a session receives (RFC 3550 section 3). Its window is made when the first number
+/// is taken, from the greatest number that is remembered of its SSRC by then. What is remembered is
+/// handed in by the caller, below 2^48; once there is a window, it does not count. Repairs (RFC
+/// 4588) have numbers and a window of their own. A stream is paused at first, and again where
+/// nothing came for its threshold.
 #[derive(Drop)]
 pub struct StreamRx<W: GapWindow> {
     alloc: Global,
@@ -113,8 +113,8 @@ fn is_above(remembered: Option<SeqNo>, number: SeqNo) -> bool
     }
 }
 
-/// The number with these low 16 bits under which the first datagram of a stream may open that is no repair,
-/// None where so great a number is remembered of its SSRC.
+/// The number with these low 16 bits under which the first datagram of a stream may open that is no
+/// repair, None where so great a number is remembered of its SSRC.
 pub fn first_number(low: u16, remembered: Option<SeqNo>) -> Option<SeqNo>
     requires { ForSome remembered (λ n. n < 2 ^ 48) }
     ensures fresh { (r : RxRecord) → r.numbers ≡ None → r.state.roc ≡ None → result ≡ fresh_number remembered r low }
@@ -130,8 +130,8 @@ pub fn first_number(low: u16, remembered: Option<SeqNo>) -> Option<SeqNo>
     }
 }
 
-/// The own number of the first repair of a stream with these low 16 bits, where `seen` is the greatest
-/// number that was seen on the SSRC of its datagram, below 2^48.
+/// The own number of the first repair of a stream with these low 16 bits, where `seen` is the
+/// greatest number that was seen on the SSRC of its datagram, below 2^48.
 pub fn first_repair_number(low: u16, seen: Option<SeqNo>) -> SeqNo
     requires { ForSome seen (λ n. n < 2 ^ 48) }
     ensures number { (r : RxRecord) → r.repairs ≡ None → result ≡ own_number seen r low }
@@ -158,9 +158,9 @@ pub fn first_repair(low: u16, seen: Option<SeqNo>) -> Option<SeqNo>
 }
 
 impl<W: GapWindow> StreamRx<W> {
-    /// A stream of an SSRC and of that of its repairs, for a media section or one stream of it, on which
-    /// nothing was opened. With `suppress_nack` it asks for nothing that is missing. It is paused where
-    /// nothing came for `pause_threshold`.
+    /// A stream of an SSRC and of that of its repairs, for a media section or one stream of it, on
+    /// which nothing was opened. With `suppress_nack` it asks for nothing that is missing. It is
+    /// paused where nothing came for `pause_threshold`.
     pub fn new(
         alloc: Global,
         ssrc: Ssrc,
@@ -242,8 +242,8 @@ impl<W: GapWindow> StreamRx<W> {
         }
     }
 
-    /// The number that has these low 16 bits: with the rollover count that was set, else nearest to the
-    /// greatest number (RFC 3711 section 3.3.1).
+    /// The number that has these low 16 bits: with the rollover count that was set, else nearest to
+    /// the greatest number (RFC 3711 section 3.3.1).
     fn number_for(&self, low: u16, remembered: &Option<SeqNo>) -> SeqNo
         requires { ForSome remembered.now (λ n. n < 2 ^ 48) }
         ensures number { (r : RxRecord) → StandsFor W.remembers self.now r → result ≡ number_for remembered.now r low }
@@ -318,8 +318,8 @@ impl<W: GapWindow> StreamRx<W> {
         self.pause_at = Some(now.saturating_add(self.pause_threshold));
     }
 
-    /// Takes a number under which a datagram opened, and remembers it with its time: the stream is not
-    /// paused until its threshold has passed. Without memory nothing changes.
+    /// Takes a number under which a datagram opened, and remembers it with its time: the stream is
+    /// not paused until its threshold has passed. Without memory nothing changes.
     pub fn take(
         &mut self,
         arrival: &Arrival,
@@ -342,34 +342,34 @@ impl<W: GapWindow> StreamRx<W> {
         Ok(())
     }
 
-    /// The RTP time of a packet that is taken as it came (RFC 3550 section 5.1), widened by the last one.
-    /// Where the stream is paused and the time would lie before the last one, the time half of the 32 bits
-    /// on is taken instead, if it lies behind the last one.
+    /// The RTP time of a packet that is taken as it came (RFC 3550 section 5.1), widened by the
+    /// last one. Where the stream is paused and the time would lie before the last one, the time
+    /// half of the 32 bits on is taken instead, if it lies behind the last one.
     pub fn taken_time(&self, arrival: &Arrival) -> MediaTime
         ensures { result ≡ taken_time arrival.entry.now self.now.state }
     {
         self.reports.time_of(arrival, self.pause_at.is_none())
     }
 
-    /// The RTP time of a packet that is restored from a repair that so came, widened by the last one. It is
-    /// not the stream's last time from then on.
+    /// The RTP time of a packet that is restored from a repair that so came, widened by the last
+    /// one. It is not the stream's last time from then on.
     pub fn restored_time(&self, arrival: &Arrival) -> MediaTime
         ensures { result ≡ restored_time arrival.entry.now self.now.state }
     {
         self.reports.time_of(arrival, false)
     }
 
-    /// The RTP time of the packet that was taken last, None before one was. Packets that were restored do
-    /// not count.
+    /// The RTP time of the packet that was taken last, None before one was. Packets that were
+    /// restored do not count.
     pub fn last_time(&self) -> Option<MediaTime>
         ensures { result ≡ self.now.state.reports.times.last }
     {
         self.reports.times.last
     }
 
-    /// A repair's own number with these low 16 bits (RFC 3711 section 3.3.1), where `seen` is the greatest
-    /// number that was seen on the SSRC of its datagram, below 2^48: nearest to the greatest repair that
-    /// was taken, before the first one to what was seen.
+    /// A repair's own number with these low 16 bits (RFC 3711 section 3.3.1), where `seen` is the
+    /// greatest number that was seen on the SSRC of its datagram, below 2^48: nearest to the
+    /// greatest repair that was taken, before the first one to what was seen.
     pub fn repair_number(&self, low: u16, seen: Option<SeqNo>) -> SeqNo
         requires { ForSome seen (λ n. n < 2 ^ 48) }
         ensures number { (r : RxRecord) → StandsFor W.remembers self.now r → result ≡ own_number seen r low }
@@ -379,9 +379,9 @@ impl<W: GapWindow> StreamRx<W> {
         self.repairs.number_for(low, seen)
     }
 
-    /// The own number under which a repair with these low 16 bits may open (RFC 4588), None where it may
-    /// not be taken any more: up to the greatest number that was seen when the first repair opened, no
-    /// repair is taken.
+    /// The own number under which a repair with these low 16 bits may open (RFC 4588), None where
+    /// it may not be taken any more: up to the greatest number that was seen when the first repair
+    /// opened, no repair is taken.
     pub fn accepts_repair(&self, low: u16, seen: Option<SeqNo>) -> Option<SeqNo>
         requires { ForSome seen (λ n. n < 2 ^ 48) }
         ensures fresh { (r : RxRecord) → StandsFor W.remembers self.now r → result ≡ fresh_repair seen r low }
@@ -398,7 +398,8 @@ impl<W: GapWindow> StreamRx<W> {
     }
 
     /// Takes the own number of a repair that opened at a moment: the stream is not paused until its
-    /// threshold has passed. A rollover count that was set stays for the next datagram that is no repair.
+    /// threshold has passed. A rollover count that was set stays for the next datagram that is no
+    /// repair.
     pub fn take_repair(&mut self, now: Instant, number: SeqNo, seen: Option<SeqNo>)
         requires number { number < 2 ^ 48 }
         requires seen { ForSome seen (λ n. n < 2 ^ 48) }
@@ -409,7 +410,8 @@ impl<W: GapWindow> StreamRx<W> {
         self.unpause(now);
     }
 
-    /// The number with these low 16 bits that is nearest to the greatest one that was taken, fresh or not.
+    /// The number with these low 16 bits that is nearest to the greatest one that was taken, fresh
+    /// or not.
     pub fn restored_number(&self, low: u16, remembered: &Option<SeqNo>) -> SeqNo
         requires { ForSome remembered.now (λ n. n < 2 ^ 48) }
         ensures number { (r : RxRecord) → StandsFor W.remembers self.now r → result ≡ restored_for remembered.now r low }
@@ -419,9 +421,9 @@ impl<W: GapWindow> StreamRx<W> {
         SeqNo::from(widen16(number_of(self.max_seq(*remembered)), low))
     }
 
-    /// Takes the number of the packet that a repair repairs, remembers it with its time, and gives it: the
-    /// payload of the repair begins with its low 16 bits (RFC 4588 section 4). None where it is not fresh:
-    /// the packet then enters the jitter alone. Without memory nothing changes.
+    /// Takes the number of the packet that a repair repairs, remembers it with its time, and gives
+    /// it: the payload of the repair begins with its low 16 bits (RFC 4588 section 4). None where
+    /// it is not fresh: the packet then enters the jitter alone. Without memory nothing changes.
     pub fn restore(
         &mut self,
         low: u16,
@@ -448,14 +450,14 @@ impl<W: GapWindow> StreamRx<W> {
         Ok(Some(number))
     }
 
-    /// The number of a redundant block (RFC 2198) of this time, widened as those of packets are, that came in
-    /// a datagram that was taken under this number. None where a remembered number has that time, where it
-    /// cannot be told, and before a number was taken. It is between L, the greatest of the last 32 numbers
-    /// with an earlier time, and U, the least with a later time: the only number there that may still be
-    /// taken, or of several the one at the block's time, where times rise from L to U by whole and equal
-    /// steps, if it may still be taken. L is 0 to 9 below the datagram, and the number 0 to 8. At most 32
-    /// entries are looked at, and each number from L to U: at most 8 where the datagram is remembered with a
-    /// later time.
+    /// The number of a redundant block (RFC 2198) of this time, widened as those of packets are,
+    /// that came in a datagram that was taken under this number. None where a remembered number has
+    /// that time, where it cannot be told, and before a number was taken. It is between L, the
+    /// greatest of the last 32 numbers with an earlier time, and U, the least with a later time:
+    /// the only number there that may still be taken, or of several the one at the block's time,
+    /// where times rise from L to U by whole and equal steps, if it may still be taken. L is 0 to 9
+    /// below the datagram, and the number 0 to 8. At most 32 entries are looked at, and each number
+    /// from L to U: at most 8 where the datagram is remembered with a later time.
     pub fn place_redundant(&self, datagram: SeqNo, time: u64) -> Option<SeqNo>
         ensures place { (r : RxRecord) → StandsFor W.remembers self.now r → result ≡ placed datagram time r }
         ensures fresh { (r : RxRecord) (remembered : Option ℕ) → StandsFor W.remembers self.now r → IfSome result (λ n. is_fresh (taken_of remembered r) n ≡ true) }
@@ -467,9 +469,9 @@ impl<W: GapWindow> StreamRx<W> {
         }
     }
 
-    /// A redundant block was recovered under its number, below 2^48: the number is taken, and neither asked
-    /// for nor taken again. It counts as none that came. It is remembered with its time, so no other block
-    /// of that time has a place. Before a number was taken nothing changes.
+    /// A redundant block was recovered under its number, below 2^48: the number is taken, and
+    /// neither asked for nor taken again. It counts as none that came. It is remembered with its
+    /// time, so no other block of that time has a place. Before a number was taken nothing changes.
     pub fn mark_recovered(&mut self, number: SeqNo, time: u64)
         requires { number < 2 ^ 48 }
         ensures recovered { (r : RxRecord) → StandsFor W.remembers self.old r → StandsFor W.remembers self.new (recovered_as number time r) }
@@ -480,9 +482,9 @@ impl<W: GapWindow> StreamRx<W> {
         }
     }
 
-    /// Forgets the numbers that were taken, those of repairs too, their times, and what was counted of
-    /// packets, and takes the rollover count for granted that the next datagram has that opens and is no
-    /// repair (RFC 3711 section 3.3.1).
+    /// Forgets the numbers that were taken, those of repairs too, their times, and what was counted
+    /// of packets, and takes the rollover count for granted that the next datagram has that opens
+    /// and is no repair (RFC 3711 section 3.3.1).
     pub fn reset_roc(&mut self, roc: u32)
         ensures { (r : RxRecord) → StandsFor W.remembers self.old r → StandsFor W.remembers self.new (restarted roc r) }
     {
@@ -493,10 +495,10 @@ impl<W: GapWindow> StreamRx<W> {
         self.reports.forget();
     }
 
-    /// Its packets come under another SSRC. What was taken of them, their times and how they came, a
-    /// rollover count that was set, what its sender reported and what it is asked are forgotten, its next
-    /// full intra request has the number 0, and its next report is due as that of a stream that never
-    /// reported. What was taken of its repairs stays, and so do its statistics.
+    /// Its packets come under another SSRC. What was taken of them, their times and how they came,
+    /// a rollover count that was set, what its sender reported and what it is asked are forgotten,
+    /// its next full intra request has the number 0, and its next report is due as that of a stream
+    /// that never reported. What was taken of its repairs stays, and so do its statistics.
     pub fn change_ssrc(&mut self, ssrc: Ssrc)
         ensures { (r : RxRecord) → StandsFor W.remembers self.old r → StandsFor W.remembers self.new (moved_to ssrc r) }
     {
@@ -508,8 +510,8 @@ impl<W: GapWindow> StreamRx<W> {
         self.forget_numbers();
     }
 
-    /// Its repairs come under another SSRC, or for the first time under one. What was taken of them is
-    /// forgotten.
+    /// Its repairs come under another SSRC, or for the first time under one. What was taken of them
+    /// is forgotten.
     pub fn change_rtx(&mut self, rtx: Ssrc)
         ensures { (r : RxRecord) → StandsFor W.remembers self.old r → StandsFor W.remembers self.new (repaired_under rtx r) }
     {
@@ -524,7 +526,8 @@ impl<W: GapWindow> StreamRx<W> {
         self.pause_threshold = threshold;
     }
 
-    /// Sets whether it asks for nothing that is missing. A stream without an SSRC of repairs is made so.
+    /// Sets whether it asks for nothing that is missing. A stream without an SSRC of repairs is
+    /// made so.
     pub fn suppress_nack(&mut self, suppress: bool)
         ensures { self.new ≡ record self.old { state = record self.old.state { suppressed = suppress } } }
     {
@@ -545,7 +548,8 @@ impl<W: GapWindow> StreamRx<W> {
         self.pause_at
     }
 
-    /// A tick: the stream is paused where its threshold has passed since the last datagram that opened.
+    /// A tick: the stream is paused where its threshold has passed since the last datagram that
+    /// opened.
     pub fn handle_timeout(&mut self, now: Instant)
         ensures { self.new ≡ record self.old { state = checked now self.old.state } }
     {

@@ -64,7 +64,8 @@ impl Model for StreamTx {
     ghost view = { λ s. record { ssrc = s.ssrc; rtx = s.rtx; mid = s.mid; rid = s.rid; acknowledged = s.acknowledged; queue = s.queue; reports = s.reports; losses = s.losses } };
 }
 
-/// The header and its length, and the header's bytes with bytes behind them, and the payload behind those.
+/// The header and its length, and the header's bytes with bytes behind them, and the payload behind
+/// those.
 pub(crate) fn receipt(
     alloc: Global,
     header: RtpHeader,
@@ -103,8 +104,8 @@ impl StreamTx {
     ghost use Rattle.stream_core.specs.Arrivals.{with_nack, with_pli, with_fir, stats_of};
     ghost use Rattle.stream_core.specs.Reporting.{rtp_clock_of, sender_info_at, tx_report_at, is_tx_report_due, tx_reported, with_kind};
 
-    /// A stream of an SSRC and of that of its repairs, for a media section or one stream of it, on which
-    /// nothing was written.
+    /// A stream of an SSRC and of that of its repairs, for a media section or one stream of it, on
+    /// which nothing was written.
     pub fn new(alloc: Global, ssrc: Ssrc, rtx: Option<Ssrc>, mid_rid: MidRid) -> Self
         ensures { result ≡ declared ssrc rtx mid_rid.0 mid_rid.1 }
     {
@@ -151,8 +152,8 @@ impl StreamTx {
     /// Puts a packet behind those that wait. It is sealed after the next tick.
     ///
     /// # Errors
-    /// `NumberTooBig` where its number is 2^48 or more; `PayloadTooLong` where its payload has more than
-    /// 1,400 bytes; `Memory`. The stream is then as it was.
+    /// `NumberTooBig` where its number is 2^48 or more; `PayloadTooLong` where its payload has more
+    /// than 1,400 bytes; `Memory`. The stream is then as it was.
     pub fn write_rtp(&mut self, write: RtpWrite) -> Result<(), WriteError>
         ensures ok { OnOk result (self.new ≡ written write self.old) }
         ensures fits { OnOk result (Fits write) }
@@ -187,8 +188,8 @@ impl StreamTx {
         self.queue.need_timeout()
     }
 
-    /// A reception block (RFC 3550 section 6.4.1): on the stream's SSRC it tells that the peer knows it,
-    /// and a stream without repairs then leaves mid and rid out of its headers.
+    /// A reception block (RFC 3550 section 6.4.1): on the stream's SSRC it tells that the peer
+    /// knows it, and a stream without repairs then leaves mid and rid out of its headers.
     pub fn handle_reception_report(&mut self, report: &ReceptionReport)
         ensures { self.new ≡ after_reception report.now self.old }
     {
@@ -197,8 +198,8 @@ impl StreamTx {
         }
     }
 
-    /// Keeps what its receivers report as lost from now on, if it did not yet. That grows with each report
-    /// until it is looked at.
+    /// Keeps what its receivers report as lost from now on, if it did not yet. That grows with each
+    /// report until it is looked at.
     pub fn enable_stats(&mut self, alloc: Global)
         ensures { self.new ≡ with_stats self.old }
     {
@@ -207,9 +208,10 @@ impl StreamTx {
         }
     }
 
-    /// Takes in a reception block (RFC 3550 section 6.4.1) on the stream's SSRC, where losses are kept: its
-    /// number is widened by that of the packet that was last sealed for the first time. Without memory
-    /// nothing changes. The time grows with the blocks since the losses were last looked at.
+    /// Takes in a reception block (RFC 3550 section 6.4.1) on the stream's SSRC, where losses are
+    /// kept: its number is widened by that of the packet that was last sealed for the first time.
+    /// Without memory nothing changes. The time grows with the blocks since the losses were last
+    /// looked at.
     pub fn update_with_rr(&mut self, report: &ReceptionReport) -> Result<(), AllocError>
         ensures ok { OnOk result (self.new ≡ lost_by report.now self.old) }
         ensures err { OnErr result (self.new ≡ self.old) }
@@ -225,8 +227,9 @@ impl StreamTx {
     }
 
     /// Takes in an item of feedback that concerns the stream: a reception block (`update_with_rr`,
-    /// `handle_reception_report`), or what asks for packets or for a key frame, which counts. Without memory
-    /// nothing changes. The time grows with the blocks since the losses were last looked at.
+    /// `handle_reception_report`), or what asks for packets or for a key frame, which counts.
+    /// Without memory nothing changes. The time grows with the blocks since the losses were last
+    /// looked at.
     pub fn handle_rtcp(&mut self, item: &RtcpFb) -> Result<(), AllocError>
         ensures ok { OnOk result (self.new ≡ told_by item.now self.old) }
         ensures err { OnErr result (self.new ≡ self.old) }
@@ -244,9 +247,10 @@ impl StreamTx {
         Ok(())
     }
 
-    /// The share that was lost since this was last asked: each report counts by the distance of its number
-    /// from that of the report before. None where losses are not kept, no byte was sealed, or no report came
-    /// whose number is above another's. The time grows with the reports since then.
+    /// The share that was lost since this was last asked: each report counts by the distance of its
+    /// number from that of the report before. None where losses are not kept, no byte was sealed,
+    /// or no report came whose number is above another's. The time grows with the reports since
+    /// then.
     pub fn visit_loss(&mut self) -> Option<Share>
         ensures share { result ≡ seen_of (tx_stats_of self.old) }
         ensures within { IfSome result (λ s. (s.missing ≤ s.total) × (0 < s.total)) }
@@ -261,9 +265,9 @@ impl StreamTx {
         }
     }
 
-    /// Begins anew under another SSRC, and another one of its repairs, if it has them from then on. What
-    /// waits is dropped, its reports begin anew, the peer has not acknowledged the SSRC, and losses are kept
-    /// anew, or not any more.
+    /// Begins anew under another SSRC, and another one of its repairs, if it has them from then on.
+    /// What waits is dropped, its reports begin anew, the peer has not acknowledged the SSRC, and
+    /// losses are kept anew, or not any more.
     pub(crate) fn reset_ssrc(
         &mut self,
         alloc: Global,
@@ -297,8 +301,8 @@ impl StreamTx {
         transport.put_values(values, now);
     }
 
-    /// The packet that is to be sealed next: the one at the front of those that wait, if there was a tick
-    /// since it was written.
+    /// The packet that is to be sealed next: the one at the front of those that wait, if there was
+    /// a tick since it was written.
     pub fn next_packet(&self) -> Option<&RtpPacket>
         ensures next { option_copied result ≡ next_of self.now.queue }
         ensures sendable { IfSome result (λ p. IsSendable p.now) }
@@ -365,8 +369,8 @@ impl StreamTx {
         self.reports.asked_keyframe();
     }
 
-    /// What was counted since it was declared or began anew: the packets that were sealed, repairs among
-    /// them, with the bytes of their payloads, and what its receivers asked for.
+    /// What was counted since it was declared or began anew: the packets that were sealed, repairs
+    /// among them, with the bytes of their payloads, and what its receivers asked for.
     pub fn stats(&self) -> StreamStats
         ensures { result ≡ stats_of self.now.reports }
     {
@@ -380,8 +384,8 @@ impl StreamTx {
         self.reports.resent
     }
 
-    /// What tells its RTP time: its last write, and the clock of the type that was last sealed for the
-    /// first time. At most one look-up in an array.
+    /// What tells its RTP time: its last write, and the clock of the type that was last sealed for
+    /// the first time. At most one look-up in an array.
     fn rtp_clock(&self, types: &PayloadTypes) -> RtpClock
         ensures { result ≡ rtp_clock_of types.now self.now }
     {
@@ -395,8 +399,8 @@ impl StreamTx {
         }
     }
 
-    /// What it says of itself at a moment (RFC 3550 section 6.4.1): its packets and bytes are those that
-    /// were sealed, repairs among them.
+    /// What it says of itself at a moment (RFC 3550 section 6.4.1): its packets and bytes are those
+    /// that were sealed, repairs among them.
     pub fn sender_info(
         &self,
         types: &PayloadTypes,
@@ -444,9 +448,9 @@ impl StreamTx {
         self.reports.clock.tell(is_audio);
     }
 
-    /// What is to be sealed next of a stream without repairs: the packet at the front of those that wait,
-    /// if there was a tick since it was written. Its header is made for this moment. It is taken out, and
-    /// the transport counts it. Without memory nothing changes.
+    /// What is to be sealed next of a stream without repairs: the packet at the front of those that
+    /// wait, if there was a tick since it was written. Its header is made for this moment. It is
+    /// taken out, and the transport counts it. Without memory nothing changes.
     pub fn poll_packet(
         &mut self,
         alloc: Global,
@@ -468,18 +472,19 @@ impl StreamTx {
         Ok(Some(receipt))
     }
 
-    /// Whether there is a packet to be sealed: there was a tick since the one at the front was written.
+    /// Whether there is a packet to be sealed: there was a tick since the one at the front was
+    /// written.
     pub fn is_ready(&self) -> bool
         ensures { result ≡ is_some (next_of self.now.queue) }
     {
         self.queue.peek().is_some()
     }
 
-    /// What a pacer is told at a moment of the packets that waited at the last tick: how many there are,
-    /// the bytes of their payloads, how many nanoseconds they waited, all together, and the earliest of
-    /// the ticks since which they wait. A number that its type cannot hold is the type's greatest. When
-    /// one was sent last is not told yet. The time is the same for any number of packets, but grows with
-    /// it where time fell between ticks, or since the last one.
+    /// What a pacer is told at a moment of the packets that waited at the last tick: how many there
+    /// are, the bytes of their payloads, how many nanoseconds they waited, all together, and the
+    /// earliest of the ticks since which they wait. A number that its type cannot hold is the
+    /// type's greatest. When one was sent last is not told yet. The time is the same for any number
+    /// of packets, but grows with it where time fell between ticks, or since the last one.
     pub fn queue_snapshot(&self, now: Instant) -> QueueSnapshot
         ensures { result ≡ snapshot_of now None self.now.queue }
     {

@@ -3,7 +3,7 @@ ghost use Rattle.std.specs.Map.{keys_of, values_of};
 ghost use Rattle.std.specs.Option.{ForSome, option_map, option_copied};
 ghost use Rattle.mapping_core.specs.Mapped.{mapped};
 ghost use Rattle.stream_core.specs.Missing.{any_enabled};
-ghost use Rattle.stream_core.specs.Pauses.{checked, on_view, on_record, first_where, view_untold, next_pause, after_pause, untold_in, first_pause, sooner, with_trip};
+ghost use Rattle.stream_core.specs.Pauses.{checked, on_view, on_record, first_where, view_untold, next_pause, after_pause, untold_in, first_pause, with_trip};
 ghost use Rattle.stream_core.specs.RxRecord.{RxRecord, StandsFor as RxStandsFor, opened_as};
 ghost use Rattle.rtx_core.specs.Resends.{recached};
 ghost use Rattle.rtp_wire.specs.HeaderLaws.{IsReadAgain};
@@ -31,7 +31,7 @@ use crate::stream_tx::{PacketReceipt, StreamTx};
 use crate::transport::Transport;
 pub use feedback::is_among;
 use mapping_core::{IncomingStream, MainChange, Mapping, RepairsChange, Rids, TypeClaim};
-use media_units::{Duration, Instant};
+use media_units::{Duration, Instant, earlier};
 use repair_core::GapWindow;
 use resend_core::ResendStore;
 use rtp_base::{MidRid, NackEntry, SeqNo, Ssrc};
@@ -93,17 +93,6 @@ fn set_trips<W: GapWindow>(streams: &mut SsrcTable<StreamRx<W>>, trip: &Option<D
     }
 }
 
-/// The earlier of two moments, where there are some.
-pub fn sooner(one: Option<Instant>, other: Option<Instant>) -> Option<Instant>
-    ensures { result ≡ sooner one other }
-{
-    match (one, other) {
-        (Some(one), Some(other)) => Some(one.min(other)),
-        (Some(one), None) => Some(one),
-        (None, other) => other,
-    }
-}
-
 /// The place of the first stream of which something is to be told, where nothing is of those before
 /// `from`. The time grows with the number of streams from there to it.
 fn first_untold<W: GapWindow>(streams: &SsrcTable<StreamRx<W>>, from: usize) -> Option<usize>
@@ -134,8 +123,8 @@ fn find_repairs<S: ResendStore<Sent>>(
     Some((rtx, place))
 }
 
-/// Puts a value behind the others of a table, under a key that none has, and another one behind those of
-/// a second table, where none has its key. Without memory nothing changes.
+/// Puts a value behind the others of a table, under a key that none has, and another one behind
+/// those of a second table, where none has its key. Without memory nothing changes.
 fn add_both<A: Drop, B: Drop>(
     one: &mut SsrcTable<A>,
     other: &mut SsrcTable<B>,
@@ -179,10 +168,10 @@ impl<W: GapWindow, S: ResendStore<Sent>> Streams<W, S> {
         }
     }
 
-    /// Has datagrams of an SSRC be those of a stream of a media section, behind the other streams. With
-    /// `rtx` datagrams of that SSRC are its repairs (RFC 4588), unless they are another stream's. With
-    /// `suppress_nack` it asks for nothing that is missing. A stream of that SSRC stays as it is. Without
-    /// memory nothing changes. The time grows with the number of streams.
+    /// Has datagrams of an SSRC be those of a stream of a media section, behind the other streams.
+    /// With `rtx` datagrams of that SSRC are its repairs (RFC 4588), unless they are another
+    /// stream's. With `suppress_nack` it asks for nothing that is missing. A stream of that SSRC
+    /// stays as it is. Without memory nothing changes. The time grows with the number of streams.
     pub fn expect_stream_rx(
         &mut self,
         ssrc: Ssrc,
@@ -223,8 +212,8 @@ impl<W: GapWindow, S: ResendStore<Sent>> Streams<W, S> {
         }
     }
 
-    /// Takes out the stream that receives datagrams of an SSRC, with its SSRC of repairs, and tells whether
-    /// there was one. The time grows with the number of streams.
+    /// Takes out the stream that receives datagrams of an SSRC, with its SSRC of repairs, and tells
+    /// whether there was one. The time grows with the number of streams.
     pub fn remove_stream_rx(&mut self, ssrc: Ssrc) -> bool
         ensures removed { (r : StreamsRecord) → StandsFor W.remembers S.stands_for self.old r
             → StandsFor W.remembers S.stands_for self.new (without_stream_rx ssrc r) }
@@ -235,17 +224,17 @@ impl<W: GapWindow, S: ResendStore<Sent>> Streams<W, S> {
         self.rx.remove(ssrc)
     }
 
-    /// Of which stream a datagram with this header is that comes under an SSRC of no table, where the media
-    /// section of its mid expects `rids`; None where no section has its mid. The time grows with the number
-    /// of streams, of types and of rids.
+    /// Of which stream a datagram with this header is that comes under an SSRC of no table, where
+    /// the media section of its mid expects `rids`; None where no section has its mid. The time
+    /// grows with the number of streams, of types and of rids.
     pub fn map(&self, rids: Option<&Rids>, types: &[TypeClaim], header: &RtpHeader) -> Mapping
         ensures { result ≡ mapped (option_copied rids.entry) types.now self.now.known.streams header.now }
     {
         self.known.map(rids, types, header)
     }
 
-    /// The packets of a stream come under another SSRC. Where there is no such stream, or another one has
-    /// that SSRC, nothing changes.
+    /// The packets of a stream come under another SSRC. Where there is no such stream, or another
+    /// one has that SSRC, nothing changes.
     fn change_main(&mut self, change: &MainChange) -> Result<(), AllocError>
         ensures ok { OnOk result ((r : StreamsRecord) → StandsFor W.remembers S.stands_for self.old r
             → StandsFor W.remembers S.stands_for self.new (with_main_rx change.now r)) }
@@ -285,9 +274,9 @@ impl<W: GapWindow, S: ResendStore<Sent>> Streams<W, S> {
         Ok(())
     }
 
-    /// Takes up of which stream a datagram of an SSRC is, once it opened: a stream that it declares stands
-    /// behind the others, and one whose SSRC changes stays in its place. Without memory nothing changes.
-    /// The time grows with the number of streams.
+    /// Takes up of which stream a datagram of an SSRC is, once it opened: a stream that it declares
+    /// stands behind the others, and one whose SSRC changes stays in its place. Without memory
+    /// nothing changes. The time grows with the number of streams.
     pub fn take_up(&mut self, ssrc: Ssrc, mapping: &Mapping) -> Result<(), AllocError>
         ensures ok { OnOk result ((r : StreamsRecord) → StandsFor W.remembers S.stands_for self.old r
             → StandsFor W.remembers S.stands_for self.new (taken_up ssrc mapping.now r)) }
@@ -308,10 +297,10 @@ impl<W: GapWindow, S: ResendStore<Sent>> Streams<W, S> {
         }
     }
 
-    /// Declares a stream of a media section that sends under an SSRC, behind the other streams. With `rtx`
-    /// it keeps packets to send them again, as repairs under that SSRC and numbers from that one on
-    /// (RFC 4588 section 4); at 2^48 there is none. A stream of that SSRC stays as it is. Without memory
-    /// nothing changes.
+    /// Declares a stream of a media section that sends under an SSRC, behind the other streams.
+    /// With `rtx` it keeps packets to send them again, as repairs under that SSRC and numbers from
+    /// that one on (RFC 4588 section 4); at 2^48 there is none. A stream of that SSRC stays as it
+    /// is. Without memory nothing changes.
     pub fn declare_stream_tx(
         &mut self,
         ssrc: Ssrc,
@@ -345,8 +334,9 @@ impl<W: GapWindow, S: ResendStore<Sent>> Streams<W, S> {
         Ok(())
     }
 
-    /// Takes out the stream that sends under an SSRC, with the packets that wait on it and those that it
-    /// keeps, and tells whether there was one. The time grows with the number of streams declared after it.
+    /// Takes out the stream that sends under an SSRC, with the packets that wait on it and those
+    /// that it keeps, and tells whether there was one. The time grows with the number of streams
+    /// declared after it.
     pub fn remove_stream_tx(&mut self, ssrc: Ssrc) -> bool
         ensures removed { self.new ≡ record self.old { tx = without_key ssrc self.old.tx; repairs = without_key ssrc self.old.repairs } }
         ensures found { result ≡ is_some (place_of ssrc self.old.tx) }
@@ -424,9 +414,9 @@ impl<W: GapWindow, S: ResendStore<Sent>> Streams<W, S> {
         }
     }
 
-    /// Makes anew what the stream of an SSRC keeps to send again, if it has repairs: for so many packets,
-    /// each for an age, none where one of the two is 0; and sets how many hundredths of what it sends may
-    /// be repairs, any number where that is None. Without memory nothing changes.
+    /// Makes anew what the stream of an SSRC keeps to send again, if it has repairs: for so many
+    /// packets, each for an age, none where one of the two is 0; and sets how many hundredths of
+    /// what it sends may be repairs, any number where that is None. Without memory nothing changes.
     pub fn set_rtx_cache(
         &mut self,
         ssrc: Ssrc,
@@ -452,9 +442,10 @@ impl<W: GapWindow, S: ResendStore<Sent>> Streams<W, S> {
         Ok(())
     }
 
-    /// A NACK (RFC 4585 section 6.2.1) for packets of an SSRC: those that the stream keeps are asked for,
-    /// in order, and sent again after the next tick. A stream without repairs hears nothing of it. Without
-    /// memory nothing changes. The time grows with the numbers that are named.
+    /// A NACK (RFC 4585 section 6.2.1) for packets of an SSRC: those that the stream keeps are
+    /// asked for, in order, and sent again after the next tick. A stream without repairs hears
+    /// nothing of it. Without memory nothing changes. The time grows with the numbers that are
+    /// named.
     pub fn handle_nack(
         &mut self,
         ssrc: Ssrc,
@@ -477,13 +468,15 @@ impl<W: GapWindow, S: ResendStore<Sent>> Streams<W, S> {
         Ok(())
     }
 
-    /// What the stream at a place gives to be sealed at a moment: first what is to be sent again, then the
-    /// packet at the front of those that wait, if there was a tick since it was written. Its header is made
-    /// for this moment. It is taken out, kept to be sent again where it may be, and the transport counts it.
+    /// What the stream at a place gives to be sealed at a moment: first what is to be sent again,
+    /// then the packet at the front of those that wait, if there was a tick since it was written.
+    /// Its header is made for this moment. It is taken out, kept to be sent again where it may be,
+    /// and the transport counts it.
     ///
     /// # Errors
-    /// `Exhausted` where something is to be sent again and the 2^48 numbers of its repairs were used, and
-    /// nothing changes then; `Memory`, and then nothing changes but that nothing may be asked for any more.
+    /// `Exhausted` where something is to be sent again and the 2^48 numbers of its repairs were
+    /// used, and nothing changes then; `Memory`, and then nothing changes but that nothing may be
+    /// asked for any more.
     pub fn poll_packet(
         &mut self,
         place: usize,
@@ -588,8 +581,8 @@ impl<W: GapWindow, S: ResendStore<Sent>> Streams<W, S> {
         set_trips(&mut self.rx, &trip);
     }
 
-    /// Tells of the first stream, in order, that was paused or unpaused since that was told. A call looks
-    /// at the streams behind those of which the last call found nothing to tell.
+    /// Tells of the first stream, in order, that was paused or unpaused since that was told. A call
+    /// looks at the streams behind those of which the last call found nothing to tell.
     pub fn poll_stream_paused(&mut self) -> Option<StreamPaused>
         ensures event { (r : StreamsRecord) → StandsFor W.remembers S.stands_for self.old r → result ≡ next_pause r.rx }
         ensures after { (r : StreamsRecord) → StandsFor W.remembers S.stands_for self.old r
@@ -609,7 +602,8 @@ impl<W: GapWindow, S: ResendStore<Sent>> Streams<W, S> {
         self.rx.at_mut(place).poll_paused()
     }
 
-    /// Whether some packet was written since the last tick. The time grows with the number of streams.
+    /// Whether some packet was written since the last tick. The time grows with the number of
+    /// streams.
     pub fn needs_timeout(&self) -> bool
         ensures { result ≡ any_waits self.now.tx }
     {
@@ -621,20 +615,20 @@ impl<W: GapWindow, S: ResendStore<Sent>> Streams<W, S> {
         false
     }
 
-    /// The first moment at which some stream is paused unless something comes, None where all are. The
-    /// time grows with the number of streams.
+    /// The first moment at which some stream is paused unless something comes, None where all are.
+    /// The time grows with the number of streams.
     pub fn paused_at(&self) -> Option<Instant>
         ensures { (r : StreamsRecord) → StandsFor W.remembers S.stands_for self.now r → result ≡ first_pause r.rx }
     {
         let mut first = None;
         for place in 0..self.rx.len() {
-            first = sooner(first, self.rx.at(place).paused_at());
+            first = earlier(first, self.rx.at(place).paused_at());
         }
         first
     }
 
-    /// Where the stream of an SSRC stands, and the number under which a datagram with these low 16 bits
-    /// may open, where a greatest number may be remembered of the SSRC.
+    /// Where the stream of an SSRC stands, and the number under which a datagram with these low 16
+    /// bits may open, where a greatest number may be remembered of the SSRC.
     pub fn accepts(&self, ssrc: Ssrc, low: u16, remembered: Option<SeqNo>) -> Option<(usize, SeqNo)>
         requires { ForSome remembered (λ n. n < 2 ^ 48) }
         ensures number { (r : StreamsRecord) → StandsFor W.remembers S.stands_for self.now r → option_map (λ f. f.1) result ≡ accepted remembered r.rx ssrc low }
@@ -652,8 +646,8 @@ impl<W: GapWindow, S: ResendStore<Sent>> Streams<W, S> {
         }
     }
 
-    /// Has the stream at a place take a number under which a datagram opened. Without memory nothing
-    /// changes.
+    /// Has the stream at a place take a number under which a datagram opened. Without memory
+    /// nothing changes.
     #[tactic(auto, using(crate::proofs::Alongside::set_same))]
     pub fn take_at(
         &mut self,

@@ -85,9 +85,9 @@ fn filled_up(sources: &[u32]) -> [u32; 15]
 impl RtpWrite {
     ghost use Rattle.stream_core.specs.Write.{packet_of};
 
-    /// A packet with a type, an extended sequence number, an RTP time in ticks of the type's clock, the
-    /// moment to which that time belongs, and a payload. It has no marker, no values of a header
-    /// extension and no contributing sources, and is not kept to be sent again.
+    /// A packet with a type, an extended sequence number, an RTP time in ticks of the type's clock,
+    /// the moment to which that time belongs, and a payload. It has no marker, no values of a
+    /// header extension and no contributing sources, and is not kept to be sent again.
     pub fn new(pt: Pt, seq_no: SeqNo, time: u32, wallclock: Instant, payload: Payload) -> Self
         ensures { result ≡ record {
           pt = pt;

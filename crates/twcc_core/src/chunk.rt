@@ -82,8 +82,8 @@ pub fn after_chunks(bytes: &[u8], count: usize) -> Option<&[u8]>
     Some(rest)
 }
 
-// Adds what the first symbols of a chunk say, so many at most, with the deltas one after another, and
-// gives what follows them, or None where the bytes end before.
+// Adds what the first symbols of a chunk say, so many at most, with the deltas one after another,
+// and gives what follows them, or None where the bytes end before.
 #[tactic(auto, unfolding(crate::specs::Chunks::chunk_symbols))]
 fn read_chunk<'a>(
     rows: &mut StatusList,
@@ -103,8 +103,8 @@ fn read_chunk<'a>(
     }
 }
 
-// What so many symbols say that chunks tell, with the deltas one after another, or None where either
-// bytes end before.
+// What so many symbols say that chunks tell, with the deltas one after another, or None where
+// either bytes end before.
 pub fn read_rows(
     alloc: Global,
     chunks: &[u8],
@@ -147,8 +147,8 @@ fn split_symbol(rows: StatusIter<'_>) -> (u8, StatusIter<'_>)
     (symbol, rest)
 }
 
-// How many rows at the front have the symbol of the first, of as many as a run can tell, and the rows
-// behind them.
+// How many rows at the front have the symbol of the first, of as many as a run can tell, and the
+// rows behind them.
 fn first_run(rows: StatusIter<'_>) -> (usize, StatusIter<'_>)
     ensures value { result.0 ≡ run_of (left_of rows.entry) }
     ensures most { result.0 ≤ 8191 }

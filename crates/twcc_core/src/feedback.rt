@@ -3,13 +3,13 @@ ghost use Rattle.std.specs.Prelude.{◌≡◌, ◌+◌, ◌*◌, ◌<◌, IfOk, 
 ghost use Rattle.std.specs.Option.{option_map};
 ghost use Rattle.rtp_base.specs.Wire.{words, Puts, LeavesBehind};
 ghost use Rattle.twcc_core.specs.Feedback.{twcc_of, twcc_bytes};
-ghost use Rattle.rtp_base.specs.Fields.{signed24, bits24};
+ghost use Rattle.rtp_base.specs.Fields.{bits24};
 
 use crate::StatusList;
 use crate::chunk::{after_chunks, read_rows, write_chunks};
 use crate::status::write_deltas;
 use rtp_base::Ssrc;
-use rtp_base::wire::{half, put, word};
+use rtp_base::wire::{half, put, signed, word};
 use std::alloc::{AllocError, Global};
 
 /// Transport-wide feedback: what a receiver says of packets in a row (section 3.1).
@@ -29,22 +29,10 @@ pub struct Twcc {
     pub rows: StatusList,
 }
 
-// The signed number of 24 bits.
-pub(crate) fn signed(bits: u32) -> i32
-    requires { bits < 16777216 }
-    ensures { result ≡ signed24 bits }
-{
-    if bits < 0x80_0000 {
-        bits as i32
-    } else {
-        bits as i32 - 0x100_0000
-    }
-}
-
-/// Reads feedback from the bytes after the header of an item of type 205 and format 15. It takes a few
-/// bytes of memory for each byte that is read, however many packets these tell, and time for each packet.
-/// Without memory there is an error, and None where the bytes end before the chunks or the deltas that
-/// they tell.
+/// Reads feedback from the bytes after the header of an item of type 205 and format 15. It takes a
+/// few bytes of memory for each byte that is read, however many packets these tell, and time for
+/// each packet. Without memory there is an error, and None where the bytes end before the chunks or
+/// the deltas that they tell.
 #[tactic(auto, unfolding(crate::specs::Feedback::twcc_of))]
 pub fn read_twcc(alloc: Global, body: &[u8]) -> Result<Option<Twcc>, AllocError>
     ensures { IfOk result (λ t. t ≡ twcc_of body.now) }
@@ -105,9 +93,9 @@ fn word_of(upper: u32, lower: u8) -> u32
     upper * 0x100 + u32::from(lower)
 }
 
-/// Writes feedback into a slice, as the bytes after the header of an item of type 205 and format 15,
-/// filled up with zeros to a whole word, and says where they end, or None where there is no room. What
-/// stands behind them stays.
+/// Writes feedback into a slice, as the bytes after the header of an item of type 205 and format
+/// 15, filled up with zeros to a whole word, and says where they end, or None where there is no
+/// room. What stands behind them stays.
 #[tactic(auto, unfolding(crate::specs::Feedback::twcc_fields, crate::specs::Feedback::twcc_bytes))]
 pub fn write_twcc(twcc: &Twcc, out: &mut [u8]) -> Option<usize>
     requires { length twcc.now.rows < 65536 }

@@ -16,8 +16,8 @@ pub fn feedback_is_whole()
     ensures { FeedbackIsWhole }
 {}
 
-/// A report that was built, written and read again tells which numbers came, from the lowest unreported
-/// on, and when, as the wire holds it.
+/// A report that was built, written and read again tells which numbers came, from the lowest
+/// unreported on, and when, as the wire holds it.
 pub fn reports_tell_arrivals()
     ensures { ReportsTellArrivals }
 {}
@@ -27,14 +27,14 @@ pub fn reports_are_none()
     ensures { ReportsAreNone }
 {}
 
-/// There is no round trip exactly where none of the packets came; and one is that of a packet that came,
-/// whose number is at least that of each other that came.
+/// There is no round trip exactly where none of the packets came; and one is that of a packet that
+/// came, whose number is at least that of each other that came.
 pub fn round_trip_is_of_the_greatest()
     ensures { RoundTripIsOfTheGreatest }
 {}
 
-/// A report that was built, written, read again and taken in tells, of the packets sent, which came and
-/// when, as the wire holds it.
+/// A report that was built, written, read again and taken in tells, of the packets sent, which came
+/// and when, as the wire holds it.
 pub fn reports_come_back()
     ensures { ReportsComeBack }
 {

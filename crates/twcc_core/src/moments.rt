@@ -62,9 +62,9 @@ fn moments_after(
     Ok(moments)
 }
 
-/// When each packet came that feedback speaks of, from the first number on, None where it did not. The
-/// moments are the receiver's, in steps of 250 us from its beginning, and come round with the reference
-/// time after 2^24 steps of 64 ms.
+/// When each packet came that feedback speaks of, from the first number on, None where it did not.
+/// The moments are the receiver's, in steps of 250 us from its beginning, and come round with the
+/// reference time after 2^24 steps of 64 ms.
 pub fn arrivals(alloc: Global, twcc: &Twcc) -> Result<Listed<Option<Instant>>, AllocError>
     ensures { IfOk result (λ moments. moments ≡ moments_of twcc.now) }
 {

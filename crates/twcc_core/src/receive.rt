@@ -6,11 +6,11 @@ ghost use Rattle.std.specs.List.Sorted.{IsStrictlySortedBy};
 ghost use Rattle.std.specs.Map.{keys_of};
 ghost use Rattle.twcc_core.specs.Reports.{arrival_of, greatest_of, first_counted, delta_of, row_of, with_last, rows_from, rows_within, report_rows, report_with, missing_from, share_between, loss_of};
 
-use crate::feedback::signed;
 use crate::moments::{DELTA_NANOS, REFERENCE_NANOS};
 use crate::size::Size;
 use crate::{PacketStatus, Share, StatusList, Twcc};
 use media_units::Instant;
+use rtp_base::wire::signed;
 use rtp_base::{SeqNo, Ssrc};
 use std::alloc::{AllocError, Global};
 use std::collections::BTreeMap;
@@ -26,8 +26,8 @@ const REPORT_SPAN: u64 = 65_534;
 /// How far below the greatest the numbers are of which the loss is told.
 const LOSS_SPAN: u64 = 99;
 
-/// Packets received, of which reports are made. Numbers more than 32,768 below the greatest are let go,
-/// so at most 32,769 are held.
+/// Packets received, of which reports are made. Numbers more than 32,768 below the greatest are let
+/// go, so at most 32,769 are held.
 #[derive(Drop)]
 pub struct TwccRecvRegister {
     arrivals: BTreeMap<u64, Instant>,
@@ -111,9 +111,9 @@ impl TwccRecvRegister {
         }
     }
 
-    /// Takes in a packet that came. Of two arrivals of a number the first counts, and a number more than
-    /// 32,768 below the greatest is passed over. It takes a few look-ups among the numbers held; over
-    /// many calls each number is let go once. Without memory nothing changes.
+    /// Takes in a packet that came. Of two arrivals of a number the first counts, and a number more
+    /// than 32,768 below the greatest is passed over. It takes a few look-ups among the numbers
+    /// held; over many calls each number is let go once. Without memory nothing changes.
     #[tactic(auto, using(crate::proofs::Keeping::put_stands, crate::proofs::Keeping::passed_below, crate::proofs::Keeping::passed_again))]
     pub fn update_seq(&mut self, seq: SeqNo, now: Instant) -> Result<(), AllocError>
         ensures ok { OnOk result ((past : Receiving) → StandsFor self.old past → StandsFor self.new (with_arrival past seq now)) }
@@ -282,11 +282,11 @@ impl TwccRecvRegister {
         }
     }
 
-    /// The next report, of at most so many bytes with its header: from the lowest unreported number to
-    /// the greatest, at most 65,535, and up to the first arrival whose delta leaves 16 bits. What was
-    /// reported is told again only behind a number that comes late, and is not unreported again. The
-    /// reference time is that of the first arrival, rounded down. None where nothing is unreported or
-    /// not one number fits, which takes 24 bytes. Without memory nothing changes.
+    /// The next report, of at most so many bytes with its header: from the lowest unreported number
+    /// to the greatest, at most 65,535, and up to the first arrival whose delta leaves 16 bits.
+    /// What was reported is told again only behind a number that comes late, and is not unreported
+    /// again. The reference time is that of the first arrival, rounded down. None where nothing is
+    /// unreported or not one number fits, which takes 24 bytes. Without memory nothing changes.
     #[tactic(auto, using(crate::proofs::Reported::none_report, crate::proofs::Reported::none_after))]
     pub fn build_report(
         &mut self,
@@ -339,8 +339,8 @@ impl TwccRecvRegister {
         }
     }
 
-    /// What is missing of the last 100 numbers, up to the greatest; numbers below the lowest that came
-    /// do not count. None where no packet came.
+    /// What is missing of the last 100 numbers, up to the greatest; numbers below the lowest that
+    /// came do not count. None where no packet came.
     #[tactic(auto, using(crate::proofs::Keeping::loss_told, crate::proofs::Keeping::no_loss_told, crate::proofs::Keeping::never_loss_told))]
     pub fn loss(&self) -> Option<Share>
         ensures { (past : Receiving) → StandsFor self.now past → result ≡ loss_of past.arrivals }

@@ -156,8 +156,8 @@ impl TwccSendRegister {
         }
     }
 
-    /// Takes in a packet that was sent. Of more than 1,000 the first is let go. Without memory nothing
-    /// changes.
+    /// Takes in a packet that was sent. Of more than 1,000 the first is let go. Without memory
+    /// nothing changes.
     pub fn register_seq(
         &mut self,
         id: TwccPacketId,
@@ -225,8 +225,8 @@ impl TwccSendRegister {
             .partition_point(|record| record.number().saturating_sub(number) < span)
     }
 
-    // Between which places the records of so many numbers in a row stand: found by bisection where all
-    // records are in order, else anywhere.
+    // Between which places the records of so many numbers in a row stand: found by bisection where
+    // all records are in order, else anywhere.
     #[tactic(auto, using(crate::proofs::Within::anywhere, crate::proofs::Within::between, crate::proofs::Rising::all_rise))]
     fn places(&self, first: u64, count: usize) -> (usize, usize)
         ensures { IsWithin first count self.now.records result.0 result.1 }
@@ -275,10 +275,10 @@ impl TwccSendRegister {
         Ok(told)
     }
 
-    /// Takes in a report, whose first number is the one nearest to the last that was sent, and gives the
-    /// records of the packets that it tells and that are still held, in order of sending. It finds these by
-    /// halving where numbers rose in the order of sending, else among all that are held, at most 1,000, and
-    /// notes what it tells of them. Without memory nothing changes.
+    /// Takes in a report, whose first number is the one nearest to the last that was sent, and
+    /// gives the records of the packets that it tells and that are still held, in order of sending.
+    /// It finds these by halving where numbers rose in the order of sending, else among all that
+    /// are held, at most 1,000, and notes what it tells of them. Without memory nothing changes.
     #[tactic(auto, unfolding(crate::specs::Sending::told_by, crate::specs::Sending::after_applied))]
     pub fn apply_report(
         &mut self,
@@ -300,8 +300,8 @@ impl TwccSendRegister {
         Ok(Listed::from_vec(told))
     }
 
-    /// What is missing of the packets of which the last report was taken in so long before now or later.
-    /// None where there are none.
+    /// What is missing of the packets of which the last report was taken in so long before now or
+    /// later. None where there are none.
     #[tactic(auto, unfolding(crate::specs::Sending::sent_loss))]
     pub fn loss(&self, window: Duration, now: Instant) -> Option<Share>
         ensures { result ≡ sent_loss (now - window) self.now.records }
@@ -335,9 +335,10 @@ impl TwccSendRegister {
             .count() as u64
     }
 
-    /// How long it took from sending the packet of the greatest number among those that the last report
-    /// says came and that are still held, to that report. Of two sent with one number it is the later.
-    /// None where the report tells of none that came and is still held, and before any report.
+    /// How long it took from sending the packet of the greatest number among those that the last
+    /// report says came and that are still held, to that report. Of two sent with one number it is
+    /// the later. None where the report tells of none that came and is still held, and before any
+    /// report.
     pub fn rtt(&self) -> Option<Duration>
         ensures { result ≡ self.now.trip }
     {

@@ -10,7 +10,8 @@ use crate::{StatusIter, StatusList};
 use rtp_base::wire::{half, put};
 use std::alloc::AllocError;
 
-/// What feedback says of a packet (draft-holmer-rmcat-transport-wide-cc-extensions-01 section 3.1.1).
+/// What feedback says of a packet (draft-holmer-rmcat-transport-wide-cc-extensions-01 section
+/// 3.1.1).
 #[derive(Clone, Copy, Debug, PartialEq, Eq)]
 pub enum PacketStatus {
     NotReceived,
@@ -84,8 +85,8 @@ fn read_status(symbol: u8, bytes: &[u8]) -> Option<(PacketStatus, &[u8])>
     }
 }
 
-// Adds what a symbol says so often, with the deltas one after another, and gives what follows them, or
-// None where the bytes end before.
+// Adds what a symbol says so often, with the deltas one after another, and gives what follows them,
+// or None where the bytes end before.
 pub(crate) fn read_run<'a>(
     rows: &mut StatusList,
     symbol: u8,
@@ -105,8 +106,8 @@ pub(crate) fn read_run<'a>(
     Ok(Some(rest))
 }
 
-// Adds what symbols say, with the deltas one after another, and gives what follows them, or None where
-// the bytes end before.
+// Adds what symbols say, with the deltas one after another, and gives what follows them, or None
+// where the bytes end before.
 pub(crate) fn read_statuses<'a>(
     rows: &mut StatusList,
     symbols: &[u8],

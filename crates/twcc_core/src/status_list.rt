@@ -54,9 +54,9 @@ fn add_row(runs: &mut Vec<Run>, row: PacketStatus) -> Result<(), AllocError>
     Ok(())
 }
 
-/// What feedback says of packets in a row, a row for each. Rows that tell no arrival are held in runs of
-/// up to 65,536, so it takes 4 bytes for each packet that came and for each gap. Contracts see the list
-/// of rows.
+/// What feedback says of packets in a row, a row for each. Rows that tell no arrival are held in
+/// runs of up to 65,536, so it takes 4 bytes for each packet that came and for each gap. Contracts
+/// see the list of rows.
 #[derive(Debug, Drop)]
 pub struct StatusList {
     runs: Vec<Run>,

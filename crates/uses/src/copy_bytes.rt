@@ -1,6 +1,6 @@
 //! All bytes of a source, written to a sink.
-ghost use Rattle.std.specs.Prelude.{◌≡◌, ◌<◌, List, ℕ, length, IfOk, IsErrOf};
-ghost use Rattle.std.specs.Io.KnownBytes.{Appends};
+ghost use Rattle.std.specs.Prelude.{◌≡◌, ◌<◌, ◌≤◌, List, ℕ, length, IfOk, IsErrOf};
+ghost use Rattle.std.specs.Io.KnownBytes.{Appends, Consumes};
 ghost use Rattle.media_base.specs.Causes.{ReadsAll};
 ghost use Rattle.media_base.specs.declared.source.ReadError.TheVariants.{TooLong};
 
@@ -20,7 +20,10 @@ pub fn copy_all<S: Source, K: Sink>(
     ensures copied { IfOk result (λ count. (bytes : List ℕ) × (length bytes ≡ count)
         × ReadsAll (S.left source.old) (S.left source.new) bytes
         × Appends (K.written sink.old) (K.written sink.new) bytes) }
-    ensures long { IsErrOf result TooLong → K.written sink.new ≡ K.written sink.old }
+    ensures short { IfOk result (λ count. count ≤ 1000000) }
+    ensures long { IsErrOf result TooLong → (K.written sink.new ≡ K.written sink.old)
+        × ((bytes : List ℕ) × Consumes (S.left source.old) (S.left source.new) bytes
+        × (1000000 < length bytes)) }
 {
     let bytes = read_all(alloc, source, 1_000_000)?;
     write_all(sink, bytes.as_slice())?;

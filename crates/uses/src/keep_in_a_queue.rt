@@ -1,8 +1,8 @@
 //! What was sent, kept in a queue by rising position.
 ghost use Rattle.std.specs.Prelude.{◌≡◌, is_some, IfOk};
-ghost use Rattle.std.specs.Bool.{OnFalse};
+ghost use Rattle.std.specs.Bool.{OnFalse, OnTrue};
 ghost use Rattle.resend_core.specs.ResendStore.{made, IsPushedInto};
-ghost use Rattle.queue_store.specs.Queue.{StandsFor, value_at};
+ghost use Rattle.queue_store.specs.Queue.{StandsFor, value_at, with_value};
 
 use media_units::{Duration, Instant};
 use queue_store::QueueStore;
@@ -27,6 +27,7 @@ pub fn queue_of_one(
 /// Puts another value under a position where one is kept, and tells whether one was.
 pub fn replace(queue: &mut QueueStore<u32>, position: u64, value: u32) -> bool
     ensures found { result ≡ is_some (value_at queue.old position) }
+    ensures replaced { OnTrue result (queue.new ≡ with_value queue.old position value) }
     ensures unchanged { OnFalse result (queue.new ≡ queue.old) }
 {
     match queue.get_mut(position) {

@@ -1,6 +1,6 @@
 //! A packet that is written on a stream and sealed after the next tick.
-ghost use Rattle.std.specs.Prelude.{◌≡◌, IfOk, OnOk, IsErrOf};
-ghost use Rattle.stream_core.specs.TxRecord.{written, after_timeout, after_poll, polled, IsTooLong};
+ghost use Rattle.std.specs.Prelude.{◌≡◌, IfOk, OnOk, OnErr, IsErrOf};
+ghost use Rattle.stream_core.specs.TxRecord.{written, after_timeout, after_poll, polled, transport_after_poll, IsTooLong};
 ghost use Rattle.stream_core.specs.declared.write.WriteError.TheVariants.{PayloadTooLong};
 
 use media_units::Instant;
@@ -19,6 +19,9 @@ pub fn write_and_poll(
         ≡ polled (after_timeout now (written write stream.old)) transport.old now) }
     ensures after { OnOk result (stream.new
         ≡ after_poll (after_timeout now (written write stream.old))) }
+    ensures counted { OnOk result (transport.new
+        ≡ transport_after_poll (after_timeout now (written write stream.old)) transport.old) }
+    ensures uncounted { OnErr result (transport.new ≡ transport.old) }
     ensures long { IsTooLong write → IsErrOf result PayloadTooLong }
 {
     stream.write_rtp(write)?;

@@ -33,6 +33,7 @@ pub fn round_trip(
     now: Instant,
 ) -> Result<Option<Duration>, AllocError>
     ensures trip { IfOk result (λ trip. trip ≡ (after_applied register.old now report.now).trip) }
+    ensures after { OnOk result (register.new ≡ after_applied register.old now report.now) }
     ensures unchanged { OnErr result (register.new ≡ register.old) }
 {
     register.apply_report(alloc, now, report)?;

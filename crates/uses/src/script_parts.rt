@@ -65,9 +65,9 @@ pub fn local(ssrc: u32) -> Local
     }
 }
 
-/// A setup with the toy cipher, the profile of 128 bits and keys of zeros, whose moment 0 is the Unix
-/// epoch, without header extensions. The MTU, the threshold of pauses, the intervals of reports
-/// and what each side alone brings are those of a script without a line for them.
+/// A setup with the toy cipher, the profile of 128 bits and keys of zeros, whose moment 0 is the
+/// Unix epoch, without header extensions. The MTU, the threshold of pauses, the intervals of
+/// reports and what each side alone brings are those of a script without a line for them.
 pub fn setup(alloc: Global, types: Vec<PayloadType>, media: Vec<Media>) -> Setup
     ensures { result ≡ record {
       cipher = CipherName.Toy;
@@ -143,7 +143,8 @@ pub fn tick(side: Side, time: Instant) -> Step
     Step::Tick { side, time }
 }
 
-/// The step in which a side gets what the other one sealed as its so manieth datagram, from 1.
+/// The step in which a side gets the datagram that the other one sealed under this number, counted
+/// from 1.
 pub fn deliver(side: Side, time: Instant, datagram: u64) -> Step
     ensures { result ≡ Step.Deliver side time datagram }
 {

@@ -1,7 +1,8 @@
 //! A packet that the peer misses, sent again under the SSRC of repairs.
-ghost use Rattle.std.specs.Prelude.{◌≡◌, [], Some, IfOk, IfSome, OnOk};
+ghost use Rattle.std.specs.Prelude.{◌≡◌, [], Some, is_some, if◌then◌else◌, IfOk, IfSome, OnOk, OnErr};
 ghost use Rattle.stream_core.specs.StreamsRecord.{StreamsRecord, StandsFor};
 ghost use Rattle.stream_core.specs.Tables.{value_under};
+ghost use Rattle.stream_core.specs.Sealing.{after_packet};
 ghost use Rattle.stream_core.specs.TxRecord.{TxRecord};
 ghost use Rattle.uses.specs.SendingAgain.{with_kept, SendsAgain};
 
@@ -13,8 +14,8 @@ use rtx_core::ResendError;
 use std::alloc::AllocError;
 use stream_core::{PacketReceipt, PayloadTypes, Sent, Streams, Transport};
 
-/// Declares a stream that keeps 100 packets of the last 3 s, and sends them again under the SSRC `rtx`
-/// and numbers from 1 on.
+/// Declares a stream that keeps 100 packets of the last 3 s, and sends them again under the SSRC
+/// `rtx` and numbers from 1 on.
 pub fn declare<W: GapWindow, S: ResendStore<Sent>>(
     streams: &mut Streams<W, S>,
     ssrc: Ssrc,
@@ -29,8 +30,8 @@ pub fn declare<W: GapWindow, S: ResendStore<Sent>>(
     Ok(())
 }
 
-/// Takes in a NACK for packets of a stream, and gives what is to be sealed next on it: where no packet
-/// waits, nothing but a repair.
+/// Takes in a NACK for packets of a stream, and gives what is to be sealed next on it: where no
+/// packet waits, nothing but a repair.
 pub fn send_again<W: GapWindow, S: ResendStore<Sent>>(
     streams: &mut Streams<W, S>,
     ssrc: Ssrc,
@@ -45,6 +46,9 @@ pub fn send_again<W: GapWindow, S: ResendStore<Sent>>(
     ensures repair { IfOk result (λ o. IfSome o (λ p. (r : StreamsRecord) (x : TxRecord)
         → StandsFor W.remembers S.stands_for streams.old r → value_under ssrc r.tx ≡ Some x → x.queue ≡ []
         → x.rtx ≡ Some p.header.ssrc)) }
+    ensures counted { IfOk result (λ o. transport.new
+        ≡ (if is_some o then after_packet transport.old else transport.old)) }
+    ensures uncounted { OnErr result (transport.new ≡ transport.old) }
 {
     let Some(place) = streams.tx_place(ssrc) else {
         return Ok(None);

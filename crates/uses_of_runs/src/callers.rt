@@ -22,8 +22,8 @@ fn a_run_is_played(rt: HostRuntime) -> Result<(), Fail> {
     Ok(())
 }
 
-// The packet 2 is lost, asked for and sent again under the SSRC 43 (RFC 4588 section 4); or a repair
-// comes of a packet 5 that the other side never sent.
+// The packet 2 is lost, asked for and sent again under the SSRC 43 (RFC 4588 section 4); or a
+// repair comes of a packet 5 that the other side never sent.
 const REPAIRED: &str = "str0m-media 1
 key zero
 type 96 vp8 90000 rtx=97

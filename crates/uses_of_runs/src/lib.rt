@@ -1,5 +1,5 @@
-//! Callers of the runs of two sessions, as those of `uses`, in a crate of its own, so that the callers of
-//! sessions do not stand above runs.
+//! Callers of the runs of two sessions, as those of `uses`, in a crate of its own, so that the
+//! callers of sessions do not stand above runs.
 #![tactic(auto)]
 
 #[cfg(test)]

@@ -6,8 +6,8 @@ use media_play::media_run;
 use srtp_core::ToyCipher;
 use std::alloc::Global;
 
-/// What happens where the sessions of a setup play these steps under the toy cipher, up to a step that
-/// is not played.
+/// What happens where the sessions of a setup play these steps under the toy cipher, up to a step
+/// that is not played.
 pub fn played(alloc: Global, setup: &Setup, steps: &[Step]) -> Transcript
     ensures nonces { NoNonceTwice result }
     ensures once { NoPacketTwice result }

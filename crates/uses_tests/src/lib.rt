@@ -1,4 +1,5 @@
-//! The tests of callers of library crates: each caller once, with ample memory. What a clause says is not tested.
+//! The tests of callers of library crates: each caller once, with ample memory. What a clause says
+//! is not tested.
 #![tactic(auto)]
 
 #[cfg(test)]

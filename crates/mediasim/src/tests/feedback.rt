@@ -8,8 +8,8 @@ use media_model::Side;
 use std::alloc::Global;
 use std::test::Fail;
 
-// The feedback of an application in a sealed datagram, of index 0: the toy cipher's keystream and tag
-// under a key of zeros.
+// The feedback of an application in a sealed datagram, of index 0: the toy cipher's keystream and
+// tag under a key of zeros.
 const SEALED_FEEDBACK: &str =
     "8fce0003000000010000002a010303028ecc030700010007800000000000002b80000000";
 
@@ -50,15 +50,15 @@ const RTCP_RUNS: [(&str, &str, &str); 9] = [
         "ask B 1 42 fir\ntick B 1\n",
         "called B ask\nticked B 1\nsealed B rtcp 2 0 84ce000400000002000000000002002c0000000084ce002e00020004800000000000000180000000\nend genuine=yes repairs=yes\n",
     ),
-    // The greatest rate of 42, 1,000,000 bit/s (draft-alvestrand-rmcat-remb section 2.2): the mantissa 250,000 and the
-    // exponent 2.
+    // The greatest rate of 42, 1,000,000 bit/s (draft-alvestrand-rmcat-remb section 2.2): the
+    // mantissa 250,000 and the exponent 2.
     (
         "",
         "remb B 1 42 1000000\ntick B 1\n",
         "called B remb\nticked B 1\nsealed B rtcp 2 0 8fce0005000000020000000052474d44010bd09000000028dd8b4d470109d0948000002a0000000180000000\nend genuine=yes repairs=yes\n",
     ),
-    // The last request and the last rate leave, in this order, in the next tick alone; a rate is at most 10 Gbit/s:
-    // the mantissa 152,587 and the exponent 16.
+    // The last request and the last rate leave, in this order, in the next tick alone; a rate is at
+    // most 10 Gbit/s: the mantissa 152,587 and the exponent 16.
     (
         "",
         "ask B 1 42 pli\nremb B 1 42 2000000\nask B 2 42 fir\nremb B 2 42 10000000000000\ntick B 3\ntick B 4\n",
@@ -72,7 +72,8 @@ const RTCP_RUNS: [(&str, &str, &str); 9] = [
     ),
 ];
 
-// Whether a run after these setup lines more, of these steps, says this, where SEALED is that feedback.
+// Whether a run after these setup lines more, of these steps, says this, where SEALED is that
+// feedback.
 fn is_run(alloc: Global, lines: &str, steps: &str, text: &str) -> Result<bool, Fail> {
     let (report, sink) = ran_on(alloc, script_with(alloc, lines, steps)?)?;
     let text = text.replace(alloc, "SEALED", SEALED_FEEDBACK)?;
@@ -126,8 +127,8 @@ const BY_PROFILE: [Run; 6] = [
     ),
 ];
 
-// The last index, and the first behind it; of feedback of an application, and of a receiver's reports, from the
-// SSRC that its side sends on.
+// The last index, and the first behind it; of feedback of an application, and of a receiver's
+// reports, from the SSRC that its side sends on.
 const USED_UP: [Run; 3] = [
     (
         "rtcp A 2147483648\n",

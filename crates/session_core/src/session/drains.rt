@@ -32,7 +32,8 @@ fn cut_off(error: RtcError, events: Vec<Event>, datagrams: Vec<Datagram>) -> Dra
 }
 
 impl<C: SrtpCipher, W: GapWindow, S: ResendStore<Sent>> Session<C, W, S> {
-    /// Takes all that the session tells, behind what was taken before. Room is reserved before each event.
+    /// Takes all that the session tells, behind what was taken before. Room is reserved before each
+    /// event.
     fn take_events(&mut self, sofar: &mut Vec<Event>) -> Result<(), AllocError>
         requires none { sofar.old.items ≡ [] }
         ensures taken { OnOk result ((r : SessionRecord) → StandsFor W.remembers S.stands_for self.old r
@@ -52,8 +53,8 @@ impl<C: SrtpCipher, W: GapWindow, S: ResendStore<Sent>> Session<C, W, S> {
         }
     }
 
-    /// Whether polls have come behind the last stream and nothing else leaves at a moment: then what is
-    /// asked for later waits for a tick.
+    /// Whether polls have come behind the last stream and nothing else leaves at a moment: then
+    /// what is asked for later waits for a tick.
     fn ends(&mut self, now: Instant) -> bool
         ensures ended { OnTrue result ((r : SessionRecord) → StandsFor W.remembers S.stands_for self.old r
             → (after : SessionRecord) × NextDatagram C.meaning now r after None × StandsFor W.remembers S.stands_for self.new after) }
@@ -96,13 +97,13 @@ impl<C: SrtpCipher, W: GapWindow, S: ResendStore<Sent>> Session<C, W, S> {
         }
     }
 
-    /// Takes all that the session tells and all that leaves, and when it wants a tick next. The time grows
-    /// with the number of streams.
+    /// Takes all that the session tells and all that leaves, and when it wants a tick next. The
+    /// time grows with the number of streams.
     ///
     /// # Errors
-    /// `Stopped` where an earlier call stopped the session; `KeyExhausted` where feedback is due behind the
-    /// last index of SRTCP datagrams; `RepairsExhausted` where a packet that is asked for is due and no
-    /// number is left for it; `Memory`; each with what was taken before.
+    /// `Stopped` where an earlier call stopped the session; `KeyExhausted` where feedback is due
+    /// behind the last index of SRTCP datagrams; `RepairsExhausted` where a packet that is asked
+    /// for is due and no number is left for it; `Memory`; each with what was taken before.
     pub fn drain(&mut self, now: Instant) -> Result<Drained, DrainFault>
         ensures stopped { IsTrue self.old.state.stopped → IsErrAnd result (λ fault. (fault.error ≡ Stopped)
             × (fault.sofar.events.items ≡ []) × (fault.sofar.datagrams.items ≡ [])) }

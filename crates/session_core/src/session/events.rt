@@ -15,10 +15,11 @@ use srtp_core::SrtpCipher;
 use stream_core::Sent;
 
 impl<C: SrtpCipher, W: GapWindow, S: ResendStore<Sent>> Session<C, W, S> {
-    /// What the session tells next, where there are keys: the feedback of an application that came last,
-    /// then which incoming streams were paused or unpaused, in order, then the packet that came last, then
-    /// for which outgoing streams the peer asks for key frames, whose senders reported of the incoming ones,
-    /// and at which rates the outgoing ones are to come at most, each if it was not told.
+    /// What the session tells next, where there are keys: the feedback of an application that came
+    /// last, then which incoming streams were paused or unpaused, in order, then the packet that
+    /// came last, then for which outgoing streams the peer asks for key frames, whose senders
+    /// reported of the incoming ones, and at which rates the outgoing ones are to come at most,
+    /// each if it was not told.
     pub fn poll_event(&mut self) -> Option<Event>
         ensures event { (r : SessionRecord) → StandsFor W.remembers S.stands_for self.old r → result ≡ next_event r }
         ensures after { (r : SessionRecord) → StandsFor W.remembers S.stands_for self.old r → StandsFor W.remembers S.stands_for self.new (after_event r) }
@@ -41,8 +42,8 @@ impl<C: SrtpCipher, W: GapWindow, S: ResendStore<Sent>> Session<C, W, S> {
         self.news.next()
     }
 
-    /// Takes what `poll_event` tells next, behind what was taken before, and answers whether more may wait:
-    /// mostly a packet is told last.
+    /// Takes what `poll_event` tells next, behind what was taken before, and answers whether more
+    /// may wait: mostly a packet is told last.
     pub(super) fn take_event(&mut self, sofar: &mut Vec<Event>) -> bool
         requires room { vec_len sofar.old < vec_capacity sofar.old }
         ensures more { OnTrue result ((r : SessionRecord) → StandsFor W.remembers S.stands_for self.old r

@@ -37,17 +37,18 @@ use stream_core::{Payload, Sent};
 
 impl<C: SrtpCipher, W: GapWindow, S: ResendStore<Sent>> Session<C, W, S> {
     /// Takes in an RTP datagram that came, and tells what it opened to; its packet is told by
-    /// `poll_event`, but for SSRC 0. A repair (RFC 4588), which comes under the SSRC of a stream's repairs,
-    /// or under the stream's own with a type of repairs, tells the packet that it restores, where that did
-    /// not come before. An SSRC that no incoming stream has, for its packets or its repairs, maps to a
-    /// stream by what the header carries (RFC 8843 section 9.2, RFC 8852, RFC 4588 section 8), which is
-    /// taken up once the datagram opened: a stream is declared, or has another SSRC from then on. One that
-    /// stays unknown opens as padding of a stream to come, where nothing else is in it. None where it does
-    /// not open, and then nothing changes: where it has no header, or more than 2,000 bytes; where its SSRC
-    /// is no incoming stream's or its repairs', nor 0, and maps to none, or its payload type is not known;
-    /// where its number was taken, or is too old; where its tag does not hold, there are no keys, or it does
-    /// not end in the padding that its header tells of. The time of a datagram whose SSRC is unknown grows
-    /// with the number of media sections, of their rids, of types and of streams.
+    /// `poll_event`, but for SSRC 0. A repair (RFC 4588), which comes under the SSRC of a stream's
+    /// repairs, or under the stream's own with a type of repairs, tells the packet that it
+    /// restores, where that did not come before. An SSRC that no incoming stream has, for its
+    /// packets or its repairs, maps to a stream by what the header carries (RFC 8843 section 9.2,
+    /// RFC 8852, RFC 4588 section 8), which is taken up once the datagram opened: a stream is
+    /// declared, or has another SSRC from then on. One that stays unknown opens as padding of a
+    /// stream to come, where nothing else is in it. None where it does not open, and then nothing
+    /// changes: where it has no header, or more than 2,000 bytes; where its SSRC is no incoming
+    /// stream's or its repairs', nor 0, and maps to none, or its payload type is not known; where
+    /// its number was taken, or is too old; where its tag does not hold, there are no keys, or it
+    /// does not end in the padding that its header tells of. The time of a datagram whose SSRC is
+    /// unknown grows with the number of media sections, of their rids, of types and of streams.
     ///
     /// # Errors
     /// `Stopped` where an earlier call stopped the session; `Memory`.
@@ -106,8 +107,8 @@ impl<C: SrtpCipher, W: GapWindow, S: ResendStore<Sent>> Session<C, W, S> {
         self.streams.map(rids, self.types.claims(), header)
     }
 
-    /// Takes in a datagram that begins with this header, of an SSRC that maps to a stream: where it opens as
-    /// one of that stream, that is taken up.
+    /// Takes in a datagram that begins with this header, of an SSRC that maps to a stream: where it
+    /// opens as one of that stream, that is taken up.
     fn receive_mapped(
         &mut self,
         now: Instant,
@@ -186,8 +187,8 @@ impl<C: SrtpCipher, W: GapWindow, S: ResendStore<Sent>> Session<C, W, S> {
         }
     }
 
-    /// Takes in a datagram that begins with this header, of an SSRC that stays unknown: it opens as padding of
-    /// a stream that is not known yet, or not at all.
+    /// Takes in a datagram that begins with this header, of an SSRC that stays unknown: it opens as
+    /// padding of a stream that is not known yet, or not at all.
     fn receive_padding(
         &mut self,
         bytes: &[u8],
@@ -250,7 +251,8 @@ impl<C: SrtpCipher, W: GapWindow, S: ResendStore<Sent>> Session<C, W, S> {
         self.receive_under(now, bytes, header)
     }
 
-    /// A packet that opened under a number comes on the stream at a place, or with none on that of SSRC 0.
+    /// A packet that opened under a number comes on the stream at a place, or with none on that of
+    /// SSRC 0.
     fn take_packet(
         &mut self,
         now: Instant,
@@ -307,8 +309,8 @@ impl<C: SrtpCipher, W: GapWindow, S: ResendStore<Sent>> Session<C, W, S> {
         Ok(())
     }
 
-    /// A repair of the stream at a place restores the packet whose number has these low 16 bits, with
-    /// what it carries.
+    /// A repair of the stream at a place restores the packet whose number has these low 16 bits,
+    /// with what it carries.
     fn restore(
         &mut self,
         now: Instant,
@@ -343,8 +345,8 @@ impl<C: SrtpCipher, W: GapWindow, S: ResendStore<Sent>> Session<C, W, S> {
         Ok(())
     }
 
-    /// A repair of the stream at a place restores a packet with what it carries, where the low 16 bits of
-    /// the packet's number stand in front of that.
+    /// A repair of the stream at a place restores a packet with what it carries, where the low 16
+    /// bits of the packet's number stand in front of that.
     fn restore_packet(
         &mut self,
         now: Instant,
@@ -445,22 +447,22 @@ impl<C: SrtpCipher, W: GapWindow, S: ResendStore<Sent>> Session<C, W, S> {
         }))
     }
 
-    /// Takes in an RTCP datagram that came, and tells what it opened to: its NACKs ask for packets that
-    /// were sent, which may leave again after the next tick, its reception blocks acknowledge streams
-    /// without repairs and tell what was lost to those that keep that, its sender reports are kept for
-    /// the reports of their streams and its descriptions of sources as their names, its moments of
-    /// receivers wait for an answer, its last item that tells how long ago a moment of this session came
-    /// in gives the round trip of the incoming streams, its last feedback of an application, its
-    /// requests for key frames, its sender reports and its greatest rates are told by `poll_event`. None
-    /// where it does not open, and then nothing changes: where it is shorter than a packet of 8 bytes
-    /// and what seals it, where its tag does not hold, and without keys. One that comes again opens
-    /// again. The time grows with its items and the numbers that they name, with the number of incoming
-    /// streams where one gives the round trip, and with the blocks since losses were last looked at
-    /// where a stream keeps them.
+    /// Takes in an RTCP datagram that came, and tells what it opened to: its NACKs ask for packets
+    /// that were sent, which may leave again after the next tick, its reception blocks acknowledge
+    /// streams without repairs and tell what was lost to those that keep that, its sender reports
+    /// are kept for the reports of their streams and its descriptions of sources as their names,
+    /// its moments of receivers wait for an answer, its last item that tells how long ago a moment
+    /// of this session came in gives the round trip of the incoming streams, its last feedback of
+    /// an application, its requests for key frames, its sender reports and its greatest rates are
+    /// told by `poll_event`. None where it does not open, and then nothing changes: where it is
+    /// shorter than a packet of 8 bytes and what seals it, where its tag does not hold, and without
+    /// keys. One that comes again opens again. The time grows with its items and the numbers that
+    /// they name, with the number of incoming streams where one gives the round trip, and with the
+    /// blocks since losses were last looked at where a stream keeps them.
     ///
     /// # Errors
-    /// `Stopped` where an earlier call stopped the session; `Memory`, and then streams that send were told
-    /// nothing, or the items in front.
+    /// `Stopped` where an earlier call stopped the session; `Memory`, and then streams that send
+    /// were told nothing, or the items in front.
     pub fn handle_rtcp_receive(
         &mut self,
         now: Instant,

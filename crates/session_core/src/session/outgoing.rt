@@ -39,8 +39,8 @@ fn cause(error: ResendError, rtx: Option<Ssrc>) -> RtcError
 }
 
 impl<C: SrtpCipher, W: GapWindow, S: ResendStore<Sent>> Session<C, W, S> {
-    /// Queues feedback of an application (RFC 4585 section 6.4): whole words of 4 bytes, at most 800 bytes.
-    /// It leaves at the next poll behind what waits.
+    /// Queues feedback of an application (RFC 4585 section 6.4): whole words of 4 bytes, at most
+    /// 800 bytes. It leaves at the next poll behind what waits.
     ///
     /// # Errors
     /// `Stopped` where an earlier call stopped the session; `Memory`.
@@ -89,17 +89,18 @@ impl<C: SrtpCipher, W: GapWindow, S: ResendStore<Sent>> Session<C, W, S> {
         self.feedback.clear();
     }
 
-    /// The datagram that leaves next: where feedback waits, the compound of the first items that fit the
-    /// target; else of the first stream, in order of declaration, that has a packet written before the last
-    /// tick, or one that is asked for since before it, and whose mid is a media section's: first what is
-    /// asked for, as far as it is kept and its cap is not met (RFC 4588), then the packets that wait. None
-    /// where there is no such stream, at moment 0 and without keys; a compound that is due without keys is
-    /// lost.
+    /// The datagram that leaves next: where feedback waits, the compound of the first items that
+    /// fit the target; else of the first stream, in order of declaration, that has a packet written
+    /// before the last tick, or one that is asked for since before it, and whose mid is a media
+    /// section's: first what is asked for, as far as it is kept and its cap is not met (RFC 4588),
+    /// then the packets that wait. None where there is no such stream, at moment 0 and without
+    /// keys; a compound that is due without keys is lost.
     ///
     /// # Errors
-    /// `Stopped` where an earlier call stopped the session; `KeyExhausted` exactly where feedback is due
-    /// behind the last index of SRTCP datagrams; `RepairsExhausted` where a packet that is asked for is due
-    /// and its stream has no number left for it; `Memory`. All but the first stop the session.
+    /// `Stopped` where an earlier call stopped the session; `KeyExhausted` exactly where feedback
+    /// is due behind the last index of SRTCP datagrams; `RepairsExhausted` where a packet that is
+    /// asked for is due and its stream has no number left for it; `Memory`. All but the first stop
+    /// the session.
     pub fn poll_datagram(&mut self, now: Instant) -> Result<Option<Datagram>, RtcError>
         ensures stopped { IsErrOf result Stopped ↔ IsTrue self.old.state.stopped }
         ensures exhausted { IsErrOf result (KeyExhausted counter.Rtcp)

@@ -14,14 +14,14 @@ use crate::error::RtcError;
 use crate::reporting::{
     ReportTime, SenderItems, answered_where, report_all, sender_items, tell_kinds,
 };
-use media_units::{Duration, Instant, InstantExt, already_happened};
+use media_units::{Duration, Instant, InstantExt, already_happened, earlier};
 use repair_core::GapWindow;
 use resend_core::ResendStore;
 use rtcp_wire::{Rtcp, items_fit_by_lengths};
 use rtp_base::{Mid, Ssrc};
 use srtp_core::SrtpCipher;
 use std::alloc::AllocError;
-use stream_core::{Sent, Tick, sooner};
+use stream_core::{Sent, Tick};
 
 /// The least time between two rounds that ask for what is missing, in nanoseconds.
 const NACK_MIN_INTERVAL: u64 = 33_000_000;
@@ -57,12 +57,12 @@ impl<C: SrtpCipher, W: GapWindow, S: ResendStore<Sent>> Session<C, W, S> {
         }
     }
 
-    /// When the next report is due, where there is a stream: of an outgoing one whose kind was not told it
-    /// is a moment that never comes.
+    /// When the next report is due, where there is a stream: of an outgoing one whose kind was not
+    /// told it is a moment that never comes.
     fn reports_at(&self) -> Option<Instant>
         ensures { (r : SessionRecord) → StandsFor W.remembers S.stands_for self.now r → result ≡ reports_at r }
     {
-        sooner(
+        earlier(
             self.streams.receiver_reports_at(&self.intervals),
             self.streams.sender_reports_at(&self.intervals),
         )
@@ -79,18 +79,18 @@ impl<C: SrtpCipher, W: GapWindow, S: ResendStore<Sent>> Session<C, W, S> {
         }
     }
 
-    /// When the session wants a tick next: for reports, for requests of streams to their senders, for a round
-    /// that asks for what is missing, to pause a stream on which nothing comes, and at once where some packet
-    /// was written since the last tick; None where it waits for nothing. Packets that the peer asks for are no
-    /// reason: they leave from the next tick on, so a caller ticks after what it takes in. The time grows with
-    /// the number of streams.
+    /// When the session wants a tick next: for reports, for requests of streams to their senders,
+    /// for a round that asks for what is missing, to pause a stream on which nothing comes, and at
+    /// once where some packet was written since the last tick; None where it waits for nothing.
+    /// Packets that the peer asks for are no reason: they leave from the next tick on, so a caller
+    /// ticks after what it takes in. The time grows with the number of streams.
     pub fn poll_timeout(&self) -> Option<Instant>
         ensures { (r : SessionRecord) → StandsFor W.remembers S.stands_for self.now r → result ≡ wake_of r }
     {
-        let paused_at = sooner(self.streams.paused_at(), self.probes.paused_at());
-        let others_at = sooner(self.round_at(), sooner(paused_at, self.send_at()));
-        let feedback_at = sooner(self.reports_at(), self.requests_at());
-        sooner(feedback_at, others_at)
+        let paused_at = earlier(self.streams.paused_at(), self.probes.paused_at());
+        let others_at = earlier(self.round_at(), earlier(paused_at, self.send_at()));
+        let feedback_at = earlier(self.reports_at(), self.requests_at());
+        earlier(feedback_at, others_at)
     }
 
     /// At once, where some incoming stream asks its sender for something.
@@ -125,8 +125,8 @@ impl<C: SrtpCipher, W: GapWindow, S: ResendStore<Sent>> Session<C, W, S> {
         NACK_MIN_INTERVAL <= passed.as_nanos() && self.streams.any_nack_enabled()
     }
 
-    /// What outgoing streams report in a tick, and behind that the answers to the moments of at most 50
-    /// receivers, where some stream reports, which is told too.
+    /// What outgoing streams report in a tick, and behind that the answers to the moments of at
+    /// most 50 receivers, where some stream reports, which is told too.
     fn sender_items(&self, now: Instant, mids: &[Mid]) -> Result<SenderItems, AllocError>
         ensures items { IfOk result (λ made. mids.now ≡ due_senders now self.now.state → made.items.items ≡ sender_and_answers now self.now.state) }
         ensures some { IfOk result (λ made. made.some ≡ some_reports self.now.state.medias mids.now self.now.state.tx) }
@@ -181,24 +181,25 @@ impl<C: SrtpCipher, W: GapWindow, S: ResendStore<Sent>> Session<C, W, S> {
         Ok(())
     }
 
-    /// A tick. Of each incoming stream, in order, these are queued: its request for a key frame and the
-    /// greatest rate that it tells its sender, where they wait (RFC 4585 section 6.3.1, RFC 5104 section
-    /// 4.3.1, draft-alvestrand-rmcat-remb); its report and the moment of the receiver (RFC 3550 section
-    /// 6.4.2, RFC 3611 section 4.4), where the report of some stream of its media section is due; and where
-    /// the tick is a round, an item that asks for the numbers that are due (RFC 4585 section 6.2.1): it is
-    /// one where 33 ms passed since the last round and some incoming stream asks for what is missing. Then
-    /// of each outgoing stream, in order, its report and the description of its source (RFC 3550 sections
-    /// 6.4.1 and 6.5), where the report of some stream of its media section is due, and behind them all the
-    /// answers to the moments of at most 50 receivers, where some stream reported. Then the streams are
-    /// paused on which nothing came for their threshold, outgoing streams are told their kind, so that their
-    /// reports become due from the second tick on, and the packets that were written before the tick, and
-    /// those that peers asked for, may leave. The time grows with the number of streams and with that of the
-    /// packets that were written since the last tick; where reports are due, with the square of the number
-    /// of streams.
+    /// A tick. Of each incoming stream, in order, these are queued: its request for a key frame and
+    /// the greatest rate that it tells its sender, where they wait (RFC 4585 section 6.3.1, RFC
+    /// 5104 section 4.3.1, draft-alvestrand-rmcat-remb); its report and the moment of the receiver
+    /// (RFC 3550 section 6.4.2, RFC 3611 section 4.4), where the report of some stream of its media
+    /// section is due; and where the tick is a round, an item that asks for the numbers that are
+    /// due (RFC 4585 section 6.2.1): it is one where 33 ms passed since the last round and some
+    /// incoming stream asks for what is missing. Then of each outgoing stream, in order, its report
+    /// and the description of its source (RFC 3550 sections 6.4.1 and 6.5), where the report of
+    /// some stream of its media section is due, and behind them all the answers to the moments of
+    /// at most 50 receivers, where some stream reported. Then the streams are paused on which
+    /// nothing came for their threshold, outgoing streams are told their kind, so that their
+    /// reports become due from the second tick on, and the packets that were written before the
+    /// tick, and those that peers asked for, may leave. The time grows with the number of streams
+    /// and with that of the packets that were written since the last tick; where reports are due,
+    /// with the square of the number of streams.
     ///
     /// # Errors
-    /// `Stopped` where an earlier call stopped the session; `Memory`, in a round, or where reports are due
-    /// or requests wait: nothing is said then, and nothing else changes.
+    /// `Stopped` where an earlier call stopped the session; `Memory`, in a round, or where reports
+    /// are due or requests wait: nothing is said then, and nothing else changes.
     pub fn handle_timeout(&mut self, now: Instant) -> Result<(), RtcError>
         ensures stopped { IsErrOf result Stopped ↔ IsTrue self.old.state.stopped }
         ensures ok { OnOk result ((r : SessionRecord) → StandsFor W.remembers S.stands_for self.old r → StandsFor W.remembers S.stands_for self.new (after_timeout now r)) }

@@ -1,4 +1,5 @@
-//! Streams that begin anew under another SSRC: what waits, what is kept and asked for, and what the cap counts.
+//! Streams that begin anew under another SSRC: what waits, what is kept and asked for, and what the
+//! cap counts.
 use crate::carrying::Ids;
 use crate::repairs::steps::Out::{Again, First, Plain};
 use crate::repairs::steps::Step::{Asks, Declares, Hears, Keeps, Resets, Ticks, Writes};

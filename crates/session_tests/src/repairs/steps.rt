@@ -38,8 +38,8 @@ pub enum Step {
     Declares(u8),
     /// It sends on one more SSRC, with repairs on the next one from this number on.
     Repairs(u8, u64),
-    /// What is sent on an SSRC is sent under another one, with repairs on the next one from this number on, or
-    /// without repairs.
+    /// What is sent on an SSRC is sent under another one, with repairs on the next one from this
+    /// number on, or without repairs.
     Resets(u8, u8, Option<u64>),
     /// It keeps so many packets of SSRC 42, for so long, with so many hundredths of repairs.
     Keeps(usize, u64, Option<u32>),
@@ -104,8 +104,8 @@ fn is_rtp(datagram: &Datagram, low: u8, number: u64, plain: &[u8]) -> bool {
         && datagram.plain.as_slice() == plain
 }
 
-// Whether a datagram is of a type at RTP time 0 on this SSRC, of this number, with bytes between its header and
-// a payload (RFC 3550 section 5.1).
+// Whether a datagram is of a type at RTP time 0 on this SSRC, of this number, with bytes between
+// its header and a payload (RFC 3550 section 5.1).
 fn is_packet(
     alloc: Global,
     datagram: &Datagram,
@@ -353,7 +353,8 @@ fn goes(alloc: Global, end: &mut End, peer: &mut End, step: Step) -> bool {
     }
 }
 
-// Has an end send on SSRC 42, with repairs on SSRC 43 from a number on, and a peer receive on SSRC 42.
+// Has an end send on SSRC 42, with repairs on SSRC 43 from a number on, and a peer receive on SSRC
+// 42.
 fn prepare(alloc: Global, end: &mut End, peer: &mut End, first: u64) -> bool {
     let added = add_section(alloc, end, mid(), MediaKind::Video, b"cam");
     let declared = declare(end, 42, Some((43, first)), MidRid(mid(), Some(rid())));

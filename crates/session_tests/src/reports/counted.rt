@@ -1,6 +1,6 @@
-//! What a receiver counts of its packets (RFC 3550 sections 6.4.1, A.3 and A.8). Each report is that of SSRC
-//! 2 on SSRC 42: the fraction lost, all that were lost, the greatest number, the jitter, and no report of a
-//! sender; behind it stands the moment of the receiver.
+//! What a receiver counts of its packets (RFC 3550 sections 6.4.1, A.3 and A.8). Each report is
+//! that of SSRC 2 on SSRC 42: the fraction lost, all that were lost, the greatest number, the
+//! jitter, and no report of a sender; behind it stands the moment of the receiver.
 use crate::reports::steps::Row;
 use crate::reports::steps::Step::{Comes, Expects, Repaired, Tick};
 
@@ -22,8 +22,8 @@ const SIX_OF_EIGHT: &[u8] = &[
     0, 0, 0, 0, 0x80, 0xcf, 0, 4, 0, 0, 0, 2, 4, 0, 0, 2, 0xe8, 0xfe, 0x6f, 0x8f, 0, 0, 0, 0,
 ];
 
-// After 10 s: one of eight was lost. Of the three since the last report that came as one came late, so that
-// none is lost among them.
+// After 10 s: one of eight was lost. Of the three since the last report that came as one came late,
+// so that none is lost among them.
 const SEVEN_OF_EIGHT: &[u8] = &[
     0x81, 0xc9, 0, 7, 0, 0, 0, 2, 0, 0, 0, 42, 0, 0, 0, 1, 0, 0, 0, 8, 0, 0, 0, 0, 0, 0, 0, 0, 0,
     0, 0, 0, 0x80, 0xcf, 0, 4, 0, 0, 0, 2, 4, 0, 0, 2, 0xe8, 0xfe, 0x6f, 0x8a, 0, 0, 0, 0,
@@ -47,8 +47,8 @@ const OVER_THE_WRAP: &[u8] = &[
     0, 0, 0, 0x80, 0xcf, 0, 4, 0, 0, 0, 2, 4, 0, 0, 2, 0xe8, 0xfe, 0x6f, 0x81, 0, 0, 0, 0,
 ];
 
-// After 1 s: none was lost up to the number 2. The second packet came 10 ms later than its RTP time says, 900
-// units of 90 kHz, of which a sixteenth is told.
+// After 1 s: none was lost up to the number 2. The second packet came 10 ms later than its RTP time
+// says, 900 units of 90 kHz, of which a sixteenth is told.
 const JITTER: &[u8] = &[
     0x81, 0xc9, 0, 7, 0, 0, 0, 2, 0, 0, 0, 42, 0, 0, 0, 0, 0, 0, 0, 2, 0, 0, 0, 56, 0, 0, 0, 0, 0,
     0, 0, 0, 0x80, 0xcf, 0, 4, 0, 0, 0, 2, 4, 0, 0, 2, 0xe8, 0xfe, 0x6f, 0x81, 0, 0, 0, 0,

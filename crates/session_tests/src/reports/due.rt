@@ -1,11 +1,12 @@
-//! When reports are due (5 s after the last one, or 1 s), which streams report then, and when a tick is
-//! wanted for them.
+//! When reports are due (5 s after the last one, or 1 s), which streams report then, and when a
+//! tick is wanted for them.
 use crate::ends::BEFORE_TOLD;
 use crate::reports::steps::Row;
 use crate::reports::steps::Step::{Adds, Comes, Expects, Sends, Tick, Wakes};
 use session_core::MediaKind;
 
-// SSRC 2 reports on SSRC 42 after 1 s: the number 1 came, and nothing was lost. Its own moment stands behind.
+// SSRC 2 reports on SSRC 42 after 1 s: the number 1 came, and nothing was lost. Its own moment
+// stands behind.
 const FIRST_AT_1: &[u8] = &[
     0x81, 0xc9, 0, 7, 0, 0, 0, 2, 0, 0, 0, 42, 0, 0, 0, 0, 0, 0, 0, 1, 0, 0, 0, 0, 0, 0, 0, 0, 0,
     0, 0, 0, 0x80, 0xcf, 0, 4, 0, 0, 0, 2, 4, 0, 0, 2, 0xe8, 0xfe, 0x6f, 0x81, 0, 0, 0, 0,
@@ -33,8 +34,8 @@ const BOTH_AT_5: &[u8] = &[
     0, 0x80, 0xcf, 0, 4, 0, 0, 0, 2, 4, 0, 0, 2, 0xe8, 0xfe, 0x6f, 0x85, 0, 0, 0, 0,
 ];
 
-// SSRC 7 reports on a stream of which nothing came, with its moment, and then that it sent nothing, with
-// its name.
+// SSRC 7 reports on a stream of which nothing came, with its moment, and then that it sent nothing,
+// with its name.
 const OF_BOTH_KINDS: &[u8] = &[
     0x80, 0xc9, 0, 1, 0, 0, 0, 7, 0x80, 0xcf, 0, 4, 0, 0, 0, 7, 4, 0, 0, 2, 0xe8, 0xfe, 0x6f, 0x81,
     0, 0, 0, 0, 0x80, 0xc8, 0, 6, 0, 0, 0, 7, 0xe8, 0xfe, 0x6f, 0x81, 0, 0, 0, 0, 0, 0, 0, 0, 0, 0,

@@ -1,5 +1,6 @@
-//! What streams know by reports: the names of sources (RFC 3550 section 6.5), what was lost of the packets that an
-//! end sent (section 6.4.1), and what is counted of both. All that comes is from SSRC 43.
+//! What streams know by reports: the names of sources (RFC 3550 section 6.5), what was lost of the
+//! packets that an end sent (section 6.4.1), and what is counted of both. All that comes is from
+//! SSRC 43.
 use crate::reports::steps::Row;
 use crate::reports::steps::Step::{
     Adds, Asks, Caps, Comes, Expects, Frames, Hears, Keeps, Lost, Moves, Named, Received, Repaired,
@@ -46,7 +47,8 @@ const FIFTH_OF_50_LOST: &[u8] = &[
     0, 0, 0, 0,
 ];
 
-// SSRC 43 asks for the number 1 of SSRC 42, for a picture of it, and for one by a full intra request.
+// SSRC 43 asks for the number 1 of SSRC 42, for a picture of it, and for one by a full intra
+// request.
 const ASKS: &[u8] = &[
     0x81, 0xcd, 0, 3, 0, 0, 0, 43, 0, 0, 0, 42, 0, 1, 0, 0, 0x81, 0xce, 0, 2, 0, 0, 0, 43, 0, 0, 0,
     42, 0x84, 0xce, 0, 4, 0, 0, 0, 43, 0, 0, 0, 0, 0, 0, 0, 42, 1, 0, 0, 0,

@@ -8,13 +8,13 @@ use rtp_base::Kind;
 use session_core::MediaKind;
 use std::alloc::Global;
 
-/// The moments of so many receivers, numbered from 1 on, of which the first that is answered has this
-/// number, and as many as each report answers.
+/// The moments of so many receivers, numbered from 1 on, of which the first that is answered has
+/// this number, and as many as each report answers.
 #[derive(Clone, Copy)]
 pub struct Receivers(pub u16, pub u16, pub &'static [u16]);
 
-// The report of an SSRC that sent nothing, so many seconds after the beginning, less than 100, and the
-// description of its source by the name cam.
+// The report of an SSRC that sent nothing, so many seconds after the beginning, less than 100, and
+// the description of its source by the name cam.
 fn report_of(low: u8, second: u8) -> [u8; 44] {
     let second = 0x80 + second % 100;
     [
@@ -42,9 +42,10 @@ fn take_compound(end: &mut End, len: usize, all: &mut Vec<u8>) -> bool {
     put & (sent.kind == Kind::Rtcp) & (sent.plain.len() == len)
 }
 
-/// Whether the reports of 64 streams, of 28 and 16 bytes each, leave in order after 1 s. The target of
-/// 1,150 bytes leaves 1,130 to a compound, so 1,128 in whole words: 25 times both and one report, 1,128
-/// bytes; one description and 25 times both, 1,116 bytes; and 13 times both, 572 bytes.
+/// Whether the reports of 64 streams, of 28 and 16 bytes each, leave in order after 1 s. The target
+/// of 1,150 bytes leaves 1,130 to a compound, so 1,128 in whole words: 25 times both and one
+/// report, 1,128 bytes; one description and 25 times both, 1,116 bytes; and 13 times both, 572
+/// bytes.
 pub fn reports_of_64(alloc: Global, end: &mut End) -> bool {
     let added = add_section(alloc, end, mid(), MediaKind::Video, b"cam");
     let mut wanted = Vec::new(alloc);
@@ -60,8 +61,8 @@ pub fn reports_of_64(alloc: Global, end: &mut End) -> bool {
     held & silent & (all.as_slice() == wanted.as_slice())
 }
 
-// Has moments come of receivers from 1 on, so many (RFC 3611 section 4.4): the seconds of each end with the
-// receiver's number.
+// Has moments come of receivers from 1 on, so many (RFC 3611 section 4.4): the seconds of each end
+// with the receiver's number.
 fn hears_moments(alloc: Global, end: &mut End, count: u16) -> bool {
     let mut held = true;
     for number in 0..count {
@@ -74,8 +75,8 @@ fn hears_moments(alloc: Global, end: &mut End, count: u16) -> bool {
     held
 }
 
-// The answers to receivers from a number on: each with its SSRC, the middle of its moment, and the time since
-// 1.5 s at the second, in 65,536ths of a second (RFC 3611 section 4.5).
+// The answers to receivers from a number on: each with its SSRC, the middle of its moment, and the
+// time since 1.5 s at the second, in 65,536ths of a second (RFC 3611 section 4.5).
 fn answers_to(alloc: Global, second: u8, first: u16, count: u16) -> Option<Vec<u8>> {
     let delay = (u32::from(second) * 65_536).saturating_sub(98_304);
     let [a, b, c, d] = delay.to_be_bytes();
@@ -90,7 +91,8 @@ fn answers_to(alloc: Global, second: u8, first: u16, count: u16) -> Option<Vec<u
     Some(items)
 }
 
-// The report of SSRC 42 at a second, with its answers to so many receivers from a number on, if there are any.
+// The report of SSRC 42 at a second, with its answers to so many receivers from a number on, if
+// there are any.
 fn answering(alloc: Global, second: u8, first: u16, count: u16) -> Option<Vec<u8>> {
     let items = answers_to(alloc, second, first, count)?;
     let [high, low] = (count % 64 * 3).to_be_bytes();

@@ -12,8 +12,8 @@ const REPORT: [u8; 28] = [
     0, 0, 0,
 ];
 
-// The report, and the name of SSRC 42 where it has 1 to 255 letters: its chunk ends with one to four zeros, at
-// a whole word.
+// The report, and the name of SSRC 42 where it has 1 to 255 letters: its chunk ends with one to
+// four zeros, at a whole word.
 fn report_of(alloc: Global, name: &[u8]) -> Option<Vec<u8>> {
     if name.is_empty() || name.len() > 255 {
         return joined(alloc, &[&REPORT]);
@@ -25,8 +25,8 @@ fn report_of(alloc: Global, name: &[u8]) -> Option<Vec<u8>> {
     joined(alloc, &[&REPORT, &head, name, &[0; 4][..zeros.min(4)]])
 }
 
-/// Whether an end reports on a stream whose source has a name of so many letters, at most 256, and names it
-/// where these are from 1 to 255.
+/// Whether an end reports on a stream whose source has a name of so many letters, at most 256, and
+/// names it where these are from 1 to 255.
 pub fn names_itself(alloc: Global, end: &mut End, len: usize) -> bool {
     let name = &[b'a'; 256][..len.min(256)];
     let added = add_section(alloc, end, mid(), MediaKind::Video, name);

@@ -1,7 +1,7 @@
-//! What the peer asks and tells of streams: requests for key frames (RFC 4585 section 6.3.1, RFC 5104
-//! section 4.3.1.1), reports of senders (RFC 3550 section 6.4.1), greatest rates
-//! (draft-alvestrand-rmcat-remb section 2.2) and goodbyes (RFC 3550 section 6.6). All but the reports and the
-//! goodbyes are from SSRC 9.
+//! What the peer asks and tells of streams: requests for key frames (RFC 4585 section 6.3.1, RFC
+//! 5104 section 4.3.1.1), reports of senders (RFC 3550 section 6.4.1), greatest rates
+//! (draft-alvestrand-rmcat-remb section 2.2) and goodbyes (RFC 3550 section 6.6). All but the
+//! reports and the goodbyes are from SSRC 9.
 use crate::reports::steps::Row;
 use crate::reports::steps::Step::{Comes, Drains, Expects, Hears, Sends, Tells, Tick, Wakes};
 use crate::telling::Told::{Frame, Packet, Rate, Sender, Unpaused, Words};
@@ -20,7 +20,8 @@ const BOTH: &[u8] = &[
     44, 0, 0, 0, 0, 0, 0, 0, 42, 7, 0, 0, 0,
 ];
 
-// 1,000,000 bit/s of two streams, 44 and 42: the mantissa 250,000, which is 0x3d090, and the exponent 2.
+// 1,000,000 bit/s of two streams, 44 and 42: the mantissa 250,000, which is 0x3d090, and the
+// exponent 2.
 const ONE_MEGABIT: &[u8] = &[
     0x8f, 0xce, 0, 6, 0, 0, 0, 9, 0, 0, 0, 0, b'R', b'E', b'M', b'B', 2, 0x0b, 0xd0, 0x90, 0, 0, 0,
     44, 0, 0, 0, 42,
@@ -53,7 +54,8 @@ const GOODBYE: &[u8] = &[
     0x82, 0xcb, 0, 3, 0, 0, 0, 42, 0, 0, 0, 43, 3, b'e', b'n', b'd',
 ];
 
-// SSRC 2 reports on SSRC 42 after 1 s: none was lost up to the number 2. Its own moment stands behind.
+// SSRC 2 reports on SSRC 42 after 1 s: none was lost up to the number 2. Its own moment stands
+// behind.
 const NONE_LOST: &[u8] = &[
     0x81, 0xc9, 0, 7, 0, 0, 0, 2, 0, 0, 0, 42, 0, 0, 0, 0, 0, 0, 0, 2, 0, 0, 0, 0, 0, 0, 0, 0, 0,
     0, 0, 0, 0x80, 0xcf, 0, 4, 0, 0, 0, 2, 4, 0, 0, 2, 0xe8, 0xfe, 0x6f, 0x81, 0, 0, 0, 0,

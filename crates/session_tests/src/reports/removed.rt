@@ -19,7 +19,8 @@ const PICTURES: &[u8] = &[
     0x81, 0xce, 0, 2, 0, 0, 0, 9, 0, 0, 0, 42, 0x81, 0xce, 0, 2, 0, 0, 0, 9, 0, 0, 0, 44,
 ];
 
-// 1,000,000 bit/s of two streams, 44 and 42: the mantissa 250,000, which is 0x3d090, and the exponent 2.
+// 1,000,000 bit/s of two streams, 44 and 42: the mantissa 250,000, which is 0x3d090, and the
+// exponent 2.
 const ONE_MEGABIT: &[u8] = &[
     0x8f, 0xce, 0, 6, 0, 0, 0, 9, 0, 0, 0, 0, b'R', b'E', b'M', b'B', 2, 0x0b, 0xd0, 0x90, 0, 0, 0,
     44, 0, 0, 0, 42,

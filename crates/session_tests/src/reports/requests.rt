@@ -1,6 +1,6 @@
-//! What streams ask of their senders: a key frame by PLI (RFC 4585 section 6.3.1) or FIR (RFC 5104 section
-//! 4.3.1.1), and a rate by REMB (draft-alvestrand-rmcat-remb section 2.2). SSRC 2, that of an end while it
-//! sends nothing, asks on SSRC 42.
+//! What streams ask of their senders: a key frame by PLI (RFC 4585 section 6.3.1) or FIR (RFC 5104
+//! section 4.3.1.1), and a rate by REMB (draft-alvestrand-rmcat-remb section 2.2). SSRC 2, that of
+//! an end while it sends nothing, asks on SSRC 42.
 use crate::ends::{End, ask_frame, at};
 use crate::reports::steps::Step::{Asks, Comes, Expects, Frames, Rates, Seals, Tick, Wakes};
 use crate::reports::steps::{Row, ticks};
@@ -8,7 +8,8 @@ use rtp_base::KeyframeRequestKind::{Fir, Pli};
 
 const PICTURE: &[u8] = &[0x81, 0xce, 0, 2, 0, 0, 0, 2, 0, 0, 0, 42];
 
-// It sealed: the first 8 bytes, the rest XOR the key stream, the tag, and the E bit with the index 0.
+// It sealed: the first 8 bytes, the rest XOR the key stream, the tag, and the E bit with the index
+// 0.
 const SEALED_PICTURE: &[u8] = &[
     0x81, 0xce, 0, 2, 0, 0, 0, 2, 0, 0, 0, 42, 0x81, 0xce, 0, 2, 0, 2, 0, 4, 0x80, 0, 0, 0, 0, 0,
     0, 0x2b, 0x80, 0, 0, 0,
@@ -25,8 +26,8 @@ const ONE_MEGABIT: &[u8] = &[
     42,
 ];
 
-// All after 1 s, in this order: a full intra request and a rate; a report that one of three was lost, 85 of
-// 256, up to the number 3; the moment of the receiver; and the number 2 is asked for.
+// All after 1 s, in this order: a full intra request and a rate; a report that one of three was
+// lost, 85 of 256, up to the number 3; the moment of the receiver; and the number 2 is asked for.
 const ALL_AT_1: &[u8] = &[
     0x84, 0xce, 0, 4, 0, 0, 0, 2, 0, 0, 0, 0, 0, 0, 0, 42, 0, 0, 0, 0, 0x8f, 0xce, 0, 5, 0, 0, 0,
     2, 0, 0, 0, 0, b'R', b'E', b'M', b'B', 1, 0x0b, 0xd0, 0x90, 0, 0, 0, 42, 0x81, 0xc9, 0, 7, 0,

@@ -14,8 +14,8 @@ use std::alloc::Global;
 use stream_core::{Payload, RtpWrite};
 use twcc_core::Share;
 
-/// What is done with an end, or asked of it. Moments are in nanoseconds; a mid is one letter; an SSRC of
-/// repairs is 0 where there are none.
+/// What is done with an end, or asked of it. Moments are in nanoseconds; a mid is one letter; an
+/// SSRC of repairs is 0 where there are none.
 #[derive(Clone, Copy)]
 pub enum Step {
     /// It has one more media section: its mid, its kind, and the name of its sources.
@@ -26,12 +26,14 @@ pub enum Step {
     Asks(u8, u8, u8),
     /// It sends on one more SSRC, with repairs on another, of a mid.
     Sends(u8, u8, u8),
-    /// It writes the packet numbered 1 with the payload 0102 on an SSRC: its RTP time, which its media had
-    /// at a moment.
+    /// It writes the packet numbered 1 with the payload 0102 on an SSRC: its RTP time, which its
+    /// media had at a moment.
     Writes(u8, u32, u64),
-    /// A packet with the payload 0102 comes at a moment: its SSRC, its number and its RTP time. It opens.
+    /// A packet with the payload 0102 comes at a moment: its SSRC, its number and its RTP time. It
+    /// opens.
     Comes(u64, u8, u64, u32),
-    /// The first repair on an SSRC comes at a moment, of the packet of this number, at RTP time 0. It opens.
+    /// The first repair on an SSRC comes at a moment, of the packet of this number, at RTP time 0.
+    /// It opens.
     Repaired(u64, u8, u8),
     /// A packet on an SSRC with this number comes at a moment. It does not open.
     Refuses(u64, u8, u64),
@@ -49,13 +51,16 @@ pub enum Step {
     Keeps(u8),
     /// What is told as lost of that stream, and of how much, if anything is.
     Lost(u8, Option<(u64, u64)>),
-    /// What is counted of the stream that sends on an SSRC: packets, bytes, NACK and PLI items, FIR entries.
+    /// What is counted of the stream that sends on an SSRC: packets, bytes, NACK and PLI items, FIR
+    /// entries.
     Sent(u8, [u64; 5]),
     /// The same of the stream that receives on an SSRC.
     Received(u8, [u64; 5]),
-    /// The name of the source of the stream that receives on an SSRC, without bytes where none is known.
+    /// The name of the source of the stream that receives on an SSRC, without bytes where none is
+    /// known.
     Named(u8, &'static [u8]),
-    /// The last RTP time of the stream that receives on an SSRC, in units of 90 kHz, if there is one.
+    /// The last RTP time of the stream that receives on an SSRC, in units of 90 kHz, if there is
+    /// one.
     Timed(u8, Option<u64>),
     /// The packet that it tells next, or behind one event, has this RTP time, in units of 90 kHz.
     Dated(u64),
@@ -65,7 +70,8 @@ pub enum Step {
     Rates(u8, u64),
     /// Reports come at a moment, and open.
     Hears(u64, &'static [u8]),
-    /// A tick at a moment. One compound leaves, none where there are no bytes; a packet may leave behind it.
+    /// A tick at a moment. One compound leaves, none where there are no bytes; a packet may leave
+    /// behind it.
     Tick(u64, &'static [u8]),
     /// A tick at a moment. This datagram leaves next.
     Seals(u64, &'static [u8]),
@@ -218,8 +224,8 @@ fn is_packet(end: &mut End, now: Instant) -> bool {
     }
 }
 
-/// Whether this compound leaves next, or no feedback where there are no bytes, and behind it at most one
-/// packet.
+/// Whether this compound leaves next, or no feedback where there are no bytes, and behind it at
+/// most one packet.
 pub fn leaves(end: &mut End, now: Instant, plain: &[u8]) -> bool {
     let first = plain.is_empty() || is_next(end, now, plain);
     let then = is_packet(end, now);

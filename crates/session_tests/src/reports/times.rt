@@ -1,5 +1,6 @@
-//! The RTP times of streams that are received, and of the packets that are told of them, in 64 bits: each
-//! near the last one, and above it after a pause, which begins at a tick 1.5 s after the last datagram.
+//! The RTP times of streams that are received, and of the packets that are told of them, in 64
+//! bits: each near the last one, and above it after a pause, which begins at a tick 1.5 s after the
+//! last datagram.
 use crate::reports::steps::Row;
 use crate::reports::steps::Step::{Comes, Dated, Expects, Repaired, Tick, Timed};
 

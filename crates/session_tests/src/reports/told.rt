@@ -1,5 +1,5 @@
-//! What an exchange of reports tells (RFC 3550 section 6.4.1, RFC 3611 sections 4.4 and 4.5). Moment 0 is
-//! 1,700,000,000 s after 1970, 0xe8fe6f80 s after 1900 (RFC 868).
+//! What an exchange of reports tells (RFC 3550 section 6.4.1, RFC 3611 sections 4.4 and 4.5).
+//! Moment 0 is 1,700,000,000 s after 1970, 0xe8fe6f80 s after 1900 (RFC 868).
 use crate::reports::steps::Row;
 use crate::reports::steps::Step::{
     Adds, Asks, Comes, Frames, Hears, Moves, Rates, Resets, Sends, Tick, Timed, Wakes, Writes,
@@ -7,8 +7,8 @@ use crate::reports::steps::Step::{
 use rtp_base::KeyframeRequestKind::{Fir, Pli};
 use session_core::MediaKind;
 
-// SSRC 42 reports after 1 s: its RTP time was 160,000 at 0.5 s, so it is 205,000 then, at 90 kHz; it sent
-// one packet with two bytes of payload. Its source is named cam.
+// SSRC 42 reports after 1 s: its RTP time was 160,000 at 0.5 s, so it is 205,000 then, at 90 kHz;
+// it sent one packet with two bytes of payload. Its source is named cam.
 const SENT: &[u8] = &[
     0x80, 0xc8, 0, 6, 0, 0, 0, 42, 0xe8, 0xfe, 0x6f, 0x81, 0, 0, 0, 0, 0, 3, 32, 0xc8, 0, 0, 0, 1,
     0, 0, 0, 2, 0x81, 0xca, 0, 3, 0, 0, 0, 42, 1, 3, 99, 97, 109, 0, 0, 0,
@@ -26,16 +26,17 @@ const SENT_NOTHING: &[u8] = &[
     0, 0, 0, 0x81, 0xca, 0, 3, 0, 0, 0, 42, 1, 3, 99, 97, 109, 0, 0, 0,
 ];
 
-// SSRC 2 reports after 1.011 s on SSRC 42: nothing was lost, the greatest number is 1, the last report of the
-// sender is of the middle moment 6f810000, and came 10 ms before, 655 of the 65,536ths of a second. Its own
-// moment stands behind.
+// SSRC 2 reports after 1.011 s on SSRC 42: nothing was lost, the greatest number is 1, the last
+// report of the sender is of the middle moment 6f810000, and came 10 ms before, 655 of the
+// 65,536ths of a second. Its own moment stands behind.
 const RECEIVED: &[u8] = &[
     0x81, 0xc9, 0, 7, 0, 0, 0, 2, 0, 0, 0, 42, 0, 0, 0, 0, 0, 0, 0, 1, 0, 0, 0, 0, 0x6f, 0x81, 0,
     0, 0, 0, 2, 0x8f, 0x80, 0xcf, 0, 4, 0, 0, 0, 2, 4, 0, 0, 2, 0xe8, 0xfe, 0x6f, 0x81, 2, 0xd0,
     0xe5, 96,
 ];
 
-// SSRC 42 reports after 2 s, and answers SSRC 2: its moment came 988 ms before, 64,749 of the 65,536ths.
+// SSRC 42 reports after 2 s, and answers SSRC 2: its moment came 988 ms before, 64,749 of the
+// 65,536ths.
 const ANSWERED: &[u8] = &[
     0x80, 0xc8, 0, 6, 0, 0, 0, 42, 0xe8, 0xfe, 0x6f, 0x82, 0, 0, 0, 0, 0, 4, 0x80, 88, 0, 0, 0, 1,
     0, 0, 0, 2, 0x81, 0xca, 0, 3, 0, 0, 0, 42, 1, 3, 99, 97, 109, 0, 0, 0, 0x80, 0xcf, 0, 5, 0, 0,
@@ -45,8 +46,8 @@ const ANSWERED: &[u8] = &[
 // SSRC 2 asks on SSRC 42 for the number 2 (RFC 4585 section 6.2.1).
 const ASKS_2: &[u8] = &[0x81, 0xcd, 0, 3, 0, 0, 0, 2, 0, 0, 0, 42, 0, 2, 0, 0];
 
-// SSRC 2 reports after 2.038 s: one of three was lost, and one of the two since the last report, 128 of 256;
-// the report of 2 s came 35 ms before. Then it asks once more for the number 2.
+// SSRC 2 reports after 2.038 s: one of three was lost, and one of the two since the last report,
+// 128 of 256; the report of 2 s came 35 ms before. Then it asks once more for the number 2.
 const ASKS_AGAIN: &[u8] = &[
     0x81, 0xc9, 0, 7, 0, 0, 0, 2, 0, 0, 0, 42, 0x80, 0, 0, 1, 0, 0, 0, 3, 0, 0, 0, 0, 0x6f, 0x82,
     0, 0, 0, 0, 8, 0xf5, 0x80, 0xcf, 0, 4, 0, 0, 0, 2, 4, 0, 0, 2, 0xe8, 0xfe, 0x6f, 0x82, 9, 0xba,
@@ -68,8 +69,8 @@ const LATER_OF_9: &[u8] = &[
     0x80, 0xcf, 0, 4, 0, 0, 0, 9, 4, 0, 0, 2, 0xe8, 0xfe, 0x6f, 0x81, 64, 0, 0, 0,
 ];
 
-// SSRC 42 reports after 2 s, and answers SSRC 9 on its later moment, which came 400 ms before (26,214 of the
-// 65,536ths), and SSRC 10, whose moment came 500 ms before.
+// SSRC 42 reports after 2 s, and answers SSRC 9 on its later moment, which came 400 ms before
+// (26,214 of the 65,536ths), and SSRC 10, whose moment came 500 ms before.
 const IN_ITS_PLACE: &[u8] = &[
     0x80, 0xc8, 0, 6, 0, 0, 0, 42, 0xe8, 0xfe, 0x6f, 0x82, 0, 0, 0, 0, 0, 0, 0, 0, 0, 0, 0, 0, 0,
     0, 0, 0, 0x81, 0xca, 0, 3, 0, 0, 0, 42, 1, 3, 99, 97, 109, 0, 0, 0, 0x80, 0xcf, 0, 8, 0, 0, 0,
@@ -83,8 +84,8 @@ const ANEW: &[u8] = &[
     0, 0, 0, 0, 0x81, 0xca, 0, 3, 0, 0, 0, 50, 1, 3, 99, 97, 109, 0, 0, 0,
 ];
 
-// SSRC 50 reports after 2.5 s: its RTP time was 160,000 at 0.5 s, so it is 340,000 then, at 90 kHz; it sent one
-// packet with two bytes of payload.
+// SSRC 50 reports after 2.5 s: its RTP time was 160,000 at 0.5 s, so it is 340,000 then, at 90 kHz;
+// it sent one packet with two bytes of payload.
 const SENT_ANEW: &[u8] = &[
     0x80, 0xc8, 0, 6, 0, 0, 0, 50, 0xe8, 0xfe, 0x6f, 0x82, 0x80, 0, 0, 0, 0, 5, 0x30, 0x20, 0, 0,
     0, 1, 0, 0, 0, 2, 0x81, 0xca, 0, 3, 0, 0, 0, 50, 1, 3, 99, 97, 109, 0, 0, 0,
@@ -105,8 +106,8 @@ const MOVED_INTRA_0: &[u8] = &[
     0x84, 0xce, 0, 4, 0, 0, 0, 2, 0, 0, 0, 0, 0, 0, 0, 44, 0, 0, 0, 0,
 ];
 
-// SSRC 2 reports on SSRC 42 after 1 s: none was lost up to the number 300, and the report of moment 0 came 998
-// ms before, 65,404 of the 65,536ths of a second. Its own moment stands behind.
+// SSRC 2 reports on SSRC 42 after 1 s: none was lost up to the number 300, and the report of moment
+// 0 came 998 ms before, 65,404 of the 65,536ths of a second. Its own moment stands behind.
 const UP_TO_300: &[u8] = &[
     0x81, 0xc9, 0, 7, 0, 0, 0, 2, 0, 0, 0, 42, 0, 0, 0, 0, 0, 0, 1, 0x2c, 0, 0, 0, 0, 0x6f, 0x80,
     0, 0, 0, 0, 0xff, 0x7c, 0x80, 0xcf, 0, 4, 0, 0, 0, 2, 4, 0, 0, 2, 0xe8, 0xfe, 0x6f, 0x81, 0, 0,
@@ -119,7 +120,8 @@ const RECEIVED_NOTHING: &[u8] = &[
     0x80, 0, 0, 0,
 ];
 
-// SSRC 2 reports on SSRC 44 after 2.5 s: none was lost up to the number 7, and no report of its sender came.
+// SSRC 2 reports on SSRC 44 after 2.5 s: none was lost up to the number 7, and no report of its
+// sender came.
 const UP_TO_7: &[u8] = &[
     0x81, 0xc9, 0, 7, 0, 0, 0, 2, 0, 0, 0, 44, 0, 0, 0, 0, 0, 0, 0, 7, 0, 0, 0, 0, 0, 0, 0, 0, 0,
     0, 0, 0, 0x80, 0xcf, 0, 4, 0, 0, 0, 2, 4, 0, 0, 2, 0xe8, 0xfe, 0x6f, 0x82, 0x80, 0, 0, 0,

@@ -1,5 +1,5 @@
-//! What an incoming stream says in a tick, and what it hears of its sender: what it asks for again, its reports
-//! and requests, and the reports and the description of its source.
+//! What an incoming stream says in a tick, and what it hears of its sender: what it asks for again,
+//! its reports and requests, and the reports and the description of its source.
 ghost use Rattle.std.specs.Prelude.{◌≡◌, ◌<◌, ◌≤◌, ◌+◌, ◌++◌, None, length, position, IfOk, IfSome, OnOk, OnErr};
 ghost use Rattle.std.specs.Option.{option_map};
 ghost use Rattle.std.specs.VecDeque.{deque_len};
@@ -49,8 +49,8 @@ fn name_in(items: Listed<SdesItem>) -> Option<Bytes>
 }
 
 impl<W: GapWindow> StreamRx<W> {
-    /// Whether it asks for what is missing: it was not told to suppress that, and it is not paused, or
-    /// some missing number was asked for fewer than five times.
+    /// Whether it asks for what is missing: it was not told to suppress that, and it is not paused,
+    /// or some missing number was asked for fewer than five times.
     pub fn nack_enabled(&self) -> bool
         ensures { (r : RxRecord) → StandsFor W.remembers self.now r → result ≡ is_enabled r }
     {
@@ -67,8 +67,9 @@ impl<W: GapWindow> StreamRx<W> {
     }
 
     /// Asks for the missing numbers that are due, rising, in at most six entries (RFC 4585 section
-    /// 6.2.1): none where it asks for nothing. A number is asked for at most five times, and again 5 ms
-    /// after the round trip; 100 ms stand for one that is not known. Where it asks, that counts as one item.
+    /// 6.2.1): none where it asks for nothing. A number is asked for at most five times, and again
+    /// 5 ms after the round trip; 100 ms stand for one that is not known. Where it asks, that
+    /// counts as one item.
     pub fn nack_report(&mut self, now: Instant) -> ReportList<NackEntry>
         ensures entries { (r : RxRecord) → StandsFor W.remembers self.old r → result ≡ packed None (due_of now r) }
         ensures asked { (r : RxRecord) → StandsFor W.remembers self.old r → StandsFor W.remembers self.new (after_round now r) }
@@ -85,8 +86,8 @@ impl<W: GapWindow> StreamRx<W> {
         reports
     }
 
-    /// When its next report is due, at the latest at the last moment, 2^64 - 1 ns. Without an SSRC of
-    /// repairs it counts as sound.
+    /// When its next report is due, at the latest at the last moment, 2^64 - 1 ns. Without an SSRC
+    /// of repairs it counts as sound.
     pub fn receiver_report_at(&self, intervals: &ReportIntervals) -> Instant
         ensures { result ≡ report_at intervals.now self.now.state }
     {
@@ -116,8 +117,8 @@ impl<W: GapWindow> StreamRx<W> {
         (counts, report)
     }
 
-    /// Its report at a moment (RFC 3550 section 6.4.2): how it is received, or nothing of it where no
-    /// packet came on it. The fraction lost is that since the report before.
+    /// Its report at a moment (RFC 3550 section 6.4.2): how it is received, or nothing of it where
+    /// no packet came on it. The fraction lost is that since the report before.
     pub fn create_report(
         &self,
         alloc: Global,
@@ -134,8 +135,8 @@ impl<W: GapWindow> StreamRx<W> {
         receiver_report(alloc, sender_ssrc, block)
     }
 
-    /// It reported at a moment: the next fraction lost is that from now on, and the next report is due an
-    /// interval later.
+    /// It reported at a moment: the next fraction lost is that from now on, and the next report is
+    /// due an interval later.
     pub fn reported(&mut self, now: Instant)
         ensures after { (r : RxRecord) → StandsFor W.remembers self.old r → StandsFor W.remembers self.new (reported now r) }
         ensures state { self.new.state ≡ record self.old.state { reports = self.new.state.reports } }
@@ -151,8 +152,8 @@ impl<W: GapWindow> StreamRx<W> {
         self.requests.keyframe = Some(kind);
     }
 
-    /// Tells the sender at the next tick the greatest rate at which it is to send (REMB). A rate that waits
-    /// is replaced.
+    /// Tells the sender at the next tick the greatest rate at which it is to send (REMB). A rate
+    /// that waits is replaced.
     pub fn request_remb(&mut self, bitrate: Bitrate)
         ensures { self.new ≡ record self.old { state = record self.old.state { requests = with_bitrate bitrate self.old.state.requests } } }
     {
@@ -203,8 +204,8 @@ impl<W: GapWindow> StreamRx<W> {
         self.reports.news.take(*info, now);
     }
 
-    /// Its source described itself (RFC 3550 section 6.5): the first name that it tells is known from then
-    /// on, unless it is empty. The time grows with the items of the description.
+    /// Its source described itself (RFC 3550 section 6.5): the first name that it tells is known
+    /// from then on, unless it is empty. The time grows with the items of the description.
     pub fn handle_description(&mut self, description: Sdes)
         ensures { self.new ≡ record self.old { state = described_by description self.old.state } }
     {
@@ -216,8 +217,8 @@ impl<W: GapWindow> StreamRx<W> {
         }
     }
 
-    /// The name of its source (RFC 3550 section 6.5.1), None before that was told. A change of the SSRC
-    /// leaves it.
+    /// The name of its source (RFC 3550 section 6.5.1), None before that was told. A change of the
+    /// SSRC leaves it.
     pub fn cname(&self) -> Option<&[u8]>
         ensures { option_map (λ name. name.now) result ≡ self.now.state.cname }
     {
@@ -227,8 +228,8 @@ impl<W: GapWindow> StreamRx<W> {
         }
     }
 
-    /// What was counted since it was made: the packets that opened, repairs among them, with the bytes of
-    /// their payloads, and what it asked its sender for. Padding alone does not count.
+    /// What was counted since it was made: the packets that opened, repairs among them, with the
+    /// bytes of their payloads, and what it asked its sender for. Padding alone does not count.
     pub fn stats(&self) -> StreamStats
         ensures { result ≡ self.now.state.reports.stats }
     {

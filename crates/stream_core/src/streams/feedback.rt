@@ -30,12 +30,12 @@ ghost use Rattle.stream_core.specs.RxRecord.{RxRecord, StandsFor as RxStandsFor}
 ghost use Rattle.stream_core.specs.StreamsRecord.{StreamsRecord, StandsFor};
 ghost use Rattle.stream_core.specs.Tables.{Along, change_at};
 
-use super::{Streams, sooner};
+use super::Streams;
 use crate::repairing::Sent;
 use crate::reports::Tick;
 use crate::ssrc_table::SsrcTable;
 use crate::stream_rx::StreamRx;
-use media_units::Instant;
+use media_units::{Instant, earlier};
 use repair_core::GapWindow;
 use report_core::{ReportIntervals, moment_report};
 use resend_core::ResendStore;
@@ -44,8 +44,8 @@ use rtp_base::{Mid, NackEntry, ReportList, Ssrc};
 use std::alloc::{AllocError, Global};
 use std::collections::VecDeque;
 
-/// Puts the item that asks for what these entries name, if there are some, behind the others, which have
-/// room for it.
+/// Puts the item that asks for what these entries name, if there are some, behind the others, which
+/// have room for it.
 fn push_nack(
     sender_ssrc: Ssrc,
     ssrc: Ssrc,
@@ -69,8 +69,9 @@ fn push_nack(
     }));
 }
 
-/// Puts what an incoming stream says in a tick before it asks for packets behind the other items: what it
-/// asks its sender for, then its report, where it makes one, and the moment of the receiver.
+/// Puts what an incoming stream says in a tick before it asks for packets behind the other items:
+/// what it asks its sender for, then its report, where it makes one, and the moment of the
+/// receiver.
 fn push_front<W: GapWindow>(
     alloc: Global,
     stream: &StreamRx<W>,
@@ -94,8 +95,8 @@ fn push_front<W: GapWindow>(
     Ok(())
 }
 
-/// What all incoming streams say so in a tick, in order: of these media sections the report of some stream
-/// is due.
+/// What all incoming streams say so in a tick, in order: of these media sections the report of some
+/// stream is due.
 fn fronts<W: GapWindow>(
     alloc: Global,
     streams: &SsrcTable<StreamRx<W>>,
@@ -117,7 +118,8 @@ fn fronts<W: GapWindow>(
     Ok(made)
 }
 
-/// Moves so many items from the front of one queue behind those of another, which has room for them.
+/// Moves so many items from the front of one queue behind those of another, which has room for
+/// them.
 fn move_front(count: usize, from: &mut VecDeque<Rtcp>, to: &mut VecDeque<Rtcp>)
     requires some { count ≤ length from.old.items }
     requires room { deque_len to.old + count ≤ deque_capacity to.old }
@@ -143,8 +145,8 @@ fn front_said<W: GapWindow>(stream: &mut StreamRx<W>, tick: &Tick, reports: bool
     }
 }
 
-/// An incoming stream says what it says in a tick, behind the other items: what was made for it, which
-/// stands in front, and what it asks for again, where the tick is a round.
+/// An incoming stream says what it says in a tick, behind the other items: what was made for it,
+/// which stands in front, and what it asks for again, where the tick is a round.
 fn say<W: GapWindow>(
     stream: &mut StreamRx<W>,
     tick: &Tick,
@@ -172,9 +174,9 @@ fn say<W: GapWindow>(
     }
 }
 
-/// Each incoming stream says what it says in a tick, in order, behind the other items, which have room for
-/// it: of these media sections the report of some stream is due, and what was made for the streams is
-/// what they say before they ask for packets.
+/// Each incoming stream says what it says in a tick, in order, behind the other items, which have
+/// room for it: of these media sections the report of some stream is due, and what was made for the
+/// streams is what they say before they ask for packets.
 fn say_all<W: GapWindow>(
     streams: &mut SsrcTable<StreamRx<W>>,
     tick: &Tick,
@@ -249,13 +251,14 @@ fn due_mids<W: GapWindow>(
 }
 
 impl<W: GapWindow, S: ResendStore<Sent>> Streams<W, S> {
-    /// What each incoming stream says in a tick, in order, behind the items that wait: a request for a key
-    /// frame (RFC 4585 section 6.3.1, RFC 5104 section 4.3.1) and the greatest rate that it is to be sent at
-    /// (draft-alvestrand-rmcat-remb), where these wait; where the report of some stream of its media section
-    /// is due, its own (RFC 3550 section 6.4.2) and the moment of the receiver (RFC 3611 section 4.4); where
-    /// the tick is a round and it asks for what is missing, an item that asks for what is due (RFC 4585
-    /// section 6.2.1). There is room for so many items `behind` them then. Without memory nothing changes.
-    /// The time grows with the number of streams, and with its square where reports are due.
+    /// What each incoming stream says in a tick, in order, behind the items that wait: a request
+    /// for a key frame (RFC 4585 section 6.3.1, RFC 5104 section 4.3.1) and the greatest rate that
+    /// it is to be sent at (draft-alvestrand-rmcat-remb), where these wait; where the report of
+    /// some stream of its media section is due, its own (RFC 3550 section 6.4.2) and the moment of
+    /// the receiver (RFC 3611 section 4.4); where the tick is a round and it asks for what is
+    /// missing, an item that asks for what is due (RFC 4585 section 6.2.1). There is room for so
+    /// many items `behind` them then. Without memory nothing changes. The time grows with the
+    /// number of streams, and with its square where reports are due.
     pub fn create_feedback(
         &mut self,
         tick: &Tick,
@@ -284,8 +287,8 @@ impl<W: GapWindow, S: ResendStore<Sent>> Streams<W, S> {
         Ok(())
     }
 
-    /// Whether some incoming stream asks its sender for something at the next tick. The time grows with the
-    /// number of streams.
+    /// Whether some incoming stream asks its sender for something at the next tick. The time grows
+    /// with the number of streams.
     pub fn any_request(&self) -> bool
         ensures { (r : StreamsRecord) → StandsFor W.remembers S.stands_for self.now r → result ≡ any_request r.rx }
     {
@@ -297,33 +300,34 @@ impl<W: GapWindow, S: ResendStore<Sent>> Streams<W, S> {
         false
     }
 
-    /// The first moment at which the report of an incoming stream is due, None where there is none. The
-    /// time grows with the number of streams.
+    /// The first moment at which the report of an incoming stream is due, None where there is none.
+    /// The time grows with the number of streams.
     pub fn receiver_reports_at(&self, intervals: &ReportIntervals) -> Option<Instant>
         ensures { (r : StreamsRecord) → StandsFor W.remembers S.stands_for self.now r → result ≡ report_before intervals.now None r.rx }
     {
         let mut first = None;
         for place in 0..self.rx.len() {
             let at = self.rx.at(place).receiver_report_at(intervals);
-            first = sooner(first, Some(at));
+            first = earlier(first, Some(at));
         }
         first
     }
 
-    /// The same of outgoing streams: before the kind of one was told its moment is one that never comes.
+    /// The same of outgoing streams: before the kind of one was told its moment is one that never
+    /// comes.
     pub fn sender_reports_at(&self, intervals: &ReportIntervals) -> Option<Instant>
         ensures { result ≡ tx_report_before intervals.now None self.now.tx }
     {
         let mut first = None;
         for place in 0..self.tx.len() {
             let at = self.tx.at(place).sender_report_at(intervals);
-            first = sooner(first, Some(at));
+            first = earlier(first, Some(at));
         }
         first
     }
 
-    /// The media sections of the outgoing streams whose reports are due at a moment, in order. The time
-    /// grows with the number of streams.
+    /// The media sections of the outgoing streams whose reports are due at a moment, in order. The
+    /// time grows with the number of streams.
     pub fn due_sender_mids(
         &self,
         intervals: &ReportIntervals,
@@ -342,7 +346,8 @@ impl<W: GapWindow, S: ResendStore<Sent>> Streams<W, S> {
         Ok(mids)
     }
 
-    /// The sender of an incoming stream reported, and that came at a moment: one look-up in a hash table.
+    /// The sender of an incoming stream reported, and that came at a moment: one look-up in a hash
+    /// table.
     #[tactic(auto, using(crate::proofs::Alongside::set_same))]
     pub fn handle_sender_info(&mut self, info: &SenderInfo, now: Instant)
         ensures heard { (r : StreamsRecord) → StandsFor W.remembers S.stands_for self.old r
@@ -357,8 +362,8 @@ impl<W: GapWindow, S: ResendStore<Sent>> Streams<W, S> {
         }
     }
 
-    /// The source of an incoming stream described itself (RFC 3550 section 6.5): one look-up in a hash table,
-    /// and the time grows with the items of the description.
+    /// The source of an incoming stream described itself (RFC 3550 section 6.5): one look-up in a
+    /// hash table, and the time grows with the items of the description.
     #[tactic(auto, using(crate::proofs::Alongside::set_same))]
     pub fn handle_description(&mut self, description: Sdes)
         ensures heard { (r : StreamsRecord) → StandsFor W.remembers S.stands_for self.old r

@@ -54,8 +54,8 @@ fn is_sent(streams: &SsrcTable<StreamTx>, ssrc: Ssrc) -> bool
 impl<W: GapWindow, S: ResendStore<Sent>> UsedSsrcs for Streams<W, S> {
     ghost uses = { is_used };
 
-    /// Whether an SSRC is of a stream that is received or sent, for its packets or for their repairs. The
-    /// time grows with the number of streams.
+    /// Whether an SSRC is of a stream that is received or sent, for its packets or for their
+    /// repairs. The time grows with the number of streams.
     fn is_used(&self, ssrc: Ssrc) -> bool {
         if is_received(&self.rx, ssrc) {
             return true;
@@ -65,10 +65,11 @@ impl<W: GapWindow, S: ResendStore<Sent>> UsedSsrcs for Streams<W, S> {
 }
 
 impl<W: GapWindow, S: ResendStore<Sent>> Streams<W, S> {
-    /// Draws an SSRC for the packets of a stream and one for their repairs (RFC 3550 section 8.1, RFC 4588
-    /// section 4): each is the next 32 bits of the generator that are not 0, not in use, and not the
-    /// other one. In use is each SSRC of a stream that is received or sent, and that of its repairs.
-    /// `NoFreeSsrc` after 64 draws for one of the two. The time of a draw grows with the number of streams.
+    /// Draws an SSRC for the packets of a stream and one for their repairs (RFC 3550 section 8.1,
+    /// RFC 4588 section 4): each is the next 32 bits of the generator that are not 0, not in use,
+    /// and not the other one. In use is each SSRC of a stream that is received or sent, and that of
+    /// its repairs. `NoFreeSsrc` after 64 draws for one of the two. The time of a draw grows with
+    /// the number of streams.
     pub fn new_ssrc_pair<R: Rng>(&self, rng: &mut R) -> Result<(Ssrc, Ssrc), SsrcError>
         ensures drawn { IfOk result (λ p. (r : StreamsRecord) → StandsFor W.remembers S.stands_for self.now r
             → drawn_pair (is_in_use r) (R.stream rng.old) ≡ (Some p, R.stream rng.new)) }

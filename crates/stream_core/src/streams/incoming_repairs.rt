@@ -1,5 +1,5 @@
-//! The repairs that come for the streams of a session (RFC 4588): under which number one may open, and the
-//! packet that it restores.
+//! The repairs that come for the streams of a session (RFC 4588): under which number one may open,
+//! and the packet that it restores.
 ghost use Rattle.std.specs.Prelude.{◌≡◌, ◌<◌, ◌^◌, ◌%◌, ℕ, Some, length, IfOk, IfSome, OnOk, OnErr};
 ghost use Rattle.std.specs.Map.{keys_of};
 ghost use Rattle.std.specs.Option.{ForSome};
@@ -17,8 +17,8 @@ use rtp_base::SeqNo;
 use std::alloc::AllocError;
 
 impl<W: GapWindow, S: ResendStore<Sent>> Streams<W, S> {
-    /// The own number under which a repair of the stream at a place may open, where `seen` is the greatest
-    /// number that was seen on the SSRC of its datagram.
+    /// The own number under which a repair of the stream at a place may open, where `seen` is the
+    /// greatest number that was seen on the SSRC of its datagram.
     pub fn accepts_repair(&self, place: usize, low: u16, seen: Option<SeqNo>) -> Option<SeqNo>
         requires place { place < length self.now.rx }
         requires seen { ForSome seen (λ n. n < 2 ^ 48) }
@@ -42,8 +42,8 @@ impl<W: GapWindow, S: ResendStore<Sent>> Streams<W, S> {
         self.rx.at(place).repair_number(low, seen)
     }
 
-    /// The number of the packet that a repair of the stream at a place restores, whose low 16 bits begin
-    /// the payload of the repair, fresh or not.
+    /// The number of the packet that a repair of the stream at a place restores, whose low 16 bits
+    /// begin the payload of the repair, fresh or not.
     pub fn restored_number_at(&self, place: usize, low: u16, remembered: &Option<SeqNo>) -> SeqNo
         requires place { place < length self.now.rx }
         requires remembered { ForSome remembered.now (λ n. n < 2 ^ 48) }
@@ -74,9 +74,9 @@ impl<W: GapWindow, S: ResendStore<Sent>> Streams<W, S> {
         }
     }
 
-    /// Has the stream at a place take the number of the packet that a repair repairs, whose low 16 bits
-    /// begin the payload of the repair, and gives it. None where it is not fresh: the packet then enters
-    /// the jitter alone. Without memory nothing changes.
+    /// Has the stream at a place take the number of the packet that a repair repairs, whose low 16
+    /// bits begin the payload of the repair, and gives it. None where it is not fresh: the packet
+    /// then enters the jitter alone. Without memory nothing changes.
     #[tactic(auto, using(crate::proofs::Alongside::set_same))]
     pub fn restore_at(
         &mut self,

@@ -10,9 +10,9 @@ use resend_core::ResendStore;
 use rtp_base::Mid;
 
 impl<W: GapWindow, S: ResendStore<Sent>> Streams<W, S> {
-    /// Takes out the streams of a media section: those that send, with the packets that wait on them and
-    /// those that they keep, and those that receive, with their SSRCs of repairs. The time grows with the
-    /// square of the number of streams.
+    /// Takes out the streams of a media section: those that send, with the packets that wait on
+    /// them and those that they keep, and those that receive, with their SSRCs of repairs. The time
+    /// grows with the square of the number of streams.
     pub fn remove_streams_by_mid(&mut self, mid: Mid)
         ensures removed { (r : StreamsRecord) → StandsFor W.remembers S.stands_for self.old r
             → StandsFor W.remembers S.stands_for self.new (without_section mid r) }

@@ -14,8 +14,8 @@ use rtp_base::{SeqNo, Ssrc};
 use rtx_core::ResendQueue;
 use std::alloc::{AllocError, Global};
 
-/// What the stream of an SSRC sends again once it begins anew with a first number of repairs: with the
-/// limits that it had, if it sent repairs.
+/// What the stream of an SSRC sends again once it begins anew with a first number of repairs: with
+/// the limits that it had, if it sent repairs.
 fn repairs_from<S: ResendStore<Sent>>(
     alloc: Global,
     repairs: &SsrcTable<ResendQueue<Sent, S>>,
@@ -31,8 +31,8 @@ fn repairs_from<S: ResendStore<Sent>>(
     }
 }
 
-/// Whether there is a cap of how much of what the stream of an SSRC sends may be repairs; one without
-/// repairs has that of the beginning.
+/// Whether there is a cap of how much of what the stream of an SSRC sends may be repairs; one
+/// without repairs has that of the beginning.
 fn has_cap<S: ResendStore<Sent>>(repairs: &SsrcTable<ResendQueue<Sent, S>>, ssrc: Ssrc) -> bool
     ensures { (rs : List (ℕ × RepairsRecord)) → Along (RepairsStandFor S.stands_for) repairs.now rs → result ≡ has_cap (value_under ssrc rs) }
 {
@@ -42,9 +42,9 @@ fn has_cap<S: ResendStore<Sent>>(repairs: &SsrcTable<ResendQueue<Sent, S>>, ssrc
     }
 }
 
-/// Has the value at a place of a table stand under another key, which none has, and puts another value
-/// under that key of a second table, in the place of the one that it has or behind the others. Without
-/// memory nothing changes.
+/// Has the value at a place of a table stand under another key, which none has, and puts another
+/// value under that key of a second table, in the place of the one that it has or behind the
+/// others. Without memory nothing changes.
 fn rename_with<A: Drop, B: Drop>(
     one: &mut SsrcTable<A>,
     other: &mut SsrcTable<B>,
@@ -117,16 +117,16 @@ impl<W: GapWindow, S: ResendStore<Sent>> Streams<W, S> {
     }
 
     /// Has the stream that sends under an SSRC begin anew under another one, in its place among the
-    /// streams: its reports begin anew, the peer has not acknowledged it, and what waits, what is kept and
-    /// what is asked for is dropped. With `rtx` its repairs come under that SSRC with numbers from that one
-    /// on; at 2^48 there is none. Its media section and rid, its kind and the limits of what it keeps stay.
-    /// What its receivers report as lost is kept anew exactly where there is a cap of how much of what it
-    /// sends may be repairs; one without repairs has that of the beginning.
-    /// Where no stream sends under the SSRC nothing changes; without memory neither. The time grows with the
-    /// number of streams declared after it.
+    /// streams: its reports begin anew, the peer has not acknowledged it, and what waits, what is
+    /// kept and what is asked for is dropped. With `rtx` its repairs come under that SSRC with
+    /// numbers from that one on; at 2^48 there is none. Its media section and rid, its kind and the
+    /// limits of what it keeps stay. What its receivers report as lost is kept anew exactly where
+    /// there is a cap of how much of what it sends may be repairs; one without repairs has that of
+    /// the beginning. Where no stream sends under the SSRC nothing changes; without memory neither.
+    /// The time grows with the number of streams declared after it.
     ///
-    /// The caller sees to it that neither of the new SSRCs was used under the present key: else two packets
-    /// may have one nonce (RFC 3711 section 9.1).
+    /// The caller sees to it that neither of the new SSRCs was used under the present key: else two
+    /// packets may have one nonce (RFC 3711 section 9.1).
     pub fn reset_ssrc(
         &mut self,
         ssrc: Ssrc,

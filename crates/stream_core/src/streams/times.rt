@@ -21,8 +21,8 @@ impl<W: GapWindow, S: ResendStore<Sent>> Streams<W, S> {
         self.rx.at(place).taken_time(arrival)
     }
 
-    /// The RTP time of a packet that is restored from a repair which so comes for the stream at a place
-    /// (`StreamRx::restored_time`).
+    /// The RTP time of a packet that is restored from a repair which so comes for the stream at a
+    /// place (`StreamRx::restored_time`).
     pub fn restored_time_at(&self, place: usize, arrival: &Arrival) -> MediaTime
         requires { place < length self.now.rx }
         ensures { (r : StreamsRecord) (ssrc : ℕ) → StandsFor W.remembers S.stands_for self.now r → place_of ssrc self.now.rx ≡ Some place

@@ -1,4 +1,4 @@
-use Rattle.std.proofs.Common.{ℕ, ◌+◌, List, string_bytes, subst, arith}
+use Rattle.std.proofs.Common.{◌∙◌, ℕ, ◌+◌, List, string_bytes, subst, arith}
 use Rattle.std.specs.Io.KnownBytes.{Appends}
 use Rattle.std.proofs.KnownBytes.{Appends-trans}
 use Rattle.media_base.specs.Causes.{WritesFront}
@@ -24,7 +24,7 @@ loop-entry-preserved g c =
     let next = more_written es h.0 (i + 1) (string_bytes c.put_line.new.text) more _ _ _ w.all.0 (string_bytes c.write_gathered.new.gathered) h.1 w.all.1 w.all.2 w.all.3 in
     let earlier = h.3 in
     let later = w.cause.later in
-    (next.0, next.1, next.2, omega (arith, earlier, later))
+    (next.0, next.1, next.2, omega (arith, earlier, later), w.told ∙ h.4)
 
 pub returns-in_err-write_all-clause-front : goal.returns-in_err-write_all-clause-front
 returns-in_err-write_all-clause-front g c e =

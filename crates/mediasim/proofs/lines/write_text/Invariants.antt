@@ -9,3 +9,4 @@ invariant-loop-entry g l =
     (count : ℕ) × Appends (g.K.Sink.written l.fn.sink) (g.K.Sink.written l.sink) (entries_text (take count l.entries))
     × (entries_text (take count l.entries) ++ string_bytes l.gathered ≡ entries_text (take l.entry-index l.entries))
     × (g.K.Sink.fault_count l.fn.sink ≤ g.K.Sink.fault_count l.sink)
+    × (g.K.Sink.fault_count l.sink ≡ g.K.Sink.fault_count l.fn.sink)

@@ -1,5 +1,5 @@
 use Rattle.std.proofs.Common.{◌<◌, ◌+◌, Option, ℕ, length, drop, sym, ap, ◌∙◌, arith}
-use Rattle.stream_core.specs.Pauses.{sooner}
+use Rattle.media_units.specs.Soonest.{earlier}
 use Rattle.stream_core.specs.Queue.{stamps_of, earliest_of}
 use Rattle.stream_core.proofs.Totals.{waits_at, earliest_at, sooner_assoc}
 use Rattle.stream_core.proofs.send_queue.waits.Goals as goal
@@ -15,10 +15,10 @@ loop-place-preserved c =
     record {
       total = omega arith;
       first =
-          ap (λ f. sooner f rest) c.sooner-first.ensures
+          ap (λ f. earlier f rest) c.earlier-first.ensures
           ∙ sooner_assoc first c.stamp.result rest
-          ∙ ap (λ s. sooner first (sooner s rest)) c.stamp.ensures
-          ∙ ap (sooner first) (sym (earliest_at all i c.index-in-loop-place.result.now lt c.index-in-loop-place.ensures))
+          ∙ ap (λ s. earlier first (earlier s rest)) c.stamp.ensures
+          ∙ ap (earlier first) (sym (earliest_at all i c.index-in-loop-place.result.now lt c.index-in-loop-place.ensures))
           ∙ c.loop-place.invariant.first;
       fits = omega arith;
     }

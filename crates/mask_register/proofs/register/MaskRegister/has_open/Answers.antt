@@ -9,7 +9,7 @@ use Rattle.mask_register.specs.Window.{is_missing}
 use Rattle.mask_register.specs.MaskRegister.{is_open}
 use Rattle.mask_register.proofs.AskLaws.{numbers_next}
 use Rattle.mask_register.proofs.register.MaskRegister.has_open.Goals as goal
-use Rattle.mask_register.proofs.register.MaskRegister.has_open.Goals.{else-is_missing-via-then-is_missing+else-row-lt5, else-is_missing-via-else-is_missing}
+use Rattle.mask_register.proofs.register.MaskRegister.has_open.Goals.{else-is_missing-via-then-is_missing+else-row-lt-MAX_NACKS, else-is_missing-via-else-is_missing}
 
 closed_rows : (m : Bool) (row got : Ask) → m ≡ true → got ≡ row → 5 ≤ got.times → (m && ltb row.times 5) ≡ false
 closed_rows m row got e is far = let same : got.times ≡ row.times = ap (λ (a : Ask). a.times) is in grind (arith, nat_tests)
@@ -23,7 +23,7 @@ loop-number-preserved c =
     let next = numbers_next high k c.loop-number-test.true in
     let closed : is_open w rows k ≡ false =
     elim c.else-is_missing.branch [
-      | else-is_missing-via-then-is_missing+else-row-lt5 x ↦ closed_rows (is_missing w k) (row_of rows k) x.row.result (sym c.is_missing.ensures ∙ x.if-is_missing.true) x.row.ensures x.if-row-lt5.false
+      | else-is_missing-via-then-is_missing+else-row-lt-MAX_NACKS x ↦ closed_rows (is_missing w k) (row_of rows k) x.row.result (sym c.is_missing.ensures ∙ x.if-is_missing.true) x.row.ensures x.if-row-lt-MAX_NACKS.false
       | else-is_missing-via-else-is_missing x ↦ ap (λ (b : Bool). b && ltb (row_of rows k).times 5) (sym c.is_missing.ensures ∙ x.if-is_missing.false)
     ] in
     record {

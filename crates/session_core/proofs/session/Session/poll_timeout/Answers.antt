@@ -1,5 +1,6 @@
 use Rattle.std.proofs.Common.{◌≡◌, sym, ap, subst, ◌∙◌}
-use Rattle.stream_core.specs.Pauses.{first_pause, sooner}
+use Rattle.stream_core.specs.Pauses.{first_pause}
+use Rattle.media_units.specs.Soonest.{earlier}
 use Rattle.stream_core.specs.RxRecord.{RxState}
 use Rattle.session_core.specs.Reports.{reports_at}
 use Rattle.session_core.specs.Rounds.{requests_at, round_at, send_at}
@@ -13,9 +14,9 @@ returns g c = λ r h.
     let mine = subst (λ s. StandsFor m g.S.ResendStore.stands_for s r) (sym c.self.view_is) h in
     let rx = c.paused_at.ensures (streams_in r) (streams_stand m g.S.ResendStore.stands_for _ r mine) in
     let probes = c.paused_at-2.ensures ∙ ap (λ (s : RxState). s.pause_at) mine.probes.state in
-    let paused : c.sooner-paused_at.result ≡ sooner (first_pause r.rx) r.probes.state.pause_at = c.sooner-paused_at.ensures ∙ (λ j. sooner (rx j) (probes j)) in
+    let paused : c.earlier-paused_at.result ≡ earlier (first_pause r.rx) r.probes.state.pause_at = c.earlier-paused_at.ensures ∙ (λ j. earlier (rx j) (probes j)) in
     let send = c.send_at.ensures ∙ ap (λ (s : SessionState). send_at s) h.state in
-    let others : c.sooner-others_at.result ≡ sooner (round_at r) (sooner (sooner (first_pause r.rx) r.probes.state.pause_at) (send_at r.state)) =
-    c.sooner-others_at.ensures ∙ (λ j. sooner (c.round_at.ensures r h j) ((c.sooner.ensures ∙ (λ i. sooner (paused i) (send i))) j)) in
-    let first : c.sooner-feedback_at.result ≡ sooner (reports_at r) (requests_at r) = c.sooner-feedback_at.ensures ∙ (λ j. sooner (c.reports_at.ensures r h j) (c.requests_at.ensures r h j)) in
-    c.sooner-2.ensures ∙ (λ j. sooner (first j) (others j))
+    let others : c.earlier-others_at.result ≡ earlier (round_at r) (earlier (earlier (first_pause r.rx) r.probes.state.pause_at) (send_at r.state)) =
+    c.earlier-others_at.ensures ∙ (λ j. earlier (c.round_at.ensures r h j) ((c.earlier.ensures ∙ (λ i. earlier (paused i) (send i))) j)) in
+    let first : c.earlier-feedback_at.result ≡ earlier (reports_at r) (requests_at r) = c.earlier-feedback_at.ensures ∙ (λ j. earlier (c.reports_at.ensures r h j) (c.requests_at.ensures r h j)) in
+    c.earlier-2.ensures ∙ (λ j. earlier (first j) (others j))

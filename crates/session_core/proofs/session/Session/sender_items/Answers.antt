@@ -30,7 +30,7 @@ returns-in_err-report-clause-cause g c =
 pub returns-in_default-clause-items : goal.returns-in_default-clause-items
 returns-in_default-clause-items g c =
     alone_seen c.args.now _ _ c.self.view_is c.args.mids.now _ c.as_slice-medias.ensures.value c.sender_ssrc-sender.result c.in_ok-made.made.items.items c.sender_ssrc-sender.ensures
-    (sym c.in_ok-made.ensures.some ∙ c.if-not-made.false) (sym c.in_ok-report.ensures ∙ c.in_default.is) c.in_ok-made.ensures.said
+    (sym c.in_ok-made.ensures.some ∙ c.if-not-made.false) (sym c.in_ok-report.ensures.answer ∙ c.in_default.is) c.in_ok-made.ensures.said
 
 pub returns-in_default-clause-some : goal.returns-in_default-clause-some
 returns-in_default-clause-some g c = c.in_ok-made.ensures.some ∙ some_seen c.args.now _ _ c.self.view_is c.args.mids.now _ c.as_slice-medias.ensures.value
@@ -43,7 +43,7 @@ returns-in_err-push_back-clause-cause g c =
 pub returns-clause-items : goal.returns-clause-items
 returns-clause-items g c =
     answering_seen c.args.now _ _ c.self.view_is c.args.mids.now _ c.as_slice-medias.ensures.value c.sender_ssrc-sender.result c.push_back.new.self.items c.in-Some.report c.sender_ssrc-sender.ensures
-    (sym c.in_ok-made.ensures.some ∙ c.if-not-made.false) (sym c.in_ok-report.ensures ∙ c.in-Some.is)
+    (sym c.in_ok-made.ensures.some ∙ c.if-not-made.false) (sym c.in_ok-report.ensures.answer ∙ c.in-Some.is)
     (c.in_ok-push_back.ensures.items ∙ ap (λ (l : List Rtcp). l ++ ExtendedReport c.in-Some.report ∷ []) c.in_ok-made.ensures.said)
 
 pub returns-clause-some : goal.returns-clause-some
@@ -51,7 +51,7 @@ returns-clause-some g c = c.in_ok-made.ensures.some ∙ some_seen c.args.now _ _
 
 pub returns-clause-fit : goal.returns-clause-fit
 returns-clause-fit g c =
-    let answer : answer_of c.sender_ssrc-sender.result c.args.now c.self.inside.moments ≡ Some c.in-Some.report = sym c.in_ok-report.ensures ∙ c.in-Some.is in
+    let answer : answer_of c.sender_ssrc-sender.result c.args.now c.self.inside.moments ≡ Some c.in-Some.report = sym c.in_ok-report.ensures.answer ∙ c.in-Some.is in
     subst (λ (xs : List Rtcp). AllByRecursion FitsAlone xs) (sym c.in_ok-push_back.ensures.items)
     (one_more_fits c.in_ok-made.made.items.items (ExtendedReport c.in-Some.report) c.in_ok-made.ensures.fit
     (brief_fits (ExtendedReport c.in-Some.report) c.items_fit_by_lengths.ensures (answer_brief c.args.now c.sender_ssrc-sender.result c.self.inside.moments c.in-Some.report answer)))

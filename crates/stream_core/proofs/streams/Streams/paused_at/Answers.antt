@@ -1,6 +1,7 @@
 use Rattle.std.proofs.Common.{◌≤◌, length, drop, refl, sym, ap, subst, ◌∙◌, ◌+◌, arith}
 use Rattle.std.proofs.lemmas.List.{drop_all}
-use Rattle.stream_core.specs.Pauses.{pause_before, sooner}
+use Rattle.stream_core.specs.Pauses.{pause_before}
+use Rattle.media_units.specs.Soonest.{earlier}
 use Rattle.stream_core.specs.RxRecord.{RxState, StandsFor as RxStandsFor}
 use Rattle.stream_core.specs.StreamsRecord.{StandsFor}
 use Rattle.stream_core.proofs.Alongside.{value_along, length_along}
@@ -13,7 +14,7 @@ loop-place-init g c = λ rs h. refl
 pub loop-place-preserved : goal.loop-place-preserved
 loop-place-preserved g c = λ rs h.
     let y = value_along (RxStandsFor g.W.GapWindow.remembers) c.self.inside.rx rs c.loop-place.place c.at.result.now h c.at.ensures in
-    ap (λ o. pause_before o (drop (c.loop-place.place + 1) rs)) (c.sooner-first.ensures ∙ ap (sooner c.loop-place.first) (c.paused_at.ensures ∙ ap (λ (s : RxState). s.pause_at) y.2.state))
+    ap (λ o. pause_before o (drop (c.loop-place.place + 1) rs)) (c.earlier-first.ensures ∙ ap (earlier c.loop-place.first) (c.paused_at.ensures ∙ ap (λ (s : RxState). s.pause_at) y.2.state))
     ∙ pause_more c.loop-place.first rs c.loop-place.place y.0 y.1
     ∙ c.loop-place.invariant rs h
 

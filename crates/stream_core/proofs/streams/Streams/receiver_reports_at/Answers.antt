@@ -1,6 +1,6 @@
 use Rattle.std.proofs.Common.{◌+◌, ◌≤◌, Some, drop, length, refl, sym, ap, subst, ◌∙◌, arith}
 use Rattle.std.proofs.lemmas.List.{drop_all}
-use Rattle.stream_core.specs.Pauses.{sooner}
+use Rattle.media_units.specs.Soonest.{earlier}
 use Rattle.stream_core.specs.Reporting.{report_at, report_before}
 use Rattle.stream_core.specs.RxRecord.{RxState, StandsFor as RxStandsFor}
 use Rattle.stream_core.specs.StreamsRecord.{StandsFor}
@@ -15,8 +15,8 @@ pub loop-place-preserved : goal.loop-place-preserved
 loop-place-preserved g c = λ rs h.
     let y = value_along (RxStandsFor g.W.GapWindow.remembers) c.self.inside.rx rs c.loop-place.place c.at.result.now h c.at.ensures in
     ap (λ o. report_before c.args.intervals.now o (drop (c.loop-place.place + 1) rs))
-    (c.sooner-first.ensures
-    ∙ ap (λ n. sooner c.loop-place.first (Some n)) (c.receiver_report_at-at.ensures ∙ ap (λ (s : RxState). report_at c.args.intervals.now s) y.2.state))
+    (c.earlier-first.ensures
+    ∙ ap (λ n. earlier c.loop-place.first (Some n)) (c.receiver_report_at-at.ensures ∙ ap (λ (s : RxState). report_at c.args.intervals.now s) y.2.state))
     ∙ report_more c.args.intervals.now c.loop-place.first rs c.loop-place.place y.0 y.1
     ∙ c.loop-place.invariant rs h
 

@@ -1,7 +1,7 @@
 use Rattle.std.proofs.Common.{arith}
 use Rattle.std.proofs.lemmas.Grind.{common_steps}
 use Rattle.rtp_wire.proofs.WordsAgain.{source_put}
-use Rattle.rtp_wire.proofs.header.RtpHeader.put_sources.Goals as goal
+use Rattle.rtp_wire.proofs.header.RtpHeader.sources.Goals as goal
 
 pub loop-i-preserved : goal.loop-i-preserved
 loop-i-preserved c =
