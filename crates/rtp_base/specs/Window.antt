@@ -2,6 +2,7 @@
 use Rattle.std.specs.Prelude.{◌≡◌, ℕ, ◌+◌, ◌%◌, ◌<◌, ◌≤◌, Bool, true, false, not, ◌&&◌, ◌||◌, ◌==◌, nat_eq, nat_lt, max, if◌then◌else◌, slice_set, length, Option, Some, None, List, [], ◌∷◌, ◌++◌, slice_index_or}
 use Rattle.std.specs.List.{list_any}
 use Rattle.rtp_base.specs.declared.window.SeqNoWindow.{SeqNoWindow}
+use Rattle.rtp_base.specs.declared.window.TheConstants.{WINDOW_LEN}
 
 -- the greatest of some numbers
 abbrev pub greatest : List ℕ → ℕ
@@ -12,7 +13,7 @@ greatest (x ∷ xs) = max x (greatest xs)
 -- among them
 abbrev pub is_fresh_rtx : List ℕ → ℕ → Bool
 is_fresh_rtx [] n = true
-is_fresh_rtx (x ∷ xs) n = nat_lt (greatest (x ∷ xs)) n || (nat_lt (greatest (x ∷ xs)) (n + 128) && not (list_any (nat_eq n) (x ∷ xs)))
+is_fresh_rtx (x ∷ xs) n = nat_lt (greatest (x ∷ xs)) n || (nat_lt (greatest (x ∷ xs)) (n + WINDOW_LEN) && not (list_any (nat_eq n) (x ∷ xs)))
 
 -- the same where up to a floor, if there is one, no number is fresh
 abbrev pub is_fresh_after : Option ℕ → List ℕ → ℕ → Bool
@@ -39,14 +40,14 @@ is_just n (Some x) = x == n
 
 -- the number is in its slot, of 128
 abbrev pub holds : List (Option ℕ) → ℕ → Bool
-holds slots k = is_just k (slice_index_or slots (k % 128) None)
+holds slots k = is_just k (slice_index_or slots (k % WINDOW_LEN) None)
 
 -- of the numbers that were taken the window keeps the greatest, and which of the last 128 are among them
 pub record Keeps (w : SeqNoWindow) (low : Option ℕ) (l : List ℕ) : Type 0 where
-  pub long : length w.slots ≡ 128
+  pub long : length w.slots ≡ WINDOW_LEN
   pub start : w.floor ≡ low
   pub high : w.greatest ≡ greatest_after low l
-  pub recent : (k : ℕ) → k ≤ greatest_after low l → greatest_after low l < k + 128 → is_above low k ≡ true → holds w.slots k ≡ list_any (nat_eq k) l
+  pub recent : (k : ℕ) → k ≤ greatest_after low l → greatest_after low l < k + WINDOW_LEN → is_above low k ≡ true → holds w.slots k ≡ list_any (nat_eq k) l
   pub above : (k : ℕ) → greatest_after low l < k → holds w.slots k ≡ false
 
 -- the window stands for a floor and the numbers that were taken; without a floor one was taken
@@ -57,7 +58,7 @@ StandsFor w (Some floor) l = Keeps w (Some floor) l
 
 -- what the window answers, and what it is after it took a number
 abbrev pub accepts_number : SeqNoWindow → ℕ → Bool
-accepts_number w n = is_above w.floor n && (nat_lt w.greatest n || (nat_lt w.greatest (n + 128) && not (holds w.slots n)))
+accepts_number w n = is_above w.floor n && (nat_lt w.greatest n || (nat_lt w.greatest (n + WINDOW_LEN) && not (holds w.slots n)))
 
 abbrev pub put_number : SeqNoWindow → ℕ → SeqNoWindow
-put_number w n = record w { greatest = max w.greatest n; slots = slice_set w.slots (n % 128) (Some n) }
+put_number w n = record w { greatest = max w.greatest n; slots = slice_set w.slots (n % WINDOW_LEN) (Some n) }

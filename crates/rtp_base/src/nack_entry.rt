@@ -1,6 +1,7 @@
 ghost use Rattle.std.specs.Prelude.{◌≡◌, ◌∷◌, ◌<◌, ◌^◌};
 ghost use Rattle.rtp_base.specs.NackEntry.{named_below};
 
+use crate::number::NUMBER_LIMIT;
 use crate::{SeqNo, widen16};
 use arrayvec::{ArrayVec, IntoIter};
 
@@ -21,7 +22,7 @@ impl NackEntry {
     /// The numbers that are missing, the lowest first: `pid` widened by the last number, and that
     /// number + i + 1 for each bit i. The last number is below 2^48.
     pub fn into_iter(self, last: Option<SeqNo>) -> IntoIter<SeqNo, 31>
-        requires { ForSome last (λ p. p < 2 ^ 48) }
+        requires { ForSome last (λ p. p < NUMBER_LIMIT) }
         ensures { result ≡ named_by last self }
     {
         let last = match last {
@@ -34,7 +35,7 @@ impl NackEntry {
 
 #[tactic(auto, unfolding(crate::specs::NackEntry::named_below))]
 fn numbers_from(first: u64, bits: u16) -> IntoIter<SeqNo, 31>
-    requires { first < 2 ^ 48 }
+    requires { first < NUMBER_LIMIT }
     ensures { result ≡ first ∷ named_below first bits 16 }
 {
     let mut numbers = ArrayVec::new();

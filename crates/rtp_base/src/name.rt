@@ -5,16 +5,20 @@ ghost use Rattle.rtp_base.specs.Name.{is_name, name_of};
 use std::fmt;
 use std::marker::Model;
 
+/// The most bytes of a mid or a rid.
+pub const MAX_NAME_LEN: usize = 16;
+
 // 1 to 16 ASCII bytes, with zeros behind them. Contracts see the list of the bytes.
 #[derive(Clone, Copy, Debug)]
 struct Name {
-    bytes: [u8; 16],
+    bytes: [u8; MAX_NAME_LEN],
     len: usize,
 }
 
 impl Model for Name {
     ghost use Rattle.std.specs.Prelude.{ℕ, List, ◌-◌, ◌++◌, length, take, replicate};
     ghost use Rattle.rtp_base.specs.Name.{IsKeptName};
+    ghost use Rattle.rtp_base.specs.declared.name.TheConstants.{MAX_NAME_LEN};
     ghost use Rattle.std.proofs.Common.{rules};
     ghost use Rattle.std.proofs.lemmas.List.{length-take-le};
 
@@ -24,7 +28,7 @@ impl Model for Name {
 
     ghost invariant = { λ n. IsKeptName n.bytes n.len };
 
-    ghost inverse = { λ l. record { bytes = l ++ replicate (16 - length l) 0; len = length l } };
+    ghost inverse = { λ l. record { bytes = l ++ replicate (MAX_NAME_LEN - length l) 0; len = length l } };
 
     ghost inverse_ok = { λ n h. Prim.search (rules, length-take-le, h.long, h.zeros, h.within) };
 }
@@ -60,7 +64,7 @@ fn is_ascii(bytes: &[u8]) -> bool
 fn is_name(bytes: &[u8]) -> bool
     ensures { result ≡ is_name bytes.now }
 {
-    !bytes.is_empty() && bytes.len() <= 16 && is_ascii(bytes)
+    !bytes.is_empty() && bytes.len() <= MAX_NAME_LEN && is_ascii(bytes)
 }
 
 impl Name {
@@ -70,7 +74,7 @@ impl Name {
         requires { IsTrue (is_name bytes.now) }
         ensures { result ≡ bytes.now }
     {
-        let mut kept = [0; 16];
+        let mut kept = [0; MAX_NAME_LEN];
         let (front, _) = kept.split_at_mut(bytes.len());
         front.copy_from_slice(bytes);
         Name {

@@ -91,6 +91,10 @@ impl fmt::Display for Pt {
     }
 }
 
+/// The number behind the last one of a packet: a rollover count of 32 bits and a sequence number of
+/// 16 (RFC 3711 section 3.3.1).
+pub const NUMBER_LIMIT: u64 = 1 << 48;
+
 /// An extended sequence number, 65,536 times the rollover count plus the 16 bits of the header
 /// (RFC 3711 section 3.3.1). Contracts see the number.
 #[derive(Clone, Copy, Debug, Default, PartialEq, Eq, PartialOrd, Ord, Hash)]

@@ -6,11 +6,14 @@ use arrayvec::ArrayVec;
 use std::marker::Model;
 use std::slice;
 
+/// The most values of a list: the count in the header of RTCP has 5 bits (RFC 3550 section 6.4.1).
+pub const MAX_REPORTS: usize = 31;
+
 /// At most 31 values in a row, as many as the 5-bit count of an RTCP header can say (RFC 3550
 /// section 6.4.1). It takes no memory of its own. Contracts see the list of them.
 #[derive(Debug, Drop)]
 pub struct ReportList<T> {
-    all: ArrayVec<T, 31>,
+    all: ArrayVec<T, MAX_REPORTS>,
 }
 
 impl<T> Model for ReportList<T> {
@@ -57,7 +60,7 @@ impl<T> ReportList<T> {
     /// The number of values, at most 31.
     pub fn len(&self) -> usize
         ensures value { result ≡ length self.now }
-        ensures fits { result ≤ 31 }
+        ensures fits { result ≤ MAX_REPORTS }
     {
         self.all.len()
     }
@@ -71,8 +74,8 @@ impl<T> ReportList<T> {
 
     /// Whether it has 31 values, and so no room for another.
     pub fn is_full(&self) -> bool
-        ensures value { result ≡ (length self.now == 31) }
-        ensures fits { length self.now ≤ 31 }
+        ensures value { result ≡ (length self.now == MAX_REPORTS) }
+        ensures fits { length self.now ≤ MAX_REPORTS }
     {
         self.all.is_full()
     }
@@ -88,7 +91,7 @@ impl<T> ReportList<T> {
     /// The values in order, at most 31.
     pub fn as_slice(&self) -> &[T]
         ensures value { result.now ≡ self.now }
-        ensures fits { length result.now ≤ 31 }
+        ensures fits { length result.now ≤ MAX_REPORTS }
     {
         self.all.as_slice()
     }
@@ -97,7 +100,7 @@ impl<T> ReportList<T> {
 impl<T: Default + Drop> ReportList<T> {
     /// Adds a value at the end.
     pub fn push(&mut self, value: T)
-        requires { length self.old < 31 }
+        requires { length self.old < MAX_REPORTS }
         ensures { self.new ≡ self.old ++ value ∷ [] }
     {
         self.all.push(value);

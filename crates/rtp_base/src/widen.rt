@@ -1,6 +1,8 @@
-ghost use Rattle.std.specs.Prelude.{◌≡◌, ◌<◌, ◌^◌};
+ghost use Rattle.std.specs.Prelude.{◌≡◌, ◌<◌};
 ghost use Rattle.std.specs.Option.{ForSome};
 ghost use Rattle.rtp_base.specs.Widen.{rollover, widen16 as widened16, widen32 as widened32, WidensToItself};
+
+use crate::number::NUMBER_LIMIT;
 
 // The rollover count of a number with low part `low`, after one with rollover count `roc` and low
 // part `last`.
@@ -24,7 +26,7 @@ fn rollover_after(half: u64, roc: u64, last: u64, low: u64) -> u64
 /// of 0 is not lowered, and one of 2^32 - 1 is not raised (RFC 3711 section 3.3.1 and appendix A).
 pub fn widen16(last: Option<u64>, low: u16) -> u64
     ensures value { result ≡ widened16 last low }
-    ensures bound { ForSome last (λ p. p < 2 ^ 48) → result < 2 ^ 48 }
+    ensures bound { ForSome last (λ p. p < NUMBER_LIMIT) → result < NUMBER_LIMIT }
 {
     let low = u64::from(low);
     let Some(last) = last else {

@@ -4,6 +4,10 @@ ghost use Rattle.rtp_base.specs.Window.{holds, is_fresh_after, with_fresh, great
 
 use crate::number::SeqNo;
 
+/// How far below the greatest number of repairs one is still told apart from those that were
+/// taken.
+pub const WINDOW_LEN: u64 = 128;
+
 /// The numbers of repair datagrams that were taken, as far as it takes to tell which are fresh:
 /// those above the greatest, and those above the greatest less 128 that were not taken. Where it
 /// begins after a floor, no number up to that is fresh.
@@ -11,13 +15,13 @@ use crate::number::SeqNo;
 pub struct SeqNoWindow {
     floor: Option<u64>,
     greatest: u64,
-    slots: [Option<u64>; 128],
+    slots: [Option<u64>; WINDOW_LEN as usize],
 }
 
-fn is_held(slots: &[Option<u64>; 128], number: u64) -> bool
+fn is_held(slots: &[Option<u64>; WINDOW_LEN as usize], number: u64) -> bool
     ensures { result ≡ holds slots.now number }
 {
-    match slots[(number % 128) as usize] {
+    match slots[(number % WINDOW_LEN) as usize] {
         Some(held) => held == number,
         None => false,
     }
@@ -32,8 +36,8 @@ impl SeqNoWindow {
         ensures { StandsFor result None (number ∷ []) }
     {
         let number = u64::from(number);
-        let mut slots = [None; 128];
-        slots[(number % 128) as usize] = Some(number);
+        let mut slots = [None; WINDOW_LEN as usize];
+        slots[(number % WINDOW_LEN) as usize] = Some(number);
         SeqNoWindow {
             floor: None,
             greatest: number,
@@ -49,7 +53,7 @@ impl SeqNoWindow {
         SeqNoWindow {
             floor: Some(number),
             greatest: number,
-            slots: [None; 128],
+            slots: [None; WINDOW_LEN as usize],
         }
     }
 
@@ -64,14 +68,14 @@ impl SeqNoWindow {
         if self.greatest < number {
             return true;
         }
-        self.greatest - number < 128 && !is_held(&self.slots, number)
+        self.greatest - number < WINDOW_LEN && !is_held(&self.slots, number)
     }
 
     fn put(&mut self, number: u64)
         ensures { self.new ≡ put_number self.old number }
     {
         self.greatest = self.greatest.max(number);
-        self.slots[(number % 128) as usize] = Some(number);
+        self.slots[(number % WINDOW_LEN) as usize] = Some(number);
     }
 
     /// Whether the number is fresh.
