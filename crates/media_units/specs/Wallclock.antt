@@ -1,9 +1,10 @@
 -- Moments against the calendar, in whole numbers. A number that a u64 cannot hold is the greatest u64.
 use Rattle.std.specs.Prelude.{ℕ, ◌+◌, ◌-◌, ◌*◌, ◌/◌, ◌^◌, min}
+use Rattle.media_units.specs.declared.wallclock.TheConstants.{SECONDS_1900}
 
 -- nanoseconds from 1900 to the Unix epoch: 70 years, 17 of them with a leap day (RFC 868)
 abbrev pub nanos_1900 : ℕ
-nanos_1900 = 2208988800 * 1000000000
+nanos_1900 = SECONDS_1900 * 1000000000
 
 -- nanoseconds from the Unix epoch to a moment of a run that began then
 abbrev pub unix_nanos : ℕ → ℕ → ℕ

@@ -66,6 +66,9 @@ impl Amount for u128 {
     }
 }
 
+/// How long an amount counts after it was added, in nanoseconds: a choice.
+pub const HISTORY_NANOS: u64 = 1_000_000_000;
+
 /// Amounts that count for 1 s after they were added, and their sum.
 #[derive(Drop)]
 pub struct ValueHistory<T: Amount> {
@@ -89,7 +92,7 @@ impl<T: Amount> Model for ValueHistory<T> {
 impl<T: Amount> ValueHistory<T> {
     /// A history of nothing.
     pub fn new(alloc: Global) -> Self
-        ensures empty { result ≡ record { start = 0; held = []; limit = 1000000000 } }
+        ensures empty { result ≡ record { start = 0; held = []; limit = HISTORY_NANOS } }
         ensures stands { StandsFor result [] 0 }
     {
         Self::starting_at(alloc, T::zero())
@@ -97,13 +100,13 @@ impl<T: Amount> ValueHistory<T> {
 
     /// A history that begins with an amount, which counts always.
     pub fn starting_at(alloc: Global, start: T) -> Self
-        ensures empty { result ≡ record { start = T.number start; held = []; limit = 1000000000 } }
+        ensures empty { result ≡ record { start = T.number start; held = []; limit = HISTORY_NANOS } }
         ensures stands { StandsFor result [] 0 }
     {
         ValueHistory {
             total: start,
             entries: VecDeque::new(alloc),
-            longest: Duration::from_secs(1),
+            longest: Duration::from_nanos(HISTORY_NANOS),
         }
     }
 

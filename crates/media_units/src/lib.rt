@@ -3,16 +3,18 @@
 #![tactic(auto)]
 
 mod history;
+mod numbers;
 mod rate;
 mod soonest;
 mod time;
 mod trip;
 mod wallclock;
 
-pub use history::{Amount, ValueHistory};
-pub use rate::{Bitrate, DataSize, Debt};
+pub use history::{Amount, HISTORY_NANOS, ValueHistory};
+pub use numbers::named_numbers;
+pub use rate::{Bitrate, DataSize, Debt, GREATEST_RATE};
 pub use soonest::{Soonest, earlier};
-pub use time::{Duration, Instant, already_happened, not_happening};
+pub use time::{Duration, Instant, NOT_HAPPENING_SECONDS, already_happened, not_happening};
 pub use trip::calculate_rtt;
 pub use wallclock::{
     Beginning, InstantExt, SECONDS_1900, SystemTime, SystemTimeExt, epoch_to_beginning,

@@ -6,7 +6,8 @@ use crate::Duration;
 use std::marker::Model;
 use std::ops::Mul;
 
-const GREATEST_RATE: u64 = 10_000_000_000;
+/// The greatest rate, in bits a second: a choice.
+pub const GREATEST_RATE: u64 = 10_000_000_000;
 
 /// A rate in bits a second, at most 10,000,000,000. Contracts see the number.
 #[derive(Clone, Copy, Debug, PartialEq, Eq, PartialOrd, Ord, Hash)]
@@ -16,12 +17,13 @@ pub struct Bitrate {
 
 impl Model for Bitrate {
     ghost use Rattle.std.specs.Prelude.{ℕ, ◌≤◌};
+    ghost use Rattle.media_units.specs.declared.rate.TheConstants.{GREATEST_RATE};
 
     ghost Value = { ℕ };
 
     ghost view = { λ r. r.bits };
 
-    ghost invariant = { λ r. r.bits ≤ 10000000000 };
+    ghost invariant = { λ r. r.bits ≤ GREATEST_RATE };
 
     ghost inverse = { λ n. record { bits = n } };
 }
@@ -29,7 +31,7 @@ impl Model for Bitrate {
 impl Bitrate {
     /// So many bits a second, at most 10,000,000,000.
     pub fn bps(bits: u64) -> Self
-        ensures { result ≡ min bits 10000000000 }
+        ensures { result ≡ min bits GREATEST_RATE }
     {
         Bitrate {
             bits: bits.min(GREATEST_RATE),
@@ -38,14 +40,14 @@ impl Bitrate {
 
     /// So many thousand bits a second, at most 10,000,000,000 bits.
     pub fn kbps(kilobits: u64) -> Self
-        ensures { result ≡ min (kilobits * 1000) 10000000000 }
+        ensures { result ≡ min (kilobits * 1000) GREATEST_RATE }
     {
         Self::bps(kilobits.saturating_mul(1_000))
     }
 
     /// So many million bits a second, at most 10,000,000,000 bits.
     pub fn mbps(megabits: u64) -> Self
-        ensures { result ≡ min (megabits * 1000000) 10000000000 }
+        ensures { result ≡ min (megabits * 1000000) GREATEST_RATE }
     {
         Self::bps(megabits.saturating_mul(1_000_000))
     }
@@ -53,7 +55,7 @@ impl Bitrate {
     /// The bits a second.
     pub fn as_u64(self) -> u64
         ensures value { result ≡ self }
-        ensures at_most { result ≤ 10000000000 }
+        ensures at_most { result ≤ GREATEST_RATE }
     {
         self.bits
     }

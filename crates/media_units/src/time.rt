@@ -100,12 +100,16 @@ pub fn already_happened() -> Instant
     Instant { nanos: 0 }
 }
 
+/// How long after the beginning the moment is that never comes, in seconds: a hundred years of 365
+/// days, a choice.
+pub const NOT_HAPPENING_SECONDS: u64 = 3_153_600_000;
+
 /// A moment that never comes: a hundred years of 365 days after the beginning.
 pub fn not_happening() -> Instant
-    ensures { result ≡ 3153600000 * 1000000000 }
+    ensures { result ≡ NOT_HAPPENING_SECONDS * 1000000000 }
 {
     Instant {
-        nanos: 3_153_600_000_000_000_000,
+        nanos: NOT_HAPPENING_SECONDS * 1_000_000_000,
     }
 }
 
