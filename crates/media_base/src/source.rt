@@ -1,4 +1,4 @@
-ghost use Rattle.std.specs.Prelude.{◌≡◌, ◌+◌, ◌<◌, ◌≤◌, ◌^◌, ◌++◌, List, ℕ, ◌⊎◌, length, IfOk, OnOk, IsErrOf};
+ghost use Rattle.std.specs.Prelude.{◌≡◌, ◌+◌, ◌<◌, ◌≤◌, ◌++◌, List, ℕ, ◌⊎◌, length, IfOk, OnOk, IsErrOf};
 ghost use Rattle.std.specs.declared.option.Option.{Option};
 ghost use Rattle.std.specs.Io.{ReadsAtMost};
 ghost use Rattle.std.specs.Io.KnownBytes.{ReadConsumes, Consumes, IsAtEnd};
@@ -63,6 +63,9 @@ pub trait Source {
         ensures { result ≡ fault_count self.now };
 }
 
+/// The number behind the greatest limit of a reading, in bytes: a choice.
+pub const READ_LIMIT: u64 = 1 << 40;
+
 /// Reads to the end of input, at most `limit` bytes.
 ///
 /// # Errors
@@ -73,7 +76,7 @@ pub fn read_all<S: Source>(
     source: &mut S,
     limit: usize,
 ) -> Result<Vec<u8>, ReadError>
-    requires { limit < 2 ^ 40 }
+    requires { limit < READ_LIMIT }
     ensures all { IfOk result (λ bytes. ReadsAll (S.left source.old) (S.left source.new) bytes.items) }
     ensures short { IfOk result (λ bytes. length bytes.items ≤ limit) }
     ensures long { IsErrOf result ReadError.TooLong → (bytes : List ℕ)
