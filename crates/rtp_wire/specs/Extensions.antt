@@ -5,7 +5,9 @@ use Rattle.std.specs.Int.{w16, to_be_bytes}
 use Rattle.std.specs.Option.{option_or}
 use Rattle.rtp_wire.specs.declared.extension.Extension.{Extension}
 use Rattle.rtp_wire.specs.declared.extension.Extension.TheVariants.{AudioLevel, AbsoluteSendTime, TransportSequenceNumber, RtpMid, RtpStreamId, RepairedRtpStreamId, VideoOrientation, AbsoluteCaptureTime, PlayoutDelay}
+use Rattle.rtp_wire.specs.declared.extension.TheConstants.{MAP_PLACES, MAX_ID_ONE_BYTE_FORM, RESERVED_ID}
 use Rattle.rtp_wire.specs.declared.values.ExtensionValues.{ExtensionValues}
+use Rattle.rtp_wire.specs.declared.values.TheConstants.{ONE_BYTE_PROFILE, TWO_BYTE_PROFILE}
 use Rattle.rtp_base.specs.Name.{name_of}
 use Rattle.rtp_wire.specs.Reading.{transport_in, send_time_in, level_in, voice_in, turn_in, capture_in, least_delay_in, greatest_delay_in}
 use Rattle.rtp_wire.specs.Writing.{value_bytes, without, wire_values}
@@ -28,7 +30,7 @@ is_at e (Some f) = extension_number e == extension_number f
 
 -- A map has 15 places: place i is the extension that the id i names. Id 0 is padding and names none.
 abbrev pub no_extensions : List (Option Extension)
-no_extensions = replicate 15 None
+no_extensions = replicate MAP_PLACES None
 
 -- the ids that hold where nothing else was agreed
 abbrev pub standard_extensions : List (Option Extension)
@@ -52,7 +54,7 @@ standard_extensions =
 
 -- the extension that an id names: ids above 14 name none
 abbrev pub named_by : List (Option Extension) → ℕ → Option Extension
-named_by exts id = if nat_lt id 15 then slice_index_or exts id None else None
+named_by exts id = if nat_lt id RESERVED_ID then slice_index_or exts id None else None
 
 -- the id that names an extension
 abbrev pub id_of : List (Option Extension) → Extension → Option ℕ
@@ -91,7 +93,7 @@ one_byte_elements (suc passed) (b ∷ bytes) = one_byte_elements passed bytes
 one_byte_elements zero (b ∷ bytes) =
     if b == 0
     then one_byte_elements 0 bytes
-    else if b / 16 == 15 || nat_lt (length bytes) (b % 16 + 1)
+    else if b / 16 == RESERVED_ID || nat_lt (length bytes) (b % 16 + 1)
     then []
     else (b / 16, take (b % 16 + 1) bytes) ∷ one_byte_elements (b % 16 + 1) bytes
 
@@ -128,9 +130,9 @@ with_elements exts values (e ∷ elements) = with_elements exts (with_value valu
 -- the elements of an extension: other profiles have none
 abbrev pub elements_of : ℕ → List ℕ → List (ℕ × List ℕ)
 elements_of profile bytes =
-    if profile == 48862
+    if profile == ONE_BYTE_PROFILE
     then one_byte_elements 0 bytes
-    else if profile / 16 == 256
+    else if profile / 16 == TWO_BYTE_PROFILE
     then two_byte_elements 0 bytes
     else []
 
@@ -140,7 +142,7 @@ values_of exts profile bytes = with_elements exts no_values (elements_of profile
 
 -- the ids that are written: 0 is padding, and 15 ends a reading
 abbrev pub written_ids : List ℕ
-written_ids = range_with_len 1 14
+written_ids = range_with_len 1 MAX_ID_ONE_BYTE_FORM
 
 abbrev pub bytes_at : Option Extension → ExtensionValues → Option (List ℕ)
 bytes_at None values = None

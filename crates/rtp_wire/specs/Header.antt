@@ -7,6 +7,7 @@ use Rattle.rtp_wire.specs.Bytes.{words_of}
 use Rattle.rtp_wire.specs.declared.extension.ExtensionMap.{ExtensionMap}
 use Rattle.rtp_wire.specs.declared.values.ExtensionValues.{ExtensionValues}
 use Rattle.rtp_wire.specs.declared.header.RtpHeader.{RtpHeader}
+use Rattle.rtp_wire.specs.declared.header.TheConstants.{FIXED_HEADER_LEN, MAX_SOURCES, RTP_VERSION}
 use Rattle.rtp_wire.specs.Extensions.{no_values, values_of, extension_bytes, written_values}
 
 -- Byte 0: version (2 bits), padding, extension, CSRC count (4 bits). Byte 1: marker, payload type (7 bits).
@@ -30,11 +31,11 @@ type_number bytes = slice_index bytes 1 % 128
 
 -- the contributing sources, behind the twelve bytes of each header
 abbrev pub sources : List ℕ → List ℕ
-sources bytes = words_of (take (4 * source_count bytes) (drop 12 bytes))
+sources bytes = words_of (take (4 * source_count bytes) (drop FIXED_HEADER_LEN bytes))
 
 -- where the sources end: there the extension begins, if there is one
 abbrev pub sources_end : List ℕ → ℕ
-sources_end bytes = 12 + 4 * source_count bytes
+sources_end bytes = FIXED_HEADER_LEN + 4 * source_count bytes
 
 -- an extension has a profile, its length in words and so many words of data (RFC 3550 section 5.3.1)
 abbrev pub extension_profile : List ℕ → ℕ
@@ -53,8 +54,8 @@ header_end bytes = if has_extension_bit bytes then sources_end bytes + 4 + exten
 -- the end.
 abbrev pub has_header : List ℕ → Bool
 has_header bytes =
-    nat_le 12 (length bytes)
-    && (version bytes == 2)
+    nat_le FIXED_HEADER_LEN (length bytes)
+    && (version bytes == RTP_VERSION)
     && nat_le (sources_end bytes) (length bytes)
     && (not (has_extension_bit bytes) || (nat_le (sources_end bytes + 4) (length bytes) && nat_le (header_end bytes) (length bytes)))
 
@@ -73,7 +74,7 @@ fields_of exts bytes = record {
   timestamp = word_at bytes 4;
   ssrc = word_at bytes 8;
   csrc_count = source_count bytes;
-  csrc = sources bytes ++ replicate (15 - source_count bytes) 0;
+  csrc = sources bytes ++ replicate (MAX_SOURCES - source_count bytes) 0;
   ext_vals = ext_vals_of exts bytes;
   header_len = header_end bytes;
 }
@@ -107,7 +108,7 @@ header_bytes exts h =
 unfoldable pub wire_form : ExtensionMap → RtpHeader → RtpHeader
 wire_form exts h = record h {
   payload_type = h.payload_type % 128;
-  csrc = csrc_of h ++ replicate (15 - h.csrc_count) 0;
+  csrc = csrc_of h ++ replicate (MAX_SOURCES - h.csrc_count) 0;
   ext_vals = written_values exts h.ext_vals;
   header_len = length (header_bytes exts h);
 }

@@ -1,15 +1,16 @@
 -- The payload of a repair, and of a packet that is only padding.
 use Rattle.std.specs.Prelude.{ℕ, ◌+◌, ◌-◌, ◌*◌, ◌/◌, nat_le, if◌then◌else◌, Option, Some, None, List, [], ◌∷◌, ◌++◌, length, drop, replicate}
 use Rattle.rtp_base.specs.Wire.{half_at}
+use Rattle.rtp_wire.specs.declared.header.TheConstants.{ORIGINAL_NUMBER_LEN, PADDING_BLOCK_LEN}
 
 -- a repair begins with the number of the packet that it repairs, behind which stands that packet's payload (RFC 4588
 -- section 4)
 abbrev pub original_of : List ℕ → Option (ℕ × List ℕ)
-original_of payload = if nat_le 2 (length payload) then Some (half_at payload 0, drop 2 payload) else None
+original_of payload = if nat_le ORIGINAL_NUMBER_LEN (length payload) then Some (half_at payload 0, drop ORIGINAL_NUMBER_LEN payload) else None
 
 -- a blank packet of an asked length is that length in whole blocks of 16 bytes
 abbrev pub blank_length : ℕ → ℕ
-blank_length asked = (asked + 15) / 16 * 16
+blank_length asked = (asked + (PADDING_BLOCK_LEN - 1)) / PADDING_BLOCK_LEN * PADDING_BLOCK_LEN
 
 -- zeros, and their count with itself in the last byte (RFC 3550 section 5.1)
 abbrev pub blank_payload : ℕ → List ℕ

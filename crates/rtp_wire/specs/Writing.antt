@@ -3,9 +3,11 @@ use Rattle.std.specs.Prelude.{ℕ, ◌+◌, ◌*◌, ◌/◌, ◌%◌, ◌^◌, 
 use Rattle.std.specs.Option.{option_map, option_and_then}
 use Rattle.std.specs.Int.{w16, w64, to_be_bytes}
 use Rattle.rtp_base.specs.declared.media_time.MediaTime.{MediaTime}
+use Rattle.rtp_wire.specs.declared.abs_time.TheConstants.{SEND_TIME_LIMIT}
 use Rattle.rtp_wire.specs.declared.extension.Extension.{Extension}
 use Rattle.rtp_wire.specs.declared.extension.Extension.TheVariants.{AudioLevel, AbsoluteSendTime, TransportSequenceNumber, RtpMid, RtpStreamId, RepairedRtpStreamId, VideoOrientation, AbsoluteCaptureTime, PlayoutDelay}
 use Rattle.rtp_wire.specs.declared.values.ExtensionValues.{ExtensionValues}
+use Rattle.rtp_wire.specs.declared.values.TheConstants.{MAX_DELAY_STEPS, MAX_MINUS_LEVEL}
 use Rattle.rtp_wire.specs.declared.values.VideoOrientation.{VideoOrientation as Turn}
 use Rattle.rtp_wire.specs.declared.values.VideoOrientation.TheVariants.{Deg0, Deg90, Deg180, Deg270}
 use Rattle.rtp_base.specs.Name.{name_of}
@@ -15,7 +17,7 @@ use Rattle.rtp_wire.specs.Reading.{level_of, hundredths}
 -- minus a level, from 0 to 127: a level above 0 counts as 0, and one below -127 as -127
 abbrev pub minus_level : ℤ → ℕ
 minus_level (pos n) = 0
-minus_level (negsuc n) = min (n + 1) 127
+minus_level (negsuc n) = min (n + 1) MAX_MINUS_LEVEL
 
 -- voice activity is the high bit, and the other seven are minus the level (RFC 6464 section 3)
 abbrev pub level_byte : ℤ → Bool → ℕ
@@ -30,7 +32,7 @@ quarter_turns Deg90 = 3
 
 -- a delay in steps of 10 ms, rounded down, and 4,095 at most
 abbrev pub delay_steps : MediaTime → ℕ
-delay_steps t = min (t.numer * 100 / t.frequency) 4095
+delay_steps t = min (t.numer * 100 / t.frequency) MAX_DELAY_STEPS
 
 -- what two values make, where both are there
 abbrev pub both : {A B C : Type 0} → (A → B → C) → Option A → Option B → Option C
@@ -73,7 +75,7 @@ wire_values v = record {
   audio_level = both (λ level voice. level_of (minus_level level)) v.audio_level v.voice_activity;
   voice_activity = both (λ level voice. voice) v.audio_level v.voice_activity;
   video_orientation = v.video_orientation;
-  abs_send_time = option_map (λ n. n % 2 ^ 24) v.abs_send_time;
+  abs_send_time = option_map (λ n. n % SEND_TIME_LIMIT) v.abs_send_time;
   transport_cc = option_map (λ n. n % 2 ^ 16) v.transport_cc;
   play_delay_min = both (λ least greatest. hundredths (delay_steps least)) v.play_delay_min v.play_delay_max;
   play_delay_max = both (λ least greatest. hundredths (delay_steps greatest)) v.play_delay_min v.play_delay_max;

@@ -6,18 +6,25 @@ ghost use Rattle.rtp_wire.specs.AbsTime.{send_units, sent_at};
 use media_units::{Beginning, Duration, Instant, InstantExt, already_happened};
 use std::marker::Model;
 
+/// The units of an absolute send time in a second: 18 bits are behind the point.
+pub const SEND_TIME_UNITS: u64 = 0x4_0000;
+
+/// The number of units behind the last one of an absolute send time, which has 24 bits.
+pub const SEND_TIME_LIMIT: u64 = 0x100_0000;
+
 /// When a packet was sent: NTP seconds in units of 2^-18 s, modulo 2^24. Contracts see the number.
 #[derive(Clone, Copy, Debug, PartialEq, Eq, Hash)]
 pub struct AbsSendTime(u32);
 
 impl Model for AbsSendTime {
-    ghost use Rattle.std.specs.Prelude.{ℕ, ◌<◌, ◌^◌};
+    ghost use Rattle.std.specs.Prelude.{ℕ, ◌<◌};
+    ghost use Rattle.rtp_wire.specs.declared.abs_time.TheConstants.{SEND_TIME_LIMIT};
 
     ghost Value = { ℕ };
 
     ghost view = { λ t. t.0 };
 
-    ghost invariant = { λ t. t.0 < 2 ^ 24 };
+    ghost invariant = { λ t. t.0 < SEND_TIME_LIMIT };
 
     ghost inverse = { λ n. record { 0 = n } };
 }
@@ -26,22 +33,22 @@ fn units_of(length: Duration) -> u128
     ensures value { result ≡ send_units length }
     ensures bound { result < 2 ^ 53 }
 {
-    u128::from(length.as_nanos()) * 0x4_0000 / 1_000_000_000
+    u128::from(length.as_nanos()) * SEND_TIME_UNITS as u128 / 1_000_000_000
 }
 
 impl AbsSendTime {
     /// The low 24 bits of a number of units of 2^-18 s.
     pub fn from_units(units: u64) -> Self
-        ensures { result ≡ units % 2 ^ 24 }
+        ensures { result ≡ units % SEND_TIME_LIMIT }
     {
-        AbsSendTime((units % 0x100_0000) as u32)
+        AbsSendTime((units % SEND_TIME_LIMIT) as u32)
     }
 
     /// When a moment of a run is, rounded down.
     pub fn new(moment: Instant, beginning: &Beginning) -> Self
-        ensures { result ≡ send_units (ntp_nanos beginning.now.unix_secs moment) % 2 ^ 24 }
+        ensures { result ≡ send_units (ntp_nanos beginning.now.unix_secs moment) % SEND_TIME_LIMIT }
     {
-        AbsSendTime((units_of(moment.to_ntp_duration(beginning)) % 0x100_0000) as u32)
+        AbsSendTime((units_of(moment.to_ntp_duration(beginning)) % SEND_TIME_LIMIT as u128) as u32)
     }
 
     /// The moment of a run that is nearest at or before `now` and has these 24 bits, rounded down:
@@ -51,8 +58,8 @@ impl AbsSendTime {
         ensures before { result ≤ now }
     {
         let last = units_of(now.to_ntp_duration(beginning));
-        let ago = (last + 0x100_0000 - u128::from(self.0)) % 0x100_0000;
-        let nanos = last.saturating_sub(ago) * 1_000_000_000 / 0x4_0000;
+        let ago = (last + SEND_TIME_LIMIT as u128 - u128::from(self.0)) % SEND_TIME_LIMIT as u128;
+        let nanos = last.saturating_sub(ago) * 1_000_000_000 / SEND_TIME_UNITS as u128;
         let start = already_happened().to_ntp_duration(beginning);
         Instant::from_nanos(nanos as u64).saturating_sub(start)
     }

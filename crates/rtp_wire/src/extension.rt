@@ -26,11 +26,22 @@ pub enum Extension {
     PlayoutDelay,
 }
 
+/// The greatest id of an element in the one-byte form (RFC 8285 section 4.2).
+pub const MAX_ID_ONE_BYTE_FORM: u8 = 14;
+
+/// The id behind the greatest of the one-byte form: it is reserved, and ends the reading (RFC 8285
+/// section 4.2).
+pub const RESERVED_ID: u8 = 15;
+
+/// How many places a map has, one for each id below the reserved one. The first, that of padding,
+/// names nothing.
+pub const MAP_PLACES: usize = 15;
+
 /// Which id, from 1 to 14, names which extension. Contracts see the list of 15 places: place i is
 /// what the id i names.
 #[derive(Clone, Copy, Debug, PartialEq, Eq)]
 pub struct ExtensionMap {
-    places: [Option<Extension>; 15],
+    places: [Option<Extension>; MAP_PLACES],
 }
 
 impl Model for ExtensionMap {
@@ -64,10 +75,10 @@ fn cleared(extension: Extension, place: Option<Extension>) -> Option<Extension>
     }
 }
 
-fn clear(places: &mut [Option<Extension>; 15], extension: Extension)
+fn clear(places: &mut [Option<Extension>; MAP_PLACES], extension: Extension)
     ensures { places.new ≡ map (cleared extension) places.old }
 {
-    for i in 0..15 {
+    for i in 0..MAP_PLACES {
         places[i] = cleared(extension, places[i]);
     }
 }
@@ -87,7 +98,9 @@ impl ExtensionMap {
     pub fn empty() -> Self
         ensures { result ≡ no_extensions }
     {
-        ExtensionMap { places: [None; 15] }
+        ExtensionMap {
+            places: [None; MAP_PLACES],
+        }
     }
 
     /// The ids of this library: 1 audio level, 2 absolute send time, 3 transport sequence number, 4
@@ -95,7 +108,7 @@ impl ExtensionMap {
     pub fn standard() -> Self
         ensures { result ≡ standard_extensions }
     {
-        let mut places = [None; 15];
+        let mut places = [None; MAP_PLACES];
         places[1] = Some(Extension::AudioLevel);
         places[2] = Some(Extension::AbsoluteSendTime);
         places[3] = Some(Extension::TransportSequenceNumber);
@@ -109,7 +122,7 @@ impl ExtensionMap {
     /// Names an extension by an id. An id that named it before names nothing then.
     pub fn set(&mut self, id: u8, extension: Extension)
         requires low { 1 ≤ id }
-        requires high { id ≤ 14 }
+        requires high { id ≤ MAX_ID_ONE_BYTE_FORM }
         ensures { self.new ≡ with_extension self.old id extension }
     {
         let mut places = self.places;
@@ -132,7 +145,7 @@ impl ExtensionMap {
     pub fn named_by(&self, id: u8) -> Option<Extension>
         ensures { result ≡ named_by self.now id }
     {
-        if id < 15 {
+        if id < RESERVED_ID {
             self.places[usize::from(id)]
         } else {
             None

@@ -11,6 +11,28 @@ use crate::values::ExtensionValues;
 use rtp_base::wire::{half, put_word, word};
 use rtp_base::{Pt, SeqNo, Ssrc, widen16 as wide16};
 
+/// The version of RTP (RFC 3550 section 5.1).
+pub const RTP_VERSION: u8 = 2;
+
+/// The bytes of each header, before the contributing sources (RFC 3550 section 5.1).
+pub const FIXED_HEADER_LEN: usize = 12;
+
+/// The most contributing sources: their count has 4 bits (RFC 3550 section 5.1).
+pub const MAX_SOURCES: usize = 15;
+
+/// The most bytes of a header that is written, with its sources and its extension: a choice.
+pub const MAX_HEADER_LEN: usize = 160;
+
+/// The bytes of the original sequence number before the payload of a repair (RFC 4588 section 4).
+pub const ORIGINAL_NUMBER_LEN: usize = 2;
+
+/// The bytes of a block, of which the payload of a packet that is only padding has whole ones: a
+/// choice.
+pub const PADDING_BLOCK_LEN: usize = 16;
+
+/// The most bytes of the payload of a packet that is only padding: a choice.
+pub const MAX_BLANK_PADDING_PAYLOAD_SIZE: usize = 240;
+
 /// The header of an RTP packet (RFC 3550 section 5.1).
 #[derive(Clone, Copy, Debug, PartialEq, Eq)]
 pub struct RtpHeader {
@@ -29,7 +51,7 @@ pub struct RtpHeader {
     /// How many of the contributing sources there are, at most 15.
     pub csrc_count: usize,
     /// The contributing sources, and zeros behind them.
-    pub csrc: [u32; 15],
+    pub csrc: [u32; MAX_SOURCES],
     /// The values of the header extension.
     pub ext_vals: ExtensionValues,
     /// The bytes of the header, with sources and extension.
@@ -44,21 +66,21 @@ impl RtpHeader {
     ghost use Rattle.std.specs.Option.{option_copied};
 
     fn sources_end(bytes: &[u8]) -> usize
-        requires { 12 ≤ length bytes.now }
+        requires { FIXED_HEADER_LEN ≤ length bytes.now }
         ensures { result ≡ sources_end bytes.now }
     {
-        12 + 4 * usize::from(bytes[0] & 15)
+        FIXED_HEADER_LEN + 4 * usize::from(bytes[0] & 15)
     }
 
     fn is_extended(bytes: &[u8]) -> bool
-        requires { 12 ≤ length bytes.now }
+        requires { FIXED_HEADER_LEN ≤ length bytes.now }
         ensures { result ≡ has_extension_bit bytes.now }
     {
         (bytes[0] >> 4) & 1 == 1
     }
 
     fn header_end(bytes: &[u8]) -> usize
-        requires fixed { 12 ≤ length bytes.now }
+        requires fixed { FIXED_HEADER_LEN ≤ length bytes.now }
         requires whole { IsTrue (has_extension_bit bytes.now) → sources_end bytes.now + 4 ≤ length bytes.now }
         ensures { result ≡ header_end bytes.now }
     {
@@ -73,7 +95,7 @@ impl RtpHeader {
     fn stands(bytes: &[u8]) -> bool
         ensures { result ≡ has_header bytes.now }
     {
-        if bytes.len() < 12 || bytes[0] >> 6 != 2 {
+        if bytes.len() < FIXED_HEADER_LEN || bytes[0] >> 6 != RTP_VERSION {
             return false;
         }
         let end = Self::sources_end(bytes);
@@ -84,14 +106,14 @@ impl RtpHeader {
     }
 
     // The sources, and zeros behind them.
-    fn sources(bytes: &[u8]) -> [u32; 15]
-        requires fixed { 12 ≤ length bytes.now }
+    fn sources(bytes: &[u8]) -> [u32; MAX_SOURCES]
+        requires fixed { FIXED_HEADER_LEN ≤ length bytes.now }
         requires whole { sources_end bytes.now ≤ length bytes.now }
-        ensures { result ≡ sources bytes.now ++ replicate (15 - source_count bytes.now) 0 }
+        ensures { result ≡ sources bytes.now ++ replicate (MAX_SOURCES - source_count bytes.now) 0 }
     {
-        let mut places = [0; 15];
+        let mut places = [0; MAX_SOURCES];
         for i in 0..usize::from(bytes[0] & 15) {
-            places[i] = word(bytes, 12 + 4 * i);
+            places[i] = word(bytes, FIXED_HEADER_LEN + 4 * i);
         }
         places
     }
@@ -136,8 +158,8 @@ impl RtpHeader {
         })
     }
 
-    fn fixed_bytes(&self, extended: bool) -> [u8; 12]
-        requires { self.now.csrc_count ≤ 15 }
+    fn fixed_bytes(&self, extended: bool) -> [u8; FIXED_HEADER_LEN]
+        requires { self.now.csrc_count ≤ MAX_SOURCES }
         ensures { result ≡ fixed_bytes self.now extended }
     {
         let padding = if self.has_padding { 32 } else { 0 };
@@ -164,7 +186,7 @@ impl RtpHeader {
 
     // The fields are in their ranges.
     fn is_header(&self)
-        requires { self.now.csrc_count ≤ 15 }
+        requires { self.now.csrc_count ≤ MAX_SOURCES }
         ensures { IsHeader self.now }
     {
         let _number = self.sequence_number;
@@ -179,19 +201,19 @@ impl RtpHeader {
     /// no extension, and its bit is clear.
     #[tactic(auto, unfolding(crate::specs::Header::header_bytes))]
     pub fn write_to(&self, buf: &mut [u8], exts: &ExtensionMap) -> usize
-        requires room { 160 ≤ length buf.old }
-        requires few_sources { self.now.csrc_count ≤ 15 }
+        requires room { MAX_HEADER_LEN ≤ length buf.old }
+        requires few_sources { self.now.csrc_count ≤ MAX_SOURCES }
         ensures bytes { buf.new ≡ header_bytes exts.now self.now ++ drop result buf.old }
         ensures len { result ≡ length (header_bytes exts.now self.now) }
         ensures reads { IsReadAgain exts.now self.now }
     {
         self.is_header();
-        let (fixed, rest) = buf.split_at_mut(12);
+        let (fixed, rest) = buf.split_at_mut(FIXED_HEADER_LEN);
         let (sources, rest) = rest.split_at_mut(4 * self.csrc_count);
         let extension = self.ext_vals.write(rest, exts);
         fixed.copy_from_slice(&self.fixed_bytes(extension > 0));
         put_words(sources, &self.csrc[..self.csrc_count]);
-        12 + 4 * self.csrc_count + extension
+        FIXED_HEADER_LEN + 4 * self.csrc_count + extension
     }
 
     /// The payload without its padding. None exactly where it is empty, or its last byte, the
@@ -223,36 +245,36 @@ impl RtpHeader {
     pub fn read_original_sequence_number(payload: &[u8]) -> Option<(u16, &[u8])>
         ensures { option_map (λ p. (p.0, p.1.now)) result ≡ original_of payload.now }
     {
-        if payload.len() < 2 {
+        if payload.len() < ORIGINAL_NUMBER_LEN {
             return None;
         }
-        let (_, original) = payload.split_at(2);
+        let (_, original) = payload.split_at(ORIGINAL_NUMBER_LEN);
         Some((half(payload, 0), original))
     }
 
     /// Writes the low 16 bits of the number of the packet that a repair repairs to the front of its
     /// payload, and gives their length, 2.
     pub fn write_original_sequence_number(payload: &mut [u8], number: SeqNo) -> usize
-        requires { 2 ≤ length payload.old }
-        ensures bytes { payload.new ≡ to_be_bytes w16 (number % 65536) ++ drop 2 payload.old }
-        ensures len { result ≡ 2 }
+        requires { ORIGINAL_NUMBER_LEN ≤ length payload.old }
+        ensures bytes { payload.new ≡ to_be_bytes w16 (number % 65536) ++ drop ORIGINAL_NUMBER_LEN payload.old }
+        ensures len { result ≡ ORIGINAL_NUMBER_LEN }
     {
         let low = (u64::from(number) % 65536) as u16;
-        let (front, _) = payload.split_at_mut(2);
+        let (front, _) = payload.split_at_mut(ORIGINAL_NUMBER_LEN);
         front.copy_from_slice(&low.to_be_bytes());
-        2
+        ORIGINAL_NUMBER_LEN
     }
 
     /// Writes the payload of a packet that is only padding, of an asked length from 16 to 240 bytes
     /// in whole blocks of 16, and gives its length.
     pub fn create_padding_packet(payload: &mut [u8], asked: usize) -> usize
-        requires low { 16 ≤ asked }
-        requires high { asked ≤ 240 }
-        requires room { 240 ≤ length payload.old }
+        requires low { PADDING_BLOCK_LEN ≤ asked }
+        requires high { asked ≤ MAX_BLANK_PADDING_PAYLOAD_SIZE }
+        requires room { MAX_BLANK_PADDING_PAYLOAD_SIZE ≤ length payload.old }
         ensures bytes { payload.new ≡ blank_payload asked ++ drop result payload.old }
         ensures len { result ≡ blank_length asked }
     {
-        let len = (asked + 15) / 16 * 16;
+        let len = (asked + (PADDING_BLOCK_LEN - 1)) / PADDING_BLOCK_LEN * PADDING_BLOCK_LEN;
         let (blank, _) = payload.split_at_mut(len);
         let (zeros, count) = blank.split_at_mut(len - 1);
         zeros.fill(0);

@@ -6,6 +6,19 @@ use crate::{AbsCaptureTime, AbsSendTime};
 use rtp_base::wire::{double, half, triple};
 use rtp_base::{Frequency, MediaTime, Mid, Rid};
 
+/// The profile of an extension in the one-byte form (RFC 8285 section 4.2).
+pub const ONE_BYTE_PROFILE: u16 = 0xbede;
+
+/// The upper 12 bits of the profile of one in the two-byte form (RFC 8285 section 4.3).
+pub const TWO_BYTE_PROFILE: u16 = 0x100;
+
+/// The greatest number that tells how far below 0 dB a level is: it has 7 bits (RFC 6464 section
+/// 3).
+pub const MAX_MINUS_LEVEL: u8 = 127;
+
+/// The most steps of 10 ms of a playout delay: it has 12 bits.
+pub const MAX_DELAY_STEPS: u64 = 4_095;
+
 /// How the picture has to be turned to be shown upright, in degrees clockwise.
 #[derive(Clone, Copy, Debug, PartialEq, Eq)]
 pub enum VideoOrientation {
@@ -171,9 +184,9 @@ impl ExtensionValues {
         requires { self.old ≡ no_values }
         ensures { self.new ≡ values_of exts.now profile bytes.now }
     {
-        if profile == 0xbede {
+        if profile == ONE_BYTE_PROFILE {
             self.read_one_byte(exts, bytes);
-        } else if profile / 16 == 0x100 {
+        } else if profile / 16 == TWO_BYTE_PROFILE {
             self.read_two_byte(exts, bytes);
         }
     }

@@ -2,10 +2,20 @@ ghost use Rattle.std.specs.Prelude.{◌≡◌, ◌≤◌, ◌++◌, length, drop
 ghost use Rattle.std.specs.Option.{option_map};
 ghost use Rattle.rtp_wire.specs.Writing.{level_byte, quarter_turns, delay_steps};
 
-use crate::extension::{Extension, ExtensionMap};
-use crate::values::{ExtensionValues, VideoOrientation};
+use crate::extension::{Extension, ExtensionMap, MAX_ID_ONE_BYTE_FORM, RESERVED_ID};
+use crate::values::{ExtensionValues, MAX_DELAY_STEPS, MAX_MINUS_LEVEL, VideoOrientation};
 use rtp_base::wire::triple_bytes;
 use rtp_base::{Frequency, MediaTime};
+
+/// The most bytes of the elements in which values are written: of each of the nine extensions its
+/// longest value and a byte.
+pub const MAX_ELEMENTS_LEN: usize = 75;
+
+/// How many bytes of room the elements are written into: a choice.
+pub const ELEMENTS_ROOM: usize = 76;
+
+/// How many bytes of room an extension is written into: a choice.
+pub const EXTENSION_ROOM: usize = 88;
 
 // Writes a piece to the front of the bytes, and gives its length.
 fn put(bytes: &mut [u8], piece: &[u8]) -> usize
@@ -22,7 +32,7 @@ fn level_byte(level: i8, voice: bool) -> u8
     ensures { result ≡ level_byte level voice }
 {
     let minus = if level < 0 {
-        level.unsigned_abs().min(127)
+        level.unsigned_abs().min(MAX_MINUS_LEVEL)
     } else {
         0
     };
@@ -43,7 +53,10 @@ fn quarter_turns(turn: VideoOrientation) -> u8
 fn delay_steps(delay: MediaTime) -> u32
     ensures { result ≡ delay_steps delay }
 {
-    delay.rebase(Frequency::HUNDREDTHS).numer().min(4095) as u32
+    delay
+        .rebase(Frequency::HUNDREDTHS)
+        .numer()
+        .min(MAX_DELAY_STEPS) as u32
 }
 
 impl ExtensionValues {
@@ -104,7 +117,7 @@ impl ExtensionValues {
     // length.
     fn put_element(&self, id: u8, extension: Extension, bytes: &mut [u8]) -> usize
         requires low { 1 ≤ id }
-        requires high { id ≤ 14 }
+        requires high { id ≤ MAX_ID_ONE_BYTE_FORM }
         requires some { 1 ≤ length bytes.old }
         requires room { length (flat_map element_bytes (element_at id (value_bytes extension self.now))) ≤ length bytes.old }
         ensures bytes { bytes.new ≡ flat_map element_bytes (element_at id (value_bytes extension self.now)) ++ drop result bytes.old }
@@ -143,14 +156,14 @@ impl ExtensionValues {
     // Writes the elements of these values, ids ascending, and gives their length. A value is
     // written once.
     fn put_elements(&self, bytes: &mut [u8], exts: &ExtensionMap) -> usize
-        requires { 76 ≤ length bytes.old }
+        requires { ELEMENTS_ROOM ≤ length bytes.old }
         ensures bytes { bytes.new ≡ written_data exts.now self.now ++ drop result bytes.old }
         ensures len { result ≡ length (written_data exts.now self.now) }
-        ensures bound { result ≤ 75 }
+        ensures bound { result ≤ MAX_ELEMENTS_LEN }
     {
         let mut left = *self;
         let mut at = 0;
-        for id in 1..15 {
+        for id in 1..RESERVED_ID {
             if let Some(extension) = exts.named_by(id) {
                 let (_, rest) = bytes.split_at_mut(at);
                 at += left.put_element(id, extension, rest);
@@ -166,7 +179,7 @@ impl ExtensionValues {
     /// where nothing is written.
     #[tactic(auto, unfolding(crate::specs::Extensions::extension_bytes))]
     pub fn write(&self, bytes: &mut [u8], exts: &ExtensionMap) -> usize
-        requires { 88 ≤ length bytes.old }
+        requires { EXTENSION_ROOM ≤ length bytes.old }
         ensures bytes { bytes.new ≡ extension_bytes exts.now self.now ++ drop result bytes.old }
         ensures len { result ≡ length (extension_bytes exts.now self.now) }
     {
