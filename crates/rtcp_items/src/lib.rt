@@ -4,9 +4,14 @@
 #![tactic(auto)]
 
 mod extended;
+mod numbers;
 mod report;
 mod source;
 
 pub use extended::{Dlrr, DlrrItem, ExtendedReport, ReportBlock, Rrtr};
+pub use numbers::named_numbers;
 pub use report::{ReceiverReport, SenderInfo, SenderReport};
-pub use source::{Descriptions, Goodbye, Sdes, SdesItem, SdesType};
+pub use source::{
+    CNAME_TYPE, Descriptions, EMAIL_TYPE, Goodbye, LOC_TYPE, NAME_TYPE, NOTE_TYPE, PHONE_TYPE,
+    PRIV_TYPE, Sdes, SdesItem, SdesType, TOOL_TYPE,
+};

@@ -11,6 +11,31 @@ pub struct Goodbye {
     pub reports: ReportList<Ssrc>,
 }
 
+/// The type of an item that tells the name of the source's endpoint, CNAME (RFC 3550 section
+/// 6.5.1).
+pub const CNAME_TYPE: u8 = 1;
+
+/// The type of an item that tells the name of a user, NAME (RFC 3550 section 6.5.2).
+pub const NAME_TYPE: u8 = 2;
+
+/// The type of an item that tells an address of mail, EMAIL (RFC 3550 section 6.5.3).
+pub const EMAIL_TYPE: u8 = 3;
+
+/// The type of an item that tells a number of a phone, PHONE (RFC 3550 section 6.5.4).
+pub const PHONE_TYPE: u8 = 4;
+
+/// The type of an item that tells a place, LOC (RFC 3550 section 6.5.5).
+pub const LOC_TYPE: u8 = 5;
+
+/// The type of an item that tells the name of a program, TOOL (RFC 3550 section 6.5.6).
+pub const TOOL_TYPE: u8 = 6;
+
+/// The type of an item that tells a notice, NOTE (RFC 3550 section 6.5.7).
+pub const NOTE_TYPE: u8 = 7;
+
+/// The type of an item that tells a private extension, PRIV (RFC 3550 section 6.5.8).
+pub const PRIV_TYPE: u8 = 8;
+
 /// What an item of a description tells (RFC 3550 section 12.2).
 #[derive(Clone, Copy, Debug, PartialEq, Eq)]
 pub enum SdesType {
@@ -35,14 +60,14 @@ impl From<u8> for SdesType {
 
     fn from(number: u8) -> Self {
         match number {
-            1 => SdesType::CNAME,
-            2 => SdesType::NAME,
-            3 => SdesType::EMAIL,
-            4 => SdesType::PHONE,
-            5 => SdesType::LOC,
-            6 => SdesType::TOOL,
-            7 => SdesType::NOTE,
-            8 => SdesType::PRIV,
+            CNAME_TYPE => SdesType::CNAME,
+            NAME_TYPE => SdesType::NAME,
+            EMAIL_TYPE => SdesType::EMAIL,
+            PHONE_TYPE => SdesType::PHONE,
+            LOC_TYPE => SdesType::LOC,
+            TOOL_TYPE => SdesType::TOOL,
+            NOTE_TYPE => SdesType::NOTE,
+            PRIV_TYPE => SdesType::PRIV,
             _ => SdesType::Unknown(number),
         }
     }
@@ -55,14 +80,14 @@ impl From<SdesType> for u8 {
 
     fn from(kind: SdesType) -> Self {
         match kind {
-            SdesType::CNAME => 1,
-            SdesType::NAME => 2,
-            SdesType::EMAIL => 3,
-            SdesType::PHONE => 4,
-            SdesType::LOC => 5,
-            SdesType::TOOL => 6,
-            SdesType::NOTE => 7,
-            SdesType::PRIV => 8,
+            SdesType::CNAME => CNAME_TYPE,
+            SdesType::NAME => NAME_TYPE,
+            SdesType::EMAIL => EMAIL_TYPE,
+            SdesType::PHONE => PHONE_TYPE,
+            SdesType::LOC => LOC_TYPE,
+            SdesType::TOOL => TOOL_TYPE,
+            SdesType::NOTE => NOTE_TYPE,
+            SdesType::PRIV => PRIV_TYPE,
             SdesType::Unknown(number) => number,
         }
     }

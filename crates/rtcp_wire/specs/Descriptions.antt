@@ -8,6 +8,7 @@ use Rattle.rtcp_items.specs.SdesTypes.{sdes_type_of, sdes_number}
 use Rattle.rtcp_items.specs.declared.source.SdesItem.{SdesItem}
 use Rattle.rtcp_items.specs.declared.source.Sdes.{Sdes}
 use Rattle.rtcp_items.specs.declared.source.Descriptions.{Descriptions}
+use Rattle.rtp_base.specs.declared.report_list.TheConstants.{MAX_REPORTS}
 
 -- the item at the front of a list, and what follows it: its type, the length of its text in bytes, and
 -- the text. Nothing where the bytes are too short
@@ -34,10 +35,10 @@ sdes_items_of bytes = sdes_items_within (length bytes) bytes
 
 -- of the items of a list the first 31 are read
 abbrev pub first_31 : Option (List SdesItem × List ℕ) → Option (List SdesItem × List ℕ)
-first_31 o = option_map (λ x. (take 31 x.0, x.1)) o
+first_31 o = option_map (λ x. (take MAX_REPORTS x.0, x.1)) o
 
 abbrev pub with_item : List SdesItem → SdesItem → List SdesItem
-with_item items item = if nat_lt (length items) 31 then items ++ item ∷ [] else items
+with_item items item = if nat_lt (length items) MAX_REPORTS then items ++ item ∷ [] else items
 
 -- the zero that ends the list of a chunk, at so many bytes from its start, is followed by zeros to a whole
 -- word

@@ -11,6 +11,8 @@ use Rattle.rtcp_items.specs.declared.extended.DlrrItem.{DlrrItem}
 use Rattle.rtcp_items.specs.declared.extended.ReportBlock.{ReportBlock}
 use Rattle.rtcp_items.specs.declared.extended.ReportBlock.TheVariants.{Rrtr, Dlrr}
 use Rattle.rtcp_items.specs.declared.extended.ExtendedReport.{ExtendedReport}
+use Rattle.rtp_base.specs.declared.report_list.TheConstants.{MAX_REPORTS}
+use Rattle.rtcp_wire.specs.declared.extended.TheConstants.{RRTR_BLOCK_TYPE, DLRR_BLOCK_TYPE}
 
 -- the SSRC of a receiver, its last RRTR and the delay since then (section 4.5)
 unfoldable pub dlrr_item_at : List ℕ → DlrrItem
@@ -24,8 +26,8 @@ dlrr_item_text i = words (i.ssrc ∷ i.last_rr_time ∷ i.last_rr_delay ∷ [])
 -- block is too short
 unfoldable pub block_of : ℕ → List ℕ → Option (List ReportBlock)
 block_of kind content =
-    if kind == 4 then (if nat_lt (length content) 8 then None else Some (Rrtr (record { ntp_time = unix_of_ntp (double_at content 0) }) ∷ []))
-    else (if kind == 5 then Some (Dlrr (record { items = rows_of dlrr_item_at 12 (length content / 12) content }) ∷ [])
+    if kind == RRTR_BLOCK_TYPE then (if nat_lt (length content) 8 then None else Some (Rrtr (record { ntp_time = unix_of_ntp (double_at content 0) }) ∷ []))
+    else (if kind == DLRR_BLOCK_TYPE then Some (Dlrr (record { items = rows_of dlrr_item_at 12 (length content / 12) content }) ∷ [])
     else Some [])
 
 -- the block at the front, and what follows it: type, a byte for the type's own use, the length in
@@ -53,7 +55,7 @@ blocks_within (suc n) (suc room) (b ∷ bytes) =
 
 -- the first 31 blocks of known types; each block takes a word at least
 unfoldable pub blocks_of : List ℕ → Option (List ReportBlock)
-blocks_of bytes = blocks_within (length bytes) 31 bytes
+blocks_of bytes = blocks_within (length bytes) MAX_REPORTS bytes
 
 -- type 207: the SSRC of the sender, and blocks, of which the first 31 of known types are read
 unfoldable pub extended_report_of : List ℕ → Option ExtendedReport
@@ -62,8 +64,8 @@ extended_report_of body =
     else option_map (λ blocks. record { ssrc = word_at body 0; blocks = blocks }) (blocks_of (drop 4 body))
 
 abbrev pub block_kind : ReportBlock → ℕ
-block_kind (Rrtr r) = 4
-block_kind (Dlrr d) = 5
+block_kind (Rrtr r) = RRTR_BLOCK_TYPE
+block_kind (Dlrr d) = DLRR_BLOCK_TYPE
 
 unfoldable pub block_content : ReportBlock → List ℕ
 block_content (Rrtr r) = to_be_bytes w64 (ntp_of_unix r.ntp_time)

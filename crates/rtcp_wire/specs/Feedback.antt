@@ -8,13 +8,14 @@ use Rattle.rtcp_wire.specs.declared.nack.Nack.{Nack}
 use Rattle.rtcp_wire.specs.declared.request.Pli.{Pli}
 use Rattle.rtcp_wire.specs.declared.request.Fir.{Fir}
 use Rattle.rtcp_wire.specs.declared.feedback.AppSpecificFeedback.{AppSpecificFeedback}
+use Rattle.rtp_base.specs.declared.report_list.TheConstants.{MAX_REPORTS}
 
 -- type 205, format 1: the SSRCs of the sender and of the media, and entries that fill the item, of
 -- which the first 31 are read (RFC 4585 section 6.2.1)
 unfoldable pub nack_of : List ℕ → Option Nack
 nack_of body =
     if nat_lt (length body) 8 || not (length body % 4 == 0) then None
-    else Some (record { sender_ssrc = word_at body 0; ssrc = word_at body 4; reports = rows_of nack_entry_at 4 (min ((length body - 8) / 4) 31) (drop 8 body) })
+    else Some (record { sender_ssrc = word_at body 0; ssrc = word_at body 4; reports = rows_of nack_entry_at 4 (min ((length body - 8) / 4) MAX_REPORTS) (drop 8 body) })
 
 unfoldable pub nack_body : Nack → List ℕ
 nack_body n = words (n.sender_ssrc ∷ n.ssrc ∷ []) ++ flat_map nack_entry_text n.reports
@@ -33,7 +34,7 @@ pli_body p = words (p.sender_ssrc ∷ p.ssrc ∷ [])
 unfoldable pub fir_of : List ℕ → Option Fir
 fir_of body =
     if nat_lt (length body) 8 || not (length body % 8 == 0) then None
-    else Some (record { sender_ssrc = word_at body 0; reports = rows_of fir_entry_at 8 (min ((length body - 8) / 8) 31) (drop 8 body) })
+    else Some (record { sender_ssrc = word_at body 0; reports = rows_of fir_entry_at 8 (min ((length body - 8) / 8) MAX_REPORTS) (drop 8 body) })
 
 unfoldable pub fir_body : Fir → List ℕ
 fir_body f = words (f.sender_ssrc ∷ 0 ∷ []) ++ flat_map fir_entry_text f.reports

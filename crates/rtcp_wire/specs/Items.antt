@@ -3,6 +3,7 @@ use Rattle.std.specs.Prelude.{ℕ, Bool, true, false, zero, suc, ◌/◌, ◌==�
 use Rattle.std.specs.Option.{option_map, option_map_or}
 use Rattle.rtcp_wire.specs.declared.packet.Rtcp.{Rtcp}
 use Rattle.rtcp_wire.specs.declared.packet.Rtcp.TheVariants.{SenderReport, ReceiverReport, SourceDescription, Goodbye, ExtendedReport, Nack, Pli, Fir, Twcc, Remb, AppSpecificFeedback}
+use Rattle.rtcp_wire.specs.declared.packet.TheConstants.{SENDER_REPORT_TYPE, RECEIVER_REPORT_TYPE, SOURCE_DESCRIPTION_TYPE, GOODBYE_TYPE, TRANSPORT_FEEDBACK_TYPE, PAYLOAD_FEEDBACK_TYPE, EXTENDED_REPORT_TYPE, NACK_FORMAT, TWCC_FORMAT, PLI_FORMAT, FIR_FORMAT, APPLICATION_FORMAT}
 use Rattle.rtcp_wire.specs.Frame.{Frame, frame_at}
 use Rattle.rtcp_wire.specs.Reports.{sender_report_of, receiver_report_of, goodbye_of}
 use Rattle.rtcp_wire.specs.Descriptions.{descriptions_of}
@@ -40,8 +41,8 @@ item_or_short kind o = reading_or_short (option_map kind o)
 -- draft-holmer-rmcat-transport-wide-cc-extensions-01 section 3.1)
 unfoldable pub transport_feedback_of : ℕ → List ℕ → Reading
 transport_feedback_of format body =
-    if format == 1 then item_or_short Nack (nack_of body)
-    else (if format == 15 then item_or_short Twcc (twcc_of body)
+    if format == NACK_FORMAT then item_or_short Nack (nack_of body)
+    else (if format == TWCC_FORMAT then item_or_short Twcc (twcc_of body)
     else PassedOver)
 
 -- application feedback, which is a REMB where its words begin with that name
@@ -52,21 +53,21 @@ application_of false body = item_or_short AppSpecificFeedback (app_feedback_of b
 -- payload specific feedback, by its format (RFC 4585 section 6.3)
 unfoldable pub payload_feedback_of : ℕ → List ℕ → Reading
 payload_feedback_of format body =
-    if format == 1 then item_or_short Pli (pli_of body)
-    else (if format == 4 then item_or_short Fir (fir_of body)
-    else (if format == 15 then application_of (is_remb body) body
+    if format == PLI_FORMAT then item_or_short Pli (pli_of body)
+    else (if format == FIR_FORMAT then item_or_short Fir (fir_of body)
+    else (if format == APPLICATION_FORMAT then application_of (is_remb body) body
     else PassedOver))
 
 -- what an item says, by its type (RFC 3550 section 12.1): unknown types and formats are passed over
 unfoldable pub reading_of : ℕ → ℕ → List ℕ → Reading
 reading_of kind count body =
-    if kind == 200 then item_or_short SenderReport (sender_report_of count body)
-    else (if kind == 201 then item_or_short ReceiverReport (receiver_report_of count body)
-    else (if kind == 202 then item_or_short SourceDescription (descriptions_of count body)
-    else (if kind == 203 then item_or_short Goodbye (goodbye_of count body)
-    else (if kind == 205 then transport_feedback_of count body
-    else (if kind == 206 then payload_feedback_of count body
-    else (if kind == 207 then item_or_short ExtendedReport (extended_report_of body)
+    if kind == SENDER_REPORT_TYPE then item_or_short SenderReport (sender_report_of count body)
+    else (if kind == RECEIVER_REPORT_TYPE then item_or_short ReceiverReport (receiver_report_of count body)
+    else (if kind == SOURCE_DESCRIPTION_TYPE then item_or_short SourceDescription (descriptions_of count body)
+    else (if kind == GOODBYE_TYPE then item_or_short Goodbye (goodbye_of count body)
+    else (if kind == TRANSPORT_FEEDBACK_TYPE then transport_feedback_of count body
+    else (if kind == PAYLOAD_FEEDBACK_TYPE then payload_feedback_of count body
+    else (if kind == EXTENDED_REPORT_TYPE then item_or_short ExtendedReport (extended_report_of body)
     else PassedOver))))))
 
 -- what an item adds, and what follows it; reading stops at an item that is too short for its fields

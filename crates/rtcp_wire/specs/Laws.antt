@@ -12,6 +12,10 @@ use Rattle.rtcp_items.specs.declared.extended.ReportBlock.{ReportBlock}
 use Rattle.rtcp_items.specs.declared.extended.ReportBlock.TheVariants.{Rrtr, Dlrr}
 use Rattle.rtcp_items.specs.declared.source.SdesItem.{SdesItem}
 use Rattle.rtcp_items.specs.declared.source.Sdes.{Sdes}
+use Rattle.media_units.specs.declared.rate.TheConstants.{GREATEST_RATE}
+use Rattle.rtp_base.specs.declared.report_list.TheConstants.{MAX_REPORTS}
+use Rattle.twcc_core.specs.declared.feedback.TheConstants.{BODY_LIMIT}
+use Rattle.rtcp_wire.specs.declared.extended.TheConstants.{MAX_DLRR_ITEMS}
 use Rattle.media_units.specs.Wallclock.{unix_of_ntp, ntp_of_unix}
 use Rattle.rtcp_items.specs.SdesTypes.{sdes_number, sdes_type_of}
 use Rattle.rtcp_wire.specs.Remb.{is_remb, mantissa_of, exponent_of}
@@ -23,7 +27,7 @@ use Rattle.rtcp_wire.specs.Texts.{framed, text_of, body_of, IsWritable, LengthsF
 -- the frame of a written item is read again, whatever follows it
 abbrev pub FramesReadBack : Type 0
 FramesReadBack =
-    (count kind : ℕ) (body rest : List ℕ) → count ≤ 31 → length body % 4 ≡ 0 → length body < 2 ^ 18
+    (count kind : ℕ) (body rest : List ℕ) → count ≤ MAX_REPORTS → length body % 4 ≡ 0 → length body < BODY_LIMIT
     → frame_at (framed count kind body ++ rest) ≡ Some (record { count = count; kind = kind; body = body; rest = rest })
 
 -- the fields fit their places on the wire
@@ -38,7 +42,7 @@ abbrev pub held_info : SenderInfo → SenderInfo
 held_info s = record s { ntp_time = unix_of_ntp (ntp_of_unix s.ntp_time) }
 
 abbrev pub held_rate : ℕ → ℕ
-held_rate rate = min (mantissa_of rate * 2 ^ exponent_of rate) 10000000000
+held_rate rate = min (mantissa_of rate * 2 ^ exponent_of rate) GREATEST_RATE
 
 abbrev pub held_block : ReportBlock → ReportBlock
 held_block (Rrtr r) = Rrtr (record { ntp_time = unix_of_ntp (ntp_of_unix r.ntp_time) })
@@ -46,7 +50,7 @@ held_block (Dlrr d) = Dlrr d
 
 -- of a source's items the first 31
 abbrev pub held_sdes : Sdes → Sdes
-held_sdes s = record s { values = take 31 s.values }
+held_sdes s = record s { values = take MAX_REPORTS s.values }
 
 -- an item as its wire form holds it: moments and rates as they are rounded, and of the lists of blocks and
 -- of a source's items what is read
@@ -56,7 +60,7 @@ held (Remb r) = Remb (record { sender_ssrc = r.sender_ssrc; bitrate = held_rate 
 held (ReceiverReport r) = ReceiverReport r
 held (SourceDescription d) = SourceDescription (record { reports = map held_sdes d.reports })
 held (Goodbye g) = Goodbye g
-held (ExtendedReport r) = ExtendedReport (record { ssrc = r.ssrc; blocks = map held_block (take 31 r.blocks) })
+held (ExtendedReport r) = ExtendedReport (record { ssrc = r.ssrc; blocks = map held_block (take MAX_REPORTS r.blocks) })
 held (Nack n) = Nack n
 held (Pli p) = Pli p
 held (Fir f) = Fir f
@@ -68,7 +72,7 @@ IsDlrrItem i = (i.ssrc < 2 ^ 32) × (i.last_rr_time < 2 ^ 32) × (i.last_rr_dela
 
 abbrev pub IsBlock : ReportBlock → Type 0
 IsBlock (Rrtr r) = Unit {0}
-IsBlock (Dlrr d) = (length d.items ≤ 21845) × AllByRecursion IsDlrrItem d.items
+IsBlock (Dlrr d) = (length d.items ≤ MAX_DLRR_ITEMS) × AllByRecursion IsDlrrItem d.items
 
 -- the type is the one that its number names
 abbrev pub IsSdesItem : SdesItem → Type 0
@@ -85,9 +89,9 @@ FieldsFit (Remb r) = (r.sender_ssrc < 2 ^ 32) × (r.bitrate < 2 ^ 64) × AllByRe
 FieldsFit (ReceiverReport r) = (r.sender_ssrc < 2 ^ 32) × AllByRecursion IsReceptionReport r.reports
 FieldsFit (SourceDescription d) = AllByRecursion IsSdes d.reports
 FieldsFit (Goodbye g) = AllByRecursion (λ s. s < 2 ^ 32) g.reports
-FieldsFit (Nack n) = (n.sender_ssrc < 2 ^ 32) × (n.ssrc < 2 ^ 32) × (length n.reports ≤ 31) × AllByRecursion IsNackEntry n.reports
+FieldsFit (Nack n) = (n.sender_ssrc < 2 ^ 32) × (n.ssrc < 2 ^ 32) × (length n.reports ≤ MAX_REPORTS) × AllByRecursion IsNackEntry n.reports
 FieldsFit (Pli p) = (p.sender_ssrc < 2 ^ 32) × (p.ssrc < 2 ^ 32)
-FieldsFit (Fir f) = (f.sender_ssrc < 2 ^ 32) × (length f.reports ≤ 31) × AllByRecursion IsFirEntry f.reports
+FieldsFit (Fir f) = (f.sender_ssrc < 2 ^ 32) × (length f.reports ≤ MAX_REPORTS) × AllByRecursion IsFirEntry f.reports
 FieldsFit (Twcc t) = IsFeedback t
 FieldsFit (AppSpecificFeedback f) = (f.sender_ssrc < 2 ^ 32) × (f.media_ssrc < 2 ^ 32) × (is_remb (body_of (AppSpecificFeedback f)) ≡ false)
 FieldsFit (ExtendedReport r) = (r.ssrc < 2 ^ 32) × AllByRecursion IsBlock r.blocks

@@ -4,18 +4,20 @@ use Rattle.std.specs.Int.{w64, leading_zeros}
 use Rattle.rtp_base.specs.Wire.{word_at, words}
 use Rattle.rtcp_wire.specs.Wire.{rows_of}
 use Rattle.rtcp_wire.specs.declared.remb.Remb.{Remb}
+use Rattle.rtcp_wire.specs.declared.remb.TheConstants.{NAME, MANTISSA_BITS, MANTISSA_LIMIT}
+use Rattle.media_units.specs.declared.rate.TheConstants.{GREATEST_RATE}
 
 -- a rate is mantissa * 2 ^ exponent, the mantissa below 2 ^ 18: the exponent is how many more bits than
 -- 18 the rate has
 abbrev pub exponent_of : ℕ → ℕ
-exponent_of rate = 64 - leading_zeros w64 rate - 18
+exponent_of rate = 64 - leading_zeros w64 rate - MANTISSA_BITS
 
 abbrev pub mantissa_of : ℕ → ℕ
 mantissa_of rate = rate / 2 ^ exponent_of rate
 
 -- 'REMB'
 abbrev pub remb_name : ℕ
-remb_name = 0x52454d42
+remb_name = NAME
 
 -- application feedback whose words begin with the name
 abbrev pub is_remb : List ℕ → Bool
@@ -28,10 +30,10 @@ remb_of body =
     if nat_lt (length body) 16 || nat_lt (length body) (16 + word_at body 12 / 16777216 * 4) then None
     else Some (record {
       sender_ssrc = word_at body 0;
-      bitrate = min (word_at body 12 % 262144 * 2 ^ (word_at body 12 / 262144 % 64)) 10000000000;
+      bitrate = min (word_at body 12 % MANTISSA_LIMIT * 2 ^ (word_at body 12 / MANTISSA_LIMIT % 64)) GREATEST_RATE;
       ssrcs = rows_of (λ bytes. word_at bytes 0) 4 (word_at body 12 / 16777216) (drop 16 body);
     })
 
 unfoldable pub remb_body : Remb → List ℕ
 remb_body r =
-    words (r.sender_ssrc ∷ 0 ∷ remb_name ∷ (length r.ssrcs * 16777216 + exponent_of r.bitrate * 262144 + mantissa_of r.bitrate) ∷ []) ++ words r.ssrcs
+    words (r.sender_ssrc ∷ 0 ∷ remb_name ∷ (length r.ssrcs * 16777216 + exponent_of r.bitrate * MANTISSA_LIMIT + mantissa_of r.bitrate) ∷ []) ++ words r.ssrcs

@@ -10,12 +10,13 @@ use Rattle.rtcp_items.specs.declared.report.ReceiverReport.{ReceiverReport}
 use Rattle.rtcp_items.specs.declared.report.SenderReport.{SenderReport}
 use Rattle.rtcp_items.specs.declared.report.SenderInfo.{SenderInfo}
 use Rattle.rtcp_items.specs.declared.source.Goodbye.{Goodbye}
+use Rattle.rtcp_wire.specs.declared.report.TheConstants.{RECEPTION_REPORT_LEN, SENDER_INFO_LEN}
 
 -- type 201: the SSRC of the sender, and as many reception blocks as the count says
 unfoldable pub receiver_report_of : ℕ → List ℕ → Option ReceiverReport
 receiver_report_of count body =
-    if nat_lt (length body) (4 + count * 24) then None
-    else Some (record { sender_ssrc = word_at body 0; reports = rows_of report_at 24 count (drop 4 body) })
+    if nat_lt (length body) (4 + count * RECEPTION_REPORT_LEN) then None
+    else Some (record { sender_ssrc = word_at body 0; reports = rows_of report_at RECEPTION_REPORT_LEN count (drop 4 body) })
 
 unfoldable pub receiver_report_body : ReceiverReport → List ℕ
 receiver_report_body r = to_be_bytes w32 r.sender_ssrc ++ flat_map report_text r.reports
@@ -38,8 +39,8 @@ sender_info_text s =
 -- type 200: the sender, and as many reception blocks as the count says
 unfoldable pub sender_report_of : ℕ → List ℕ → Option SenderReport
 sender_report_of count body =
-    if nat_lt (length body) (24 + count * 24) then None
-    else Some (record { sender_info = sender_info_at body; reports = rows_of report_at 24 count (drop 24 body) })
+    if nat_lt (length body) (SENDER_INFO_LEN + count * RECEPTION_REPORT_LEN) then None
+    else Some (record { sender_info = sender_info_at body; reports = rows_of report_at RECEPTION_REPORT_LEN count (drop SENDER_INFO_LEN body) })
 
 unfoldable pub sender_report_body : SenderReport → List ℕ
 sender_report_body r = sender_info_text r.sender_info ++ flat_map report_text r.reports

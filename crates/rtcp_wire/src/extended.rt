@@ -10,8 +10,20 @@ use crate::row::{Put, Row, read_many, rows_len, write_rows};
 use media_base::Listed;
 use media_units::{SystemTime, SystemTimeExt};
 use rtcp_items::{Dlrr, DlrrItem, ExtendedReport, ReportBlock, Rrtr};
+use rtp_base::MAX_REPORTS;
 use rtp_base::wire::{double, half, put, word};
 use std::alloc::{AllocError, Global};
+
+/// The type of a block that tells the moment of a receiver (RFC 3611 section 4.4).
+pub const RRTR_BLOCK_TYPE: u8 = 4;
+
+/// The type of a block that tells how long ago the moments of receivers came in (RFC 3611 section
+/// 4.5).
+pub const DLRR_BLOCK_TYPE: u8 = 5;
+
+/// The most receivers of which such a block tells: its length in words has 16 bits, and each takes
+/// three words (RFC 3611 sections 3 and 4.5).
+pub const MAX_DLRR_ITEMS: usize = 21_845;
 
 impl Row for DlrrItem {
     ghost use Rattle.rtcp_wire.specs.Extended.{dlrr_item_at};
@@ -62,14 +74,14 @@ fn read_block(
     ensures { IfOk result (λ read. option_map (λ new. blocks.old ++ new) (block_of kind content.now) ≡ some_if read blocks.new) }
 {
     match kind {
-        4 => {
+        RRTR_BLOCK_TYPE => {
             if content.len() < 8 {
                 return Ok(false);
             }
             let ntp_time = SystemTime::from_ntp_64(double(content, 0));
             blocks.push(ReportBlock::Rrtr(Rrtr { ntp_time }))?;
         }
-        5 => {
+        DLRR_BLOCK_TYPE => {
             let items = read_many(alloc, content, content.len() / 12)?;
             blocks.push(ReportBlock::Dlrr(Dlrr { items }))?;
         }
@@ -111,7 +123,7 @@ fn read_blocks(alloc: Global, bytes: &[u8]) -> Result<Option<Listed<ReportBlock>
     let mut blocks = Listed::new(alloc);
     let mut rest = bytes;
     for _ in 0..bytes.len() {
-        if rest.is_empty() || blocks.as_slice().len() >= 31 {
+        if rest.is_empty() || blocks.as_slice().len() >= MAX_REPORTS {
             return Ok(Some(blocks));
         }
         match read_first_block(alloc, rest, &mut blocks) {
@@ -147,8 +159,8 @@ fn kind(block: &ReportBlock) -> u8
     ensures { result ≡ block_kind block.now }
 {
     match block {
-        ReportBlock::Rrtr(_) => 4,
-        ReportBlock::Dlrr(_) => 5,
+        ReportBlock::Rrtr(_) => RRTR_BLOCK_TYPE,
+        ReportBlock::Dlrr(_) => DLRR_BLOCK_TYPE,
     }
 }
 

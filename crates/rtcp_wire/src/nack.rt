@@ -5,7 +5,7 @@ ghost use Rattle.rtcp_wire.specs.Feedback.{nack_of, nack_body};
 
 use crate::row::{Put, Row, read_rows, write_rows};
 use rtp_base::wire::{half, put, word};
-use rtp_base::{NackEntry, ReportList, Ssrc};
+use rtp_base::{MAX_REPORTS, NackEntry, ReportList, Ssrc};
 
 /// Packets of a source that are missing (RFC 4585 section 6.2.1).
 #[derive(Debug, PartialEq, Eq, Drop)]
@@ -63,7 +63,7 @@ pub(crate) fn read_nack(body: &[u8]) -> Option<Nack>
         return None;
     }
     let (_, rows) = body.split_at(8);
-    let count = (rows.len() / 4).min(31);
+    let count = (rows.len() / 4).min(MAX_REPORTS);
     Some(Nack {
         sender_ssrc: word(body, 0).into(),
         ssrc: word(body, 4).into(),

@@ -12,44 +12,55 @@ use crate::kind::Kind;
 use crate::nack::{Nack, read_nack, write_nack};
 use crate::remb::{Remb, is_named_remb, read_remb, write_remb};
 use crate::report::{
-    read_receiver_report, read_sender_report, write_receiver_report, write_sender_report,
+    SENDER_INFO_LEN, read_receiver_report, read_sender_report, write_receiver_report,
+    write_sender_report,
 };
 use crate::request::{Fir, Pli, read_fir, read_pli, write_fir, write_pli};
 use crate::row::rows_len;
 use crate::source::{read_descriptions, read_goodbye, write_descriptions, write_goodbye};
 use rtcp_items::{Descriptions, ExtendedReport, Goodbye, ReceiverReport, SenderReport};
+use rtp_base::MAX_REPORTS;
 use std::alloc::{AllocError, Global};
 use std::collections::VecDeque;
 use std::mem;
 use twcc_core::{Twcc, read_twcc, twcc_len, write_twcc};
 
-// Packet types (RFC 3550 section 12.1, RFC 4585 section 6.1, RFC 3611 section 2).
-const SENDER_REPORT_TYPE: u8 = 200;
+/// The packet type of a sender report (RFC 3550 section 6.4.1).
+pub const SENDER_REPORT_TYPE: u8 = 200;
 
-const RECEIVER_REPORT_TYPE: u8 = 201;
+/// The packet type of a receiver report (RFC 3550 section 6.4.2).
+pub const RECEIVER_REPORT_TYPE: u8 = 201;
 
-const SOURCE_DESCRIPTION_TYPE: u8 = 202;
+/// The packet type of descriptions of sources (RFC 3550 section 6.5).
+pub const SOURCE_DESCRIPTION_TYPE: u8 = 202;
 
-const GOODBYE_TYPE: u8 = 203;
+/// The packet type of a goodbye (RFC 3550 section 6.6).
+pub const GOODBYE_TYPE: u8 = 203;
 
-const TRANSPORT_FEEDBACK_TYPE: u8 = 205;
+/// The packet type of transport layer feedback (RFC 4585 section 6.1).
+pub const TRANSPORT_FEEDBACK_TYPE: u8 = 205;
 
-const PAYLOAD_FEEDBACK_TYPE: u8 = 206;
+/// The packet type of payload-specific feedback (RFC 4585 section 6.1).
+pub const PAYLOAD_FEEDBACK_TYPE: u8 = 206;
 
-const EXTENDED_REPORT_TYPE: u8 = 207;
+/// The packet type of an extended report (RFC 3611 section 2).
+pub const EXTENDED_REPORT_TYPE: u8 = 207;
 
-// Formats of transport feedback (RFC 4585 section 6.2,
-// draft-holmer-rmcat-transport-wide-cc-extensions-01 section 3.1).
-const NACK_FORMAT: u8 = 1;
+/// The format of transport layer feedback on packets that are missing (RFC 4585 section 6.2.1).
+pub const NACK_FORMAT: u8 = 1;
 
-const TWCC_FORMAT: u8 = 15;
+/// The format of transport-wide feedback
+/// (draft-holmer-rmcat-transport-wide-cc-extensions-01 section 3.1).
+pub const TWCC_FORMAT: u8 = 15;
 
-// Formats of payload feedback (RFC 4585 section 6.3, RFC 5104 section 4.3).
-const PLI_FORMAT: u8 = 1;
+/// The format of payload-specific feedback on a picture that was lost (RFC 4585 section 6.3.1).
+pub const PLI_FORMAT: u8 = 1;
 
-const FIR_FORMAT: u8 = 4;
+/// The format of a request for a picture that stands alone (RFC 5104 section 4.3.1.1).
+pub const FIR_FORMAT: u8 = 4;
 
-const APPLICATION_FORMAT: u8 = 15;
+/// The format of feedback of an application (RFC 4585 section 6.4).
+pub const APPLICATION_FORMAT: u8 = 15;
 
 /// An item of an RTCP datagram.
 #[derive(Debug, PartialEq, Eq, Drop)]
@@ -166,7 +177,7 @@ impl Rtcp {
         frame: &Frame<'_>,
         items: &mut Vec<Rtcp>,
     ) -> Result<bool, AllocError>
-        requires { frame.now.count ≤ 31 }
+        requires { frame.now.count ≤ MAX_REPORTS }
         ensures on { IfOk result (λ on. on ≡ goes_on (reading_of frame.now.kind frame.now.count frame.now.body.now)) }
         ensures items { OnOk result (items.new.items ≡ items.old.items ++ said (reading_of frame.now.kind frame.now.count frame.now.body.now)) }
         ensures err { OnErr result (items.new.items ≡ items.old.items) }
@@ -299,7 +310,7 @@ impl Rtcp {
         ensures { result ≡ length (body_of self.now) }
     {
         match self {
-            Rtcp::SenderReport(report) => 24 + rows_len(report.reports.as_slice()),
+            Rtcp::SenderReport(report) => SENDER_INFO_LEN + rows_len(report.reports.as_slice()),
             Rtcp::ReceiverReport(report) => 4 + rows_len(report.reports.as_slice()),
             Rtcp::SourceDescription(described) => rows_len(described.reports.as_slice()),
             Rtcp::Goodbye(goodbye) => rows_len(goodbye.reports.as_slice()),
@@ -348,7 +359,7 @@ impl Rtcp {
     }
 
     fn count(&self) -> u8
-        requires { count_of self.now ≤ 31 }
+        requires { count_of self.now ≤ MAX_REPORTS }
         ensures { result ≡ count_of self.now }
     {
         match self {

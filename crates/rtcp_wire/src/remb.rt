@@ -5,12 +5,19 @@ ghost use Rattle.rtcp_wire.specs.Remb.{is_remb, remb_of, remb_body, exponent_of,
 
 use crate::row::{read_many, write_rows};
 use media_base::Listed;
-use media_units::Bitrate;
+use media_units::{Bitrate, GREATEST_RATE};
 use rtp_base::Ssrc;
 use rtp_base::wire::word;
 use std::alloc::{AllocError, Global};
 
-const NAME: u32 = 0x5245_4d42;
+/// The name of this kind of application feedback, `REMB` (draft-alvestrand-rmcat-remb section 2.2).
+pub const NAME: u32 = 0x5245_4d42;
+
+/// How many bits of a rate are told (draft-alvestrand-rmcat-remb section 2.2).
+pub const MANTISSA_BITS: u32 = 18;
+
+/// The number behind the greatest of so many bits.
+pub const MANTISSA_LIMIT: u32 = 1 << 18;
 
 /// The greatest rate that the receiver of some sources asks for, over all of them.
 #[derive(Debug, PartialEq, Eq, Drop)]
@@ -32,12 +39,12 @@ pub(crate) fn is_named_remb(body: &[u8]) -> bool
 
 // The rate of a mantissa and an exponent, which may be far above the greatest.
 fn rate(mantissa: u32, exponent: u32) -> Bitrate
-    requires small { mantissa < 262144 }
+    requires small { mantissa < MANTISSA_LIMIT }
     requires few { exponent < 64 }
-    ensures { result ≡ min (mantissa * 2 ^ exponent) 10000000000 }
+    ensures { result ≡ min (mantissa * 2 ^ exponent) GREATEST_RATE }
 {
     let bits = u128::from(mantissa) << exponent;
-    Bitrate::bps(bits.min(10_000_000_000) as u64)
+    Bitrate::bps(bits.min(u128::from(GREATEST_RATE)) as u64)
 }
 
 #[tactic(auto, unfolding(crate::specs::Remb::remb_of))]
@@ -55,7 +62,7 @@ pub(crate) fn read_remb(alloc: Global, body: &[u8]) -> Result<Option<Remb>, Allo
     let (_, rows) = body.split_at(16);
     Ok(Some(Remb {
         sender_ssrc: word(body, 0).into(),
-        bitrate: rate(fields % 0x4_0000, fields / 0x4_0000 % 64),
+        bitrate: rate(fields % MANTISSA_LIMIT, fields / MANTISSA_LIMIT % 64),
         ssrcs: read_many(alloc, rows, count)?,
     }))
 }
@@ -66,10 +73,10 @@ fn parts(rate: Bitrate) -> (u32, u32)
     ensures exponent { result.0 ≡ exponent_of rate }
     ensures mantissa { result.1 ≡ mantissa_of rate }
     ensures few { result.0 < 64 }
-    ensures small { result.1 < 262144 }
+    ensures small { result.1 < MANTISSA_LIMIT }
 {
     let bits = rate.as_u64();
-    let exponent = (64 - bits.leading_zeros()).saturating_sub(18);
+    let exponent = (64 - bits.leading_zeros()).saturating_sub(MANTISSA_BITS);
     (exponent, (bits >> exponent) as u32)
 }
 
@@ -80,7 +87,7 @@ pub(crate) fn write_remb(remb: &Remb, out: &mut [u8]) -> Option<usize>
 {
     let ssrcs = remb.ssrcs.as_slice();
     let (exponent, mantissa) = parts(remb.bitrate);
-    let fields = ssrcs.len() as u32 * 0x100_0000 + exponent * 0x4_0000 + mantissa;
+    let fields = ssrcs.len() as u32 * 0x100_0000 + exponent * MANTISSA_LIMIT + mantissa;
     let words = [remb.sender_ssrc.into(), 0, NAME, fields];
     let at = write_rows(&words, out, 0)?;
     write_rows(ssrcs, out, at)

@@ -10,15 +10,22 @@ use rtp_base::ReceptionReport;
 use rtp_base::wire::{double, put, signed, word};
 use std::alloc::{AllocError, Global};
 
+/// The bytes of a reception report block (RFC 3550 section 6.4.1).
+pub const RECEPTION_REPORT_LEN: usize = 24;
+
+/// The bytes of what a sender says of itself, from its SSRC on (RFC 3550 section 6.4.1).
+pub const SENDER_INFO_LEN: usize = 24;
+
 impl Row for ReceptionReport {
     ghost use Rattle.rtcp_wire.specs.Rows.{report_at, report_text};
+    ghost use Rattle.rtcp_wire.specs.declared.report.TheConstants.{RECEPTION_REPORT_LEN};
 
-    ghost size = { 24 };
+    ghost size = { RECEPTION_REPORT_LEN };
 
     ghost row_of = { report_at };
 
     fn size() -> usize {
-        24
+        RECEPTION_REPORT_LEN
     }
 
     #[tactic(auto, unfolding(crate::specs::Rows::report_at))]
@@ -43,7 +50,7 @@ impl Put for ReceptionReport {
 
     #[tactic(auto, unfolding(crate::specs::Rows::report_text))]
     fn len(&self) -> usize {
-        24
+        RECEPTION_REPORT_LEN
     }
 
     #[tactic(auto, unfolding(crate::specs::Rows::report_text))]
@@ -71,7 +78,7 @@ pub(crate) fn read_receiver_report(
     ensures { IfOk result (λ r. r ≡ receiver_report_of count body.now) }
 {
     let count = usize::from(count);
-    if body.len() < 4 + count * 24 {
+    if body.len() < 4 + count * RECEPTION_REPORT_LEN {
         return Ok(None);
     }
     let (_, rows) = body.split_at(4);
@@ -91,7 +98,7 @@ pub(crate) fn write_receiver_report(report: &ReceiverReport, out: &mut [u8]) -> 
 
 #[tactic(auto, unfolding(crate::specs::Reports::sender_info_at))]
 fn read_sender_info(body: &[u8]) -> SenderInfo
-    requires { 24 ≤ length body.now }
+    requires { SENDER_INFO_LEN ≤ length body.now }
     ensures { result ≡ sender_info_at body.now }
 {
     SenderInfo {
@@ -126,10 +133,10 @@ pub(crate) fn read_sender_report(
     ensures { IfOk result (λ r. r ≡ sender_report_of count body.now) }
 {
     let count = usize::from(count);
-    if body.len() < 24 + count * 24 {
+    if body.len() < SENDER_INFO_LEN + count * RECEPTION_REPORT_LEN {
         return Ok(None);
     }
-    let (_, rows) = body.split_at(24);
+    let (_, rows) = body.split_at(SENDER_INFO_LEN);
     Ok(Some(SenderReport {
         sender_info: read_sender_info(body),
         reports: read_many(alloc, rows, count)?,

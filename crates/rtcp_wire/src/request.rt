@@ -5,7 +5,7 @@ ghost use Rattle.rtcp_wire.specs.Feedback.{pli_of, pli_body, fir_of, fir_body};
 
 use crate::row::{Put, Row, read_rows, write_rows};
 use rtp_base::wire::{put, word};
-use rtp_base::{ReportList, Ssrc};
+use rtp_base::{MAX_REPORTS, ReportList, Ssrc};
 
 /// A picture was lost (RFC 4585 section 6.3.1).
 #[derive(Clone, Copy, Debug, PartialEq, Eq)]
@@ -100,7 +100,7 @@ pub(crate) fn read_fir(body: &[u8]) -> Option<Fir>
         return None;
     }
     let (_, rows) = body.split_at(8);
-    let count = (rows.len() / 8).min(31);
+    let count = (rows.len() / 8).min(MAX_REPORTS);
     Some(Fir {
         sender_ssrc: word(body, 0).into(),
         reports: read_rows(rows, count),

@@ -1,12 +1,13 @@
 // Rows of fields of a fixed length.
-ghost use Rattle.std.specs.Prelude.{◌≡◌, ◌+◌, ◌*◌, ◌^◌, ◌<◌, ◌≤◌, List, ℕ, length, IfOk};
+ghost use Rattle.std.specs.Prelude.{◌≡◌, ◌+◌, ◌*◌, ◌<◌, ◌≤◌, List, ℕ, length, IfOk};
 ghost use Rattle.std.specs.List.{flat_map};
 ghost use Rattle.rtp_base.specs.Wire.{Puts};
 ghost use Rattle.rtcp_wire.specs.Wire.{rows_of};
 
 use media_base::Listed;
-use rtp_base::{ReportList, wire};
+use rtp_base::{MAX_REPORTS, ReportList, wire};
 use std::alloc::{AllocError, Global};
+use twcc_core::BODY_LIMIT;
 
 // What is put in bytes.
 pub trait Put {
@@ -15,7 +16,7 @@ pub trait Put {
 
     // How many bytes it takes.
     fn len(&self) -> usize
-        requires { length (text_of self.now) < 2 ^ 18 }
+        requires { length (text_of self.now) < BODY_LIMIT }
         ensures { result ≡ length (text_of self.now) };
 
     fn write(&self, out: &mut [u8], at: usize) -> Option<usize>
@@ -54,7 +55,7 @@ impl Put for u32 {
 
 // The first rows of some bytes, at most 31.
 pub fn read_rows<T: Row + Default>(bytes: &[u8], count: usize) -> ReportList<T>
-    requires few { count ≤ 31 }
+    requires few { count ≤ MAX_REPORTS }
     requires long { count * T.size ≤ length bytes.now }
     ensures { result ≡ rows_of T.row_of T.size count bytes.now }
 {
@@ -85,7 +86,7 @@ pub fn read_many<T: Row>(alloc: Global, bytes: &[u8], count: usize) -> Result<Li
 
 // How many bytes values take one after another.
 pub fn rows_len<T: Put>(rows: &[T]) -> usize
-    requires { length (flat_map T.text_of rows.now) < 2 ^ 18 }
+    requires { length (flat_map T.text_of rows.now) < BODY_LIMIT }
     ensures { result ≡ length (flat_map T.text_of rows.now) }
 {
     let mut len = 0;

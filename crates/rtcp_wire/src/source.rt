@@ -8,8 +8,8 @@ ghost use Rattle.rtcp_wire.specs.Descriptions.{sdes_item_at, with_item, first_31
 use crate::row::{Put, Row, read_rows, rows_len, write_rows};
 use media_base::{Bytes, Listed};
 use rtcp_items::{Descriptions, Goodbye, Sdes, SdesItem, SdesType};
-use rtp_base::Ssrc;
 use rtp_base::wire::{put, word};
+use rtp_base::{MAX_REPORTS, Ssrc};
 use std::alloc::{AllocError, Global};
 
 impl Row for Ssrc {
@@ -46,7 +46,7 @@ impl Put for Ssrc {
 
 #[tactic(auto, unfolding(crate::specs::Reports::goodbye_of))]
 pub(crate) fn read_goodbye(count: u8, body: &[u8]) -> Option<Goodbye>
-    requires { count ≤ 31 }
+    requires { count ≤ MAX_REPORTS }
     ensures { result ≡ goodbye_of count body.now }
 {
     let count = usize::from(count);
@@ -102,7 +102,7 @@ fn keep_item(
 ) -> Result<(), AllocError>
     ensures { OnOk result (values.new ≡ with_item values.old (record { kind = item.now.kind; text = item.now.text.now })) }
 {
-    if values.as_slice().len() < 31 {
+    if values.as_slice().len() < MAX_REPORTS {
         let text = Bytes::from_slice(alloc, item.text)?;
         let kind = item.kind;
         values.push(SdesItem { kind, text })?;

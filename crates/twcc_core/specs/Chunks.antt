@@ -6,6 +6,7 @@ use Rattle.std.specs.Option.{option_map, option_map_or}
 use Rattle.rtp_base.specs.Wire.{half_at}
 use Rattle.twcc_core.specs.Statuses.{symbol_of}
 use Rattle.twcc_core.specs.declared.status.PacketStatus.{PacketStatus}
+use Rattle.twcc_core.specs.declared.chunk.TheConstants.{MAX_RUN, VECTOR_LEN}
 
 -- a vector of one bit a symbol, and one of two bits a symbol, the first symbol in the highest bits
 abbrev pub one_bit_symbols : ℕ → List ℕ
@@ -45,7 +46,7 @@ symbol_at rows i = option_map_or symbol_of (slice_get rows i) 0
 
 -- how many at the front have the symbol of the first, of as many as a run can tell
 abbrev pub run_of : List PacketStatus → ℕ
-run_of rows = length (take_while (λ row. symbol_of row == symbol_at rows 0) (take 8191 rows))
+run_of rows = length (take_while (λ row. symbol_of row == symbol_at rows 0) (take MAX_RUN rows))
 
 -- a vector of the first seven
 abbrev pub vector_of : List PacketStatus → ℕ
@@ -55,10 +56,10 @@ vector_of rows =
 -- the first chunk that is written: a run where it tells seven at least, else a vector; and how many it
 -- tells
 unfoldable pub chunk_of : List PacketStatus → ℕ
-chunk_of rows = if nat_le 7 (run_of rows) then symbol_at rows 0 * 8192 + run_of rows else vector_of rows
+chunk_of rows = if nat_le VECTOR_LEN (run_of rows) then symbol_at rows 0 * 8192 + run_of rows else vector_of rows
 
 unfoldable pub told_by : List PacketStatus → ℕ
-told_by rows = if nat_le 7 (run_of rows) then run_of rows else min 7 (length rows)
+told_by rows = if nat_le VECTOR_LEN (run_of rows) then run_of rows else min VECTOR_LEN (length rows)
 
 -- the first n chunks that are written
 abbrev pub chunks_within : ℕ → List PacketStatus → List ℕ

@@ -6,6 +6,7 @@ use Rattle.rtp_base.specs.Fields.{IsSigned24}
 use Rattle.twcc_core.specs.declared.status.PacketStatus.{PacketStatus}
 use Rattle.twcc_core.specs.declared.status.PacketStatus.TheVariants.{NotReceived, Received}
 use Rattle.twcc_core.specs.declared.feedback.Twcc.{Twcc}
+use Rattle.twcc_core.specs.declared.feedback.TheConstants.{BODY_LIMIT}
 use Rattle.twcc_core.specs.Feedback.{twcc_of, twcc_bytes}
 
 -- the fields fit their places on the wire
@@ -28,4 +29,4 @@ FeedbackReadsBack = (t : Twcc) → IsFeedback t → twcc_of (twcc_bytes t) ≡ S
 
 -- written feedback has whole words, and fits an item of RTCP
 abbrev pub FeedbackIsWhole : Type 0
-FeedbackIsWhole = (t : Twcc) → length t.rows < 65536 → (length (twcc_bytes t) % 4 ≡ 0) × (length (twcc_bytes t) < 2 ^ 18)
+FeedbackIsWhole = (t : Twcc) → length t.rows < 65536 → (length (twcc_bytes t) % 4 ≡ 0) × (length (twcc_bytes t) < BODY_LIMIT)

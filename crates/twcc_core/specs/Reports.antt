@@ -9,6 +9,8 @@ use Rattle.twcc_core.specs.declared.status.PacketStatus.{PacketStatus}
 use Rattle.twcc_core.specs.declared.status.PacketStatus.TheVariants.{NotReceived, Received}
 use Rattle.twcc_core.specs.declared.feedback.Twcc.{Twcc}
 use Rattle.twcc_core.specs.declared.share.Share.{Share}
+use Rattle.twcc_core.specs.declared.moments.TheConstants.{DELTA_NANOS, REFERENCE_NANOS}
+use Rattle.twcc_core.specs.declared.receive.TheConstants.{SPAN, REPORT_SPAN, LOSS_SPAN}
 use Rattle.twcc_core.specs.Statuses.{delta_text}
 use Rattle.twcc_core.specs.Chunks.{chunks_of}
 use Rattle.twcc_core.specs.Feedback.{fill_of}
@@ -38,7 +40,7 @@ lowest_of arrivals = option_map (λ e. e.0) (slice_get arrivals 0)
 -- the numbers that count: those not more than 32,768 below the greatest, as far as 16 bits tell numbers
 -- apart on either side
 abbrev pub first_counted : List (ℕ × ℕ) → ℕ
-first_counted arrivals = unwrap_or (greatest_of arrivals) 0 - 32768
+first_counted arrivals = unwrap_or (greatest_of arrivals) 0 - SPAN
 
 -- a number that does not count is passed over, and of two arrivals of a number the first counts
 abbrev pub with_arrival : Receiving → ℕ → ℕ → Receiving
@@ -97,10 +99,10 @@ StandsFor kept r = kept ≡ kept_of r
 
 -- a moment in steps of 250 us, and in steps of 64 ms
 abbrev pub steps_of : ℕ → ℕ
-steps_of moment = moment / 250000
+steps_of moment = moment / DELTA_NANOS
 
 abbrev pub reference_of : ℕ → ℕ
-reference_of moment = moment / 64000000
+reference_of moment = moment / REFERENCE_NANOS
 
 -- the steps from the last arrival to the next, where 16 bits signed can tell them
 abbrev pub delta_of : ℕ → ℕ → Option ℤ
@@ -145,7 +147,7 @@ rows_within limit rows = take (fitting limit rows (length rows)) rows
 -- 65,535
 abbrev pub report_rows : List (ℕ × ℕ) → ℕ → ℕ × ℕ → List PacketStatus
 report_rows arrivals limit e =
-    rows_within limit (rows_from arrivals (min 65534 (unwrap_or (greatest_of arrivals) 0 - e.0) + 1) e.0 (256 * reference_of e.1))
+    rows_within limit (rows_from arrivals (min REPORT_SPAN (unwrap_or (greatest_of arrivals) 0 - e.0) + 1) e.0 (256 * reference_of e.1))
 
 -- the report of some rows, if there are any
 abbrev pub report_with : ℕ → ℕ → ℕ → ℕ × ℕ → List PacketStatus → Twcc
@@ -184,7 +186,7 @@ share_from arrivals number n = record { missing = missing_from arrivals number n
 
 -- what is missing of the last 100 numbers, of which none is below the lowest that came
 abbrev pub share_between : List (ℕ × ℕ) → ℕ → ℕ → Share
-share_between arrivals lowest greatest = share_from arrivals (max (greatest - 99) lowest) (greatest - max (greatest - 99) lowest + 1)
+share_between arrivals lowest greatest = share_from arrivals (max (greatest - LOSS_SPAN) lowest) (greatest - max (greatest - LOSS_SPAN) lowest + 1)
 
 unfoldable pub loss_of : List (ℕ × ℕ) → Option Share
 loss_of arrivals = option_and_then (λ lowest. option_map (λ greatest. share_between arrivals lowest greatest) (greatest_of arrivals)) (lowest_of arrivals)

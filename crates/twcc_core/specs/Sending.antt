@@ -7,6 +7,8 @@ use Rattle.rtp_base.specs.Widen.{widen16}
 use Rattle.twcc_core.specs.declared.feedback.Twcc.{Twcc}
 use Rattle.twcc_core.specs.declared.share.Share.{Share}
 use Rattle.twcc_core.specs.declared.send.TwccSendRecord.{TwccSendRecord}
+use Rattle.twcc_core.specs.declared.send.TheConstants.{MAX_RECORDS}
+use Rattle.rtp_base.specs.declared.number.TheConstants.{NUMBER_LIMIT}
 use Rattle.twcc_core.specs.Feedback.{twcc_of, twcc_bytes}
 use Rattle.twcc_core.specs.Reports.{Receiving, unreported, arrival_of, reference_of, report_of}
 use Rattle.twcc_core.specs.Times.{moments_of, held, AreMoments}
@@ -22,7 +24,7 @@ abbrev pub last_of : ℕ → List TwccSendRecord → List TwccSendRecord
 last_of n records = drop (length records - n) records
 
 abbrev pub with_sent : Sending → TwccSendRecord → Sending
-with_sent s sent = record { records = last_of 1000 (s.records ++ sent ∷ []); trip = s.trip }
+with_sent s sent = record { records = last_of MAX_RECORDS (s.records ++ sent ∷ []); trip = s.trip }
 
 -- the number of the last packet sent, and the one that a report begins with
 abbrev pub last_number : List TwccSendRecord → Option ℕ
@@ -123,5 +125,5 @@ abbrev pub ReportsComeBack : Type 0
 ReportsComeBack =
     (s : Sending) (r : Receiving) (sender ssrc limit now last : ℕ) (t : Twcc) (first : ℕ × ℕ) → sender < 2 ^ 32 → ssrc < 2 ^ 32 → r.reports < 256 → AreMoments r.arrivals
     → slice_get (unreported r) 0 ≡ Some first → reference_of first.1 < 2 ^ 24 → report_of r sender ssrc limit ≡ Some t
-    → last_number s.records ≡ Some last → first.0 ≤ last → last < first.0 + 32768 → last < 2 ^ 48
+    → last_number s.records ≡ Some last → first.0 ≤ last → last < first.0 + 32768 → last < NUMBER_LIMIT
     → (twcc_of (twcc_bytes t) ≡ Some t) × (told_by s now t ≡ map (with_arrival_of r.arrivals now) (filter (is_among first.0 (length t.rows)) s.records))

@@ -3,13 +3,14 @@ use Rattle.std.specs.Prelude.{◌≡◌, ℕ, ◌+◌, ◌*◌, ◌<◌, ◌≤�
 use Rattle.std.specs.List.{flat_map, prefix_len}
 use Rattle.twcc_core.specs.declared.status.PacketStatus.{PacketStatus}
 use Rattle.twcc_core.specs.declared.size.Size.{Size}
+use Rattle.twcc_core.specs.declared.chunk.TheConstants.{MAX_RUN, VECTOR_LEN}
 use Rattle.twcc_core.specs.Statuses.{symbol_of, delta_text}
 use Rattle.twcc_core.specs.Chunks.{symbol_at, chunks_of}
 use Rattle.twcc_core.specs.Feedback.{fill_of}
 
 -- whether the last chunk tells another row
 abbrev pub takes_on : Size → ℕ → Bool
-takes_on s symbol = nat_lt 0 s.told && (nat_lt s.told 7 || ((s.is_run && (symbol == s.symbol)) && nat_lt s.told 8191))
+takes_on s symbol = nat_lt 0 s.told && (nat_lt s.told VECTOR_LEN || ((s.is_run && (symbol == s.symbol)) && nat_lt s.told MAX_RUN))
 
 abbrev pub after_row : Size → PacketStatus → Size
 after_row s row =
@@ -28,10 +29,10 @@ pub record IsParted (s : Size) (rows : List PacketStatus) : Type 0 where
   pub split : rows ≡ front ++ last
   pub told : length last ≡ s.told
   pub some : 0 < s.told
-  pub most : s.told ≤ 8191
+  pub most : s.told ≤ MAX_RUN
   pub symbol : s.symbol ≡ symbol_at last 0
   pub run : s.is_run ≡ true → prefix_len (λ row. symbol_of row == s.symbol) last ≡ length last
-  pub mixed : s.is_run ≡ false → (prefix_len (λ row. symbol_of row == s.symbol) last < length last) × (length last ≤ 7)
+  pub mixed : s.is_run ≡ false → (prefix_len (λ row. symbol_of row == s.symbol) last < length last) × (length last ≤ VECTOR_LEN)
   pub chunks : (later : List PacketStatus) → length (chunks_of (rows ++ later)) + 1 ≡ s.chunks + length (chunks_of (last ++ later))
 
 abbrev pub IsCounted : Size → List PacketStatus → Type 0

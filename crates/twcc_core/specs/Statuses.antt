@@ -6,6 +6,7 @@ use Rattle.std.specs.Option.{option_map, option_and_then}
 use Rattle.rtp_base.specs.Wire.{half_at}
 use Rattle.twcc_core.specs.declared.status.PacketStatus.{PacketStatus}
 use Rattle.twcc_core.specs.declared.status.PacketStatus.TheVariants.{NotReceived, Received}
+use Rattle.twcc_core.specs.declared.status.TheConstants.{NOT_RECEIVED_SYMBOL, SMALL_DELTA_SYMBOL, LARGE_DELTA_SYMBOL}
 
 -- whether a delta fits 8 bits without sign
 abbrev pub is_small : ℤ → Bool
@@ -14,8 +15,8 @@ is_small (negsuc n) = false
 
 -- the symbol of two bits: not received, received with a delta of 8 bits, received with one of 16 bits
 abbrev pub symbol_of : PacketStatus → ℕ
-symbol_of NotReceived = 0
-symbol_of (Received delta) = if is_small delta then 1 else 2
+symbol_of NotReceived = NOT_RECEIVED_SYMBOL
+symbol_of (Received delta) = if is_small delta then SMALL_DELTA_SYMBOL else LARGE_DELTA_SYMBOL
 
 -- the bytes of the delta, where there is one
 abbrev pub delta_text : PacketStatus → List ℕ
@@ -26,8 +27,8 @@ delta_text (Received delta) = if is_small delta then cast_unsigned w16 delta ∷
 -- says no arrival. Nothing where the bytes end before the delta
 unfoldable pub status_at : ℕ → List ℕ → Option (PacketStatus × List ℕ)
 status_at symbol bytes =
-    if symbol == 1 then (if nat_lt (length bytes) 1 then None else Some (Received (pos (slice_index bytes 0)), drop 1 bytes))
-    else (if symbol == 2 then (if nat_lt (length bytes) 2 then None else Some (Received (cast_signed w16 (half_at bytes 0)), drop 2 bytes))
+    if symbol == SMALL_DELTA_SYMBOL then (if nat_lt (length bytes) 1 then None else Some (Received (pos (slice_index bytes 0)), drop 1 bytes))
+    else (if symbol == LARGE_DELTA_SYMBOL then (if nat_lt (length bytes) 2 then None else Some (Received (cast_signed w16 (half_at bytes 0)), drop 2 bytes))
     else Some (NotReceived, bytes))
 
 -- what symbols say, with the deltas one after another

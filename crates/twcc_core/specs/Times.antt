@@ -4,14 +4,16 @@ use Rattle.std.specs.Option.{option_map}
 use Rattle.twcc_core.specs.declared.status.PacketStatus.{PacketStatus}
 use Rattle.twcc_core.specs.declared.status.PacketStatus.TheVariants.{NotReceived, Received}
 use Rattle.twcc_core.specs.declared.feedback.Twcc.{Twcc}
+use Rattle.twcc_core.specs.declared.moments.TheConstants.{DELTA_NANOS, REFERENCE_NANOS}
+use Rattle.twcc_core.specs.declared.receive.TheConstants.{MIN_REPORT_LEN}
 use Rattle.twcc_core.specs.Feedback.{twcc_of, twcc_bytes}
 use Rattle.rtp_base.specs.Fields.{bits24}
 use Rattle.twcc_core.specs.Reports.{Receiving, unreported, arrival_of, reference_of, report_of}
 
 -- so many steps of 250 us after a moment, or before it
 abbrev pub moment_after : ℕ → ℤ → ℕ
-moment_after moment (pos steps) = min (moment + steps * 250000) (2 ^ 64 - 1)
-moment_after moment (negsuc steps) = moment - (steps + 1) * 250000
+moment_after moment (pos steps) = min (moment + steps * DELTA_NANOS) (2 ^ 64 - 1)
+moment_after moment (negsuc steps) = moment - (steps + 1) * DELTA_NANOS
 
 -- when a packet came, if it did
 abbrev pub row_moment : ℕ → PacketStatus → Option ℕ
@@ -25,11 +27,11 @@ moments_from last (row ∷ rows) = row_moment last row ∷ moments_from (unwrap_
 
 -- from the reference time on, as a number of 24 bits without sign
 abbrev pub moments_of : Twcc → List (Option ℕ)
-moments_of t = moments_from (bits24 t.reference_time * 64000000) t.rows
+moments_of t = moments_from (bits24 t.reference_time * REFERENCE_NANOS) t.rows
 
 -- a moment as the wire holds it, in steps of 250 us
 abbrev pub held : ℕ → ℕ
-held moment = moment / 250000 * 250000
+held moment = moment / DELTA_NANOS * DELTA_NANOS
 
 -- when each of n numbers in a row came, as the wire holds it
 abbrev pub held_from : List (ℕ × ℕ) → ℕ → ℕ → List (Option ℕ)
@@ -53,5 +55,5 @@ abbrev pub ReportsAreNone : Type 0
 ReportsAreNone =
     (r : Receiving) (sender ssrc limit : ℕ)
     → (slice_get (unreported r) 0 ≡ None → report_of r sender ssrc limit ≡ None)
-    × (limit < 24 → report_of r sender ssrc limit ≡ None)
-    × ((first : ℕ × ℕ) → slice_get (unreported r) 0 ≡ Some first → 24 ≤ limit → (t : Twcc) × (report_of r sender ssrc limit ≡ Some t))
+    × (limit < MIN_REPORT_LEN → report_of r sender ssrc limit ≡ None)
+    × ((first : ℕ × ℕ) → slice_get (unreported r) 0 ≡ Some first → MIN_REPORT_LEN ≤ limit → (t : Twcc) × (report_of r sender ssrc limit ≡ Some t))

@@ -13,8 +13,13 @@ use crate::{StatusIter, StatusList};
 use rtp_base::wire::{half, put};
 use std::alloc::{AllocError, Global};
 
-// The most rows that a run tells, in 13 bits.
-pub(crate) const MAX_RUN: usize = 8_191;
+/// The most rows that a run tells: its length has 13 bits
+/// (draft-holmer-rmcat-transport-wide-cc-extensions-01 section 3.1.3).
+pub const MAX_RUN: usize = 8_191;
+
+/// How many rows a vector of two bits a row tells, and the fewest that are written as a run
+/// (draft-holmer-rmcat-transport-wide-cc-extensions-01 section 3.1.4).
+pub const VECTOR_LEN: usize = 7;
 
 fn single_bits(chunk: u16) -> [u8; 14]
     ensures { result ≡ one_bit_symbols chunk }
@@ -61,7 +66,7 @@ fn symbol_count(chunk: u16) -> usize
     } else if chunk < 0xc000 {
         14
     } else {
-        7
+        VECTOR_LEN
     }
 }
 
@@ -99,7 +104,7 @@ fn read_chunk<'a>(
     } else if chunk < 0xc000 {
         read_statuses(rows, &single_bits(chunk)[..most.min(14)], bytes)
     } else {
-        read_statuses(rows, &bit_pairs(chunk)[..most.min(7)], bytes)
+        read_statuses(rows, &bit_pairs(chunk)[..most.min(VECTOR_LEN)], bytes)
     }
 }
 
@@ -151,7 +156,7 @@ fn split_symbol(rows: StatusIter<'_>) -> (u8, StatusIter<'_>)
 // rows behind them.
 fn first_run(rows: StatusIter<'_>) -> (usize, StatusIter<'_>)
     ensures value { result.0 ≡ run_of (left_of rows.entry) }
-    ensures most { result.0 ≤ 8191 }
+    ensures most { result.0 ≤ MAX_RUN }
     ensures rest { left_of result.1 ≡ drop result.0 (left_of rows.entry) }
 {
     let (symbol, _) = split_symbol(rows);
@@ -171,7 +176,7 @@ fn first_run(rows: StatusIter<'_>) -> (usize, StatusIter<'_>)
 // A vector of the first seven symbols, and the rows behind them.
 fn first_vector(rows: StatusIter<'_>) -> (u16, StatusIter<'_>)
     ensures value { result.0 ≡ vector_of (left_of rows.entry) }
-    ensures rest { left_of result.1 ≡ drop 7 (left_of rows.entry) }
+    ensures rest { left_of result.1 ≡ drop VECTOR_LEN (left_of rows.entry) }
 {
     let (first, rest) = split_symbol(rows);
     let (second, rest) = split_symbol(rest);
@@ -197,7 +202,7 @@ fn first_chunk(rows: StatusIter<'_>) -> (u16, StatusIter<'_>)
     ensures rest { left_of result.1 ≡ drop (told_by (left_of rows.entry)) (left_of rows.entry) }
 {
     let (run, behind) = first_run(rows);
-    if run >= 7 {
+    if run >= VECTOR_LEN {
         let (symbol, _) = split_symbol(rows);
         (u16::from(symbol) * 0x2000 + run as u16, behind)
     } else {

@@ -12,6 +12,10 @@ use rtp_base::Ssrc;
 use rtp_base::wire::{half, put, signed, word};
 use std::alloc::{AllocError, Global};
 
+/// The bytes of an item of RTCP behind its header are fewer: the header tells in 16 bits how many
+/// words of 4 bytes they are (RFC 3550 section 6.4.1).
+pub const BODY_LIMIT: usize = 1 << 18;
+
 /// Transport-wide feedback: what a receiver says of packets in a row (section 3.1).
 #[derive(Debug, PartialEq, Eq, Drop)]
 pub struct Twcc {

@@ -9,11 +9,13 @@ use media_base::Listed;
 use media_units::Instant;
 use std::alloc::{AllocError, Global};
 
-// A step of deltas, and one of the reference time, in nanoseconds
-// (draft-holmer-rmcat-transport-wide-cc-extensions-01 section 3.1).
-pub(crate) const DELTA_NANOS: u64 = 250_000;
+/// A step of deltas, in nanoseconds
+/// (draft-holmer-rmcat-transport-wide-cc-extensions-01 section 3.1.5).
+pub const DELTA_NANOS: u64 = 250_000;
 
-pub(crate) const REFERENCE_NANOS: u64 = 64_000_000;
+/// A step of the reference time, in nanoseconds
+/// (draft-holmer-rmcat-transport-wide-cc-extensions-01 section 3.1).
+pub const REFERENCE_NANOS: u64 = 64_000_000;
 
 // So many steps of 250 us after a moment, or before it, in nanoseconds.
 fn later(moment: u64, delta: i16) -> u64

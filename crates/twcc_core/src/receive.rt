@@ -17,14 +17,19 @@ use std::collections::BTreeMap;
 use std::collections::btree_map::Entry;
 use std::marker::Model;
 
-/// How far a number may be below the greatest: 16 bits tell it from one above.
-const SPAN: u64 = 32_768;
+/// How far a number may be below the greatest and still count: 16 bits tell it from one above.
+pub const SPAN: u64 = 32_768;
 
-/// How far behind its first number a report tells at most: 16 bits count the numbers.
-const REPORT_SPAN: u64 = 65_534;
+/// How far behind its first number a report tells at most: 16 bits count the numbers
+/// (draft-holmer-rmcat-transport-wide-cc-extensions-01 section 3.1).
+pub const REPORT_SPAN: u64 = 65_534;
 
-/// How far below the greatest the numbers are of which the loss is told.
-const LOSS_SPAN: u64 = 99;
+/// How far below the greatest the numbers are of which the loss is told: a choice.
+pub const LOSS_SPAN: u64 = 99;
+
+/// The fewest bytes of a report with its header: those of one that tells of one packet
+/// (draft-holmer-rmcat-transport-wide-cc-extensions-01 section 3.1).
+pub const MIN_REPORT_LEN: usize = 24;
 
 /// Packets received, of which reports are made. Numbers more than 32,768 below the greatest are let
 /// go, so at most 32,769 are held.

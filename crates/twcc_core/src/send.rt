@@ -12,8 +12,8 @@ use std::alloc::{AllocError, Global};
 use std::collections::VecDeque;
 use std::marker::Model;
 
-/// How many packets are remembered.
-const MAX_RECORDS: usize = 1_000;
+/// How many packets sent are remembered at most: a choice.
+pub const MAX_RECORDS: usize = 1_000;
 
 /// A packet sent, and what the last report of it said.
 #[derive(Clone, Copy, Debug, PartialEq, Eq)]
@@ -133,12 +133,13 @@ pub struct TwccSendRegister {
 impl Model for TwccSendRegister {
     ghost use Rattle.std.specs.Prelude.{◌≤◌, length};
     ghost use Rattle.twcc_core.specs.Sending.{Sending, IsRising};
+    ghost use Rattle.twcc_core.specs.declared.send.TheConstants.{MAX_RECORDS};
 
     ghost Value = { Sending };
 
     ghost view = { λ r. record { records = r.records.items; trip = r.trip } };
 
-    ghost invariant = { λ r. (length r.records.items ≤ 1000) × (r.rising ≤ 1000) × IsRising r.records.items r.rising };
+    ghost invariant = { λ r. (length r.records.items ≤ MAX_RECORDS) × (r.rising ≤ MAX_RECORDS) × IsRising r.records.items r.rising };
 }
 
 impl TwccSendRegister {
@@ -195,7 +196,7 @@ impl TwccSendRegister {
     // How many records at the end are in order of their numbers and not above one.
     #[tactic(auto, using(crate::proofs::Rising::rises_behind, crate::proofs::Rising::rises_first, crate::proofs::Rising::falls))]
     fn rising_before(&self, number: u64) -> usize
-        ensures most { result ≤ 1000 }
+        ensures most { result ≤ MAX_RECORDS }
         ensures order { (sent : TwccSendRecord) → sent.id.seq ≡ number → IsRising (self.now.records ++ sent ∷ []) (result + 1) }
     {
         match self.last() {

@@ -2,7 +2,7 @@
 ghost use Rattle.std.specs.Prelude.{◌≡◌, ◌<◌, ◌^◌, [], length};
 ghost use Rattle.twcc_core.specs.Feedback.{twcc_bytes};
 
-use crate::chunk::MAX_RUN;
+use crate::chunk::{MAX_RUN, VECTOR_LEN};
 use crate::{PacketStatus, Twcc};
 
 // The size of feedback whose rows come one after another.
@@ -40,7 +40,9 @@ impl Size {
         let symbol = row.symbol();
         self.deltas += row.delta_len();
         let is_same = symbol == self.symbol;
-        if 0 < self.told && (self.told < 7 || (self.is_run && is_same && self.told < MAX_RUN)) {
+        if 0 < self.told
+            && (self.told < VECTOR_LEN || (self.is_run && is_same && self.told < MAX_RUN))
+        {
             self.told += 1;
             self.is_run = self.is_run && is_same;
         } else {

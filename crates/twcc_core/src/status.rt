@@ -10,6 +10,18 @@ use crate::{StatusIter, StatusList};
 use rtp_base::wire::{half, put};
 use std::alloc::AllocError;
 
+/// The symbol of a packet that did not come
+/// (draft-holmer-rmcat-transport-wide-cc-extensions-01 section 3.1.1).
+pub const NOT_RECEIVED_SYMBOL: u8 = 0;
+
+/// The symbol of a packet that came, with a delta of 8 bits without sign
+/// (draft-holmer-rmcat-transport-wide-cc-extensions-01 section 3.1.1).
+pub const SMALL_DELTA_SYMBOL: u8 = 1;
+
+/// The symbol of a packet that came, with a delta of 16 bits with sign
+/// (draft-holmer-rmcat-transport-wide-cc-extensions-01 section 3.1.1).
+pub const LARGE_DELTA_SYMBOL: u8 = 2;
+
 /// What feedback says of a packet (draft-holmer-rmcat-transport-wide-cc-extensions-01 section
 /// 3.1.1).
 #[derive(Clone, Copy, Debug, PartialEq, Eq)]
@@ -29,8 +41,14 @@ impl PacketStatus {
         ensures small { result < 3 }
     {
         match self {
-            PacketStatus::NotReceived => 0,
-            PacketStatus::Received(delta) => { if delta >= 0 && delta < 256 { 1 } else { 2 } }
+            PacketStatus::NotReceived => NOT_RECEIVED_SYMBOL,
+            PacketStatus::Received(delta) => {
+                if delta >= 0 && delta < 256 {
+                    SMALL_DELTA_SYMBOL
+                } else {
+                    LARGE_DELTA_SYMBOL
+                }
+            }
         }
     }
 
@@ -40,8 +58,8 @@ impl PacketStatus {
         ensures small { result ≤ 2 }
     {
         match self.symbol() {
-            0 => 0,
-            1 => 1,
+            NOT_RECEIVED_SYMBOL => 0,
+            SMALL_DELTA_SYMBOL => 1,
             _ => 2,
         }
     }
@@ -70,11 +88,11 @@ fn read_status(symbol: u8, bytes: &[u8]) -> Option<(PacketStatus, &[u8])>
     ensures { option_map (λ x. (x.0, x.1.now)) result ≡ status_at symbol bytes.now }
 {
     match symbol {
-        1 => {
+        SMALL_DELTA_SYMBOL => {
             let (first, rest) = bytes.split_first()?;
             Some((PacketStatus::Received(i16::from(*first)), rest))
         }
-        2 => {
+        LARGE_DELTA_SYMBOL => {
             if bytes.len() < 2 {
                 return None;
             }
