@@ -1,5 +1,6 @@
 -- What a register with a mask stands for.
 use Rattle.std.specs.Prelude.{◌≡◌, ℕ, ◌-◌, ◌<◌, Bool, true, ◌&&◌, nat_lt, min, max, if◌then◌else◌, List, [], ◌∷◌, Option, Some, None}
+use Rattle.repair_core.specs.declared.register_nack.TheConstants.{MAX_NACKS}
 use Rattle.repair_core.specs.Fresh.{greatest}
 use Rattle.repair_core.specs.Rounds.{Heard, taken, asked, in_gap, numbers_up, later}
 use Rattle.mask_register.specs.declared.asks.Ask.{Ask}
@@ -45,7 +46,7 @@ window_in w from to = numbers_up (min w.greatest to - max (lowest_in w) from) (m
 
 -- a number is missing that was asked for fewer than five times
 abbrev pub is_open : Window → List Ask → ℕ → Bool
-is_open w rows k = is_missing w k && nat_lt (row_of rows k).times 5
+is_open w rows k = is_missing w k && nat_lt (row_of rows k).times MAX_NACKS
 
 -- the latest of the last asks of those numbers that are missing, and of one more
 abbrev pub latest_of : Window → List Ask → Option ℕ → List ℕ → Option ℕ

@@ -8,7 +8,7 @@ use repair_core::{MAX_MISORDER, MAX_NACKS};
 use std::marker::Model;
 
 /// How many numbers may be missing: those below the greatest that are still looked at.
-const MOST_MISSING: usize = MAX_MISORDER as usize;
+pub const MOST_MISSING: usize = MAX_MISORDER as usize;
 
 /// How often a missing number was asked for, and when last.
 #[derive(Clone, Copy, Debug)]
@@ -33,7 +33,7 @@ impl Ask {
     /// Whether it was asked for fewer than five times, and last at least the wait ago.
     pub fn is_due(&self, now: Instant, wait: Duration) -> bool
         ensures value { result ≡ is_due_row self.now now wait }
-        ensures few { OnTrue result (self.now.times < 5) }
+        ensures few { OnTrue result (self.now.times < MAX_NACKS) }
     {
         if self.times >= MAX_NACKS {
             return false;
@@ -101,7 +101,7 @@ impl Asks {
     }
 
     pub fn push(&mut self, ask: Ask)
-        requires { length self.old < 100 }
+        requires { length self.old < MOST_MISSING }
         ensures { self.new ≡ self.old ++ ask ∷ [] }
     {
         self.rows.push(ask);

@@ -4,7 +4,10 @@
 
 mod asks;
 mod mask;
+mod numbers;
 mod register;
 mod window;
 
+pub use asks::MOST_MISSING;
+pub use numbers::named_numbers;
 pub use register::MaskRegister;

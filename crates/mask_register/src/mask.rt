@@ -22,7 +22,7 @@ impl Mask {
     /// Whether the number that is so far below the greatest was taken.
     #[tactic(auto, using(crate::proofs::MaskLaws::has_is))]
     pub fn has(&self, back: u64) -> bool
-        requires { back ≤ 100 }
+        requires { back ≤ MAX_MISORDER }
         ensures { result ≡ has self.now back }
     {
         self.bits >> back & 1 == 1
@@ -31,7 +31,7 @@ impl Mask {
     /// Takes the number that is so far below the greatest.
     #[tactic(auto, using(crate::proofs::MaskLaws::added_has))]
     pub fn add(&mut self, back: u64)
-        requires { back ≤ 100 }
+        requires { back ≤ MAX_MISORDER }
         ensures { (i : ℕ) → has self.new i ≡ (nat_eq i back || has self.old i) }
     {
         self.bits |= 1 << back;
@@ -40,7 +40,7 @@ impl Mask {
     /// Goes on to a greatest number that is so much greater, and was not taken.
     #[tactic(auto, using(crate::proofs::MaskLaws::shifted_has))]
     pub fn shift(&mut self, by: u64)
-        ensures { (i : ℕ) → i ≤ 100 → has self.new i ≡ (nat_le by i && has self.old (i - by)) }
+        ensures { (i : ℕ) → i ≤ MAX_MISORDER → has self.new i ≡ (nat_le by i && has self.old (i - by)) }
     {
         self.bits = if by <= MAX_MISORDER {
             self.bits << by

@@ -8,7 +8,7 @@ use crate::asks::{Ask, Asks};
 use crate::window::Window;
 use media_units::{Duration, Instant};
 use repair_core::rounds::{Missing, grace, later, pack, wait};
-use repair_core::{GapWindow, MAX_NACKS};
+use repair_core::{GapWindow, MAX_ENTRIES_BEFORE_ROUND, MAX_NACKS, MAX_ROUND_ENTRIES};
 use rtp_base::{NackEntry, ReportList, SeqNo};
 use std::alloc::{AllocError, Global};
 use std::ops::Range;
@@ -62,11 +62,11 @@ impl MaskRegister {
         wait: Duration,
         reports: &mut ReportList<NackEntry>,
     )
-        requires { length reports.old ≤ 25 }
+        requires { length reports.old ≤ MAX_ENTRIES_BEFORE_ROUND }
         ensures window { self.new.window ≡ self.old.window }
         ensures asks { self.new.asks ≡ rows_after window.now self.old.asks now wait (window_of window.now) }
         ensures entries { reports.new ≡ reports.old ++ packed None (due_of window.now self.old.asks now wait (window_of window.now)) }
-        ensures few { length reports.new ≤ length reports.old + 6 }
+        ensures few { length reports.new ≤ length reports.old + MAX_ROUND_ENTRIES }
     {
         let mut asks = Asks::new();
         let mut begun: Option<Missing> = None;

@@ -1,5 +1,6 @@
-ghost use Rattle.std.specs.Prelude.{◌≡◌, ℕ, ◌+◌, ◌<◌, ◌≤◌, ◌^◌, false};
+ghost use Rattle.std.specs.Prelude.{◌≡◌, ℕ, ◌+◌, ◌<◌, ◌≤◌, false};
 ghost use Rattle.std.specs.Bool.{OnTrue};
+ghost use Rattle.rtp_base.specs.declared.number.TheConstants.{NUMBER_LIMIT};
 
 use crate::mask::Mask;
 use repair_core::MAX_MISORDER;
@@ -12,7 +13,7 @@ pub struct Window {
     pub greatest: u64,
     taken: Mask,
     ghost ordered: { first ≤ greatest },
-    ghost small: { greatest < 2 ^ 48 },
+    ghost small: { greatest < NUMBER_LIMIT },
 }
 
 impl Window {
@@ -21,7 +22,7 @@ impl Window {
 
     /// The window after its first number.
     pub fn begun(number: u64) -> Self
-        requires { number < 2 ^ 48 }
+        requires { number < NUMBER_LIMIT }
         ensures { Holds result number (number ∷ []) }
     {
         Window {
@@ -33,7 +34,7 @@ impl Window {
 
     /// Whether a number up to the greatest, and at most 100 below it, was not taken.
     pub fn is_missing(&self, number: u64) -> bool
-        requires low { self.now.greatest ≤ number + 100 }
+        requires low { self.now.greatest ≤ number + MAX_MISORDER }
         requires high { number ≤ self.now.greatest }
         ensures { result ≡ is_missing self.now number }
     {
@@ -42,7 +43,7 @@ impl Window {
 
     /// Whether the number may still be taken.
     pub fn accepts(&self, number: u64) -> bool
-        requires { number < 2 ^ 48 }
+        requires { number < NUMBER_LIMIT }
         ensures { result ≡ accepts_number self.now number }
     {
         if self.greatest < number {
@@ -53,8 +54,8 @@ impl Window {
 
     /// The window after one more number was taken, at most 100 below the greatest.
     pub fn with(self, number: u64) -> Self
-        requires small { number < 2 ^ 48 }
-        requires near { self.greatest ≤ number + 100 }
+        requires small { number < NUMBER_LIMIT }
+        requires near { self.greatest ≤ number + MAX_MISORDER }
         ensures { Takes self result number }
     {
         let mut taken = self.taken;

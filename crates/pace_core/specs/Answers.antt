@@ -2,6 +2,7 @@
 use Rattle.std.specs.Prelude.{◌≡◌, ℕ, ◌+◌, ◌*◌, ◌≤◌, ◌||◌, not, IsTrue, Bool, true, false, List, [], ◌∷◌, ◌++◌, is_some}
 use Rattle.std.specs.List.{list_all}
 use Rattle.pace_units.specs.declared.queue.QueueState.{QueueState}
+use Rattle.pace_core.specs.declared.leaky.TheConstants.{MAX_PACKET_IN_TIME}
 use Rattle.pace_core.specs.Bucket.{Event, timeout, send, burst}
 use Rattle.pace_core.specs.Envelope.{amount_of, last_rate, last_moment, drained}
 use Rattle.pace_core.specs.Past.{Past, made, pacing_set, padding_set, timed, polled, probe_started, probe_taken, sent, rate_in, chosen_in, probes_in}
@@ -48,7 +49,7 @@ AreShort (timed past now queues) = AreShort past
 AreShort (polled past) = AreShort past
 AreShort (probe_started past config) = AreShort past
 AreShort (probe_taken past) = AreShort past
-AreShort (sent past now size key) = (size * 8000000000 ≤ rate_in past * 460000000) × AreShort past
+AreShort (sent past now size key) = (size * 8000000000 ≤ rate_in past * MAX_PACKET_IN_TIME) × AreShort past
 
 -- at each timeout no queue is unpaced and no cluster runs
 abbrev pub are_paced : List QueueState → Bool

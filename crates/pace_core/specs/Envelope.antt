@@ -1,5 +1,6 @@
 -- The bound on what a leaky bucket lets out.
 use Rattle.std.specs.Prelude.{ℕ, ◌+◌, ◌-◌, ◌*◌, ◌≤◌, List, [], ◌∷◌, ◌++◌}
+use Rattle.pace_core.specs.declared.leaky.TheConstants.{MAX_PACKET_IN_TIME}
 use Rattle.pace_core.specs.Bucket.{Event, timeout, send, Bucket, step, burst}
 
 -- what is sent
@@ -30,7 +31,7 @@ drained rate since (send amount ∷ events) = drained rate since events
 abbrev pub AreLetOut : Bucket → List Event → Type 0
 AreLetOut b [] = Unit {0}
 AreLetOut b (timeout now rate ∷ events) = AreLetOut (step b (timeout now rate)) events
-AreLetOut b (send amount ∷ events) = (b.debt ≤ burst b.rate) × (amount ≤ b.rate * 460000000) × AreLetOut (step b (send amount)) events
+AreLetOut b (send amount ∷ events) = (b.debt ≤ burst b.rate) × (amount ≤ b.rate * MAX_PACKET_IN_TIME) × AreLetOut (step b (send amount)) events
 
 -- whatever was owed before: from one packet to another, both included, no more is sent than rate times elapsed from the
 -- timeout before the first to the timeout before the last, and the burst at the last, and the last packet

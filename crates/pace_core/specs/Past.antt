@@ -11,6 +11,7 @@ use Rattle.pace_units.specs.declared.cluster.ProbeClusterState.{ProbeClusterStat
 use Rattle.pace_units.specs.declared.probe.ProbeClusterConfig.{ProbeClusterConfig}
 use Rattle.pace_units.specs.Cluster.{new_cluster, is_complete, next_time, should_send, after_ask, asked_size, recorded}
 use Rattle.pace_units.specs.Moments.{moved, drain_time}
+use Rattle.pace_core.specs.declared.leaky.TheConstants.{MAX_DEBT_IN_TIME, PADDING_BURST_INTERVAL, PACING, MINIMAL_DELTA}
 use Rattle.pace_core.specs.Bucket.{burst}
 use Rattle.pace_core.specs.Probes.{Probes}
 use Rattle.pace_core.specs.Queues.{are_empty, adjusted, first_holding, unpaced_from, turn_from, padding_from}
@@ -172,7 +173,7 @@ debt_in (timed past now queues) = debt_in past - rate_in past * passed (since_in
 debt_in (polled past) = debt_in past
 debt_in (probe_started past config) = debt_in past
 debt_in (probe_taken past) = debt_in past
-debt_in (sent past now size key) = min (debt_in past + size * 8000000000) (rate_in past * 500000000)
+debt_in (sent past now size key) = min (debt_in past + size * 8000000000) (rate_in past * MAX_DEBT_IN_TIME)
 
 -- what is owed for padding: alike, at the padding rate that was set last
 abbrev pub padding_debt_in : Past → ℕ
@@ -183,7 +184,7 @@ padding_debt_in (timed past now queues) = padding_debt_in past - padding_in past
 padding_debt_in (polled past) = padding_debt_in past
 padding_debt_in (probe_started past config) = padding_debt_in past
 padding_debt_in (probe_taken past) = padding_debt_in past
-padding_debt_in (sent past now size key) = min (padding_debt_in past + size * 8000000000) (padding_in past * 500000000)
+padding_debt_in (sent past now size key) = min (padding_debt_in past + size * 8000000000) (padding_in past * MAX_DEBT_IN_TIME)
 
 -- the queues that were sent on, each with the moment of its last packet
 abbrev pub sends_in : Past → List (MidRid × ℕ)
@@ -202,7 +203,7 @@ last_sent_in past key = last_of (sends_in past) key
 
 -- the queue that padding is asked of, and how many bytes: 5 ms at the padding rate, where nothing is held and nothing owed
 abbrev pub asks : ℕ → QueueState → PaddingRequest
-asks padding q = record { midrid = q.midrid; padding = padding * 5000000 / 8000000000 }
+asks padding q = record { midrid = q.midrid; padding = padding * PADDING_BURST_INTERVAL / 8000000000 }
 
 abbrev pub may_ask : ℕ → ℕ → ℕ → Bool
 may_ask debt padding_debt padding = debt == 0 && (padding_debt == 0 && not (padding == 0))
@@ -245,7 +246,7 @@ paced_turn debt rate active now queues = record {
 abbrev pub drained_moment : ℕ → ℕ → ℕ → ℕ → ℕ → Option (ℕ × PacerReason)
 drained_moment debt padding_debt rate padding now =
     if not (rate == 0) && not (padding == 0)
-    then Some (moved now (max (max (drain_time debt rate) (drain_time padding_debt padding)) 1000), Padding)
+    then Some (moved now (max (max (drain_time debt rate) (drain_time padding_debt padding)) MINIMAL_DELTA), Padding)
     else None
 
 abbrev pub padding_moment : ℕ → ℕ → ℕ → ℕ → Option ProbeClusterState → ℕ → Option (ℕ × PacerReason)
@@ -356,7 +357,7 @@ moment_in (sent past now size key) = moment_in past
 -- when the pacer wants the next timeout, and why: 40 ms after the last one, or at an earlier moment; 1,000 ns after it once a poll
 -- gave a queue
 abbrev pub moment_or_poll : Bool → ℕ → Option (ℕ × PacerReason) → Option (ℕ × PacerReason)
-moment_or_poll true since moment = Some (moved since 1000, Immediate)
+moment_or_poll true since moment = Some (moved since MINIMAL_DELTA, Immediate)
 moment_or_poll false since moment = moment
 
 abbrev pub earlier_wake : ℕ → Option (ℕ × PacerReason) → Option ℕ × Reason
@@ -365,7 +366,7 @@ earlier_wake regular (Some moment) = if nat_lt regular moment.0 then (Some regul
 
 abbrev pub wake_of : Bool → Option ℕ → Option (ℕ × PacerReason) → Option ℕ × Reason
 wake_of gave None moment = (None, NotHappening)
-wake_of gave (Some since) moment = earlier_wake (moved since 40000000) (moment_or_poll gave since moment)
+wake_of gave (Some since) moment = earlier_wake (moved since PACING) (moment_or_poll gave since moment)
 
 abbrev pub wake_in : Past → Option ℕ × Reason
 wake_in past = wake_of (was_polled past) (since_in past) (moment_in past)

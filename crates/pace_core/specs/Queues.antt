@@ -1,7 +1,9 @@
 -- What is read off the states of queues at a timeout.
 use Rattle.std.specs.Prelude.{ℕ, ◌+◌, ◌-◌, ◌*◌, ◌/◌, ◌==◌, ◌&&◌, ◌||◌, not, is_none, nat_lt, min, max, Bool, true, false, if◌then◌else◌, List, [], ◌∷◌, Option, Some, None}
+use Rattle.media_units.specs.declared.rate.TheConstants.{GREATEST_RATE}
 use Rattle.pace_units.specs.Queue.{rank_of, total_wait}
 use Rattle.pace_units.specs.declared.queue.QueueState.{QueueState}
+use Rattle.pace_core.specs.declared.queues.TheConstants.{QUEUE_LIMIT, SHORTEST_DRAIN}
 
 -- the packets that are held, their bytes, and how long they waited until now, all together
 abbrev pub packets_in : List QueueState → ℕ
@@ -22,11 +24,11 @@ are_empty qs = packets_in qs == 0
 
 -- how long the queues may take to drain: what is left of 2 s after the mean wait of a packet, at least 1 ms
 abbrev pub drain_of : ℕ → ℕ → ℕ
-drain_of packets waited = max (2000000000 - waited / packets) 1000000
+drain_of packets waited = max (QUEUE_LIMIT - waited / packets) SHORTEST_DRAIN
 
 -- a rate that is needed, where it is above the base, at most 10,000,000,000 bits a second
 abbrev pub raised : ℕ → ℕ → ℕ
-raised base needed = if nat_lt base needed then min needed 10000000000 else base
+raised base needed = if nat_lt base needed then min needed GREATEST_RATE else base
 
 -- the rate at which so many packets, so many bytes, that waited so long together, are drained in time
 abbrev pub rate_for : ℕ → ℕ → ℕ → ℕ → ℕ

@@ -4,6 +4,8 @@ use Rattle.rtp_base.specs.declared.ids.MidRid.{MidRid}
 use Rattle.pace_units.specs.declared.queue.QueueState.{QueueState}
 use Rattle.pace_units.specs.declared.queue.PaddingRequest.{PaddingRequest}
 use Rattle.pace_units.specs.declared.queue.QueuePriority.TheVariants.{Media, Empty}
+use Rattle.pace_core.specs.declared.leaky.TheConstants.{MAX_PACKET_IN_TIME}
+use Rattle.pace_core.specs.declared.run.TheConstants.{MAX_PACKET}
 use Rattle.pace_core.specs.declared.run.PaceQueue.{PaceQueue}
 use Rattle.pace_core.specs.declared.run.PaceCall.{PaceCall}
 use Rattle.pace_core.specs.declared.run.PaceCall.TheVariants.{Pacing, Padding, Timeout, Poll, Send}
@@ -103,7 +105,7 @@ may_all_come past (call ∷ calls) = may_come past call && may_all_come (told pa
 
 -- a packet has at most 2,000 bytes
 abbrev pub IsShort : PaceCall → Type 0
-IsShort (Send now size) = size ≤ 2000
+IsShort (Send now size) = size ≤ MAX_PACKET
 IsShort (Pacing rate) = Unit {0}
 IsShort (Padding rate) = Unit {0}
 IsShort (Timeout now queues) = Unit {0}
@@ -132,7 +134,7 @@ IsBrief (Set ∷ log) = IsBrief log
 IsBrief (Timed asked ∷ log) = IsBrief log
 IsBrief (Chose mid ∷ log) = IsBrief log
 IsBrief (Idle wake ∷ log) = IsBrief log
-IsBrief (Sent bits debt rate ∷ log) = (bits * 1000000000 ≤ rate * 460000000) × IsBrief log
+IsBrief (Sent bits debt rate ∷ log) = (bits * 1000000000 ≤ rate * MAX_PACKET_IN_TIME) × IsBrief log
 
 -- what is sent in such a log of the first of these calls is within the bound
 abbrev pub KeepsEnvelope : ℕ → List PaceCall → List PaceEntry → Type 0

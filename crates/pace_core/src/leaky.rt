@@ -42,21 +42,26 @@ use pace_units::{
 use rtp_base::{MidRid, TwccClusterId};
 use std::alloc::{AllocError, Global};
 
-// What may be owed at most, as a time at the rate, in nanoseconds.
-const MAX_DEBT_IN_TIME: u64 = 500_000_000;
+/// What may be owed at most, as a time at the rate, in nanoseconds: a choice.
+pub const MAX_DEBT_IN_TIME: u64 = 500_000_000;
 
-// How much padding is asked for at once, as a time at the rate, in nanoseconds.
-const PADDING_BURST_INTERVAL: u64 = 5_000_000;
+/// How much padding is asked for at once, as a time at the rate, in nanoseconds: a choice.
+pub const PADDING_BURST_INTERVAL: u64 = 5_000_000;
 
-// How long after a timeout the next one is wanted, and what may be owed when a packet is let out,
-// as a time at the rate, in nanoseconds.
-const PACING: u64 = 40_000_000;
+/// How long after a timeout the next one is wanted, and what may be owed when a packet is let out,
+/// as a time at the rate, in nanoseconds: a choice.
+pub const PACING: u64 = 40_000_000;
 
-// What may be owed at most when a packet is let out: 63,000 bytes, in billionths of a bit.
-const MAX_BURST_SIZE: u128 = 504_000_000_000_000;
+/// What may be owed at most when a packet is let out, in billionths of a bit: 63,000 bytes, a
+/// choice.
+pub const MAX_BURST_SIZE: u128 = 504_000_000_000_000;
 
-// How long after a timeout the next one is wanted at the earliest, in nanoseconds.
-const MINIMAL_DELTA: u64 = 1_000;
+/// How long after a timeout the next one is wanted at the earliest, in nanoseconds: a choice.
+pub const MINIMAL_DELTA: u64 = 1_000;
+
+/// How large a packet may be for the bound on what is let out, as a time at the rate, in
+/// nanoseconds: with what may be owed when it is let out no more than may be owed at most.
+pub const MAX_PACKET_IN_TIME: u64 = MAX_DEBT_IN_TIME - PACING;
 
 /// A pacer that lets out a packet while less than a burst is owed.
 #[derive(Debug, Drop)]
@@ -94,7 +99,7 @@ fn drained(debt: Debt, rate: Bitrate, since: Option<Instant>, now: Instant) -> D
 
 // A debt with a packet, at most 500 ms at the rate.
 fn charged(debt: Debt, rate: Bitrate, size: DataSize) -> Debt
-    ensures { result ≡ min (debt + size * 8000000000) (rate * 500000000) }
+    ensures { result ≡ min (debt + size * 8000000000) (rate * MAX_DEBT_IN_TIME) }
 {
     let owed = debt.saturating_add(size.to_debt());
     let most = rate * Duration::from_nanos(MAX_DEBT_IN_TIME);
@@ -120,7 +125,7 @@ fn may_ask(debt: Debt, padding_debt: Debt, padding: Bitrate) -> bool
 // What padding is asked of a queue.
 fn asks(padding: Bitrate, midrid: MidRid) -> PaddingRequest
     ensures key { result.midrid ≡ midrid }
-    ensures size { result.padding ≡ padding * 5000000 / 8000000000 }
+    ensures size { result.padding ≡ padding * PADDING_BURST_INTERVAL / 8000000000 }
 {
     let size = (padding * Duration::from_nanos(PADDING_BURST_INTERVAL)).whole_bytes();
     PaddingRequest {

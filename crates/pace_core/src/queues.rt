@@ -17,17 +17,17 @@ ghost use Rattle.pace_core.specs.Queues.{
 ghost use Rattle.std.specs.Prelude.{◌≡◌, ◌==◌, None};
 ghost use Rattle.std.specs.Option.{option_copied};
 
-use media_units::{Bitrate, Instant};
+use media_units::{Bitrate, GREATEST_RATE, Instant};
 use pace_units::QueueState;
 
-// How long a packet may wait, in nanoseconds.
-const QUEUE_LIMIT: u128 = 2_000_000_000;
+/// How long a packet may wait, in nanoseconds: a choice.
+pub const QUEUE_LIMIT: u128 = 2_000_000_000;
 
-// The shortest time in which queues are drained, in nanoseconds.
-const SHORTEST_DRAIN: u128 = 1_000_000;
+/// The shortest time in which queues are drained, in nanoseconds: a choice.
+pub const SHORTEST_DRAIN: u128 = 1_000_000;
 
 // The greatest rate, in bits a second.
-const MAX_BITRATE: u128 = 10_000_000_000;
+const MAX_BITRATE: u128 = GREATEST_RATE as u128;
 
 /// What queues hold together: packets, bytes, and how long the packets waited, in nanoseconds.
 #[derive(Clone, Copy)]

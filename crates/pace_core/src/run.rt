@@ -35,8 +35,8 @@ use rtp_base::{Mid, MidRid, Rid};
 use std::alloc::{AllocError, Global};
 use thiserror::Error;
 
-// The greatest size of a packet, in bytes.
-const MAX_PACKET: u64 = 2_000;
+/// The greatest size of a packet of a run, in bytes: a choice.
+pub const MAX_PACKET: u64 = 2_000;
 
 /// A queue at a timeout of a run. It is paced, and all that it holds is media.
 #[derive(Clone, Copy, Debug)]
@@ -226,7 +226,7 @@ impl Player {
     }
 
     fn send(&mut self, now: Instant, size: DataSize) -> Result<PaceEntry, AllocError>
-        requires short { size ≤ 2000 }
+        requires short { size ≤ MAX_PACKET }
         requires waits { IsSome self.old.waiting }
         ensures entry { IfOk result (λ entry. (past : Past) → Plays self.old past → entry ≡ send_entry past now size) }
         ensures plays { OnOk result ((past : Past) → Plays self.old past → Plays self.new (sent_from past now size)) }

@@ -1,9 +1,11 @@
 -- What a cluster of probes asks for and when.
 use Rattle.std.specs.Prelude.{ℕ, ◌+◌, ◌-◌, ◌*◌, ◌^◌, ◌==◌, ◌&&◌, not, nat_lt, nat_le, min, max, Bool, if◌then◌else◌, Option, Some, None, is_some, unwrap_or}
+use Rattle.media_units.specs.declared.time.TheConstants.{NOT_HAPPENING_SECONDS}
 use Rattle.pace_units.specs.Moments.{moved, drain_time}
 use Rattle.pace_units.specs.Probe.{bytes_of, target_bytes}
 use Rattle.pace_units.specs.declared.probe.ProbeClusterConfig.{ProbeClusterConfig}
 use Rattle.pace_units.specs.declared.cluster.ProbeClusterState.{ProbeClusterState}
+use Rattle.pace_units.specs.declared.cluster.TheConstants.{MAX_PADDING_PACKET_SIZE}
 
 -- a cluster of which nothing was sent
 abbrev pub new_cluster : ProbeClusterConfig → ProbeClusterState
@@ -29,7 +31,7 @@ next_padding_time c = moved c.last_padding_at c.config.min_probe_delta
 abbrev pub time_from : ProbeClusterState → Option ℕ → ℕ
 time_from c None = 0
 time_from c (Some started) =
-    if c.config.target_bitrate == 0 then 3153600000 * 1000000000
+    if c.config.target_bitrate == 0 then NOT_HAPPENING_SECONDS * 1000000000
     else max (moved started (drain_time (c.bytes_sent * 8000000000) c.config.target_bitrate)) (next_padding_time c)
 
 abbrev pub next_time : ProbeClusterState → ℕ
@@ -42,8 +44,8 @@ should_send c now = nat_le (next_time c) now && nat_le (next_padding_time c) now
 -- that are left; 240 where only packets are missing
 abbrev pub next_size : ProbeClusterState → ℕ
 next_size c =
-    if target_bytes c.config - c.bytes_sent == 0 && nat_lt c.packets_sent c.config.min_packet_count then 240
-    else min (target_bytes c.config - c.bytes_sent) (max 240 (bytes_of c.config.target_bitrate c.config.min_probe_delta))
+    if target_bytes c.config - c.bytes_sent == 0 && nat_lt c.packets_sent c.config.min_packet_count then MAX_PADDING_PACKET_SIZE
+    else min (target_bytes c.config - c.bytes_sent) (max MAX_PADDING_PACKET_SIZE (bytes_of c.config.target_bitrate c.config.min_probe_delta))
 
 abbrev pub started_now : ProbeClusterState → ℕ → ProbeClusterState
 started_now c now = record c { started_at = Some (unwrap_or c.started_at now) }

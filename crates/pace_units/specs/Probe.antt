@@ -3,6 +3,7 @@ use Rattle.std.specs.Prelude.{ℕ, ◌-◌, ◌*◌, ◌/◌, ◌^◌, min, Bool
 use Rattle.pace_units.specs.declared.probe.ProbeKind.{ProbeKind}
 use Rattle.pace_units.specs.declared.probe.ProbeKind.TheVariants.{Initial, Exponential, Allocation, PeriodicAlr, LargeDrop, Stagnant}
 use Rattle.pace_units.specs.declared.probe.ProbeClusterConfig.{ProbeClusterConfig}
+use Rattle.pace_units.specs.declared.probe.TheConstants.{DEFAULT_DURATION_MILLIS, DEFAULT_DELTA_MILLIS, DEFAULT_PACKETS}
 
 -- the application sends less than it may
 abbrev pub is_alr : ProbeKind → Bool
@@ -18,9 +19,9 @@ abbrev pub new_config : ℕ → ℕ → ProbeKind → ProbeClusterConfig
 new_config cluster rate kind = record {
   cluster = cluster;
   target_bitrate = rate;
-  target_duration = 15000000;
-  min_packet_count = 5;
-  min_probe_delta = 2000000;
+  target_duration = DEFAULT_DURATION_MILLIS * 1000000;
+  min_packet_count = DEFAULT_PACKETS;
+  min_probe_delta = DEFAULT_DELTA_MILLIS * 1000000;
   kind = kind;
 }
 

@@ -1,5 +1,6 @@
 -- What a queue of packets holds at a moment. A number that its type cannot hold is the type's greatest.
 use Rattle.std.specs.Prelude.{ℕ, ◌+◌, ◌-◌, ◌*◌, ◌^◌, nat_lt, min, max, if◌then◌else◌, Option, Some, None}
+use Rattle.media_units.specs.declared.time.TheConstants.{NOT_HAPPENING_SECONDS}
 use Rattle.pace_units.specs.declared.queue.QueuePriority.{QueuePriority}
 use Rattle.pace_units.specs.declared.queue.QueuePriority.TheVariants.{Media, Padding, Empty}
 use Rattle.pace_units.specs.declared.queue.QueueSnapshot.{QueueSnapshot}
@@ -27,7 +28,7 @@ later_of (Some one) (Some other) = Some (max one other)
 -- a queue that holds nothing, at a moment that never comes
 abbrev pub empty_snapshot : QueueSnapshot
 empty_snapshot = record {
-  created_at = 3153600000 * 1000000000;
+  created_at = NOT_HAPPENING_SECONDS * 1000000000;
   byte_size = 0;
   packet_count = 0;
   total_queue_time_origin = 0;

@@ -15,8 +15,8 @@ ghost use Rattle.pace_units.specs.Cluster.{
 use crate::probe::{ProbeClusterConfig, bytes_of};
 use media_units::{DataSize, Instant, already_happened, not_happening};
 
-// The greatest size of a packet of padding.
-const MAX_PADDING_PACKET_SIZE: u64 = 240;
+/// The greatest size of a packet of padding, in bytes: a choice.
+pub const MAX_PADDING_PACKET_SIZE: u64 = 240;
 
 /// A cluster, what was sent of it and how many packets, when it was started, and when padding was
 /// asked for last.

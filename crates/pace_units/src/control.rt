@@ -4,8 +4,11 @@ ghost use Rattle.pace_units.specs.Control.{padding_rate, pacing_rate};
 
 use media_units::Bitrate;
 
-// The rate of padding that is kept up while media is sent.
-const PADDING_TARGET: u64 = 50_000;
+/// The rate of padding that is kept up while media is sent, in bits a second: a choice.
+pub const PADDING_TARGET: u64 = 50_000;
+
+/// At how many tenths of the estimate packets are let out: a choice.
+pub const PACING_TENTHS: u64 = 11;
 
 /// The rates that a pacer is set to.
 #[derive(Clone, Copy, Debug)]
@@ -46,7 +49,7 @@ impl PacerControl {
         } else {
             Bitrate::bps(0)
         };
-        let factored = Bitrate::bps(estimate.as_u64() * 11 / 10);
+        let factored = Bitrate::bps(estimate.as_u64() * PACING_TENTHS / 10);
         let pacing_rate = if factored < padding_rate {
             padding_rate
         } else {

@@ -5,11 +5,15 @@ ghost use Rattle.pace_units.specs.Probe.{is_alr, new_config, bytes_of, target_by
 use media_units::{Bitrate, DataSize, Duration};
 use rtp_base::TwccClusterId;
 
-const DEFAULT_DURATION_MILLIS: u64 = 15;
+/// How long a cluster lasts where nothing else is set, in milliseconds: a choice.
+pub const DEFAULT_DURATION_MILLIS: u64 = 15;
 
-const DEFAULT_DELTA_MILLIS: u64 = 2;
+/// How far apart the moments are at which padding is asked for where nothing else is set, in
+/// milliseconds: a choice.
+pub const DEFAULT_DELTA_MILLIS: u64 = 2;
 
-const DEFAULT_PACKETS: usize = 5;
+/// How many packets a cluster has at least where nothing else is set: a choice.
+pub const DEFAULT_PACKETS: usize = 5;
 
 /// Why a cluster is sent.
 #[derive(Clone, Copy, Debug, PartialEq, Eq)]

@@ -1,6 +1,7 @@
 -- What is counted of the packets of a source beside which numbers came (RFC 3550, sections 6.4.1, A.3 and A.8).
 use Rattle.std.specs.Prelude.{ℕ, ◌+◌, ◌-◌, ◌*◌, ◌/◌, ◌%◌, ◌^◌, ◌==◌, ℤ, pos, ◌-ℤ◌, nat_le, min, unwrap_or, if◌then◌else◌, Bool, Option, Some, None}
 use Rattle.rtp_base.specs.declared.reception_report.ReceptionReport.{ReceptionReport}
+use Rattle.repair_core.specs.declared.counts.TheConstants.{MAX_POSITIVE_LOSS, MAX_NEGATIVE_LOSS}
 use Rattle.repair_core.specs.declared.jitter.TimePoint.{TimePoint}
 use Rattle.repair_core.specs.Jitter.{entered, jitter_after, rtp_jitter}
 
@@ -38,7 +39,7 @@ expected_of first last = last - first + 1
 -- the packets lost, in 24 signed bits: from -0x800000 to 0x7fffff
 abbrev pub lost_of : ℕ → ℕ → ℤ
 lost_of expected received =
-    if nat_le received expected then pos (min (expected - received) 8388607) else (pos 0 -ℤ pos (min (received - expected) 8388608))
+    if nat_le received expected then pos (min (expected - received) MAX_POSITIVE_LOSS) else (pos 0 -ℤ pos (min (received - expected) MAX_NEGATIVE_LOSS))
 
 -- how many were lost since the last counts
 abbrev pub lost_since : ℕ × ℕ → ℕ → ℕ → ℕ

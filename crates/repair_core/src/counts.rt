@@ -1,5 +1,5 @@
 //! What is counted of the packets of a source, and the reports that are made of it.
-ghost use Rattle.std.specs.Prelude.{◌≡◌, ◌<◌, ◌^◌, IfSome};
+ghost use Rattle.std.specs.Prelude.{◌≡◌, ◌<◌, IfSome};
 ghost use Rattle.std.specs.Option.{ForSome};
 ghost use Rattle.rtp_base.specs.Fields.{IsSigned24};
 ghost use Rattle.repair_core.specs.Jitter.{rtp_jitter};
@@ -7,8 +7,14 @@ ghost use Rattle.rtp_base.specs.ReceptionReport.{IsReceptionReport};
 ghost use Rattle.repair_core.specs.Counts.{no_counts, after_point, counted, told, counts_report, counts_after, expected_of, lost_of, fraction_of, block_of};
 
 use crate::jitter::{Jitter, TimePoint};
-use rtp_base::{ReceptionReport, SeqNo, Ssrc};
+use rtp_base::{NUMBER_LIMIT, ReceptionReport, SeqNo, Ssrc};
 use std::marker::Model;
+
+/// The most packets lost that a report can say: 24 signed bits (RFC 3550 section A.3).
+pub const MAX_POSITIVE_LOSS: u64 = 0x7f_ffff;
+
+/// How far below 0 the packets lost of a report can be: 24 signed bits (RFC 3550 section A.3).
+pub const MAX_NEGATIVE_LOSS: u64 = 0x80_0000;
 
 /// What is counted of the packets of a source beside which numbers came: the first number, how many
 /// fresh ones came, what the last report told, and the jitter (RFC 3550 section 6.4.1). Every call
@@ -79,7 +85,7 @@ impl ReceptionCounts {
     /// sender report left 0; None where no packet came. The fraction lost is that since the report
     /// before (RFC 3550 section 6.4.1).
     pub fn report(&mut self, greatest: Option<SeqNo>) -> Option<ReceptionReport>
-        requires { ForSome greatest (λ n. n < 2 ^ 48) }
+        requires { ForSome greatest (λ n. n < NUMBER_LIMIT) }
         ensures report { result ≡ counts_report greatest self.old }
         ensures after { self.new ≡ counts_after greatest self.old }
         ensures bits { IfSome result IsReceptionReport }
@@ -142,7 +148,7 @@ fn block(fraction_lost: u8, packets_lost: i32, last: SeqNo, jitter: u32) -> Rece
 
 /// How many packets are expected from the first number to the last, which is below 2^48.
 pub fn expected(first: SeqNo, last: SeqNo) -> u64
-    requires { last < 2 ^ 48 }
+    requires { last < NUMBER_LIMIT }
     ensures { result ≡ expected_of first last }
 {
     u64::from(last).saturating_sub(u64::from(first)) + 1
@@ -154,8 +160,8 @@ pub fn packets_lost(expected: u64, received: u64) -> i32
     ensures bits { IsSigned24 result }
 {
     if received <= expected {
-        (expected - received).min(0x7f_ffff) as i32
+        (expected - received).min(MAX_POSITIVE_LOSS) as i32
     } else {
-        -((received - expected).min(0x80_0000) as i32)
+        -((received - expected).min(MAX_NEGATIVE_LOSS) as i32)
     }
 }

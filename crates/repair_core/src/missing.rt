@@ -2,7 +2,7 @@ ghost use Rattle.std.specs.Prelude.{◌≡◌, ℕ, ◌+◌, ◌<◌, ◌≤◌,
 ghost use Rattle.std.specs.Option.{ForSome};
 ghost use Rattle.repair_core.specs.Entries.{entry_of, alone, with_bit, packed, IsPacking};
 
-use rtp_base::{NackEntry, ReportList};
+use rtp_base::{MAX_REPORTS, NackEntry, ReportList};
 
 /// An entry of a NACK that is begun (RFC 4585 section 6.2.1): a missing number, and which of the
 /// next 16 are missing too.
@@ -38,7 +38,7 @@ impl Missing {
 
 /// Puts a missing number into the entry that is begun, or into the next, which it begins.
 pub fn pack(begun: Option<Missing>, number: u64, reports: &mut ReportList<NackEntry>) -> Missing
-    requires room { length reports.old < 31 }
+    requires room { length reports.old < MAX_REPORTS }
     requires above { ForSome begun (λ m. m.first < number) }
     ensures packed { (ks : List ℕ) → reports.new ++ packed (Some result) ks ≡ reports.old ++ packed begun (number ∷ ks) }
     ensures packing { (low before : ℕ) → low ≤ number → IsPacking low before number begun (length reports.old) → IsPacking low before (number + 1) (Some result) (length reports.new) }

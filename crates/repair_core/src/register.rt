@@ -1,4 +1,4 @@
-ghost use Rattle.std.specs.Prelude.{◌≡◌, ◌+◌, ◌<◌, ◌≤◌, ◌^◌, ◌++◌, None, IfOk, IfSome, length};
+ghost use Rattle.std.specs.Prelude.{◌≡◌, ◌+◌, ◌<◌, ◌≤◌, ◌++◌, None, IfOk, IfSome, length};
 ghost use Rattle.std.specs.Option.{ForSome};
 ghost use Rattle.repair_core.specs.Fresh.{is_fresh, greatest_of};
 ghost use Rattle.repair_core.specs.Rounds.{taken, due, is_pending, wait_of, deadline};
@@ -8,9 +8,9 @@ ghost use Rattle.repair_core.specs.Reception.{Reception, begun_at, arrived, reco
 use crate::counts::ReceptionCounts;
 use crate::gap_window::GapWindow;
 use crate::jitter::TimePoint;
-use crate::register_nack::NackRegister;
+use crate::register_nack::{MAX_ENTRIES_BEFORE_ROUND, MAX_ROUND_ENTRIES, NackRegister};
 use media_units::{Duration, Instant};
-use rtp_base::{NackEntry, ReceptionReport, ReportList, SeqNo};
+use rtp_base::{NUMBER_LIMIT, NackEntry, ReceptionReport, ReportList, SeqNo};
 use std::alloc::{AllocError, Global};
 use std::ops::Range;
 
@@ -29,7 +29,7 @@ impl<W: GapWindow> ReceiverRegister<W> {
     /// A register that received nothing. From the given number, if any, it starts as `NackRegister`
     /// does.
     pub fn new(alloc: Global, max_seq_no: Option<SeqNo>) -> Result<Self, AllocError>
-        requires { ForSome max_seq_no (λ n. n < 2 ^ 48) }
+        requires { ForSome max_seq_no (λ n. n < NUMBER_LIMIT) }
         ensures { IfOk result (λ r. StandsFor W.remembers r (begun_at max_seq_no)) }
     {
         let nack = W::new(alloc, max_seq_no)?;
@@ -41,7 +41,7 @@ impl<W: GapWindow> ReceiverRegister<W> {
 
     /// Makes it as a new one, in the room that it has.
     pub fn clear(&mut self, max_seq_no: Option<SeqNo>)
-        requires { ForSome max_seq_no (λ n. n < 2 ^ 48) }
+        requires { ForSome max_seq_no (λ n. n < NUMBER_LIMIT) }
         ensures { StandsFor W.remembers self.new (begun_at max_seq_no) }
     {
         self.nack.clear(max_seq_no);
@@ -50,7 +50,7 @@ impl<W: GapWindow> ReceiverRegister<W> {
 
     /// Whether the number may still be taken.
     pub fn accepts(&self, seq: SeqNo) -> bool
-        requires { seq < 2 ^ 48 }
+        requires { seq < NUMBER_LIMIT }
         ensures { (past : Reception) → StandsFor W.remembers self.now past → result ≡ is_fresh (taken (heard past)) seq }
     {
         self.nack.accepts(seq)
@@ -59,7 +59,7 @@ impl<W: GapWindow> ReceiverRegister<W> {
     /// Takes a number that was rebuilt from redundancy (RFC 2198). It is neither asked for nor
     /// taken again, and does not count as received.
     pub fn mark_recovered(&mut self, seq: SeqNo)
-        requires { seq < 2 ^ 48 }
+        requires { seq < NUMBER_LIMIT }
         ensures { (past : Reception) → StandsFor W.remembers self.old past → StandsFor W.remembers self.new (recovered past seq) }
     {
         let _ = self.nack.update(seq);
@@ -68,7 +68,7 @@ impl<W: GapWindow> ReceiverRegister<W> {
     /// Takes the number of a packet that came if it is fresh, and tells whether it was. The packet
     /// enters the jitter in any case. The clock rate is at least 1.
     pub fn update(&mut self, seq: SeqNo, arrival: Instant, rtp_time: u32, clock_rate: u32) -> bool
-        requires seq { seq < 2 ^ 48 }
+        requires seq { seq < NUMBER_LIMIT }
         requires rate { 0 < clock_rate }
         ensures fresh { (past : Reception) → StandsFor W.remembers self.old past → result ≡ is_fresh (taken (heard past)) seq }
         ensures arrived { (past : Reception) → StandsFor W.remembers self.old past → StandsFor W.remembers self.new (arrived past seq (record { arrival = arrival; rtp_time = rtp_time; clock_rate = clock_rate })) }
@@ -109,10 +109,10 @@ impl<W: GapWindow> ReceiverRegister<W> {
         trip: Option<Duration>,
         reports: &mut ReportList<NackEntry>,
     )
-        requires { length reports.old ≤ 25 }
+        requires { length reports.old ≤ MAX_ENTRIES_BEFORE_ROUND }
         ensures asked { (past : Reception) → StandsFor W.remembers self.old past → StandsFor W.remembers self.new (asked_at past now (wait_of trip)) }
         ensures entries { (past : Reception) → StandsFor W.remembers self.old past → reports.new ≡ reports.old ++ packed None (due (heard past) now (wait_of trip)) }
-        ensures few { length reports.new ≤ length reports.old + 6 }
+        ensures few { length reports.new ≤ length reports.old + MAX_ROUND_ENTRIES }
     {
         self.nack.nack_reports(now, trip, reports);
     }
@@ -120,7 +120,7 @@ impl<W: GapWindow> ReceiverRegister<W> {
     /// The greatest number that was taken.
     pub fn max_seq(&self) -> Option<SeqNo>
         ensures greatest { (past : Reception) → StandsFor W.remembers self.now past → result ≡ greatest_of (taken (heard past)) }
-        ensures small { IfSome result (λ n. n < 2 ^ 48) }
+        ensures small { IfSome result (λ n. n < NUMBER_LIMIT) }
     {
         self.nack.max_seq()
     }

@@ -1,4 +1,4 @@
-ghost use Rattle.std.specs.Prelude.{◌≡◌, ℕ, ◌+◌, ◌-◌, ◌<◌, ◌≤◌, ◌^◌, max, true, false, List, [], ◌∷◌, ◌++◌, IfOk, IfSome, Bool, Option, None, length};
+ghost use Rattle.std.specs.Prelude.{◌≡◌, ℕ, ◌+◌, ◌-◌, ◌<◌, ◌≤◌, max, true, false, List, [], ◌∷◌, ◌++◌, IfOk, IfSome, Bool, Option, None, length};
 ghost use Rattle.std.specs.Option.{ForSome};
 ghost use Rattle.std.specs.Bool.{OnFalse, OnTrue};
 ghost use Rattle.repair_core.specs.Fresh.{is_fresh, with_number, greatest_of, started_from};
@@ -10,22 +10,32 @@ ghost use Rattle.repair_core.specs.Entries.{packed};
 use crate::missing::{Missing, pack};
 use crate::slots::{Slot, Slots};
 use media_units::{Duration, Instant};
-use rtp_base::{NackEntry, ReportList, SeqNo};
+use rtp_base::{MAX_REPORTS, NUMBER_LIMIT, NackEntry, ReportList, SeqNo};
 use std::alloc::{AllocError, Global};
 use std::marker::Model;
 use std::ops::Range;
 
-/// How far below the greatest a number may be to be taken.
+/// How far below the greatest a number may be to be taken, in numbers: a choice.
 pub const MAX_MISORDER: u64 = 100;
 
-/// How often a missing number is asked for.
+/// How often a missing number is asked for: a choice.
 pub const MAX_NACKS: u8 = 5;
 
-/// The round trip where none is known.
-const DEFAULT_RTT_NANOS: u64 = 100_000_000;
+/// The round trip where none is known, in nanoseconds: a choice.
+pub const DEFAULT_RTT_NANOS: u64 = 100_000_000;
 
-/// How long past the round trip a number is asked for again.
-const NACK_RETRY_MARGIN_NANOS: u64 = 5_000_000;
+/// How long past the round trip a number is asked for again, in nanoseconds: a choice.
+pub const NACK_RETRY_MARGIN_NANOS: u64 = 5_000_000;
+
+/// How many round trips after the last ask a missing number is given up: a choice.
+pub const GRACE_ROUND_TRIPS: u64 = 3;
+
+/// The most entries of one round: an entry names a number and those of the next 16 that are missing
+/// (RFC 4585 section 6.2.1), so that six name 100.
+pub const MAX_ROUND_ENTRIES: usize = 6;
+
+/// The most entries of a list that has room for those of a round.
+pub const MAX_ENTRIES_BEFORE_ROUND: usize = MAX_REPORTS - MAX_ROUND_ENTRIES;
 
 /// The numbers that were taken, as far as the answers need them: the first, the greatest, and which
 /// of the last 101 are among them. Its room is taken when it is made.
@@ -55,7 +65,7 @@ impl NackRegister {
     /// it. Numbers are below 2^48.
     #[tactic(auto, using(crate::proofs::RegisterLaws::started_stands, crate::proofs::RoundLaws::began))]
     pub fn new(alloc: Global, max_seq_no: Option<SeqNo>) -> Result<Self, AllocError>
-        requires { ForSome max_seq_no (λ n. n < 2 ^ 48) }
+        requires { ForSome max_seq_no (λ n. n < NUMBER_LIMIT) }
         ensures stands { IfOk result (λ r. StandsFor r (started_from max_seq_no)) }
         ensures remembers { IfOk result (λ r. Remembers r (started_at max_seq_no)) }
     {
@@ -74,7 +84,7 @@ impl NackRegister {
     /// Makes it as a new one, in the room that it has.
     #[tactic(auto, using(crate::proofs::RegisterLaws::started_stands, crate::proofs::RoundLaws::began))]
     pub fn clear(&mut self, max_seq_no: Option<SeqNo>)
-        requires { ForSome max_seq_no (λ n. n < 2 ^ 48) }
+        requires { ForSome max_seq_no (λ n. n < NUMBER_LIMIT) }
         ensures stands { StandsFor self.new (started_from max_seq_no) }
         ensures remembers { Remembers self.new (started_at max_seq_no) }
     {
@@ -87,7 +97,7 @@ impl NackRegister {
     }
 
     fn start(&mut self, max_seq_no: Option<SeqNo>)
-        requires number { ForSome max_seq_no (λ n. n < 2 ^ 48) }
+        requires number { ForSome max_seq_no (λ n. n < NUMBER_LIMIT) }
         requires blank { self.old.started ≡ false }
         ensures { self.new ≡ started self.old max_seq_no }
     {
@@ -104,7 +114,7 @@ impl NackRegister {
     }
 
     fn is_open(&self, number: u64) -> bool
-        requires { number < 2 ^ 48 }
+        requires { number < NUMBER_LIMIT }
         ensures { result ≡ accepts_number self.now number }
     {
         if !self.started || self.greatest < number {
@@ -117,8 +127,8 @@ impl NackRegister {
     }
 
     fn put(&mut self, number: u64)
-        requires small { number < 2 ^ 48 }
-        requires near { self.old.started ≡ true → self.old.greatest ≤ number + 100 }
+        requires small { number < NUMBER_LIMIT }
+        requires near { self.old.started ≡ true → self.old.greatest ≤ number + MAX_MISORDER }
         ensures { self.new ≡ put_number self.old number }
     {
         if !self.started {
@@ -142,9 +152,9 @@ impl NackRegister {
     /// Whether the number, below 2^48, may still be taken.
     #[tactic(auto, using(crate::proofs::RegisterLaws::accepts_number_is))]
     pub fn accepts(&self, seq: SeqNo) -> bool
-        requires { seq < 2 ^ 48 }
+        requires { seq < NUMBER_LIMIT }
         ensures fresh { (l : List ℕ) → StandsFor self.now l → result ≡ is_fresh l seq }
-        ensures near { OnTrue result (self.now.started ≡ true → self.now.greatest ≤ seq + 100) }
+        ensures near { OnTrue result (self.now.started ≡ true → self.now.greatest ≤ seq + MAX_MISORDER) }
     {
         self.is_open(u64::from(seq))
     }
@@ -152,7 +162,7 @@ impl NackRegister {
     /// Takes the number, below 2^48, if it is fresh, and tells whether it was.
     #[tactic(auto, using(crate::proofs::RegisterLaws::put_number_is))]
     pub fn update(&mut self, seq: SeqNo) -> bool
-        requires { seq < 2 ^ 48 }
+        requires { seq < NUMBER_LIMIT }
         ensures fresh { (l : List ℕ) → StandsFor self.old l → result ≡ is_fresh l seq }
         ensures taken { (l : List ℕ) → StandsFor self.old l → StandsFor self.new (with_number l seq) }
         ensures remembers { (past : Heard) → Remembers self.old past → Remembers self.new (came past seq) }
@@ -170,7 +180,7 @@ impl NackRegister {
     #[tactic(auto, using(crate::proofs::RegisterLaws::greatest_is))]
     pub fn max_seq(&self) -> Option<SeqNo>
         ensures greatest { (l : List ℕ) → StandsFor self.now l → result ≡ greatest_of l }
-        ensures small { IfSome result (λ n. n < 2 ^ 48) }
+        ensures small { IfSome result (λ n. n < NUMBER_LIMIT) }
     {
         if self.started {
             Some(SeqNo::from(self.greatest))
@@ -188,10 +198,10 @@ impl NackRegister {
         trip: Option<Duration>,
         reports: &mut ReportList<NackEntry>,
     )
-        requires { length reports.old ≤ 25 }
+        requires { length reports.old ≤ MAX_ENTRIES_BEFORE_ROUND }
         ensures asked { (past : Heard) → Remembers self.old past → Remembers self.new (round past now (wait_of trip)) }
         ensures entries { (past : Heard) → Remembers self.old past → reports.new ≡ reports.old ++ packed None (due past now (wait_of trip)) }
-        ensures few { length reports.new ≤ length reports.old + 6 }
+        ensures few { length reports.new ≤ length reports.old + MAX_ROUND_ENTRIES }
     {
         self.round(now, wait(trip), reports);
         self.settle();
@@ -217,7 +227,7 @@ impl NackRegister {
     fn first_open(&self) -> u64
         ensures within { result ≤ self.now.greatest }
         ensures settled { IsQuiet self.now.first self.now.greatest self.now.slots result }
-        ensures wanted { result < self.now.greatest → (max self.now.first (self.now.greatest - 100) ≤ result) × (slot_needs (known self.now.slots result) ≡ true) }
+        ensures wanted { result < self.now.greatest → (max self.now.first (self.now.greatest - MAX_MISORDER) ≤ result) × (slot_needs (known self.now.slots result) ≡ true) }
     {
         let low = self
             .first
@@ -340,7 +350,7 @@ impl NackRegister {
 
     /// Marks a number as asked for, if it is to be, and tells whether it is.
     fn ask(&mut self, number: u64, now: Instant, wait: Duration) -> bool
-        requires low { max self.old.first (self.old.greatest - 100) ≤ number }
+        requires low { max self.old.first (self.old.greatest - MAX_MISORDER) ≤ number }
         requires high { number < self.old.greatest }
         ensures slots { self.new ≡ record self.old { slots = ask now wait self.old.slots number } }
         ensures due { result ≡ slot_due (known self.old.slots number) now wait }
@@ -361,10 +371,10 @@ impl NackRegister {
     }
 
     fn round(&mut self, now: Instant, wait: Duration, reports: &mut ReportList<NackEntry>)
-        requires { length reports.old ≤ 25 }
+        requires { length reports.old ≤ MAX_ENTRIES_BEFORE_ROUND }
         ensures asked { self.new ≡ with_round self.old now wait }
         ensures entries { reports.new ≡ reports.old ++ packed None (round_due self.old now wait) }
-        ensures few { length reports.new ≤ length reports.old + 6 }
+        ensures few { length reports.new ≤ length reports.old + MAX_ROUND_ENTRIES }
     {
         if !self.started {
             return;
@@ -400,7 +410,7 @@ pub fn grace(trip: Option<Duration>) -> Duration
     ensures { result ≡ grace_of trip }
 {
     let trip = trip.unwrap_or(Duration::from_nanos(DEFAULT_RTT_NANOS));
-    trip.saturating_mul(3)
+    trip.saturating_mul(GRACE_ROUND_TRIPS)
 }
 
 /// The later of two moments.
@@ -415,7 +425,7 @@ pub fn later(latest: Option<Instant>, moment: Instant) -> Option<Instant>
 
 fn is_due(slot: Slot, now: Instant, wait: Duration) -> bool
     ensures value { result ≡ slot_due slot now wait }
-    ensures few { OnTrue result (slot.asks < 5) }
+    ensures few { OnTrue result (slot.asks < MAX_NACKS) }
 {
     if slot.taken || slot.asks >= MAX_NACKS {
         return false;

@@ -6,7 +6,7 @@ use media_units::Instant;
 use std::alloc::{AllocError, Global};
 use std::marker::Model;
 
-/// How many numbers a window spans.
+/// How many numbers a window spans: the greatest, and those that may be taken below it.
 pub const WINDOW: u64 = MAX_MISORDER + 1;
 
 /// What is known of one number: whether it was taken, else how often it was asked for, and when
@@ -43,17 +43,18 @@ pub struct Slots {
 impl Model for Slots {
     ghost use Rattle.std.specs.Prelude.{◌≡◌, List, length};
     ghost use Rattle.repair_core.specs.declared.slots.Slot.{Slot};
+    ghost use Rattle.repair_core.specs.declared.slots.TheConstants.{WINDOW};
 
     ghost Value = { List Slot };
 
     ghost view = { λ s. s.all.items };
 
-    ghost invariant = { λ s. length s.all.items ≡ 101 };
+    ghost invariant = { λ s. length s.all.items ≡ WINDOW };
 }
 
 impl Slots {
     pub fn new(alloc: Global) -> Result<Self, AllocError>
-        ensures { IfOk result (λ s. s ≡ replicate 101 no_slot) }
+        ensures { IfOk result (λ s. s ≡ replicate WINDOW no_slot) }
     {
         let all = vec![in alloc; Slot::blank(); WINDOW as usize]?;
         Ok(Slots { all })
@@ -61,21 +62,21 @@ impl Slots {
 
     /// The slot of a number. It may hold another number.
     pub fn at(&self, number: u64) -> Slot
-        ensures { result ≡ slice_index_or self.now (number % 101) no_slot }
+        ensures { result ≡ slice_index_or self.now (number % WINDOW) no_slot }
     {
         self.all[(number % WINDOW) as usize]
     }
 
     pub fn put(&mut self, number: u64, slot: Slot)
-        ensures value { self.new ≡ slice_set self.old (number % 101) slot }
-        ensures long { length self.old ≡ 101 }
+        ensures value { self.new ≡ slice_set self.old (number % WINDOW) slot }
+        ensures long { length self.old ≡ WINDOW }
     {
         self.all[(number % WINDOW) as usize] = slot;
     }
 
     /// Makes every slot blank.
     pub fn clear(&mut self)
-        ensures { self.new ≡ replicate 101 no_slot }
+        ensures { self.new ≡ replicate WINDOW no_slot }
     {
         self.all.fill(Slot::blank());
     }

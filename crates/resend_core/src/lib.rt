@@ -5,6 +5,7 @@
 
 mod laws;
 pub mod mark;
+mod numbers;
 mod resend_store;
 mod ring;
 mod rtx_cache;
@@ -12,6 +13,8 @@ mod rtx_cache_buf;
 mod size_classes;
 
 pub use laws::event_laws;
+pub use numbers::named_numbers;
 pub use resend_store::ResendStore;
-pub use rtx_cache::{Cached, RtxCache};
+pub use rtx_cache::{Cached, INITIAL_CACHE_PACKETS, RtxCache};
 pub use rtx_cache_buf::EvictingBuffer;
+pub use size_classes::{CACHED_SIZE_LIMIT, CLASS_COUNT, CLASS_SIZE};

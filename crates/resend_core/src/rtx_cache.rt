@@ -5,11 +5,14 @@ ghost use Rattle.resend_core.specs.RtxCache.{StandsFor, packet_at, made_for, IsC
 
 use crate::resend_store::ResendStore;
 use crate::rtx_cache_buf::EvictingBuffer;
-use crate::size_classes::{CLASS_SIZE, SizeClasses};
+use crate::size_classes::{CACHED_SIZE_LIMIT, CLASS_COUNT, CLASS_SIZE, SizeClasses};
 use media_units::{Duration, Instant};
 use rtp_base::SeqNo;
 use std::alloc::{AllocError, Global};
 use std::marker::PhantomData;
+
+/// For how many packets a cache has room at first, where it may have as many: a choice.
+pub const INITIAL_CACHE_PACKETS: usize = 10;
 
 /// A packet that was sent and may be sent again.
 pub trait Cached: Drop {
@@ -40,7 +43,12 @@ impl<P: Cached, S: ResendStore<P>> RtxCache<P, S> {
     pub fn new(alloc: Global, max_packets: usize, max_age: Duration) -> Result<Self, AllocError>
         ensures { IfOk result (λ c. StandsFor S.stands_for P.size c (made_for max_packets max_age)) }
     {
-        let packets = S::new(alloc, max_packets.min(10), max_age, max_packets)?;
+        let packets = S::new(
+            alloc,
+            max_packets.min(INITIAL_CACHE_PACKETS),
+            max_age,
+            max_packets,
+        )?;
         Ok(RtxCache {
             packets,
             numbers: SizeClasses::new(),
@@ -58,7 +66,7 @@ impl<P: Cached, S: ResendStore<P>> RtxCache<P, S> {
     /// Stores a packet under its number, and drops those that are too old. Its payload is below
     /// 2,000 bytes. Without memory nothing changes.
     pub fn cache_sent_packet(&mut self, packet: P, now: Instant) -> Result<(), AllocError>
-        requires { P.size packet < 2000 }
+        requires { P.size packet < CACHED_SIZE_LIMIT }
         ensures ok { OnOk result ((past : Past P) → StandsFor S.stands_for P.size self.old past → IsCached S.stands_for P.size past (P.number packet) now packet self.new) }
         ensures err { OnErr result (self.new ≡ self.old) }
     {
@@ -92,10 +100,10 @@ impl<P: Cached, S: ResendStore<P>> RtxCache<P, S> {
     /// A packet whose payload is of a lower class of 25 bytes than this size, at most 2,000: of the
     /// greatest class whose packet cached last is held.
     pub fn get_cached_packet_smaller_than(&self, max_size: usize) -> Option<&P>
-        requires { max_size ≤ 2000 }
-        ensures choice { (past : Past P) → StandsFor S.stands_for P.size self.now past → option_copied result ≡ greatest_below (λ k. option_and_then (packet_at S.value_at self.now) (last_of_class P.size k past.events)) (max_size / 25) }
-        ensures smaller { (past : Past P) → StandsFor S.stands_for P.size self.now past → CachedOnce past.events → IfSome (option_copied result) (λ p. P.size p / 25 < max_size / 25) }
-        ensures none { (past : Past P) → StandsFor S.stands_for P.size self.now past → IsInOrder past.events → 0 < past.initial → 0 < past.age → IsNone (option_copied result) → NoneKept P.size past (max_size / 25) }
+        requires { max_size ≤ CACHED_SIZE_LIMIT }
+        ensures choice { (past : Past P) → StandsFor S.stands_for P.size self.now past → option_copied result ≡ greatest_below (λ k. option_and_then (packet_at S.value_at self.now) (last_of_class P.size k past.events)) (max_size / CLASS_SIZE) }
+        ensures smaller { (past : Past P) → StandsFor S.stands_for P.size self.now past → CachedOnce past.events → IfSome (option_copied result) (λ p. P.size p / CLASS_SIZE < max_size / CLASS_SIZE) }
+        ensures none { (past : Past P) → StandsFor S.stands_for P.size self.now past → IsInOrder past.events → 0 < past.initial → 0 < past.age → IsNone (option_copied result) → NoneKept P.size past (max_size / CLASS_SIZE) }
     {
         self.greatest_below(max_size / CLASS_SIZE)
     }
@@ -103,7 +111,7 @@ impl<P: Cached, S: ResendStore<P>> RtxCache<P, S> {
     /// The packet of the greatest class below this one whose packet cached last is held.
     #[tactic(auto, using(crate::proofs::CacheSteps::found_step, crate::proofs::CacheSteps::missed_step))]
     fn greatest_below(&self, class: usize) -> Option<&P>
-        requires { class ≤ 80 }
+        requires { class ≤ CLASS_COUNT }
         ensures { option_copied result ≡ greatest_below (λ k. option_and_then (packet_at S.value_at self.now) (slice_index_or self.now.numbers k None)) class }
     {
         let mut below = class.min(self.numbers.top());
@@ -119,7 +127,7 @@ impl<P: Cached, S: ResendStore<P>> RtxCache<P, S> {
     /// The packet of a class that was cached last, where it is held.
     #[tactic(auto, unfolding(crate::specs::RtxCache::packet_at))]
     fn last_of(&self, class: usize) -> Option<&P>
-        requires { class < 80 }
+        requires { class < CLASS_COUNT }
         ensures { option_copied result ≡ option_and_then (packet_at S.value_at self.now) (slice_index_or self.now.numbers class None) }
     {
         match self.numbers.get(class) {

@@ -1,5 +1,7 @@
 -- How much of what a stream sends is sent again.
 use Rattle.std.specs.Prelude.{ℕ, ◌+◌, ◌-◌, ◌*◌, nat_lt, nat_le, Bool, false, if◌then◌else◌, List, [], ◌∷◌, ◌++◌, length, take}
+use Rattle.rtx_core.specs.declared.byte_log.TheConstants.{COUNTING_AGE}
+use Rattle.rtx_core.specs.declared.ratio_cap.TheConstants.{READING_AGE}
 
 -- the bytes of payloads that were sent at moments
 abbrev pub bytes_in : List (ℕ × ℕ) → ℕ
@@ -8,7 +10,7 @@ bytes_in (e ∷ es) = e.1 + bytes_in es
 
 -- what was sent more than 1 s before a moment counts no more at it
 abbrev pub is_old : ℕ → ℕ → Bool
-is_old now moment = nat_lt 1000000000 (now - moment)
+is_old now moment = nat_lt (COUNTING_AGE * 1000000000) (now - moment)
 
 -- what counts at a moment: all from the first on that does
 abbrev pub recent : ℕ → List (ℕ × ℕ) → List (ℕ × ℕ)
@@ -41,7 +43,7 @@ is_above_at now c = is_above c.hundredths (bytes_in (recent now c.sent)) (bytes_
 
 -- it is looked again 50 ms after it was last
 abbrev pub is_reading_due : ℕ → CapRecord → Bool
-is_reading_due now c = nat_le 50000000 (now - c.read_at)
+is_reading_due now c = nat_le (READING_AGE * 1000000) (now - c.read_at)
 
 abbrev pub after_reading : ℕ → CapRecord → CapRecord
 after_reading now c = if is_reading_due now c then record c { read_at = now; met = is_above_at now c } else c

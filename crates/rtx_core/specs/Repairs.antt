@@ -1,7 +1,8 @@
 -- Which repairs are taken on an incoming stream, by their own numbers.
-use Rattle.std.specs.Prelude.{ℕ, ◌<◌, ◌^◌, Bool, List, [], Option, Some, None}
+use Rattle.std.specs.Prelude.{ℕ, ◌<◌, Bool, List, [], Option, Some, None}
 use Rattle.rtp_base.specs.Widen.{widen16}
 use Rattle.rtp_base.specs.Window.{is_fresh_after, with_fresh, greatest_after, StandsFor as WindowStandsFor}
+use Rattle.rtp_base.specs.declared.number.TheConstants.{NUMBER_LIMIT}
 use Rattle.rtp_base.specs.declared.window.SeqNoWindow.{SeqNoWindow}
 
 -- the greatest number that was seen on the SSRC of the first repair that opened, if one was; and the numbers of the repairs
@@ -34,4 +35,4 @@ abbrev pub Remembers : Option SeqNoWindow → Option RepairPast → Type 0
 Remembers None None = Unit {0}
 Remembers None (Some past) = ⊥
 Remembers (Some w) None = ⊥
-Remembers (Some w) (Some past) = WindowStandsFor w past.floor past.tried × (greatest_after past.floor past.tried < 2 ^ 48)
+Remembers (Some w) (Some past) = WindowStandsFor w past.floor past.tried × (greatest_after past.floor past.tried < NUMBER_LIMIT)

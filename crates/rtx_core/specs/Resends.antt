@@ -1,14 +1,16 @@
 -- What a stream sends again: the record of it, and what each call makes of that.
-use Rattle.std.specs.Prelude.{◌≡◌, ℕ, ◌+◌, ◌^◌, ◌<◌, nat_lt, Bool, true, false, ◌==◌, if◌then◌else◌, Option, Some, None, is_some, List, [], ◌∷◌, ◌++◌, length}
+use Rattle.std.specs.Prelude.{◌≡◌, ℕ, ◌+◌, ◌*◌, ◌<◌, nat_lt, Bool, true, false, ◌==◌, if◌then◌else◌, Option, Some, None, is_some, List, [], ◌∷◌, ◌++◌, length}
 use Rattle.std.specs.List.{flat_map}
 use Rattle.std.specs.Option.{option_map, option_map_or, option_to_list}
 use Rattle.rtp_base.specs.NackEntry.{named_by}
 use Rattle.rtp_base.specs.declared.nack_entry.NackEntry.{NackEntry}
+use Rattle.rtp_base.specs.declared.number.TheConstants.{NUMBER_LIMIT}
 use Rattle.resend_core.specs.ResendStore.{Event, pushed, evicted, Past, with_event, emptied, size_of, MustStore, HeldAs}
 use Rattle.resend_core.specs.RtxCache.{made_for, StandsFor as CacheStandsFor}
 use Rattle.resend_core.specs.declared.rtx_cache.RtxCache.{RtxCache}
 use Rattle.rtx_core.specs.Ratio.{CapRecord, uncounted, after_reading, with_sent, with_resent, with_hundredths}
 use Rattle.rtx_core.specs.declared.resend.Resend.{Resend}
+use Rattle.rtx_core.specs.declared.resend_queue.TheConstants.{DEFAULT_RTX_CACHE_PACKETS, DEFAULT_RTX_CACHE_DURATION, DEFAULT_RTX_RATIO_CAP}
 
 -- all but the packets that are kept: those that were asked for, in order; the number of the next repair; and the cap, if
 -- there is one
@@ -29,7 +31,7 @@ ResendRecord P = ResendView (Past P)
 -- every number under which a packet was cached has 48 bits
 abbrev pub AreNumbers : {P : Type 0} → List (Event P) → Type 0
 AreNumbers [] = Unit {0}
-AreNumbers (pushed n t p stored ∷ es) = (n < 2 ^ 48) × AreNumbers es
+AreNumbers (pushed n t p stored ∷ es) = (n < NUMBER_LIMIT) × AreNumbers es
 AreNumbers (evicted t ∷ es) = AreNumbers es
 
 pub record StandsFor {P S : Type 0} (stands_for : S → Past P → Type 0) (size : P → ℕ) (s : ResendView (RtxCache P S)) (r : ResendRecord P) : Type 0 where
@@ -40,8 +42,8 @@ pub record StandsFor {P S : Type 0} (stands_for : S → Past P → Type 0) (size
 -- nothing was sent; repairs begin with a number
 abbrev pub created : {P : Type 0} → ℕ → ResendRecord P
 created first = record {
-  state = record { resends = []; next_seq_no = first; cap = Some (uncounted 15) };
-  cache = made_for 2000 3000000000;
+  state = record { resends = []; next_seq_no = first; cap = Some (uncounted DEFAULT_RTX_RATIO_CAP) };
+  cache = made_for DEFAULT_RTX_CACHE_PACKETS (DEFAULT_RTX_CACHE_DURATION * 1000000000);
 }
 
 -- all begins anew with a first number of repairs: nothing was sent, nothing is kept and nothing asked for. The limits stay
@@ -130,7 +132,7 @@ number_of (Some found) s = Some s.next_seq_no
 
 -- something is to be sent again, and no number is left for it
 abbrev pub IsExhausted : {P : Type 0} → Option (P × List Resend) → ResendState → Type 0
-IsExhausted found s = (is_some found ≡ true) × (s.next_seq_no ≡ 2 ^ 48)
+IsExhausted found s = (is_some found ≡ true) × (s.next_seq_no ≡ NUMBER_LIMIT)
 
 -- the stream was closed: nothing is kept, and nothing asked for
 abbrev pub closed : {P : Type 0} → ResendRecord P → ResendRecord P

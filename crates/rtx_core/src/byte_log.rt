@@ -6,6 +6,9 @@ use std::alloc::{AllocError, Global};
 use std::collections::VecDeque;
 use std::marker::Model;
 
+/// How long the bytes of a payload that was sent count, in seconds: a choice.
+pub const COUNTING_AGE: u64 = 1;
+
 /// The bytes of payloads that were sent, with their moments, and their sum.
 #[derive(Debug, Drop)]
 pub struct ByteLog {
@@ -28,7 +31,7 @@ impl Model for ByteLog {
 fn is_old(moment: Instant, now: Instant) -> bool
     ensures { result ≡ is_old now moment }
 {
-    now.saturating_duration_since(moment) > Duration::from_secs(1)
+    now.saturating_duration_since(moment) > Duration::from_secs(COUNTING_AGE)
 }
 
 impl ByteLog {

@@ -4,12 +4,15 @@
 #![tactic(auto)]
 
 mod byte_log;
+mod numbers;
 mod ratio_cap;
 mod repair_window;
 mod resend;
 mod resend_queue;
 
-pub use ratio_cap::RatioCap;
+pub use byte_log::COUNTING_AGE;
+pub use numbers::named_numbers;
+pub use ratio_cap::{READING_AGE, RatioCap};
 pub use repair_window::RepairWindow;
 pub use resend::{Resend, ResendError};
 pub use resend_queue::{

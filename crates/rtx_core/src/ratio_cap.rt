@@ -6,8 +6,8 @@ use media_units::{Duration, Instant};
 use std::alloc::{AllocError, Global};
 use std::marker::Model;
 
-/// How long a reading stands, in milliseconds.
-const READING_AGE: u64 = 50;
+/// How long a reading stands, in milliseconds: a choice.
+pub const READING_AGE: u64 = 50;
 
 /// How many hundredths of the bytes of payloads that a stream sends may be those of repairs, and
 /// what it sent in the last second. It is read at most every 50 ms whether they are more; before

@@ -1,10 +1,9 @@
-ghost use Rattle.std.specs.Prelude.{◌≡◌, ◌<◌, ◌^◌, ◌%◌, [], Option};
+ghost use Rattle.std.specs.Prelude.{◌≡◌, ◌<◌, ◌%◌, [], Option};
 ghost use Rattle.std.specs.Option.{ForSome};
 ghost use Rattle.rtp_base.specs.Window.{is_fresh_after, with_fresh, StandsFor as WindowStandsFor};
 ghost use Rattle.rtx_core.specs.Repairs.{RepairPast, repair_near, repair_number, is_fresh_repair, repair_opened, Remembers};
 
-use crate::resend::NUMBER_LIMIT;
-use rtp_base::{SeqNo, SeqNoWindow, widen16};
+use rtp_base::{NUMBER_LIMIT, SeqNo, SeqNoWindow, widen16};
 use std::marker::Model;
 
 /// Which repairs of a stream were taken (RFC 4588), by their own numbers. It begins with the first
@@ -68,9 +67,9 @@ impl RepairWindow {
 
     /// The number next to which that of a repair is.
     fn near(&self, seen: Option<SeqNo>) -> Option<SeqNo>
-        requires { ForSome seen (λ n. n < 2 ^ 48) }
+        requires { ForSome seen (λ n. n < NUMBER_LIMIT) }
         ensures near { (past : Option RepairPast) → Remembers self.now past → result ≡ repair_near seen past }
-        ensures small { ForSome result (λ n. n < 2 ^ 48) }
+        ensures small { ForSome result (λ n. n < NUMBER_LIMIT) }
     {
         match &self.window {
             Some(window) => {
@@ -87,9 +86,9 @@ impl RepairWindow {
 
     /// The number of a repair with these low 16 bits (RFC 3711 section 3.3.1).
     pub fn number_for(&self, low: u16, seen: Option<SeqNo>) -> SeqNo
-        requires { ForSome seen (λ n. n < 2 ^ 48) }
+        requires { ForSome seen (λ n. n < NUMBER_LIMIT) }
         ensures number { (past : Option RepairPast) → Remembers self.now past → result ≡ repair_number seen past low }
-        ensures small { result < 2 ^ 48 }
+        ensures small { result < NUMBER_LIMIT }
         ensures low { result % 65536 ≡ low }
     {
         SeqNo::from(widen16(number_of(self.near(seen)), low))
@@ -107,8 +106,8 @@ impl RepairWindow {
 
     /// Takes the number of a repair that opened, below 2^48.
     pub fn take(&mut self, number: SeqNo, seen: Option<SeqNo>)
-        requires number { number < 2 ^ 48 }
-        requires seen { ForSome seen (λ n. n < 2 ^ 48) }
+        requires number { number < NUMBER_LIMIT }
+        requires seen { ForSome seen (λ n. n < NUMBER_LIMIT) }
         ensures { (past : Option RepairPast) → Remembers self.old past → Remembers self.new (repair_opened seen number past) }
     {
         match &mut self.window {

@@ -3,9 +3,6 @@ use rtp_base::SeqNo;
 use std::alloc::AllocError;
 use thiserror::Error;
 
-/// Extended sequence numbers are below it.
-pub(crate) const NUMBER_LIMIT: u64 = 1 << 48;
-
 /// A packet that the peer asked for (RFC 4585 section 6.2.1), and that was kept then.
 #[derive(Clone, Copy, Debug, PartialEq, Eq)]
 pub struct Resend {

@@ -1,4 +1,4 @@
-ghost use Rattle.std.specs.Prelude.{◌≡◌, ◌↔◌, ℕ, ◌+◌, ◌<◌, ◌≤◌, ◌^◌, ◌++◌, ◌==◌, List, [], Option, is_some, drop, length, IfOk, IfSome, OnOk, OnErr, IsErrOf};
+ghost use Rattle.std.specs.Prelude.{◌≡◌, ◌↔◌, ℕ, ◌+◌, ◌<◌, ◌≤◌, ◌++◌, ◌==◌, List, [], Option, is_some, drop, length, IfOk, IfSome, OnOk, OnErr, IsErrOf};
 ghost use Rattle.std.specs.Option.{option_copied, option_map, option_to_list, ForSome};
 ghost use Rattle.rtp_base.specs.NackEntry.{named_by};
 ghost use Rattle.resend_core.specs.ResendStore.{Past, last_position};
@@ -7,21 +7,21 @@ ghost use Rattle.rtx_core.specs.Ratio.{after_reading, forgetting, with_pushed, w
 ghost use Rattle.rtx_core.specs.Resends.{ResendRecord, StandsFor, created, begun_anew, recapped, recached, after_first, Caches, numbers_of, resend_of, resends_of, asked_for, first_held, is_capped, next_of, cap_after, after_next, number_of, IsExhausted, closed, Asks, IsNext};
 
 use crate::ratio_cap::RatioCap;
-use crate::resend::{NUMBER_LIMIT, Resend, ResendError};
+use crate::resend::{Resend, ResendError};
 use media_units::{Duration, Instant};
-use resend_core::{Cached, ResendStore, RtxCache};
-use rtp_base::{NackEntry, SeqNo};
+use resend_core::{CACHED_SIZE_LIMIT, Cached, ResendStore, RtxCache};
+use rtp_base::{NUMBER_LIMIT, NackEntry, SeqNo};
 use std::alloc::{AllocError, Global};
 use std::collections::VecDeque;
 use std::marker::Model;
 
-/// How many packets are kept where nothing else is set.
+/// How many packets are kept where nothing else is set: a choice.
 pub const DEFAULT_RTX_CACHE_PACKETS: usize = 2000;
 
-/// How long they are kept, in seconds.
+/// How long they are kept where nothing else is set, in seconds: a choice.
 pub const DEFAULT_RTX_CACHE_DURATION: u64 = 3;
 
-/// How many hundredths of what is sent may be repairs.
+/// How many hundredths of what is sent may be repairs where nothing else is set: a choice.
 pub const DEFAULT_RTX_RATIO_CAP: u32 = 15;
 
 /// What an outgoing stream sends again (RFC 4588): the packets that it keeps, of those what the
@@ -37,7 +37,8 @@ pub struct ResendQueue<P: Cached, S: ResendStore<P>> {
 }
 
 impl<P: Cached, S: ResendStore<P>> Model for ResendQueue<P, S> {
-    ghost use Rattle.std.specs.Prelude.{◌≤◌, ◌^◌};
+    ghost use Rattle.std.specs.Prelude.{◌≤◌};
+    ghost use Rattle.rtp_base.specs.declared.number.TheConstants.{NUMBER_LIMIT};
     ghost use Rattle.resend_core.specs.declared.rtx_cache.RtxCache.{RtxCache};
     ghost use Rattle.rtx_core.specs.Resends.{ResendView};
 
@@ -45,7 +46,7 @@ impl<P: Cached, S: ResendStore<P>> Model for ResendQueue<P, S> {
 
     ghost view = { λ q. record { state = record { resends = q.resends.items; next_seq_no = q.next_seq_no; cap = q.cap }; cache = q.cache } };
 
-    ghost invariant = { λ q. q.next_seq_no ≤ 2 ^ 48 };
+    ghost invariant = { λ q. q.next_seq_no ≤ NUMBER_LIMIT };
 }
 
 /// The first resend whose packet is held: how many there are up to it, and the packet.
@@ -90,7 +91,7 @@ impl<P: Cached, S: ResendStore<P>> ResendQueue<P, S> {
     /// Nothing was sent. Repairs begin with a number of at most 2^48, which is one too many. The
     /// cache has room for 2,000 packets, each for 3 s, and the cap is 15 hundredths.
     pub fn new(alloc: Global, first_seq_no: SeqNo) -> Result<Self, AllocError>
-        requires { first_seq_no ≤ 2 ^ 48 }
+        requires { first_seq_no ≤ NUMBER_LIMIT }
         ensures { IfOk result (λ q. StandsFor S.stands_for P.size q (created first_seq_no)) }
     {
         let max_age = Duration::from_secs(DEFAULT_RTX_CACHE_DURATION);
@@ -107,7 +108,7 @@ impl<P: Cached, S: ResendStore<P>> ResendQueue<P, S> {
     /// One with the same limits for which nothing was sent. Its repairs begin with a number of at
     /// most 2^48, which is one too many.
     pub fn anew(&self, first_seq_no: SeqNo) -> Result<Self, AllocError>
-        requires { first_seq_no ≤ 2 ^ 48 }
+        requires { first_seq_no ≤ NUMBER_LIMIT }
         ensures { (r : ResendRecord P) → StandsFor S.stands_for P.size self.now r → IfOk result (λ q. StandsFor S.stands_for P.size q (begun_anew first_seq_no r)) }
     {
         let cache = self.cache.anew(self.alloc)?;
@@ -203,7 +204,7 @@ impl<P: Cached, S: ResendStore<P>> ResendQueue<P, S> {
 
     /// Keeps a packet in the cache. Without memory nothing changes.
     fn keep(&mut self, packet: P, now: Instant) -> Result<(), AllocError>
-        requires { P.size packet < 2000 }
+        requires { P.size packet < CACHED_SIZE_LIMIT }
         ensures ok { OnOk result ((past : Past P) → CacheStandsFor S.stands_for P.size self.old.cache past → IsCached S.stands_for P.size past (P.number packet) now packet self.new.cache) }
         ensures state { self.new.state ≡ self.old.state }
         ensures err { OnErr result (self.new ≡ self.old) }
@@ -215,8 +216,8 @@ impl<P: Cached, S: ResendStore<P>> ResendQueue<P, S> {
     /// is too old or its room is needed. What is too old goes. Without memory nothing changes.
     #[tactic(auto, using(crate::proofs::Caching::counted_back, crate::proofs::Caching::forgotten))]
     pub fn cache_sent_packet(&mut self, packet: P, now: Instant) -> Result<(), AllocError>
-        requires size { P.size packet < 2000 }
-        requires number { P.number packet < 2 ^ 48 }
+        requires size { P.size packet < CACHED_SIZE_LIMIT }
+        requires number { P.number packet < NUMBER_LIMIT }
         ensures ok { OnOk result ((r : ResendRecord P) → StandsFor S.stands_for P.size self.old r → (after : ResendRecord P) × Caches P.size P.number now packet r after × StandsFor S.stands_for P.size self.new after) }
         ensures state { OnOk result (self.new.state ≡ after_first now (P.size packet) self.old.state) }
         ensures err { OnErr result (self.new ≡ self.old) }
@@ -237,7 +238,7 @@ impl<P: Cached, S: ResendStore<P>> ResendQueue<P, S> {
     /// The number of the packet that was kept last.
     fn last_seq_no(&self) -> Option<SeqNo>
         ensures last { (r : ResendRecord P) → StandsFor S.stands_for P.size self.now r → result ≡ last_position r.cache.events }
-        ensures small { ForSome result (λ n. n < 2 ^ 48) }
+        ensures small { ForSome result (λ n. n < NUMBER_LIMIT) }
     {
         let last = self.cache.last_cached_seq_no()?;
         if u64::from(last) < NUMBER_LIMIT {
@@ -255,7 +256,7 @@ impl<P: Cached, S: ResendStore<P>> ResendQueue<P, S> {
         last: SeqNo,
         now: Instant,
     ) -> Result<(), AllocError>
-        requires { last < 2 ^ 48 }
+        requires { last < NUMBER_LIMIT }
         ensures { OnOk result (found.new.items ≡ found.old.items ++ resends_of P.size now (packet_at S.value_at self.now.cache) (named_by (Some last) entry)) }
     {
         for seq_no in entry.into_iter(Some(last)) {
@@ -277,7 +278,7 @@ impl<P: Cached, S: ResendStore<P>> ResendQueue<P, S> {
         last: SeqNo,
         now: Instant,
     ) -> Result<Vec<Resend>, AllocError>
-        requires { last < 2 ^ 48 }
+        requires { last < NUMBER_LIMIT }
         ensures { IfOk result (λ found. found.items ≡ resends_of P.size now (packet_at S.value_at self.now.cache) (numbers_of (Some last) entries.now)) }
     {
         let mut found = Vec::new(self.alloc);
@@ -323,7 +324,7 @@ impl<P: Cached, S: ResendStore<P>> ResendQueue<P, S> {
     /// The number of the next repair, at most 2^48.
     pub fn next_seq_no(&self) -> SeqNo
         ensures number { result ≡ self.now.state.next_seq_no }
-        ensures small { result ≤ 2 ^ 48 }
+        ensures small { result ≤ NUMBER_LIMIT }
     {
         SeqNo::from(self.next_seq_no)
     }
@@ -399,7 +400,7 @@ impl<P: Cached, S: ResendStore<P>> ResendQueue<P, S> {
     /// Nothing changes then.
     pub fn pop(&mut self, now: Instant) -> Result<Option<SeqNo>, ResendError>
         ensures number { IfOk result (λ o. o ≡ number_of (next_of now (packet_at S.value_at self.old.cache) self.old.state) self.old.state) }
-        ensures small { IfOk result (λ o. IfSome o (λ n. n < 2 ^ 48)) }
+        ensures small { IfOk result (λ o. IfSome o (λ n. n < NUMBER_LIMIT)) }
         ensures fewer { IfOk result (λ o. IfSome o (λ n. length self.new.state.resends < length self.old.state.resends)) }
         ensures state { OnOk result (self.new.state ≡ after_next now P.size (next_of now (packet_at S.value_at self.old.cache) self.old.state) self.old.state) }
         ensures cache { self.new.cache ≡ self.old.cache }
