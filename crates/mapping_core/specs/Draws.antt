@@ -1,6 +1,7 @@
 -- SSRCs that are drawn until one is free.
 use Rattle.std.specs.Prelude.{◌≡◌, ◌≢◌, ℕ, zero, suc, Bool, false, not, ◌==◌, ◌&&◌, if◌then◌else◌, Option, Some, None}
 use Rattle.rand_core.specs.Stream.{Stream, next_u32}
+use Rattle.mapping_core.specs.declared.draw.TheConstants.{SSRC_DRAWS}
 
 -- an SSRC is not 0 and not in use, and it is not the other one
 abbrev pub is_apart : (ℕ → Bool) → ℕ → ℕ → Bool
@@ -14,14 +15,14 @@ drawn (suc k) free s = if free (next_u32 s).0 then (Some (next_u32 s).0, (next_u
 -- a second one beside the first, of 64 draws
 abbrev pub drawn_beside : (ℕ → Bool) → Option ℕ × Stream → Option (ℕ × ℕ) × Stream
 drawn_beside used (None, s) = (None, s)
-drawn_beside used (Some n, s) = second (drawn 64 (is_apart used n) s) where
+drawn_beside used (Some n, s) = second (drawn SSRC_DRAWS (is_apart used n) s) where
   second : Option ℕ × Stream → Option (ℕ × ℕ) × Stream
   second (None, t) = (None, t)
   second (Some m, t) = (Some (n, m), t)
 
 -- two SSRCs, the second one not the first, each of at most 64 draws
 abbrev pub drawn_pair : (ℕ → Bool) → Stream → Option (ℕ × ℕ) × Stream
-drawn_pair used s = drawn_beside used (drawn 64 (is_apart used 0) s)
+drawn_pair used s = drawn_beside used (drawn SSRC_DRAWS (is_apart used 0) s)
 
 -- two SSRCs are apart, and neither is 0 or in use
 pub record AreFree (used : ℕ → Bool) (n m : ℕ) : Type 0 where

@@ -5,7 +5,7 @@ use rand_core::Rng;
 use rtp_base::Ssrc;
 use thiserror::Error;
 
-/// How often an SSRC is drawn until one is in use by no stream.
+/// How often an SSRC is drawn until one is in use by no stream: a choice.
 pub const SSRC_DRAWS: u32 = 64;
 
 /// That no SSRC is drawn.

@@ -7,6 +7,7 @@
 mod claim;
 mod draw;
 mod mapping;
+mod numbers;
 mod rids;
 mod rules;
 mod stream;
@@ -15,6 +16,7 @@ mod streams;
 pub use claim::TypeClaim;
 pub use draw::{SSRC_DRAWS, SsrcError, UsedSsrcs, new_ssrc_pair};
 pub use mapping::{MainChange, Mapping, RepairsChange, Unmapped};
+pub use numbers::named_numbers;
 pub use rids::Rids;
 pub use rules::is_early_padding;
 pub use stream::IncomingStream;

@@ -5,6 +5,7 @@ use Rattle.payload_core.specs.declared.codec.MediaKind.TheVariants.{Video}
 use Rattle.payload_core.specs.declared.error.PacketError.{PacketError}
 use Rattle.payload_core.specs.declared.error.PacketError.TheVariants.{Unsupported, TooBig, ShortTelephone}
 use Rattle.payload_core.specs.declared.telephone.TelephoneEvent.{TelephoneEvent}
+use Rattle.payload_core.specs.declared.telephone.TheConstants.{TELE_EVENT_LEN}
 use Rattle.payload_core.specs.declared.payload.CodecExtra.{CodecExtra}
 use Rattle.payload_core.specs.declared.payload.CodecExtra.TheVariants as extra
 use Rattle.payload_core.specs.Codecs.{kind_of, same_kind, is_tele}
@@ -16,7 +17,7 @@ abbrev pub refusal : Codec → ℕ → ℕ → Option PacketError
 refusal codec len limit =
     if same_kind Video (kind_of codec) then Some Unsupported
     else (if nat_lt limit len then Some TooBig
-    else (if is_tele codec && nat_lt len 4 then Some ShortTelephone else None))
+    else (if is_tele codec && nat_lt len TELE_EVENT_LEN then Some ShortTelephone else None))
 
 -- the frame is a whole picture
 abbrev pub is_keyframe : CodecExtra → Bool

@@ -7,6 +7,7 @@ use Rattle.payload_core.specs.declared.params.ParamsOfKind.{ParamsOfKind}
 use Rattle.payload_core.specs.declared.codec.MediaKind.{MediaKind}
 use Rattle.payload_core.specs.declared.codec.CodecSpec.{CodecSpec}
 use Rattle.payload_core.specs.declared.params.PayloadParams.{PayloadParams}
+use Rattle.payload_core.specs.declared.params.TheConstants.{TELE_EVENT_MAX}
 use Rattle.payload_core.specs.Codecs.{kind_of, same_kind, is_tele}
 
 -- the payload types in their order, and how many packets back RED repeats a frame
@@ -59,7 +60,7 @@ is_tele_type pt p = is_type pt p && is_tele p.spec.codec
 
 -- the greatest telephone event under a payload type: the sixteen keys (RFC 4733 section 3.2)
 abbrev pub tele_event_max : List PayloadParams → ℕ → Option ℕ
-tele_event_max params pt = if list_any (is_tele_type pt) params then Some 15 else None
+tele_event_max params pt = if list_any (is_tele_type pt) params then Some TELE_EVENT_MAX else None
 
 -- none of the first n payload types carries this
 abbrev pub NoneBelow : CodecSpec → List PayloadParams → ℕ → Type 0

@@ -3,6 +3,7 @@ use Rattle.std.specs.Prelude.{◌≡◌, ℕ, ◌+◌, ◌*◌, ◌%◌, ◌<◌
 use Rattle.std.specs.List.{flat_map}
 use Rattle.std.specs.Int.{w32, to_be_bytes}
 use Rattle.payload_core.specs.Red.{Block, red_of}
+use Rattle.payload_core.specs.declared.red.TheConstants.{RED_LEN_LIMIT, RED_OFFSET_LIMIT}
 
 -- the header of a redundant block: a bit that is set, its type, its offset and its length
 abbrev pub header_word : Block → ℕ
@@ -20,8 +21,8 @@ red_bytes blocks = flat_map header_bytes blocks ++ flat_map (λ b. b.payload) bl
 pub record IsRedundant (b : Block) : Type 0 where
   pub redundant : b.primary ≡ false
   pub pt : b.pt < 128
-  pub offset : b.offset < 16384
-  pub length : length b.payload < 1024
+  pub offset : b.offset < RED_OFFSET_LIMIT
+  pub length : length b.payload < RED_LEN_LIMIT
 
 -- a primary block whose type fits its field
 pub record IsPrimary (b : Block) : Type 0 where

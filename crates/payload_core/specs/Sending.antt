@@ -6,6 +6,7 @@ use Rattle.payload_core.specs.RedWriting.{red_bytes}
 use Rattle.payload_core.specs.Remembered.{Remembered}
 use Rattle.payload_core.specs.declared.payload.MediaPacket.{MediaPacket}
 use Rattle.payload_core.specs.declared.red_sender.SentFrame.{SentFrame}
+use Rattle.payload_core.specs.declared.red.TheConstants.{RED_LEN_LIMIT, RED_OFFSET_LIMIT}
 
 abbrev pub no_frames : ℕ → ℕ → List ℕ → Remembered
 no_frames red_pt pt distances = record { red_pt = red_pt; pt = pt; distances = distances; sent = [] }
@@ -18,12 +19,12 @@ synced s red_pt pt distances = record { red_pt = red_pt; pt = pt; distances = di
 -- its header and itself
 abbrev pub fits : ℕ → ℕ → SentFrame → Bool
 fits time room s =
-    nat_le s.time time && (nat_lt (time - s.time) 16384 && (nat_lt (length s.payload) 1024 && nat_le (4 + length s.payload) room))
+    nat_le s.time time && (nat_lt (time - s.time) RED_OFFSET_LIMIT && (nat_lt (length s.payload) RED_LEN_LIMIT && nat_le (4 + length s.payload) room))
 
 pub record Fits (time room : ℕ) (s : SentFrame) : Type 0 where
   pub before : s.time ≤ time
-  pub near : time - s.time < 16384
-  pub short : length s.payload < 1024
+  pub near : time - s.time < RED_OFFSET_LIMIT
+  pub short : length s.payload < RED_LEN_LIMIT
   pub roomy : 4 + length s.payload ≤ room
 
 -- the block of a frame beside one of this time, and that one's own

@@ -3,6 +3,7 @@ use Rattle.std.specs.Prelude.{◌≡◌, ℕ, ◌+◌, ◌-◌, ◌*◌, ◌/◌
 use Rattle.std.specs.Int.{w16, to_be_bytes}
 use Rattle.rtp_base.specs.Wire.{half_at}
 use Rattle.payload_core.specs.declared.telephone.TelephoneEvent.{TelephoneEvent}
+use Rattle.payload_core.specs.declared.telephone.TheConstants.{TELE_EVENT_LEN, TELE_VOLUME_MAX}
 
 -- the whole ticks of a clock in a length of time, in nanoseconds
 abbrev pub units_of : ℕ → ℕ → ℕ
@@ -16,7 +17,7 @@ duration_of clock units = (units * 1000000000 + (clock - 1)) / clock
 -- (RFC 4733 section 2.3)
 abbrev pub event_of : ℕ → List ℕ → Option TelephoneEvent
 event_of clock bytes =
-    if nat_lt (length bytes) 4 then None
+    if nat_lt (length bytes) TELE_EVENT_LEN then None
     else Some (record {
       event = slice_index bytes 0;
       end = slice_index bytes 1 / 128 == 1;
@@ -38,7 +39,7 @@ held_event clock e = record e { duration = duration_of clock (units_of clock e.d
 
 -- an event in bytes is read again, whatever follows it
 abbrev pub EventReadsBack : Type 0
-EventReadsBack = (clock : ℕ) (e : TelephoneEvent) (bytes rest : List ℕ) → e.volume ≤ 63 → bytes_of clock e ≡ Some bytes → event_of clock (bytes ++ rest) ≡ Some (held_event clock e)
+EventReadsBack = (clock : ℕ) (e : TelephoneEvent) (bytes rest : List ℕ) → e.volume ≤ TELE_VOLUME_MAX → bytes_of clock e ≡ Some bytes → event_of clock (bytes ++ rest) ≡ Some (held_event clock e)
 
 -- ticks of a clock of at most a nanosecond are the same again
 abbrev pub UnitsComeBack : Type 0

@@ -5,6 +5,7 @@
 mod buffer;
 mod codec;
 mod error;
+mod numbers;
 mod params;
 mod payload;
 mod red;
@@ -20,13 +21,18 @@ pub use buffer::{
 };
 pub use codec::{Codec, CodecSpec, FormatParams, MediaKind};
 pub use error::{PacketError, TelephoneFault};
+pub use numbers::named_numbers;
 pub use params::{CodecConfig, ParamsOfKind, PayloadParams, TELE_EVENT_MAX};
 pub use payload::{CodecDepacketizer, CodecExtra, MediaPacket, PacketSink, Payloader, VideoExtra};
-pub use red::{MAX_RED_RECOVERY_DEPTH, RedBlock, RedDecoder, RedError, red_same_pt_blocks};
+pub use red::{
+    MAX_RED_RECOVERY_DEPTH, RED_LEN_LIMIT, RED_OFFSET_LIMIT, RedBlock, RedDecoder, RedError,
+    red_same_pt_blocks,
+};
 pub use red_encoder::{RedEncoder, written_red_is_read_again};
 pub use red_sender::{RedSender, SentFrame, frames_are_sent_again};
 pub use red_sink::RedSink;
 pub use simulcast::{SdpAttribute, SdpSimulcast, SdpSimulcastLayer};
 pub use telephone::{
-    TelephoneEvent, duration_from_units, telephone_events_are_read_again, units_come_back,
+    TELE_EVENT_LEN, TELE_VOLUME_MAX, TelephoneEvent, duration_from_units,
+    telephone_events_are_read_again, units_come_back,
 };

@@ -5,7 +5,7 @@ ghost use Rattle.payload_core.specs.declared.error.PacketError.TheVariants.{Memo
 
 use crate::codec::{Codec, CodecSpec};
 use crate::error::PacketError;
-use crate::telephone::TelephoneEvent;
+use crate::telephone::{TELE_EVENT_LEN, TelephoneEvent};
 use media_base::Bytes;
 use media_units::Instant;
 use rtp_wire::{ExtensionValues, Frequency, MediaTime, Pt};
@@ -66,7 +66,7 @@ impl Payloader {
         if len > limit {
             return Some(PacketError::TooBig);
         }
-        if self.codec.is_tele() && len < 4 {
+        if self.codec.is_tele() && len < TELE_EVENT_LEN {
             return Some(PacketError::ShortTelephone);
         }
         None

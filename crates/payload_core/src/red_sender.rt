@@ -8,7 +8,7 @@ ghost use Rattle.payload_core.specs.Sending.{Fits, fits, older_block};
 ghost use Rattle.payload_core.specs.SendingLaws.{FramesAreSentAgain};
 
 use crate::payload::MediaPacket;
-use crate::red::RedBlock;
+use crate::red::{RED_LEN_LIMIT, RED_OFFSET_LIMIT, RedBlock};
 use crate::red_encoder::red_bytes;
 use media_base::Bytes;
 use rtp_wire::Pt;
@@ -66,8 +66,8 @@ fn fits(time: u64, sent: &SentFrame, room: usize) -> bool
     ensures fields { OnTrue result (Fits time room sent.now) }
 {
     sent.time <= time
-        && time - sent.time < 0x4000
-        && sent.payload.len() < 1024
+        && time - sent.time < RED_OFFSET_LIMIT
+        && sent.payload.len() < RED_LEN_LIMIT
         && 4 + sent.payload.len() <= room
 }
 
@@ -81,7 +81,7 @@ fn is_taken(distances: &[u32], distance: u64, time: u64, sent: &SentFrame, room:
 
 fn older_block(pt: Pt, time: u64, sent: &SentFrame) -> RedBlock<'_>
     requires before { sent.now.time ≤ time }
-    requires near { time - sent.now.time < 16384 }
+    requires near { time - sent.now.time < RED_OFFSET_LIMIT }
     ensures { block_of result ≡ older_block pt time sent.now }
 {
     RedBlock {

@@ -6,6 +6,13 @@ use media_units::Duration;
 use rtp_base::wire;
 use rtp_wire::Frequency;
 
+/// The bytes of a telephone event (RFC 4733 section 2.3).
+pub const TELE_EVENT_LEN: usize = 4;
+
+/// The greatest volume of a telephone event, as dBm0 without the sign: it has 6 bits (RFC 4733
+/// section 2.3).
+pub const TELE_VOLUME_MAX: u8 = 63;
+
 /// A telephone event (RFC 4733 section 2.3).
 #[derive(Clone, Copy, Debug, PartialEq, Eq)]
 pub struct TelephoneEvent {
@@ -42,7 +49,7 @@ impl TelephoneEvent {
     pub fn parse(bytes: &[u8], clock_rate: Frequency) -> Option<Self>
         ensures { result ≡ event_of clock_rate bytes.now }
     {
-        if bytes.len() < 4 {
+        if bytes.len() < TELE_EVENT_LEN {
             return None;
         }
         Some(TelephoneEvent {
@@ -55,8 +62,8 @@ impl TelephoneEvent {
 
     /// The event in bytes, its duration in whole ticks of a clock, rounded down. None exactly where
     /// these are above 65,535.
-    pub fn to_bytes(&self, clock_rate: Frequency) -> Option<[u8; 4]>
-        requires { self.now.volume ≤ 63 }
+    pub fn to_bytes(&self, clock_rate: Frequency) -> Option<[u8; TELE_EVENT_LEN]>
+        requires { self.now.volume ≤ TELE_VOLUME_MAX }
         ensures { result ≡ bytes_of clock_rate self.now }
     {
         let units = whole_units(self.duration, clock_rate);

@@ -1,4 +1,4 @@
-ghost use Rattle.std.specs.Prelude.{◌≡◌, ◌+◌, ◌-◌, ◌<◌, ◌≤◌, ◌^◌, true, IfSome};
+ghost use Rattle.std.specs.Prelude.{◌≡◌, ◌+◌, ◌-◌, ◌<◌, ◌≤◌, true, IfSome};
 ghost use Rattle.repair_core.specs.Fresh.{is_fresh};
 ghost use Rattle.repair_core.specs.Rounds.{Heard, taken};
 ghost use Rattle.red_core.specs.Known.{Known};
@@ -6,12 +6,12 @@ ghost use Rattle.red_core.specs.Placing.{IsFirst, even_number, chosen, fresh_in}
 
 use crate::known::KnownNumber;
 use repair_core::GapWindow;
-use rtp_base::SeqNo;
+use rtp_base::{NUMBER_LIMIT, SeqNo};
 
 // The first number from one on and before another that the window may still take.
 #[tactic(auto, using(crate::proofs::HoleLaws::fresh_here, crate::proofs::HoleLaws::fresh_later, crate::proofs::HoleLaws::fresh_none))]
 fn first_fresh<W: GapWindow>(window: &W, from: u64, end: u64) -> Option<u64>
-    requires { end ≤ 2 ^ 48 }
+    requires { end ≤ NUMBER_LIMIT }
     ensures first { (past : Heard) → W.remembers window.now past
         → IsFirst (taken past) from end result }
     ensures fresh { (past : Heard) → W.remembers window.now past

@@ -1,8 +1,8 @@
-ghost use Rattle.std.specs.Prelude.{◌≡◌, ◌<◌, ◌^◌, ◌==◌, fold, None, IfSome};
+ghost use Rattle.std.specs.Prelude.{◌≡◌, ◌<◌, ◌==◌, fold, None, IfSome};
 ghost use Rattle.std.specs.List.{list_any};
 ghost use Rattle.red_core.specs.Known.{Known, is_at, higher, lower, below, above};
 
-use rtp_base::SeqNo;
+use rtp_base::{NUMBER_LIMIT, SeqNo};
 use std::marker::Model;
 
 /// A number that came or was recovered, below 2^48, and its time in ticks of the RTP clock.
@@ -13,14 +13,15 @@ pub struct KnownNumber {
 }
 
 impl Model for KnownNumber {
-    ghost use Rattle.std.specs.Prelude.{◌<◌, ◌^◌};
+    ghost use Rattle.std.specs.Prelude.{◌<◌};
+    ghost use Rattle.rtp_base.specs.declared.number.TheConstants.{NUMBER_LIMIT};
     ghost use Rattle.red_core.specs.Known.{Known};
 
     ghost Value = { Known };
 
     ghost view = { λ k. record { number = k.number; time = k.time } };
 
-    ghost invariant = { λ k. k.number < 2 ^ 48 };
+    ghost invariant = { λ k. k.number < NUMBER_LIMIT };
 
     ghost inverse = { λ k. record { number = k.number; time = k.time } };
 }
@@ -36,7 +37,7 @@ impl Default for KnownNumber {
 
 impl KnownNumber {
     pub fn new(number: SeqNo, time: u64) -> Self
-        requires { number < 2 ^ 48 }
+        requires { number < NUMBER_LIMIT }
         ensures { result ≡ record { number = number; time = time } }
     {
         KnownNumber { number, time }
@@ -45,7 +46,7 @@ impl KnownNumber {
     /// The number, below 2^48.
     pub fn number(self) -> u64
         ensures value { result ≡ self.number }
-        ensures small { result < 2 ^ 48 }
+        ensures small { result < NUMBER_LIMIT }
     {
         u64::from(self.number)
     }

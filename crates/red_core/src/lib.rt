@@ -5,5 +5,7 @@
 mod holes;
 mod known;
 mod memory;
+mod numbers;
 
-pub use memory::{RedMemory, last_32_are_known};
+pub use memory::{MAX_DEPTH, ROOM, RedMemory, last_32_are_known};
+pub use numbers::named_numbers;

@@ -1,4 +1,4 @@
-ghost use Rattle.std.specs.Prelude.{◌≡◌, ◌+◌, ◌<◌, ◌≤◌, ◌^◌, true, IfSome, []};
+ghost use Rattle.std.specs.Prelude.{◌≡◌, ◌+◌, ◌<◌, ◌≤◌, true, IfSome, []};
 ghost use Rattle.repair_core.specs.Fresh.{is_fresh};
 ghost use Rattle.repair_core.specs.Rounds.{Heard, taken, came};
 ghost use Rattle.red_core.specs.Known.{with_known, LastAreKnown};
@@ -8,20 +8,20 @@ use crate::holes::place_between;
 use crate::known::{KnownNumber, above, below, is_at};
 use arrayvec::ArrayVec;
 use repair_core::GapWindow;
-use rtp_base::SeqNo;
+use rtp_base::{NUMBER_LIMIT, SeqNo};
 use std::marker::Model;
 
-// How many packets back a block may be placed.
-const MAX_DEPTH: u64 = 8;
+/// How far below its datagram the number of a redundant block may be: a choice.
+pub const MAX_DEPTH: u64 = 8;
 
-// How many numbers are remembered.
-const ROOM: usize = 32;
+/// How many numbers are remembered: a choice.
+pub const ROOM: usize = 32;
 
 /// The last 32 numbers that were taken on a stream, and their times. Contracts see the list of
 /// them, the last one first. No call takes memory.
 #[derive(Debug, Drop)]
 pub struct RedMemory {
-    known: ArrayVec<KnownNumber, 32>,
+    known: ArrayVec<KnownNumber, ROOM>,
     // The place behind the number that came last. Once all places are taken, the next number takes
     // that of the one that came first.
     next: usize,
@@ -31,12 +31,13 @@ impl Model for RedMemory {
     ghost use Rattle.std.specs.Prelude.{List};
     ghost use Rattle.red_core.specs.Known.{Known};
     ghost use Rattle.red_core.specs.Ring.{last_first, IsRing};
+    ghost use Rattle.red_core.specs.declared.memory.TheConstants.{ROOM};
 
     ghost Value = { List Known };
 
     ghost view = { λ m. last_first m.known.items m.next };
 
-    ghost invariant = { λ m. IsRing 32 m.known.items m.next };
+    ghost invariant = { λ m. IsRing ROOM m.known.items m.next };
 }
 
 impl RedMemory {
@@ -59,7 +60,7 @@ impl RedMemory {
     }
 
     // The numbers, the last one first.
-    fn last_first(&self) -> ArrayVec<KnownNumber, 32>
+    fn last_first(&self) -> ArrayVec<KnownNumber, ROOM>
         ensures { result.items ≡ self.now }
     {
         let (newer, older) = self.known.as_slice().split_at(self.next);
@@ -73,7 +74,7 @@ impl RedMemory {
     /// Remembers a number of the stream that its window took, below 2^48, and its time, widened,
     /// in ticks of the RTP clock. What was known before the last 32 is forgotten. Constant time.
     pub fn took(&mut self, number: SeqNo, time: u64)
-        requires { number < 2 ^ 48 }
+        requires { number < NUMBER_LIMIT }
         ensures { self.new ≡ with_known self.old (record { number = number; time = time }) }
     {
         let known = KnownNumber::new(number, time);
@@ -91,7 +92,7 @@ impl RedMemory {
     /// for nor taken again, and its number and time are known. No other block of that time has a
     /// place then.
     pub fn recovered<W: GapWindow>(&mut self, window: &mut W, number: SeqNo, time: u64)
-        requires { number < 2 ^ 48 }
+        requires { number < NUMBER_LIMIT }
         ensures known { self.new ≡ with_known self.old (record { number = number; time = time }) }
         ensures window { (past : Heard) → W.remembers window.old past
             → W.remembers window.new (came past number) }
@@ -113,7 +114,7 @@ impl RedMemory {
             → result ≡ place_of self.now (taken past) datagram time }
         ensures fresh { (past : Heard) → W.remembers window.now past
             → IfSome result (λ p. is_fresh (taken past) p ≡ true) }
-        ensures near { IfSome result (λ p. (p ≤ datagram) × (datagram ≤ p + 8)) }
+        ensures near { IfSome result (λ p. (p ≤ datagram) × (datagram ≤ p + MAX_DEPTH)) }
     {
         let datagram = u64::from(datagram);
         let last_first = self.last_first();
