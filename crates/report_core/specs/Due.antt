@@ -1,5 +1,6 @@
 -- When the reports of a stream are due.
 use Rattle.std.specs.Prelude.{ℕ, ◌+◌, ◌-◌, ◌*◌, ◌^◌, ◌&&◌, Bool, not, min, nat_le, is_some, if◌then◌else◌, Option, Some, None}
+use Rattle.media_units.specs.declared.time.TheConstants.{NOT_HAPPENING_SECONDS}
 use Rattle.report_core.specs.declared.clock.ReportIntervals.{ReportIntervals}
 
 -- the interval of a stream of sound, or of one of pictures
@@ -16,7 +17,7 @@ receiver_due intervals has_rtx last = after_interval last (interval_of intervals
 
 -- a hundred years of 365 days after the beginning
 abbrev pub never : ℕ
-never = 3153600000 * 1000000000
+never = NOT_HAPPENING_SECONDS * 1000000000
 
 -- when the sender report of an outgoing stream is due, whose kind may have been told
 abbrev pub sender_due : ReportIntervals → (last : ℕ) → (is_audio : Option Bool) → ℕ

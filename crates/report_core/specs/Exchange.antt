@@ -3,6 +3,7 @@ use Rattle.std.specs.Prelude.{◌≡◌, ℕ, ◌+◌, ◌*◌, ◌/◌, ◌^◌
 use Rattle.media_units.specs.Wallclock.{nanos_1900, unix_of_ntp, ntp_of_unix}
 use Rattle.report_core.specs.LastReport.{compact_of, delay_units}
 use Rattle.report_core.specs.Trip.{trip_told}
+use Rattle.report_core.specs.declared.trip.TheConstants.{LEAST_HELD_NANOS, TRIP_ERROR_NANOS}
 
 -- what the peer keeps of a moment, given in nanoseconds from the Unix epoch, that came to it as 64 bits of NTP
 abbrev pub kept_of : ℕ → ℕ
@@ -20,6 +21,6 @@ TripsAreMeasured =
     (unix held trip : ℕ)
     → unix + held + trip + nanos_1900 < 2 ^ 32 * 1000000000
     → span_of unix ≡ span_of (unix + held + trip)
-    → 16000 ≤ held → 50000 ≤ trip
+    → LEAST_HELD_NANOS ≤ held → TRIP_ERROR_NANOS ≤ trip
     → (told : ℕ) × (trip_told (unix + held + trip + nanos_1900) (delay_units held) (kept_of unix) ≡ Some told)
-    × (told ≤ trip + 50000) × (trip ≤ told + 50000)
+    × (told ≤ trip + TRIP_ERROR_NANOS) × (trip ≤ told + TRIP_ERROR_NANOS)

@@ -6,6 +6,7 @@ use Rattle.rtcp_items.specs.declared.extended.DlrrItem.{DlrrItem}
 use Rattle.rtcp_items.specs.declared.extended.ReportBlock.TheVariants.{Dlrr}
 use Rattle.rtcp_items.specs.declared.extended.ExtendedReport.{ExtendedReport}
 use Rattle.report_core.specs.declared.moments.ReceiverMoment.{ReceiverMoment}
+use Rattle.report_core.specs.declared.moments.TheConstants.{MAX_WAITING_MOMENTS, MAX_ANSWERED_MOMENTS}
 use Rattle.report_core.specs.LastReport.{compact_of, delay_units}
 
 -- the moment of a receiver, come at a moment
@@ -19,7 +20,7 @@ last_of n ms = drop (length ms - n) ms
 
 -- behind the others, the last 300 of all
 abbrev pub held_behind : ReceiverMoment → List ReceiverMoment → List ReceiverMoment
-held_behind latest waiting = last_of 300 (waiting ++ latest ∷ [])
+held_behind latest waiting = last_of MAX_WAITING_MOMENTS (waiting ++ latest ∷ [])
 
 -- at its place, or behind the others where it has none
 abbrev pub held_at : Option ℕ → ReceiverMoment → List ReceiverMoment → List ReceiverMoment
@@ -37,7 +38,7 @@ item_of now m =
 
 -- the answers to the first 50
 abbrev pub items_of : (now : ℕ) → List ReceiverMoment → List DlrrItem
-items_of now waiting = map (item_of now) (take 50 waiting)
+items_of now waiting = map (item_of now) (take MAX_ANSWERED_MOMENTS waiting)
 
 -- the report that holds them, where some moment waits
 abbrev pub answer_of : (sender_ssrc now : ℕ) → List ReceiverMoment → Option ExtendedReport
@@ -47,7 +48,7 @@ answer_of sender_ssrc now (m ∷ ms) =
 
 -- what waits after that
 abbrev pub unanswered : List ReceiverMoment → List ReceiverMoment
-unanswered waiting = drop 50 waiting
+unanswered waiting = drop MAX_ANSWERED_MOMENTS waiting
 
 -- no two are of one receiver
 abbrev pub IsOneOfEach : List ReceiverMoment → Type 0

@@ -6,6 +6,7 @@
 mod clock;
 mod loss;
 mod moments;
+mod numbers;
 mod receiver;
 mod rtp_clock;
 mod sender;
@@ -21,6 +22,7 @@ pub use loss::{LossLog, ReportedLoss};
 pub use moments::{
     MAX_ANSWERED_MOMENTS, MAX_WAITING_MOMENTS, ReceiverMoment, ReceiverMoments, moments_stay_one,
 };
+pub use numbers::named_numbers;
 pub use receiver::{moment_report, receiver_report};
 pub use rtp_clock::{RtpClock, Written};
 pub use sender::{description, sender_info, sender_report};
@@ -28,5 +30,7 @@ pub use sender_news::{LastSenderReport, SenderNews, compact_ntp, delay_in_units}
 pub use stats::StreamStats;
 pub use time_line::{TimeLine, pauses_move_on, times_keep_low_bits, times_widen_nearest};
 pub use traffic::Traffic;
-pub use trip::{receiver_trip, sender_trip, trips_are_measured};
+pub use trip::{
+    LEAST_HELD_NANOS, TRIP_ERROR_NANOS, receiver_trip, sender_trip, trips_are_measured,
+};
 pub use tx_stats::StreamTxStats;

@@ -40,10 +40,10 @@ use std::alloc::{AllocError, Global};
 use std::collections::{VecDeque, vec_deque};
 use std::marker::Model;
 
-/// How many moments wait at most.
+/// How many moments of receivers wait at most: a choice.
 pub const MAX_WAITING_MOMENTS: usize = 300;
 
-/// How many moments one report answers at most.
+/// How many moments of receivers one report answers at most: a choice.
 pub const MAX_ANSWERED_MOMENTS: usize = 50;
 
 /// The last moment that came from a receiver.
@@ -80,12 +80,13 @@ pub struct ReceiverMoments {
 impl Model for ReceiverMoments {
     ghost use Rattle.std.specs.Prelude.{List, ◌≤◌, length};
     ghost use Rattle.report_core.specs.declared.moments.ReceiverMoment.{ReceiverMoment};
+    ghost use Rattle.report_core.specs.declared.moments.TheConstants.{MAX_WAITING_MOMENTS};
 
     ghost Value = { List ReceiverMoment };
 
     ghost view = { λ m. m.waiting.items };
 
-    ghost invariant = { λ m. length m.waiting.items ≤ 300 };
+    ghost invariant = { λ m. length m.waiting.items ≤ MAX_WAITING_MOMENTS };
 }
 
 /// Drops so many values from the front.

@@ -8,6 +8,13 @@ use media_units::{Beginning, Duration, Instant, InstantExt, calculate_rtt};
 use rtcp_items::DlrrItem;
 use rtp_base::ReceptionReport;
 
+/// How long a peer holds a moment at least where the round trip is measured, in nanoseconds: the
+/// delay that it tells is then at least a 65,536th of a second (RFC 3550 section 6.4.1).
+pub const LEAST_HELD_NANOS: u64 = 16_000;
+
+/// How far a round trip that is told is from the one that was at most, in nanoseconds.
+pub const TRIP_ERROR_NANOS: u64 = 50_000;
+
 /// The round trip that the answer to a receiver's moment tells, where it comes at a moment (RFC
 /// 3611 section 4.5), rounded down to nanoseconds. None where its delay is 0, or it tells more than
 /// passed. Takes constant time.
