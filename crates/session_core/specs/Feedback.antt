@@ -1,5 +1,5 @@
 -- The feedback that a session sends: items wait in order and leave whole, in compounds (RFC 3550 section 6.1, RFC 5506).
-use Rattle.std.specs.Prelude.{◌≤◌, ◌==◌, ◌&&◌, ℕ, ◌+◌, ◌-◌, ◌*◌, ◌/◌, ◌^◌, Bool, true, false, if◌then◌else◌, List, [], ◌∷◌, length, take, drop, Option, Some, None}
+use Rattle.std.specs.Prelude.{◌≤◌, ◌==◌, ◌&&◌, ℕ, ◌+◌, ◌-◌, ◌*◌, ◌/◌, Bool, true, false, if◌then◌else◌, List, [], ◌∷◌, length, take, drop, Option, Some, None}
 use Rattle.std.specs.List.{flat_map}
 use Rattle.std.specs.Option.{option_map}
 use Rattle.rtp_base.specs.declared.kind.Kind.TheVariants.{Rtcp as rtcp}
@@ -8,12 +8,16 @@ use Rattle.rtcp_wire.specs.Texts.{IsWritable, text_of, fitting}
 use Rattle.srtp_core.specs.Cipher.{CipherMeaning}
 use Rattle.srtp_core.specs.Contexts.{SrtpState}
 use Rattle.srtp_core.specs.RtcpSeals.{sealed_rtcp, sender_of}
+use Rattle.srtp_core.specs.declared.TheConstants.{SRTCP_OVERHEAD}
+use Rattle.srtp_core.specs.declared.context.TheConstants.{SRTCP_INDEX_LIMIT}
+use Rattle.srtp_core.specs.declared.srtcp.TheConstants.{HEADER_LEN}
+use Rattle.session_core.specs.declared.feedback.TheConstants.{MAX_ITEM_LEN}
 use Rattle.session_core.specs.declared.datagram.Datagram.{Datagram}
 use Rattle.session_core.specs.SessionRecord.{SessionState}
 
 -- the most bytes of a compound: what the target leaves to a sealed one, in whole words
 abbrev pub room_of : ℕ → ℕ
-room_of target = (target - 20) / 4 * 4
+room_of target = (target - SRTCP_OVERHEAD) / 4 * 4
 
 -- how many waiting items leave next
 abbrev pub leaving : ℕ → List Rtcp → ℕ
@@ -26,11 +30,11 @@ compound_of target items = flat_map text_of (take (leaving target items) items)
 abbrev pub items_after : ℕ → List Rtcp → List Rtcp
 items_after target items = drop (leaving target items) items
 
--- an item that can be written, and fits a compound of its own under each target from 900 on
+-- an item that can be written, and fits a compound of its own under each target from the least on
 pub record FitsAlone (x : Rtcp) : Type 0 where
   pub writable : IsWritable x
-  pub long : 8 ≤ length (text_of x)
-  pub few : length (text_of x) ≤ 880
+  pub long : HEADER_LEN ≤ length (text_of x)
+  pub few : length (text_of x) ≤ MAX_ITEM_LEN
 
 -- without memory the items wait as before, or without the compound that was to be sealed
 pub data AreLeft (target : ℕ) (items : List Rtcp) : List Rtcp → Type 0 where
@@ -41,7 +45,7 @@ pub data AreLeft (target : ℕ) (items : List Rtcp) : List Rtcp → Type 0 where
 abbrev pub sealed_compound : CipherMeaning → List ℕ → SrtpState → Datagram
 sealed_compound cipher plain state = record {
   kind = rtcp;
-  ssrc = sender_of (take 8 plain);
+  ssrc = sender_of (take HEADER_LEN plain);
   index = state.srtcp_index;
   plain = plain;
   bytes = sealed_rtcp cipher state.profile state.keys true state.srtcp_index plain;
@@ -54,7 +58,7 @@ counted state = record state { srtcp_index = state.srtcp_index + 1 }
 -- no further SRTCP datagram can be sealed under the keys
 abbrev pub is_used_up : Option SrtpState → Bool
 is_used_up None = false
-is_used_up (Some state) = state.srtcp_index == 2 ^ 31
+is_used_up (Some state) = state.srtcp_index == SRTCP_INDEX_LIMIT
 
 -- the feedback that is due: none at moment 0
 abbrev pub due_of : ℕ → SessionState → List Rtcp

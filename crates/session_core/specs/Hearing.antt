@@ -11,6 +11,7 @@ pub use Rattle.rtcp_wire.specs.Streams.{feedback_in}
 use Rattle.srtp_core.specs.Cipher.{CipherMeaning}
 use Rattle.srtp_core.specs.Contexts.{SrtpState}
 use Rattle.srtp_core.specs.RtcpSeals.{RtcpOpensTo, stated_index, sender_of}
+use Rattle.srtp_core.specs.declared.srtcp.TheConstants.{HEADER_LEN}
 use Rattle.media_units.specs.Trip.{middle_bits, trip_nanos}
 use Rattle.media_units.specs.Wallclock.{ntp_nanos}
 use Rattle.stream_core.specs.Pauses.{on_record, with_trip}
@@ -36,7 +37,7 @@ stated (Some state) bytes = stated_index state.profile bytes
 
 -- what they opened to: the SSRC is that of the first item's sender
 abbrev pub rtcp_opening_of : Option SrtpState → List ℕ → List ℕ → Opened
-rtcp_opening_of opening bytes plain = record { kind = Rtcp; ssrc = sender_of (take 8 plain); index = stated opening bytes; plain = plain }
+rtcp_opening_of opening bytes plain = record { kind = Rtcp; ssrc = sender_of (take HEADER_LEN plain); index = stated opening bytes; plain = plain }
 
 -- the streams that send after an item came: a reception block tells what was lost of the packets of the stream that it
 -- reports on, where that is kept, and that the peer knows the stream's SSRC; what asks a stream for packets or for a key frame

@@ -6,6 +6,7 @@ use Rattle.rtp_base.specs.declared.kind.Kind.TheVariants.{Rtp}
 use Rattle.rtp_base.specs.declared.media_time.MediaTime.{MediaTime}
 use Rattle.rtp_wire.specs.declared.extension.ExtensionMap.{ExtensionMap}
 use Rattle.rtp_wire.specs.declared.header.RtpHeader.{RtpHeader}
+use Rattle.rtp_wire.specs.declared.header.TheConstants.{ORIGINAL_NUMBER_LEN}
 use Rattle.rtp_wire.specs.Header.{header_of}
 use Rattle.rtp_wire.specs.Padding.{unpadded}
 use Rattle.srtp_core.specs.Cipher.{CipherMeaning}
@@ -66,7 +67,7 @@ OpensIn cipher (Some state) h n bytes payload = OpensTo cipher state.profile sta
 
 -- what a datagram carries, and where it is a repair what stands behind the number of the packet that it repairs
 abbrev pub carried_in : Bool → RtpHeader → List ℕ → List ℕ
-carried_in repair h payload = if repair then drop 2 (cut h payload) else cut h payload
+carried_in repair h payload = if repair then drop ORIGINAL_NUMBER_LEN (cut h payload) else cut h payload
 
 abbrev pub original_in : Bool → RtpHeader → List ℕ → Option ℕ
 original_in repair h payload = if repair then original_number (cut h payload) else None
@@ -150,7 +151,7 @@ after_restoring now h original (Some low) payload r = after_original now h origi
 
 abbrev pub after_repaired : ℕ → RtpHeader → ℕ → ℕ → List ℕ → SessionRecord → SessionRecord
 after_repaired now h original n payload r =
-    after_restoring now h original (original_number (cut h payload)) (drop 2 (cut h payload)) (after_repair now h original n r)
+    after_restoring now h original (original_number (cut h payload)) (drop ORIGINAL_NUMBER_LEN (cut h payload)) (after_repair now h original n r)
 
 -- what a datagram opened to: its header's bytes, and its payload with its padding
 abbrev pub opening_of : List ℕ → RtpHeader → ℕ → List ℕ → Opened

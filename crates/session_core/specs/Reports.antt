@@ -22,6 +22,7 @@ use Rattle.stream_core.specs.RxRecord.{RxRecord}
 use Rattle.stream_core.specs.Tables.{each, change_at}
 use Rattle.stream_core.specs.TxRecord.{TxRecord}
 use Rattle.stream_core.specs.declared.payload_types.TypeRow.{TypeRow}
+use Rattle.stream_core.specs.declared.reports.TheConstants.{MAX_CNAME_LEN}
 use Rattle.stream_core.specs.declared.reports.Tick.{Tick}
 use Rattle.session_core.specs.Feedback.{FitsAlone}
 use Rattle.session_core.specs.Medias.{media_of}
@@ -48,7 +49,7 @@ tick_at now is_round s = record {
 -- a source is described by a name of 1 to 255 bytes, and else not
 abbrev pub description_items : ℕ → List ℕ → List Rtcp
 description_items ssrc cname =
-    if nat_lt 0 (length cname) && nat_le (length cname) 255 then SourceDescription (name_of ssrc cname) ∷ [] else []
+    if nat_lt 0 (length cname) && nat_le (length cname) MAX_CNAME_LEN then SourceDescription (name_of ssrc cname) ∷ [] else []
 
 -- the report of an outgoing stream, and the description of its source behind it
 abbrev pub sender_report_items : SenderInfo → List ℕ → List Rtcp

@@ -6,12 +6,13 @@ use Rattle.stream_core.specs.Reporting.{any_request, due_mids, incoming_items, i
 use Rattle.stream_core.specs.Tables.{each}
 use Rattle.stream_core.specs.TxRecord.{any_waits, after_timeout as stream_after_timeout}
 use Rattle.stream_core.specs.declared.reports.Tick.{Tick}
+use Rattle.session_core.specs.declared.session.ticks.TheConstants.{NACK_MIN_INTERVAL}
 use Rattle.session_core.specs.Reports.{tick_at, due_senders, after_sender_reports, told_kind}
 use Rattle.session_core.specs.SessionRecord.{SessionState, SessionRecord}
 
--- rounds are at least 33 ms apart, in nanoseconds
+-- rounds are at least so many nanoseconds apart
 abbrev pub round_interval : ℕ
-round_interval = 33000000
+round_interval = NACK_MIN_INTERVAL
 
 -- a tick is a round where some incoming stream asks for what is missing, and the last round was long enough ago
 abbrev pub is_round : ℕ → SessionRecord → Bool

@@ -1,5 +1,5 @@
 -- What a session sends.
-use Rattle.std.specs.Prelude.{◌≡◌, ◌≤◌, ◌^◌, ◌==◌, ◌&&◌, ◌||◌, ℕ, ◌+◌, Bool, true, false, is_some, is_none, if◌then◌else◌, List, [], ◌∷◌, ◌++◌, length, take, Option, Some, None}
+use Rattle.std.specs.Prelude.{◌≡◌, ◌≤◌, ◌==◌, ◌&&◌, ◌||◌, ℕ, ◌+◌, Bool, true, false, is_some, is_none, if◌then◌else◌, List, [], ◌∷◌, ◌++◌, length, take, Option, Some, None}
 use Rattle.std.specs.List.{list_any, AllByRecursion}
 use Rattle.std.specs.Option.{option_map}
 use Rattle.std.specs.Cmp.Lexicographic.{pointwise}
@@ -7,6 +7,7 @@ use Rattle.rtp_base.specs.declared.kind.Kind.TheVariants.{Rtp}
 use Rattle.srtp_core.specs.Cipher.{CipherMeaning}
 use Rattle.srtp_core.specs.Contexts.{SrtpState}
 use Rattle.srtp_core.specs.Seals.{sealed_rtp}
+use Rattle.srtp_core.specs.declared.context.TheConstants.{SRTCP_INDEX_LIMIT}
 use Rattle.stream_core.specs.declared.stream_tx.PacketReceipt.{PacketReceipt}
 use Rattle.stream_core.specs.Pauses.{first_where}
 use Rattle.stream_core.specs.Queue.{next_of}
@@ -15,6 +16,7 @@ use Rattle.stream_core.specs.StreamsRecord.{StreamsRecord, is_asked, PollsAt, al
 use Rattle.stream_core.specs.TxRecord.{TxRecord}
 use Rattle.rtx_core.specs.Resends.{ResendView}
 use Rattle.rtcp_wire.specs.declared.packet.Rtcp.{Rtcp}
+use Rattle.session_core.specs.declared.config.TheConstants.{LEAST_TARGET}
 use Rattle.session_core.specs.declared.datagram.Datagram.{Datagram}
 use Rattle.session_core.specs.Feedback.{FitsAlone, compound_of, sealed_compound, due_of, some_due, exhausts, after_compound}
 use Rattle.session_core.specs.SessionRecord.{MediaRecord, SessionState, SessionView, SessionRecord, streams_in}
@@ -39,8 +41,8 @@ PollsFrom place medias released repairs es = first_due medias released repairs (
 -- that waits fits a compound of its own
 pub record KeepsOrder {C : Type 0} (place target first_index : ℕ) (medias : List MediaRecord) (released : Bool) (repairs : List (ℕ × ResendView C)) (es : List (ℕ × TxRecord)) (feedback : List Rtcp) : Type 0 where
   pub polls : PollsFrom place medias released repairs es
-  pub wide : 900 ≤ target
-  pub left : first_index ≤ 2 ^ 31
+  pub wide : LEAST_TARGET ≤ target
+  pub left : first_index ≤ SRTCP_INDEX_LIMIT
   pub fit : AllByRecursion FitsAlone feedback
 
 -- nothing leaves at moment 0 and without keys

@@ -9,6 +9,15 @@ pub const DATAGRAM_MTU: usize = 1150;
 /// The usual length above which a datagram may not reach its peer, in bytes.
 pub const DATAGRAM_MTU_WARN: usize = 1280;
 
+/// The least target for the length of datagrams, in bytes: a choice.
+pub const LEAST_TARGET: usize = 900;
+
+/// The greatest length of a datagram to warn of, in bytes: a choice.
+pub const GREATEST_WARN: usize = 1500;
+
+/// The most bytes of feedback of an application (RFC 4585 section 6.4): a choice.
+pub const MAX_APPLICATION_LEN: usize = 800;
+
 /// Lengths of datagrams, in bytes: 900 <= target <= warn <= 1,500.
 #[derive(Clone, Copy, Debug, PartialEq, Eq)]
 pub struct Mtu {

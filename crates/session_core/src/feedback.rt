@@ -1,23 +1,29 @@
-ghost use Rattle.std.specs.Prelude.{◌≡◌, ◌≢◌, ◌≤◌, ◌<◌, ◌^◌, ◌↔◌, [], false, length, take, IsTrue, IfOk, IfErr, IsErrOf, OnOk, OnErr};
+ghost use Rattle.std.specs.Prelude.{◌≡◌, ◌≢◌, ◌≤◌, ◌<◌, ◌↔◌, [], false, length, take, IsTrue, IfOk, IfErr, IsErrOf, OnOk, OnErr};
 ghost use Rattle.std.specs.List.{AllByRecursion};
 ghost use Rattle.std.specs.Option.{option_map};
 ghost use Rattle.srtp_core.specs.RtcpSeals.{sender_of};
 ghost use Rattle.session_core.specs.declared.error.RtcError.TheVariants.{Memory, KeyExhausted};
 ghost use Rattle.session_core.specs.Feedback.{FitsAlone, AreLeft, room_of, compound_of, items_after, sealed_compound, counted, is_used_up};
 
+use crate::config::LEAST_TARGET;
 use crate::datagram::Datagram;
 use crate::error::RtcError;
 use media_base::Bytes;
 use rtcp_wire::Rtcp;
 use rtp_base::wire::word;
 use rtp_base::{Kind, SeqNo, Ssrc};
-use srtp_core::{Counter, SRTCP_INDEX_LIMIT, SRTCP_OVERHEAD, SrtpCipher, SrtpContext, SrtpError};
+use srtp_core::{
+    Counter, HEADER_LEN, SRTCP_INDEX_LIMIT, SRTCP_OVERHEAD, SrtpCipher, SrtpContext, SrtpError,
+};
 use std::alloc::{AllocError, Global};
 use std::collections::VecDeque;
 
+/// The most bytes of an item of feedback: under each target it fits a compound of its own.
+pub const MAX_ITEM_LEN: usize = LEAST_TARGET - SRTCP_OVERHEAD;
+
 /// The most bytes of a compound under a target for the length of datagrams.
 fn room(target: usize) -> usize
-    requires { 20 ≤ target }
+    requires { SRTCP_OVERHEAD ≤ target }
     ensures { result ≡ room_of target }
 {
     (target - SRTCP_OVERHEAD) / 4 * 4
@@ -29,7 +35,7 @@ fn take_compound(
     target: usize,
     items: &mut VecDeque<Rtcp>,
 ) -> Result<Vec<u8>, AllocError>
-    requires target { 900 ≤ target }
+    requires target { LEAST_TARGET ≤ target }
     requires some { items.old.items ≢ [] }
     requires fit { AllByRecursion FitsAlone items.old.items }
     ensures compound { IfOk result (λ v. v.items ≡ compound_of target items.old.items) }
@@ -46,10 +52,10 @@ fn take_compound(
 
 /// The SSRC of the sender of a compound's first item.
 pub fn sender(plain: &[u8]) -> Ssrc
-    requires { 8 ≤ length plain.now }
-    ensures { result ≡ sender_of (take 8 plain.now) }
+    requires { HEADER_LEN ≤ length plain.now }
+    ensures { result ≡ sender_of (take HEADER_LEN plain.now) }
 {
-    Ssrc::from(word(&plain[..8], 4))
+    Ssrc::from(word(&plain[..HEADER_LEN], 4))
 }
 
 /// Seals a compound under the index of the next SRTCP datagram.
@@ -57,11 +63,11 @@ fn seal_compound<C: SrtpCipher>(
     context: &mut SrtpContext<C>,
     plain: Vec<u8>,
 ) -> Result<Datagram, SrtpError>
-    requires long { 8 ≤ length plain.items }
+    requires long { HEADER_LEN ≤ length plain.items }
     ensures sealed { IfOk result (λ d. d ≡ sealed_compound C.meaning plain.items context.old) }
     ensures next { OnOk result (context.new ≡ counted context.old) }
     ensures err { OnErr result (context.new ≡ context.old) }
-    ensures memory { context.old.srtcp_index ≢ 2 ^ 31 → IfErr result (λ e. e ≡ SrtpError.Memory) }
+    ensures memory { context.old.srtcp_index ≢ SRTCP_INDEX_LIMIT → IfErr result (λ e. e ≡ SrtpError.Memory) }
 {
     let index = context.srtcp_index();
     let bytes = context.protect_rtcp(plain.as_slice())?;
@@ -95,7 +101,7 @@ pub fn poll_compound<C: SrtpCipher>(
     items: &mut VecDeque<Rtcp>,
     sealing: &mut Option<SrtpContext<C>>,
 ) -> Result<Option<Datagram>, RtcError>
-    requires target { 900 ≤ target }
+    requires target { LEAST_TARGET ≤ target }
     requires some { items.old.items ≢ [] }
     requires fit { AllByRecursion FitsAlone items.old.items }
     ensures exhausted { IsErrOf result (KeyExhausted Counter.Rtcp) ↔ IsTrue (is_used_up sealing.old) }

@@ -13,7 +13,7 @@ use resend_core::ResendStore;
 use rtcp_wire::{AppSpecificFeedback, DlrrItem, Rtcp, RtcpFb};
 use rtp_base::Ssrc;
 use srtp_core::laws::rtcp_seal_keeps_header;
-use srtp_core::{SrtpCipher, SrtpContext};
+use srtp_core::{HEADER_LEN, SrtpCipher, SrtpContext};
 use std::alloc::{AllocError, Global};
 use std::collections::VecDeque;
 use stream_core::{Payload, Sent, Streams};
@@ -33,7 +33,7 @@ fn open_with<C: SrtpCipher>(
 ) -> Result<Option<RtcpOpening>, AllocError>
     ensures opened { IfOk result (λ r. IfSome r (λ o. RtcpOpensIn C.meaning (Some context.old) bytes.now o.plain)) }
     ensures index { IfOk result (λ r. IfSome r (λ o. o.index ≡ stated (Some context.old) bytes.now)) }
-    ensures long { IfOk result (λ r. IfSome r (λ o. 8 ≤ length o.plain)) }
+    ensures long { IfOk result (λ r. IfSome r (λ o. HEADER_LEN ≤ length o.plain)) }
     ensures none { IfOk result (λ r. IfNone r ((p : List ℕ) → RtcpOpensIn C.meaning (Some context.old) bytes.now p → ⊥)) }
     ensures same { context.new ≡ context.old }
 {
@@ -57,7 +57,7 @@ pub fn open_rtcp<C: SrtpCipher>(
 ) -> Result<Option<RtcpOpening>, AllocError>
     ensures opened { IfOk result (λ r. IfSome r (λ o. RtcpOpensIn C.meaning opening.old bytes.now o.plain)) }
     ensures index { IfOk result (λ r. IfSome r (λ o. o.index ≡ stated opening.old bytes.now)) }
-    ensures long { IfOk result (λ r. IfSome r (λ o. 8 ≤ length o.plain)) }
+    ensures long { IfOk result (λ r. IfSome r (λ o. HEADER_LEN ≤ length o.plain)) }
     ensures none { IfOk result (λ r. IfNone r ((p : List ℕ) → RtcpOpensIn C.meaning opening.old bytes.now p → ⊥)) }
     ensures same { opening.new ≡ opening.old }
 {

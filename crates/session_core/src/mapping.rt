@@ -1,6 +1,6 @@
 //! Datagrams that come under an SSRC of no table: under which number they may open, before it is
 //! taken up of which stream they are.
-ghost use Rattle.std.specs.Prelude.{◌≡◌, ◌<◌, ◌^◌, ◌%◌, ◌==◌, ℕ, List, Some, None, false, IfSome};
+ghost use Rattle.std.specs.Prelude.{◌≡◌, ◌<◌, ◌%◌, ◌==◌, ℕ, List, Some, None, false, IfSome};
 ghost use Rattle.std.specs.Option.{option_copied};
 ghost use Rattle.stream_core.specs.RxRecord.{RxRecord};
 ghost use Rattle.stream_core.specs.Seen.{SeenStandsFor};
@@ -16,7 +16,7 @@ use crate::restoring::{accepts_repair, is_known};
 use mapping_core::{Mapping, Rids};
 use repair_core::GapWindow;
 use resend_core::ResendStore;
-use rtp_base::{SeqNo, Ssrc};
+use rtp_base::{NUMBER_LIMIT, SeqNo, Ssrc};
 use rtp_wire::RtpHeader;
 use stream_core::{
     PayloadTypes, Seen, Sent, Streams, first_number, first_repair, first_repair_number,
@@ -55,7 +55,7 @@ pub fn is_standing<W: GapWindow, S: ResendStore<Sent>>(ssrc: Ssrc, streams: &Str
 /// datagram of that SSRC opened under it.
 pub fn unseen_number(header: &RtpHeader, seen: &Seen) -> Option<SeqNo>
     ensures number { (numbers : List (ℕ × List ℕ)) → SeenStandsFor seen.now numbers → result ≡ unseen_number numbers header.now }
-    ensures small { IfSome result (λ n. n < 2 ^ 48) }
+    ensures small { IfSome result (λ n. n < NUMBER_LIMIT) }
     ensures low { IfSome result (λ n. n % 65536 ≡ header.now.sequence_number) }
 {
     let number = first_repair_number(header.sequence_number, seen.get(header.ssrc));
@@ -69,7 +69,7 @@ pub fn unseen_number(header: &RtpHeader, seen: &Seen) -> Option<SeqNo>
 /// The own number under which the first repair of a stream may open.
 fn first_repair_under(header: &RtpHeader, seen: &Seen) -> Option<SeqNo>
     ensures number { (numbers : List (ℕ × List ℕ)) (x : RxRecord) → SeenStandsFor seen.now numbers → x.repairs ≡ None → result ≡ repair_accepted numbers header.now x }
-    ensures small { IfSome result (λ n. n < 2 ^ 48) }
+    ensures small { IfSome result (λ n. n < NUMBER_LIMIT) }
     ensures low { IfSome result (λ n. n % 65536 ≡ header.now.sequence_number) }
 {
     if header.has_padding {
@@ -81,7 +81,7 @@ fn first_repair_under(header: &RtpHeader, seen: &Seen) -> Option<SeqNo>
 /// The number of a repair, told as such.
 fn as_repair(number: Option<SeqNo>) -> Option<(SeqNo, bool)>
     ensures value { result ≡ as_repair number }
-    ensures small { IfSome number (λ n. n < 2 ^ 48) → IfSome result (λ f. f.0 < 2 ^ 48) }
+    ensures small { IfSome number (λ n. n < NUMBER_LIMIT) → IfSome result (λ f. f.0 < NUMBER_LIMIT) }
     ensures low { (low : ℕ) → IfSome number (λ n. n % 65536 ≡ low) → IfSome result (λ f. f.0 % 65536 ≡ low) }
 {
     match number {
@@ -98,12 +98,12 @@ fn first_under(
     header: &RtpHeader,
     repair: Option<SeqNo>,
 ) -> Option<(SeqNo, bool)>
-    requires small { IfSome repair (λ n. n < 2 ^ 48) }
+    requires small { IfSome repair (λ n. n < NUMBER_LIMIT) }
     requires low { IfSome repair (λ n. n % 65536 ≡ header.now.sequence_number) }
     ensures number { (r : SessionRecord) (x : RxRecord) → SeenStandsFor seen.now r.seen → types.now ≡ r.state.types → (header.now.ssrc == 0) ≡ false
         → x.numbers ≡ None → x.state.roc ≡ None → value_under header.now.ssrc r.rx ≡ Some x → repair_accepted r.seen header.now x ≡ repair
         → result ≡ opening_number header.now r }
-    ensures small { IfSome result (λ f. f.0 < 2 ^ 48) }
+    ensures small { IfSome result (λ f. f.0 < NUMBER_LIMIT) }
     ensures low { IfSome result (λ f. f.0 % 65536 ≡ header.now.sequence_number) }
 {
     if types.primary(header.payload_type).is_some() {
@@ -130,7 +130,7 @@ pub fn first_opening<W: GapWindow, S: ResendStore<Sent>>(
     ensures number { (r : SessionRecord) → StreamsStand W.remembers S.stands_for streams.now (streams_in r) → SeenStandsFor seen.now r.seen → types.now ≡ r.state.types
         → is_standing header.now.ssrc r.rx r.known.originals ≡ false → mapping.now ≡ mapped_in header.now r
         → result ≡ opening_number header.now (with_incoming (taken_up header.now.ssrc mapping.now (streams_in r)) r) }
-    ensures small { IfSome result (λ f. f.0 < 2 ^ 48) }
+    ensures small { IfSome result (λ f. f.0 < NUMBER_LIMIT) }
     ensures low { IfSome result (λ f. f.0 % 65536 ≡ header.now.sequence_number) }
 {
     match mapping {

@@ -1,4 +1,4 @@
-ghost use Rattle.std.specs.Prelude.{◌≡◌, ◌==◌, ◌+◌, ◌<◌, ◌≤◌, ◌^◌, ◌%◌, ℕ, List, ◌++◌, Some, None, take, drop, length, is_none, if◌then◌else◌, IfOk, IfSome, IfNone, OnOk, OnErr};
+ghost use Rattle.std.specs.Prelude.{◌≡◌, ◌==◌, ◌+◌, ◌<◌, ◌≤◌, ◌%◌, ℕ, List, ◌++◌, Some, None, take, drop, length, is_none, if◌then◌else◌, IfOk, IfSome, IfNone, OnOk, OnErr};
 ghost use Rattle.std.specs.Option.{ForSome, option_map};
 ghost use Rattle.srtp_core.specs.Seals.{OpensTo};
 ghost use Rattle.stream_core.specs.RxRecord.{RxRecord, StandsFor};
@@ -11,8 +11,8 @@ use media_units::Instant;
 use repair_core::GapWindow;
 use resend_core::ResendStore;
 use rtp_base::wire::half;
-use rtp_base::{Frequency, MediaTime, SeqNo, Ssrc};
-use rtp_wire::RtpHeader;
+use rtp_base::{Frequency, MediaTime, NUMBER_LIMIT, SeqNo, Ssrc};
+use rtp_wire::{ORIGINAL_NUMBER_LEN, RtpHeader};
 use srtp_core::laws::rtp_opens_once;
 use srtp_core::{SrtpCipher, SrtpContext};
 use std::alloc::{AllocError, Global};
@@ -59,18 +59,18 @@ fn cut_payload<'a>(header: &RtpHeader, payload: &'a [u8]) -> Option<&'a [u8]>
 /// The number in front of what a repair carries, if there are two bytes, and what stands behind it.
 fn split_original(carried: &[u8]) -> (Option<u16>, &[u8])
     ensures number { result.0 ≡ original_number carried.now }
-    ensures rest { result.1.now ≡ drop 2 carried.now }
+    ensures rest { result.1.now ≡ drop ORIGINAL_NUMBER_LEN carried.now }
 {
-    if carried.len() < 2 {
+    if carried.len() < ORIGINAL_NUMBER_LEN {
         return (None, &carried[carried.len()..]);
     }
-    (Some(half(carried, 0)), &carried[2..])
+    (Some(half(carried, 0)), &carried[ORIGINAL_NUMBER_LEN..])
 }
 
 /// What a datagram carries, split where it is a repair.
 fn split_carried(repair: bool, carried: &[u8]) -> (Option<u16>, &[u8])
     ensures number { result.0 ≡ (if repair then original_number carried.now else None) }
-    ensures rest { result.1.now ≡ (if repair then drop 2 carried.now else carried.now) }
+    ensures rest { result.1.now ≡ (if repair then drop ORIGINAL_NUMBER_LEN carried.now else carried.now) }
 {
     if repair {
         split_original(carried)
@@ -131,7 +131,7 @@ fn open_with<C: SrtpCipher>(
     number: SeqNo,
     repair: bool,
 ) -> Result<Option<Opening>, AllocError>
-    requires index { number < 2 ^ 48 }
+    requires index { number < NUMBER_LIMIT }
     requires low { number % 65536 ≡ header.now.sequence_number }
     ensures opened { IfOk result (λ r. IfSome r (λ o. IsOpening C.meaning (Some context.old) header.now number repair bytes.now o.plain o.original o.payload)) }
     ensures none { IfOk result (λ r. IfNone r ((p : List ℕ) → OpensIn C.meaning (Some context.old) header.now number bytes.now p → Unpads header.now p → ⊥)) }
@@ -162,7 +162,7 @@ pub fn open<C: SrtpCipher>(
     number: SeqNo,
     repair: bool,
 ) -> Result<Option<Opening>, AllocError>
-    requires index { number < 2 ^ 48 }
+    requires index { number < NUMBER_LIMIT }
     requires low { number % 65536 ≡ header.now.sequence_number }
     ensures opened { IfOk result (λ r. IfSome r (λ o. IsOpening C.meaning opening.old header.now number repair bytes.now o.plain o.original o.payload)) }
     ensures none { IfOk result (λ r. IfNone r ((p : List ℕ) → OpensIn C.meaning opening.old header.now number bytes.now p → Unpads header.now p → ⊥)) }
@@ -183,13 +183,13 @@ pub fn accepts<W: GapWindow, S: ResendStore<Sent>>(
     streams: &Streams<W, S>,
     probes: &StreamRx<W>,
 ) -> Option<(Option<usize>, SeqNo)>
-    requires { ForSome remembered.now (λ n. n < 2 ^ 48) }
+    requires { ForSome remembered.now (λ n. n < NUMBER_LIMIT) }
     ensures number { (r : StreamsRecord) (p : RxRecord) → StreamsStand W.remembers S.stands_for streams.now r → StandsFor W.remembers probes.now p
         → option_map (λ f. f.1) result ≡ number_of remembered.now r.rx p ssrc low }
     ensures probe { IfSome result (λ f. is_none f.0 ≡ (ssrc == 0)) }
     ensures place { IfSome result (λ f. IfSome f.0 (λ i. place_of ssrc streams.now.rx ≡ Some i)) }
     ensures within { IfSome result (λ f. IfSome f.0 (λ i. i < length streams.now.rx)) }
-    ensures small { IfSome result (λ f. f.1 < 2 ^ 48) }
+    ensures small { IfSome result (λ f. f.1 < NUMBER_LIMIT) }
     ensures low { IfSome result (λ f. f.1 % 65536 ≡ low) }
 {
     if ssrc.is_probe() {
@@ -234,8 +234,8 @@ pub fn take<W: GapWindow, S: ResendStore<Sent>>(
     probes: &mut StreamRx<W>,
 ) -> Result<(), AllocError>
     requires place { IfSome place (λ i. i < length streams.old.rx) }
-    requires number { number < 2 ^ 48 }
-    requires remembered { ForSome remembered.now (λ n. n < 2 ^ 48) }
+    requires number { number < NUMBER_LIMIT }
+    requires remembered { ForSome remembered.now (λ n. n < NUMBER_LIMIT) }
     ensures rx { OnOk result ((r : StreamsRecord) (ssrc : ℕ) → StreamsStand W.remembers S.stands_for streams.old r
         → is_none place ≡ (ssrc == 0) → IfSome place (λ i. place_of ssrc streams.old.rx ≡ Some i)
         → StreamsStand W.remembers S.stands_for streams.new (record r { rx = rx_opened remembered.now arrival.entry.now ssrc number r.rx })) }

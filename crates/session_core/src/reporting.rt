@@ -33,10 +33,7 @@ use rtcp_wire::{Rtcp, RtcpFb, SenderInfo, items_fit_by_lengths};
 use rtp_base::{Mid, Ssrc};
 use std::alloc::{AllocError, Global};
 use std::collections::VecDeque;
-use stream_core::{PayloadTypes, Sent, Streams, is_among};
-
-/// The most bytes of the name of a source (RFC 3550 section 6.5).
-const MAX_CNAME_LEN: usize = 255;
+use stream_core::{MAX_CNAME_LEN, PayloadTypes, Sent, Streams, is_among};
 
 /// What the reports of senders are made by: the clocks of the payload types, the calendar, and the
 /// moment.

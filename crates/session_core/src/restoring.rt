@@ -1,6 +1,6 @@
 //! Repairs that come (RFC 4588): of which stream they are, under which number they may open, and
 //! the packets that they restore.
-ghost use Rattle.std.specs.Prelude.{◌≡◌, ◌<◌, ◌^◌, ◌%◌, ℕ, List, Some, length, option_and_then, IfSome};
+ghost use Rattle.std.specs.Prelude.{◌≡◌, ◌<◌, ◌%◌, ℕ, List, Some, length, option_and_then, IfSome};
 ghost use Rattle.std.specs.Option.{option_map};
 ghost use Rattle.stream_core.specs.Seen.{SeenStandsFor};
 ghost use Rattle.stream_core.specs.StreamsRecord.{StreamsRecord, StandsFor as StreamsStand};
@@ -12,7 +12,7 @@ use crate::receiving::{arrival, packet_from};
 use media_units::Instant;
 use repair_core::GapWindow;
 use resend_core::ResendStore;
-use rtp_base::{MediaTime, Pt, SeqNo, Ssrc};
+use rtp_base::{MediaTime, NUMBER_LIMIT, Pt, SeqNo, Ssrc};
 use rtp_wire::RtpHeader;
 use stream_core::{Arrival, Payload, PayloadTypes, RtpPacket, Seen, Sent, Streams};
 
@@ -85,7 +85,7 @@ pub fn accepts_repair<W: GapWindow, S: ResendStore<Sent>>(
     ensures number { (r : StreamsRecord) (numbers : List (ℕ × List ℕ)) (original : ℕ) → StreamsStand W.remembers S.stands_for streams.now r
         → SeenStandsFor seen.now numbers → place_of original streams.now.rx ≡ Some place
         → result ≡ option_and_then (repair_accepted numbers header.now) (value_under original r.rx) }
-    ensures small { IfSome result (λ n. n < 2 ^ 48) }
+    ensures small { IfSome result (λ n. n < NUMBER_LIMIT) }
     ensures low { IfSome result (λ n. n % 65536 ≡ header.now.sequence_number) }
 {
     let greatest = seen.get(header.ssrc);

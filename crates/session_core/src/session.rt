@@ -1,4 +1,4 @@
-ghost use Rattle.std.specs.Prelude.{◌≡◌, ◌≢◌, ◌≤◌, ◌^◌, ◌↔◌, ◌++◌, ◌∷◌, [], None, Some, true, false, not, length, is_some, IsTrue, IfOk, IfErr, OnOk, OnErr, IsErrOf};
+ghost use Rattle.std.specs.Prelude.{◌≡◌, ◌≢◌, ◌≤◌, ◌↔◌, ◌++◌, ◌∷◌, [], None, Some, true, false, not, length, is_some, IsTrue, IfOk, IfErr, OnOk, OnErr, IsErrOf};
 ghost use Rattle.std.specs.Option.{option_copied};
 ghost use Rattle.srtp_core.specs.Contexts.{new_state};
 ghost use Rattle.srtp_core.specs.Keys.{material_len};
@@ -12,7 +12,7 @@ mod incoming;
 mod outgoing;
 mod ticks;
 
-use crate::config::SessionConfig;
+use crate::config::{GREATEST_WARN, LEAST_TARGET, SessionConfig};
 use crate::error::{AppError, RtcError};
 use crate::media::{Media, media_of, media_place, remove_section};
 use crate::news::News;
@@ -25,11 +25,14 @@ use report_core::{ReceiverMoments, ReportIntervals};
 use resend_core::ResendStore;
 use rtcp_wire::{AppSpecificFeedback, Rtcp};
 use rtp_base::{Mid, MidRid, SessionId, Ssrc};
-use srtp_core::{KeyingMaterial, SrtpCipher, SrtpContext, SrtpError, SrtpProfile};
+use srtp_core::{
+    KeyingMaterial, SRTCP_INDEX_LIMIT, SrtpCipher, SrtpContext, SrtpError, SrtpProfile,
+};
 use std::alloc::{AllocError, Global};
 use std::collections::VecDeque;
 use std::marker::Model;
 use stream_core::{PayloadTypes, RtpPacket, Seen, Sent, StreamRx, Streams, Transport};
+pub use ticks::NACK_MIN_INTERVAL;
 
 /// What one end of a connection sends and receives: contexts that seal and open, streams, and media
 /// sections. It does no input or output: it is handed the datagrams that come and the moments of
@@ -142,7 +145,7 @@ fn contexts<C: SrtpCipher>(
     left: bool,
     first_index: u64,
 ) -> Result<BothWays<C>, SrtpError>
-    requires { first_index ≤ 2 ^ 31 }
+    requires { first_index ≤ SRTCP_INDEX_LIMIT }
     ensures sealing { IfOk result (λ both. both.sealing ≡ new_state C.meaning profile material.now left first_index) }
     ensures opening { IfOk result (λ both. both.opening ≡ new_state C.meaning profile material.now (not left) 0) }
     ensures key_length { length material.now ≢ material_len profile → IsErrOf result SrtpError.KeyLength }
@@ -157,10 +160,10 @@ impl<C: SrtpCipher, W: GapWindow, S: ResendStore<Sent>> Session<C, W, S> {
     /// A session without keys, streams and media sections. The time grows with the square of the
     /// number of codecs.
     pub fn new(alloc: Global, config: SessionConfig) -> Result<Self, AllocError>
-        requires target { 900 ≤ config.mtu.target }
+        requires target { LEAST_TARGET ≤ config.mtu.target }
         requires order { config.mtu.target ≤ config.mtu.warn }
-        requires warn { config.mtu.warn ≤ 1500 }
-        requires index { config.srtcp_index ≤ 2 ^ 31 }
+        requires warn { config.mtu.warn ≤ GREATEST_WARN }
+        requires index { config.srtcp_index ≤ SRTCP_INDEX_LIMIT }
         ensures { IfOk result (λ s. StandsFor W.remembers S.stands_for s (fresh_session config)) }
     {
         Ok(Session {
@@ -205,10 +208,10 @@ impl<C: SrtpCipher, W: GapWindow, S: ResendStore<Sent>> Session<C, W, S> {
 
     /// The same in a box, which is handed on by its address: a session has some kilobytes.
     pub fn boxed(alloc: Global, config: SessionConfig) -> Result<Box<Self>, AllocError>
-        requires target { 900 ≤ config.mtu.target }
+        requires target { LEAST_TARGET ≤ config.mtu.target }
         requires order { config.mtu.target ≤ config.mtu.warn }
-        requires warn { config.mtu.warn ≤ 1500 }
-        requires index { config.srtcp_index ≤ 2 ^ 31 }
+        requires warn { config.mtu.warn ≤ GREATEST_WARN }
+        requires index { config.srtcp_index ≤ SRTCP_INDEX_LIMIT }
         ensures { IfOk result (λ s. StandsFor W.remembers S.stands_for s.value (fresh_session config)) }
     {
         let session = Session::new(alloc, config)?;

@@ -12,6 +12,7 @@ use Rattle.rtp_base.specs.declared.keyframe_request.KeyframeRequestKind.{Keyfram
 use Rattle.rtp_base.specs.declared.keyframe_request.KeyframeRequestKind.TheVariants.{Pli, Fir}
 use Rattle.rtp_base.specs.declared.media_time.MediaTime.{MediaTime}
 use Rattle.rtp_base.specs.declared.nack_entry.NackEntry.{NackEntry}
+use Rattle.rtp_wire.specs.declared.header.TheConstants.{ORIGINAL_NUMBER_LEN}
 use Rattle.stream_core.specs.declared.packet.RtpPacket.{RtpPacket}
 use Rattle.stream_core.specs.declared.reports.Arrival.{Arrival}
 use Rattle.stream_core.specs.declared.reports.RxReports.{RxReports}
@@ -101,8 +102,8 @@ with_first_of (Some p) x = record x {
 -- a packet is sent again: its payload stands behind the header and the two bytes of the original number (RFC 4588 section 4)
 abbrev pub with_repair : PacketReceipt → TxReports → TxReports
 with_repair p x = record x {
-  sent = with_packet (length p.plain - (p.header.header_len + 2)) x.sent;
-  resent = with_packet (length p.plain - (p.header.header_len + 2)) x.resent;
+  sent = with_packet (length p.plain - (p.header.header_len + ORIGINAL_NUMBER_LEN)) x.sent;
+  resent = with_packet (length p.plain - (p.header.header_len + ORIGINAL_NUMBER_LEN)) x.resent;
 }
 
 -- an item came that asks for packets, or one that asks for a key frame without or with a number

@@ -4,15 +4,18 @@ use Rattle.std.specs.List.{list_any, filter, filter_map, sum_by}
 use Rattle.pace_units.specs.declared.queue.QueuePriority.TheVariants.{Media, Empty}
 use Rattle.pace_units.specs.declared.queue.QueueSnapshot.{QueueSnapshot}
 use Rattle.media_units.specs.Soonest.{earlier}
+use Rattle.rtp_base.specs.declared.number.TheConstants.{NUMBER_LIMIT}
+use Rattle.rtp_wire.specs.declared.header.TheConstants.{MAX_SOURCES}
 use Rattle.stream_core.specs.declared.packet.RtpPacket.{RtpPacket}
+use Rattle.stream_core.specs.declared.stream_tx.TheConstants.{MAX_PAYLOAD_LEN}
 
 -- a packet that may wait to be sealed: it has a number of 48 bits, whose low 16 bits are in its header, at most 1,400
 -- bytes of payload, and at most 15 contributing sources
 pub record IsSendable (p : RtpPacket) : Type 0 where
-  pub number : p.seq_no < 2 ^ 48
+  pub number : p.seq_no < NUMBER_LIMIT
   pub low : p.header.sequence_number ≡ p.seq_no % 65536
-  pub payload : length p.payload ≤ 1400
-  pub sources : p.header.csrc_count ≤ 15
+  pub payload : length p.payload ≤ MAX_PAYLOAD_LEN
+  pub sources : p.header.csrc_count ≤ MAX_SOURCES
 
 -- the moment of the first tick since the write
 abbrev pub stamp_of : ℕ → Option ℕ → Option ℕ

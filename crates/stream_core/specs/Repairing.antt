@@ -1,10 +1,11 @@
 -- What a stream sends again (RFC 4588), and what a poll of it gives.
-use Rattle.std.specs.Prelude.{◌≡◌, ℕ, ◌%◌, ◌<◌, ◌^◌, ◌==◌, not, Bool, false, if◌then◌else◌, Option, Some, None, option_and_then, List, [], ◌∷◌, ◌++◌, length, slice_index_or, map}
+use Rattle.std.specs.Prelude.{◌≡◌, ℕ, ◌%◌, ◌<◌, ◌==◌, not, Bool, false, if◌then◌else◌, Option, Some, None, option_and_then, List, [], ◌∷◌, ◌++◌, length, slice_index_or, map}
 use Rattle.std.specs.Int.{w16, to_be_bytes}
 use Rattle.std.specs.Option.{option_map}
 use Rattle.mapping_core.specs.declared.claim.TypeClaim.{TypeClaim}
 use Rattle.resend_core.specs.ResendStore.{Past}
 use Rattle.resend_core.specs.declared.rtx_cache.RtxCache.{RtxCache}
+use Rattle.rtp_base.specs.declared.number.TheConstants.{NUMBER_LIMIT}
 use Rattle.rtp_wire.specs.declared.header.RtpHeader.{RtpHeader}
 use Rattle.rtp_wire.specs.declared.values.ExtensionValues.{ExtensionValues}
 use Rattle.rtp_wire.specs.Header.{header_bytes}
@@ -94,7 +95,7 @@ repair_of ssrc x t now n p = record {
 -- the packet that is to be sent again next, as a repair under the next number; where there is none, nothing is asked for
 -- any more
 pub data Repairs (t : Transport) (now ssrc : ℕ) (x : TxRecord) (q : RepairsRecord) : RepairsRecord → Option PacketReceipt → Type 0 where
-  repaired : (p : SentPacket) (rest : List _) → IsNext now q (Some (p, rest)) → q.state.next_seq_no < 2 ^ 48
+  repaired : (p : SentPacket) (rest : List _) → IsNext now q (Some (p, rest)) → q.state.next_seq_no < NUMBER_LIMIT
       → Repairs t now ssrc x q (record q { state = after_next now size_of_sent (Some (p, rest)) q.state }) (Some (repair_of ssrc x t now q.state.next_seq_no p))
   none_asked : IsNext now q None → Repairs t now ssrc x q (record q { state = after_next now size_of_sent None q.state }) None
 
@@ -121,7 +122,7 @@ pub data Stays (now : ℕ) : Option RepairsRecord → Option RepairsRecord → T
 
 -- a packet is to be sent again, and no number is left for it
 abbrev pub IsUsedUp : ℕ → RepairsRecord → Type 0
-IsUsedUp now q = (p : SentPacket) × (rest : List _) × IsNext now q (Some (p, rest)) × (q.state.next_seq_no ≡ 2 ^ 48)
+IsUsedUp now q = (p : SentPacket) × (rest : List _) × IsNext now q (Some (p, rest)) × (q.state.next_seq_no ≡ NUMBER_LIMIT)
 
 -- some packet is asked for
 abbrev pub has_asked : Option ResendState → Bool

@@ -8,18 +8,21 @@ use Rattle.rtp_base.specs.declared.reception_report.ReceptionReport.{ReceptionRe
 use Rattle.repair_core.specs.Counts.{counts_report, counts_after}
 use Rattle.repair_core.specs.Fresh.{greatest_of}
 use Rattle.repair_core.specs.Rounds.{Heard, taken}
+use Rattle.repair_core.specs.declared.register_nack.TheConstants.{MAX_ROUND_ENTRIES}
 use Rattle.rtcp_wire.specs.declared.packet.Rtcp.{Rtcp}
 use Rattle.rtcp_wire.specs.declared.packet.Rtcp.TheVariants.{SenderReport, ReceiverReport, SourceDescription, ExtendedReport, Nack, Pli, Fir, Remb}
 use Rattle.rtcp_items.specs.declared.extended.ReportBlock.{ReportBlock}
 use Rattle.rtcp_items.specs.declared.extended.ReportBlock.TheVariants.{Rrtr, Dlrr}
 use Rattle.rtcp_items.specs.declared.report.SenderInfo.{SenderInfo}
 use Rattle.report_core.specs.declared.clock.ReportIntervals.{ReportIntervals}
+use Rattle.report_core.specs.declared.moments.TheConstants.{MAX_ANSWERED_MOMENTS}
 use Rattle.report_core.specs.declared.rtp_clock.RtpClock.{RtpClock}
 use Rattle.report_core.specs.Due.{receiver_due, sender_due, is_sender_due}
 use Rattle.report_core.specs.LastReport.{with_report, block_of}
 use Rattle.report_core.specs.Receiver.{receiver_report_of, moment_report_of}
 use Rattle.report_core.specs.Sender.{info_of, name_of}
 use Rattle.stream_core.specs.declared.payload_types.TypeRow.{TypeRow}
+use Rattle.stream_core.specs.declared.reports.TheConstants.{MAX_CNAME_LEN}
 use Rattle.stream_core.specs.declared.reports.Tick.{Tick}
 use Rattle.stream_core.specs.Arrivals.{asked_of}
 use Rattle.stream_core.specs.Missing.{nack_of, after_round}
@@ -143,7 +146,7 @@ any_request rs = list_any (λ e. asks_sender e.1) rs
 -- names one source, with 1 to 255 bytes
 abbrev pub IsBriefBlock : ReportBlock → Type 0
 IsBriefBlock (Rrtr m) = Unit {0}
-IsBriefBlock (Dlrr d) = length d.items ≤ 50
+IsBriefBlock (Dlrr d) = length d.items ≤ MAX_ANSWERED_MOMENTS
 
 abbrev pub AreBriefBlocks : List ReportBlock → Type 0
 AreBriefBlocks [] = ⊥
@@ -151,14 +154,14 @@ AreBriefBlocks (b ∷ []) = IsBriefBlock b
 AreBriefBlocks (b ∷ c ∷ rest) = ⊥
 
 abbrev pub IsBrief : Rtcp → Type 0
-IsBrief (Nack n) = length n.reports ≤ 6
+IsBrief (Nack n) = length n.reports ≤ MAX_ROUND_ENTRIES
 IsBrief (Pli p) = Unit {0}
 IsBrief (Fir f) = length f.reports ≤ 1
 IsBrief (Remb m) = length m.ssrcs ≤ 1
 IsBrief (ReceiverReport r) = length r.reports ≤ 1
 IsBrief (SenderReport r) = r.reports ≡ []
 IsBrief (ExtendedReport x) = AreBriefBlocks x.blocks
-IsBrief (SourceDescription d) = (ssrc : ℕ) × (cname : List ℕ) × (length cname ≤ 255) × (d ≡ name_of ssrc cname)
+IsBrief (SourceDescription d) = (ssrc : ℕ) × (cname : List ℕ) × (length cname ≤ MAX_CNAME_LEN) × (d ≡ name_of ssrc cname)
 IsBrief _ = ⊥
 
 -- the first moment at which a report of an incoming stream is due, or an earlier one

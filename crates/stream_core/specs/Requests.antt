@@ -1,5 +1,6 @@
 -- What incoming streams ask of their senders (RFC 4585 section 6.3.1, RFC 5104 section 4.3.1, draft-alvestrand-rmcat-remb).
 use Rattle.std.specs.Prelude.{ℕ, ◌+◌, ◌%◌, ◌||◌, min, Bool, is_some, List, [], ◌∷◌, ◌++◌, Option, Some, None}
+use Rattle.media_units.specs.declared.rate.TheConstants.{GREATEST_RATE}
 use Rattle.rtcp_wire.specs.declared.packet.Rtcp.{Rtcp}
 use Rattle.rtcp_wire.specs.declared.packet.Rtcp.TheVariants as rtcp
 use Rattle.rtp_base.specs.declared.keyframe_request.KeyframeRequestKind.{KeyframeRequestKind}
@@ -35,7 +36,7 @@ keyframe_items sender ssrc q = keyframe_with sender ssrc q.fir_number q.keyframe
 -- the item that tells it the greatest rate, which is 10 Gbit/s at most
 abbrev pub bitrate_with : (sender ssrc : ℕ) → Option ℕ → List Rtcp
 bitrate_with sender ssrc None = []
-bitrate_with sender ssrc (Some rate) = rtcp.Remb (record { sender_ssrc = sender; bitrate = min rate 10000000000; ssrcs = ssrc ∷ [] }) ∷ []
+bitrate_with sender ssrc (Some rate) = rtcp.Remb (record { sender_ssrc = sender; bitrate = min rate GREATEST_RATE; ssrcs = ssrc ∷ [] }) ∷ []
 
 abbrev pub bitrate_items : (sender ssrc : ℕ) → RxRequests → List Rtcp
 bitrate_items sender ssrc q = bitrate_with sender ssrc q.bitrate

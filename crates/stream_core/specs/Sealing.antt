@@ -2,6 +2,7 @@
 use Rattle.std.specs.Prelude.{ℕ, ◌+◌, ◌-◌, ◌%◌, ◌^◌, min, Bool, is_some, if◌then◌else◌, Option, Some, None, List, length}
 use Rattle.media_units.specs.Wallclock.{ntp_nanos}
 use Rattle.rtp_wire.specs.AbsTime.{send_units}
+use Rattle.rtp_wire.specs.declared.abs_time.TheConstants.{SEND_TIME_LIMIT}
 use Rattle.rtp_wire.specs.declared.values.ExtensionValues.{ExtensionValues}
 use Rattle.rtp_wire.specs.declared.extension.Extension.{Extension}
 use Rattle.rtp_wire.specs.declared.extension.Extension.TheVariants.{AbsoluteSendTime, TransportSequenceNumber}
@@ -16,7 +17,7 @@ has_id t e = is_some (id_of t.exts e)
 
 -- a moment as an absolute send time: NTP seconds in units of 2^-18 s, modulo 2^24
 abbrev pub send_time : Transport → ℕ → ℕ
-send_time t now = send_units (ntp_nanos t.beginning.unix_secs now) % 2 ^ 24
+send_time t now = send_units (ntp_nanos t.beginning.unix_secs now) % SEND_TIME_LIMIT
 
 -- values, with what a packet tells of its sealing: where they have ids, the moment and the low 16 bits of the packet's
 -- number on the transport

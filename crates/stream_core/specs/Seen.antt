@@ -1,13 +1,14 @@
 -- The numbers under which datagrams opened, for each SSRC.
-use Rattle.std.specs.Prelude.{◌<◌, ◌^◌, ℕ, Bool, true, List, [], ◌∷◌, ◌++◌, Option, None}
+use Rattle.std.specs.Prelude.{◌<◌, ℕ, Bool, true, List, [], ◌∷◌, ◌++◌, Option, None}
 use Rattle.std.specs.Option.{option_map, option_map_or}
+use Rattle.rtp_base.specs.declared.number.TheConstants.{NUMBER_LIMIT}
 use Rattle.rtp_base.specs.declared.window.SeqNoWindow.{SeqNoWindow}
 use Rattle.rtp_base.specs.Window.{greatest, is_fresh_rtx, with_fresh, StandsFor as WindowStandsFor}
 use Rattle.stream_core.specs.Tables.{value_under, place_of, change_place, Along}
 
 -- of the numbers that opened under one SSRC, in order, a window keeps the greatest and which of the last 128 are among them
 abbrev pub Saw : SeqNoWindow → List ℕ → Type 0
-Saw w numbers = WindowStandsFor w None numbers × (greatest numbers < 2 ^ 48)
+Saw w numbers = WindowStandsFor w None numbers × (greatest numbers < NUMBER_LIMIT)
 
 abbrev pub SeenStandsFor : List (ℕ × SeqNoWindow) → List (ℕ × List ℕ) → Type 0
 SeenStandsFor ws seen = Along Saw ws seen

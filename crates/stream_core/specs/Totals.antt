@@ -2,6 +2,7 @@
 use Rattle.std.specs.Prelude.{◌≡◌, ℕ, ◌==◌, ◌<◌, ◌≤◌, ◌^◌, nat_le, Bool, true, ◌&&◌, ◌||◌, Option, None, List, [], ◌∷◌, length, IfSome}
 use Rattle.std.specs.List.{AllByRecursion, sum}
 use Rattle.stream_core.specs.declared.packet.RtpPacket.{RtpPacket}
+use Rattle.stream_core.specs.declared.stream_tx.TheConstants.{MAX_PAYLOAD_LEN}
 use Rattle.stream_core.specs.Queue.{are_stamped, stamped, stamps_of, payload_bytes}
 
 -- moments that never fall, and none of which is above m
@@ -16,7 +17,7 @@ first_stamp (p ∷ ps) = p.timestamp
 
 -- a packet of which sums are kept: it has at most 1,400 bytes of payload, and its stamp is a number of 64 bits
 abbrev pub IsSummable : RtpPacket → Type 0
-IsSummable p = (length p.payload ≤ 1400) × IfSome p.timestamp (λ t. t < 2 ^ 64)
+IsSummable p = (length p.payload ≤ MAX_PAYLOAD_LEN) × IfSome p.timestamp (λ t. t < 2 ^ 64)
 
 -- of these packets the first so many have a stamp; these have so many bytes of payload, and so great is the sum of their
 -- stamps. If they are said to rise they do, up to a moment

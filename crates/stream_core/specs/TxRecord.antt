@@ -1,5 +1,5 @@
 -- The record of an outgoing stream, and what each call makes of it.
-use Rattle.std.specs.Prelude.{◌≡◌, ℕ, ◌<◌, ◌≤◌, ◌^◌, ◌%◌, Bool, false, Option, Some, None, unwrap_or, List, [], ◌∷◌, ◌++◌, length, map, ◌==◌, ◌&&◌, ◌||◌, is_some, is_none, if◌then◌else◌}
+use Rattle.std.specs.Prelude.{◌≡◌, ℕ, ◌<◌, ◌≤◌, ◌%◌, Bool, false, Option, Some, None, unwrap_or, List, [], ◌∷◌, ◌++◌, length, map, ◌==◌, ◌&&◌, ◌||◌, is_some, is_none, if◌then◌else◌}
 use Rattle.std.specs.List.{list_any}
 use Rattle.std.specs.Option.{option_map}
 use Rattle.report_core.specs.Loss.{loss_told, with_loss}
@@ -7,11 +7,13 @@ use Rattle.report_core.specs.TxStats.{TxStats, after_seen}
 use Rattle.report_core.specs.declared.loss.ReportedLoss.{ReportedLoss}
 use Rattle.rtcp_wire.specs.declared.rtcp_fb.RtcpFb.{RtcpFb}
 use Rattle.rtcp_wire.specs.declared.rtcp_fb.RtcpFb.TheVariants.{ReceptionReport, Nack, Pli, Fir}
+use Rattle.rtp_base.specs.declared.number.TheConstants.{NUMBER_LIMIT}
 use Rattle.rtp_base.specs.declared.reception_report.ReceptionReport.{ReceptionReport as Block}
 use Rattle.rtp_wire.specs.declared.header.RtpHeader.{RtpHeader}
 use Rattle.rtp_wire.specs.Header.{header_bytes}
 use Rattle.stream_core.specs.declared.packet.RtpPacket.{RtpPacket}
 use Rattle.stream_core.specs.declared.stream_tx.PacketReceipt.{PacketReceipt}
+use Rattle.stream_core.specs.declared.stream_tx.TheConstants.{MAX_PAYLOAD_LEN, MAX_PLAIN_LEN}
 use Rattle.stream_core.specs.declared.reports.TxReports.{TxReports}
 use Rattle.stream_core.specs.declared.transport.Transport.{Transport}
 use Rattle.stream_core.specs.Arrivals.{no_tx_reports, tx_reports_anew, with_write, with_first_of, with_repair, with_nack, with_pli, with_fir, stats_of}
@@ -90,13 +92,13 @@ anew_under ssrc rtx keeps_losses r = record r {
 
 -- the causes for which a packet is not written, the first of them
 abbrev pub IsTooBig : WriteRecord → Type 0
-IsTooBig w = 2 ^ 48 ≤ w.seq_no
+IsTooBig w = NUMBER_LIMIT ≤ w.seq_no
 
 abbrev pub IsTooLong : WriteRecord → Type 0
-IsTooLong w = (w.seq_no < 2 ^ 48) × (1400 < length w.payload)
+IsTooLong w = (w.seq_no < NUMBER_LIMIT) × (MAX_PAYLOAD_LEN < length w.payload)
 
 abbrev pub Fits : WriteRecord → Type 0
-Fits w = (w.seq_no < 2 ^ 48) × (length w.payload ≤ 1400)
+Fits w = (w.seq_no < NUMBER_LIMIT) × (length w.payload ≤ MAX_PAYLOAD_LEN)
 
 -- the header of a packet of the stream that is sealed at a moment
 abbrev pub sealed_header : TxRecord → Transport → ℕ → RtpPacket → RtpHeader
@@ -125,13 +127,13 @@ transport_after_poll r t = if is_some (next_of r.queue) then after_packet t else
 abbrev pub after_resend : PacketReceipt → TxRecord → TxRecord
 after_resend p r = record r { reports = with_repair p r.reports }
 
--- a packet that may be sealed: its number has 48 bits, of which its header has the low 16, and its plain is the header and
--- at most 1,402 bytes behind it
+-- a packet that may be sealed: its number has 48 bits, of which its header has the low 16, and its plain, which begins with
+-- the header, has no more bytes than the two in front of a payload of a repair and the longest payload allow
 pub record IsSealable (p : PacketReceipt) : Type 0 where
-  pub number : p.seq_no < 2 ^ 48
+  pub number : p.seq_no < NUMBER_LIMIT
   pub low : p.seq_no % 65536 ≡ p.header.sequence_number
   pub header : p.header.header_len ≤ length p.plain
-  pub small : length p.plain ≤ 1562
+  pub small : length p.plain ≤ MAX_PLAIN_LEN
 
 -- on some stream a packet was written since the last tick
 abbrev pub any_waits : List (ℕ × TxRecord) → Bool

@@ -2,6 +2,7 @@
 use Rattle.std.specs.Prelude.{ℕ, ◌-◌, ◌%◌, Bool, false, None, List, ◌++◌, length, replicate}
 use Rattle.rtp_wire.specs.declared.values.ExtensionValues.{ExtensionValues}
 use Rattle.rtp_wire.specs.declared.header.RtpHeader.{RtpHeader}
+use Rattle.rtp_wire.specs.declared.header.TheConstants.{MAX_SOURCES}
 use Rattle.stream_core.specs.declared.packet.RtpPacket.{RtpPacket}
 
 -- a write as its callers see it: the moment of its RTP time is in nanoseconds
@@ -26,7 +27,7 @@ waiting_header ssrc w = record {
   timestamp = w.time;
   ssrc = ssrc;
   csrc_count = length w.csrc;
-  csrc = w.csrc ++ replicate (15 - length w.csrc) 0;
+  csrc = w.csrc ++ replicate (MAX_SOURCES - length w.csrc) 0;
   ext_vals = w.ext_vals;
   header_len = 0;
 }

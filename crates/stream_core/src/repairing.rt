@@ -1,5 +1,5 @@
 //! What a stream sends again (RFC 4588), and its packets, which go after that.
-ghost use Rattle.std.specs.Prelude.{◌≡◌, ◌≤◌, ◌<◌, ◌+◌, ◌^◌, ◌↔◌, [], ◌||◌, length, is_some, true, None, Some, IfOk, IfSome, IfNone, OnOk, OnErr, IsErrOf};
+ghost use Rattle.std.specs.Prelude.{◌≡◌, ◌≤◌, ◌<◌, ◌+◌, ◌↔◌, [], ◌||◌, length, is_some, true, None, Some, IfOk, IfSome, IfNone, OnOk, OnErr, IsErrOf};
 ghost use Rattle.rtp_wire.specs.Header.{header_bytes};
 ghost use Rattle.rtp_wire.specs.HeaderLaws.{IsReadAgain};
 ghost use Rattle.stream_core.specs.Queue.{IsSendable, next_of};
@@ -13,8 +13,8 @@ use crate::stream_tx::{PacketReceipt, StreamTx, receipt};
 use crate::transport::Transport;
 use media_units::Instant;
 use resend_core::{Cached, ResendStore};
-use rtp_base::{Pt, SeqNo, Ssrc};
-use rtp_wire::RtpHeader;
+use rtp_base::{NUMBER_LIMIT, Pt, SeqNo, Ssrc};
+use rtp_wire::{MAX_SOURCES, RtpHeader};
 use rtx_core::{ResendError, ResendQueue};
 use std::alloc::{AllocError, Global};
 use std::marker::Model;
@@ -78,7 +78,7 @@ impl Sent {
         transport: &Transport,
     ) -> RtpHeader
         ensures header { record result { header_len = length (header_bytes transport.now.exts result) } ≡ repair_header ssrc stream.now transport.now now seq_no self.now }
-        ensures sources { result.csrc_count ≤ 15 }
+        ensures sources { result.csrc_count ≤ MAX_SOURCES }
     {
         let mut header = self.packet.header;
         header.payload_type = self.rtx_type;
@@ -102,7 +102,7 @@ impl Sent {
         transport: &Transport,
     ) -> Result<PacketReceipt, AllocError>
         ensures repair { IfOk result (λ p. p ≡ repair_of ssrc stream.now transport.now now seq_no self.now) }
-        ensures small { seq_no < 2 ^ 48 → IfOk result IsSealable }
+        ensures small { seq_no < NUMBER_LIMIT → IfOk result IsSealable }
         ensures reads { IfOk result (λ p. IsReadAgain transport.now.exts p.header) }
     {
         let header = self.repair_header(stream, ssrc, seq_no, now, transport);

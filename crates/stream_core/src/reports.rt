@@ -33,9 +33,11 @@ use report_core::{
     Written,
 };
 use rtp_base::{Frequency, KeyframeRequestKind, MediaTime, NackEntry, Pt, SeqNo, Ssrc};
+use rtp_wire::ORIGINAL_NUMBER_LEN;
 
-/// The bytes of the original number in front of the payload of a repair (RFC 4588 section 4).
-const ORIGINAL_NUMBER_LEN: usize = 2;
+/// The most bytes of the name of a source: the length of an item of a description has 8 bits (RFC
+/// 3550 section 6.5).
+pub const MAX_CNAME_LEN: usize = 255;
 
 /// How a packet came.
 #[derive(Clone, Copy, Debug, PartialEq, Eq)]

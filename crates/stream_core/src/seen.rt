@@ -1,15 +1,12 @@
-ghost use Rattle.std.specs.Prelude.{◌≡◌, ◌<◌, ◌^◌, ℕ, List, [], Some, OnOk, OnErr};
+ghost use Rattle.std.specs.Prelude.{◌≡◌, ◌<◌, ℕ, List, [], Some, OnOk, OnErr};
 ghost use Rattle.rtp_base.specs.Window.{greatest};
 ghost use Rattle.std.specs.Option.{ForSome};
 ghost use Rattle.stream_core.specs.Seen.{Saw, SeenStandsFor, seen_of, is_unseen, saw};
 
 use crate::ssrc_table::SsrcTable;
-use rtp_base::{SeqNo, SeqNoWindow, Ssrc};
+use rtp_base::{NUMBER_LIMIT, SeqNo, SeqNoWindow, Ssrc};
 use std::alloc::{AllocError, Global};
 use std::marker::Model;
-
-/// Numbers have 48 bits.
-pub(crate) const NUMBER_LIMIT: u64 = 1 << 48;
 
 /// The numbers under which datagrams opened, for each SSRC: the greatest, and which of the last 128
 /// came. Contracts see the list of SSRCs and windows, in the order in which the SSRCs came first;
@@ -31,7 +28,7 @@ impl Model for Seen {
 /// The greatest number of a window. It has 48 bits.
 fn greatest_of(window: &SeqNoWindow) -> Option<SeqNo>
     ensures value { (l : List ℕ) → Saw window.now l → result ≡ Some (greatest l) }
-    ensures small { ForSome result (λ n. n < 2 ^ 48) }
+    ensures small { ForSome result (λ n. n < NUMBER_LIMIT) }
 {
     let greatest = window.max_seq();
     if u64::from(greatest) < NUMBER_LIMIT {
@@ -54,7 +51,7 @@ impl Seen {
     /// The greatest number of an SSRC: one look-up in a hash table.
     pub fn get(&self, ssrc: Ssrc) -> Option<SeqNo>
         ensures value { (seen : List (ℕ × List ℕ)) → SeenStandsFor self.now seen → result ≡ seen_of ssrc seen }
-        ensures small { ForSome result (λ n. n < 2 ^ 48) }
+        ensures small { ForSome result (λ n. n < NUMBER_LIMIT) }
     {
         match self.windows.place(ssrc) {
             Some(place) => greatest_of(self.windows.at(place)),
@@ -75,7 +72,7 @@ impl Seen {
 
     /// One more number of an SSRC. Without memory nothing changes.
     pub fn put(&mut self, ssrc: Ssrc, number: SeqNo) -> Result<(), AllocError>
-        requires { number < 2 ^ 48 }
+        requires { number < NUMBER_LIMIT }
         ensures ok { OnOk result ((seen : List (ℕ × List ℕ)) → SeenStandsFor self.old seen → SeenStandsFor self.new (saw ssrc number seen)) }
         ensures err { OnErr result (self.new ≡ self.old) }
     {

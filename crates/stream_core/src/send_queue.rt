@@ -4,6 +4,7 @@ ghost use Rattle.stream_core.specs.Queue.{with_stamp, stamps_of, payload_bytes, 
 ghost use Rattle.stream_core.specs.Totals.{goes_on, first_stamp};
 
 use crate::packet::RtpPacket;
+use crate::stream_tx::MAX_PAYLOAD_LEN;
 use media_units::{Duration, Instant, already_happened, earlier};
 use pace_units::{QueuePriority, QueueSnapshot};
 use std::alloc::{AllocError, Global};
@@ -43,7 +44,7 @@ impl Waiting {
     fn stamp_at(&mut self, now: Instant) -> usize
         ensures stamp { self.new ≡ with_stamp now self.old }
         ensures bytes { result ≡ length self.old.payload }
-        ensures few { result ≤ 1400 }
+        ensures few { result ≤ MAX_PAYLOAD_LEN }
     {
         if self.packet.timestamp.is_none() {
             self.packet.timestamp = Some(now);

@@ -1,4 +1,4 @@
-ghost use Rattle.std.specs.Prelude.{◌≡◌, ◌<◌, ◌≤◌, ◌+◌, ◌^◌, ◌%◌, ℕ, true, Option, None, Some, is_none, IfOk, IfSome, OnOk, OnErr};
+ghost use Rattle.std.specs.Prelude.{◌≡◌, ◌<◌, ◌≤◌, ◌+◌, ◌%◌, ℕ, true, Option, None, Some, is_none, IfOk, IfSome, OnOk, OnErr};
 ghost use Rattle.std.specs.Option.{ForSome};
 ghost use Rattle.repair_core.specs.Fresh.{is_fresh, started_from, greatest_of};
 ghost use Rattle.repair_core.specs.Rounds.{came, started_at};
@@ -13,9 +13,9 @@ use crate::requests::RxRequests;
 use crate::stream_paused::StreamPaused;
 use media_base::Bytes;
 use media_units::{Duration, Instant};
-use red_core::RedMemory;
+use red_core::{MAX_DEPTH, RedMemory};
 use repair_core::GapWindow;
-use rtp_base::{MediaTime, Mid, MidRid, Rid, SeqNo, Ssrc, widen16};
+use rtp_base::{MediaTime, Mid, MidRid, NUMBER_LIMIT, Rid, SeqNo, Ssrc, widen16};
 use rtx_core::RepairWindow;
 use std::alloc::{AllocError, Global};
 use std::marker::Model;
@@ -94,8 +94,8 @@ fn window_with<W: GapWindow>(
     remembered: Option<SeqNo>,
     number: SeqNo,
 ) -> Result<W, AllocError>
-    requires remembered { ForSome remembered (λ n. n < 2 ^ 48) }
-    requires number { number < 2 ^ 48 }
+    requires remembered { ForSome remembered (λ n. n < NUMBER_LIMIT) }
+    requires number { number < NUMBER_LIMIT }
     ensures { IfOk result (λ w. W.remembers w (came (started_at remembered) number)) }
 {
     let mut window = W::new(alloc, remembered)?;
@@ -116,9 +116,9 @@ fn is_above(remembered: Option<SeqNo>, number: SeqNo) -> bool
 /// The number with these low 16 bits under which the first datagram of a stream may open that is no
 /// repair, None where so great a number is remembered of its SSRC.
 pub fn first_number(low: u16, remembered: Option<SeqNo>) -> Option<SeqNo>
-    requires { ForSome remembered (λ n. n < 2 ^ 48) }
+    requires { ForSome remembered (λ n. n < NUMBER_LIMIT) }
     ensures fresh { (r : RxRecord) → r.numbers ≡ None → r.state.roc ≡ None → result ≡ fresh_number remembered r low }
-    ensures small { IfSome result (λ n. n < 2 ^ 48) }
+    ensures small { IfSome result (λ n. n < NUMBER_LIMIT) }
     ensures low { IfSome result (λ n. n % 65536 ≡ low) }
 {
     let before = &remembered;
@@ -133,9 +133,9 @@ pub fn first_number(low: u16, remembered: Option<SeqNo>) -> Option<SeqNo>
 /// The own number of the first repair of a stream with these low 16 bits, where `seen` is the
 /// greatest number that was seen on the SSRC of its datagram, below 2^48.
 pub fn first_repair_number(low: u16, seen: Option<SeqNo>) -> SeqNo
-    requires { ForSome seen (λ n. n < 2 ^ 48) }
+    requires { ForSome seen (λ n. n < NUMBER_LIMIT) }
     ensures number { (r : RxRecord) → r.repairs ≡ None → result ≡ own_number seen r low }
-    ensures small { result < 2 ^ 48 }
+    ensures small { result < NUMBER_LIMIT }
     ensures low { result % 65536 ≡ low }
 {
     RepairWindow::new().number_for(low, seen)
@@ -143,9 +143,9 @@ pub fn first_repair_number(low: u16, seen: Option<SeqNo>) -> SeqNo
 
 /// The own number under which the first repair of a stream with these low 16 bits may open.
 pub fn first_repair(low: u16, seen: Option<SeqNo>) -> Option<SeqNo>
-    requires { ForSome seen (λ n. n < 2 ^ 48) }
+    requires { ForSome seen (λ n. n < NUMBER_LIMIT) }
     ensures fresh { (r : RxRecord) → r.repairs ≡ None → result ≡ fresh_repair seen r low }
-    ensures small { IfSome result (λ n. n < 2 ^ 48) }
+    ensures small { IfSome result (λ n. n < NUMBER_LIMIT) }
     ensures low { IfSome result (λ n. n % 65536 ≡ low) }
 {
     let before = &seen;
@@ -232,9 +232,9 @@ impl<W: GapWindow> StreamRx<W> {
 
     /// The greatest number that was taken, or is remembered.
     pub fn max_seq(&self, remembered: Option<SeqNo>) -> Option<SeqNo>
-        requires { ForSome remembered (λ n. n < 2 ^ 48) }
+        requires { ForSome remembered (λ n. n < NUMBER_LIMIT) }
         ensures greatest { (r : RxRecord) → StandsFor W.remembers self.now r → result ≡ greatest_of (taken_of remembered r) }
-        ensures small { ForSome result (λ n. n < 2 ^ 48) }
+        ensures small { ForSome result (λ n. n < NUMBER_LIMIT) }
     {
         match &self.window {
             Some(window) => window.max_seq(),
@@ -245,9 +245,9 @@ impl<W: GapWindow> StreamRx<W> {
     /// The number that has these low 16 bits: with the rollover count that was set, else nearest to
     /// the greatest number (RFC 3711 section 3.3.1).
     fn number_for(&self, low: u16, remembered: &Option<SeqNo>) -> SeqNo
-        requires { ForSome remembered.now (λ n. n < 2 ^ 48) }
+        requires { ForSome remembered.now (λ n. n < NUMBER_LIMIT) }
         ensures number { (r : RxRecord) → StandsFor W.remembers self.now r → result ≡ number_for remembered.now r low }
-        ensures small { result < 2 ^ 48 }
+        ensures small { result < NUMBER_LIMIT }
         ensures low { result % 65536 ≡ low }
     {
         match self.roc {
@@ -258,7 +258,7 @@ impl<W: GapWindow> StreamRx<W> {
 
     /// Whether a number may still be taken.
     fn is_fresh(&self, number: SeqNo, remembered: &Option<SeqNo>) -> bool
-        requires { number < 2 ^ 48 }
+        requires { number < NUMBER_LIMIT }
         ensures { (r : RxRecord) → StandsFor W.remembers self.now r → result ≡ is_fresh (taken_of remembered.now r) number }
     {
         match &self.window {
@@ -270,9 +270,9 @@ impl<W: GapWindow> StreamRx<W> {
     /// The number under which a datagram with these low 16 bits may open, None where it may not be
     /// taken any more.
     pub fn accepts(&self, low: u16, remembered: Option<SeqNo>) -> Option<SeqNo>
-        requires { ForSome remembered (λ n. n < 2 ^ 48) }
+        requires { ForSome remembered (λ n. n < NUMBER_LIMIT) }
         ensures fresh { (r : RxRecord) → StandsFor W.remembers self.now r → result ≡ fresh_number remembered r low }
-        ensures small { IfSome result (λ n. n < 2 ^ 48) }
+        ensures small { IfSome result (λ n. n < NUMBER_LIMIT) }
         ensures low { IfSome result (λ n. n % 65536 ≡ low) }
     {
         let number = self.number_for(low, &remembered);
@@ -285,8 +285,8 @@ impl<W: GapWindow> StreamRx<W> {
 
     /// Takes a number. Without memory nothing changes.
     fn put(&mut self, number: SeqNo, remembered: Option<SeqNo>) -> Result<(), AllocError>
-        requires number { number < 2 ^ 48 }
-        requires remembered { ForSome remembered (λ n. n < 2 ^ 48) }
+        requires number { number < NUMBER_LIMIT }
+        requires remembered { ForSome remembered (λ n. n < NUMBER_LIMIT) }
         ensures ok { OnOk result ((r : RxRecord) → StandsFor W.remembers self.old r → StandsFor W.remembers self.new (with_number remembered number r)) }
         ensures state { self.new.state ≡ self.old.state }
         ensures recent { self.new.recent ≡ self.old.recent }
@@ -326,8 +326,8 @@ impl<W: GapWindow> StreamRx<W> {
         number: SeqNo,
         remembered: Option<SeqNo>,
     ) -> Result<(), AllocError>
-        requires number { number < 2 ^ 48 }
-        requires remembered { ForSome remembered (λ n. n < 2 ^ 48) }
+        requires number { number < NUMBER_LIMIT }
+        requires remembered { ForSome remembered (λ n. n < NUMBER_LIMIT) }
         ensures ok { OnOk result ((r : RxRecord) → StandsFor W.remembers self.old r → StandsFor W.remembers self.new (opened_as remembered arrival.entry.now number r)) }
         ensures state { OnOk result (self.new.state ≡ came_at arrival.entry.now number self.old.state) }
         ensures err { OnErr result (self.new ≡ self.old) }
@@ -371,9 +371,9 @@ impl<W: GapWindow> StreamRx<W> {
     /// greatest number that was seen on the SSRC of its datagram, below 2^48: nearest to the
     /// greatest repair that was taken, before the first one to what was seen.
     pub fn repair_number(&self, low: u16, seen: Option<SeqNo>) -> SeqNo
-        requires { ForSome seen (λ n. n < 2 ^ 48) }
+        requires { ForSome seen (λ n. n < NUMBER_LIMIT) }
         ensures number { (r : RxRecord) → StandsFor W.remembers self.now r → result ≡ own_number seen r low }
-        ensures small { result < 2 ^ 48 }
+        ensures small { result < NUMBER_LIMIT }
         ensures low { result % 65536 ≡ low }
     {
         self.repairs.number_for(low, seen)
@@ -383,9 +383,9 @@ impl<W: GapWindow> StreamRx<W> {
     /// it may not be taken any more: up to the greatest number that was seen when the first repair
     /// opened, no repair is taken.
     pub fn accepts_repair(&self, low: u16, seen: Option<SeqNo>) -> Option<SeqNo>
-        requires { ForSome seen (λ n. n < 2 ^ 48) }
+        requires { ForSome seen (λ n. n < NUMBER_LIMIT) }
         ensures fresh { (r : RxRecord) → StandsFor W.remembers self.now r → result ≡ fresh_repair seen r low }
-        ensures small { IfSome result (λ n. n < 2 ^ 48) }
+        ensures small { IfSome result (λ n. n < NUMBER_LIMIT) }
         ensures low { IfSome result (λ n. n % 65536 ≡ low) }
     {
         let before = &seen;
@@ -401,8 +401,8 @@ impl<W: GapWindow> StreamRx<W> {
     /// threshold has passed. A rollover count that was set stays for the next datagram that is no
     /// repair.
     pub fn take_repair(&mut self, now: Instant, number: SeqNo, seen: Option<SeqNo>)
-        requires number { number < 2 ^ 48 }
-        requires seen { ForSome seen (λ n. n < 2 ^ 48) }
+        requires number { number < NUMBER_LIMIT }
+        requires seen { ForSome seen (λ n. n < NUMBER_LIMIT) }
         ensures taken { (r : RxRecord) → StandsFor W.remembers self.old r → StandsFor W.remembers self.new (repair_came seen now number r) }
         ensures state { self.new.state ≡ unpaused now self.old.state }
     {
@@ -413,9 +413,9 @@ impl<W: GapWindow> StreamRx<W> {
     /// The number with these low 16 bits that is nearest to the greatest one that was taken, fresh
     /// or not.
     pub fn restored_number(&self, low: u16, remembered: &Option<SeqNo>) -> SeqNo
-        requires { ForSome remembered.now (λ n. n < 2 ^ 48) }
+        requires { ForSome remembered.now (λ n. n < NUMBER_LIMIT) }
         ensures number { (r : RxRecord) → StandsFor W.remembers self.now r → result ≡ restored_for remembered.now r low }
-        ensures small { result < 2 ^ 48 }
+        ensures small { result < NUMBER_LIMIT }
         ensures low { result % 65536 ≡ low }
     {
         SeqNo::from(widen16(number_of(self.max_seq(*remembered)), low))
@@ -430,11 +430,11 @@ impl<W: GapWindow> StreamRx<W> {
         arrival: &Arrival,
         remembered: Option<SeqNo>,
     ) -> Result<Option<SeqNo>, AllocError>
-        requires { ForSome remembered (λ n. n < 2 ^ 48) }
+        requires { ForSome remembered (λ n. n < NUMBER_LIMIT) }
         ensures restored { IfOk result (λ o. (r : RxRecord) → StandsFor W.remembers self.old r → o ≡ restored remembered r low) }
         ensures after { OnOk result ((r : RxRecord) → StandsFor W.remembers self.old r → StandsFor W.remembers self.new (after_restored remembered arrival.entry.now low r)) }
         ensures state { self.new.state ≡ record self.old.state { reports = self.new.state.reports } }
-        ensures small { IfOk result (λ o. IfSome o (λ n. n < 2 ^ 48)) }
+        ensures small { IfOk result (λ o. IfSome o (λ n. n < NUMBER_LIMIT)) }
         ensures low { IfOk result (λ o. IfSome o (λ n. n % 65536 ≡ low)) }
         ensures err { OnErr result (self.new ≡ self.old) }
     {
@@ -461,7 +461,7 @@ impl<W: GapWindow> StreamRx<W> {
     pub fn place_redundant(&self, datagram: SeqNo, time: u64) -> Option<SeqNo>
         ensures place { (r : RxRecord) → StandsFor W.remembers self.now r → result ≡ placed datagram time r }
         ensures fresh { (r : RxRecord) (remembered : Option ℕ) → StandsFor W.remembers self.now r → IfSome result (λ n. is_fresh (taken_of remembered r) n ≡ true) }
-        ensures near { IfSome result (λ n. (n ≤ datagram) × (datagram ≤ n + 8)) }
+        ensures near { IfSome result (λ n. (n ≤ datagram) × (datagram ≤ n + MAX_DEPTH)) }
     {
         match &self.window {
             Some(window) => self.recent.place(window, datagram, time),
@@ -473,7 +473,7 @@ impl<W: GapWindow> StreamRx<W> {
     /// neither asked for nor taken again. It counts as none that came. It is remembered with its
     /// time, so no other block of that time has a place. Before a number was taken nothing changes.
     pub fn mark_recovered(&mut self, number: SeqNo, time: u64)
-        requires { number < 2 ^ 48 }
+        requires { number < NUMBER_LIMIT }
         ensures recovered { (r : RxRecord) → StandsFor W.remembers self.old r → StandsFor W.remembers self.new (recovered_as number time r) }
         ensures state { self.new.state ≡ self.old.state }
     {

@@ -9,7 +9,6 @@ use crate::packet::RtpPacket;
 use crate::payload::Payload;
 use crate::payload_types::PayloadTypes;
 use crate::reports::TxReports;
-use crate::seen::NUMBER_LIMIT;
 use crate::send_queue::SendQueue;
 use crate::transport::Transport;
 use crate::write::{RtpWrite, WriteError};
@@ -18,17 +17,20 @@ use media_units::{Beginning, Instant};
 use pace_units::QueueSnapshot;
 use report_core::{LossLog, ReportIntervals, RtpClock, StreamStats, Traffic, sender_info};
 use rtcp_wire::{RtcpFb, SenderInfo};
-use rtp_base::{Mid, MidRid, ReceptionReport, Rid, SeqNo, Ssrc};
-use rtp_wire::{ExtensionMap, ExtensionValues, RtpHeader};
+use rtp_base::{Mid, MidRid, NUMBER_LIMIT, ReceptionReport, Rid, SeqNo, Ssrc};
+use rtp_wire::{
+    ExtensionMap, ExtensionValues, MAX_HEADER_LEN, MAX_SOURCES, ORIGINAL_NUMBER_LEN, RtpHeader,
+};
 use std::alloc::{AllocError, Global};
 use std::marker::Model;
 use twcc_core::Share;
 
-/// The most bytes of a payload that is written.
-const MAX_PAYLOAD_LEN: usize = 1400;
+/// The most bytes of a payload that is written: a choice.
+pub const MAX_PAYLOAD_LEN: usize = 1400;
 
-/// The most bytes of a header.
-const MAX_HEADER_LEN: usize = 160;
+/// The most bytes of a packet that is to be sealed: a header, the original number in front of the
+/// payload of a repair, and a payload.
+pub const MAX_PLAIN_LEN: usize = MAX_HEADER_LEN + ORIGINAL_NUMBER_LEN + MAX_PAYLOAD_LEN;
 
 /// A packet that is to be sealed under its number.
 #[derive(Debug, Drop)]
@@ -74,13 +76,13 @@ pub(crate) fn receipt(
     between: &[u8],
     payload: &Payload,
 ) -> Result<PacketReceipt, AllocError>
-    requires few_sources { header.csrc_count ≤ 15 }
-    requires between { length between.now ≤ 2 }
-    requires payload { length payload.now ≤ 1400 }
+    requires few_sources { header.csrc_count ≤ MAX_SOURCES }
+    requires between { length between.now ≤ ORIGINAL_NUMBER_LEN }
+    requires payload { length payload.now ≤ MAX_PAYLOAD_LEN }
     ensures header { IfOk result (λ r. r.header ≡ record header { header_len = length (header_bytes exts.now header) }) }
     ensures number { IfOk result (λ r. r.seq_no ≡ seq_no) }
     ensures plain { IfOk result (λ r. r.plain ≡ header_bytes exts.now header ++ (between.now ++ payload.now)) }
-    ensures few { IfOk result (λ r. r.header.header_len ≤ 160) }
+    ensures few { IfOk result (λ r. r.header.header_len ≤ MAX_HEADER_LEN) }
     ensures reads { OnOk result (IsReadAgain exts.now header) }
 {
     let mut header = header;

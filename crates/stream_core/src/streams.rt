@@ -1,4 +1,4 @@
-ghost use Rattle.std.specs.Prelude.{◌≡◌, ◌<◌, ◌≤◌, ◌^◌, ◌%◌, ◌+◌, ◌++◌, ◌∷◌, ◌⊎◌, ℕ, List, [], None, Some, true, if◌then◌else◌, length, take, slice_get, IfOk, IfSome, IfNone, OnOk, OnErr, IsErrOf, is_some};
+ghost use Rattle.std.specs.Prelude.{◌≡◌, ◌<◌, ◌≤◌, ◌%◌, ◌+◌, ◌++◌, ◌∷◌, ◌⊎◌, ℕ, List, [], None, Some, true, if◌then◌else◌, length, take, slice_get, IfOk, IfSome, IfNone, OnOk, OnErr, IsErrOf, is_some};
 ghost use Rattle.std.specs.Map.{keys_of, values_of};
 ghost use Rattle.std.specs.Option.{ForSome, option_map, option_copied};
 ghost use Rattle.mapping_core.specs.Mapped.{mapped};
@@ -34,7 +34,7 @@ use mapping_core::{IncomingStream, MainChange, Mapping, RepairsChange, Rids, Typ
 use media_units::{Duration, Instant, earlier};
 use repair_core::GapWindow;
 use resend_core::ResendStore;
-use rtp_base::{MidRid, NackEntry, SeqNo, Ssrc};
+use rtp_base::{MidRid, NUMBER_LIMIT, NackEntry, SeqNo, Ssrc};
 use rtp_wire::RtpHeader;
 use rtx_core::{ResendError, ResendQueue};
 use std::alloc::{AllocError, Global};
@@ -307,7 +307,7 @@ impl<W: GapWindow, S: ResendStore<Sent>> Streams<W, S> {
         rtx: Option<(Ssrc, SeqNo)>,
         mid_rid: MidRid,
     ) -> Result<(), AllocError>
-        requires { ForSome rtx (λ x. x.1 ≤ 2 ^ 48) }
+        requires { ForSome rtx (λ x. x.1 ≤ NUMBER_LIMIT) }
         ensures ok { OnOk result ((r : StreamsRecord) → StandsFor W.remembers S.stands_for self.old r
             → StandsFor W.remembers S.stands_for self.new (with_stream_tx ssrc rtx mid_rid.0 mid_rid.1 r)) }
         ensures tx { OnOk result (self.new.tx ≡ with_new ssrc (declared ssrc (option_map (λ x. x.0) rtx) mid_rid.0 mid_rid.1) self.old.tx) }
@@ -630,11 +630,11 @@ impl<W: GapWindow, S: ResendStore<Sent>> Streams<W, S> {
     /// Where the stream of an SSRC stands, and the number under which a datagram with these low 16
     /// bits may open, where a greatest number may be remembered of the SSRC.
     pub fn accepts(&self, ssrc: Ssrc, low: u16, remembered: Option<SeqNo>) -> Option<(usize, SeqNo)>
-        requires { ForSome remembered (λ n. n < 2 ^ 48) }
+        requires { ForSome remembered (λ n. n < NUMBER_LIMIT) }
         ensures number { (r : StreamsRecord) → StandsFor W.remembers S.stands_for self.now r → option_map (λ f. f.1) result ≡ accepted remembered r.rx ssrc low }
         ensures place { IfSome result (λ f. place_of ssrc self.now.rx ≡ Some f.0) }
         ensures within { IfSome result (λ f. f.0 < length self.now.rx) }
-        ensures small { IfSome result (λ f. f.1 < 2 ^ 48) }
+        ensures small { IfSome result (λ f. f.1 < NUMBER_LIMIT) }
         ensures low { IfSome result (λ f. f.1 % 65536 ≡ low) }
     {
         let Some(place) = self.rx.place(ssrc) else {
@@ -657,8 +657,8 @@ impl<W: GapWindow, S: ResendStore<Sent>> Streams<W, S> {
         remembered: Option<SeqNo>,
     ) -> Result<(), AllocError>
         requires place { place < length self.old.rx }
-        requires number { number < 2 ^ 48 }
-        requires remembered { ForSome remembered (λ n. n < 2 ^ 48) }
+        requires number { number < NUMBER_LIMIT }
+        requires remembered { ForSome remembered (λ n. n < NUMBER_LIMIT) }
         ensures ok { OnOk result ((r : StreamsRecord) (ssrc : ℕ) → StandsFor W.remembers S.stands_for self.old r → place_of ssrc self.old.rx ≡ Some place
             → StandsFor W.remembers S.stands_for self.new (record r { rx = change_at ssrc (opened_as remembered arrival.entry.now number) r.rx })) }
         ensures tx { self.new.tx ≡ self.old.tx }

@@ -5,7 +5,7 @@ use crate::packet::RtpPacket;
 use crate::payload::Payload;
 use media_units::Instant;
 use rtp_base::{Frequency, MediaTime, Pt, SeqNo, Ssrc};
-use rtp_wire::{ExtensionValues, RtpHeader};
+use rtp_wire::{ExtensionValues, MAX_SOURCES, RtpHeader};
 use std::alloc::AllocError;
 use std::marker::Model;
 use thiserror::Error;
@@ -47,11 +47,12 @@ pub struct RtpWrite {
     nackable: bool,
     payload: Payload,
     csrc_count: usize,
-    csrc: [u32; 15],
+    csrc: [u32; MAX_SOURCES],
 }
 
 impl Model for RtpWrite {
     ghost use Rattle.std.specs.Prelude.{◌≡◌, ◌≤◌, ◌-◌, ◌++◌, take, replicate};
+    ghost use Rattle.rtp_wire.specs.declared.header.TheConstants.{MAX_SOURCES};
     ghost use Rattle.stream_core.specs.Write.{WriteRecord};
 
     ghost Value = { WriteRecord };
@@ -68,15 +69,15 @@ impl Model for RtpWrite {
       csrc = take w.csrc_count w.csrc;
     } };
 
-    ghost invariant = { λ w. (w.csrc_count ≤ 15) × (w.csrc ≡ take w.csrc_count w.csrc ++ replicate (15 - w.csrc_count) 0) };
+    ghost invariant = { λ w. (w.csrc_count ≤ MAX_SOURCES) × (w.csrc ≡ take w.csrc_count w.csrc ++ replicate (MAX_SOURCES - w.csrc_count) 0) };
 }
 
 /// Sources and zeros behind them.
-fn filled_up(sources: &[u32]) -> [u32; 15]
-    requires { length sources.now ≤ 15 }
-    ensures { result ≡ sources.now ++ replicate (15 - length sources.now) 0 }
+fn filled_up(sources: &[u32]) -> [u32; MAX_SOURCES]
+    requires { length sources.now ≤ MAX_SOURCES }
+    ensures { result ≡ sources.now ++ replicate (MAX_SOURCES - length sources.now) 0 }
 {
-    let mut all = [0; 15];
+    let mut all = [0; MAX_SOURCES];
     let (front, _) = all.split_at_mut(sources.len());
     front.copy_from_slice(sources);
     all
@@ -111,7 +112,7 @@ impl RtpWrite {
             nackable: false,
             payload,
             csrc_count: 0,
-            csrc: [0; 15],
+            csrc: [0; MAX_SOURCES],
         }
     }
 
@@ -141,7 +142,7 @@ impl RtpWrite {
 
     /// It, with these contributing sources, at most 15 (RFC 3550 section 5.1).
     pub fn csrc(mut self, csrc: &[u32]) -> Self
-        requires { length csrc.now ≤ 15 }
+        requires { length csrc.now ≤ MAX_SOURCES }
         ensures { result ≡ record self { csrc = csrc.now } }
     {
         self.csrc_count = csrc.len();

@@ -1,5 +1,5 @@
 //! What comes to a session: the datagrams of RTP and of RTCP.
-ghost use Rattle.std.specs.Prelude.{◌≡◌, ◌==◌, ◌<◌, ◌^◌, ◌↔◌, ◌||◌, ℕ, List, Some, None, true, false, length, drop, is_none, is_some, IfSome, OnOk, is_err, IsTrue, IfOk, IfErr, IfNone, OnErr, IsErrOf};
+ghost use Rattle.std.specs.Prelude.{◌≡◌, ◌==◌, ◌<◌, ◌↔◌, ◌||◌, ℕ, List, Some, None, true, false, length, drop, is_none, is_some, IfSome, OnOk, is_err, IsTrue, IfOk, IfErr, IfNone, OnErr, IsErrOf};
 ghost use Rattle.rtp_wire.specs.Header.{header_of};
 ghost use Rattle.session_core.specs.Hearing.{ReceivesRtcp, HearsFront};
 ghost use Rattle.std.specs.Map.{keys_of};
@@ -28,8 +28,8 @@ use mapping_core::{Mapping, is_early_padding};
 use media_units::{Instant, InstantExt};
 use repair_core::GapWindow;
 use resend_core::ResendStore;
-use rtp_base::{Kind, SeqNo, Ssrc};
-use rtp_wire::RtpHeader;
+use rtp_base::{Kind, NUMBER_LIMIT, SeqNo, Ssrc};
+use rtp_wire::{ORIGINAL_NUMBER_LEN, RtpHeader};
 use srtp_core::SrtpCipher;
 use srtp_core::laws::rtp_opens_once;
 use std::alloc::AllocError;
@@ -164,12 +164,12 @@ impl<C: SrtpCipher, W: GapWindow, S: ResendStore<Sent>> Session<C, W, S> {
         low: Option<u16>,
         payload: Payload,
     ) -> Result<(), AllocError>
-        requires { number < 2 ^ 48 }
+        requires { number < NUMBER_LIMIT }
         ensures packet { OnOk result ((r : SessionRecord) (p : List ℕ) → StandsFor W.remembers S.stands_for self.old r
             → repaired_by r.state.types r.rx r.known.originals header.now ≡ None → (header.now.ssrc == 0) ≡ false → is_some (place_of header.now.ssrc r.rx) ≡ true
             → payload ≡ cut header.now p → StandsFor W.remembers S.stands_for self.new (after_opened now header.now number p r)) }
         ensures repair { OnOk result ((r : SessionRecord) (p : List ℕ) (original : ℕ) → StandsFor W.remembers S.stands_for self.old r
-            → repaired_by r.state.types r.rx r.known.originals header.now ≡ Some original → low ≡ original_number (cut header.now p) → payload ≡ drop 2 (cut header.now p)
+            → repaired_by r.state.types r.rx r.known.originals header.now ≡ Some original → low ≡ original_number (cut header.now p) → payload ≡ drop ORIGINAL_NUMBER_LEN (cut header.now p)
             → StandsFor W.remembers S.stands_for self.new (after_repaired now header.now original number p r)) }
         ensures runs { self.new.state.stopped ≡ self.old.state.stopped }
         ensures err { OnErr result (self.new ≡ record self.old { rx = self.new.rx; probes = self.new.probes; seen = self.new.seen }) }
@@ -263,8 +263,8 @@ impl<C: SrtpCipher, W: GapWindow, S: ResendStore<Sent>> Session<C, W, S> {
         payload: Payload,
     ) -> Result<(), AllocError>
         requires place { IfSome place (λ i. i < length self.old.rx) }
-        requires number { number < 2 ^ 48 }
-        requires remembered { ForSome remembered.now (λ n. n < 2 ^ 48) }
+        requires number { number < NUMBER_LIMIT }
+        requires remembered { ForSome remembered.now (λ n. n < NUMBER_LIMIT) }
         ensures ok { OnOk result ((r : SessionRecord) (p : List ℕ) → StandsFor W.remembers S.stands_for self.old r → remembered.now ≡ seen_of header.now.ssrc r.seen
             → is_none place ≡ (header.now.ssrc == 0) → IfSome place (λ i. place_of header.now.ssrc self.old.rx ≡ Some i) → payload ≡ cut header.now p
             → StandsFor W.remembers S.stands_for self.new (after_opened now header.now number p r)) }
@@ -295,7 +295,7 @@ impl<C: SrtpCipher, W: GapWindow, S: ResendStore<Sent>> Session<C, W, S> {
         number: SeqNo,
     ) -> Result<(), AllocError>
         requires place { place < length self.old.rx }
-        requires number { number < 2 ^ 48 }
+        requires number { number < NUMBER_LIMIT }
         ensures ok { OnOk result ((r : SessionRecord) (original : ℕ) → StandsFor W.remembers S.stands_for self.old r → place_of original self.old.rx ≡ Some place
             → StandsFor W.remembers S.stands_for self.new (after_repair now header.now original number r)) }
         ensures places { OnOk result (keys_of self.new.rx ≡ keys_of self.old.rx) }

@@ -12,6 +12,7 @@ ghost use Rattle.session_core.specs.Calls.{with_feedback};
 ghost use Rattle.session_core.specs.declared.error.RtcError.TheVariants.{Stopped, Memory, KeyExhausted, RepairsExhausted};
 
 use super::Session;
+use crate::config::MAX_APPLICATION_LEN;
 use crate::datagram::Datagram;
 use crate::error::RtcError;
 use crate::feedback::poll_compound;
@@ -51,7 +52,7 @@ impl<C: SrtpCipher, W: GapWindow, S: ResendStore<Sent>> Session<C, W, S> {
         payload: Bytes,
     ) -> Result<(), RtcError>
         requires whole { length payload % 4 ≡ 0 }
-        requires few { length payload ≤ 800 }
+        requires few { length payload ≤ MAX_APPLICATION_LEN }
         ensures stopped { IsErrOf result Stopped ↔ IsTrue self.old.state.stopped }
         ensures ok { OnOk result (self.new ≡ record self.old {
           state = with_feedback (item.AppSpecificFeedback (record {

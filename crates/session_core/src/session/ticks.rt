@@ -24,7 +24,7 @@ use std::alloc::AllocError;
 use stream_core::{Sent, Tick};
 
 /// The least time between two rounds that ask for what is missing, in nanoseconds.
-const NACK_MIN_INTERVAL: u64 = 33_000_000;
+pub const NACK_MIN_INTERVAL: u64 = 33_000_000;
 
 /// The moment of the last round after a tick, of which it is known whether it is one.
 fn last_round(is_round: bool, now: Instant, before: Instant) -> Instant

@@ -15,7 +15,7 @@ ghost use Rattle.stream_core.specs.RxRecord.{RxRecord, StandsFor};
 use super::StreamRx;
 use media_base::{Bytes, Listed};
 use media_units::{Bitrate, Instant};
-use repair_core::{GapWindow, ReceptionCounts};
+use repair_core::{GapWindow, MAX_ROUND_ENTRIES, ReceptionCounts};
 use report_core::{LastSenderReport, ReportIntervals, StreamStats, receiver_report};
 use rtcp_wire::{ReceiverReport, Rtcp, Sdes, SdesItem, SdesType, SenderInfo};
 use rtp_base::{KeyframeRequestKind, NackEntry, ReceptionReport, ReportList, Ssrc};
@@ -74,7 +74,7 @@ impl<W: GapWindow> StreamRx<W> {
         ensures entries { (r : RxRecord) → StandsFor W.remembers self.old r → result ≡ packed None (due_of now r) }
         ensures asked { (r : RxRecord) → StandsFor W.remembers self.old r → StandsFor W.remembers self.new (after_round now r) }
         ensures state { self.new.state ≡ record self.old.state { reports = self.new.state.reports } }
-        ensures few { length result ≤ 6 }
+        ensures few { length result ≤ MAX_ROUND_ENTRIES }
     {
         let mut reports = ReportList::new();
         if self.nack_enabled() {

@@ -36,7 +36,7 @@ use crate::reports::Tick;
 use crate::ssrc_table::SsrcTable;
 use crate::stream_rx::StreamRx;
 use media_units::{Instant, earlier};
-use repair_core::GapWindow;
+use repair_core::{GapWindow, MAX_ROUND_ENTRIES};
 use report_core::{ReportIntervals, moment_report};
 use resend_core::ResendStore;
 use rtcp_wire::{Nack, Rtcp, Sdes, SenderInfo};
@@ -52,7 +52,7 @@ fn push_nack(
     reports: ReportList<NackEntry>,
     feedback: &mut VecDeque<Rtcp>,
 )
-    requires few { length reports ≤ 6 }
+    requires few { length reports ≤ MAX_ROUND_ENTRIES }
     requires room { deque_len feedback.old < deque_capacity feedback.old }
     ensures items { feedback.new.items ≡ feedback.old.items ++ nack_with sender_ssrc ssrc reports }
     ensures brief { AllByRecursion IsBrief (nack_with sender_ssrc ssrc reports) }

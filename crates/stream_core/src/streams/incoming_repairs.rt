@@ -1,6 +1,6 @@
 //! The repairs that come for the streams of a session (RFC 4588): under which number one may open,
 //! and the packet that it restores.
-ghost use Rattle.std.specs.Prelude.{◌≡◌, ◌<◌, ◌^◌, ◌%◌, ℕ, Some, length, IfOk, IfSome, OnOk, OnErr};
+ghost use Rattle.std.specs.Prelude.{◌≡◌, ◌<◌, ◌%◌, ℕ, Some, length, IfOk, IfSome, OnOk, OnErr};
 ghost use Rattle.std.specs.Map.{keys_of};
 ghost use Rattle.std.specs.Option.{ForSome};
 ghost use Rattle.stream_core.specs.RxRepairs.{repair_came, after_restored};
@@ -13,7 +13,7 @@ use crate::reports::Arrival;
 use media_units::Instant;
 use repair_core::GapWindow;
 use resend_core::ResendStore;
-use rtp_base::SeqNo;
+use rtp_base::{NUMBER_LIMIT, SeqNo};
 use std::alloc::AllocError;
 
 impl<W: GapWindow, S: ResendStore<Sent>> Streams<W, S> {
@@ -21,10 +21,10 @@ impl<W: GapWindow, S: ResendStore<Sent>> Streams<W, S> {
     /// greatest number that was seen on the SSRC of its datagram.
     pub fn accepts_repair(&self, place: usize, low: u16, seen: Option<SeqNo>) -> Option<SeqNo>
         requires place { place < length self.now.rx }
-        requires seen { ForSome seen (λ n. n < 2 ^ 48) }
+        requires seen { ForSome seen (λ n. n < NUMBER_LIMIT) }
         ensures number { (r : StreamsRecord) (ssrc : ℕ) → StandsFor W.remembers S.stands_for self.now r → place_of ssrc self.now.rx ≡ Some place
             → result ≡ accepted_repair seen r.rx ssrc low }
-        ensures small { IfSome result (λ n. n < 2 ^ 48) }
+        ensures small { IfSome result (λ n. n < NUMBER_LIMIT) }
         ensures low { IfSome result (λ n. n % 65536 ≡ low) }
     {
         self.rx.at(place).accepts_repair(low, seen)
@@ -33,10 +33,10 @@ impl<W: GapWindow, S: ResendStore<Sent>> Streams<W, S> {
     /// The own number of a repair of the stream at a place with these low 16 bits, fresh or not.
     pub fn repair_number_at(&self, place: usize, low: u16, seen: Option<SeqNo>) -> SeqNo
         requires place { place < length self.now.rx }
-        requires seen { ForSome seen (λ n. n < 2 ^ 48) }
+        requires seen { ForSome seen (λ n. n < NUMBER_LIMIT) }
         ensures number { (r : StreamsRecord) (ssrc : ℕ) → StandsFor W.remembers S.stands_for self.now r → place_of ssrc self.now.rx ≡ Some place
             → Some result ≡ own_number_on seen r.rx ssrc low }
-        ensures small { result < 2 ^ 48 }
+        ensures small { result < NUMBER_LIMIT }
         ensures low { result % 65536 ≡ low }
     {
         self.rx.at(place).repair_number(low, seen)
@@ -46,10 +46,10 @@ impl<W: GapWindow, S: ResendStore<Sent>> Streams<W, S> {
     /// begin the payload of the repair, fresh or not.
     pub fn restored_number_at(&self, place: usize, low: u16, remembered: &Option<SeqNo>) -> SeqNo
         requires place { place < length self.now.rx }
-        requires remembered { ForSome remembered.now (λ n. n < 2 ^ 48) }
+        requires remembered { ForSome remembered.now (λ n. n < NUMBER_LIMIT) }
         ensures number { (r : StreamsRecord) (ssrc : ℕ) → StandsFor W.remembers S.stands_for self.now r → place_of ssrc self.now.rx ≡ Some place
             → Some result ≡ restored_number_on remembered.now r.rx ssrc low }
-        ensures small { result < 2 ^ 48 }
+        ensures small { result < NUMBER_LIMIT }
     {
         self.rx.at(place).restored_number(low, remembered)
     }
@@ -58,8 +58,8 @@ impl<W: GapWindow, S: ResendStore<Sent>> Streams<W, S> {
     #[tactic(auto, using(crate::proofs::Alongside::set_same))]
     pub fn take_repair_at(&mut self, place: usize, now: Instant, number: SeqNo, seen: Option<SeqNo>)
         requires place { place < length self.old.rx }
-        requires number { number < 2 ^ 48 }
-        requires seen { ForSome seen (λ n. n < 2 ^ 48) }
+        requires number { number < NUMBER_LIMIT }
+        requires seen { ForSome seen (λ n. n < NUMBER_LIMIT) }
         ensures taken { (r : StreamsRecord) (ssrc : ℕ) → StandsFor W.remembers S.stands_for self.old r → place_of ssrc self.old.rx ≡ Some place
             → StandsFor W.remembers S.stands_for self.new (record r { rx = change_at ssrc (repair_came seen now number) r.rx }) }
         ensures places { keys_of self.new.rx ≡ keys_of self.old.rx }
@@ -86,12 +86,12 @@ impl<W: GapWindow, S: ResendStore<Sent>> Streams<W, S> {
         remembered: Option<SeqNo>,
     ) -> Result<Option<SeqNo>, AllocError>
         requires place { place < length self.old.rx }
-        requires remembered { ForSome remembered (λ n. n < 2 ^ 48) }
+        requires remembered { ForSome remembered (λ n. n < NUMBER_LIMIT) }
         ensures restored { IfOk result (λ o. (r : StreamsRecord) (ssrc : ℕ) → StandsFor W.remembers S.stands_for self.old r → place_of ssrc self.old.rx ≡ Some place
             → o ≡ restored_on remembered r.rx ssrc low) }
         ensures after { OnOk result ((r : StreamsRecord) (ssrc : ℕ) → StandsFor W.remembers S.stands_for self.old r → place_of ssrc self.old.rx ≡ Some place
             → StandsFor W.remembers S.stands_for self.new (record r { rx = change_at ssrc (after_restored remembered arrival.entry.now low) r.rx })) }
-        ensures small { IfOk result (λ o. IfSome o (λ n. n < 2 ^ 48)) }
+        ensures small { IfOk result (λ o. IfSome o (λ n. n < NUMBER_LIMIT)) }
         ensures low { IfOk result (λ o. IfSome o (λ n. n % 65536 ≡ low)) }
         ensures places { keys_of self.new.rx ≡ keys_of self.old.rx }
         ensures tx { self.new.tx ≡ self.old.tx }

@@ -1,5 +1,5 @@
 //! Streams that begin anew under another SSRC.
-ghost use Rattle.std.specs.Prelude.{◌≡◌, ◌<◌, ◌≤◌, ◌^◌, ℕ, List, None, Some, length, IfOk, OnOk, OnErr};
+ghost use Rattle.std.specs.Prelude.{◌≡◌, ◌<◌, ◌≤◌, ℕ, List, None, Some, length, IfOk, OnOk, OnErr};
 ghost use Rattle.std.specs.Option.{ForSome};
 ghost use Rattle.stream_core.specs.Repairing.{RepairsRecord, RepairsStandFor};
 ghost use Rattle.stream_core.specs.StreamsRecord.{StreamsRecord, StandsFor, anew_from, has_cap, with_reset_tx};
@@ -10,7 +10,7 @@ use crate::repairing::Sent;
 use crate::ssrc_table::SsrcTable;
 use repair_core::GapWindow;
 use resend_core::ResendStore;
-use rtp_base::{SeqNo, Ssrc};
+use rtp_base::{NUMBER_LIMIT, SeqNo, Ssrc};
 use rtx_core::ResendQueue;
 use std::alloc::{AllocError, Global};
 
@@ -22,7 +22,7 @@ fn repairs_from<S: ResendStore<Sent>>(
     ssrc: Ssrc,
     first: SeqNo,
 ) -> Result<ResendQueue<Sent, S>, AllocError>
-    requires { first ≤ 2 ^ 48 }
+    requires { first ≤ NUMBER_LIMIT }
     ensures { IfOk result (λ q. (rs : List (ℕ × RepairsRecord)) → Along (RepairsStandFor S.stands_for) repairs.now rs → RepairsStandFor S.stands_for q (anew_from first (value_under ssrc rs))) }
 {
     match repairs.place(ssrc) {
@@ -87,7 +87,7 @@ impl<W: GapWindow, S: ResendStore<Sent>> Streams<W, S> {
         requires here { place_of ssrc self.old.tx ≡ Some place }
         requires within { place < length self.old.tx }
         requires unused { place_of new_ssrc self.old.tx ≡ None }
-        requires first { ForSome rtx (λ x. x.1 ≤ 2 ^ 48) }
+        requires first { ForSome rtx (λ x. x.1 ≤ NUMBER_LIMIT) }
         ensures ok { OnOk result ((r : StreamsRecord) → StandsFor W.remembers S.stands_for self.old r
             → StandsFor W.remembers S.stands_for self.new (with_reset_tx ssrc new_ssrc rtx r)) }
         ensures rx { self.new.rx ≡ self.old.rx }
@@ -134,7 +134,7 @@ impl<W: GapWindow, S: ResendStore<Sent>> Streams<W, S> {
         rtx: Option<(Ssrc, SeqNo)>,
     ) -> Result<(), AllocError>
         requires unused { place_of new_ssrc self.old.tx ≡ None }
-        requires first { ForSome rtx (λ x. x.1 ≤ 2 ^ 48) }
+        requires first { ForSome rtx (λ x. x.1 ≤ NUMBER_LIMIT) }
         ensures ok { OnOk result ((r : StreamsRecord) → StandsFor W.remembers S.stands_for self.old r
             → StandsFor W.remembers S.stands_for self.new (with_reset_tx ssrc new_ssrc rtx r)) }
         ensures rx { self.new.rx ≡ self.old.rx }
