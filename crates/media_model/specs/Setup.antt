@@ -22,6 +22,8 @@ use Rattle.media_model.specs.declared.setup.NamedStart.{NamedStart}
 use Rattle.media_model.specs.declared.setup.ReportTimes.{ReportTimes}
 use Rattle.media_model.specs.declared.setup.Setup.{Setup}
 use Rattle.media_model.specs.Sides.{same_side}
+use Rattle.media_model.specs.declared.setup.TheConstants.{DEFAULT_CACHE_PACKETS, DEFAULT_CACHE_NANOS, DEFAULT_CACHE_CAP, DEFAULT_MTU_TARGET, DEFAULT_MTU_WARN, DEFAULT_AUDIO_NANOS, DEFAULT_VIDEO_NANOS}
+use Rattle.rtp_wire.specs.declared.extension.TheConstants.{MAX_ID_ONE_BYTE_FORM}
 
 abbrev pub key_bytes : SrtpProfile → Key → List ℕ
 key_bytes profile Zero = replicate (material_len profile) 0
@@ -72,15 +74,15 @@ start_of ssrc setup = option_map_or (λ (s : NamedStart). s.number) (find (start
 
 -- 2,000 packets, each for 3 s, and 15 hundredths
 abbrev pub default_cache : Cache
-default_cache = record { packets = 2000; age = 3000000000; cap = Some 15 }
+default_cache = record { packets = DEFAULT_CACHE_PACKETS; age = DEFAULT_CACHE_NANOS; cap = Some DEFAULT_CACHE_CAP }
 
 -- 1,150 bytes of RTCP, and 1,280 at all
 abbrev pub default_mtu : Mtu
-default_mtu = record { target = 1150; warn = 1280 }
+default_mtu = record { target = DEFAULT_MTU_TARGET; warn = DEFAULT_MTU_WARN }
 
 -- 5 s for sound, and 1 s for pictures
 abbrev pub default_intervals : ReportTimes
-default_intervals = record { audio = 5000000000; video = 1000000000 }
+default_intervals = record { audio = DEFAULT_AUDIO_NANOS; video = DEFAULT_VIDEO_NANOS }
 
 abbrev pub keeps_on : ℕ → NamedCache → Bool
 keeps_on ssrc named = named.ssrc == ssrc
@@ -91,7 +93,7 @@ cache_of ssrc setup = option_map_or (λ (n : NamedCache). n.cache) (find (keeps_
 
 -- the ids that may name an extension
 abbrev pub is_extension_id : ℕ → Bool
-is_extension_id id = nat_le 1 id && nat_le id 14
+is_extension_id id = nat_le 1 id && nat_le id MAX_ID_ONE_BYTE_FORM
 
 -- a map after a line: an id that may not name an extension names none
 abbrev pub with_named : ExtensionMap → NamedExtension → ExtensionMap

@@ -4,8 +4,8 @@ ghost use Rattle.media_model.specs.Application.{data_of};
 use media_base::Bytes;
 use std::marker::Model;
 
-/// The most bytes of what an application sends as feedback in a run.
-const MOST_BYTES: usize = 800;
+/// The most bytes of what an application sends as feedback in a run: a choice.
+pub const MOST_BYTES: usize = 800;
 
 /// What an application sends as feedback (RFC 4585 section 6.4): whole words of 4 bytes, at most
 /// 800 bytes. Contracts see the list of the bytes.
@@ -43,7 +43,7 @@ impl ApplicationData {
     pub fn as_slice(&self) -> &[u8]
         ensures bytes { result.now ≡ self.now }
         ensures whole { length self.now % 4 ≡ 0 }
-        ensures few { length self.now ≤ 800 }
+        ensures few { length self.now ≤ MOST_BYTES }
     {
         self.bytes.as_slice()
     }

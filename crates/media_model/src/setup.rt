@@ -8,9 +8,35 @@ use crate::first_number::FirstNumber;
 use crate::srtcp_index::SrtcpIndex;
 use media_base::{Bytes, Listed};
 use media_units::{Beginning, Duration};
-use rtp_wire::{Extension, ExtensionMap, Mid, Pt, Rid, Ssrc};
+use rtp_wire::{Extension, ExtensionMap, MAX_ID_ONE_BYTE_FORM, Mid, Pt, Rid, Ssrc};
 use srtp_core::SrtpProfile;
 use std::alloc::{AllocError, Global};
+
+/// How many packets a stream keeps of which nothing is said.
+pub const DEFAULT_CACHE_PACKETS: u64 = 2_000;
+
+/// For how long a stream keeps a packet of which nothing is said, in nanoseconds: 3 s.
+pub const DEFAULT_CACHE_NANOS: u64 = 3_000_000_000;
+
+/// How many hundredths of the payload bytes sent may be those of repairs where nothing is said.
+pub const DEFAULT_CACHE_CAP: u32 = 15;
+
+/// The most bytes of a datagram of RTCP where a script says nothing of it.
+pub const DEFAULT_MTU_TARGET: u64 = 1_150;
+
+/// Above how many bytes a datagram is longer than wanted where a script says nothing of it.
+pub const DEFAULT_MTU_WARN: u64 = 1_280;
+
+/// After how long the next report of a stream of sound is due where a script says nothing of it, in
+/// nanoseconds: 5 s.
+pub const DEFAULT_AUDIO_NANOS: u64 = 5_000_000_000;
+
+/// After how long the next report of a stream of pictures is due where a script says nothing of it,
+/// in nanoseconds: 1 s.
+pub const DEFAULT_VIDEO_NANOS: u64 = 1_000_000_000;
+
+/// The threshold of pauses where a script says nothing of it, in nanoseconds: 1.5 s.
+pub const DEFAULT_PAUSE_THRESHOLD_NANOS: u64 = 1_500_000_000;
 
 /// The cipher that both sides use.
 #[derive(Clone, Copy, Debug, PartialEq, Eq)]
@@ -129,9 +155,9 @@ impl Default for Cache {
 
     fn default() -> Self {
         Cache {
-            packets: 2_000,
-            age: Duration::from_nanos(3_000_000_000),
-            cap: Some(15),
+            packets: DEFAULT_CACHE_PACKETS,
+            age: Duration::from_nanos(DEFAULT_CACHE_NANOS),
+            cap: Some(DEFAULT_CACHE_CAP),
         }
     }
 }
@@ -154,14 +180,6 @@ pub struct ReportTimes {
     pub video: Duration,
 }
 
-impl ReportTimes {
-    /// That of sound where a script says nothing of it, in nanoseconds: 5 s.
-    pub const DEFAULT_AUDIO_NANOS: u64 = 5_000_000_000;
-
-    /// That of pictures where a script says nothing of it, in nanoseconds: 1 s.
-    pub const DEFAULT_VIDEO_NANOS: u64 = 1_000_000_000;
-}
-
 /// Those where a script says nothing of them: 5 s for sound, and 1 s for pictures.
 impl Default for ReportTimes {
     ghost use Rattle.media_model.specs.Setup.{default_intervals};
@@ -170,8 +188,8 @@ impl Default for ReportTimes {
 
     fn default() -> Self {
         ReportTimes {
-            audio: Duration::from_nanos(Self::DEFAULT_AUDIO_NANOS),
-            video: Duration::from_nanos(Self::DEFAULT_VIDEO_NANOS),
+            audio: Duration::from_nanos(DEFAULT_AUDIO_NANOS),
+            video: Duration::from_nanos(DEFAULT_VIDEO_NANOS),
         }
     }
 }
@@ -202,8 +220,8 @@ impl Default for Mtu {
 
     fn default() -> Self {
         Mtu {
-            target: 1_150,
-            warn: 1_280,
+            target: DEFAULT_MTU_TARGET,
+            warn: DEFAULT_MTU_WARN,
         }
     }
 }
@@ -256,7 +274,7 @@ pub struct Setup {
 
 impl Setup {
     /// The threshold of pauses where a script says nothing of it, in nanoseconds: 1.5 s.
-    pub const DEFAULT_PAUSE_NANOS: u64 = 1_500_000_000;
+    pub const DEFAULT_PAUSE_NANOS: u64 = DEFAULT_PAUSE_THRESHOLD_NANOS;
 
     /// The keying material, which may have another length than the profile asks for.
     pub fn material(&self, alloc: Global) -> Result<Vec<u8>, AllocError>
@@ -376,7 +394,7 @@ fn cache_in(caches: &[NamedCache], ssrc: Ssrc) -> Option<&NamedCache>
 fn is_extension_id(id: u8) -> bool
     ensures { result ≡ is_extension_id id }
 {
-    id >= 1 && id <= 14
+    id >= 1 && id <= MAX_ID_ONE_BYTE_FORM
 }
 
 // Adds the main SSRCs of the streams that a side sends.

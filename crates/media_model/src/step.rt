@@ -5,7 +5,7 @@ use media_units::{Bitrate, Instant};
 use rtp_base::KeyframeRequestKind;
 use rtp_wire::{Kind, Ssrc};
 
-/// The greatest time of a step, in nanoseconds: some 115 days.
+/// The greatest time of a step, in nanoseconds: some 115 days, a choice.
 pub const LAST_TIME: u64 = 10_000_000_000_000_000;
 
 /// What a script has one side do.

@@ -1,5 +1,5 @@
 -- The rules of a setup, and the first one that it breaks.
-use Rattle.std.specs.Prelude.{ℕ, Bool, true, false, not, ◌||◌, ◌&&◌, ◌==◌, ◌^◌, nat_lt, nat_le, List, [], ◌∷◌, ◌++◌, length, option_to_list, Option, Some, None, if◌then◌else◌}
+use Rattle.std.specs.Prelude.{ℕ, Bool, true, false, not, ◌||◌, ◌&&◌, ◌==◌, nat_lt, nat_le, List, [], ◌∷◌, ◌++◌, length, option_to_list, Option, Some, None, if◌then◌else◌}
 use Rattle.std.specs.List.{flat_map, list_any}
 use Rattle.std.specs.Str.{bytes_eq}
 use Rattle.rtp_wire.specs.Extensions.{extension_number}
@@ -13,6 +13,8 @@ use Rattle.media_model.specs.declared.setup.Setup.{Setup}
 use Rattle.srtp_core.specs.Keys.{material_len}
 use Rattle.media_model.specs.Setup.{material_of, claimed_of, is_extension_id}
 use Rattle.media_model.specs.Sides.{same_side}
+use Rattle.media_model.specs.declared.step.TheConstants.{LAST_TIME}
+use Rattle.setup_rules.specs.declared.rules.TheConstants.{MAX_PT, LEAST_TARGET, GREATEST_WARN, MAX_UNIX_SECS, MOST_PACKETS}
 use Rattle.setup_rules.specs.declared.fault.SetupFault.{SetupFault}
 use Rattle.setup_rules.specs.declared.fault.SetupFault.TheVariants.{KeyLength, Mtu as MtuRule, Times, ExtId, TypeTwice, SsrcZero, SsrcTwice, RidTwice, CacheSize}
 
@@ -56,21 +58,21 @@ all_ssrcs setup = setup.a.ssrc ∷ setup.b.ssrc ∷ stream_ssrcs setup
 
 -- 900 to 1,500 bytes, and the target is not the greater one
 abbrev pub is_mtu : Mtu → Bool
-is_mtu mtu = nat_le 900 mtu.target && nat_le mtu.target mtu.warn && nat_le mtu.warn 1500
+is_mtu mtu = nat_le LEAST_TARGET mtu.target && nat_le mtu.target mtu.warn && nat_le mtu.warn GREATEST_WARN
 
 -- an interval of reports, in nanoseconds, is too great
 abbrev pub are_long : ReportTimes → Bool
-are_long intervals = nat_lt (10 ^ 16) intervals.audio || nat_lt (10 ^ 16) intervals.video
+are_long intervals = nat_lt LAST_TIME intervals.audio || nat_lt LAST_TIME intervals.video
 
 -- the age of a cache, in nanoseconds, is too great
 abbrev pub is_old : NamedCache → Bool
-is_old named = nat_lt (10 ^ 16) named.cache.age
+is_old named = nat_lt LAST_TIME named.cache.age
 
 -- the Unix time of the moment 0 in seconds, or an interval of reports, the threshold of pauses or the age of a cache in
 -- nanoseconds, is too great
 abbrev pub is_beyond : Setup → Bool
 is_beyond setup =
-    nat_lt 2075000000 setup.beginning.unix_secs || are_long setup.intervals || nat_lt (10 ^ 16) setup.pause_threshold
+    nat_lt MAX_UNIX_SECS setup.beginning.unix_secs || are_long setup.intervals || nat_lt LAST_TIME setup.pause_threshold
     || list_any is_old setup.caches
 
 abbrev pub any_mid_again : List Media → Bool
@@ -92,7 +94,7 @@ any_rid_again (s ∷ ss) = list_any (meets s) ss || any_rid_again ss
 
 -- 1 to 32,000 packets
 abbrev pub has_size : NamedCache → Bool
-has_size named = nat_le 1 named.cache.packets && nat_le named.cache.packets 32000
+has_size named = nat_le 1 named.cache.packets && nat_le named.cache.packets MOST_PACKETS
 
 abbrev pub any_size_wrong : List NamedCache → Bool
 any_size_wrong caches = list_any (λ (n : NamedCache). not (has_size n)) caches
@@ -110,7 +112,7 @@ setup_rules setup =
     ∷ (not (is_mtu setup.mtu), MtuRule)
     ∷ (is_beyond setup, Times)
     ∷ (any_ext_wrong setup.exts, ExtId)
-    ∷ (list_any (nat_lt 127) (claimed_of setup) || repeats (claimed_of setup), TypeTwice)
+    ∷ (list_any (nat_lt MAX_PT) (claimed_of setup) || repeats (claimed_of setup), TypeTwice)
     ∷ (has (all_ssrcs setup) 0, SsrcZero)
     ∷ (repeats (all_ssrcs setup), SsrcTwice)
     ∷ media_rules setup

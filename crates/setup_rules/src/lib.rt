@@ -2,7 +2,9 @@
 #![tactic(auto)]
 
 mod fault;
+mod numbers;
 mod rules;
 
 pub use fault::SetupFault;
-pub use rules::check_setup;
+pub use numbers::named_numbers;
+pub use rules::{GREATEST_WARN, LEAST_TARGET, MAX_PT, MAX_UNIX_SECS, MOST_PACKETS, check_setup};

@@ -8,23 +8,24 @@ ghost use Rattle.setup_rules.specs.SetupRules.{repeats, clash, any_ext_wrong, bo
 
 use crate::fault::SetupFault;
 use media_model::{LAST_TIME, Media, Mtu, NamedCache, NamedExtension, ReportTimes, Setup, Stream};
-use rtp_wire::{Mid, Pt, Rid};
+use rtp_wire::{MAX_ID_ONE_BYTE_FORM, Mid, Pt, Rid};
 use std::alloc::{AllocError, Global};
 
-/// The greatest payload type.
-const MAX_PT: u8 = 127;
+/// The greatest payload type, of 7 bits (RFC 3550 section 5.1).
+pub const MAX_PT: u8 = 127;
 
-/// The least target for the length of a datagram, in bytes.
-const LEAST_TARGET: u64 = 900;
+/// The least target for the length of a datagram, in bytes: a choice.
+pub const LEAST_TARGET: u64 = 900;
 
-/// The greatest length of a datagram to warn of, in bytes.
-const GREATEST_WARN: u64 = 1_500;
+/// The greatest length of a datagram to warn of, in bytes: a choice.
+pub const GREATEST_WARN: u64 = 1_500;
 
-/// The greatest Unix time of the moment 0, in seconds: the NTP seconds of every step fit 32 bits.
-const MAX_UNIX_SECS: u64 = 2_075_000_000;
+/// The greatest Unix time of the moment 0, in seconds: a choice, with which the NTP seconds of
+/// every step fit 32 bits.
+pub const MAX_UNIX_SECS: u64 = 2_075_000_000;
 
-/// The most packets of a cache.
-const MOST_PACKETS: u64 = 32_000;
+/// The most packets of a cache: a choice.
+pub const MOST_PACKETS: u64 = 32_000;
 
 fn has_number(numbers: &[u32], number: u32) -> bool
     ensures { result ≡ has numbers.now number }
@@ -61,7 +62,7 @@ fn any_type_again(types: &[Pt]) -> bool
 }
 
 fn any_type_above(types: &[Pt]) -> bool
-    ensures { result ≡ list_any (nat_lt 127) types.now }
+    ensures { result ≡ list_any (nat_lt MAX_PT) types.now }
 {
     types.iter().any(|pt| u8::from(*pt) > MAX_PT)
 }
@@ -76,7 +77,7 @@ fn any_ext_wrong(exts: &[NamedExtension]) -> bool
     ensures { result ≡ any_ext_wrong exts.now }
 {
     for (i, named) in exts.iter().enumerate() {
-        let has_id = named.id >= 1 && named.id <= 14;
+        let has_id = named.id >= 1 && named.id <= MAX_ID_ONE_BYTE_FORM;
         if !has_id || clashes(&exts[i + 1..], named) {
             return true;
         }

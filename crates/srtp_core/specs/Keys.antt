@@ -7,6 +7,7 @@ use Rattle.srtp_core.specs.Streams.{blocks_at}
 use Rattle.srtp_core.specs.declared.aes_128_cm_sha1_80.TheConstants as cm
 use Rattle.srtp_core.specs.declared.aead_aes_128_gcm.TheConstants as gcm_128
 use Rattle.srtp_core.specs.declared.aead_aes_256_gcm.TheConstants as gcm_256
+use Rattle.srtp_core.specs.declared.keying.TheConstants.{LABEL_RTP_AES, LABEL_RTP_AUTHENTICATION_KEY, LABEL_RTP_SALT, LABEL_RTCP_AES, LABEL_RTCP_AUTHENTICATION_KEY, LABEL_RTCP_SALT}
 use Rattle.srtp_core.specs.declared.profile.SrtpProfile.{SrtpProfile}
 use Rattle.srtp_core.specs.declared.profile.SrtpProfile.TheVariants.{Aes128CmSha1_80, AeadAes128Gcm, AeadAes256Gcm}
 
@@ -41,9 +42,9 @@ master_key k material left = take k (drop (if left then 0 else k) material)
 abbrev pub master_salt : ℕ → ℕ → List ℕ → Bool → List ℕ
 master_salt k s material left = take s (drop (2 * k + (if left then 0 else s)) material)
 
--- the salt with zeros at its end, 14 bytes long
+-- the salt with zeros at its end, as long as that of counter mode
 abbrev pub padded : List ℕ → List ℕ
-padded salt = salt ++ replicate (14 - length salt) 0
+padded salt = salt ++ replicate (cm.SALT_LEN - length salt) 0
 
 -- what is enciphered in a round: the padded salt, its byte 7 XORed with the label, and the number of the round
 unfoldable pub derivation_input : List ℕ → ℕ → ℕ → List ℕ
@@ -65,12 +66,12 @@ pub record SessionKeys : Type 0 where
 -- from a master key and its salt, with the labels 0 to 5
 abbrev pub keys_of : CipherMeaning → SrtpProfile → List ℕ → List ℕ → SessionKeys
 keys_of cipher profile key salt = record {
-  rtp_key = derived (cipher.block key) salt 0 (key_len profile);
-  rtp_authentication = derived (cipher.block key) salt 1 (authentication_len profile);
-  rtp_salt = derived (cipher.block key) salt 2 (salt_len profile);
-  rtcp_key = derived (cipher.block key) salt 3 (key_len profile);
-  rtcp_authentication = derived (cipher.block key) salt 4 (authentication_len profile);
-  rtcp_salt = derived (cipher.block key) salt 5 (salt_len profile);
+  rtp_key = derived (cipher.block key) salt LABEL_RTP_AES (key_len profile);
+  rtp_authentication = derived (cipher.block key) salt LABEL_RTP_AUTHENTICATION_KEY (authentication_len profile);
+  rtp_salt = derived (cipher.block key) salt LABEL_RTP_SALT (salt_len profile);
+  rtcp_key = derived (cipher.block key) salt LABEL_RTCP_AES (key_len profile);
+  rtcp_authentication = derived (cipher.block key) salt LABEL_RTCP_AUTHENTICATION_KEY (authentication_len profile);
+  rtcp_salt = derived (cipher.block key) salt LABEL_RTCP_SALT (salt_len profile);
 }
 
 -- the keys under which the left side, or the right side, seals

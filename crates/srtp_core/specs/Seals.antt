@@ -6,6 +6,8 @@ use Rattle.media_base.specs.Text.{xored}
 use Rattle.srtp_core.specs.Streams.{streamed}
 use Rattle.srtp_core.specs.Hmac.{hmac_of}
 use Rattle.srtp_core.specs.Keys.{SessionKeys}
+use Rattle.srtp_core.specs.declared.aes_128_cm_sha1_80.TheConstants.{HMAC_TAG_LEN}
+use Rattle.srtp_core.specs.declared.context.TheConstants.{MAX_DATAGRAM_LEN}
 use Rattle.srtp_core.specs.declared.profile.SrtpProfile.{SrtpProfile}
 use Rattle.srtp_core.specs.declared.profile.SrtpProfile.TheVariants.{Aes128CmSha1_80, AeadAes128Gcm, AeadAes256Gcm}
 
@@ -41,7 +43,7 @@ rtcp_iv AeadAes256Gcm salt ssrc index = gcm_rtcp_iv salt ssrc index
 
 -- RFC 3711, 4.2: the first 10 bytes of the code over a text and the rollover count
 abbrev pub cm_rtp_tag : List ℕ → ℕ → List ℕ → List ℕ
-cm_rtp_tag key index text = take 10 (hmac_of key (text ++ to_be_bytes w32 (index / 65536)))
+cm_rtp_tag key index text = take HMAC_TAG_LEN (hmac_of key (text ++ to_be_bytes w32 (index / 65536)))
 
 -- RFC 3711, 3.1: the header, the payload XOR the key stream, the tag of both
 abbrev pub cm_sealed_rtp : CipherMeaning → List ℕ → List ℕ → List ℕ → ℕ → ℕ → List ℕ → List ℕ → List ℕ
@@ -66,6 +68,6 @@ sealed_rtp cipher profile keys ssrc index n plain = rtp_seal cipher profile keys
 
 -- a datagram of at most 2,000 bytes whose header is its first n is the seal of that header and this payload
 pub record OpensTo (cipher : CipherMeaning) (profile : SrtpProfile) (keys : SessionKeys) (ssrc index n : ℕ) (bytes payload : List ℕ) : Type 0 where
-  pub within : length bytes ≤ 2000
+  pub within : length bytes ≤ MAX_DATAGRAM_LEN
   pub header : n ≤ length bytes
   pub seal : sealed_rtp cipher profile keys ssrc index n (take n bytes ++ payload) ≡ bytes

@@ -7,6 +7,7 @@ use Rattle.std.proofs.lemmas.List.FromFn.{fill_by_all, length-map-range_with_len
 use Rattle.media_base.specs.Text.{bytes_by}
 use Rattle.srtp_core.specs.Streams.{streamed}
 use Rattle.srtp_core.specs.Simulated.{nonce_stream, sealed_text}
+use Rattle.srtp_core.specs.declared.aead_aes_128_gcm.TheConstants.{TAG_LEN}
 
 -- n bytes of which byte k is f k
 pub made : (f : ℕ → ℕ) (xs : List ℕ) (n : ℕ) → length xs ≡ n → ((k : ℕ) → k < n → get_or xs k 0 ≡ f k) → xs ≡ bytes_by f n
@@ -50,10 +51,10 @@ tagged_apart stream p q s t h e =
     ∙ ap (streamed stream) (sym (take-tagged stream p s (length p) refl) ∙ ap (take (length p)) e ∙ take-tagged stream q t (length p) long)
     ∙ streamed-streamed stream q
 
-module _ (block : List ℕ → List ℕ → List ℕ) (tag : List ℕ → List ℕ → List ℕ → List ℕ → List ℕ) (tag_len : (key iv aad text : List ℕ) → length (tag key iv aad text) ≡ 16) where
-  pub length-sealed_text : (key iv aad text : List ℕ) → length (sealed_text block tag key iv aad text) ≡ length text + 16
+module _ (block : List ℕ → List ℕ → List ℕ) (tag : List ℕ → List ℕ → List ℕ → List ℕ → List ℕ) (tag_len : (key iv aad text : List ℕ) → length (tag key iv aad text) ≡ TAG_LEN) where
+  pub length-sealed_text : (key iv aad text : List ℕ) → length (sealed_text block tag key iv aad text) ≡ length text + TAG_LEN
   unfolding sealed_text
-  length-sealed_text key iv aad text = length-tagged (nonce_stream block key iv) text (tag key iv aad text) 16 (tag_len key iv aad text)
+  length-sealed_text key iv aad text = length-tagged (nonce_stream block key iv) text (tag key iv aad text) TAG_LEN (tag_len key iv aad text)
 
   pub sealed_text_apart : (key iv aad p q : List ℕ) → sealed_text block tag key iv aad p ≡ sealed_text block tag key iv aad q → p ≡ q
   unfolding sealed_text

@@ -2,6 +2,7 @@
 use Rattle.std.specs.Prelude.{ℕ, ◌+◌, ◌/◌, ◌%◌, ◌^◌, List, ◌++◌, length, slice_index, bit_xor}
 use Rattle.std.specs.Int.{w32, w128, to_be_bytes, from_be_bytes}
 use Rattle.media_base.specs.Text.{bytes_by}
+use Rattle.srtp_core.specs.declared.TheConstants.{SRTP_BLOCK_SIZE}
 use Rattle.srtp_core.specs.declared.key_stream.Counter.{Counter}
 use Rattle.srtp_core.specs.declared.key_stream.Counter.TheVariants.{Number, Word}
 
@@ -11,7 +12,7 @@ streamed stream text = bytes_by (λ i. bit_xor (slice_index text i) (stream i)) 
 
 -- blocks of 16 bytes, one after another: byte i is byte i % 16 of block i / 16
 abbrev pub blocks_at : (ℕ → List ℕ) → ℕ → ℕ
-blocks_at block i = slice_index (block (i / 16)) (i % 16)
+blocks_at block i = slice_index (block (i / SRTP_BLOCK_SIZE)) (i % SRTP_BLOCK_SIZE)
 
 -- counter mode (RFC 3711, 4.1.1): what is enciphered for block n is the initial value, as a number, plus n modulo 2^128
 abbrev pub counter_mode : (List ℕ → List ℕ) → List ℕ → ℕ → ℕ

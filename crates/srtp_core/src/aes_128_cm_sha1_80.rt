@@ -1,6 +1,6 @@
 //! AES-128 in counter mode with a tag of 80 bits (RFC 3711 sections 4.1.1 and 4.2.1).
 
-ghost use Rattle.std.specs.Prelude.{◌≡◌, ℕ, ◌+◌, ◌^◌, ◌<◌, ◌≤◌, ◌↔◌, ◌++◌, length, take, drop, replicate, IsTrue};
+ghost use Rattle.std.specs.Prelude.{◌≡◌, ℕ, ◌+◌, ◌<◌, ◌≤◌, ◌↔◌, ◌++◌, length, take, drop, replicate, IsTrue};
 ghost use Rattle.srtp_core.specs.Seals.{cm_source, cm_index, cm_iv, cm_rtp_tag};
 ghost use Rattle.srtp_core.specs.Hmac.{hmac_of};
 ghost use Rattle.media_base.specs.Text.{xored};
@@ -9,6 +9,8 @@ use crate::SRTP_BLOCK_SIZE;
 use crate::gcm::xor_into;
 use crate::hmac::sha1_hmac;
 use crate::keying::SrtpKey;
+use crate::srtcp::WORD_LEN;
+use rtp_base::NUMBER_LIMIT;
 
 /// The length of a key, in bytes.
 pub const KEY_LEN: usize = 16;
@@ -18,6 +20,9 @@ pub const SALT_LEN: usize = 14;
 pub const HMAC_KEY_LEN: usize = 20;
 /// The length of a tag, in bytes.
 pub const HMAC_TAG_LEN: usize = 10;
+/// How far before the end of an SRTCP datagram its word stands, in bytes: the tag stands behind it
+/// (RFC 3711 section 3.4).
+pub const RTCP_WORD_PLACE: usize = WORD_LEN + HMAC_TAG_LEN;
 
 /// A key for counter mode.
 pub type AesKey = [u8; KEY_LEN];
@@ -85,7 +90,7 @@ fn tag_of(key: &[u8], part1: &[u8], part2: &[u8]) -> [u8; HMAC_TAG_LEN]
 
 /// The tag of an RTP datagram, over its text and the rollover count.
 pub(crate) fn rtp_tag(key: &[u8], text: &[u8], srtp_index: u64) -> [u8; HMAC_TAG_LEN]
-    requires { srtp_index < 2 ^ 48 }
+    requires { srtp_index < NUMBER_LIMIT }
     ensures { result ≡ cm_rtp_tag key.now srtp_index text.now }
 {
     let roc = (srtp_index / 65536) as u32;
@@ -102,7 +107,7 @@ pub(crate) fn rtcp_tag(key: &[u8], text: &[u8]) -> [u8; HMAC_TAG_LEN]
 /// Writes the tag of the RTP datagram whose text stands before `hmac_start`, from there on.
 pub fn rtp_hmac(key: &[u8], buf: &mut [u8], srtp_index: u64, hmac_start: usize)
     requires room { hmac_start + HMAC_TAG_LEN ≤ length buf.old }
-    requires index { srtp_index < 2 ^ 48 }
+    requires index { srtp_index < NUMBER_LIMIT }
     ensures { buf.new ≡ take hmac_start buf.old ++ cm_rtp_tag key.now srtp_index (take hmac_start buf.old) ++ drop (hmac_start + HMAC_TAG_LEN) buf.old }
 {
     let (text, behind) = buf.split_at_mut(hmac_start);
@@ -112,7 +117,7 @@ pub fn rtp_hmac(key: &[u8], buf: &mut [u8], srtp_index: u64, hmac_start: usize)
 
 /// Whether this is the tag of the RTP datagram whose text `buf` is.
 pub fn rtp_verify(key: &[u8], buf: &[u8], srtp_index: u64, tag: &[u8]) -> bool
-    requires { srtp_index < 2 ^ 48 }
+    requires { srtp_index < NUMBER_LIMIT }
     ensures { IsTrue result ↔ (tag.now ≡ cm_rtp_tag key.now srtp_index buf.now) }
 {
     tag == rtp_tag(key, buf, srtp_index).as_slice()

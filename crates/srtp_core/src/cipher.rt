@@ -1,6 +1,7 @@
 ghost use Rattle.std.specs.Prelude.{◌≡◌, ℕ, ◌+◌, List, ◌++◌, length, IsTrue};
 ghost use Rattle.srtp_core.specs.Cipher.{CipherMeaning};
 ghost use Rattle.srtp_core.specs.Streams.{streamed, counter_mode};
+ghost use Rattle.srtp_core.specs.declared.aead_aes_128_gcm.TheConstants.{TAG_LEN};
 
 /// What SRTP needs of a cipher: its blocks and its counter mode (RFC 3711 section 4.1.1), and its
 /// authenticated encryption with a tag of 16 bytes and a nonce of 12 (RFC 7714 section 2), for
@@ -54,7 +55,7 @@ pub trait SrtpCipher: Copy {
         input: &[u8],
         output: &mut [u8],
     )
-        requires { length output.old ≡ length input.now + 16 }
+        requires { length output.old ≡ length input.now + TAG_LEN }
         ensures { output.new ≡ meaning.aead (bytes_128 key.now) iv.now (aad1.now ++ aad2.now) input.now };
 
     /// Opens the input, and tells whether it is a sealed text. After `false` what stands in
@@ -68,7 +69,7 @@ pub trait SrtpCipher: Copy {
         input: &[u8],
         output: &mut [u8],
     ) -> bool
-        requires { length input.now ≡ length output.old + 16 }
+        requires { length input.now ≡ length output.old + TAG_LEN }
         ensures opens { IsTrue result
             → meaning.aead (bytes_128 key.now) iv.now (aad1.now ++ aad2.now) output.new
             ≡ input.now }
@@ -86,7 +87,7 @@ pub trait SrtpCipher: Copy {
         input: &[u8],
         output: &mut [u8],
     )
-        requires { length output.old ≡ length input.now + 16 }
+        requires { length output.old ≡ length input.now + TAG_LEN }
         ensures { output.new ≡ meaning.aead (bytes_256 key.now) iv.now (aad1.now ++ aad2.now) input.now };
 
     /// Opens the input, and tells whether it is a sealed text. After `false` what stands in
@@ -100,7 +101,7 @@ pub trait SrtpCipher: Copy {
         input: &[u8],
         output: &mut [u8],
     ) -> bool
-        requires { length input.now ≡ length output.old + 16 }
+        requires { length input.now ≡ length output.old + TAG_LEN }
         ensures opens { IsTrue result
             → meaning.aead (bytes_256 key.now) iv.now (aad1.now ++ aad2.now) output.new
             ≡ input.now }
@@ -110,7 +111,7 @@ pub trait SrtpCipher: Copy {
 
     /// A sealed text is 16 bytes longer.
     ghost longer: { (key iv aad plain : List ℕ) → length (meaning.aead key iv aad plain)
-        ≡ length plain + 16 };
+        ≡ length plain + TAG_LEN };
 
     /// No two plain texts are sealed alike.
     ghost apart: { (key iv aad p q : List ℕ) → meaning.aead key iv aad p ≡ meaning.aead key iv aad q

@@ -1,6 +1,9 @@
 ghost use Rattle.std.specs.Prelude.{◌≡◌, ℕ, ◌+◌, ◌⊎◌, List, ◌++◌, length, IsTrue};
+ghost use Rattle.srtp_core.specs.declared.aead_aes_128_gcm.TheConstants.{KEY_LEN as KEY_128_LEN, TAG_LEN};
+ghost use Rattle.srtp_core.specs.declared.aead_aes_256_gcm.TheConstants.{KEY_LEN as KEY_256_LEN};
 
 use crate::cipher::SrtpCipher;
+use crate::{aead_aes_128_gcm, aead_aes_256_gcm};
 use std::marker::Model;
 
 #[derive(Drop)]
@@ -27,17 +30,17 @@ impl<C: SrtpCipher> Model for CipherKey<C> {
 
 impl<C: SrtpCipher> CipherKey<C> {
     pub(crate) fn new(cipher: C, bytes: &[u8]) -> Self
-        requires { (length bytes.now ≡ 16) ⊎ (length bytes.now ≡ 32) }
+        requires { (length bytes.now ≡ KEY_128_LEN) ⊎ (length bytes.now ≡ KEY_256_LEN) }
         ensures { result ≡ bytes.now }
     {
-        if bytes.len() == 16 {
-            let mut short = [0; 16];
+        if bytes.len() == aead_aes_128_gcm::KEY_LEN {
+            let mut short = [0; aead_aes_128_gcm::KEY_LEN];
             short.copy_from_slice(bytes);
             CipherKey {
                 key: ByLength::Short(cipher.key_128(&short)),
             }
         } else {
-            let mut long = [0; 32];
+            let mut long = [0; aead_aes_256_gcm::KEY_LEN];
             long.copy_from_slice(bytes);
             CipherKey {
                 key: ByLength::Long(cipher.key_256(&long)),
@@ -64,7 +67,7 @@ impl<C: SrtpCipher> CipherKey<C> {
         input: &[u8],
         output: &mut [u8],
     )
-        requires { length output.old ≡ length input.now + 16 }
+        requires { length output.old ≡ length input.now + TAG_LEN }
         ensures { output.new ≡ C.meaning.aead self.now iv.now (aad1.now ++ aad2.now) input.now }
     {
         match &self.key {
@@ -83,7 +86,7 @@ impl<C: SrtpCipher> CipherKey<C> {
         input: &[u8],
         output: &mut [u8],
     ) -> bool
-        requires { length input.now ≡ length output.old + 16 }
+        requires { length input.now ≡ length output.old + TAG_LEN }
         ensures opens { IsTrue result
             → C.meaning.aead self.now iv.now (aad1.now ++ aad2.now) output.new ≡ input.now }
         ensures only { (plain : List ℕ)

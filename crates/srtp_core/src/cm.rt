@@ -1,4 +1,4 @@
-ghost use Rattle.std.specs.Prelude.{◌≡◌, ℕ, ◌+◌, ◌-◌, ◌^◌, ◌<◌, ◌≤◌, List, ◌++◌, true, length, take, drop, IfOk, IfSome, IfNone};
+ghost use Rattle.std.specs.Prelude.{◌≡◌, ℕ, ◌+◌, ◌-◌, ◌<◌, ◌≤◌, List, ◌++◌, true, length, take, drop, IfOk, IfSome, IfNone};
 ghost use Rattle.srtp_core.specs.Keys.{derived};
 ghost use Rattle.srtp_core.specs.Seals.{cm_iv, cm_sealed_rtp};
 ghost use Rattle.srtp_core.specs.Streams.{streamed};
@@ -10,8 +10,13 @@ use crate::aes_128_cm_sha1_80::{
     rtp_iv, rtp_tag, rtp_verify,
 };
 use crate::cipher::SrtpCipher;
+use crate::context::SRTCP_INDEX_LIMIT;
+use crate::keying::{
+    LABEL_RTCP_AES, LABEL_RTCP_AUTHENTICATION_KEY, LABEL_RTCP_SALT, LABEL_RTP_AES,
+    LABEL_RTP_AUTHENTICATION_KEY, LABEL_RTP_SALT,
+};
 use crate::srtcp::{E_BIT, HEADER_LEN, WORD_LEN, sender};
-use rtp_base::wire;
+use rtp_base::{NUMBER_LIMIT, wire};
 use std::alloc::{AllocError, Global};
 
 /// The length of the shortest sealed RTCP packet, in bytes.
@@ -33,7 +38,7 @@ pub(crate) struct CmDirection<C: SrtpCipher> {
 }
 
 fn cm_keys<C: SrtpCipher>(cipher: C, master: &MasterKey, first_label: u8) -> CmKeys<C>
-    requires { first_label ≤ 3 }
+    requires { first_label ≤ LABEL_RTCP_AES }
     ensures key { C.bytes_128 result.key
         ≡ derived (C.meaning.block master.now.master) master.now.salt first_label KEY_LEN }
     ensures authentication { result.authentication
@@ -57,21 +62,21 @@ fn cm_keys<C: SrtpCipher>(cipher: C, master: &MasterKey, first_label: u8) -> CmK
 /// The keys of a direction, of its master key.
 pub(crate) fn cm_direction<C: SrtpCipher>(cipher: C, master: &MasterKey) -> CmDirection<C>
     ensures rtp_key { C.bytes_128 result.rtp.key
-        ≡ derived (C.meaning.block master.now.master) master.now.salt 0 KEY_LEN }
+        ≡ derived (C.meaning.block master.now.master) master.now.salt LABEL_RTP_AES KEY_LEN }
     ensures rtp_authentication { result.rtp.authentication
-        ≡ derived (C.meaning.block master.now.master) master.now.salt 1 HMAC_KEY_LEN }
+        ≡ derived (C.meaning.block master.now.master) master.now.salt LABEL_RTP_AUTHENTICATION_KEY HMAC_KEY_LEN }
     ensures rtp_salt { result.rtp.salt
-        ≡ derived (C.meaning.block master.now.master) master.now.salt 2 SALT_LEN }
+        ≡ derived (C.meaning.block master.now.master) master.now.salt LABEL_RTP_SALT SALT_LEN }
     ensures rtcp_key { C.bytes_128 result.rtcp.key
-        ≡ derived (C.meaning.block master.now.master) master.now.salt 3 KEY_LEN }
+        ≡ derived (C.meaning.block master.now.master) master.now.salt LABEL_RTCP_AES KEY_LEN }
     ensures rtcp_authentication { result.rtcp.authentication
-        ≡ derived (C.meaning.block master.now.master) master.now.salt 4 HMAC_KEY_LEN }
+        ≡ derived (C.meaning.block master.now.master) master.now.salt LABEL_RTCP_AUTHENTICATION_KEY HMAC_KEY_LEN }
     ensures rtcp_salt { result.rtcp.salt
-        ≡ derived (C.meaning.block master.now.master) master.now.salt 5 SALT_LEN }
+        ≡ derived (C.meaning.block master.now.master) master.now.salt LABEL_RTCP_SALT SALT_LEN }
 {
     CmDirection {
-        rtp: cm_keys(cipher, master, 0),
-        rtcp: cm_keys(cipher, master, 3),
+        rtp: cm_keys(cipher, master, LABEL_RTP_AES),
+        rtcp: cm_keys(cipher, master, LABEL_RTCP_AES),
     }
 }
 
@@ -87,7 +92,7 @@ pub(crate) fn seal_rtp<C: SrtpCipher>(
     index: u64,
 ) -> Result<Vec<u8>, AllocError>
     requires header { header_len ≤ length buf.now }
-    requires index { index < 2 ^ 48 }
+    requires index { index < NUMBER_LIMIT }
     ensures { IfOk result (λ v. v.items
         ≡ cm_sealed_rtp C.meaning (C.bytes_128 keys.now.key) keys.now.authentication keys.now.salt ssrc index (take header_len buf.now) (drop header_len buf.now)) }
 {
@@ -114,7 +119,7 @@ pub(crate) fn open_rtp<C: SrtpCipher>(
 ) -> Option<usize>
     requires header { header_len ≤ length buf.now }
     requires room { length buf.now ≤ length output.old }
-    requires index { index < 2 ^ 48 }
+    requires index { index < NUMBER_LIMIT }
     ensures same { length output.new ≡ length output.old }
     ensures len { IfSome result (λ n. n ≤ length output.new) }
     ensures opens { IfSome result (λ n.
@@ -144,9 +149,9 @@ pub(crate) fn seal_rtcp<C: SrtpCipher>(
     index: u32,
 ) -> Result<Vec<u8>, AllocError>
     requires header { HEADER_LEN ≤ length buf.now }
-    requires index { index < 2 ^ 31 }
+    requires index { index < SRTCP_INDEX_LIMIT }
     ensures { IfOk result (λ v. v.items
-        ≡ cm_sealed_rtcp C.meaning (C.bytes_128 keys.now.key) keys.now.authentication keys.now.salt true index (take 8 buf.now) (drop 8 buf.now)) }
+        ≡ cm_sealed_rtcp C.meaning (C.bytes_128 keys.now.key) keys.now.authentication keys.now.salt true index (take HEADER_LEN buf.now) (drop HEADER_LEN buf.now)) }
 {
     let mut sealed = vec![in alloc; 0; buf.len() + WORD_LEN + HMAC_TAG_LEN]?;
     let (header, rest) = buf.split_at(HEADER_LEN);
@@ -170,8 +175,8 @@ fn deciphered<C: SrtpCipher>(
     index: u32,
 ) -> Result<Vec<u8>, AllocError>
     requires { HEADER_LEN ≤ length packet.now }
-    ensures { IfOk result (λ v. v.items ≡ take 8 packet.now
-        ++ streamed (C.meaning.keystream (C.bytes_128 keys.now.key) (cm_iv keys.now.salt (sender_of (take 8 packet.now)) index)) (drop 8 packet.now)) }
+    ensures { IfOk result (λ v. v.items ≡ take HEADER_LEN packet.now
+        ++ streamed (C.meaning.keystream (C.bytes_128 keys.now.key) (cm_iv keys.now.salt (sender_of (take HEADER_LEN packet.now)) index)) (drop HEADER_LEN packet.now)) }
 {
     let mut plain = vec![in alloc; 0; packet.len()]?;
     let (header, rest) = packet.split_at(HEADER_LEN);

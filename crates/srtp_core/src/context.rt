@@ -1,4 +1,4 @@
-ghost use Rattle.std.specs.Prelude.{◌≡◌, ◌≢◌, ℕ, ◌+◌, ◌%◌, ◌^◌, ◌<◌, ◌≤◌, true, List, ◌++◌, length, take, IfOk, IfErr, IfSome, IfNone, IsErrOf, OnOk, OnErr};
+ghost use Rattle.std.specs.Prelude.{◌≡◌, ◌≢◌, ℕ, ◌+◌, ◌%◌, ◌<◌, ◌≤◌, true, List, ◌++◌, length, take, IfOk, IfErr, IfSome, IfNone, IsErrOf, OnOk, OnErr};
 ghost use Rattle.std.specs.Borrow.{sem};
 ghost use Rattle.srtp_core.specs.Keys.{material_len, session_keys};
 ghost use Rattle.srtp_core.specs.Seals.{sealed_rtp, OpensTo};
@@ -12,13 +12,15 @@ use crate::error::SrtpError;
 use crate::gcm::GcmDirection;
 use crate::keying::KeyingMaterial;
 use crate::profile::SrtpProfile;
+use crate::srtcp::HEADER_LEN;
 use crate::{aead_aes_128_gcm, aead_aes_256_gcm, aes_128_cm_sha1_80, cm, gcm, gcm_rtcp};
+use rtp_base::NUMBER_LIMIT;
 use rtp_wire::RtpHeader;
 use std::alloc::{AllocError, Global};
 use std::marker::Model;
 
-/// The greatest RTP datagram that is opened, in bytes.
-const MAX_DATAGRAM_LEN: usize = 2000;
+/// The greatest RTP datagram that is opened, in bytes: a choice.
+pub const MAX_DATAGRAM_LEN: usize = 2000;
 
 /// The first index that no SRTCP datagram has (RFC 3711 section 3.4).
 pub const SRTCP_INDEX_LIMIT: u64 = 1 << 31;
@@ -42,8 +44,9 @@ pub struct SrtpContext<C: SrtpCipher> {
 }
 
 impl<C: SrtpCipher> Model for SrtpContext<C> {
-    ghost use Rattle.std.specs.Prelude.{◌≡◌, ◌≤◌, ◌^◌, length};
+    ghost use Rattle.std.specs.Prelude.{◌≡◌, ◌≤◌, length};
     ghost use Rattle.srtp_core.specs.Contexts.{SrtpState};
+    ghost use Rattle.srtp_core.specs.declared.context.TheConstants.{MAX_DATAGRAM_LEN, SRTCP_INDEX_LIMIT};
 
     ghost Value = { SrtpState };
 
@@ -51,7 +54,7 @@ impl<C: SrtpCipher> Model for SrtpContext<C> {
 
     ghost view = { λ c. record { profile = profile_of c.keys; keys = session_of C.bytes_128 c.keys; srtcp_index = c.srtcp_index } };
 
-    ghost invariant = { λ c. (length c.scratch.items ≡ 2000) × (c.srtcp_index ≤ 2 ^ 31) };
+    ghost invariant = { λ c. (length c.scratch.items ≡ MAX_DATAGRAM_LEN) × (c.srtcp_index ≤ SRTCP_INDEX_LIMIT) };
 }
 
 impl<C: SrtpCipher> SrtpContext<C> {
@@ -92,7 +95,7 @@ impl<C: SrtpCipher> SrtpContext<C> {
         left: bool,
         srtcp_index: u64,
     ) -> Result<Self, SrtpError>
-        requires { srtcp_index ≤ 2 ^ 31 }
+        requires { srtcp_index ≤ SRTCP_INDEX_LIMIT }
         ensures made { IfOk result (λ c. c ≡ new_state C.meaning profile mat.now left srtcp_index) }
         ensures key_length { length mat.now ≢ material_len profile
             → IsErrOf result SrtpError.KeyLength }
@@ -127,7 +130,7 @@ impl<C: SrtpCipher> SrtpContext<C> {
     /// The index of the next SRTCP datagram, at most 2^31; at 2^31 there is no further one.
     pub fn srtcp_index(&self) -> u64
         ensures index { result ≡ self.now.srtcp_index }
-        ensures bound { result ≤ 2 ^ 31 }
+        ensures bound { result ≤ SRTCP_INDEX_LIMIT }
     {
         self.srtcp_index
     }
@@ -145,7 +148,7 @@ impl<C: SrtpCipher> SrtpContext<C> {
         index: u64,
     ) -> Result<Vec<u8>, AllocError>
         requires header { header.now.header_len ≤ length buf.now }
-        requires index { index < 2 ^ 48 }
+        requires index { index < NUMBER_LIMIT }
         requires low { index % 65536 ≡ header.now.sequence_number }
         ensures sealed { IfOk result (λ v. v.items
             ≡ sealed_rtp C.meaning self.old.profile self.old.keys header.now.ssrc index header.now.header_len buf.now) }
@@ -170,7 +173,7 @@ impl<C: SrtpCipher> SrtpContext<C> {
     /// datagram is longer than 2,000 bytes or shorter than its header and a tag, or where it is no
     /// payload's seal under this index. Takes no memory.
     pub fn unprotect_rtp(&mut self, buf: &[u8], header: &RtpHeader, index: u64) -> Option<&[u8]>
-        requires index { index < 2 ^ 48 }
+        requires index { index < NUMBER_LIMIT }
         requires low { index % 65536 ≡ header.now.sequence_number }
         ensures some { IfSome result (λ p.
             OpensTo C.meaning self.old.profile self.old.keys header.now.ssrc index header.now.header_len buf.now p.now) }
@@ -202,15 +205,17 @@ impl<C: SrtpCipher> SrtpContext<C> {
     /// # Errors
     /// `KeyExhausted` exactly where the index is 2^31; `Memory`. Then nothing changes.
     pub fn protect_rtcp(&mut self, buf: &[u8]) -> Result<Vec<u8>, SrtpError>
-        requires { 8 ≤ length buf.now }
+        requires { HEADER_LEN ≤ length buf.now }
         ensures sealed { IfOk result (λ v. v.items
             ≡ sealed_rtcp C.meaning self.old.profile self.old.keys true self.old.srtcp_index buf.now) }
         ensures next { OnOk result (self.new
             ≡ record self.old { srtcp_index = self.old.srtcp_index + 1 }) }
         ensures refused { OnErr result (self.new ≡ self.old) }
-        ensures exhausted { self.old.srtcp_index ≡ 2 ^ 31 → IsErrOf result SrtpError.KeyExhausted }
-        ensures memory { self.old.srtcp_index ≢ 2 ^ 31 → IfErr result (λ e. e ≡ SrtpError.Memory) }
-        ensures bound { self.new.srtcp_index ≤ 2 ^ 31 }
+        ensures exhausted { self.old.srtcp_index ≡ SRTCP_INDEX_LIMIT
+            → IsErrOf result SrtpError.KeyExhausted }
+        ensures memory { self.old.srtcp_index ≢ SRTCP_INDEX_LIMIT
+            → IfErr result (λ e. e ≡ SrtpError.Memory) }
+        ensures bound { self.new.srtcp_index ≤ SRTCP_INDEX_LIMIT }
     {
         if self.srtcp_index == SRTCP_INDEX_LIMIT {
             return Err(SrtpError::KeyExhausted);
@@ -272,10 +277,10 @@ fn open_front<C: SrtpCipher>(
     index: u64,
     output: &mut [u8],
 ) -> Option<usize>
-    requires within { length buf.now ≤ 2000 }
+    requires within { length buf.now ≤ MAX_DATAGRAM_LEN }
     requires header { header_len ≤ length buf.now }
     requires room { length buf.now ≤ length output.old }
-    requires index { index < 2 ^ 48 }
+    requires index { index < NUMBER_LIMIT }
     ensures same { length output.new ≡ length output.old }
     ensures len { IfSome result (λ n. n ≤ length output.new) }
     ensures opens { IfSome result (λ n. OpensTo C.meaning (profile_of keys.now) (session_of C.bytes_128 keys.now) ssrc index header_len buf.now (take n output.new)) }
@@ -321,8 +326,8 @@ fn seal_packet<C: SrtpCipher>(
     buf: &[u8],
     index: u32,
 ) -> Result<Vec<u8>, AllocError>
-    requires header { 8 ≤ length buf.now }
-    requires index { index < 2 ^ 31 }
+    requires header { HEADER_LEN ≤ length buf.now }
+    requires index { index < SRTCP_INDEX_LIMIT }
     ensures { IfOk result (λ v. v.items
         ≡ sealed_rtcp C.meaning (profile_of keys.now) (session_of C.bytes_128 keys.now) true index buf.now) }
 {

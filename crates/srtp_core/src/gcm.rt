@@ -1,12 +1,15 @@
-ghost use Rattle.std.specs.Prelude.{◌≡◌, ℕ, ◌+◌, ◌-◌, ◌/◌, ◌%◌, ◌^◌, ◌<◌, ◌≤◌, ◌⊎◌, List, [], ◌++◌, length, take, drop, IsTrue, IfOk, IfSome, IfNone};
+ghost use Rattle.std.specs.Prelude.{◌≡◌, ℕ, ◌+◌, ◌-◌, ◌/◌, ◌%◌, ◌<◌, ◌≤◌, ◌⊎◌, List, [], ◌++◌, length, take, drop, IsTrue, IfOk, IfSome, IfNone};
 ghost use Rattle.media_base.specs.Text.{xored};
 ghost use Rattle.srtp_core.specs.Keys.{derived};
 ghost use Rattle.srtp_core.specs.Seals.{gcm_rtp_iv, gcm_rtcp_iv, gcm_sealed_rtp};
+ghost use Rattle.srtp_core.specs.declared.aead_aes_128_gcm.TheConstants.{KEY_LEN as KEY_128_LEN};
+ghost use Rattle.srtp_core.specs.declared.aead_aes_256_gcm.TheConstants.{KEY_LEN as KEY_256_LEN};
 
 use crate::aead_aes_128_gcm::{IV_LEN, RtpIv, RtpSalt, SALT_LEN, TAG_LEN};
 use crate::cipher::SrtpCipher;
 use crate::cipher_key::CipherKey;
-use crate::keying::SrtpKey;
+use crate::keying::{LABEL_RTCP_AES, LABEL_RTCP_SALT, LABEL_RTP_AES, LABEL_RTP_SALT, SrtpKey};
+use rtp_base::NUMBER_LIMIT;
 use std::alloc::{AllocError, Global};
 
 pub(crate) fn xor_into(bytes: &mut [u8], with: &[u8])
@@ -70,7 +73,7 @@ fn gcm_keys<C: SrtpCipher, const ML: usize>(
     key_label: u8,
     salt_label: u8,
 ) -> GcmKeys<C>
-    requires { (ML ≡ 16) ⊎ (ML ≡ 32) }
+    requires { (ML ≡ KEY_128_LEN) ⊎ (ML ≡ KEY_256_LEN) }
     ensures key { result.key
         ≡ derived (C.meaning.block master.now.master) master.now.salt key_label ML }
     ensures salt { result.salt
@@ -91,19 +94,19 @@ pub(crate) fn gcm_direction<C: SrtpCipher, const ML: usize>(
     cipher: C,
     master: &SrtpKey<ML, SALT_LEN>,
 ) -> GcmDirection<C>
-    requires { (ML ≡ 16) ⊎ (ML ≡ 32) }
+    requires { (ML ≡ KEY_128_LEN) ⊎ (ML ≡ KEY_256_LEN) }
     ensures rtp_key { result.rtp.key
-        ≡ derived (C.meaning.block master.now.master) master.now.salt 0 ML }
+        ≡ derived (C.meaning.block master.now.master) master.now.salt LABEL_RTP_AES ML }
     ensures rtp_salt { result.rtp.salt
-        ≡ derived (C.meaning.block master.now.master) master.now.salt 2 SALT_LEN }
+        ≡ derived (C.meaning.block master.now.master) master.now.salt LABEL_RTP_SALT SALT_LEN }
     ensures rtcp_key { result.rtcp.key
-        ≡ derived (C.meaning.block master.now.master) master.now.salt 3 ML }
+        ≡ derived (C.meaning.block master.now.master) master.now.salt LABEL_RTCP_AES ML }
     ensures rtcp_salt { result.rtcp.salt
-        ≡ derived (C.meaning.block master.now.master) master.now.salt 5 SALT_LEN }
+        ≡ derived (C.meaning.block master.now.master) master.now.salt LABEL_RTCP_SALT SALT_LEN }
 {
     GcmDirection {
-        rtp: gcm_keys(cipher, master, 0, 2),
-        rtcp: gcm_keys(cipher, master, 3, 5),
+        rtp: gcm_keys(cipher, master, LABEL_RTP_AES, LABEL_RTP_SALT),
+        rtcp: gcm_keys(cipher, master, LABEL_RTCP_AES, LABEL_RTCP_SALT),
     }
 }
 
@@ -118,7 +121,7 @@ pub(crate) fn seal_rtp<C: SrtpCipher>(
     index: u64,
 ) -> Result<Vec<u8>, AllocError>
     requires header { header_len ≤ length buf.now }
-    requires index { index < 2 ^ 48 }
+    requires index { index < NUMBER_LIMIT }
     ensures { IfOk result (λ v. v.items
         ≡ gcm_sealed_rtp C.meaning keys.now.key keys.now.salt ssrc index (take header_len buf.now) (drop header_len buf.now)) }
 {
@@ -149,7 +152,7 @@ pub(crate) fn open_rtp<C: SrtpCipher>(
 ) -> Option<usize>
     requires header { header_len ≤ length buf.now }
     requires room { length buf.now ≤ length output.old }
-    requires index { index < 2 ^ 48 }
+    requires index { index < NUMBER_LIMIT }
     ensures same { length output.new ≡ length output.old }
     ensures len { IfSome result (λ n. n ≤ length output.new) }
     ensures opens { IfSome result (λ n.

@@ -1,4 +1,4 @@
-ghost use Rattle.std.specs.Prelude.{◌≡◌, ℕ, ◌+◌, ◌^◌, ◌<◌, ◌≤◌, List, [], ◌++◌, true, length, take, drop, IfOk, IfSome, IfNone};
+ghost use Rattle.std.specs.Prelude.{◌≡◌, ℕ, ◌+◌, ◌<◌, ◌≤◌, List, [], ◌++◌, true, length, take, drop, IfOk, IfSome, IfNone};
 ghost use Rattle.std.specs.Int.{w32, to_be_bytes};
 ghost use Rattle.srtp_core.specs.Seals.{gcm_rtcp_iv};
 ghost use Rattle.srtp_core.specs.RtcpSeals.{e_and_index, sender_of, gcm_sealed_rtcp, GcmRtcpOpens};
@@ -6,6 +6,7 @@ ghost use Rattle.srtp_core.specs.RtcpSeals.{e_and_index, sender_of, gcm_sealed_r
 use crate::SRTCP_OVERHEAD;
 use crate::aead_aes_128_gcm::TAG_LEN;
 use crate::cipher::SrtpCipher;
+use crate::context::SRTCP_INDEX_LIMIT;
 use crate::gcm::{GcmKeys, rtcp_iv};
 use crate::srtcp::{E_BIT, HEADER_LEN, WORD_LEN, sender};
 use rtp_base::wire;
@@ -23,9 +24,9 @@ pub(crate) fn seal_rtcp<C: SrtpCipher>(
     index: u32,
 ) -> Result<Vec<u8>, AllocError>
     requires header { HEADER_LEN ≤ length buf.now }
-    requires index { index < 2 ^ 31 }
+    requires index { index < SRTCP_INDEX_LIMIT }
     ensures { IfOk result (λ v. v.items
-        ≡ gcm_sealed_rtcp C.meaning keys.now.key keys.now.salt true index (take 8 buf.now) (drop 8 buf.now)) }
+        ≡ gcm_sealed_rtcp C.meaning keys.now.key keys.now.salt true index (take HEADER_LEN buf.now) (drop HEADER_LEN buf.now)) }
 {
     let mut sealed = vec![in alloc; 0; buf.len() + SRTCP_OVERHEAD]?;
     let (header, rest) = buf.split_at(HEADER_LEN);
@@ -51,9 +52,9 @@ fn open_encrypted<C: SrtpCipher>(
 ) -> Result<Option<Vec<u8>>, AllocError>
     requires header { length header.now ≡ HEADER_LEN }
     requires body { TAG_LEN ≤ length body.now }
-    ensures opened { IfOk result (λ r. IfSome r (λ v. v.items ≡ header.now ++ drop 8 v.items)) }
+    ensures opened { IfOk result (λ r. IfSome r (λ v. v.items ≡ header.now ++ drop HEADER_LEN v.items)) }
     ensures some { IfOk result (λ r. IfSome r (λ v.
-        C.meaning.aead keys.now.key (gcm_rtcp_iv keys.now.salt (sender_of header.now) index) (header.now ++ word.now) (drop 8 v.items) ≡ body.now)) }
+        C.meaning.aead keys.now.key (gcm_rtcp_iv keys.now.salt (sender_of header.now) index) (header.now ++ word.now) (drop HEADER_LEN v.items) ≡ body.now)) }
     ensures none { IfOk result (λ r. IfNone r ((rest : List ℕ)
         → C.meaning.aead keys.now.key (gcm_rtcp_iv keys.now.salt (sender_of header.now) index) (header.now ++ word.now) rest ≡ body.now → ⊥)) }
 {
@@ -82,9 +83,9 @@ fn open_clear<C: SrtpCipher>(
     requires tag { length tag.now ≡ TAG_LEN }
     ensures opened { IfOk result (λ r. IfSome r (λ v. v.items ≡ plain.now)) }
     ensures some { IfOk result (λ r. IfSome r (λ _.
-        C.meaning.aead keys.now.key (gcm_rtcp_iv keys.now.salt (sender_of (take 8 plain.now)) index) (plain.now ++ word.now) [] ≡ tag.now)) }
+        C.meaning.aead keys.now.key (gcm_rtcp_iv keys.now.salt (sender_of (take HEADER_LEN plain.now)) index) (plain.now ++ word.now) [] ≡ tag.now)) }
     ensures none { IfOk result (λ r. IfNone r (
-        C.meaning.aead keys.now.key (gcm_rtcp_iv keys.now.salt (sender_of (take 8 plain.now)) index) (plain.now ++ word.now) [] ≡ tag.now → ⊥)) }
+        C.meaning.aead keys.now.key (gcm_rtcp_iv keys.now.salt (sender_of (take HEADER_LEN plain.now)) index) (plain.now ++ word.now) [] ≡ tag.now → ⊥)) }
 {
     let (header, _) = plain.split_at(HEADER_LEN);
     let iv = rtcp_iv(keys.salt, sender(header), index);

@@ -1,8 +1,11 @@
 ghost use Rattle.std.specs.Prelude.{◌≡◌, ℕ, ◌+◌, ◌-◌, ◌*◌, ◌^◌, ◌<◌, ◌≤◌, ◌⊎◌, List, ◌++◌, length, slice_index, bit_xor};
 ghost use Rattle.std.specs.Int.{w32, to_be_bytes};
 ghost use Rattle.srtp_core.specs.Streams.{streamed, blocks_at, counter_input};
+ghost use Rattle.srtp_core.specs.declared.aead_aes_128_gcm.TheConstants.{KEY_LEN as KEY_128_LEN};
+ghost use Rattle.srtp_core.specs.declared.aead_aes_256_gcm.TheConstants.{KEY_LEN as KEY_256_LEN};
 
 use crate::SRTP_BLOCK_SIZE;
+use crate::aead_aes_128_gcm::IV_LEN;
 use crate::simulated::BlockCipher;
 use std::simd::prelude::*;
 
@@ -19,7 +22,7 @@ pub(crate) fn nonce_and_word(iv: &[u8; 12], word: u32) -> [u8; 16]
     ensures { result ≡ iv.now ++ to_be_bytes w32 word }
 {
     let mut input = [0; 16];
-    let (front, back) = input.split_at_mut(12);
+    let (front, back) = input.split_at_mut(IV_LEN);
     front.copy_from_slice(iv);
     back.copy_from_slice(&word.to_be_bytes());
     input
@@ -40,10 +43,10 @@ fn input_block(counter: &Counter, n: usize) -> [u8; 16]
 #[inline(always)]
 pub(crate) fn xor_whole(input: &[u8], at: usize, block: &[u8; 16], output: &mut [u8])
     requires output { length output.old ≡ length input.now }
-    requires at { at + 16 ≤ length input.now }
+    requires at { at + SRTP_BLOCK_SIZE ≤ length input.now }
     ensures len { length output.new ≡ length output.old }
     ensures before { (k : ℕ) → k < at → slice_index output.new k ≡ slice_index output.old k }
-    ensures here { (k : ℕ) → k < 16 → slice_index output.new (at + k)
+    ensures here { (k : ℕ) → k < SRTP_BLOCK_SIZE → slice_index output.new (at + k)
         ≡ bit_xor (slice_index input.now (at + k)) (slice_index block.now k) }
 {
     let lanes = u8x16::from_slice(&input[at..]) ^ u8x16::from_array(*block);
@@ -56,7 +59,7 @@ pub(crate) fn xor_block(input: &[u8], at: usize, block: &[u8; 16], output: &mut 
     requires at { at ≤ length input.now }
     ensures len { length output.new ≡ length output.old }
     ensures before { (k : ℕ) → k < at → slice_index output.new k ≡ slice_index output.old k }
-    ensures here { (k : ℕ) → k < 16 → at + k < length input.now
+    ensures here { (k : ℕ) → k < SRTP_BLOCK_SIZE → at + k < length input.now
         → slice_index output.new (at + k)
         ≡ bit_xor (slice_index input.now (at + k)) (slice_index block.now k) }
 {
@@ -77,7 +80,7 @@ pub(crate) fn xor_stream<S: BlockCipher>(
     input: &[u8],
     output: &mut [u8],
 )
-    requires key { (length key.now ≡ 16) ⊎ (length key.now ≡ 32) }
+    requires key { (length key.now ≡ KEY_128_LEN) ⊎ (length key.now ≡ KEY_256_LEN) }
     requires output { length output.old ≡ length input.now }
     ensures { output.new ≡ streamed (blocks_at (λ n. S.block_of key.now (counter_input counter.now n))) input.now }
 {

@@ -1,11 +1,30 @@
 ghost use Rattle.std.specs.Prelude.{◌≡◌, ℕ, ◌+◌, ◌*◌, ◌≤◌, ◌⊎◌, length, if◌then◌else◌, IfOk};
 ghost use Rattle.srtp_core.specs.Keys.{master_key, master_salt, derivation_input, derived};
+ghost use Rattle.srtp_core.specs.declared.aead_aes_128_gcm.TheConstants.{KEY_LEN as KEY_128_LEN};
+ghost use Rattle.srtp_core.specs.declared.aead_aes_256_gcm.TheConstants.{KEY_LEN as KEY_256_LEN};
 
 use crate::SRTP_BLOCK_SIZE;
+use crate::aes_128_cm_sha1_80::SALT_LEN;
 use crate::cipher::SrtpCipher;
 use crate::cipher_key::CipherKey;
 use std::alloc::{AllocError, Global};
 use std::marker::Model;
+
+/// The label of the key of RTP (RFC 3711 section 4.3.2).
+pub const LABEL_RTP_AES: u8 = 0;
+/// The label of the authentication key of RTP (RFC 3711 section 4.3.2).
+pub const LABEL_RTP_AUTHENTICATION_KEY: u8 = 1;
+/// The label of the salt of RTP (RFC 3711 section 4.3.2).
+pub const LABEL_RTP_SALT: u8 = 2;
+/// The label of the key of RTCP (RFC 3711 section 4.3.2).
+pub const LABEL_RTCP_AES: u8 = 3;
+/// The label of the authentication key of RTCP (RFC 3711 section 4.3.2).
+pub const LABEL_RTCP_AUTHENTICATION_KEY: u8 = 4;
+/// The label of the salt of RTCP (RFC 3711 section 4.3.2).
+pub const LABEL_RTCP_SALT: u8 = 5;
+
+/// The most bytes that a label gives: 2^23 bits (RFC 3711 section 4.3.3).
+pub const MAX_DERIVED_LEN: usize = 1_048_576;
 
 /// Keying material as DTLS exports it (RFC 5764 section 4.2): the left key, the right key, the left
 /// salt, the right salt. Contracts see the bytes.
@@ -73,9 +92,9 @@ impl<const ML: usize, const SL: usize> SrtpKey<ML, SL> {
     /// Fills `output` with the string that a label gives (RFC 3711 section 4.3, key derivation
     /// rate 0).
     pub fn derive<C: SrtpCipher>(&self, cipher: C, label: u8, output: &mut [u8])
-        requires key { (ML ≡ 16) ⊎ (ML ≡ 32) }
-        requires salt { SL ≤ 14 }
-        requires output { length output.old ≤ 1048576 }
+        requires key { (ML ≡ KEY_128_LEN) ⊎ (ML ≡ KEY_256_LEN) }
+        requires salt { SL ≤ SALT_LEN }
+        requires output { length output.old ≤ MAX_DERIVED_LEN }
         ensures { output.new ≡ derived (C.meaning.block self.now.master) self.now.salt label (length output.old) }
     {
         let key = CipherKey::new(cipher, &self.master);
@@ -92,11 +111,11 @@ impl<const ML: usize, const SL: usize> SrtpKey<ML, SL> {
 
 /// The block that is enciphered in a round.
 fn input_block(salt: &[u8], label: u8, round: u16) -> [u8; 16]
-    requires { length salt.now ≤ 14 }
+    requires { length salt.now ≤ SALT_LEN }
     ensures { result ≡ derivation_input salt.now label round }
 {
     let mut input = [0; 16];
-    let (front, end) = input.split_at_mut(14);
+    let (front, end) = input.split_at_mut(SALT_LEN);
     let (start, _) = front.split_at_mut(salt.len());
     start.copy_from_slice(salt);
     front[7] ^= label;

@@ -16,6 +16,7 @@ mod hmac;
 mod key_stream;
 mod keying;
 pub mod laws;
+mod numbers;
 mod profile;
 mod sha;
 mod simulated;
@@ -23,14 +24,19 @@ mod srtcp;
 mod toy;
 
 pub use cipher::SrtpCipher;
-pub use context::{SRTCP_INDEX_LIMIT, SrtpContext};
+pub use context::{MAX_DATAGRAM_LEN, SRTCP_INDEX_LIMIT, SrtpContext};
 pub use counter::Counter;
 pub use error::SrtpError;
-pub use hmac::sha1_hmac;
-pub use keying::{KeyingMaterial, SrtpKey};
+pub use hmac::{HMAC_BLOCK_LEN, IPAD, OPAD, sha1_hmac};
+pub use keying::{
+    KeyingMaterial, LABEL_RTCP_AES, LABEL_RTCP_AUTHENTICATION_KEY, LABEL_RTCP_SALT, LABEL_RTP_AES,
+    LABEL_RTP_AUTHENTICATION_KEY, LABEL_RTP_SALT, MAX_DERIVED_LEN, SrtpKey,
+};
+pub use numbers::named_numbers;
 pub use profile::SrtpProfile;
 pub use sha::ShaCipher;
 pub use simulated::SimulatedKey;
+pub use srtcp::{E_BIT, HEADER_LEN, WORD_LEN};
 pub use toy::ToyCipher;
 
 /// The length of a block of the cipher, in bytes.

@@ -43,7 +43,7 @@ impl SrtpProfile {
         ensures { result ≡ word_place self.now }
     {
         match self {
-            SrtpProfile::Aes128CmSha1_80 => WORD_LEN + cm::HMAC_TAG_LEN,
+            SrtpProfile::Aes128CmSha1_80 => cm::RTCP_WORD_PLACE,
             SrtpProfile::AeadAes128Gcm | SrtpProfile::AeadAes256Gcm => WORD_LEN,
         }
     }

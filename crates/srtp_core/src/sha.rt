@@ -2,6 +2,7 @@ ghost use Rattle.std.specs.Prelude.{◌≡◌, ℕ, ◌+◌, List, ◌++◌, len
 ghost use Rattle.srtp_core.specs.Sha.{sha_block, sha_tag};
 ghost use Rattle.sha1.specs.Sha1.{sha1, digest_bytes};
 
+use crate::SRTP_BLOCK_SIZE;
 use crate::key_stream::{Counter, xor_stream};
 use crate::simulated::{BlockCipher, Simulated};
 use sha1::Sha1;
@@ -12,10 +13,10 @@ use sha1::Sha1;
 pub struct ShaCipher;
 
 fn front(digest: &[u8; 20]) -> [u8; 16]
-    ensures { result ≡ take 16 digest.now }
+    ensures { result ≡ take SRTP_BLOCK_SIZE digest.now }
 {
-    let (first, _) = digest.split_at(16);
-    let mut bytes = [0; 16];
+    let (first, _) = digest.split_at(SRTP_BLOCK_SIZE);
+    let mut bytes = [0; SRTP_BLOCK_SIZE];
     bytes.copy_from_slice(first);
     bytes
 }

@@ -2,6 +2,8 @@ ghost use Rattle.std.specs.Prelude.{◌≡◌, ℕ, ◌+◌, ◌⊎◌, List, �
 ghost use Rattle.srtp_core.specs.Streams.{streamed};
 ghost use Rattle.srtp_core.specs.Simulated.{nonce_stream, sealed_text, simulated};
 ghost use Rattle.srtp_core.specs.SimulatedLaws.{length-sealed_text, sealed_text_apart};
+ghost use Rattle.srtp_core.specs.declared.aead_aes_128_gcm.TheConstants.{KEY_LEN as KEY_128_LEN, TAG_LEN};
+ghost use Rattle.srtp_core.specs.declared.aead_aes_256_gcm.TheConstants.{KEY_LEN as KEY_256_LEN};
 
 use crate::cipher::SrtpCipher;
 use crate::key_stream::{Counter, xor_stream};
@@ -13,7 +15,7 @@ pub trait BlockCipher: Copy {
 
     /// One block enciphered.
     fn block(&self, key: &[u8], input: &[u8; 16]) -> [u8; 16]
-        requires { (length key.now ≡ 16) ⊎ (length key.now ≡ 32) }
+        requires { (length key.now ≡ KEY_128_LEN) ⊎ (length key.now ≡ KEY_256_LEN) }
         ensures { result ≡ block_of key.now input.now };
 }
 
@@ -25,17 +27,17 @@ pub trait Simulated: BlockCipher {
 
     /// The text XOR the stream of the nonce.
     fn xor_text(&self, key: &[u8], iv: &[u8; 12], input: &[u8], output: &mut [u8])
-        requires key { (length key.now ≡ 16) ⊎ (length key.now ≡ 32) }
+        requires key { (length key.now ≡ KEY_128_LEN) ⊎ (length key.now ≡ KEY_256_LEN) }
         requires output { length output.old ≡ length input.now }
         ensures { output.new ≡ streamed (nonce_stream Self.block_of key.now iv.now) input.now };
 
     /// The tag of a text; `aad1` and `aad2`, one after the other, are the associated data.
     fn tag(&self, key: &[u8], iv: &[u8; 12], aad1: &[u8], aad2: &[u8], text: &[u8]) -> [u8; 16]
-        requires { (length key.now ≡ 16) ⊎ (length key.now ≡ 32) }
+        requires { (length key.now ≡ KEY_128_LEN) ⊎ (length key.now ≡ KEY_256_LEN) }
         ensures { result ≡ tag_of key.now iv.now (aad1.now ++ aad2.now) text.now };
 
     /// A tag has 16 bytes.
-    ghost tag_len: { (key iv aad text : List ℕ) → length (tag_of key iv aad text) ≡ 16 };
+    ghost tag_len: { (key iv aad text : List ℕ) → length (tag_of key iv aad text) ≡ TAG_LEN };
 }
 
 /// A key of a simulated cipher: its bytes.
@@ -55,8 +57,8 @@ fn seal<S: Simulated>(
     input: &[u8],
     output: &mut [u8],
 )
-    requires key { (length key.now ≡ 16) ⊎ (length key.now ≡ 32) }
-    requires output { length output.old ≡ length input.now + 16 }
+    requires key { (length key.now ≡ KEY_128_LEN) ⊎ (length key.now ≡ KEY_256_LEN) }
+    requires output { length output.old ≡ length input.now + TAG_LEN }
     ensures { output.new ≡ sealed_text S.block_of S.tag_of key.now iv.now (aad1.now ++ aad2.now) input.now }
 {
     let (text, end) = output.split_at_mut(input.len());
@@ -74,8 +76,8 @@ fn open<S: Simulated>(
     input: &[u8],
     output: &mut [u8],
 ) -> bool
-    requires key { (length key.now ≡ 16) ⊎ (length key.now ≡ 32) }
-    requires input { length input.now ≡ length output.old + 16 }
+    requires key { (length key.now ≡ KEY_128_LEN) ⊎ (length key.now ≡ KEY_256_LEN) }
+    requires input { length input.now ≡ length output.old + TAG_LEN }
     ensures opens { IsTrue result
         → sealed_text S.block_of S.tag_of key.now iv.now (aad1.now ++ aad2.now) output.new
         ≡ input.now }

@@ -6,14 +6,15 @@ ghost use Rattle.srtp_core.specs.RtcpSeals.{sender_of};
 
 use rtp_base::wire::word;
 
-/// The length of what is never encrypted: the first 8 bytes of the packet.
-pub(crate) const HEADER_LEN: usize = 8;
+/// The length of what is never encrypted, in bytes: the first 8 bytes of the packet (RFC 3711
+/// section 3.4).
+pub const HEADER_LEN: usize = 8;
 
-/// The length of the word that holds the E bit and the index, in bytes.
-pub(crate) const WORD_LEN: usize = 4;
+/// The length of the word that holds the E bit and the index, in bytes (RFC 3711 section 3.4).
+pub const WORD_LEN: usize = 4;
 
 /// The bit that tells that a packet is encrypted (RFC 3711 section 3.4).
-pub(crate) const E_BIT: u32 = 0x8000_0000;
+pub const E_BIT: u32 = 0x8000_0000;
 
 /// The SSRC of a packet, of its first 8 bytes.
 pub(crate) fn sender(header: &[u8]) -> u32

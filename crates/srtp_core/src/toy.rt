@@ -29,9 +29,9 @@ fn mix_four(tag: &mut [u8], at: usize, bytes: &[u8], from: usize)
 #[inline(always)]
 fn mix_fours(tag: &mut [u8; 16], at: usize, bytes: &[u8])
     requires whole { length bytes.now % 4 ≡ 0 }
-    requires room { at + length bytes.now ≤ 16 }
-    ensures long { length tag.new ≡ 16 }
-    ensures columns { (j : ℕ) → j < 16 → slice_index tag.new j
+    requires room { at + length bytes.now ≤ SRTP_BLOCK_SIZE }
+    ensures long { length tag.new ≡ SRTP_BLOCK_SIZE }
+    ensures columns { (j : ℕ) → j < SRTP_BLOCK_SIZE → slice_index tag.new j
         ≡ bit_xor (slice_index tag.old j) (column j at bytes.now) }
 {
     for n in 0..bytes.len() / 4 {
@@ -42,9 +42,9 @@ fn mix_fours(tag: &mut [u8; 16], at: usize, bytes: &[u8])
 /// XORs each byte into its column, the first one into column `at` and none past the last column.
 #[inline(always)]
 fn mix_each(tag: &mut [u8; 16], at: usize, bytes: &[u8])
-    requires { at + length bytes.now ≤ 16 }
-    ensures long { length tag.new ≡ 16 }
-    ensures columns { (j : ℕ) → j < 16 → slice_index tag.new j
+    requires { at + length bytes.now ≤ SRTP_BLOCK_SIZE }
+    ensures long { length tag.new ≡ SRTP_BLOCK_SIZE }
+    ensures columns { (j : ℕ) → j < SRTP_BLOCK_SIZE → slice_index tag.new j
         ≡ bit_xor (slice_index tag.old j) (column j at bytes.now) }
 {
     for (i, byte) in bytes.iter().enumerate() {
@@ -55,9 +55,9 @@ fn mix_each(tag: &mut [u8; 16], at: usize, bytes: &[u8])
 /// Like `mix_each`, by fours as far as they go.
 #[inline(always)]
 fn mix_bytes(tag: &mut [u8; 16], at: usize, bytes: &[u8])
-    requires { at + length bytes.now ≤ 16 }
-    ensures long { length tag.new ≡ 16 }
-    ensures columns { (j : ℕ) → j < 16 → slice_index tag.new j
+    requires { at + length bytes.now ≤ SRTP_BLOCK_SIZE }
+    ensures long { length tag.new ≡ SRTP_BLOCK_SIZE }
+    ensures columns { (j : ℕ) → j < SRTP_BLOCK_SIZE → slice_index tag.new j
         ≡ bit_xor (slice_index tag.old j) (column j at bytes.now) }
 {
     let (fours, last) = bytes.split_at(bytes.len() / 4 * 4);
@@ -67,9 +67,9 @@ fn mix_bytes(tag: &mut [u8; 16], at: usize, bytes: &[u8])
 
 /// XORs whole blocks of 16 bytes into the columns.
 fn mix_blocks(tag: &mut [u8; 16], blocks: &[u8])
-    requires { length blocks.now % 16 ≡ 0 }
-    ensures long { length tag.new ≡ 16 }
-    ensures columns { (j : ℕ) → j < 16 → slice_index tag.new j
+    requires { length blocks.now % SRTP_BLOCK_SIZE ≡ 0 }
+    ensures long { length tag.new ≡ SRTP_BLOCK_SIZE }
+    ensures columns { (j : ℕ) → j < SRTP_BLOCK_SIZE → slice_index tag.new j
         ≡ bit_xor (slice_index tag.old j) (column j 0 blocks.now) }
 {
     let mut lanes = u8x16::from_array(*tag);
@@ -82,13 +82,13 @@ fn mix_blocks(tag: &mut [u8; 16], blocks: &[u8])
 /// Like `mix_bytes`, of bytes that may go past the last column: by blocks where a block begins in
 /// column 0.
 fn mix_long(tag: &mut [u8; 16], at: usize, bytes: &[u8])
-    requires { at < 16 }
-    ensures long { length tag.new ≡ 16 }
-    ensures columns { (j : ℕ) → j < 16 → slice_index tag.new j
+    requires { at < SRTP_BLOCK_SIZE }
+    ensures long { length tag.new ≡ SRTP_BLOCK_SIZE }
+    ensures columns { (j : ℕ) → j < SRTP_BLOCK_SIZE → slice_index tag.new j
         ≡ bit_xor (slice_index tag.old j) (column j at bytes.now) }
 {
-    let (first, rest) = bytes.split_at(bytes.len().min((16 - at) % 16));
-    let (blocks, last) = rest.split_at(rest.len() / 16 * 16);
+    let (first, rest) = bytes.split_at(bytes.len().min((SRTP_BLOCK_SIZE - at) % SRTP_BLOCK_SIZE));
+    let (blocks, last) = rest.split_at(rest.len() / SRTP_BLOCK_SIZE * SRTP_BLOCK_SIZE);
     mix_bytes(tag, at, first);
     mix_blocks(tag, blocks);
     mix_bytes(tag, 0, last);
@@ -98,12 +98,12 @@ fn mix_long(tag: &mut [u8; 16], at: usize, bytes: &[u8])
 /// the first one again.
 #[inline(always)]
 fn mix(tag: &mut [u8; 16], at: usize, bytes: &[u8])
-    requires { at < 16 }
-    ensures long { length tag.new ≡ 16 }
-    ensures columns { (j : ℕ) → j < 16 → slice_index tag.new j
+    requires { at < SRTP_BLOCK_SIZE }
+    ensures long { length tag.new ≡ SRTP_BLOCK_SIZE }
+    ensures columns { (j : ℕ) → j < SRTP_BLOCK_SIZE → slice_index tag.new j
         ≡ bit_xor (slice_index tag.old j) (column j at bytes.now) }
 {
-    if bytes.len() <= 16 - at {
+    if bytes.len() <= SRTP_BLOCK_SIZE - at {
         mix_bytes(tag, at, bytes);
     } else {
         mix_long(tag, at, bytes);
@@ -167,8 +167,8 @@ impl Simulated for ToyCipher {
 
     #[inline(always)]
     fn tag(&self, key: &[u8], iv: &[u8; 12], aad1: &[u8], aad2: &[u8], text: &[u8]) -> [u8; 16] {
-        let second = aad1.len() % 16;
-        let third = (second + aad2.len() % 16) % 16;
+        let second = aad1.len() % SRTP_BLOCK_SIZE;
+        let third = (second + aad2.len() % SRTP_BLOCK_SIZE) % SRTP_BLOCK_SIZE;
         let mut tag = self.block(key, &nonce_and_word(iv, 1));
         mix(&mut tag, 0, aad1);
         mix(&mut tag, second, aad2);
