@@ -1,5 +1,5 @@
 -- When a step has a side seal a datagram behind the last number of a key, and what is told of the step.
-use Rattle.std.specs.Prelude.{◌≡◌, ◌+◌, ◌^◌, ℕ, List, [], ◌∷◌, length, Some}
+use Rattle.std.specs.Prelude.{◌≡◌, ◌+◌, ℕ, List, [], ◌∷◌, length, Some}
 use Rattle.std.specs.List.{AllByRecursion}
 use Rattle.media_model.specs.declared.entry.Side.{Side}
 use Rattle.media_model.specs.declared.entry.Call.TheVariants as call
@@ -22,6 +22,8 @@ use Rattle.media_laws.specs.Feedback.{next_index}
 use Rattle.media_laws.specs.Opening.{Sealing}
 use Rattle.media_laws.specs.Play.{Plays}
 use Rattle.media_laws.specs.Right.{IsRightSeal}
+use Rattle.rtp_base.specs.declared.number.TheConstants.{NUMBER_LIMIT}
+use Rattle.srtp_core.specs.declared.context.TheConstants.{SRTCP_INDEX_LIMIT}
 
 -- a tick of a plain session of a side is cut off: what is sealed before is right and, as it is read, what leaves until then; these
 -- streams and this index are left
@@ -35,14 +37,14 @@ pub record IsCutTick (seal : Sealing) (setup : Setup) (side : Side) (a : Session
 
 -- no index is left, or a stream has no number left for a repair that is due
 abbrev pub LacksNumber : Counter → Table → ℕ → Type 0
-LacksNumber Rtcp streams next = next ≡ 2 ^ 31
+LacksNumber Rtcp streams next = next ≡ SRTCP_INDEX_LIMIT
 LacksNumber (Rtx ssrc) streams next = IsUsedUpIn ssrc streams
 
 -- after these entries a step has a side seal a datagram behind the last number of this counter, and this is told of the step: the
 -- call of an application; or the tick, with all that it seals until then
 abbrev pub Exhausts : Sealing → Setup → List Entry → Step → Side → Counter → List Entry → Type 0
 Exhausts seal setup past (Application by time sender media payload) side counter told =
-    (by ≡ side) × (counter ≡ Rtcp) × (next_index setup by past ≡ 2 ^ 31) × (told ≡ Called by time call.Application ∷ [])
+    (by ≡ side) × (counter ≡ Rtcp) × (next_index setup by past ≡ SRTCP_INDEX_LIMIT) × (told ≡ Called by time call.Application ∷ [])
 Exhausts seal setup past (Tick by time) side counter told =
     (by ≡ side) × ((sealed : List Entry) × (told ≡ Ticked by time ∷ sealed)
     × (a : Session) × (b : Session) × (steps : List Step) × Plays seal setup a b steps past
@@ -51,6 +53,6 @@ Exhausts seal setup past step side counter told = ⊥
 
 -- after these entries a side has no number of this counter left: it sealed all from the first one of the setup on
 abbrev pub IsUsedUp : Setup → Side → Counter → List Entry → Type 0
-IsUsedUp setup side Rtcp entries = next_index setup side entries ≡ 2 ^ 31
+IsUsedUp setup side Rtcp entries = next_index setup side entries ≡ SRTCP_INDEX_LIMIT
 IsUsedUp setup side (Rtx ssrc) entries =
-    (L : Outgoing) × IsIn L (outgoing_of side setup) × (L.rtx ≡ Some ssrc) × (L.start + length (sealed_numbers side ssrc entries) ≡ 2 ^ 48)
+    (L : Outgoing) × IsIn L (outgoing_of side setup) × (L.rtx ≡ Some ssrc) × (L.start + length (sealed_numbers side ssrc entries) ≡ NUMBER_LIMIT)

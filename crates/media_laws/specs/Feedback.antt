@@ -1,5 +1,5 @@
 -- What the calls of applications have their sides send.
-use Rattle.std.specs.Prelude.{◌≡◌, ◌<◌, ◌≤◌, ◌+◌, ◌^◌, ℕ, true, List, [], ◌∷◌, length, take}
+use Rattle.std.specs.Prelude.{◌≡◌, ◌<◌, ◌≤◌, ◌+◌, ℕ, true, List, [], ◌∷◌, length, take}
 use Rattle.rtcp_wire.specs.declared.packet.Rtcp.TheVariants.{AppSpecificFeedback}
 use Rattle.rtcp_wire.specs.Texts.{text_of}
 use Rattle.srtp_core.specs.RtcpSeals.{sender_of}
@@ -12,6 +12,8 @@ use Rattle.media_model.specs.declared.setup.Setup.{Setup}
 use Rattle.media_model.specs.Entries.{srtcp_indices}
 use Rattle.media_model.specs.Setup.{local_of}
 use Rattle.media_laws.specs.Opening.{Sealing}
+use Rattle.srtp_core.specs.declared.context.TheConstants.{SRTCP_INDEX_LIMIT}
+use Rattle.srtp_core.specs.declared.srtcp.TheConstants.{HEADER_LEN}
 
 -- the index under which a side seals its next RTCP datagram: the setup's first one, and one more for each that it sealed
 abbrev pub next_index : Setup → Side → List Entry → ℕ
@@ -27,11 +29,11 @@ pub record IsSealOfPacket (seal : Sealing) (setup : Setup) (by : Side) (past : L
     (s : SealedEntry) : Type 0 where
   pub side : s.side ≡ by
   pub kind : s.kind ≡ Rtcp
-  pub ssrc : s.ssrc ≡ sender_of (take 8 packet)
+  pub ssrc : s.ssrc ≡ sender_of (take HEADER_LEN packet)
   pub index : s.index ≡ next_index setup by past
-  pub left : s.index < 2 ^ 31
+  pub left : s.index < SRTCP_INDEX_LIMIT
   pub plain : s.plain ≡ packet
-  pub header : 8 ≤ length packet
+  pub header : HEADER_LEN ≤ length packet
   pub bytes : s.bytes ≡ seal.rtcp by true s.index packet
 
 -- what a call of a side's application brings: the seal of its feedback, which is all that waits

@@ -9,6 +9,7 @@ use Rattle.media_model.specs.declared.entry.Opened.{Opened as OpenedEntry}
 use Rattle.media_model.specs.declared.setup.Setup.{Setup}
 use Rattle.media_model.specs.Sides.{peer_of}
 use Rattle.media_laws.specs.Plain.{read_header}
+use Rattle.srtp_core.specs.declared.srtcp.TheConstants.{HEADER_LEN}
 
 -- how the sides of a run seal RTP, under an SSRC and an index, and RTCP, encrypted or not, under an index; and what an RTCP
 -- datagram states of both
@@ -35,7 +36,7 @@ pub record IsRtpOpening (seal : Sealing) (setup : Setup) (got : GotEntry) (o : O
 -- an RTCP datagram was opened to a packet of at least 8 bytes, of which it is the peer's seal as it states
 pub record IsRtcpOpening (seal : Sealing) (got : GotEntry) (o : OpenedEntry) : Type 0 where
   pub rtcp : o.kind ≡ Rtcp
-  pub header : 8 ≤ length o.plain
+  pub header : HEADER_LEN ≤ length o.plain
   pub stated : o.index ≡ seal.states got.bytes
   pub sealed : seal.rtcp (peer_of o.side) (seal.encrypts got.bytes) o.index o.plain ≡ got.bytes
 

@@ -30,6 +30,7 @@ use Rattle.run_model.specs.RxPlay.{RxRecord}
 use Rattle.run_model.specs.Asking.{asked, is_round, owed, RxSide, side_of}
 use Rattle.run_model.specs.Runs.{Happening, events_of, on_side, IsGenuine, RepairsWiden}
 use Rattle.run_model.specs.Whole.{Config, Session, session_of, incoming_of, setup_of, Turns, Played, IsSound, HeadsApart, IsPlainWrite}
+use Rattle.media_model.specs.declared.setup.TheConstants.{DEFAULT_CACHE_PACKETS, DEFAULT_CACHE_NANOS, DEFAULT_MTU_TARGET, DEFAULT_MTU_WARN, DEFAULT_AUDIO_NANOS, DEFAULT_VIDEO_NANOS, DEFAULT_PAUSE_THRESHOLD_NANOS}
 
 -- type 96, whose RTX type is 97, and one stream: A sends it on SSRC 42, its repairs on SSRC 43 from
 -- number 5 on, with no cap
@@ -39,9 +40,9 @@ setup = record {
   profile = AeadAes128Gcm;
   key = Zero;
   beginning = record { unix_secs = 1700000000 };
-  mtu = record { target = 1150; warn = 1280 };
-  pause_threshold = 1500000000;
-  intervals = record { audio = 5000000000; video = 1000000000 };
+  mtu = record { target = DEFAULT_MTU_TARGET; warn = DEFAULT_MTU_WARN };
+  pause_threshold = DEFAULT_PAUSE_THRESHOLD_NANOS;
+  intervals = record { audio = DEFAULT_AUDIO_NANOS; video = DEFAULT_VIDEO_NANOS };
   a = record { ssrc = 1; srtcp_index = 0 };
   b = record { ssrc = 2; srtcp_index = 0 };
   exts = [];
@@ -55,7 +56,7 @@ setup = record {
   starts = record { ssrc = 42; number = 5 } ∷ [];
   caches = record {
     ssrc = 42;
-    cache = record { packets = 2000; age = 3000000000; cap = None };
+    cache = record { packets = DEFAULT_CACHE_PACKETS; age = DEFAULT_CACHE_NANOS; cap = None };
   } ∷ [];
 }
 
@@ -65,8 +66,8 @@ stream = record {
   ssrc = 42;
   rtx = Some 43;
   start = 5;
-  packets = 2000;
-  age = 3000000000;
+  packets = DEFAULT_CACHE_PACKETS;
+  age = DEFAULT_CACHE_NANOS;
   cap = None;
 }
 

@@ -1,5 +1,5 @@
 -- That each sealed datagram is a seal under its side's keys.
-use Rattle.std.specs.Prelude.{◌≡◌, ◌<◌, ◌≤◌, ◌^◌, ◌%◌, false, true, length, take, drop, ◌++◌, Some}
+use Rattle.std.specs.Prelude.{◌≡◌, ◌<◌, ◌≤◌, ◌%◌, false, true, length, take, drop, ◌++◌, Some}
 use Rattle.rtp_wire.specs.declared.header.RtpHeader.{RtpHeader}
 use Rattle.rtp_wire.specs.Header.{header_bytes, wire_form}
 use Rattle.rtp_base.specs.declared.kind.Kind.TheVariants.{Rtp, Rtcp}
@@ -13,6 +13,9 @@ use Rattle.run_model.specs.Tables.{has as has_ssrc}
 use Rattle.std.specs.List.{list_any}
 use Rattle.media_laws.specs.Opening.{Sealing}
 use Rattle.media_laws.specs.Plain.{extensions_of, read_header}
+use Rattle.rtp_base.specs.declared.number.TheConstants.{NUMBER_LIMIT}
+use Rattle.srtp_core.specs.declared.context.TheConstants.{SRTCP_INDEX_LIMIT}
+use Rattle.srtp_core.specs.declared.srtcp.TheConstants.{HEADER_LEN}
 
 -- a sealed RTP datagram is the seal of its plain, which is a header as it is written (RFC 3550 section 5.1), read again as its
 -- wire form, with its SSRC and the low 16 bits of its number, and what stands behind it; the SSRC is that of a stream of the side
@@ -23,7 +26,7 @@ pub record IsSealOf (seal : Sealing) (setup : Setup) (s : SealedEntry) : Type 0 
   pub reads : read_header setup s.plain ≡ Some header
   pub source : header.ssrc ≡ s.ssrc
   pub low : header.sequence_number ≡ s.index % 65536
-  pub small : s.index < 2 ^ 48
+  pub small : s.index < NUMBER_LIMIT
   pub not_filler : header.has_padding ≡ false
   pub few : header.csrc_count ≤ 15
   pub sealed_header : RtpHeader
@@ -36,9 +39,9 @@ pub record IsSealOf (seal : Sealing) (setup : Setup) (s : SealedEntry) : Type 0 
 -- from its SSRC
 pub record IsRtcpSealOf (seal : Sealing) (s : SealedEntry) : Type 0 where
   pub rtcp : s.kind ≡ Rtcp
-  pub header : 8 ≤ length s.plain
-  pub source : sender_of (take 8 s.plain) ≡ s.ssrc
-  pub small : s.index < 2 ^ 31
+  pub header : HEADER_LEN ≤ length s.plain
+  pub source : sender_of (take HEADER_LEN s.plain) ≡ s.ssrc
+  pub small : s.index < SRTCP_INDEX_LIMIT
   pub sealed : s.bytes ≡ seal.rtcp s.side true s.index s.plain
 
 -- what is sealed is one of these

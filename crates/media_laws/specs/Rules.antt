@@ -1,5 +1,5 @@
 -- The rules of a step after these entries, and the first one that it breaks.
-use Rattle.std.specs.Prelude.{ℕ, ◌^◌, Bool, not, ◌||◌, ◌==◌, nat_lt, nat_le, List, [], ◌∷◌, length, Option, Some, None}
+use Rattle.std.specs.Prelude.{ℕ, Bool, not, ◌||◌, ◌==◌, nat_lt, nat_le, List, [], ◌∷◌, length, Option, Some, None}
 use Rattle.std.specs.List.{list_any}
 use Rattle.media_model.specs.declared.entry.Side.{Side}
 use Rattle.media_model.specs.declared.entry.Write.{Write as Writing}
@@ -13,6 +13,9 @@ use Rattle.media_laws.specs.declared.fault.StepFault.{StepFault}
 use Rattle.media_laws.specs.declared.fault.StepFault.TheVariants.{TimeZero, TimeBack, TimeBeyond, UnknownStream, UnknownDatagram, UnknownType, NumberTooBig, NumberUsed, PayloadTooLong, TooManySources}
 use Rattle.media_model.specs.Entries.{last_time, writes_on, datagrams}
 pub use Rattle.setup_rules.specs.SetupRules.{has, first_fault}
+use Rattle.rtp_base.specs.declared.number.TheConstants.{NUMBER_LIMIT}
+use Rattle.media_model.specs.declared.step.TheConstants.{LAST_TIME}
+use Rattle.stream_core.specs.declared.stream_tx.TheConstants.{MAX_PAYLOAD_LEN}
 
 -- the first fault, where there is one, else what the rules after it say
 abbrev pub or_else : {F : Type 0} → Option F → Option F → Option F
@@ -24,15 +27,15 @@ abbrev pub time_rules : List Entry → ℕ → List (Bool × StepFault)
 time_rules entries time =
     (time == 0, TimeZero)
     ∷ (nat_lt time (last_time entries), TimeBack)
-    ∷ (nat_lt (10 ^ 16) time, TimeBeyond) ∷ []
+    ∷ (nat_lt LAST_TIME time, TimeBeyond) ∷ []
 
 abbrev pub write_rules : Setup → List Entry → Side → Writing → List (Bool × StepFault)
 write_rules setup entries side w =
     (not (has (streams_of side setup) w.ssrc), UnknownStream)
     ∷ (not (has (types_of setup) w.pt), UnknownType)
-    ∷ (nat_le (2 ^ 48) w.number, NumberTooBig)
+    ∷ (nat_le NUMBER_LIMIT w.number, NumberTooBig)
     ∷ (list_any (λ u. u.number == w.number) (writes_on side w.ssrc entries), NumberUsed)
-    ∷ (nat_lt 1400 (length w.payload), PayloadTooLong)
+    ∷ (nat_lt MAX_PAYLOAD_LEN (length w.payload), PayloadTooLong)
     ∷ (nat_lt 15 (length w.csrc), TooManySources) ∷ []
 
 -- a datagram that the other side sealed, counted from 1

@@ -1,5 +1,5 @@
 -- Why a step is not played.
-use Rattle.std.specs.Prelude.{◌≡◌, ◌^◌, Bool, true, false, List, [], Option, Some, None}
+use Rattle.std.specs.Prelude.{◌≡◌, Bool, true, false, List, [], Option, Some, None}
 use Rattle.srtp_core.specs.Cipher.{CipherMeaning}
 use Rattle.media_laws.specs.declared.counter.Counter.TheVariants as key
 use Rattle.session_core.specs.declared.error.RtcError.{RtcError}
@@ -15,6 +15,7 @@ use Rattle.media_laws.specs.Exhausting.{Exhausts}
 use Rattle.media_laws.specs.Feedback.{next_index}
 use Rattle.media_laws.specs.Keys.{sealing_of}
 use Rattle.media_laws.specs.Rules.{step_fault}
+use Rattle.srtp_core.specs.declared.context.TheConstants.{SRTCP_INDEX_LIMIT}
 
 -- the first rule that it breaks, where it breaks one; memory may run out at any step
 abbrev pub IsCauseAt : Option StepFault → StepError → Type 0
@@ -39,7 +40,7 @@ abbrev pub IsSendingCause : Setup → Side → List Entry → StepError → Type
 IsSendingCause setup side entries Memory = Unit {0}
 IsSendingCause setup side entries (Rule fault) = ⊥
 IsSendingCause setup side entries (KeyExhausted by counter) =
-    (by ≡ side) × (counter ≡ key.Rtcp) × (next_index setup side entries ≡ 2 ^ 31)
+    (by ≡ side) × (counter ≡ key.Rtcp) × (next_index setup side entries ≡ SRTCP_INDEX_LIMIT)
 
 -- the error of a step at which a side's session is cut off with an error
 abbrev pub cut_as : Side → RtcError → StepError

@@ -1,5 +1,5 @@
 -- What a session knows of the entries so far.
-use Rattle.std.specs.Prelude.{◌≡◌, ◌<◌, ◌≤◌, ◌^◌, ℕ, false, is_some, List, [], ◌∷◌, ◌++◌, Option, Some, None}
+use Rattle.std.specs.Prelude.{◌≡◌, ◌<◌, ◌≤◌, ℕ, false, is_some, List, [], ◌∷◌, ◌++◌, Option, Some, None}
 use Rattle.std.specs.List.{AllByRecursion}
 use Rattle.srtp_core.specs.Cipher.{CipherMeaning}
 use Rattle.stream_core.specs.Tables.{place_of}
@@ -30,6 +30,7 @@ use Rattle.media_laws.specs.Keys.{sealing_of}
 use Rattle.media_laws.specs.Plain.{extensions_of}
 use Rattle.media_laws.specs.Play.{IsBroughtBy}
 use Rattle.media_laws.specs.Rules.{has}
+use Rattle.media_model.specs.declared.step.TheConstants.{LAST_TIME}
 
 -- one end of a run: its session, and the numbers that were written on each stream that it sends
 pub record EndState : Type 0 where
@@ -73,7 +74,7 @@ pub record TurnsOn (cipher : CipherMeaning) (setup : Setup) (side : Side) (a : S
 pub record ReadyAt (cipher : CipherMeaning) (setup : Setup) (side : Side) (end : EndState) (a : Session) (entries : List Entry) (time : ℕ) : Type 0 where
   pub valid : setup_fault setup ≡ None
   pub late : a.rx.now ≤ time
-  pub early : time ≤ 10 ^ 16
+  pub early : time ≤ LAST_TIME
   pub some : 0 < time
   pub ready : Ready cipher setup side end a entries
 

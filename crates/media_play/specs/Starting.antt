@@ -43,6 +43,8 @@ use Rattle.media_laws.specs.Rules.{has}
 use Rattle.media_play.specs.Ends.{EndSession, SessionStands}
 use Rattle.media_laws.specs.Plain.{extensions_of}
 use Rattle.media_laws.specs.Keys.{is_left}
+use Rattle.srtp_core.specs.declared.context.TheConstants.{SRTCP_INDEX_LIMIT}
+use Rattle.session_core.specs.declared.config.TheConstants.{LEAST_TARGET}
 
 -- the types of a session for one of a setup: itself, and that of its redundant data as one without repairs
 abbrev pub red_rows : PayloadType → Option ℕ → List PayloadType
@@ -156,7 +158,7 @@ pub record Begun (cipher : CipherMeaning) (setup : Setup) (side : Side) (sent re
   pub opens : s.state.opening
       ≡ Some (new_state cipher setup.profile (material_of setup) (is_left (peer_of side)) 0)
   pub target : s.state.target ≡ setup.mtu.target
-  pub wide : 900 ≤ s.state.target
+  pub wide : LEAST_TARGET ≤ s.state.target
   pub runs : s.state.stopped ≡ false
   pub feedback : s.state.feedback ≡ []
   pub released : s.state.released ≡ false
@@ -180,7 +182,7 @@ pub record Begun (cipher : CipherMeaning) (setup : Setup) (side : Side) (sent re
 
 pub record Starts (cipher : CipherMeaning) (setup : Setup) (side : Side) (sent received : List Outgoing) (view : EndSession) : Type 0 where
   pub session : SessionRecord
-  pub bounded : (local_of side setup).srtcp_index ≤ 2 ^ 31
+  pub bounded : (local_of side setup).srtcp_index ≤ SRTCP_INDEX_LIMIT
   pub sent_words : AllByRecursion HasWords sent
   pub heard_words : AllByRecursion HasWords received
   pub stands : SessionStands view session

@@ -34,8 +34,9 @@ use media_model::{Kind, Packet, Sealed, Setup, Side, Sources, Write};
 use media_units::Instant;
 use queue_store::QueueStore;
 use rtcp_wire::{AppSpecificFeedback as Application, items_fit_by_lengths};
+use rtp_base::NUMBER_LIMIT;
 use rtp_wire::{RtpHeader, SeqNo, Ssrc};
-use session_core::{Datagram, Event, RtcError, Session};
+use session_core::{Datagram, Event, MAX_APPLICATION_LEN, RtcError, Session};
 use session_turns::{
     calls_are_right, calls_turn, hears_turn, openings_are_right, opens_turn, requests_turn,
     rtcp_openings_are_right, seals_are_right, ticks_cut, ticks_turn, writes_turn,
@@ -43,17 +44,12 @@ use session_turns::{
 use srtp_core::SrtpCipher;
 use std::alloc::{AllocError, Global};
 use std::marker::Model;
-use stream_core::{Payload, RtpPacket, RtpWrite, Sent};
+use stream_core::{MAX_PAYLOAD_LEN, Payload, RtpPacket, RtpWrite, Sent};
 use thiserror::Error;
 
-/// Numbers of packets are below it.
-const NUMBER_LIMIT: u64 = 1 << 48;
-
-/// The most bytes of a payload that is written.
-const MAX_PAYLOAD_LEN: usize = 1400;
-
-/// The most contributing sources of a packet (RFC 3550 section 5.1).
-const MAX_SOURCES: usize = 15;
+/// The most contributing sources of a packet: their count in a header has 4 bits (RFC 3550 section
+/// 5.1).
+pub const MAX_SOURCES: usize = 15;
 
 /// Why a tick is not played, and what left of it before.
 #[derive(Debug, Drop, Error)]
@@ -99,7 +95,7 @@ impl<C: SrtpCipher> Model for End<C> {
 
 /// A write as it is handed to its stream.
 fn rtp_write(alloc: Global, time: Instant, write: &Write) -> Result<RtpWrite, AllocError>
-    requires { length write.now.csrc ≤ 15 }
+    requires { length write.now.csrc ≤ MAX_SOURCES }
     ensures { IfOk result (λ w. w ≡ write_at time write.now) }
 {
     let payload = Payload::from_slice(alloc, write.payload.as_slice())?;
@@ -295,7 +291,7 @@ impl<C: SrtpCipher> End<C> {
     pub fn check_write(&mut self, write: &Write) -> Result<usize, StepFault>
         ensures place { IfOk result (λ at. place_of write.now.ssrc self.old.session.state.tx ≡ Some at) }
         ensures within { IfOk result (λ at. at < length self.old.session.state.tx) }
-        ensures sources { IfOk result (λ at. length write.now.csrc ≤ 15) }
+        ensures sources { IfOk result (λ at. length write.now.csrc ≤ MAX_SOURCES) }
         ensures rule { (setup : Given) (side : Party) (a : Plain) (entries : List Entry)
             → Ready C.meaning setup side self.old a entries
             → write_fault setup entries side write.now ≡ result_err result }
@@ -342,7 +338,7 @@ impl<C: SrtpCipher> End<C> {
         write: &Write,
     ) -> Result<(), AllocError>
         requires place { place < length self.old.session.state.tx }
-        requires sources { length write.now.csrc ≤ 15 }
+        requires sources { length write.now.csrc ≤ MAX_SOURCES }
         ensures { OnOk result ((setup : Given) (side : Party) (a : Plain) (entries : List Entry)
             → ReadyAt C.meaning setup side self.old a entries time
             → place_of write.now.ssrc self.old.session.state.tx ≡ Some place
@@ -469,7 +465,7 @@ impl<C: SrtpCipher> End<C> {
     ) -> Result<Datagram, StepError>
         requires moment { time ≢ 0 }
         requires whole { length feedback.payload % 4 ≡ 0 }
-        requires few { length feedback.payload ≤ 800 }
+        requires few { length feedback.payload ≤ MAX_APPLICATION_LEN }
         ensures sealed { IfOk result (λ datagram. (setup : Given) (a : Plain) (entries : List Entry)
             → ReadyAt C.meaning setup side self.old a entries time → a.rtcp ≡ next_index setup side entries
             → IsSealOfPacket (sealing_of C.meaning setup) setup side entries

@@ -37,7 +37,7 @@ use media_model::{
 use media_units::Instant;
 use rtcp_wire::AppSpecificFeedback as Application;
 use rtp_wire::Ssrc;
-use session_core::Datagram;
+use session_core::{Datagram, MAX_APPLICATION_LEN};
 use srtp_core::SrtpCipher;
 use std::alloc::{AllocError, Global};
 use std::marker::Model;
@@ -438,7 +438,7 @@ fn call_step<C: SrtpCipher>(
 ) -> Result<(), StepError>
     requires moment { time ≢ 0 }
     requires whole { length feedback.payload % 4 ≡ 0 }
-    requires few { length feedback.payload ≤ 800 }
+    requires few { length feedback.payload ≤ MAX_APPLICATION_LEN }
     ensures ready { OnOk result ((setup : Given) (a : Plain)
         → ReadyAt C.meaning setup side end.old a log.old time
         → a.rtcp ≡ next_index setup side log.old

@@ -21,7 +21,7 @@ use pace_script::laws::pace_script_spells_one;
 use srtp_core::{ShaCipher, ToyCipher};
 use std::alloc::Global;
 
-/// The most bytes of an input.
+/// The most bytes of an input: a choice.
 pub const LIMIT: usize = 67_108_864;
 
 // Reads the whole input, and has the command that the words name answer it.

@@ -1,5 +1,5 @@
 -- All outgoing streams of a side.
-use Rattle.std.specs.Prelude.{◌≡◌, ◌≤◌, ◌^◌, ℕ, Bool, true, false, ◌||◌, ◌==◌, if◌then◌else◌, map, List, [], ◌∷◌, ◌++◌, Some}
+use Rattle.std.specs.Prelude.{◌≡◌, ◌≤◌, ℕ, Bool, true, false, ◌||◌, ◌==◌, if◌then◌else◌, map, List, [], ◌∷◌, ◌++◌, Some}
 use Rattle.std.specs.List.{flat_map, fold}
 use Rattle.resend_core.specs.ResendStore.{last_position}
 use Rattle.rtp_base.specs.declared.kind.Kind.TheVariants.{Rtcp}
@@ -11,6 +11,7 @@ use Rattle.run_model.specs.Sending.{named_on, wanted}
 use Rattle.run_model.specs.Seals.{Sealing}
 use Rattle.run_model.specs.TxPlay.{TxRecord, IsDue, new_tx, after_write, past_of, Polls, Queues, IsApart, clock_step, begun_tick}
 use Rattle.rtp_base.specs.Window.{is_just}
+use Rattle.rtp_base.specs.declared.number.TheConstants.{NUMBER_LIMIT}
 
 -- the streams in order, each with its record
 abbrev pub Table : Type 0
@@ -37,7 +38,7 @@ AreApart (L ∷ Ls) = IsApart L × (AllStrange L Ls × AreApart Ls)
 
 -- one of these streams has no number left for a repair that is due, under this SSRC
 abbrev pub IsUsedUpIn : ℕ → Table → Type 0
-IsUsedUpIn ssrc streams = (s : Outgoing × TxRecord) × IsIn s streams × (s.0.rtx ≡ Some ssrc) × (s.1.next_rtx ≡ 2 ^ 48) × IsDue s.0 s.1
+IsUsedUpIn ssrc streams = (s : Outgoing × TxRecord) × IsIn s streams × (s.0.rtx ≡ Some ssrc) × (s.1.next_rtx ≡ NUMBER_LIMIT) × IsDue s.0 s.1
 
 -- a poll of one of the streams, whichever the pacer chooses
 pub data PollsOne (T : Types) (seal : Sealing) (now : ℕ) : Table → Table → List Event → Type 0 where

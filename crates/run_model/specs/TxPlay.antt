@@ -2,6 +2,7 @@
 use Rattle.std.specs.Prelude.{length, ◌≡◌, ◌≤◌, ◌+◌, ℕ, Bool, true, false, ◌||◌, ◌==◌, min, filter, List, [], ◌∷◌, ◌++◌, Some, None}
 use Rattle.std.specs.List.{flat_map, list_all}
 use Rattle.resend_core.specs.ResendStore.{Event as Stored, pushed, evicted, Past, MustStore, HeldAs, last_position}
+use Rattle.resend_core.specs.declared.rtx_cache.TheConstants.{INITIAL_CACHE_PACKETS}
 use Rattle.rtp_base.specs.declared.kind.Kind.TheVariants.{Rtcp}
 use Rattle.rtcp_wire.specs.declared.rtcp_fb.RtcpFb.{RtcpFb}
 use Rattle.media_model.specs.declared.entry.Write.{Write}
@@ -29,7 +30,7 @@ new_tx L = record { written = []; queue = []; store = []; resends = []; next_rtx
 
 -- a store for so many packets, with room for ten of them at first
 abbrev pub past_of : Outgoing → List (Stored Write) → Past Write
-past_of L events = record { initial = min L.packets 10; age = L.age; greatest = L.packets; events = events }
+past_of L events = record { initial = min L.packets INITIAL_CACHE_PACKETS; age = L.age; greatest = L.packets; events = events }
 
 abbrev pub after_write : Write → TxRecord → TxRecord
 after_write w t = record t { written = t.written ++ w.number ∷ []; queue = t.queue ++ w ∷ [] }

@@ -1,5 +1,5 @@
 -- What a session does at each call of a run is a turn.
-use Rattle.std.specs.Prelude.{◌≡◌, ◌≤◌, ◌<◌, ◌^◌, ℕ, List, [], ◌∷◌, slice_index, Option, Some, None}
+use Rattle.std.specs.Prelude.{◌≡◌, ◌≤◌, ◌<◌, ℕ, List, [], ◌∷◌, slice_index, Option, Some, None}
 use Rattle.rtp_base.specs.declared.kind.Kind.TheVariants.{Rtp, Rtcp}
 use Rattle.rtcp_wire.specs.declared.feedback.AppSpecificFeedback.{AppSpecificFeedback as Application}
 use Rattle.rtcp_wire.specs.declared.packet.Rtcp.TheVariants.{AppSpecificFeedback}
@@ -29,6 +29,8 @@ use Rattle.run_model.specs.Tables.{Table, IsUnused, IsUsedUpIn}
 use Rattle.run_model.specs.Whole.{Config, Session, Turns, CutsOff}
 use Rattle.session_turns.specs.Reading.{event_of, events_of, events_opened}
 use Rattle.session_turns.specs.Mirrors.{IsGiven, write_at, Mirrors, IsFit}
+use Rattle.srtp_core.specs.declared.context.TheConstants.{SRTCP_INDEX_LIMIT}
+use Rattle.media_model.specs.declared.step.TheConstants.{LAST_TIME}
 
 -- a turn of a plain session that brings these events, to one that a record mirrors; types, header extensions and the latch of
 -- the session are as they were
@@ -57,12 +59,12 @@ WritesTurn =
 abbrev pub TicksTurn : Type 0
 TicksTurn =
     (cipher : CipherMeaning) (C : Config) (side : Side) (r after : SessionRecord) (a : Session) (time : ℕ) (all : List Datagram) → IsFit C → Mirrors cipher C side r a
-    → a.rx.now ≤ time → 0 < time → time ≤ 10 ^ 16 → Drains cipher time (after_events (after_timeout time r)) after all
+    → a.rx.now ≤ time → 0 < time → time ≤ LAST_TIME → Drains cipher time (after_events (after_timeout time r)) after all
     → TurnsTo cipher C side r a after (ticked time ∷ events_of r.state.transport.exts all)
 
 -- why a tick is cut off that leaves these streams and this index: no index is left, or no number for a repair that is due
 abbrev pub IsCutFor : RtcError → Table → ℕ → Type 0
-IsCutFor (KeyExhausted srtcp.Rtcp) streams next = next ≡ 2 ^ 31
+IsCutFor (KeyExhausted srtcp.Rtcp) streams next = next ≡ SRTCP_INDEX_LIMIT
 IsCutFor (RepairsExhausted ssrc) streams next = IsUsedUpIn ssrc streams
 IsCutFor error streams next = Unit {0}
 
@@ -77,21 +79,21 @@ pub record CutsTo (cipher : CipherMeaning) (C : Config) (side : Side) (r : Sessi
 abbrev pub TicksCut : Type 0
 TicksCut =
     (cipher : CipherMeaning) (C : Config) (side : Side) (r after : SessionRecord) (a : Session) (time : ℕ) (error : RtcError) (sent : List Datagram) → IsFit C → Mirrors cipher C side r a
-    → a.rx.now ≤ time → 0 < time → time ≤ 10 ^ 16 → IsDrainCut cipher time (after_events (after_timeout time r)) error after sent
+    → a.rx.now ≤ time → 0 < time → time ≤ LAST_TIME → IsDrainCut cipher time (after_events (after_timeout time r)) error after sent
     → CutsTo cipher C side r a time error sent
 
 -- an RTP datagram of bytes comes, and all that is told then is taken
 abbrev pub OpensTurn : Type 0
 OpensTurn =
     (cipher : CipherMeaning) (C : Config) (side : Side) (r after : SessionRecord) (a : Session) (time : ℕ) (bytes : List ℕ) (o : Option Opening) → IsFit C → Mirrors cipher C side r a
-    → a.rx.now ≤ time → time ≤ 10 ^ 16 → ((i : ℕ) → slice_index bytes i < 256) → Receives cipher r bytes time after o
+    → a.rx.now ≤ time → time ≤ LAST_TIME → ((i : ℕ) → slice_index bytes i < 256) → Receives cipher r bytes time after o
     → TurnsTo cipher C side r a (after_events after) (got time Rtp bytes ∷ events_opened r.state.transport.exts o after.state.packet)
 
 -- an RTCP datagram comes, and all that is told then is taken
 abbrev pub HearsTurn : Type 0
 HearsTurn =
     (cipher : CipherMeaning) (C : Config) (side : Side) (r after : SessionRecord) (a : Session) (time : ℕ) (bytes : List ℕ) (o : Option Opening) → IsFit C → Mirrors cipher C side r a
-    → a.rx.now ≤ time → time ≤ 10 ^ 16 → ReceivesRtcp cipher r bytes time after o
+    → a.rx.now ≤ time → time ≤ LAST_TIME → ReceivesRtcp cipher r bytes time after o
     → TurnsTo cipher C side r a (after_events after) (got time Rtcp bytes ∷ events_opened r.state.transport.exts o None)
 
 -- the application sends feedback of its own, which leaves at once

@@ -32,17 +32,22 @@ use Rattle.run_model.specs.RxPlay.{RxRecord}
 use Rattle.run_model.specs.Tables.{lines, AreApart}
 use Rattle.run_model.specs.Whole.{Config, Session, setup_of, incoming_of, probes}
 use Rattle.session_turns.specs.Reading.{types_in, sealing_of, reporting_of}
+use Rattle.rtp_base.specs.declared.number.TheConstants.{NUMBER_LIMIT}
+use Rattle.srtp_core.specs.declared.context.TheConstants.{SRTCP_INDEX_LIMIT}
+use Rattle.media_model.specs.declared.step.TheConstants.{LAST_TIME}
+use Rattle.stream_core.specs.declared.stream_tx.TheConstants.{MAX_PAYLOAD_LEN}
+use Rattle.session_core.specs.declared.config.TheConstants.{LEAST_TARGET}
 
 -- a write that a stream of an SSRC may have been given
 pub record IsGiven (ssrc : ℕ) (w : Write) : Type 0 where
   pub on : w.ssrc ≡ ssrc
   pub word : w.ssrc < 2 ^ 32
-  pub number : w.number < 2 ^ 48
+  pub number : w.number < NUMBER_LIMIT
   pub time : w.rtp_time < 2 ^ 32
   pub pt : w.pt < 2 ^ 7
   pub few : length w.csrc ≤ 15
   pub sources : AreWords w.csrc
-  pub payload : length w.payload ≤ 1400
+  pub payload : length w.payload ≤ MAX_PAYLOAD_LEN
 
 -- a write that is kept to be sent again: its type has a type of repairs
 pub record IsKept (rows : List (ℕ × TypeRow)) (ssrc : ℕ) (w : Write) : Type 0 where
@@ -204,7 +209,7 @@ pub record Mirrors (cipher : CipherMeaning) (C : Config) (side : Side) (r : Sess
   pub own_reports : C.reports side ≡ reporting_of cipher own
   pub other_reports : C.reports (peer_of side) ≡ reporting_of cipher other
   pub index : own.srtcp_index ≡ a.rtcp
-  pub bounded : a.rtcp ≤ 2 ^ 31
+  pub bounded : a.rtcp ≤ SRTCP_INDEX_LIMIT
   pub types : C.types ≡ types_in r.state.types
   pub trip : C.trip ≡ (λ now d. trip_of (ntp_of r.state now) d)
   pub owns : C.owns side ≡ is_own r.state.local_ssrc r.state.tx
@@ -216,7 +221,7 @@ pub record Mirrors (cipher : CipherMeaning) (C : Config) (side : Side) (r : Sess
   pub sections : AllByRecursion ExpectsNone r.state.medias
   pub known : AllByRecursion (HasOriginal r.known.originals) r.known.streams
   pub last_round : r.state.last_round ≡ a.rx.last_round
-  pub target : 900 ≤ r.state.target
+  pub target : LEAST_TARGET ≤ r.state.target
   pub feedback : r.state.feedback ≡ []
   pub released : r.state.released ≡ false
   pub application : r.state.application ≡ None
@@ -233,4 +238,4 @@ pub record IsFit (C : Config) : Type 0 where
   pub apart : (side : Side) → AreApart (C.outgoing side)
   pub words : (side : Side) → AllByRecursion IsWide (C.outgoing side)
   pub rtx_types : (pt rtx : ℕ) → C.types.rtx_of pt ≡ Some rtx → rtx < 2 ^ 7
-  pub threshold : C.threshold ≤ 10 ^ 16
+  pub threshold : C.threshold ≤ LAST_TIME

@@ -1,5 +1,5 @@
 -- That what a session seals, and what it opens, is a seal of the plain datagram that it tells of.
-use Rattle.std.specs.Prelude.{◌≡◌, ◌<◌, ◌≤◌, ◌^◌, ◌%◌, ℕ, true, false, List, ◌++◌, length, take, drop, slice_index, Some}
+use Rattle.std.specs.Prelude.{◌≡◌, ◌<◌, ◌≤◌, ◌%◌, ℕ, true, false, List, ◌++◌, length, take, drop, slice_index, Some}
 use Rattle.std.specs.List.{list_any, AllByRecursion}
 use Rattle.rtp_base.specs.declared.kind.Kind.TheVariants.{Rtp, Rtcp}
 use Rattle.rtp_wire.specs.declared.extension.ExtensionMap.{ExtensionMap}
@@ -27,6 +27,9 @@ use Rattle.run_model.specs.Tables.{has}
 use Rattle.run_model.specs.Whole.{Config, Session}
 use Rattle.session_turns.specs.Reading.{len_in}
 use Rattle.session_turns.specs.Mirrors.{Mirrors, IsFit}
+use Rattle.rtp_base.specs.declared.number.TheConstants.{NUMBER_LIMIT}
+use Rattle.srtp_core.specs.declared.context.TheConstants.{SRTCP_INDEX_LIMIT}
+use Rattle.srtp_core.specs.declared.srtcp.TheConstants.{HEADER_LEN}
 
 -- an RTP datagram of a stream of these lines, or of its repairs: its plain is a header as it is written, which reads with its
 -- SSRC and the low 16 bits of its number, without padding, and what stands behind it
@@ -36,7 +39,7 @@ pub record IsRightRtp (cipher : CipherMeaning) (exts : ExtensionMap) (own : Srtp
   pub reads : header_of exts d.plain ≡ Some header
   pub source : header.ssrc ≡ d.ssrc
   pub low : header.sequence_number ≡ d.index % 65536
-  pub small : d.index < 2 ^ 48
+  pub small : d.index < NUMBER_LIMIT
   pub not_filler : header.has_padding ≡ false
   pub few : header.csrc_count ≤ 15
   pub stream : list_any (λ L. has L d.ssrc) lines ≡ true
@@ -48,9 +51,9 @@ pub record IsRightRtp (cipher : CipherMeaning) (exts : ExtensionMap) (own : Srtp
 -- an RTCP datagram: the encrypted seal of at least 8 bytes, whose first item is from its SSRC
 pub record IsRightRtcp (cipher : CipherMeaning) (own : SrtpState) (d : Datagram) : Type 0 where
   pub rtcp : d.kind ≡ Rtcp
-  pub header : 8 ≤ length d.plain
-  pub source : sender_of (take 8 d.plain) ≡ d.ssrc
-  pub small : d.index < 2 ^ 31
+  pub header : HEADER_LEN ≤ length d.plain
+  pub source : sender_of (take HEADER_LEN d.plain) ≡ d.ssrc
+  pub small : d.index < SRTCP_INDEX_LIMIT
   pub sealed : d.bytes ≡ sealed_rtcp cipher own.profile own.keys true d.index d.plain
 
 pub data IsRight (cipher : CipherMeaning) (exts : ExtensionMap) (own : SrtpState) (lines : List Outgoing) (d : Datagram) : Type 0 where
@@ -96,8 +99,8 @@ OpeningsAreRight =
 -- what an RTCP datagram opened to: at least 8 bytes, of which the bytes are the seal that they state
 pub record IsRightRtcpOpening (cipher : CipherMeaning) (other : SrtpState) (bytes : List ℕ) (o : Opening) : Type 0 where
   pub rtcp : o.kind ≡ Rtcp
-  pub header : 8 ≤ length o.plain
-  pub source : sender_of (take 8 o.plain) ≡ o.ssrc
+  pub header : HEADER_LEN ≤ length o.plain
+  pub source : sender_of (take HEADER_LEN o.plain) ≡ o.ssrc
   pub stated : o.index ≡ stated_index other.profile bytes
   pub sealed : sealed_rtcp cipher other.profile other.keys (stated_bit other.profile bytes) o.index o.plain ≡ bytes
 

@@ -5,6 +5,7 @@ use Rattle.rtp_wire.specs.Extensions.{no_extensions}
 use Rattle.srtp_core.specs.Toy.{toy_meaning}
 use Rattle.srtp_core.specs.declared.profile.SrtpProfile.TheVariants.{AeadAes128Gcm}
 use Rattle.session_core.specs.declared.config.SessionConfig.{SessionConfig}
+use Rattle.session_core.specs.declared.config.TheConstants.{DATAGRAM_MTU, DATAGRAM_MTU_WARN}
 use Rattle.session_core.specs.declared.datagram.Event.{Event}
 use Rattle.session_core.specs.declared.datagram.Event.TheVariants.{RtpPacket, AppSpecificFeedback}
 use Rattle.payload_core.specs.Params.{Config, no_format, plain_params}
@@ -31,7 +32,7 @@ abbrev pub end_config : SessionConfig
 end_config = record {
   id = 1;
   beginning = record { unix_secs = 0 };
-  mtu = record { target = 1150; warn = 1280 };
+  mtu = record { target = DATAGRAM_MTU; warn = DATAGRAM_MTU_WARN };
   local_ssrc = 1;
   pause_threshold = 1500000000;
   intervals = record { audio = 5000000000; video = 1000000000 };

@@ -5,7 +5,7 @@ ghost use Rattle.resend_core.specs.ResendStore.{Past};
 ghost use Rattle.resend_core.specs.RtxCache.{StandsFor, packet_at, IsCached};
 
 use media_units::Instant;
-use resend_core::{Cached, ResendStore, RtxCache};
+use resend_core::{CACHED_SIZE_LIMIT, Cached, ResendStore, RtxCache};
 use rtp_base::SeqNo;
 use std::alloc::{AllocError, Global};
 
@@ -17,7 +17,7 @@ pub fn keep_and_find<P: Cached, S: ResendStore<P>>(
     now: Instant,
     asked: SeqNo,
 ) -> Result<Option<usize>, AllocError>
-    requires { P.size packet < 2000 }
+    requires { P.size packet < CACHED_SIZE_LIMIT }
     ensures len { IfOk result (λ len. len
         ≡ option_map P.size (packet_at S.value_at cache.new asked)) }
     ensures kept { OnOk result ((past : Past P) → StandsFor S.stands_for P.size cache.old past

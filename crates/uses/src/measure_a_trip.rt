@@ -6,7 +6,9 @@ ghost use Rattle.report_core.specs.LastReport.{compact_of, delay_units};
 ghost use Rattle.report_core.specs.Trip.{trip_told};
 
 use media_units::{Beginning, Duration, Instant};
-use report_core::{SenderNews, sender_trip, trips_are_measured};
+use report_core::{
+    LEAST_HELD_NANOS, SenderNews, TRIP_ERROR_NANOS, sender_trip, trips_are_measured,
+};
 use rtcp_items::SenderInfo;
 use rtp_base::ReceptionReport;
 
@@ -26,8 +28,8 @@ pub fn measured_trip(
         → info.ntp_time ≡ unix_of_ntp (ntp_of_unix unix)
         → beginning.now.unix_secs * 1000000000 + back ≡ unix + held + trip
         → unix + held + trip + nanos_1900 < 2 ^ 32 * 1000000000
-        → span_of unix ≡ span_of (unix + held + trip) → 16000 ≤ held → 50000 ≤ trip
-        → IsSomeAnd result (λ t. (t ≤ trip + 50000) × (trip ≤ t + 50000)) }
+        → span_of unix ≡ span_of (unix + held + trip) → LEAST_HELD_NANOS ≤ held → TRIP_ERROR_NANOS ≤ trip
+        → IsSomeAnd result (λ t. (t ≤ trip + TRIP_ERROR_NANOS) × (trip ≤ t + TRIP_ERROR_NANOS)) }
 {
     trips_are_measured();
     let ssrc = info.ssrc;

@@ -1,5 +1,5 @@
 //! Where a redundant block belongs, which the window then takes.
-ghost use Rattle.std.specs.Prelude.{◌≡◌, ℕ, List, ◌^◌, ◌<◌, true, None, IfSome, IfNone, OnSome};
+ghost use Rattle.std.specs.Prelude.{◌≡◌, ℕ, List, ◌<◌, true, None, IfSome, IfNone, OnSome};
 ghost use Rattle.repair_core.specs.Fresh.{is_fresh};
 ghost use Rattle.repair_core.specs.Rounds.{Heard, came, taken};
 ghost use Rattle.red_core.specs.Known.{with_known};
@@ -7,7 +7,7 @@ ghost use Rattle.red_core.specs.Placing.{place_of};
 
 use red_core::RedMemory;
 use repair_core::GapWindow;
-use rtp_base::SeqNo;
+use rtp_base::{NUMBER_LIMIT, SeqNo};
 
 /// The number of a redundant block of this time that came in a datagram. The window takes it, so
 /// that it is neither asked for nor taken again, and no other block of that time has a place then.
@@ -18,7 +18,7 @@ pub fn recover_block<W: GapWindow>(
     datagram: SeqNo,
     time: u64,
 ) -> Option<SeqNo>
-    requires { datagram < 2 ^ 48 }
+    requires { datagram < NUMBER_LIMIT }
     ensures place { (past : Heard) → W.remembers window.old past
         → result ≡ place_of memory.old (taken past) datagram time }
     ensures taken { (past : Heard) → W.remembers window.old past

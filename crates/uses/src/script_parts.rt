@@ -3,8 +3,9 @@ ghost use Rattle.std.specs.Prelude.{◌≡◌, [], None, false};
 
 use media_base::{Bytes, Listed};
 use media_model::{
-    CipherName, Codec, Key, Local, Media, MediaKind, Mtu, PayloadType, ReportTimes, Setup, Side,
-    Sources, SrtcpIndex, Step, Stream, Write,
+    CipherName, Codec, DEFAULT_AUDIO_NANOS, DEFAULT_MTU_TARGET, DEFAULT_MTU_WARN,
+    DEFAULT_PAUSE_THRESHOLD_NANOS, DEFAULT_VIDEO_NANOS, Key, Local, Media, MediaKind, Mtu,
+    PayloadType, ReportTimes, Setup, Side, Sources, SrtcpIndex, Step, Stream, Write,
 };
 use media_units::{Beginning, Duration, Instant};
 use rtp_wire::{Mid, Pt, SeqNo, Ssrc};
@@ -74,9 +75,9 @@ pub fn setup(alloc: Global, types: Vec<PayloadType>, media: Vec<Media>) -> Setup
       profile = SrtpProfile.AeadAes128Gcm;
       key = Key.Zero;
       beginning = record { unix_secs = 0 };
-      mtu = record { target = 1150; warn = 1280 };
-      pause_threshold = 1500000000;
-      intervals = record { audio = 5000000000; video = 1000000000 };
+      mtu = record { target = DEFAULT_MTU_TARGET; warn = DEFAULT_MTU_WARN };
+      pause_threshold = DEFAULT_PAUSE_THRESHOLD_NANOS;
+      intervals = record { audio = DEFAULT_AUDIO_NANOS; video = DEFAULT_VIDEO_NANOS };
       a = record { ssrc = 1; srtcp_index = 0 };
       b = record { ssrc = 2; srtcp_index = 0 };
       exts = [];
