@@ -7,6 +7,7 @@ use Rattle.media_model.specs.declared.setup.Setup.{Setup}
 pub use Rattle.media_model.specs.Setup.{extensions_of}
 use Rattle.media_model.specs.declared.entry.Write.{Write as Writing}
 use Rattle.media_model.specs.declared.entry.Packet.{Packet}
+use Rattle.rtp_wire.specs.declared.header.TheConstants.{MAX_SOURCES}
 
 -- the header at the front of the bytes, if one stands there
 abbrev pub read_header : Setup → List ℕ → Option RtpHeader
@@ -25,7 +26,7 @@ pub record Carries (exts : ExtensionMap) (plain : List ℕ) (w : Writing) : Type
   pub time : header.timestamp ≡ w.rtp_time
   pub marker : header.marker ≡ w.marker
   pub no_padding : header.has_padding ≡ false
-  pub few : header.csrc_count ≤ 15
+  pub few : header.csrc_count ≤ MAX_SOURCES
   pub sources : csrc_of header ≡ w.csrc
   pub payload : drop header.header_len plain ≡ w.payload
   pub sealed : RtpHeader

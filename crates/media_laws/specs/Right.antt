@@ -16,6 +16,7 @@ use Rattle.media_laws.specs.Plain.{extensions_of, read_header}
 use Rattle.rtp_base.specs.declared.number.TheConstants.{NUMBER_LIMIT}
 use Rattle.srtp_core.specs.declared.context.TheConstants.{SRTCP_INDEX_LIMIT}
 use Rattle.srtp_core.specs.declared.srtcp.TheConstants.{HEADER_LEN}
+use Rattle.rtp_wire.specs.declared.header.TheConstants.{MAX_SOURCES}
 
 -- a sealed RTP datagram is the seal of its plain, which is a header as it is written (RFC 3550 section 5.1), read again as its
 -- wire form, with its SSRC and the low 16 bits of its number, and what stands behind it; the SSRC is that of a stream of the side
@@ -28,7 +29,7 @@ pub record IsSealOf (seal : Sealing) (setup : Setup) (s : SealedEntry) : Type 0 
   pub low : header.sequence_number ≡ s.index % 65536
   pub small : s.index < NUMBER_LIMIT
   pub not_filler : header.has_padding ≡ false
-  pub few : header.csrc_count ≤ 15
+  pub few : header.csrc_count ≤ MAX_SOURCES
   pub sealed_header : RtpHeader
   pub wire : header ≡ wire_form (extensions_of setup) sealed_header
   pub written : s.plain ≡ header_bytes (extensions_of setup) sealed_header ++ drop header.header_len s.plain

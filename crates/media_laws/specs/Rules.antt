@@ -16,6 +16,7 @@ pub use Rattle.setup_rules.specs.SetupRules.{has, first_fault}
 use Rattle.rtp_base.specs.declared.number.TheConstants.{NUMBER_LIMIT}
 use Rattle.media_model.specs.declared.step.TheConstants.{LAST_TIME}
 use Rattle.stream_core.specs.declared.stream_tx.TheConstants.{MAX_PAYLOAD_LEN}
+use Rattle.rtp_wire.specs.declared.header.TheConstants.{MAX_SOURCES}
 
 -- the first fault, where there is one, else what the rules after it say
 abbrev pub or_else : {F : Type 0} → Option F → Option F → Option F
@@ -36,7 +37,7 @@ write_rules setup entries side w =
     ∷ (nat_le NUMBER_LIMIT w.number, NumberTooBig)
     ∷ (list_any (λ u. u.number == w.number) (writes_on side w.ssrc entries), NumberUsed)
     ∷ (nat_lt MAX_PAYLOAD_LEN (length w.payload), PayloadTooLong)
-    ∷ (nat_lt 15 (length w.csrc), TooManySources) ∷ []
+    ∷ (nat_lt MAX_SOURCES (length w.csrc), TooManySources) ∷ []
 
 -- a datagram that the other side sealed, counted from 1
 abbrev pub deliver_rules : List Entry → Side → ℕ → List (Bool × StepFault)

@@ -35,7 +35,7 @@ use media_units::Instant;
 use queue_store::QueueStore;
 use rtcp_wire::{AppSpecificFeedback as Application, items_fit_by_lengths};
 use rtp_base::NUMBER_LIMIT;
-use rtp_wire::{RtpHeader, SeqNo, Ssrc};
+use rtp_wire::{MAX_SOURCES, RtpHeader, SeqNo, Ssrc};
 use session_core::{Datagram, Event, MAX_APPLICATION_LEN, RtcError, Session};
 use session_turns::{
     calls_are_right, calls_turn, hears_turn, openings_are_right, opens_turn, requests_turn,
@@ -46,10 +46,6 @@ use std::alloc::{AllocError, Global};
 use std::marker::Model;
 use stream_core::{MAX_PAYLOAD_LEN, Payload, RtpPacket, RtpWrite, Sent};
 use thiserror::Error;
-
-/// The most contributing sources of a packet: their count in a header has 4 bits (RFC 3550 section
-/// 5.1).
-pub const MAX_SOURCES: usize = 15;
 
 /// Why a tick is not played, and what left of it before.
 #[derive(Debug, Drop, Error)]

@@ -3,7 +3,6 @@
 
 mod end;
 mod fault;
-mod limits;
 mod log;
 mod numbers;
 mod pair;
@@ -11,9 +10,7 @@ mod request;
 mod run;
 mod starting;
 
-pub use end::MAX_SOURCES;
 pub use fault::{PlayFault, RunError, RunFault, StepError};
-pub use limits::named_numbers;
 pub use media_laws::{Counter, StepFault, laws};
 pub use run::{Run, media_run};
 pub use setup_rules::SetupFault;

@@ -5,7 +5,7 @@ ghost use Rattle.run_model.specs.Receiving.{cut, low_of};
 ghost use Rattle.run_widens.specs.Packets.{plain_of, Repairs};
 
 use rtp_base::wire::half;
-use rtp_wire::{ExtensionMap, Pt, RtpHeader, header_reads_own_bytes};
+use rtp_wire::{ExtensionMap, MAX_SOURCES, Pt, RtpHeader, header_reads_own_bytes};
 
 // An RTP datagram as its header reads, with what stands behind the header.
 #[derive(Clone, Copy)]
@@ -14,7 +14,7 @@ pub(crate) struct Packet<'a> {
     pub(crate) padded: bool,
     pub(crate) marker: bool,
     pub(crate) time: u32,
-    pub(crate) csrc: [u32; 15],
+    pub(crate) csrc: [u32; MAX_SOURCES],
     pub(crate) csrc_count: usize,
     pub(crate) payload: &'a [u8],
 }
@@ -22,7 +22,7 @@ pub(crate) struct Packet<'a> {
 // The packet that the bytes are, one without anything where no header stands.
 pub(crate) fn read<'a>(exts: &ExtensionMap, bytes: &'a [u8]) -> Packet<'a>
     ensures plain { plain_of result ≡ plain_in exts.now bytes.now }
-    ensures sources { result.csrc_count ≤ 15 }
+    ensures sources { result.csrc_count ≤ MAX_SOURCES }
 {
     header_reads_own_bytes();
     let Some(header) = RtpHeader::parse(bytes, exts) else {
@@ -31,7 +31,7 @@ pub(crate) fn read<'a>(exts: &ExtensionMap, bytes: &'a [u8]) -> Packet<'a>
             padded: false,
             marker: false,
             time: 0,
-            csrc: [0; 15],
+            csrc: [0; MAX_SOURCES],
             csrc_count: 0,
             payload: &[],
         };

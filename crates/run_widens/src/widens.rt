@@ -14,7 +14,7 @@ use crate::packet::{Packet, read};
 use crate::sent::{Carried, Sent, was_sent};
 use crate::taken::Taken;
 use media_model::{Entry, Kind, Setup, Side, Stream};
-use rtp_wire::{ExtensionMap, widen16};
+use rtp_wire::{ExtensionMap, MAX_SOURCES, widen16};
 use std::alloc::{AllocError, Global};
 
 /// Whether the repairs of a run widen: each that was opened on a stream and restores a number
@@ -117,7 +117,7 @@ fn after(line: &Line<'_>, taken: Taken, sent: &Sent<'_>, entry: &Entry) -> Optio
 
 // The same after a repair of which the own number is taken into account.
 fn after_repair(taken: Taken, sent: &Sent<'_>, packet: &Packet<'_>) -> Option<Taken>
-    requires { packet.now.csrc_count ≤ 15 }
+    requires { packet.now.csrc_count ≤ MAX_SOURCES }
     ensures { AfterRepair taken sent.now packet.now result }
 {
     let Some((low, payload)) = packet.original() else {
@@ -134,7 +134,7 @@ fn after_repair(taken: Taken, sent: &Sent<'_>, packet: &Packet<'_>) -> Option<Ta
 
 // What a repair carries, with the number that it restores and what stands behind its low 16 bits.
 fn key_in<'x>(packet: &'x Packet<'x>, number: u64, payload: &'x [u8]) -> Carried<'x>
-    requires { packet.now.csrc_count ≤ 15 }
+    requires { packet.now.csrc_count ≤ MAX_SOURCES }
     ensures number { result.number ≡ number }
     ensures carried { IsCarried result packet.now payload.now }
 {

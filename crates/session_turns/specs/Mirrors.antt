@@ -37,6 +37,7 @@ use Rattle.srtp_core.specs.declared.context.TheConstants.{SRTCP_INDEX_LIMIT}
 use Rattle.media_model.specs.declared.step.TheConstants.{LAST_TIME}
 use Rattle.stream_core.specs.declared.stream_tx.TheConstants.{MAX_PAYLOAD_LEN}
 use Rattle.session_core.specs.declared.config.TheConstants.{LEAST_TARGET}
+use Rattle.rtp_wire.specs.declared.header.TheConstants.{MAX_SOURCES}
 
 -- a write that a stream of an SSRC may have been given
 pub record IsGiven (ssrc : ℕ) (w : Write) : Type 0 where
@@ -45,7 +46,7 @@ pub record IsGiven (ssrc : ℕ) (w : Write) : Type 0 where
   pub number : w.number < NUMBER_LIMIT
   pub time : w.rtp_time < 2 ^ 32
   pub pt : w.pt < 2 ^ 7
-  pub few : length w.csrc ≤ 15
+  pub few : length w.csrc ≤ MAX_SOURCES
   pub sources : AreWords w.csrc
   pub payload : length w.payload ≤ MAX_PAYLOAD_LEN
 

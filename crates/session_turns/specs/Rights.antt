@@ -30,6 +30,7 @@ use Rattle.session_turns.specs.Mirrors.{Mirrors, IsFit}
 use Rattle.rtp_base.specs.declared.number.TheConstants.{NUMBER_LIMIT}
 use Rattle.srtp_core.specs.declared.context.TheConstants.{SRTCP_INDEX_LIMIT}
 use Rattle.srtp_core.specs.declared.srtcp.TheConstants.{HEADER_LEN}
+use Rattle.rtp_wire.specs.declared.header.TheConstants.{MAX_SOURCES}
 
 -- an RTP datagram of a stream of these lines, or of its repairs: its plain is a header as it is written, which reads with its
 -- SSRC and the low 16 bits of its number, without padding, and what stands behind it
@@ -41,7 +42,7 @@ pub record IsRightRtp (cipher : CipherMeaning) (exts : ExtensionMap) (own : Srtp
   pub low : header.sequence_number ≡ d.index % 65536
   pub small : d.index < NUMBER_LIMIT
   pub not_filler : header.has_padding ≡ false
-  pub few : header.csrc_count ≤ 15
+  pub few : header.csrc_count ≤ MAX_SOURCES
   pub stream : list_any (λ L. has L d.ssrc) lines ≡ true
   pub sealed_header : RtpHeader
   pub wire : header ≡ wire_form exts sealed_header
