@@ -10,6 +10,8 @@ use Rattle.media_model.specs.declared.setup.Key.TheVariants.{Zero}
 use Rattle.media_model.specs.declared.setup.Stream.{Stream}
 use Rattle.media_model.specs.declared.setup.Media.{Media}
 use Rattle.media_model.specs.declared.setup.Setup.{Setup}
+use Rattle.media_model.specs.declared.setup.TheConstants.{DEFAULT_MTU_TARGET, DEFAULT_MTU_WARN, DEFAULT_PAUSE_THRESHOLD_NANOS, DEFAULT_AUDIO_NANOS, DEFAULT_VIDEO_NANOS}
+use Rattle.media_script.specs.declared.draft.TheConstants.{DEFAULT_UNIX_SECS}
 use Rattle.media_script.specs.declared.draft.Draft.{Draft}
 use Rattle.media_script.specs.declared.setup_line.SetupLine.{SetupLine}
 use Rattle.media_script.specs.declared.setup_line.SetupLine.TheVariants as line
@@ -31,10 +33,10 @@ blank = record {
     cipher = Toy;
     profile = AeadAes128Gcm;
     key = Zero;
-    beginning = record { unix_secs = 1700000000 };
-    mtu = record { target = 1150; warn = 1280 };
-    pause_threshold = 1500000000;
-    intervals = record { audio = 5000000000; video = 1000000000 };
+    beginning = record { unix_secs = DEFAULT_UNIX_SECS };
+    mtu = record { target = DEFAULT_MTU_TARGET; warn = DEFAULT_MTU_WARN };
+    pause_threshold = DEFAULT_PAUSE_THRESHOLD_NANOS;
+    intervals = record { audio = DEFAULT_AUDIO_NANOS; video = DEFAULT_VIDEO_NANOS };
     a = record { ssrc = 1; srtcp_index = 0 };
     b = record { ssrc = 2; srtcp_index = 0 };
     exts = [];

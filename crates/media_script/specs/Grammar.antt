@@ -3,6 +3,11 @@ use Rattle.std.specs.Prelude.{ℕ, map, min, ◌+◌, ◌^◌, List, [], ◌∷�
 use Rattle.std.specs.Borrow.{Bor}
 use Rattle.std.specs.List.{slice_split}
 use Rattle.std.specs.Str.{bytes_eq}
+use Rattle.media_units.specs.declared.rate.TheConstants.{GREATEST_RATE}
+use Rattle.rtp_base.specs.declared.name.TheConstants.{MAX_NAME_LEN}
+use Rattle.rtp_base.specs.declared.number.TheConstants.{NUMBER_LIMIT}
+use Rattle.srtp_core.specs.declared.context.TheConstants.{SRTCP_INDEX_LIMIT}
+use Rattle.media_script.specs.declared.lines.TheConstants.{MOST_WORDS}
 use Rattle.media_script.specs.declared.reader.Reader.{Reader}
 use Rattle.media_script.specs.declared.reader.Reader.TheVariants.{Head, InSetup, InSteps, Ended}
 use Rattle.media_model.specs.declared.entry.Side.{Side}
@@ -23,7 +28,7 @@ texts words = map (λ w. w.now) words
 
 -- a line has fewer words
 abbrev pub is_long : List (List ℕ) → Bool
-is_long words = nat_lt 16 (length words)
+is_long words = nat_lt MOST_WORDS (length words)
 
 abbrev pub in_few : {L : Type 0} → (List (List ℕ) → Option L) → List (List ℕ) → Option L
 in_few read words = if is_long words then None else read words
@@ -81,7 +86,7 @@ reports_line =
 abbrev pub rtcp_line : List (List ℕ) → Option SetupLine
 rtcp_line =
     and_then side_of (λ side.
-    and_then (at_most (2 ^ 31)) (λ index.
+    and_then (at_most SRTCP_INDEX_LIMIT) (λ index.
     done (line.Rtcp side index)))
 
 abbrev pub local_line : List (List ℕ) → Option SetupLine
@@ -131,7 +136,7 @@ type_line =
 
 abbrev pub media_line : List (List ℕ) → Option SetupLine
 media_line =
-    and_then (name_of 16) (λ mid.
+    and_then (name_of MAX_NAME_LEN) (λ mid.
     and_then (one_of media_kind_text media_kinds) (λ kind.
     and_then (name_of 255) (λ cname.
     done (line.Media mid kind cname))))
@@ -139,16 +144,16 @@ media_line =
 abbrev pub stream_line : List (List ℕ) → Option SetupLine
 stream_line =
     and_then side_of (λ side.
-    and_then (name_of 16) (λ mid.
+    and_then (name_of MAX_NAME_LEN) (λ mid.
     and_then (narrow_of (2 ^ 32)) (λ ssrc.
     and_then (optional (codes "-") (narrow_of (2 ^ 32))) (λ rtx.
-    and_then (optional (codes "-") (name_of 16)) (λ rid.
+    and_then (optional (codes "-") (name_of MAX_NAME_LEN)) (λ rid.
     done (line.Stream mid (record { side = side; ssrc = ssrc; rtx = rtx; rid = rid })))))))
 
 abbrev pub start_line : List (List ℕ) → Option SetupLine
 start_line =
     and_then (narrow_of (2 ^ 32)) (λ ssrc.
-    and_then (at_most (2 ^ 48)) (λ number.
+    and_then (at_most NUMBER_LIMIT) (λ number.
     done (line.Start (record { ssrc = ssrc; number = number }))))
 
 abbrev pub cache_line : List (List ℕ) → Option SetupLine
@@ -274,7 +279,7 @@ remb_step =
     and_then time_of (λ time.
     and_then (narrow_of (2 ^ 32)) (λ ssrc.
     and_then number_of (λ rate.
-    done (step.Remb side time ssrc (min rate 10000000000))))))
+    done (step.Remb side time ssrc (min rate GREATEST_RATE))))))
 
 abbrev pub call_kinds : List (List ℕ × (List (List ℕ) → Option Step))
 call_kinds = (codes "app", app_step) ∷ (codes "ask", ask_step) ∷ (codes "remb", remb_step) ∷ []

@@ -6,6 +6,7 @@ use Rattle.std.specs.Str.{bytes_eq}
 use Rattle.media_model.specs.Sides.{same_side}
 use Rattle.media_script.specs.Draft.{blank, told}
 use Rattle.media_script.specs.Words.{◌>>=◌}
+use Rattle.media_script.specs.declared.order.TheConstants.{MOST_MEDIA, MOST_STREAMS}
 use Rattle.media_script.specs.declared.said.Said.{Said}
 use Rattle.media_script.specs.declared.setup_line.Name.{Name}
 use Rattle.media_script.specs.declared.setup_line.Name.TheVariants as name
@@ -61,8 +62,8 @@ gives _ = None
 
 -- how many of its sort a script may have
 abbrev pub most : Name → ℕ
-most (name.Media mid) = 64
-most (name.Stream ssrc) = 256
+most (name.Media mid) = MOST_MEDIA
+most (name.Stream ssrc) = MOST_STREAMS
 
 -- ---- lines of any kind
 

@@ -5,6 +5,11 @@ use Rattle.std.specs.Fmt.{decimal}
 use Rattle.std.specs.List.{slice_split, flat_map, AllByRecursion, AllPass}
 use Rattle.hex.specs.Hex.{decode_of}
 use Rattle.media_model.specs.Application.{AreFew}
+use Rattle.media_units.specs.declared.rate.TheConstants.{GREATEST_RATE}
+use Rattle.rtp_base.specs.declared.name.TheConstants.{MAX_NAME_LEN}
+use Rattle.rtp_base.specs.declared.number.TheConstants.{NUMBER_LIMIT}
+use Rattle.rtp_wire.specs.declared.header.TheConstants.{MAX_SOURCES}
+use Rattle.srtp_core.specs.declared.context.TheConstants.{SRTCP_INDEX_LIMIT}
 use Rattle.media_model.specs.declared.entry.Write.{Write}
 use Rattle.media_model.specs.declared.setup.Key.{Key}
 use Rattle.media_model.specs.declared.setup.Key.TheVariants.{Zero, Given}
@@ -47,7 +52,7 @@ abbrev pub IsBelow : ℕ → List ℕ → ℕ → Type 0
 IsBelow limit word n = (word ≡ decimal n) × (n < limit)
 
 abbrev pub IsNamed : List ℕ → List ℕ → Type 0
-IsNamed word rid = (word ≡ rid) × IsName 16 rid
+IsNamed word rid = (word ≡ rid) × IsName MAX_NAME_LEN rid
 
 -- no word where there is no such type, or one word that says it behind this name
 abbrev pub IsNamedType : List ℕ → List (List ℕ) → Option ℕ → Type 0
@@ -78,7 +83,7 @@ IsSetupLine words (line.Reports intervals) =
     × (intervals.video ≡ video * 1000000) × (intervals.video < 2 ^ 64)
     × (words ≡ codes "reports" ∷ decimal audio ∷ decimal video ∷ [])
 -- the index of a side's first SRTCP datagram
-IsSetupLine words (line.Rtcp side index) = (index ≤ 2 ^ 31) × (words ≡ codes "rtcp" ∷ side_text side ∷ decimal index ∷ [])
+IsSetupLine words (line.Rtcp side index) = (index ≤ SRTCP_INDEX_LIMIT) × (words ≡ codes "rtcp" ∷ side_text side ∷ decimal index ∷ [])
 -- the SSRC under which a side speaks of what it receives
 IsSetupLine words (line.Local side ssrc) = (ssrc < 2 ^ 32) × (words ≡ codes "local" ∷ side_text side ∷ decimal ssrc ∷ [])
 -- an id and the header extension that it names
@@ -91,14 +96,14 @@ IsSetupLine words (line.Type t) =
     × (words ≡ codes "type" ∷ decimal t.pt ∷ codec_text t.codec ∷ decimal t.rate
     ∷ (rtx ++ (red ++ (flag_words (codes "pli") t.pli ++ flag_words (codes "fir") t.fir))))
 IsSetupLine words (line.Media mid kind cname) =
-    IsName 16 mid × IsName 255 cname × (words ≡ codes "media" ∷ mid ∷ media_kind_text kind ∷ cname ∷ [])
+    IsName MAX_NAME_LEN mid × IsName 255 cname × (words ≡ codes "media" ∷ mid ∷ media_kind_text kind ∷ cname ∷ [])
 IsSetupLine words (line.Stream mid stream) =
-    (rtx : List ℕ) × (rid : List ℕ) × IsName 16 mid × (stream.ssrc < 2 ^ 32)
+    (rtx : List ℕ) × (rid : List ℕ) × IsName MAX_NAME_LEN mid × (stream.ssrc < 2 ^ 32)
     × IsOptional (codes "-") (IsBelow (2 ^ 32)) rtx stream.rtx × IsOptional (codes "-") IsNamed rid stream.rid
     × (words ≡ codes "stream" ∷ side_text stream.side ∷ mid ∷ decimal stream.ssrc ∷ rtx ∷ rid ∷ [])
 -- the main SSRC of a stream and the number of its first repair
 IsSetupLine words (line.Start start) =
-    (start.ssrc < 2 ^ 32) × (start.number ≤ 2 ^ 48) × (words ≡ codes "start" ∷ decimal start.ssrc ∷ decimal start.number ∷ [])
+    (start.ssrc < 2 ^ 32) × (start.number ≤ NUMBER_LIMIT) × (words ≡ codes "start" ∷ decimal start.ssrc ∷ decimal start.number ∷ [])
 -- the main SSRC of a stream, how many packets it keeps and for how many milliseconds, and how many hundredths of what it
 -- sends may be repairs, or none for any number
 IsSetupLine words (line.Cache named) =
@@ -120,7 +125,7 @@ pub record IsSources (word csrc : List ℕ) : Type 0 where
   pub spelled : word ≡ codes "c=" ++ digits
   pub hex : IsHex digits bytes
   pub whole : length bytes ≡ 4 * length csrc
-  pub few : length csrc ≤ 15
+  pub few : length csrc ≤ MAX_SOURCES
   pub numbers : csrc ≡ numbers_in bytes
 
 -- no word where there are no sources, or one word that says them
@@ -148,7 +153,7 @@ IsStep words (step.Ask side time ssrc kind) =
     (t : List ℕ) × IsTime t time × (ssrc < 2 ^ 32) × (words ≡ codes "ask" ∷ side_text side ∷ t ∷ decimal ssrc ∷ keyframe_text kind ∷ [])
 -- the greatest rate of the stream of an SSRC, in bits a second: above 10 Gbit/s it is 10 Gbit/s
 IsStep words (step.Remb side time ssrc rate) =
-    (t : List ℕ) × (n : ℕ) × IsTime t time × (ssrc < 2 ^ 32) × (n < 2 ^ 64) × (rate ≡ min n 10000000000)
+    (t : List ℕ) × (n : ℕ) × IsTime t time × (ssrc < 2 ^ 32) × (n < 2 ^ 64) × (rate ≡ min n GREATEST_RATE)
     × (words ≡ codes "remb" ∷ side_text side ∷ t ∷ decimal ssrc ∷ decimal n ∷ [])
 
 -- one space stands between two words

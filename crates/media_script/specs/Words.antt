@@ -21,6 +21,7 @@ use Rattle.media_model.specs.declared.setup.Key.TheVariants.{Zero, Given}
 use Rattle.media_model.specs.declared.setup.MediaKind.{MediaKind}
 use Rattle.media_model.specs.declared.setup.MediaKind.TheVariants.{Audio, Video}
 use Rattle.media_model.specs.Application.{data_of}
+use Rattle.media_script.specs.declared.words.TheConstants.{MOST_SOURCE_BYTES}
 use Rattle.rtp_wire.specs.Bytes.{words_of as numbers_in}
 use Rattle.rtp_wire.specs.declared.extension.Extension.{Extension}
 use Rattle.rtp_wire.specs.declared.extension.Extension.TheVariants.{AudioLevel, AbsoluteSendTime, TransportSequenceNumber, RtpMid, RtpStreamId, RepairedRtpStreamId, VideoOrientation, AbsoluteCaptureTime, PlayoutDelay}
@@ -143,7 +144,7 @@ extensions =
 
 -- at most 15 numbers of 32 bits, in network order
 unfoldable pub numbers_of : List ℕ → Option (List ℕ)
-numbers_of bytes = if (length bytes % 4 == 0) && nat_le (length bytes) 60 then Some (numbers_in bytes) else None
+numbers_of bytes = if (length bytes % 4 == 0) && nat_le (length bytes) MOST_SOURCE_BYTES then Some (numbers_in bytes) else None
 
 abbrev pub has_c : List ℕ → Bool
 has_c word = starts_with nat_eq word (codes "c=")

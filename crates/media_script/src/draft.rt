@@ -5,14 +5,18 @@ ghost use Rattle.media_script.specs.Draft.{blank, with_index, with_ssrc, with_ke
 use crate::media_list::MediaList;
 use crate::setup_line::SetupLine;
 use media_base::Listed;
-use media_model::{CipherName, Key, Local, Media, Mtu, ReportTimes, Setup, Side, SrtcpIndex};
+use media_model::{
+    CipherName, DEFAULT_PAUSE_THRESHOLD_NANOS, Key, Local, Media, Mtu, ReportTimes, Setup, Side,
+    SrtcpIndex,
+};
 use media_units::{Beginning, Duration};
 use rtp_wire::Ssrc;
 use srtp_core::SrtpProfile;
 use std::alloc::{AllocError, Global};
 
-// The Unix time at which a run begins where no line says it, in November 2023.
-const DEFAULT_UNIX_SECS: u64 = 1_700_000_000;
+/// The Unix time at which a run begins where no line says it, in seconds: in November 2023, a
+/// choice.
+pub const DEFAULT_UNIX_SECS: u64 = 1_700_000_000;
 
 /// What the setup lines so far say, and the default of each that does not stand.
 #[derive(Drop)]
@@ -37,7 +41,7 @@ impl Draft {
                 unix_secs: DEFAULT_UNIX_SECS,
             },
             mtu: Mtu::default(),
-            pause_threshold: Duration::from_nanos(Setup::DEFAULT_PAUSE_NANOS),
+            pause_threshold: Duration::from_nanos(DEFAULT_PAUSE_THRESHOLD_NANOS),
             intervals: ReportTimes::default(),
             a: Local {
                 ssrc: Ssrc::from(1),

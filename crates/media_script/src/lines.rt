@@ -6,9 +6,9 @@ ghost use Rattle.media_script.specs.Spelling.{words_of, is_passed_over};
 use memchr::memchr;
 use std::alloc::{AllocError, Global};
 
-// The most words of a line of a script of two sessions that is read at all; a line of any kind has
-// fewer. The list of a line's words begins with room for so many.
-const MOST_WORDS: usize = 16;
+/// The most words of a line of a script of two sessions that is read at all: a choice. A line of
+/// any kind has fewer. The list of a line's words begins with room for so many.
+pub const MOST_WORDS: usize = 16;
 
 // What stands before the first byte that is this one, and what behind it.
 fn cut_at(bytes: &[u8], end: u8) -> Option<(&[u8], &[u8])>

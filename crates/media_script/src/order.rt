@@ -5,11 +5,11 @@ ghost use Rattle.media_script.specs.Order.{same_per, same_slot, is_free, same_na
 
 use crate::setup_line::{Name, Per, Slot};
 
-// How many media lines a script may have.
-const MOST_MEDIA: usize = 64;
+/// How many media lines a script may have: a choice.
+pub const MOST_MEDIA: usize = 64;
 
-// How many stream lines a script may have.
-const MOST_STREAMS: usize = 256;
+/// How many stream lines a script may have: a choice.
+pub const MOST_STREAMS: usize = 256;
 
 fn is_same_per(a: &Per, b: &Per) -> bool
     ensures { result ≡ same_per a.now b.now }

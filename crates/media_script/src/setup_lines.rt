@@ -17,6 +17,7 @@ use media_model::{
     Cache, Mtu, NamedCache, NamedExtension, NamedStart, PayloadType, ReportTimes, Stream,
 };
 use media_units::{Beginning, Duration};
+use rtp_base::MAX_NAME_LEN;
 use rtp_wire::{Pt, Ssrc};
 use std::alloc::Global;
 
@@ -196,7 +197,7 @@ fn media(alloc: Global, words: &[&[u8]]) -> Result<SetupLine, LineError>
 {
     match words {
         [of, kind, cname] => Ok(SetupLine::Media {
-            mid: mid(name(of, 16)?),
+            mid: mid(name(of, MAX_NAME_LEN)?),
             kind: media_kind(kind)?,
             cname: Bytes::from_slice(alloc, name(cname, 255)?)?,
         }),
@@ -210,7 +211,7 @@ fn stream(words: &[&[u8]]) -> Result<SetupLine, LineError>
     match words {
         [from, of, ssrc, rtx, layer] => {
             let side = side(from)?;
-            let mid = mid(name(of, 16)?);
+            let mid = mid(name(of, MAX_NAME_LEN)?);
             Ok(SetupLine::Stream {
                 mid,
                 stream: Stream {

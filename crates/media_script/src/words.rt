@@ -13,9 +13,9 @@ use media_base::Bytes;
 use media_model::{
     ApplicationData, CipherName, Codec, FirstNumber, Key, Kind, MediaKind, Side, SrtcpIndex,
 };
-use rtp_base::{KeyframeRequestKind, wire};
+use rtp_base::{KeyframeRequestKind, MAX_NAME_LEN, NUMBER_LIMIT, wire};
 use rtp_wire::{Extension, Mid, Pt, Rid};
-use srtp_core::SrtpProfile;
+use srtp_core::{SRTCP_INDEX_LIMIT, SrtpProfile};
 use std::alloc::Global;
 
 fn has_plain_front(word: &[u8]) -> bool
@@ -155,7 +155,7 @@ pub fn application_data(alloc: Global, word: &[u8]) -> Result<ApplicationData, L
 // An index of SRTCP, at most 2^31.
 #[tactic(auto, unfolding(crate::specs::Words::at_most))]
 pub fn srtcp_index(word: &[u8]) -> Result<SrtcpIndex, LineError>
-    ensures { Gives (λ i. i) result (at_most (2 ^ 31) word.now) }
+    ensures { Gives (λ i. i) result (at_most SRTCP_INDEX_LIMIT word.now) }
 {
     match SrtcpIndex::new(number(word)?) {
         Some(index) => Ok(index),
@@ -166,7 +166,7 @@ pub fn srtcp_index(word: &[u8]) -> Result<SrtcpIndex, LineError>
 // The number of a first packet, at most 2^48.
 #[tactic(auto, unfolding(crate::specs::Words::at_most))]
 pub fn first_number(word: &[u8]) -> Result<FirstNumber, LineError>
-    ensures { Gives (λ n. n) result (at_most (2 ^ 48) word.now) }
+    ensures { Gives (λ n. n) result (at_most NUMBER_LIMIT word.now) }
 {
     match FirstNumber::new(number(word)?) {
         Some(number) => Ok(number),
@@ -289,8 +289,8 @@ pub fn extension(word: &[u8]) -> Result<Extension, LineError>
     )
 }
 
-// The most bytes of contributing sources: 15 of 32 bits (RFC 3550 section 5.1).
-const MOST_SOURCE_BYTES: usize = 60;
+/// The most bytes of contributing sources: 15 of 32 bits (RFC 3550 section 5.1).
+pub const MOST_SOURCE_BYTES: usize = 60;
 
 #[tactic(auto, unfolding(crate::specs::Words::numbers_of))]
 fn numbers(alloc: Global, bytes: &[u8]) -> Result<Vec<u32>, LineError>
@@ -372,7 +372,7 @@ pub fn name(word: &[u8], most: usize) -> Result<&[u8], LineError>
 
 #[tactic(auto, using(crate::proofs::Names::is_wire_name))]
 pub fn mid(name: &[u8]) -> Mid
-    requires { IsTrue (is_name 16 name.now) }
+    requires { IsTrue (is_name MAX_NAME_LEN name.now) }
     ensures { result ≡ name.now }
 {
     match Mid::from_slice(name) {
@@ -383,7 +383,7 @@ pub fn mid(name: &[u8]) -> Mid
 
 #[tactic(auto, using(crate::proofs::Names::is_wire_name))]
 pub fn rid(name: Option<&[u8]>) -> Option<Rid>
-    requires { ForSome name (λ n. IsTrue (is_name 16 n.now)) }
+    requires { ForSome name (λ n. IsTrue (is_name MAX_NAME_LEN n.now)) }
     ensures { result ≡ option_copied name.entry }
 {
     match name {
@@ -406,11 +406,11 @@ pub fn optional_32(word: &[u8], none: &[u8]) -> Result<Option<u32>, LineError>
 // A name of 1 to 16 ASCII letters and digits, or - for none.
 #[tactic(auto, unfolding(crate::specs::Words::optional))]
 pub fn optional_name(word: &[u8]) -> Result<Option<&[u8]>, LineError>
-    ensures value { Gives (λ n. option_copied n) result (optional (codes "-") (name_of 16) word.now) }
-    ensures name { IfOk result (λ n. ForSome n (λ n. IsTrue (is_name 16 n.now))) }
+    ensures value { Gives (λ n. option_copied n) result (optional (codes "-") (name_of MAX_NAME_LEN) word.now) }
+    ensures name { IfOk result (λ n. ForSome n (λ n. IsTrue (is_name MAX_NAME_LEN n.now))) }
 {
     if word == b"-".as_slice() {
         return Ok(None);
     }
-    Ok(Some(name(word, 16)?))
+    Ok(Some(name(word, MAX_NAME_LEN)?))
 }

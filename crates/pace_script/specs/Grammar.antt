@@ -7,6 +7,9 @@ use Rattle.media_script.specs.Words.{◌>>=◌, narrow_of, name_of}
 use Rattle.pace_core.specs.declared.run.PaceCall.{PaceCall}
 use Rattle.pace_core.specs.declared.run.PaceCall.TheVariants.{Pacing, Padding, Timeout, Poll, Send}
 use Rattle.pace_core.specs.declared.run.PaceQueue.{PaceQueue}
+use Rattle.rtp_base.specs.declared.name.TheConstants.{MAX_NAME_LEN}
+use Rattle.pace_script.specs.declared.calls.TheConstants.{SIZE_LIMIT}
+use Rattle.pace_script.specs.declared.queues.TheConstants.{BYTES_LIMIT, WAIT_LIMIT}
 use Rattle.pace_script.specs.declared.reader.Reader.{Reader}
 use Rattle.pace_script.specs.declared.reader.Reader.TheVariants.{Head, Named, InCalls, Ended}
 use Rattle.pace_script.specs.Words.{rate_of, moment_of, parts_of}
@@ -21,10 +24,10 @@ mark_in (mark ∷ more ∷ parts) = None
 
 unfoldable pub queue_in : List (List ℕ) → Option PaceQueue
 queue_in =
-    and_then (name_of 16) (λ mid.
+    and_then (name_of MAX_NAME_LEN) (λ mid.
     and_then (narrow_of (2 ^ 32)) (λ count.
-    and_then (narrow_of (2 ^ 40)) (λ bytes.
-    and_then (narrow_of (10 ^ 18 + 1)) (λ wait marks.
+    and_then (narrow_of BYTES_LIMIT) (λ bytes.
+    and_then (narrow_of WAIT_LIMIT) (λ wait marks.
     mark_in marks >>= λ padding.
     Some (record { mid = mid; count = count; bytes = bytes; wait = wait; padding = padding })))))
 
@@ -50,7 +53,7 @@ abbrev pub poll_call : List (List ℕ) → Option PaceCall
 poll_call = done Poll
 
 abbrev pub send_call : List (List ℕ) → Option PaceCall
-send_call = and_then moment_of (λ now. and_then (narrow_of 2001) (λ size. done (Send now size)))
+send_call = and_then moment_of (λ now. and_then (narrow_of SIZE_LIMIT) (λ size. done (Send now size)))
 
 abbrev pub call_kinds : List (List ℕ × (List (List ℕ) → Option PaceCall))
 call_kinds =

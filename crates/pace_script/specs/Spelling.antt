@@ -7,15 +7,20 @@ use Rattle.media_script.specs.Spelling.{words_of, is_passed_over, AreLines, IsTi
 use Rattle.pace_core.specs.declared.run.PaceCall.{PaceCall}
 use Rattle.pace_core.specs.declared.run.PaceCall.TheVariants.{Pacing, Padding, Timeout, Poll, Send}
 use Rattle.pace_core.specs.declared.run.PaceQueue.{PaceQueue}
+use Rattle.media_units.specs.declared.rate.TheConstants.{GREATEST_RATE}
+use Rattle.rtp_base.specs.declared.name.TheConstants.{MAX_NAME_LEN}
+use Rattle.pace_core.specs.declared.run.TheConstants.{MAX_PACKET}
+use Rattle.pace_script.specs.declared.queues.TheConstants.{BYTES_LIMIT, MOST_WAIT}
+use Rattle.pace_script.specs.declared.words.TheConstants.{MOST_TIME}
 use Rattle.pace_script.specs.Words.{parts_of}
 
 -- a number below 2^64 of bits a second; what is above the greatest rate is the greatest
 abbrev pub IsRate : List ℕ → ℕ → Type 0
-IsRate word rate = (n : ℕ) × (word ≡ decimal n) × (n < 2 ^ 64) × (rate ≡ min n 10000000000)
+IsRate word rate = (n : ℕ) × (word ≡ decimal n) × (n < 2 ^ 64) × (rate ≡ min n GREATEST_RATE)
 
 -- a moment, at most 10^16 ns
 abbrev pub IsMoment : List ℕ → ℕ → Type 0
-IsMoment word now = IsTime word now × (now ≤ 10 ^ 16)
+IsMoment word now = IsTime word now × (now ≤ MOST_TIME)
 
 -- p behind the numbers marks a queue for padding
 abbrev pub mark_of : Bool → List (List ℕ)
@@ -24,10 +29,10 @@ mark_of true = codes "p" ∷ []
 
 -- the mid, the packets, their bytes and their wait in nanoseconds, parted by colons
 pub record IsQueue (word : List ℕ) (q : PaceQueue) : Type 0 where
-  pub name : IsName 16 q.mid
+  pub name : IsName MAX_NAME_LEN q.mid
   pub count : q.count < 2 ^ 32
-  pub bytes : q.bytes < 2 ^ 40
-  pub wait : q.wait ≤ 10 ^ 18
+  pub bytes : q.bytes < BYTES_LIMIT
+  pub wait : q.wait ≤ MOST_WAIT
   pub spelled : parts_of word ≡ q.mid ∷ decimal q.count ∷ decimal q.bytes ∷ decimal q.wait ∷ mark_of q.padding
 
 -- each word says its queue
@@ -45,7 +50,7 @@ IsCall words (Timeout now queues) =
     (w : List ℕ) × (ws : List (List ℕ)) × IsMoment w now × AreQueues ws queues × (words ≡ codes "timeout" ∷ w ∷ ws)
 IsCall words Poll = words ≡ codes "poll" ∷ []
 IsCall words (Send now size) =
-    (w : List ℕ) × IsMoment w now × (size ≤ 2000) × (words ≡ codes "send" ∷ w ∷ decimal size ∷ [])
+    (w : List ℕ) × IsMoment w now × (size ≤ MAX_PACKET) × (words ≡ codes "send" ∷ w ∷ decimal size ∷ [])
 
 -- the words of the second line
 abbrev pub IsRateLine : List (List ℕ) → ℕ → Type 0

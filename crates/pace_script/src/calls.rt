@@ -9,11 +9,11 @@ use crate::queues::queues;
 use crate::words::{moment, number_below, rate};
 use media_script::shared::{LineError, words};
 use media_units::{Bitrate, DataSize, Instant};
-use pace_core::PaceCall;
+use pace_core::{MAX_PACKET, PaceCall};
 use std::alloc::Global;
 
-// The bytes of a packet are fewer.
-const SIZE_LIMIT: u64 = 2_001;
+/// The bytes of a packet are fewer.
+pub const SIZE_LIMIT: u64 = MAX_PACKET + 1;
 
 fn pacing(words: &[&[u8]]) -> Result<PaceCall, LineError>
     ensures { Gives (λ c. c) result (pacing_call (texts words.now)) }

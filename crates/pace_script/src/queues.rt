@@ -9,13 +9,17 @@ use media_base::Listed;
 use media_script::shared::{LineError, mid, name, number_32};
 use media_units::{DataSize, Duration};
 use pace_core::PaceQueue;
+use rtp_base::MAX_NAME_LEN;
 use std::alloc::Global;
 
-// The bytes of a queue are fewer.
-const BYTES_LIMIT: u64 = 1 << 40;
+/// The bytes of a queue are fewer: a choice.
+pub const BYTES_LIMIT: u64 = 1 << 40;
 
-// The wait of a queue, in nanoseconds, is shorter.
-const WAIT_LIMIT: u64 = 1_000_000_000_000_000_001;
+/// The greatest wait of a queue, in nanoseconds: some 31 years, a choice.
+pub const MOST_WAIT: u64 = 1_000_000_000_000_000_000;
+
+/// The wait of a queue, in nanoseconds, is shorter.
+pub const WAIT_LIMIT: u64 = MOST_WAIT + 1;
 
 // Whether the mark for padding stands behind the numbers.
 fn mark(words: &[&[u8]]) -> Result<bool, LineError>
@@ -34,7 +38,7 @@ fn queue_in(words: &[&[u8]]) -> Result<PaceQueue, LineError>
 {
     match words {
         [of, count, bytes, wait, marks @ ..] => Ok(PaceQueue {
-            mid: mid(name(of, 16)?),
+            mid: mid(name(of, MAX_NAME_LEN)?),
             count: number_32(count)?,
             bytes: DataSize::bytes(number_below(bytes, BYTES_LIMIT)?),
             wait: Duration::from_nanos(number_below(wait, WAIT_LIMIT)?),

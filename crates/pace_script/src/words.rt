@@ -8,8 +8,8 @@ use media_script::shared::{LineError, number, time};
 use media_units::Bitrate;
 use std::alloc::{AllocError, Global};
 
-// The greatest moment, in nanoseconds.
-const MOST_TIME: u64 = 10_000_000_000_000_000;
+/// The greatest moment, in nanoseconds: some 115 days, a choice.
+pub const MOST_TIME: u64 = 10_000_000_000_000_000;
 
 // Bits a second. What is above the greatest rate is the greatest.
 #[tactic(auto, unfolding(crate::specs::Words::rate_of))]
