@@ -29,7 +29,7 @@ pub use repairing::Sent;
 pub use reports::{Arrival, MAX_CNAME_LEN, RxReports, Tick, TxReports};
 pub use requests::RxRequests;
 pub use seen::Seen;
-pub use send_queue::SendQueue;
+pub use send_queue::{SendQueue, Waiting};
 pub use ssrc_table::SsrcTable;
 pub use stream_paused::StreamPaused;
 pub use stream_rx::{StreamRx, first_number, first_repair, first_repair_number};

@@ -1,5 +1,8 @@
 ghost use Rattle.std.specs.Prelude.{◌≡◌, ◌==◌, ◌-◌, ◌≤◌, ◌^◌, ◌++◌, ◌∷◌, [], min, map, take, drop, length, if◌then◌else◌, IfSome, OnOk, OnErr};
 ghost use Rattle.std.specs.Option.{option_copied, option_map_or};
+ghost use Rattle.std.specs.VecDeque.Iter.{deque_iter_rest, deque_iter_steps};
+ghost use Rattle.std.specs.Iterator.Runs.{YieldsRefsInOrder};
+ghost use Rattle.stream_core.specs.declared.send_queue.Waiting.{Waiting as Kept};
 ghost use Rattle.stream_core.specs.Queue.{with_stamp, stamps_of, payload_bytes, waits, earliest_of};
 ghost use Rattle.stream_core.specs.Totals.{goes_on, first_stamp};
 
@@ -8,12 +11,12 @@ use crate::stream_tx::MAX_PAYLOAD_LEN;
 use media_units::{Duration, Instant, already_happened, earlier};
 use pace_units::{QueuePriority, QueueSnapshot};
 use std::alloc::{AllocError, Global};
-use std::collections::VecDeque;
+use std::collections::{VecDeque, vec_deque};
 use std::marker::Model;
 
-/// A packet that may wait to be sealed. Contracts see the packet.
+/// A packet that waits to be sealed. Contracts see the packet.
 #[derive(Debug, Drop)]
-struct Waiting {
+pub struct Waiting {
     packet: RtpPacket,
 }
 
@@ -38,6 +41,14 @@ impl Waiting {
         let mut packet = packet;
         packet.timestamp = None;
         Waiting { packet }
+    }
+
+    /// The packet, with its time stamp if there was a tick since it was written.
+    pub fn packet(&self) -> &RtpPacket
+        ensures value { result.now ≡ self.now }
+        ensures sendable { IsSendable result.now }
+    {
+        &self.packet
     }
 
     /// Stamps the packet, unless it has a stamp, and answers how many bytes its payload has.
@@ -249,6 +260,14 @@ impl SendQueue {
         ensures { result ≡ (length self.now == 0) }
     {
         self.packets.is_empty()
+    }
+
+    /// The packets that wait, in the order in which they were written.
+    pub fn iter(&self) -> vec_deque::Iter<'_, Waiting>
+        ensures rest { deque_iter_rest result ≡ self.now }
+        ensures runs { YieldsRefsInOrder (deque_iter_steps {X = Kept}) deque_iter_rest }
+    {
+        self.packets.iter()
     }
 
     /// Drops all packets.

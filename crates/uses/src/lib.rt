@@ -10,6 +10,7 @@ pub mod count_a_queue;
 pub mod exchange_a_packet;
 pub mod keep_for_resending;
 pub mod keep_in_a_queue;
+pub mod look_into_a_queue;
 pub mod map_a_datagram;
 pub mod measure_a_trip;
 pub mod pace_packets;

@@ -1,10 +1,15 @@
+use crate::cite_the_laws::played_to_the_end;
+use crate::mirror_a_session::take_as_plain;
 use crate::play_a_run::played;
 use media_model::{Setup, Transcript};
 use media_script::read_script;
+use media_units::Instant;
 use rtp_base::Mid;
+use srtp_core::{KeyingMaterial, ToyCipher};
 use std::alloc::{AllocError, Global};
 use std::test::Fail;
 use uses::build_a_script::one_write;
+use uses::exchange_a_packet::end;
 use uses::tell_a_run::told;
 
 fn mid() -> Mid {
@@ -19,6 +24,37 @@ fn a_run_is_played(rt: HostRuntime) -> Result<(), Fail> {
     let (setup, steps) = one_write(rt.alloc(), mid(), &[1, 2])?;
     // Written, ticked, sealed, got, opened, yielded.
     assert!(rt; played(rt.alloc(), &setup, &steps).entries().len() == 6);
+    Ok(())
+}
+
+#[test]
+fn laws_are_cited(rt: HostRuntime) -> Result<(), Fail> {
+    let (setup, steps) = one_write(rt.alloc(), mid(), &[1, 2])?;
+    let entries = match played_to_the_end(rt.alloc(), &setup, &ToyCipher, &steps) {
+        Some(transcript) => transcript.entries().len(),
+        None => 0,
+    };
+    assert!(rt; entries == 6);
+    Ok(())
+}
+
+// What an end makes of no bytes: nothing opens.
+fn opens(alloc: Global) -> Result<bool, Fail> {
+    let material = KeyingMaterial::new(alloc, &[0; 56])?;
+    let mut session = match end(alloc, &material, mid(), false) {
+        Ok(session) => session,
+        Err(_) => return Ok(true),
+    };
+    match take_as_plain(&mut *session, Instant::from_nanos(1), &[]) {
+        Ok(opened) => Ok(opened.is_some()),
+        Err(_) => Ok(true),
+    }
+}
+
+#[test]
+fn a_session_is_mirrored(rt: HostRuntime) -> Result<(), Fail> {
+    let opened = opens(rt.alloc())?;
+    assert!(rt; !opened);
     Ok(())
 }
 

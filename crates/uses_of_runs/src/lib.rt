@@ -4,4 +4,6 @@
 
 #[cfg(test)]
 mod callers;
+pub mod cite_the_laws;
+pub mod mirror_a_session;
 pub mod play_a_run;

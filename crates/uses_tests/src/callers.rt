@@ -13,15 +13,15 @@ use rtp_base::{
     Frequency, MediaTime, Mid, MidRid, NackEntry, Pt, ReceptionReport, SeqNo, SeqNoWindow, Ssrc,
     TwccPacketId,
 };
-use rtp_wire::{ExtensionMap, RtpHeader};
+use rtp_wire::{ExtensionMap, MAX_SOURCES, RtpHeader};
 use rtx_core::{ResendError, ResendQueue};
 use session_core::Event;
 use srtp_core::{KeyingMaterial, ShaCipher, SrtpError, SrtpProfile};
 use std::alloc::{AllocError, Global};
 use std::test::Fail;
 use stream_core::{
-    PacketReceipt, Payload, PayloadTypes, RtpWrite, Sent as SentPacket, StreamTx, Streams,
-    Transport, TypeRow,
+    PacketReceipt, Payload, PayloadTypes, RtpPacket, RtpWrite, SendQueue, Sent as SentPacket,
+    StreamTx, Streams, Transport, TypeRow,
 };
 use twcc_core::{TwccRecvRegister, TwccSendRegister};
 use uses::answer_a_nack::answer_a_nack;
@@ -32,6 +32,7 @@ use uses::count_a_queue::wait_of_both;
 use uses::exchange_a_packet::exchange;
 use uses::keep_for_resending::keep_and_find;
 use uses::keep_in_a_queue::{queue_of_one, replace};
+use uses::look_into_a_queue::is_queued;
 use uses::measure_a_trip::measured_trip;
 use uses::pace_packets::send_next;
 use uses::put_into_order::next_frame;
@@ -218,6 +219,33 @@ fn a_packet_is_queued(rt: HostRuntime) -> Result<(), Fail> {
     let mut stream = StreamTx::new(rt.alloc(), Ssrc::from(42), None, MidRid(mid(), None));
     let len = plain_len(rt.alloc(), &mut stream, &mut transport)?;
     assert!(rt; len == 14);
+    Ok(())
+}
+
+// A queue with the packet, and whether its number is found there and the next is not.
+fn is_found(alloc: Global, header: RtpHeader) -> Result<bool, AllocError> {
+    if header.sequence_number != 1 || header.csrc_count > MAX_SOURCES {
+        return Ok(false);
+    }
+    let mut queue = SendQueue::new(alloc);
+    queue.push(RtpPacket {
+        seq_no: SeqNo::from(1),
+        time: MediaTime::new(0, Frequency::SECONDS),
+        header,
+        payload: Payload::from_slice(alloc, &[1, 2])?,
+        timestamp: None,
+        nackable: false,
+    })?;
+    Ok(is_queued(&queue, SeqNo::from(1)) && !is_queued(&queue, SeqNo::from(2)))
+}
+
+#[test]
+fn a_queue_is_looked_into(rt: HostRuntime) -> Result<(), Fail> {
+    let found = match RtpHeader::parse(&PACKET, &ExtensionMap::empty()) {
+        Some(header) => is_found(rt.alloc(), header)?,
+        None => false,
+    };
+    assert!(rt; found);
     Ok(())
 }
 
