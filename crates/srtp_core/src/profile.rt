@@ -1,4 +1,4 @@
-ghost use Rattle.std.specs.Prelude.{◌≡◌, ◌<◌, Some, length, IfSome, IfNone};
+ghost use Rattle.std.specs.Prelude.{◌≡◌, ◌<◌, ◌≤◌, Some, length, IfSome, IfNone};
 ghost use Rattle.srtp_core.specs.Keys.{material_len};
 ghost use Rattle.srtp_core.specs.Names.{profile_name};
 ghost use Rattle.srtp_core.specs.RtcpSeals.{word_place, stated_index};
@@ -53,6 +53,7 @@ impl SrtpProfile {
     #[tactic(auto, unfolding(crate::specs::RtcpSeals::stated_word))]
     pub fn stated_index(&self, datagram: &[u8]) -> Option<u32>
         ensures some { IfSome result (λ i. i ≡ stated_index self.now datagram.now) }
+        ensures long { IfSome result (λ _. word_place self.now ≤ length datagram.now) }
         ensures none { IfNone result (length datagram.now < word_place self.now) }
     {
         let place = self.word_place();
