@@ -4,9 +4,9 @@
 mod draft;
 mod error;
 pub mod laws;
+mod limits;
 mod lines;
 mod media_list;
-mod numbers;
 mod order;
 mod reader;
 mod said;
@@ -20,8 +20,8 @@ mod words;
 
 pub use draft::DEFAULT_UNIX_SECS;
 pub use error::ScriptError;
+pub use limits::named_numbers;
 pub use lines::MOST_WORDS;
-pub use numbers::named_numbers;
 pub use order::{MOST_MEDIA, MOST_STREAMS};
 pub use reader::read_script;
 pub use text::{entries_text, write_transcript};
