@@ -132,6 +132,15 @@ pub data HearsFront (cipher : CipherMeaning) (opening : Option SrtpState) (bytes
   heard_front : (plain : List ℕ) (count : ℕ) → RtcpOpensIn cipher opening bytes plain → after ≡ tx_heard (take count (feedback_in plain)) before
       → HearsFront cipher opening bytes before after
 
+-- what streams send again where memory runs out: what it was, or what the items in front of a packet to which the bytes open,
+-- or all of them, make of it
+pub data AsksFront (cipher : CipherMeaning) (opening : Option SrtpState) (bytes : List ℕ) (now : ℕ) (before : List (ℕ × RepairsRecord)) : List (ℕ × RepairsRecord) → Type 0 where
+  unasked : AsksFront cipher opening bytes now before before
+  asked_front : (plain : List ℕ) (count : ℕ) (after : List (ℕ × RepairsRecord)) → RtcpOpensIn cipher opening bytes plain
+      → AskedByAll now (take count (feedback_in plain)) before after → AsksFront cipher opening bytes now before after
+  asked_all : (plain : List ℕ) (after : List (ℕ × RepairsRecord)) → RtcpOpensIn cipher opening bytes plain
+      → AskedByAll now (feedback_in plain) before after → AsksFront cipher opening bytes now before after
+
 -- a packet of goodbyes alone (RFC 3550 section 6.6) changes nothing, and asks for nothing
 abbrev pub GoodbyesChangeNothing : Type 0
 GoodbyesChangeNothing =

@@ -180,6 +180,7 @@ fn ask<W: GapWindow, S: ResendStore<Sent>>(
         → (after : List (ℕ × RepairsRecord)) × AskedBy now item.now r.repairs after
         × StandsFor W.remembers S.stands_for streams.new (record r { repairs = after })) }
     ensures others { streams.new ≡ record streams.old { repairs = streams.new.repairs } }
+    ensures err { OnErr result (streams.new ≡ streams.old) }
 {
     if let RtcpFb::Nack(ssrc, entries) = item {
         streams.handle_nack(*ssrc, entries.as_slice(), now)?;
@@ -187,7 +188,8 @@ fn ask<W: GapWindow, S: ResendStore<Sent>>(
     Ok(())
 }
 
-/// Has the NACKs of feedback ask streams for packets, in order.
+/// Has the NACKs of feedback ask streams for packets, in order. Without memory those in front have
+/// asked.
 pub fn ask_all<W: GapWindow, S: ResendStore<Sent>>(
     feedback: &[RtcpFb],
     streams: &mut Streams<W, S>,
@@ -197,6 +199,9 @@ pub fn ask_all<W: GapWindow, S: ResendStore<Sent>>(
         → (after : List (ℕ × RepairsRecord)) × AskedByAll now feedback.now r.repairs after
         × StandsFor W.remembers S.stands_for streams.new (record r { repairs = after })) }
     ensures others { streams.new ≡ record streams.old { repairs = streams.new.repairs } }
+    ensures err { OnErr result ((r : StreamsRecord) → StandsFor W.remembers S.stands_for streams.old r
+        → (count : ℕ) × ((after : List (ℕ × RepairsRecord)) × AskedByAll now (take count feedback.now) r.repairs after
+        × StandsFor W.remembers S.stands_for streams.new (record r { repairs = after }))) }
 {
     for item in feedback {
         ask(item, streams, now)?;

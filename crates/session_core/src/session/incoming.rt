@@ -1,11 +1,12 @@
 //! What comes to a session: the datagrams of RTP and of RTCP.
 ghost use Rattle.std.specs.Prelude.{◌≡◌, ◌==◌, ◌<◌, ◌↔◌, ◌||◌, ℕ, List, Some, None, true, false, length, drop, is_none, is_some, IfSome, OnOk, is_err, IsTrue, IfOk, IfErr, IfNone, OnErr, IsErrOf};
 ghost use Rattle.rtp_wire.specs.Header.{header_of};
-ghost use Rattle.session_core.specs.Hearing.{ReceivesRtcp, HearsFront};
+ghost use Rattle.session_core.specs.Hearing.{ReceivesRtcp, HearsFront, AsksFront};
 ghost use Rattle.std.specs.Map.{keys_of};
 ghost use Rattle.std.specs.Option.{ForSome};
 ghost use Rattle.stream_core.specs.Seen.{seen_of};
-ghost use Rattle.stream_core.specs.Tables.{place_of};
+ghost use Rattle.stream_core.specs.Repairing.{RepairsRecord, RepairsStandFor};
+ghost use Rattle.stream_core.specs.Tables.{Along, place_of};
 ghost use Rattle.session_core.specs.Mapping.{is_standing, mapped_in, is_nowhere};
 ghost use Rattle.session_core.specs.Receiving.{Takes, Receives, is_claimed, cut, after_opened, after_repair, after_original, after_restoring, after_repaired};
 ghost use Rattle.session_core.specs.Repairs.{repaired_by, original_number};
@@ -462,7 +463,7 @@ impl<C: SrtpCipher, W: GapWindow, S: ResendStore<Sent>> Session<C, W, S> {
     ///
     /// # Errors
     /// `Stopped` where an earlier call stopped the session; `Memory`, and then streams that send
-    /// were told nothing, or the items in front.
+    /// were asked for nothing and told nothing, or by the items in front.
     pub fn handle_rtcp_receive(
         &mut self,
         now: Instant,
@@ -480,6 +481,9 @@ impl<C: SrtpCipher, W: GapWindow, S: ResendStore<Sent>> Session<C, W, S> {
           repairs = self.new.repairs;
         } }
         ensures heard { IsErrOf result Memory → HearsFront C.meaning self.old.state.opening bytes.now self.old.state.tx self.new.state.tx }
+        ensures asked { IsErrOf result Memory → (r : SessionRecord) → StandsFor W.remembers S.stands_for self.old r
+            → (after : List (ℕ × RepairsRecord)) × AsksFront C.meaning r.state.opening bytes.now now r.repairs after
+            × Along (RepairsStandFor S.stands_for) self.new.repairs after }
     {
         if self.stopped {
             return Err(RtcError::Stopped);
@@ -503,6 +507,9 @@ impl<C: SrtpCipher, W: GapWindow, S: ResendStore<Sent>> Session<C, W, S> {
           repairs = self.new.repairs;
         }) }
         ensures heard { OnErr result (HearsFront C.meaning self.old.state.opening bytes.now self.old.state.tx self.new.state.tx) }
+        ensures asked { OnErr result ((r : SessionRecord) → StandsFor W.remembers S.stands_for self.old r
+            → (after : List (ℕ × RepairsRecord)) × AsksFront C.meaning r.state.opening bytes.now now r.repairs after
+            × Along (RepairsStandFor S.stands_for) self.new.repairs after) }
     {
         let Some(RtcpOpening { plain, index }) = open_rtcp(&mut self.opening, bytes)? else {
             return Ok(None);

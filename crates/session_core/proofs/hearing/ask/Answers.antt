@@ -12,4 +12,5 @@ pub returns-in_default : goal.returns-in_default
 returns-in_default g c = record {
   ok = λ r h. (r.repairs, by_none c.in_default.not-Nack, h);
   others = refl;
+  err = tt;
 }

@@ -1,8 +1,9 @@
 use Rattle.std.proofs.Common.{List, take, refl, sym, ap, subst, ◌∙◌}
 use Rattle.rtcp_wire.specs.declared.rtcp_fb.RtcpFb.{RtcpFb}
-use Rattle.stream_core.specs.StreamsRecord.{StreamsView}
+use Rattle.stream_core.specs.StreamsRecord.{StreamsView, StandsFor}
 use Rattle.session_core.specs.Hearing.{AskedByAll, asked_none}
 use Rattle.session_core.proofs.Asking.{asked_more, one_more}
+use Rattle.session_core.proofs.Failing.{on_err_any}
 use Rattle.session_core.proofs.hearing.ask_all.Goals as goal
 
 pub loop-item-init : goal.loop-item-init
@@ -29,3 +30,15 @@ loop-item-preserved g c =
           c.in_ok-ask.ensures.others
           ∙ ap (λ (v : StreamsView g.row.W.Denot g.row.S.Denot). record { threshold = v.threshold; rx = v.rx; known = v.known; tx = v.tx; repairs = c.ask.new.streams.repairs }) c.loop-item.invariant.others;
     }
+
+pub returns-in_err-ask-clause-err : goal.returns-in_err-ask-clause-err
+returns-in_err-ask-clause-err g c = on_err_any _ (λ r h.
+    let here = c.loop-item.invariant.asked r h in
+    let same = c.in_err-ask.ensures.err in (
+      c.loop-item.item-index,
+      (
+        here.0,
+        here.1,
+        subst (λ (v : StreamsView g.row.W.Denot g.row.S.Denot). StandsFor g.W.GapWindow.remembers g.S.ResendStore.stands_for v (record r { repairs = here.0 })) (sym same) here.2,
+      ),
+    ))

@@ -1,5 +1,7 @@
-use Rattle.std.proofs.Common.{sym, subst}
-use Rattle.session_core.specs.Hearing.{HearsFront}
+use Rattle.std.proofs.Common.{ℕ, List, sym, subst}
+use Rattle.stream_core.specs.Repairing.{RepairsRecord, RepairsStandFor}
+use Rattle.stream_core.specs.Tables.{Along}
+use Rattle.session_core.specs.Hearing.{HearsFront, AsksFront}
 use Rattle.session_core.specs.SessionRecord.{SessionView}
 use Rattle.session_core.proofs.session.Session.handle_rtcp_receive.Goals as goal
 
@@ -7,3 +9,8 @@ pub returns-in-Err-clause-heard : goal.returns-in-Err-clause-heard
 returns-in-Err-clause-heard g c = λ is.
     subst (λ (v : SessionView g.row.W.Denot g.row.S.Denot). HearsFront g.C.SrtpCipher.meaning c.args.self.now.state.opening c.args.bytes.now c.args.self.now.state.tx v.state.tx)
     (sym c.self-2.view_is) c.in-Err.ensures.heard
+
+pub returns-in-Err-clause-asked : goal.returns-in-Err-clause-asked
+returns-in-Err-clause-asked g c = λ is r h.
+    subst (λ (v : SessionView g.row.W.Denot g.row.S.Denot). (after : List (ℕ × RepairsRecord)) × AsksFront g.C.SrtpCipher.meaning r.state.opening c.args.bytes.now c.args.now r.repairs after × Along (RepairsStandFor g.S.ResendStore.stands_for) v.repairs after)
+    (sym c.self-2.view_is) (c.in-Err.ensures.asked r h)
