@@ -1,6 +1,7 @@
-use Rattle.std.proofs.Common.{List, take, refl, sym, ap, subst, ◌∙◌}
+use Rattle.std.proofs.Common.{ℕ, List, take, refl, sym, ap, subst, ◌∙◌}
 use Rattle.rtcp_wire.specs.declared.rtcp_fb.RtcpFb.{RtcpFb}
-use Rattle.stream_core.specs.StreamsRecord.{StreamsView, StandsFor}
+use Rattle.stream_core.specs.Repairing.{RepairsRecord}
+use Rattle.stream_core.specs.StreamsRecord.{StreamsRecord, StreamsView, StandsFor}
 use Rattle.session_core.specs.Hearing.{AskedByAll, asked_none}
 use Rattle.session_core.proofs.Asking.{asked_more, one_more}
 use Rattle.session_core.proofs.Failing.{on_err_any}
@@ -32,13 +33,19 @@ loop-item-preserved g c =
     }
 
 pub returns-in_err-ask-clause-err : goal.returns-in_err-ask-clause-err
-returns-in_err-ask-clause-err g c = on_err_any _ (λ r h.
-    let here = c.loop-item.invariant.asked r h in
-    let same = c.in_err-ask.ensures.err in (
+returns-in_err-ask-clause-err g c =
+    let R = g.W.GapWindow.remembers in
+    let S = g.S.ResendStore.stands_for in
+    let front : (r : StreamsRecord) → StandsFor R S c.args.streams.now r
+    → (count : ℕ) × ((after : List (ℕ × RepairsRecord)) × AskedByAll c.args.now (take count c.args.feedback.now) r.repairs after
+    × StandsFor R S c.ask.new.streams (record r { repairs = after })) =
+    λ r h.
+    let here = c.loop-item.invariant.asked r h in (
       c.loop-item.item-index,
       (
         here.0,
         here.1,
-        subst (λ (v : StreamsView g.row.W.Denot g.row.S.Denot). StandsFor g.W.GapWindow.remembers g.S.ResendStore.stands_for v (record r { repairs = here.0 })) (sym same) here.2,
+        subst (λ (v : StreamsView g.row.W.Denot g.row.S.Denot). StandsFor R S v (record r { repairs = here.0 })) (sym c.in_err-ask.ensures.err) here.2,
       ),
-    ))
+    ) in
+    on_err_any _ front

@@ -3,15 +3,15 @@ use Rattle.rtp_base.specs.declared.kind.Kind.TheVariants.{Rtcp}
 use Rattle.rtcp_items.specs.declared.extended.DlrrItem.{DlrrItem}
 use Rattle.rtcp_wire.specs.declared.rtcp_fb.RtcpFb.{RtcpFb}
 use Rattle.srtp_core.specs.RtcpSeals.{sender_of}
-use Rattle.stream_core.specs.Repairing.{RepairsStandFor}
+use Rattle.stream_core.specs.Repairing.{RepairsRecord, RepairsStandFor}
 use Rattle.stream_core.specs.RxRecord.{StandsFor as StreamStandsFor}
 use Rattle.stream_core.specs.StreamsRecord.{StreamsView, StreamsRecord, StandsFor as StreamsStand}
 use Rattle.stream_core.specs.Tables.{Along}
 use Rattle.session_core.specs.declared.datagram.Opened.{Opened}
-use Rattle.session_core.specs.Hearing.{RtcpOpensIn, stated, rtcp_opening_of, feedback_in, tx_heard, last_application, last_delay, measured, ntp_of, after_rtcp, AskedByAll, ReceivesRtcp, opened, stays, HearsFront, unheard, heard_front, unasked, asked_front, asked_all}
+use Rattle.session_core.specs.Hearing.{RtcpOpensIn, stated, rtcp_opening_of, feedback_in, tx_heard, last_application, last_delay, measured, ntp_of, after_rtcp, AskedByAll, ReceivesRtcp, opened, stays, HearsFront, unheard, heard_front, AsksFront, unasked, asked_front, asked_all}
 use Rattle.session_core.specs.News.{news_heard}
 use Rattle.session_core.specs.Reports.{rx_heard, moments_heard}
-use Rattle.session_core.specs.SessionRecord.{streams_in, SessionState, SessionView, StandsFor}
+use Rattle.session_core.specs.SessionRecord.{streams_in, SessionRecord, SessionState, SessionView, StandsFor}
 use Rattle.session_core.proofs.StreamsIn.{streams_stand}
 use Rattle.session_core.proofs.Failing.{on_err_any}
 use Rattle.session_core.proofs.Heard.{heard_state}
@@ -69,17 +69,31 @@ returns-in_err-tell_all-clause-heard g c =
     on_err_any _ (subst (λ (v : SessionView g.row.W.Denot g.row.S.Denot). HearsFront K v.state.opening bytes v.state.tx c.tell_all.new.streams.tx) c.self.view_is (heard_front plain front.0 opens tx))
 
 pub returns-in_err-plain-clause-asked : goal.returns-in_err-plain-clause-asked
-returns-in_err-plain-clause-asked g c = on_err_any c.from_residual.result (λ r h.
+returns-in_err-plain-clause-asked g c =
+    let front : (r : SessionRecord) → StandsFor g.W.GapWindow.remembers g.S.ResendStore.stands_for c.args.self.now r
+    → (after : List (ℕ × RepairsRecord)) × AsksFront g.C.SrtpCipher.meaning r.state.opening c.args.bytes.now c.args.now r.repairs after
+    × Along (RepairsStandFor g.S.ResendStore.stands_for) c.self.inside.streams.repairs after =
+    λ r h.
     let mine = subst (λ s. StandsFor g.W.GapWindow.remembers g.S.ResendStore.stands_for s r) (sym c.self.view_is) h in
-    (r.repairs, unasked, mine.repairs))
+    (r.repairs, unasked, mine.repairs) in
+    on_err_any c.from_residual.result front
 
 pub returns-in_err-feedback-clause-asked : goal.returns-in_err-feedback-clause-asked
-returns-in_err-feedback-clause-asked g c = on_err_any _ (λ r h.
+returns-in_err-feedback-clause-asked g c =
+    let front : (r : SessionRecord) → StandsFor g.W.GapWindow.remembers g.S.ResendStore.stands_for c.args.self.now r
+    → (after : List (ℕ × RepairsRecord)) × AsksFront g.C.SrtpCipher.meaning r.state.opening c.args.bytes.now c.args.now r.repairs after
+    × Along (RepairsStandFor g.S.ResendStore.stands_for) c.self.inside.streams.repairs after =
+    λ r h.
     let mine = subst (λ s. StandsFor g.W.GapWindow.remembers g.S.ResendStore.stands_for s r) (sym c.self.view_is) h in
-    (r.repairs, unasked, mine.repairs))
+    (r.repairs, unasked, mine.repairs) in
+    on_err_any _ front
 
 pub returns-in_err-ask_all-clause-asked : goal.returns-in_err-ask_all-clause-asked
-returns-in_err-ask_all-clause-asked g c = on_err_any _ (λ r h.
+returns-in_err-ask_all-clause-asked g c =
+    let front : (r : SessionRecord) → StandsFor g.W.GapWindow.remembers g.S.ResendStore.stands_for c.args.self.now r
+    → (after : List (ℕ × RepairsRecord)) × AsksFront g.C.SrtpCipher.meaning r.state.opening c.args.bytes.now c.args.now r.repairs after
+    × Along (RepairsStandFor g.S.ResendStore.stands_for) c.ask_all.new.streams.repairs after =
+    λ r h.
     let K = g.C.SrtpCipher.meaning in
     let bytes = c.args.bytes.now in
     let plain = c.in-Some.field-0.plain in
@@ -90,10 +104,15 @@ returns-in_err-ask_all-clause-asked g c = on_err_any _ (λ r h.
     let stands = streams_stand g.W.GapWindow.remembers g.S.ResendStore.stands_for _ r mine in
     let front = c.in_err-ask_all.ensures.err (streams_in r) stands in
     let asked = front.1 in
-    (asked.0, asked_front plain front.0 asked.0 opens_so (subst (λ (fs : List RtcpFb). AskedByAll c.args.now (take front.0 fs) r.repairs asked.0) (c.as_slice-3.ensures.value ∙ heard) asked.1), asked.2.repairs))
+    (asked.0, asked_front plain front.0 asked.0 opens_so (subst (λ (fs : List RtcpFb). AskedByAll c.args.now (take front.0 fs) r.repairs asked.0) (c.as_slice-3.ensures.value ∙ heard) asked.1), asked.2.repairs) in
+    on_err_any _ front
 
 pub returns-in_err-take_moments-clause-asked : goal.returns-in_err-take_moments-clause-asked
-returns-in_err-take_moments-clause-asked g c = on_err_any _ (λ r h.
+returns-in_err-take_moments-clause-asked g c =
+    let front : (r : SessionRecord) → StandsFor g.W.GapWindow.remembers g.S.ResendStore.stands_for c.args.self.now r
+    → (after : List (ℕ × RepairsRecord)) × AsksFront g.C.SrtpCipher.meaning r.state.opening c.args.bytes.now c.args.now r.repairs after
+    × Along (RepairsStandFor g.S.ResendStore.stands_for) c.ask_all.new.streams.repairs after =
+    λ r h.
     let K = g.C.SrtpCipher.meaning in
     let bytes = c.args.bytes.now in
     let plain = c.in-Some.field-0.plain in
@@ -103,10 +122,15 @@ returns-in_err-take_moments-clause-asked g c = on_err_any _ (λ r h.
     let heard : c.in_ok-feedback.feedback.items ≡ feedback_in plain = c.in_ok-feedback.ensures ∙ ap feedback_in c.as_slice.ensures in
     let stands = streams_stand g.W.GapWindow.remembers g.S.ResendStore.stands_for _ r mine in
     let asked = c.in_ok-ask_all.ensures.ok (streams_in r) stands in
-    (asked.0, asked_all plain asked.0 opens_so (subst (λ (fs : List RtcpFb). AskedByAll c.args.now fs r.repairs asked.0) (c.as_slice-3.ensures.value ∙ heard) asked.1), asked.2.repairs))
+    (asked.0, asked_all plain asked.0 opens_so (subst (λ (fs : List RtcpFb). AskedByAll c.args.now fs r.repairs asked.0) (c.as_slice-3.ensures.value ∙ heard) asked.1), asked.2.repairs) in
+    on_err_any _ front
 
 pub returns-in_err-hear-clause-asked : goal.returns-in_err-hear-clause-asked
-returns-in_err-hear-clause-asked g c = on_err_any _ (λ r h.
+returns-in_err-hear-clause-asked g c =
+    let front : (r : SessionRecord) → StandsFor g.W.GapWindow.remembers g.S.ResendStore.stands_for c.args.self.now r
+    → (after : List (ℕ × RepairsRecord)) × AsksFront g.C.SrtpCipher.meaning r.state.opening c.args.bytes.now c.args.now r.repairs after
+    × Along (RepairsStandFor g.S.ResendStore.stands_for) c.ask_all.new.streams.repairs after =
+    λ r h.
     let K = g.C.SrtpCipher.meaning in
     let bytes = c.args.bytes.now in
     let plain = c.in-Some.field-0.plain in
@@ -116,10 +140,15 @@ returns-in_err-hear-clause-asked g c = on_err_any _ (λ r h.
     let heard : c.in_ok-feedback.feedback.items ≡ feedback_in plain = c.in_ok-feedback.ensures ∙ ap feedback_in c.as_slice.ensures in
     let stands = streams_stand g.W.GapWindow.remembers g.S.ResendStore.stands_for _ r mine in
     let asked = c.in_ok-ask_all.ensures.ok (streams_in r) stands in
-    (asked.0, asked_all plain asked.0 opens_so (subst (λ (fs : List RtcpFb). AskedByAll c.args.now fs r.repairs asked.0) (c.as_slice-3.ensures.value ∙ heard) asked.1), asked.2.repairs))
+    (asked.0, asked_all plain asked.0 opens_so (subst (λ (fs : List RtcpFb). AskedByAll c.args.now fs r.repairs asked.0) (c.as_slice-3.ensures.value ∙ heard) asked.1), asked.2.repairs) in
+    on_err_any _ front
 
 pub returns-in_err-tell_all-clause-asked : goal.returns-in_err-tell_all-clause-asked
-returns-in_err-tell_all-clause-asked g c = on_err_any _ (λ r h.
+returns-in_err-tell_all-clause-asked g c =
+    let front : (r : SessionRecord) → StandsFor g.W.GapWindow.remembers g.S.ResendStore.stands_for c.args.self.now r
+    → (after : List (ℕ × RepairsRecord)) × AsksFront g.C.SrtpCipher.meaning r.state.opening c.args.bytes.now c.args.now r.repairs after
+    × Along (RepairsStandFor g.S.ResendStore.stands_for) c.tell_all.new.streams.repairs after =
+    λ r h.
     let K = g.C.SrtpCipher.meaning in
     let bytes = c.args.bytes.now in
     let plain = c.in-Some.field-0.plain in
@@ -129,7 +158,8 @@ returns-in_err-tell_all-clause-asked g c = on_err_any _ (λ r h.
     let heard : c.in_ok-feedback.feedback.items ≡ feedback_in plain = c.in_ok-feedback.ensures ∙ ap feedback_in c.as_slice.ensures in
     let stands = streams_stand g.W.GapWindow.remembers g.S.ResendStore.stands_for _ r mine in
     let asked = c.in_ok-ask_all.ensures.ok (streams_in r) stands in
-    (asked.0, asked_all plain asked.0 opens_so (subst (λ (fs : List RtcpFb). AskedByAll c.args.now fs r.repairs asked.0) (c.as_slice-3.ensures.value ∙ heard) asked.1), subst (λ (v : StreamsView g.row.W.Denot g.row.S.Denot). Along (RepairsStandFor g.S.ResendStore.stands_for) v.repairs asked.0) (sym c.in_err-tell_all.ensures.err.1) asked.2.repairs))
+    (asked.0, asked_all plain asked.0 opens_so (subst (λ (fs : List RtcpFb). AskedByAll c.args.now fs r.repairs asked.0) (c.as_slice-3.ensures.value ∙ heard) asked.1), subst (λ (v : StreamsView g.row.W.Denot g.row.S.Denot). Along (RepairsStandFor g.S.ResendStore.stands_for) v.repairs asked.0) (sym c.in_err-tell_all.ensures.err.1) asked.2.repairs) in
+    on_err_any _ front
 
 pub returns-clause-received : goal.returns-clause-received
 returns-clause-received g c = λ r h.
