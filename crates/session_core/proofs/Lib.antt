@@ -22,6 +22,7 @@ pub mod Staying
 pub mod StreamsIn
 pub mod Tables
 pub mod Taking
+pub mod Targets
 pub mod Telling
 pub mod TickItems
 mod TypeRows

@@ -1,6 +1,6 @@
 -- The feedback that a session sends: items wait in order and leave whole, in compounds (RFC 3550 section 6.1, RFC 5506).
-use Rattle.std.specs.Prelude.{◌≤◌, ◌==◌, ◌&&◌, ℕ, ◌+◌, ◌-◌, ◌*◌, ◌/◌, Bool, true, false, if◌then◌else◌, List, [], ◌∷◌, length, take, drop, Option, Some, None}
-use Rattle.std.specs.List.{flat_map}
+use Rattle.std.specs.Prelude.{◌≤◌, ◌≢◌, ◌==◌, ◌&&◌, ℕ, ◌+◌, ◌-◌, ◌*◌, ◌/◌, Bool, true, false, if◌then◌else◌, List, [], ◌∷◌, length, take, drop, Option, Some, None}
+use Rattle.std.specs.List.{flat_map, AllByRecursion}
 use Rattle.std.specs.Option.{option_map}
 use Rattle.rtp_base.specs.declared.kind.Kind.TheVariants.{Rtcp as rtcp}
 use Rattle.rtcp_wire.specs.declared.packet.Rtcp.{Rtcp}
@@ -11,6 +11,7 @@ use Rattle.srtp_core.specs.RtcpSeals.{sealed_rtcp, sender_of}
 use Rattle.srtp_core.specs.declared.TheConstants.{SRTCP_OVERHEAD}
 use Rattle.srtp_core.specs.declared.context.TheConstants.{SRTCP_INDEX_LIMIT}
 use Rattle.srtp_core.specs.declared.srtcp.TheConstants.{HEADER_LEN}
+use Rattle.session_core.specs.declared.config.TheConstants.{LEAST_TARGET}
 use Rattle.session_core.specs.declared.feedback.TheConstants.{MAX_ITEM_LEN}
 use Rattle.session_core.specs.declared.datagram.Datagram.{Datagram}
 use Rattle.session_core.specs.SessionRecord.{SessionState}
@@ -50,6 +51,12 @@ sealed_compound cipher plain state = record {
   plain = plain;
   bytes = sealed_rtcp cipher state.profile state.keys true state.srtcp_index plain;
 }
+
+-- under whatever keys a compound of items that fit alone is sealed, it has at most as many bytes as the target
+abbrev pub CompoundsKeepToTarget : CipherMeaning → Type 0
+CompoundsKeepToTarget cipher =
+    (target : ℕ) (items : List Rtcp) (state : SrtpState) → LEAST_TARGET ≤ target → items ≢ [] → AllByRecursion FitsAlone items
+    → length (sealed_compound cipher (compound_of target items) state).bytes ≤ target
 
 -- one more SRTCP datagram was sealed
 abbrev pub counted : SrtpState → SrtpState

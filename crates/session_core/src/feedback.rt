@@ -3,7 +3,7 @@ ghost use Rattle.std.specs.List.{AllByRecursion};
 ghost use Rattle.std.specs.Option.{option_map};
 ghost use Rattle.srtp_core.specs.RtcpSeals.{sender_of};
 ghost use Rattle.session_core.specs.declared.error.RtcError.TheVariants.{Memory, KeyExhausted};
-ghost use Rattle.session_core.specs.Feedback.{FitsAlone, AreLeft, room_of, compound_of, items_after, sealed_compound, counted, is_used_up};
+ghost use Rattle.session_core.specs.Feedback.{FitsAlone, AreLeft, room_of, compound_of, items_after, sealed_compound, counted, is_used_up, CompoundsKeepToTarget};
 
 use crate::config::LEAST_TARGET;
 use crate::datagram::Datagram;
@@ -12,6 +12,7 @@ use media_base::Bytes;
 use rtcp_wire::Rtcp;
 use rtp_base::wire::word;
 use rtp_base::{Kind, SeqNo, Ssrc};
+use srtp_core::laws::rtcp_seal_keeps_header;
 use srtp_core::{
     Counter, HEADER_LEN, SRTCP_INDEX_LIMIT, SRTCP_OVERHEAD, SrtpCipher, SrtpContext, SrtpError,
 };
@@ -78,6 +79,14 @@ fn seal_compound<C: SrtpCipher>(
         plain: Bytes::from_vec(plain),
         bytes: Bytes::from_vec(bytes),
     })
+}
+
+/// A datagram of feedback has at most as many bytes as the target, once it is sealed: the compound
+/// that leaves next, of items each of which fits one of its own.
+pub fn compounds_keep_to_target<C: SrtpCipher>()
+    ensures { CompoundsKeepToTarget C.meaning }
+{
+    rtcp_seal_keeps_header::<C>();
 }
 
 /// Whether no further SRTCP datagram can be sealed under the keys.

@@ -24,7 +24,7 @@ pub use config::{
 };
 pub use datagram::{Datagram, DrainFault, Drained, Event, Opened};
 pub use error::{AppError, RtcError};
-pub use feedback::MAX_ITEM_LEN;
+pub use feedback::{MAX_ITEM_LEN, compounds_keep_to_target};
 pub use hearing::goodbyes_change_nothing;
 pub use media::Media;
 pub use news::{KeyframeRequest, RembRequest, SenderFeedback};
