@@ -1,4 +1,4 @@
-ghost use Rattle.std.specs.Prelude.{◌≡◌, ◌≢◌, ◌≤◌, ◌<◌, ◌↔◌, [], false, length, take, IsTrue, IfOk, IfErr, IsErrOf, OnOk, OnErr};
+ghost use Rattle.std.specs.Prelude.{◌≡◌, ◌≢◌, ◌≤◌, ◌<◌, ◌↔◌, [], false, length, take, IsTrue, IfOk, IfErr, IfSome, IsErrOf, OnOk, OnErr};
 ghost use Rattle.std.specs.List.{AllByRecursion};
 ghost use Rattle.std.specs.Option.{option_map};
 ghost use Rattle.srtp_core.specs.RtcpSeals.{sender_of};
@@ -116,6 +116,7 @@ pub fn poll_compound<C: SrtpCipher>(
     ensures exhausted { IsErrOf result (KeyExhausted Counter.Rtcp) ↔ IsTrue (is_used_up sealing.old) }
     ensures memory { is_used_up sealing.old ≡ false → IfErr result (λ e. e ≡ Memory) }
     ensures sealed { IfOk result (λ d. d ≡ option_map (sealed_compound C.meaning (compound_of target items.old.items)) sealing.old) }
+    ensures within { IfOk result (λ d. IfSome d (λ s. length s.bytes ≤ target)) }
     ensures left { OnOk result (items.new.items ≡ items_after target items.old.items) }
     ensures next { OnOk result (sealing.new ≡ option_map counted sealing.old) }
     ensures fewer { OnOk result (length items.new.items < length items.old.items) }
@@ -124,6 +125,7 @@ pub fn poll_compound<C: SrtpCipher>(
     ensures kept { IsTrue (is_used_up sealing.old) → items.new ≡ items.old }
     ensures lost { OnErr result (AreLeft target items.old.items items.new.items) }
 {
+    compounds_keep_to_target::<C>();
     if is_used_up(sealing) {
         return Err(RtcError::KeyExhausted(Counter::Rtcp));
     }

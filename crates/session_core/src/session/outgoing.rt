@@ -22,7 +22,7 @@ use media_units::{Instant, already_happened};
 use repair_core::GapWindow;
 use resend_core::ResendStore;
 use rtcp_wire::{AppSpecificFeedback, Rtcp, items_fit_by_lengths};
-use rtp_base::Ssrc;
+use rtp_base::{Kind, Ssrc};
 use rtx_core::ResendError;
 use srtp_core::SrtpCipher;
 use stream_core::{PacketReceipt, Sent};
@@ -108,6 +108,7 @@ impl<C: SrtpCipher, W: GapWindow, S: ResendStore<Sent>> Session<C, W, S> {
             ↔ ((self.old.state.stopped ≡ false) × (exhausts now self.old.state ≡ true)) }
         ensures polled { IfOk result (λ d. (r : SessionRecord) → StandsFor W.remembers S.stands_for self.old r
             → (after : SessionRecord) × NextDatagram C.meaning now r after d × StandsFor W.remembers S.stands_for self.new after) }
+        ensures within { IfOk result (λ d. IfSome d (λ s. s.kind ≡ Kind.Rtcp → length s.bytes ≤ self.old.state.target)) }
         ensures latch { self.new.state.stopped ≡ self.old.state.stopped || is_err result }
         ensures unchanged { IsErrOf result Stopped → self.new ≡ self.old }
         ensures fewer { IfOk result (λ d. IfSome d (λ s. waiting_in self.new < waiting_in self.old)) }
@@ -135,6 +136,7 @@ impl<C: SrtpCipher, W: GapWindow, S: ResendStore<Sent>> Session<C, W, S> {
         ensures exhausted { IsErrOf result (KeyExhausted counter.Rtcp) ↔ IsTrue (exhausts now self.old.state) }
         ensures polled { IfOk result (λ d. (r : SessionRecord) → StandsFor W.remembers S.stands_for self.old r
             → (after : SessionRecord) × NextDatagram C.meaning now r after d × StandsFor W.remembers S.stands_for self.new after) }
+        ensures within { IfOk result (λ d. IfSome d (λ s. s.kind ≡ Kind.Rtcp → length s.bytes ≤ self.old.state.target)) }
         ensures runs { self.new.state.stopped ≡ self.old.state.stopped }
         ensures fewer { IfOk result (λ d. IfSome d (λ s. waiting_in self.new < waiting_in self.old)) }
         ensures failed { IfErr result (λ e. (r : SessionRecord) → StandsFor W.remembers S.stands_for self.old r
