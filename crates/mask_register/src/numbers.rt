@@ -2,7 +2,7 @@ ghost use Rattle.std.specs.Prelude.{◌≡◌};
 
 use crate::MOST_MISSING;
 
-/// Which numbers the names have that contracts of this crate speak of.
+/// Which number the name has that contracts of this crate speak of.
 pub fn named_numbers()
     ensures { MOST_MISSING ≡ 100 }
 {}

@@ -76,6 +76,8 @@ pub fn media_main<S: Source, K: Sink>(
 ) -> Report
     ensures status { result.status ≡ status_of result.end }
 
+    // The most bytes of an input that is answered.
+    ensures limit { LIMIT ≡ 67108864 }
     // What was read, the end that it has come to, and what was written.
     ensures answers { Answers LIMIT (map string_bytes words.now) (S.left source.old) (S.left source.new)
         (K.written sink.old) (K.written sink.new) result.end result.transcript }

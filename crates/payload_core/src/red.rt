@@ -11,10 +11,10 @@ use thiserror::Error;
 /// How many packets back a frame may be to be taken from RED.
 pub const MAX_RED_RECOVERY_DEPTH: u64 = 8;
 
-/// The bytes behind the most of a redundant block: its length has 10 bits (RFC 2198 section 3).
+/// One more than the most bytes of a redundant block: its length has 10 bits (RFC 2198 section 3).
 pub const RED_LEN_LIMIT: usize = 1_024;
 
-/// The ticks behind the most that a redundant block may be before its packet: its offset has 14
+/// One more than the most ticks that a redundant block may be before its packet: its offset has 14
 /// bits (RFC 2198 section 3).
 pub const RED_OFFSET_LIMIT: u64 = 0x4000;
 

@@ -10,10 +10,10 @@ use crate::jitter::{Jitter, TimePoint};
 use rtp_base::{NUMBER_LIMIT, ReceptionReport, SeqNo, Ssrc};
 use std::marker::Model;
 
-/// The most packets lost that a report can say: 24 signed bits (RFC 3550 section A.3).
+/// The most packets lost that a report can say: 24 signed bits (RFC 3550 appendix A.3).
 pub const MAX_POSITIVE_LOSS: u64 = 0x7f_ffff;
 
-/// How far below 0 the packets lost of a report can be: 24 signed bits (RFC 3550 section A.3).
+/// How far below 0 the packets lost of a report can be: 24 signed bits (RFC 3550 appendix A.3).
 pub const MAX_NEGATIVE_LOSS: u64 = 0x80_0000;
 
 /// What is counted of the packets of a source beside which numbers came: the first number, how many

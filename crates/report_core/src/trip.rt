@@ -12,7 +12,8 @@ use rtp_base::ReceptionReport;
 /// delay that it tells is then at least a 65,536th of a second (RFC 3550 section 6.4.1).
 pub const LEAST_HELD_NANOS: u64 = 16_000;
 
-/// How far a round trip that is told is from the one that was at most, in nanoseconds.
+/// How far a round trip that is told is from the one that was at most, and how long that takes at
+/// least where so much is promised, in nanoseconds.
 pub const TRIP_ERROR_NANOS: u64 = 50_000;
 
 /// The round trip that the answer to a receiver's moment tells, where it comes at a moment (RFC

@@ -5,7 +5,8 @@ ghost use Rattle.rtp_base.specs.Name.{is_name, name_of};
 use std::fmt;
 use std::marker::Model;
 
-/// The most bytes of a mid or a rid.
+/// The most bytes of a mid or a rid: those of an element in the one-byte form (RFC 8285 section
+/// 4.2).
 pub const MAX_NAME_LEN: usize = 16;
 
 // 1 to 16 ASCII bytes, with zeros behind them. Contracts see the list of the bytes.

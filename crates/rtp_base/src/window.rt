@@ -4,8 +4,7 @@ ghost use Rattle.rtp_base.specs.Window.{holds, is_fresh_after, with_fresh, great
 
 use crate::number::SeqNo;
 
-/// How far below the greatest number of repairs one is still told apart from those that were
-/// taken.
+/// How many numbers are told apart, the greatest and those below it: a choice.
 pub const WINDOW_LEN: u64 = 128;
 
 /// The numbers of repair datagrams that were taken, as far as it takes to tell which are fresh:

@@ -4,9 +4,9 @@ use report_core::ReportIntervals;
 use rtp_base::Ssrc;
 use rtp_wire::ExtensionMap;
 
-/// The usual target for the length of datagrams, in bytes.
+/// The usual target for the length of datagrams, in bytes: a choice.
 pub const DATAGRAM_MTU: usize = 1150;
-/// The usual length above which a datagram may not reach its peer, in bytes.
+/// The usual length above which a datagram may not reach its peer, in bytes: a choice.
 pub const DATAGRAM_MTU_WARN: usize = 1280;
 
 /// The least target for the length of datagrams, in bytes: a choice.

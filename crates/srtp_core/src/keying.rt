@@ -10,11 +10,11 @@ use crate::cipher_key::CipherKey;
 use std::alloc::{AllocError, Global};
 use std::marker::Model;
 
-/// The label of the key of RTP (RFC 3711 section 4.3.2).
+/// The label of the key of RTP (RFC 3711 section 4.3.1).
 pub const LABEL_RTP_AES: u8 = 0;
-/// The label of the authentication key of RTP (RFC 3711 section 4.3.2).
+/// The label of the authentication key of RTP (RFC 3711 section 4.3.1).
 pub const LABEL_RTP_AUTHENTICATION_KEY: u8 = 1;
-/// The label of the salt of RTP (RFC 3711 section 4.3.2).
+/// The label of the salt of RTP (RFC 3711 section 4.3.1).
 pub const LABEL_RTP_SALT: u8 = 2;
 /// The label of the key of RTCP (RFC 3711 section 4.3.2).
 pub const LABEL_RTCP_AES: u8 = 3;

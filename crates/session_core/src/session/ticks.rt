@@ -23,7 +23,7 @@ use srtp_core::SrtpCipher;
 use std::alloc::AllocError;
 use stream_core::{Sent, Tick};
 
-/// The least time between two rounds that ask for what is missing, in nanoseconds.
+/// The least time between two rounds that ask for what is missing, in nanoseconds: a choice.
 pub const NACK_MIN_INTERVAL: u64 = 33_000_000;
 
 /// The moment of the last round after a tick, of which it is known whether it is one.
