@@ -1,9 +1,9 @@
 //! Rounds on the registers of received numbers.
-ghost use Rattle.std.specs.Prelude.{◌≡◌, ◌<◌, ◌%◌, ◌^◌};
+ghost use Rattle.std.specs.Prelude.{◌≡◌, ◌<◌, ◌%◌};
 
 use media_units::Instant;
 use repair_core::{GapWindow, ReceiverRegister};
-use rtp_base::{NackEntry, ReportList, SeqNo};
+use rtp_base::{NUMBER_LIMIT, NackEntry, ReportList, SeqNo};
 use std::alloc::{AllocError, Global};
 
 /// Which numbers come.
@@ -37,10 +37,10 @@ const REGISTERS: u64 = 16;
 
 // The number of a count, in 48 bits.
 fn at(count: u64) -> SeqNo
-    ensures number { result ≡ count % 2 ^ 48 }
-    ensures bound { result < 2 ^ 48 }
+    ensures number { result ≡ count % NUMBER_LIMIT }
+    ensures bound { result < NUMBER_LIMIT }
 {
-    SeqNo::from(count % 0x1_0000_0000_0000)
+    SeqNo::from(count % NUMBER_LIMIT)
 }
 
 // The number that comes next, None where it is lost.

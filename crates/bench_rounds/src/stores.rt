@@ -1,9 +1,9 @@
 //! Rounds on the stores of sent packets.
-ghost use Rattle.std.specs.Prelude.{◌≡◌, ◌<◌, ◌%◌, ◌^◌};
+ghost use Rattle.std.specs.Prelude.{◌≡◌, ◌<◌, ◌%◌};
 
 use media_units::{Duration, Instant};
-use resend_core::{Cached, ResendStore, RtxCache};
-use rtp_base::SeqNo;
+use resend_core::{CACHED_SIZE_LIMIT, Cached, ResendStore, RtxCache};
+use rtp_base::{NUMBER_LIMIT, SeqNo};
 use std::alloc::{AllocError, Global};
 
 /// A sent packet of which only the number and the size count.
@@ -125,12 +125,12 @@ impl StoreWork {
 
 // The packet of a count.
 fn sent_packet(count: u64) -> Packet
-    ensures number { result.number ≡ count % 2 ^ 48 }
+    ensures number { result.number ≡ count % NUMBER_LIMIT }
     ensures size { result.size ≡ count % 1200 }
-    ensures bound { result.size < 2000 }
+    ensures bound { result.size < CACHED_SIZE_LIMIT }
 {
     Packet {
-        number: count % 0x1_0000_0000_0000,
+        number: count % NUMBER_LIMIT,
         size: (count % 1_200) as usize,
     }
 }

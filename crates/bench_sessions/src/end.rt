@@ -1,6 +1,6 @@
 // A session as an end: one stream, the toy cipher under AEAD_AES_128_GCM, and the register with a
 // mask.
-ghost use Rattle.std.specs.Prelude.{◌<◌, ◌≤◌, ◌^◌, length};
+ghost use Rattle.std.specs.Prelude.{◌<◌, ◌≤◌, length};
 
 use crate::peer::{Given, Peer, Role, moment};
 use bench_rounds::answer;
@@ -12,10 +12,10 @@ use queue_store::QueueStore;
 use rtp_base::{Frequency, MidRid, NackEntry, Pt, SeqNo, Ssrc};
 use rtp_wire::ExtensionMap;
 use session_core::{
-    DATAGRAM_MTU, DATAGRAM_MTU_WARN, Drained, Media, MediaKind, Mtu, ReportIntervals, Session,
-    SessionConfig,
+    DATAGRAM_MTU, DATAGRAM_MTU_WARN, Drained, GREATEST_WARN, LEAST_TARGET, Media, MediaKind, Mtu,
+    ReportIntervals, Session, SessionConfig,
 };
-use srtp_core::{KeyingMaterial, SrtpProfile, ToyCipher};
+use srtp_core::{KeyingMaterial, SRTCP_INDEX_LIMIT, SrtpProfile, ToyCipher};
 use std::alloc::{AllocError, Global};
 use stream_core::{Payload, RtpWrite, Sent, Streams};
 
@@ -38,10 +38,10 @@ fn codecs(alloc: Global) -> Result<CodecConfig, AllocError> {
 
 // What a session is made with.
 fn config(codecs: CodecConfig) -> SessionConfig
-    ensures target { 900 ≤ result.mtu.target }
+    ensures target { LEAST_TARGET ≤ result.mtu.target }
     ensures order { result.mtu.target ≤ result.mtu.warn }
-    ensures warn { result.mtu.warn ≤ 1500 }
-    ensures index { result.srtcp_index ≤ 2 ^ 31 }
+    ensures warn { result.mtu.warn ≤ GREATEST_WARN }
+    ensures index { result.srtcp_index ≤ SRTCP_INDEX_LIMIT }
 {
     SessionConfig {
         id: 1,

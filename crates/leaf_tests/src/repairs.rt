@@ -1,18 +1,18 @@
-ghost use Rattle.std.specs.Prelude.{◌≡◌, ℕ, ◌+◌, ◌<◌, ◌≤◌, ◌^◌, ◌&&◌, ◌||◌, not, nat_eq, nat_lt, nat_le};
+ghost use Rattle.std.specs.Prelude.{◌≡◌, ℕ, ◌+◌, ◌<◌, ◌≤◌, ◌&&◌, ◌||◌, not, nat_eq, nat_lt, nat_le};
 ghost use Rattle.std.specs.List.{list_any};
 ghost use Rattle.repair_core.specs.Fresh.{greatest, is_fresh};
 
 use media_units::Instant;
 use repair_core::{NackRegister, ReceiverRegister, expected, packets_lost};
-use rtp_base::{NackEntry, ReceptionReport, ReportList, SeqNo};
+use rtp_base::{NUMBER_LIMIT, NackEntry, ReceptionReport, ReportList, SeqNo};
 use std::alloc::{AllocError, Global};
 use std::test::Fail;
 
 // A number of 48 bits.
 fn number_of(number: u64) -> SeqNo
-    ensures { result < 2 ^ 48 }
+    ensures { result < NUMBER_LIMIT }
 {
-    SeqNo::from(number % 0x1_0000_0000_0000)
+    SeqNo::from(number % NUMBER_LIMIT)
 }
 
 fn is_number(last: Option<SeqNo>, number: Option<u64>) -> bool {

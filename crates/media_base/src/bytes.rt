@@ -1,7 +1,10 @@
-ghost use Rattle.std.specs.Prelude.{◌≡◌, ◌==◌, IfOk, length};
+ghost use Rattle.std.specs.Prelude.{◌≡◌, ◌==◌, ℕ, IfOk, length};
+ghost use Rattle.std.specs.Slice.Iter.{iter_rest};
+ghost use Rattle.std.specs.Iterator.Adapters.{IterYieldsInOrder};
 
 use std::alloc::{AllocError, Global};
 use std::marker::Model;
+use std::slice;
 
 /// Bytes on the heap. Contracts see the list of them.
 #[derive(Debug, Drop)]
@@ -81,5 +84,13 @@ impl Bytes {
         ensures { result ≡ (length self.now == 0) }
     {
         self.all.is_empty()
+    }
+
+    /// The bytes, one after another.
+    pub fn iter(&self) -> slice::Iter<'_, u8>
+        ensures rest { iter_rest result ≡ self.now }
+        ensures runs { IterYieldsInOrder ℕ }
+    {
+        self.all.iter()
     }
 }

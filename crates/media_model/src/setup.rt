@@ -273,9 +273,6 @@ pub struct Setup {
 }
 
 impl Setup {
-    /// The threshold of pauses where a script says nothing of it, in nanoseconds: 1.5 s.
-    pub const DEFAULT_PAUSE_NANOS: u64 = DEFAULT_PAUSE_THRESHOLD_NANOS;
-
     /// The keying material, which may have another length than the profile asks for.
     pub fn material(&self, alloc: Global) -> Result<Vec<u8>, AllocError>
         ensures { IfOk result (λ v. v.items ≡ material_of self.now) }

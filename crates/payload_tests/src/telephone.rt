@@ -1,7 +1,7 @@
 ghost use Rattle.std.specs.Prelude.{◌≡◌};
 
 use media_units::Duration;
-use payload_core::{TelephoneEvent, duration_from_units};
+use payload_core::{CodecExtra, TelephoneEvent, TelephoneFault, duration_from_units};
 use rtp_base::Frequency;
 
 // Durations are in ticks of the clock on the wire (RFC 4733 section 2.3.5): 8,000 of them are a
@@ -80,4 +80,15 @@ fn events_are_read(rt: HostRuntime) {
     }
     let read = TelephoneEvent::parse(&bytes, Frequency::EIGHT_KHZ);
     assert_eq!(rt; read, Some(digit(125_000)));
+}
+
+// What came with the packets of an event is no picture, and a fault of one has words for it: its
+// volume has 6 bits (RFC 4733 section 2.3.4).
+#[test]
+fn events_are_no_pictures(rt: HostRuntime) {
+    assert!(rt; !CodecExtra::Tele(digit(125_000)).is_keyframe());
+    assert_eq!(rt;
+        TelephoneFault::VolumeTooGreat.reason(),
+        "volume exceeds 63"
+    );
 }

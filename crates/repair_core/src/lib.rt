@@ -20,7 +20,7 @@ pub use numbers::named_numbers;
 pub use register::ReceiverRegister;
 pub use register_nack::{
     DEFAULT_RTT_NANOS, GRACE_ROUND_TRIPS, MAX_ENTRIES_BEFORE_ROUND, MAX_MISORDER, MAX_NACKS,
-    MAX_ROUND_ENTRIES, NACK_RETRY_MARGIN_NANOS, NackRegister,
+    MAX_ROUND_ENTRIES, NACK_MIN_INTERVAL, NACK_RETRY_MARGIN_NANOS, NackRegister,
 };
 pub use slots::WINDOW;
 

@@ -27,6 +27,9 @@ pub const DEFAULT_RTT_NANOS: u64 = 100_000_000;
 /// How long past the round trip a number is asked for again, in nanoseconds: a choice.
 pub const NACK_RETRY_MARGIN_NANOS: u64 = 5_000_000;
 
+/// The least time between two rounds that ask for what is missing, in nanoseconds: a choice.
+pub const NACK_MIN_INTERVAL: u64 = 33_000_000;
+
 /// How many round trips after the last ask a missing number is given up: a choice.
 pub const GRACE_ROUND_TRIPS: u64 = 3;
 

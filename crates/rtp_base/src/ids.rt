@@ -5,18 +5,22 @@ use crate::name::{Mid, Rid};
 use crate::number::SeqNo;
 use std::marker::Model;
 
+/// One more than the greatest identification of a session: a choice.
+pub const SESSION_ID_LIMIT: u64 = 1 << 62;
+
 /// The identification of a session in an offer, at most 2^62 - 1. Contracts see the number.
 #[derive(Clone, Copy, Debug, PartialEq, Eq, PartialOrd, Ord, Hash)]
 pub struct SessionId(u64);
 
 impl Model for SessionId {
-    ghost use Rattle.std.specs.Prelude.{ℕ, ◌<◌, ◌^◌};
+    ghost use Rattle.std.specs.Prelude.{ℕ, ◌<◌};
+    ghost use Rattle.rtp_base.specs.declared.ids.TheConstants.{SESSION_ID_LIMIT};
 
     ghost Value = { ℕ };
 
     ghost view = { λ s. s.0 };
 
-    ghost invariant = { λ s. s.0 < 2 ^ 62 };
+    ghost invariant = { λ s. s.0 < SESSION_ID_LIMIT };
 
     ghost inverse = { λ n. record { 0 = n } };
 }
@@ -26,7 +30,7 @@ impl SessionId {
     pub fn new(number: u64) -> Self
         ensures { result ≡ halved number }
     {
-        if number < 1 << 62 {
+        if number < SESSION_ID_LIMIT {
             SessionId(number)
         } else if number < 1 << 63 {
             SessionId(number / 2)

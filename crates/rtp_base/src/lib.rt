@@ -18,7 +18,7 @@ mod widen;
 mod window;
 pub mod wire;
 
-pub use ids::{Direction, MidRid, SessionId, TwccClusterId, TwccPacketId};
+pub use ids::{Direction, MidRid, SESSION_ID_LIMIT, SessionId, TwccClusterId, TwccPacketId};
 pub use keyframe_request::KeyframeRequestKind;
 pub use kind::Kind;
 pub use media_time::{Frequency, MediaTime};

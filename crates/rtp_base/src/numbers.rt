@@ -1,10 +1,11 @@
 ghost use Rattle.std.specs.Prelude.{◌≡◌, ◌^◌};
 
-use crate::{MAX_NAME_LEN, MAX_REPORTS, NUMBER_LIMIT, WINDOW_LEN};
+use crate::{MAX_NAME_LEN, MAX_REPORTS, NUMBER_LIMIT, SESSION_ID_LIMIT, WINDOW_LEN};
 
 /// Which numbers the names have that contracts of this crate speak of.
 pub fn named_numbers()
     ensures numbers { NUMBER_LIMIT ≡ 2 ^ 48 }
+    ensures sessions { SESSION_ID_LIMIT ≡ 2 ^ 62 }
     ensures window { WINDOW_LEN ≡ 128 }
     ensures names { MAX_NAME_LEN ≡ 16 }
     ensures reports { MAX_REPORTS ≡ 31 }

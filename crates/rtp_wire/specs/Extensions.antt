@@ -178,7 +178,7 @@ abbrev pub with_data : List ℕ → List ℕ
 with_data [] = []
 with_data (b ∷ bytes) =
     let n = words_for (length (b ∷ bytes)) in
-    190 ∷ 222 ∷ to_be_bytes w16 n ++ ((b ∷ bytes) ++ replicate (4 * n - length (b ∷ bytes)) 0)
+    ONE_BYTE_PROFILE / 256 ∷ ONE_BYTE_PROFILE % 256 ∷ to_be_bytes w16 n ++ ((b ∷ bytes) ++ replicate (4 * n - length (b ∷ bytes)) 0)
 
 -- the extension in which values are written, with its own header
 unfoldable pub extension_bytes : List (Option Extension) → ExtensionValues → List ℕ

@@ -15,6 +15,7 @@ use Rattle.run_model.specs.Seals.{Sealing}
 use Rattle.run_model.specs.TxPlay.{is_sealing}
 use Rattle.run_model.specs.Receiving.{concerns, yields, Opens}
 use Rattle.run_model.specs.RxPlay.{RxRecord, new_rx, lists_in, rx_opened, rx_ticked, is_enabled}
+use Rattle.repair_core.specs.declared.register_nack.TheConstants.{NACK_MIN_INTERVAL}
 
 -- the moment of the last step, the moment of the last round, the round trip, and the incoming streams in order, each with its
 -- record
@@ -44,7 +45,7 @@ abbrev pub any_enabled : List (Incoming × RxRecord) → Bool
 any_enabled table = list_any (λ s. is_enabled s.0 s.1) table
 
 abbrev pub is_round : RxSide → ℕ → Bool
-is_round side time = any_enabled side.table && nat_le (side.last_round + 33000000) time
+is_round side time = any_enabled side.table && nat_le (side.last_round + NACK_MIN_INTERVAL) time
 
 -- how long a number must not have been asked for, where the stream takes part
 abbrev pub asks_of : Bool → ℕ → Incoming × RxRecord → Option ℕ

@@ -8,6 +8,7 @@ use Rattle.rtp_wire.specs.Padding.{unpadded}
 use Rattle.media_model.specs.declared.entry.Packet.{Packet}
 use Rattle.run_model.specs.Events.{Plain, Event, opened, yielded, Types, Incoming}
 use Rattle.run_model.specs.Seals.{Sealing, IsSeal}
+use Rattle.srtp_core.specs.declared.context.TheConstants.{MAX_DATAGRAM_LEN}
 
 -- the payload without its padding (RFC 3550 section 5.1)
 abbrev pub cut : Plain → List ℕ
@@ -143,7 +144,7 @@ yields T L l ssrc n p =
 
 -- bytes open on the stream
 pub record Opens (T : Types) (L : Incoming) (peer : Sealing) (l : Lists) (bytes : List ℕ) (ssrc n : ℕ) (p : Plain) : Type 0 where
-  pub short : length bytes ≤ 2000
+  pub short : length bytes ≤ MAX_DATAGRAM_LEN
   pub mine : concerns L ssrc ≡ true
   pub claimed : ((L.ssrc == 0) || T.claims p.pt) ≡ true
   pub number : n ≡ widened T L l ssrc p (n % 65536)

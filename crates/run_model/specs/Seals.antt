@@ -2,6 +2,7 @@
 use Rattle.std.specs.Prelude.{◌≡◌, ◌≤◌, ◌%◌, ℕ, Bool, List, length, Option, Some}
 use Rattle.rtcp_wire.specs.declared.rtcp_fb.RtcpFb.{RtcpFb}
 use Rattle.run_model.specs.Events.{Plain}
+use Rattle.srtp_core.specs.declared.srtcp.TheConstants.{HEADER_LEN}
 
 -- how a plain RTP datagram is read, as its SSRC, the low 16 bits of its number and the rest, and how it is sealed under an SSRC
 -- and a number
@@ -26,7 +27,7 @@ pub record Reporting : Type 0 where
 -- they state
 pub record IsReport (R : Reporting) (bytes : List ℕ) (index : ℕ) (items : List RtcpFb) : Type 0 where
   pub packet : List ℕ
-  pub long : 8 ≤ length packet
+  pub long : HEADER_LEN ≤ length packet
   pub stated : index ≡ R.states bytes
   pub held : items ≡ R.items packet
   pub sealed : R.seal (R.encrypts bytes) index packet ≡ bytes

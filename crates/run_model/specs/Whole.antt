@@ -22,6 +22,7 @@ use Rattle.run_model.specs.RxPlay.{RxRecord, lists_in}
 use Rattle.run_model.specs.Asking.{is_other, side_of, asked, modulo, owed, RxSide, RxSetup, new_side, opened_in, ticked_side, trip_after, Feedback, items_in}
 use Rattle.run_model.specs.Tables.{Table, has, AreApart, ServesAll, DrainsAll, begun_at, written_to, IsUnused, Hears, nonces}
 use Rattle.run_model.specs.Runs.{Happening, events_of, on_side, IsGenuine, RepairsWiden, YieldsWrites, SealsApart, TypesPair}
+use Rattle.srtp_core.specs.declared.context.TheConstants.{MAX_DATAGRAM_LEN}
 
 -- the types, after how long a stream is paused, the round trip that an item tells at a moment; and of each side how it seals
 -- RTP and RTCP, which SSRCs are its own, the index of its first RTCP datagram, and its outgoing streams
@@ -174,7 +175,7 @@ pub record HeadsApart (seal : Sealing) : Type 0 where
 pub record IsPlainWrite (C : Config) (w : Write) (bytes : List ℕ) : Type 0 where
   pub claimed : C.types.claims w.pt ≡ true
   pub primary : C.types.is_rtx w.pt ≡ false
-  pub short : length bytes ≤ 2000
+  pub short : length bytes ≤ MAX_DATAGRAM_LEN
 
 -- what a side yields where the datagram of a write that the other side sent comes: the write exactly where its number widens to
 -- itself and is fresh, by the numbers taken, which are first the greatest one seen where there are none

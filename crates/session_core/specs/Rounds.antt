@@ -6,7 +6,7 @@ use Rattle.stream_core.specs.Reporting.{any_request, due_mids, incoming_items, i
 use Rattle.stream_core.specs.Tables.{each}
 use Rattle.stream_core.specs.TxRecord.{any_waits, after_timeout as stream_after_timeout}
 use Rattle.stream_core.specs.declared.reports.Tick.{Tick}
-use Rattle.session_core.specs.declared.session.ticks.TheConstants.{NACK_MIN_INTERVAL}
+use Rattle.repair_core.specs.declared.register_nack.TheConstants.{NACK_MIN_INTERVAL}
 use Rattle.session_core.specs.Reports.{tick_at, due_senders, after_sender_reports, told_kind}
 use Rattle.session_core.specs.SessionRecord.{SessionState, SessionRecord}
 

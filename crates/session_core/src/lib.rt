@@ -33,4 +33,4 @@ pub use payload_core::MediaKind;
 pub use receiving::header_numbers_fit;
 pub use report_core::ReportIntervals;
 pub use reporting::tick_items_fit;
-pub use session::{NACK_MIN_INTERVAL, Session};
+pub use session::Session;

@@ -1,8 +1,7 @@
 ghost use Rattle.std.specs.Prelude.{◌≡◌};
 
 use crate::{
-    DATAGRAM_MTU, DATAGRAM_MTU_WARN, GREATEST_WARN, LEAST_TARGET, MAX_APPLICATION_LEN,
-    MAX_ITEM_LEN, NACK_MIN_INTERVAL,
+    DATAGRAM_MTU, DATAGRAM_MTU_WARN, GREATEST_WARN, LEAST_TARGET, MAX_APPLICATION_LEN, MAX_ITEM_LEN,
 };
 
 /// Which numbers the names have that contracts of this crate speak of.
@@ -13,5 +12,4 @@ pub fn named_numbers()
     ensures warn { GREATEST_WARN ≡ 1500 }
     ensures item { MAX_ITEM_LEN ≡ 880 }
     ensures application { MAX_APPLICATION_LEN ≡ 800 }
-    ensures rounds { NACK_MIN_INTERVAL ≡ 33000000 }
 {}

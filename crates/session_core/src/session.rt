@@ -32,7 +32,6 @@ use std::alloc::{AllocError, Global};
 use std::collections::VecDeque;
 use std::marker::Model;
 use stream_core::{PayloadTypes, RtpPacket, Seen, Sent, StreamRx, Streams, Transport};
-pub use ticks::NACK_MIN_INTERVAL;
 
 /// What one end of a connection sends and receives: contexts that seal and open, streams, and media
 /// sections. It does no input or output: it is handed the datagrams that come and the moments of

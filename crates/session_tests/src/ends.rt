@@ -1,5 +1,5 @@
 //! Ends, and what the tests of all subjects do with one.
-ghost use Rattle.std.specs.Prelude.{◌≤◌, ◌^◌, IfSome};
+ghost use Rattle.std.specs.Prelude.{◌≤◌, IfSome};
 ghost use Rattle.std.specs.Option.{ForSome};
 
 use crate::calls::streams;
@@ -9,10 +9,13 @@ use media_base::{Bytes, Listed};
 use media_units::{Beginning, Duration, Instant};
 use payload_core::{Codec, CodecConfig, CodecSpec, FormatParams, PayloadParams};
 use queue_store::QueueStore;
-use rtp_base::{Frequency, KeyframeRequestKind, Mid, MidRid, Pt, Rid, SeqNo, Ssrc};
+use rtp_base::{Frequency, KeyframeRequestKind, Mid, MidRid, NUMBER_LIMIT, Pt, Rid, SeqNo, Ssrc};
 use rtp_wire::ExtensionMap;
-use session_core::{Media, MediaKind, Mtu, ReportIntervals, RtcError, Session, SessionConfig};
-use srtp_core::{KeyingMaterial, SrtpProfile, ToyCipher};
+use session_core::{
+    GREATEST_WARN, LEAST_TARGET, Media, MediaKind, Mtu, ReportIntervals, RtcError, Session,
+    SessionConfig,
+};
+use srtp_core::{KeyingMaterial, SRTCP_INDEX_LIMIT, SrtpProfile, ToyCipher};
 use std::alloc::Global;
 use stream_core::{RtpWrite, Sent};
 
@@ -89,10 +92,10 @@ pub fn config(
     target: u16,
     srtcp_index: u32,
 ) -> Option<SessionConfig>
-    ensures target { IfSome result (λ c. 900 ≤ c.mtu.target) }
+    ensures target { IfSome result (λ c. LEAST_TARGET ≤ c.mtu.target) }
     ensures order { IfSome result (λ c. c.mtu.target ≤ c.mtu.warn) }
-    ensures warn { IfSome result (λ c. c.mtu.warn ≤ 1500) }
-    ensures index { IfSome result (λ c. c.srtcp_index ≤ 2 ^ 31) }
+    ensures warn { IfSome result (λ c. c.mtu.warn ≤ GREATEST_WARN) }
+    ensures index { IfSome result (λ c. c.srtcp_index ≤ SRTCP_INDEX_LIMIT) }
 {
     let codecs = codecs(alloc)?;
     Some(SessionConfig {
@@ -101,8 +104,8 @@ pub fn config(
             unix_secs: 1_700_000_000,
         },
         mtu: Mtu {
-            target: usize::from(target).clamp(900, 1500),
-            warn: 1500,
+            target: usize::from(target).clamp(LEAST_TARGET, GREATEST_WARN),
+            warn: GREATEST_WARN,
         },
         local_ssrc: Ssrc::from(2),
         pause_threshold: Duration::from_millis(1_500),
@@ -110,7 +113,7 @@ pub fn config(
             audio: Duration::from_secs(10_000_000),
             video: Duration::from_secs(10_000_000),
         },
-        srtcp_index: u64::from(srtcp_index).min(2_147_483_648),
+        srtcp_index: u64::from(srtcp_index).min(SRTCP_INDEX_LIMIT),
         exts,
         codecs,
     })
@@ -128,10 +131,10 @@ pub fn give_keys(alloc: Global, end: &mut End, left: bool) -> bool {
 
 /// A new end.
 pub fn new_end(alloc: Global, config: SessionConfig) -> Option<Box<End>>
-    requires target { 900 ≤ config.mtu.target }
+    requires target { LEAST_TARGET ≤ config.mtu.target }
     requires order { config.mtu.target ≤ config.mtu.warn }
-    requires warn { config.mtu.warn ≤ 1500 }
-    requires index { config.srtcp_index ≤ 2 ^ 31 }
+    requires warn { config.mtu.warn ≤ GREATEST_WARN }
+    requires index { config.srtcp_index ≤ SRTCP_INDEX_LIMIT }
 {
     End::boxed(alloc, config).ok()
 }
@@ -165,11 +168,11 @@ pub fn expect(end: &mut End, low: u8, rtx: Option<Ssrc>, mid_rid: MidRid, suppre
 
 // The SSRC of repairs and the number of the first, at most 2^48.
 fn repairs_of(repairs: Option<(u8, u64)>) -> Option<(Ssrc, SeqNo)>
-    ensures { ForSome result (λ x. x.1 ≤ 2 ^ 48) }
+    ensures { ForSome result (λ x. x.1 ≤ NUMBER_LIMIT) }
 {
     match repairs {
         Some((low, first)) => {
-            let first = first.min(281_474_976_710_656);
+            let first = first.min(NUMBER_LIMIT);
             Some((ssrc(low), SeqNo::from(first)))
         }
         None => None,

@@ -1,11 +1,11 @@
-ghost use Rattle.std.specs.Prelude.{◌<◌, ◌^◌};
+ghost use Rattle.std.specs.Prelude.{◌<◌};
 
 use crate::ends::{mid, rid};
 use mask_register::MaskRegister;
 use media_base::{Bytes, Listed};
 use media_units::{Beginning, Duration, Instant, SystemTime, SystemTimeExt};
 use rtcp_wire::{Sdes, SdesItem, SdesType, SenderInfo};
-use rtp_base::{Frequency, MidRid, Pt, ReceptionReport, SeqNo, Ssrc};
+use rtp_base::{Frequency, MidRid, NUMBER_LIMIT, Pt, ReceptionReport, SeqNo, Ssrc};
 use rtp_wire::ExtensionMap;
 use std::alloc::{AllocError, Global};
 use std::test::Fail;
@@ -92,9 +92,9 @@ const ROWS: [(&str, &[Step]); 8] = [
 ];
 
 fn number(number: u64) -> SeqNo
-    ensures { result < 2 ^ 48 }
+    ensures { result < NUMBER_LIMIT }
 {
-    SeqNo::from(number % 281_474_976_710_656)
+    SeqNo::from(number % NUMBER_LIMIT)
 }
 
 fn arrival(rtp_time: u32) -> Arrival {

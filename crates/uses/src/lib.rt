@@ -7,6 +7,7 @@ pub mod build_a_script;
 pub mod check_a_setup;
 pub mod copy_bytes;
 pub mod count_a_queue;
+pub mod count_comparisons;
 pub mod exchange_a_packet;
 pub mod keep_for_resending;
 pub mod keep_in_a_queue;

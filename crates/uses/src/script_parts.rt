@@ -93,7 +93,7 @@ pub fn setup(alloc: Global, types: Vec<PayloadType>, media: Vec<Media>) -> Setup
         key: Key::Zero,
         beginning: Beginning { unix_secs: 0 },
         mtu: Mtu::default(),
-        pause_threshold: Duration::from_nanos(Setup::DEFAULT_PAUSE_NANOS),
+        pause_threshold: Duration::from_nanos(DEFAULT_PAUSE_THRESHOLD_NANOS),
         intervals: ReportTimes::default(),
         a: local(1),
         b: local(2),

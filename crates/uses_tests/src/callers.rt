@@ -29,7 +29,7 @@ use uses::build_a_script::one_write;
 use uses::check_a_setup::may_be_played;
 use uses::copy_bytes::copy_all;
 use uses::count_a_queue::wait_of_both;
-use uses::exchange_a_packet::exchange;
+use uses::exchange_a_packet::{end, exchange};
 use uses::keep_for_resending::keep_and_find;
 use uses::keep_in_a_queue::{queue_of_one, replace};
 use uses::look_into_a_queue::is_queued;
@@ -340,6 +340,25 @@ fn a_packet_is_exchanged(rt: HostRuntime) -> Result<(), Fail> {
         Some(_) | None => &[],
     };
     assert!(rt; payload == [1, 2].as_slice());
+    Ok(())
+}
+
+// How many payload types the peer of an end takes on its media section.
+fn peer_types(alloc: Global) -> Result<usize, Fail> {
+    let material = KeyingMaterial::new(alloc, &[0; 56])?;
+    match end(alloc, &material, mid(), true) {
+        Ok(session) => match session.medias() {
+            [media] => Ok(media.remote_pts().len()),
+            _ => Ok(0),
+        },
+        Err(_) => Ok(0),
+    }
+}
+
+#[test]
+fn an_end_has_a_media_section(rt: HostRuntime) -> Result<(), Fail> {
+    let types = peer_types(rt.alloc())?;
+    assert_eq!(rt; types, 1);
     Ok(())
 }
 

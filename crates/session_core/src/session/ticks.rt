@@ -15,16 +15,13 @@ use crate::reporting::{
     ReportTime, SenderItems, answered_where, report_all, sender_items, tell_kinds,
 };
 use media_units::{Duration, Instant, InstantExt, already_happened, earlier};
-use repair_core::GapWindow;
+use repair_core::{GapWindow, NACK_MIN_INTERVAL};
 use resend_core::ResendStore;
 use rtcp_wire::{Rtcp, items_fit_by_lengths};
 use rtp_base::{Mid, Ssrc};
 use srtp_core::SrtpCipher;
 use std::alloc::AllocError;
 use stream_core::{Sent, Tick};
-
-/// The least time between two rounds that ask for what is missing, in nanoseconds: a choice.
-pub const NACK_MIN_INTERVAL: u64 = 33_000_000;
 
 /// The moment of the last round after a tick, of which it is known whether it is one.
 fn last_round(is_round: bool, now: Instant, before: Instant) -> Instant
