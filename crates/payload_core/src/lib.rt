@@ -25,12 +25,12 @@ pub use numbers::named_numbers;
 pub use params::{CodecConfig, ParamsOfKind, PayloadParams, TELE_EVENT_MAX};
 pub use payload::{CodecDepacketizer, CodecExtra, MediaPacket, PacketSink, Payloader, VideoExtra};
 pub use red::{
-    MAX_RED_RECOVERY_DEPTH, RED_LEN_LIMIT, RED_OFFSET_LIMIT, RedBlock, RedDecoder, RedError,
-    red_same_pt_blocks,
+    RED_LEN_LIMIT, RED_OFFSET_LIMIT, RedBlock, RedDecoder, RedError, red_same_pt_blocks,
 };
 pub use red_encoder::{RedEncoder, written_red_is_read_again};
 pub use red_sender::{RedSender, SentFrame, frames_are_sent_again};
 pub use red_sink::RedSink;
+pub use rtp_base::MAX_RED_RECOVERY_DEPTH;
 pub use simulcast::{SdpAttribute, SdpSimulcast, SdpSimulcastLayer};
 pub use telephone::{
     TELE_EVENT_LEN, TELE_VOLUME_MAX, TelephoneEvent, duration_from_units,

@@ -8,9 +8,6 @@ use rtp_wire::Pt;
 use std::alloc::{AllocError, Global};
 use thiserror::Error;
 
-/// How many packets back a frame may be to be taken from RED.
-pub const MAX_RED_RECOVERY_DEPTH: u64 = 8;
-
 /// One more than the most bytes of a redundant block: its length has 10 bits (RFC 2198 section 3).
 pub const RED_LEN_LIMIT: usize = 1_024;
 

@@ -3,7 +3,7 @@ use Rattle.std.specs.Prelude.{◌≡◌, ℕ, ◌+◌, ◌-◌, ◌/◌, ◌%◌
 use Rattle.std.specs.List.{range_with_len}
 use Rattle.repair_core.specs.Fresh.{is_fresh}
 use Rattle.red_core.specs.Known.{Known, is_at, below, above}
-use Rattle.red_core.specs.declared.memory.TheConstants.{MAX_DEPTH}
+use Rattle.rtp_base.specs.declared.number.TheConstants.{MAX_RED_RECOVERY_DEPTH}
 
 -- the numbers from one on and before another that may still be taken
 abbrev pub fresh_in : List ℕ → ℕ → ℕ → List ℕ
@@ -30,12 +30,12 @@ abbrev pub is_within : ℕ → ℕ → ℕ → Bool
 is_within depth n p = nat_le p n && nat_le (n - p) depth
 
 abbrev pub if_within : ℕ → ℕ → Option ℕ
-if_within n p = if is_within MAX_DEPTH n p then Some p else None
+if_within n p = if is_within MAX_RED_RECOVERY_DEPTH n p then Some p else None
 
 -- the place between two numbers, of which the lower one is at most 9 below the datagram: at most 8 below the datagram
 abbrev pub place_between : List ℕ → ℕ → ℕ → Known → Known → Option ℕ
 place_between taken n t l u =
-    if is_within (MAX_DEPTH + 1) n l.number then option_and_then (if_within n) (chosen taken l u t (fresh_in taken (l.number + 1) u.number)) else None
+    if is_within (MAX_RED_RECOVERY_DEPTH + 1) n l.number then option_and_then (if_within n) (chosen taken l u t (fresh_in taken (l.number + 1) u.number)) else None
 
 -- The number of the block of time t that came in datagram n. There is none where a known number has that time, or where
 -- there is no known number on either side of it.

@@ -7,5 +7,6 @@ mod known;
 mod memory;
 mod numbers;
 
-pub use memory::{MAX_DEPTH, ROOM, RedMemory, last_32_are_known};
+pub use memory::{ROOM, RedMemory, last_32_are_known};
 pub use numbers::named_numbers;
+pub use rtp_base::MAX_RED_RECOVERY_DEPTH;

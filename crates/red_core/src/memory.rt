@@ -8,11 +8,8 @@ use crate::holes::place_between;
 use crate::known::{KnownNumber, above, below, is_at};
 use arrayvec::ArrayVec;
 use repair_core::GapWindow;
-use rtp_base::{NUMBER_LIMIT, SeqNo};
+use rtp_base::{MAX_RED_RECOVERY_DEPTH, NUMBER_LIMIT, SeqNo};
 use std::marker::Model;
-
-/// How far below its datagram the number of a redundant block may be: a choice.
-pub const MAX_DEPTH: u64 = 8;
 
 /// How many numbers are remembered: a choice.
 pub const ROOM: usize = 32;
@@ -114,7 +111,7 @@ impl RedMemory {
             → result ≡ place_of self.now (taken past) datagram time }
         ensures fresh { (past : Heard) → W.remembers window.now past
             → IfSome result (λ p. is_fresh (taken past) p ≡ true) }
-        ensures near { IfSome result (λ p. (p ≤ datagram) × (datagram ≤ p + MAX_DEPTH)) }
+        ensures near { IfSome result (λ p. (p ≤ datagram) × (datagram ≤ p + MAX_RED_RECOVERY_DEPTH)) }
     {
         let datagram = u64::from(datagram);
         let last_first = self.last_first();
@@ -124,11 +121,11 @@ impl RedMemory {
         }
         let low = below(known, time)?;
         let high = above(known, time)?;
-        if low.number() > datagram || datagram - low.number() > MAX_DEPTH + 1 {
+        if low.number() > datagram || datagram - low.number() > MAX_RED_RECOVERY_DEPTH + 1 {
             return None;
         }
         let place = place_between(window, low, high, time)?;
-        if place <= datagram && datagram - place <= MAX_DEPTH {
+        if place <= datagram && datagram - place <= MAX_RED_RECOVERY_DEPTH {
             Some(SeqNo::from(place))
         } else {
             None

@@ -1,9 +1,8 @@
 ghost use Rattle.std.specs.Prelude.{◌≡◌};
 
-use crate::{MAX_DEPTH, ROOM};
+use crate::ROOM;
 
 /// Which numbers the names have that contracts of this crate speak of.
 pub fn named_numbers()
-    ensures depth { MAX_DEPTH ≡ 8 }
     ensures room { ROOM ≡ 32 }
 {}

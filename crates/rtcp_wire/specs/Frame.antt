@@ -1,6 +1,7 @@
 -- The header that each item begins with (RFC 3550 section 6.4.1).
 use Rattle.std.specs.Prelude.{ℕ, ◌+◌, ◌-◌, ◌*◌, ◌/◌, ◌%◌, ◌==◌, ◌||◌, ◌&&◌, not, nat_lt, nat_le, List, length, take, drop, slice_index, Option, Some, None, if◌then◌else◌}
 use Rattle.rtp_base.specs.Wire.{half_at}
+use Rattle.rtp_base.specs.declared.kind.TheConstants.{RTP_VERSION}
 use Rattle.rtcp_wire.specs.declared.frame.Frame.{Frame as Found}
 
 -- an item: its count or format, its type, the bytes after its header, and what follows it
@@ -28,7 +29,7 @@ unpadded body =
 -- the item at the front, unless its version is not 2 or its length runs past the end
 abbrev pub frame_at : List ℕ → Option Frame
 frame_at bytes =
-    if nat_lt (length bytes) 4 || (not (slice_index bytes 0 / 64 == 2) || nat_lt (length bytes) (item_len bytes)) then None
+    if nat_lt (length bytes) 4 || (not (slice_index bytes 0 / 64 == RTP_VERSION) || nat_lt (length bytes) (item_len bytes)) then None
     else Some (record {
       count = slice_index bytes 0 % 32;
       kind = slice_index bytes 1;

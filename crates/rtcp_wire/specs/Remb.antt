@@ -4,7 +4,7 @@ use Rattle.std.specs.Int.{w64, leading_zeros}
 use Rattle.rtp_base.specs.Wire.{word_at, words}
 use Rattle.rtcp_wire.specs.Wire.{rows_of}
 use Rattle.rtcp_wire.specs.declared.remb.Remb.{Remb}
-use Rattle.rtcp_wire.specs.declared.remb.TheConstants.{NAME, MANTISSA_BITS, MANTISSA_LIMIT}
+use Rattle.rtcp_wire.specs.declared.remb.TheConstants.{REMB_IDENTIFIER, MANTISSA_BITS, MANTISSA_LIMIT}
 use Rattle.media_units.specs.declared.rate.TheConstants.{GREATEST_RATE}
 
 -- a rate is mantissa * 2 ^ exponent, the mantissa below 2 ^ 18: the exponent is how many more bits than
@@ -17,7 +17,7 @@ mantissa_of rate = rate / 2 ^ exponent_of rate
 
 -- 'REMB'
 abbrev pub remb_name : ℕ
-remb_name = NAME
+remb_name = REMB_IDENTIFIER
 
 -- application feedback whose words begin with the name
 abbrev pub is_remb : List ℕ → Bool

@@ -1,11 +1,12 @@
 -- Items in bytes.
-use Rattle.std.specs.Prelude.{◌≡◌, ℕ, suc, ◌+◌, ◌-◌, ◌/◌, ◌%◌, ◌≤◌, ◌<◌, List, [], ◌∷◌, ◌++◌, length, nat_le, if◌then◌else◌}
+use Rattle.std.specs.Prelude.{◌≡◌, ℕ, suc, ◌+◌, ◌-◌, ◌*◌, ◌/◌, ◌%◌, ◌≤◌, ◌<◌, List, [], ◌∷◌, ◌++◌, length, nat_le, if◌then◌else◌}
 use Rattle.std.specs.List.{AllByRecursion}
 use Rattle.std.specs.Int.{w16, to_be_bytes}
 use Rattle.rtcp_wire.specs.declared.packet.Rtcp.{Rtcp}
 use Rattle.rtcp_wire.specs.declared.packet.Rtcp.TheVariants.{SenderReport, ReceiverReport, SourceDescription, Goodbye, ExtendedReport, Nack, Pli, Fir, Twcc, Remb, AppSpecificFeedback}
 use Rattle.rtcp_items.specs.declared.source.SdesItem.{SdesItem}
 use Rattle.rtcp_items.specs.declared.source.Sdes.{Sdes}
+use Rattle.rtp_base.specs.declared.kind.TheConstants.{RTP_VERSION}
 use Rattle.rtp_base.specs.declared.report_list.TheConstants.{MAX_REPORTS}
 use Rattle.twcc_core.specs.declared.feedback.TheConstants.{BODY_LIMIT}
 use Rattle.rtcp_wire.specs.declared.packet.TheConstants.{SENDER_REPORT_TYPE, RECEIVER_REPORT_TYPE, SOURCE_DESCRIPTION_TYPE, GOODBYE_TYPE, TRANSPORT_FEEDBACK_TYPE, PAYLOAD_FEEDBACK_TYPE, EXTENDED_REPORT_TYPE, NACK_FORMAT, TWCC_FORMAT, PLI_FORMAT, FIR_FORMAT, APPLICATION_FORMAT}
@@ -59,9 +60,9 @@ body_of (Twcc t) = twcc_bytes t
 body_of (Remb r) = remb_body r
 body_of (AppSpecificFeedback f) = app_feedback_body f
 
--- an item in bytes: version 2 and the count, the type, the length in words less one, the body
+-- an item in bytes: the version and the count, the type, the length in words less one, the body
 abbrev pub framed : ℕ → ℕ → List ℕ → List ℕ
-framed count kind body = (128 + count) ∷ kind ∷ to_be_bytes w16 (length body / 4) ++ body
+framed count kind body = (64 * RTP_VERSION + count) ∷ kind ∷ to_be_bytes w16 (length body / 4) ++ body
 
 unfoldable pub text_of : Rtcp → List ℕ
 text_of x = framed (count_of x) (kind_of x) (body_of x)

@@ -3,7 +3,7 @@ ghost use Rattle.std.specs.Prelude.{◌≡◌, ◌≤◌, IfSome};
 ghost use Rattle.std.specs.Option.{option_map};
 ghost use Rattle.rtcp_wire.specs.Frame.{view, frame_at, unpadded};
 
-use rtp_base::{MAX_REPORTS, wire};
+use rtp_base::{MAX_REPORTS, RTP_VERSION, wire};
 
 // An item in bytes: its count or format, its type, what stands after its header, and what follows
 // it.
@@ -31,12 +31,12 @@ fn without_padding(body: &[u8]) -> &[u8]
     front
 }
 
-// The item at the front, or None where there is none of version 2 that ends within the bytes.
+// The item at the front, or None where there is none of the version that ends within the bytes.
 pub fn first_frame(bytes: &[u8]) -> Option<Frame<'_>>
     ensures found { option_map view result ≡ frame_at bytes.now }
     ensures few { IfSome result (λ f. f.count ≤ MAX_REPORTS) }
 {
-    if bytes.len() < 4 || bytes[0] / 64 != 2 {
+    if bytes.len() < 4 || bytes[0] / 64 != RTP_VERSION {
         return None;
     }
     let len = 4 * usize::from(wire::half(bytes, 2)) + 4;

@@ -19,7 +19,7 @@ use crate::request::{Fir, Pli, read_fir, read_pli, write_fir, write_pli};
 use crate::row::rows_len;
 use crate::source::{read_descriptions, read_goodbye, write_descriptions, write_goodbye};
 use rtcp_items::{Descriptions, ExtendedReport, Goodbye, ReceiverReport, SenderReport};
-use rtp_base::MAX_REPORTS;
+use rtp_base::{MAX_REPORTS, RTP_VERSION};
 use std::alloc::{AllocError, Global};
 use std::collections::VecDeque;
 use std::mem;
@@ -299,7 +299,12 @@ impl Rtcp {
     {
         let (head, body) = room.split_at_mut(4);
         let words = ((body.len() / 4) as u16).to_be_bytes();
-        head.copy_from_slice(&[128 + self.count(), self.kind(), words[0], words[1]]);
+        head.copy_from_slice(&[
+            64 * RTP_VERSION + self.count(),
+            self.kind(),
+            words[0],
+            words[1],
+        ]);
         let _end = self.write_body(body);
     }
 

@@ -11,7 +11,7 @@ use rtp_base::wire::word;
 use std::alloc::{AllocError, Global};
 
 /// The name of this kind of application feedback, `REMB` (draft-alvestrand-rmcat-remb section 2.2).
-pub const NAME: u32 = 0x5245_4d42;
+pub const REMB_IDENTIFIER: u32 = 0x5245_4d42;
 
 /// How many bits of a rate are told (draft-alvestrand-rmcat-remb section 2.2).
 pub const MANTISSA_BITS: u32 = 18;
@@ -34,7 +34,7 @@ pub struct Remb {
 pub(crate) fn is_named_remb(body: &[u8]) -> bool
     ensures { result ≡ is_remb body.now }
 {
-    body.len() >= 12 && word(body, 8) == NAME
+    body.len() >= 12 && word(body, 8) == REMB_IDENTIFIER
 }
 
 // The rate of a mantissa and an exponent, which may be far above the greatest.
@@ -88,7 +88,7 @@ pub(crate) fn write_remb(remb: &Remb, out: &mut [u8]) -> Option<usize>
     let ssrcs = remb.ssrcs.as_slice();
     let (exponent, mantissa) = parts(remb.bitrate);
     let fields = ssrcs.len() as u32 * 0x100_0000 + exponent * MANTISSA_LIMIT + mantissa;
-    let words = [remb.sender_ssrc.into(), 0, NAME, fields];
+    let words = [remb.sender_ssrc.into(), 0, REMB_IDENTIFIER, fields];
     let at = write_rows(&words, out, 0)?;
     write_rows(ssrcs, out, at)
 }

@@ -20,11 +20,11 @@ pub mod wire;
 
 pub use ids::{Direction, MidRid, SESSION_ID_LIMIT, SessionId, TwccClusterId, TwccPacketId};
 pub use keyframe_request::KeyframeRequestKind;
-pub use kind::Kind;
+pub use kind::{Kind, RTP_VERSION};
 pub use media_time::{Frequency, MediaTime};
 pub use nack_entry::NackEntry;
 pub use name::{MAX_NAME_LEN, Mid, Rid};
-pub use number::{NUMBER_LIMIT, Pt, SeqNo, Ssrc};
+pub use number::{MAX_RED_RECOVERY_DEPTH, NUMBER_LIMIT, Pt, SeqNo, Ssrc};
 pub use numbers::named_numbers;
 pub use reception_report::ReceptionReport;
 pub use report_list::{MAX_REPORTS, ReportList};

@@ -1,6 +1,9 @@
 ghost use Rattle.std.specs.Prelude.{◌≡◌, ◌^◌};
 
-use crate::{MAX_NAME_LEN, MAX_REPORTS, NUMBER_LIMIT, SESSION_ID_LIMIT, WINDOW_LEN};
+use crate::{
+    MAX_NAME_LEN, MAX_RED_RECOVERY_DEPTH, MAX_REPORTS, NUMBER_LIMIT, RTP_VERSION, SESSION_ID_LIMIT,
+    WINDOW_LEN,
+};
 
 /// Which numbers the names have that contracts of this crate speak of.
 pub fn named_numbers()
@@ -9,4 +12,6 @@ pub fn named_numbers()
     ensures window { WINDOW_LEN ≡ 128 }
     ensures names { MAX_NAME_LEN ≡ 16 }
     ensures reports { MAX_REPORTS ≡ 31 }
+    ensures version { RTP_VERSION ≡ 2 }
+    ensures depth { MAX_RED_RECOVERY_DEPTH ≡ 8 }
 {}

@@ -7,7 +7,8 @@ use Rattle.rtp_wire.specs.Bytes.{words_of}
 use Rattle.rtp_wire.specs.declared.extension.ExtensionMap.{ExtensionMap}
 use Rattle.rtp_wire.specs.declared.values.ExtensionValues.{ExtensionValues}
 use Rattle.rtp_wire.specs.declared.header.RtpHeader.{RtpHeader}
-use Rattle.rtp_wire.specs.declared.header.TheConstants.{FIXED_HEADER_LEN, MAX_SOURCES, RTP_VERSION}
+use Rattle.rtp_wire.specs.declared.header.TheConstants.{FIXED_HEADER_LEN, MAX_SOURCES}
+use Rattle.rtp_base.specs.declared.kind.TheConstants.{RTP_VERSION}
 use Rattle.rtp_wire.specs.Extensions.{no_values, values_of, extension_bytes, written_values}
 
 -- Byte 0: version (2 bits), padding, extension, CSRC count (4 bits). Byte 1: marker, payload type (7 bits).

@@ -9,10 +9,7 @@ ghost use Rattle.rtp_wire.specs.BytesLaws.{AreWords};
 use crate::extension::ExtensionMap;
 use crate::values::ExtensionValues;
 use rtp_base::wire::{half, put_word, word};
-use rtp_base::{Pt, SeqNo, Ssrc, widen16 as wide16};
-
-/// The version of RTP (RFC 3550 section 5.1).
-pub const RTP_VERSION: u8 = 2;
+use rtp_base::{Pt, RTP_VERSION, SeqNo, Ssrc, widen16 as wide16};
 
 /// The bytes of each header, before the contributing sources (RFC 3550 section 5.1).
 pub const FIXED_HEADER_LEN: usize = 12;
@@ -169,7 +166,7 @@ impl RtpHeader {
         let [t0, t1, t2, t3] = self.timestamp.to_be_bytes();
         let [s0, s1, s2, s3] = u32::from(self.ssrc).to_be_bytes();
         [
-            128 + padding + extension + self.csrc_count as u8,
+            64 * RTP_VERSION + padding + extension + self.csrc_count as u8,
             marker + u8::from(self.payload_type) % 128,
             n0,
             n1,

@@ -1,5 +1,5 @@
 -- When incoming streams are paused, and what is told of it.
-use Rattle.std.specs.Prelude.{◌≡◌, ℕ, zero, suc, nat_le, min, Bool, true, false, is_none, if◌then◌else◌, List, [], ◌∷◌, take, slice_get, Option, Some, None, option_and_then}
+use Rattle.std.specs.Prelude.{◌≡◌, ℕ, zero, suc, nat_le, Bool, true, false, is_none, if◌then◌else◌, List, [], ◌∷◌, take, slice_get, Option, Some, None, option_and_then}
 use Rattle.std.specs.Map.{values_of}
 use Rattle.std.specs.Option.{option_map, option_map_or}
 use Rattle.media_units.specs.Soonest.{earlier}

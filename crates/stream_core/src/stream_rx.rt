@@ -13,7 +13,7 @@ use crate::requests::RxRequests;
 use crate::stream_paused::StreamPaused;
 use media_base::Bytes;
 use media_units::{Duration, Instant};
-use red_core::{MAX_DEPTH, RedMemory};
+use red_core::{MAX_RED_RECOVERY_DEPTH, RedMemory};
 use repair_core::GapWindow;
 use rtp_base::{MediaTime, Mid, MidRid, NUMBER_LIMIT, Rid, SeqNo, Ssrc, widen16};
 use rtx_core::RepairWindow;
@@ -461,7 +461,7 @@ impl<W: GapWindow> StreamRx<W> {
     pub fn place_redundant(&self, datagram: SeqNo, time: u64) -> Option<SeqNo>
         ensures place { (r : RxRecord) → StandsFor W.remembers self.now r → result ≡ placed datagram time r }
         ensures fresh { (r : RxRecord) (remembered : Option ℕ) → StandsFor W.remembers self.now r → IfSome result (λ n. is_fresh (taken_of remembered r) n ≡ true) }
-        ensures near { IfSome result (λ n. (n ≤ datagram) × (datagram ≤ n + MAX_DEPTH)) }
+        ensures near { IfSome result (λ n. (n ≤ datagram) × (datagram ≤ n + MAX_RED_RECOVERY_DEPTH)) }
     {
         match &self.window {
             Some(window) => self.recent.place(window, datagram, time),
