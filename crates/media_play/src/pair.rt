@@ -1,4 +1,4 @@
-ghost use Rattle.std.specs.Prelude.{◌≡◌, ◌≢◌, ◌∷◌, ◌++◌, ◌-◌, ◌<◌, ◌≤◌, ◌^◌, ◌%◌, false, List, [], slice_get, length, Option, Some, None, IfOk, IfErr, OnOk, MatchResult};
+ghost use Rattle.std.specs.Prelude.{◌≡◌, ◌≢◌, ◌∷◌, ◌++◌, ◌-◌, ◌<◌, ◌≤◌, ◌^◌, ◌%◌, false, ℕ, List, [], slice_get, length, Option, Some, None, IfOk, IfErr, OnOk, MatchResult};
 ghost use Rattle.rtp_wire.specs.BytesLaws.{AreWords};
 ghost use Rattle.media_model.specs.declared.entry.Entry.{Entry as Happening};
 ghost use Rattle.media_model.specs.declared.entry.Entry.TheVariants.{Wrote, Ticked, Called, Got as Came, Sealed as Seal};
@@ -18,7 +18,10 @@ ghost use Rattle.media_laws.specs.Keys.{sealing_of};
 ghost use Rattle.media_laws.specs.Play.{Brings};
 ghost use Rattle.media_laws.specs.Feedback.{application_packet, IsSealOfPacket, next_index};
 ghost use Rattle.media_laws.specs.Rules.{write_fault, deliver_fault, request_fault};
-ghost use Rattle.media_play.specs.Requests.{call_for, step_for};
+ghost use Rattle.media_play.specs.Requests.{call_for, step_for, requested};
+ghost use Rattle.session_turns.specs.Laws.{requesting};
+ghost use Rattle.stream_core.specs.Pauses.{on_view};
+ghost use Rattle.stream_core.specs.Tables.{place_of, change_place};
 ghost use Rattle.setup_rules.specs.SetupRules.{setup_fault};
 ghost use Rattle.media_play.specs.Sessions.{Ready, ReadyAt, TurnsOn, TakesIn, TicksOn, IsTickCause, received_entries};
 ghost use Rattle.run_model.specs.Whole.{Session as Plain};
@@ -470,7 +473,7 @@ fn call_step<C: SrtpCipher>(
     Ok(())
 }
 
-/// A request of an application, which leaves in a later tick.
+/// A request of an application to the sender of the stream of this SSRC, which leaves in a later tick.
 fn request_step<C: SrtpCipher>(
     end: &mut End<C>,
     log: &mut Log,
@@ -489,6 +492,10 @@ fn request_step<C: SrtpCipher>(
         → Ready C.meaning setup side end.old a entries
         → IsCauseAt (request_fault setup side ssrc) e) }
     ensures called { OnOk result (log.new ≡ log.old ++ Called side time (call_for request) ∷ []) }
+    ensures asks { OnOk result ((place : ℕ) → place_of ssrc end.old.session.rx ≡ Some place
+        → end.new.session ≡ record end.old.session {
+          rx = change_place (on_view (requesting (requested request))) end.old.session.rx place;
+        }) }
     ensures unchanged { IfErr result (λ e. e ≢ StepError.Memory → log.new ≡ log.old) }
     ensures longer { OnlyAdds log.old log.new }
 {
