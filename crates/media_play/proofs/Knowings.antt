@@ -193,17 +193,17 @@ module _ (side : Side) (entries : List Entry) (time : ℕ) (w : Writing) where
 
   pub used_after : (rs : List ℕ) (at : ℕ) (old new : List Numbers) → NoRepeat rs → slice_get rs at ≡ Some w.ssrc → IsNoted at w.number old new
       → AllZip (UsedAs side entries) rs old → AllZip (UsedAs side after) rs new
-  used_after [] at old new distinct there noted h = absurd (none-some w.ssrc there)
-  used_after (r ∷ rs) at [] new distinct there noted h = absurd h
-  used_after (r ∷ rs) zero (u ∷ old) [] distinct there noted h = absurd noted
-  used_after (r ∷ rs) zero (u ∷ old) (v ∷ new) distinct there noted h =
+  used_after [] at old new unlike there noted h = absurd (none-some w.ssrc there)
+  used_after (r ∷ rs) at [] new unlike there noted h = absurd h
+  used_after (r ∷ rs) zero (u ∷ old) [] unlike there noted h = absurd noted
+  used_after (r ∷ rs) zero (u ∷ old) (v ∷ new) unlike there noted h =
       let is : r ≡ w.ssrc = same_Some r w.ssrc there in (
         used_here r u v is noted.0 h.0,
         subst (AllZip (UsedAs side after) rs) (sym noted.1)
-            (zip_weaker (UsedAs side entries) (UsedAs side after) rs old (λ q x i k. used_elsewhere q x (λ same. distinct.0 (subst (λ n. IsIn n rs) (same ∙ sym is) i)) k) h.1),
+            (zip_weaker (UsedAs side entries) (UsedAs side after) rs old (λ q x i k. used_elsewhere q x (λ same. unlike.0 (subst (λ n. IsIn n rs) (same ∙ sym is) i)) k) h.1),
       )
-  used_after (r ∷ rs) (suc at) (u ∷ old) [] distinct there noted h = absurd noted
-  used_after (r ∷ rs) (suc at) (u ∷ old) (v ∷ new) distinct there noted h = (
-    subst (UsedAs side after r) (sym noted.0) (used_elsewhere r u (λ same. distinct.0 (subst (λ n. IsIn n rs) (sym same) (in_from_get w.ssrc rs at there))) h.0),
-    used_after rs at old new distinct.1 there noted.1 h.1,
+  used_after (r ∷ rs) (suc at) (u ∷ old) [] unlike there noted h = absurd noted
+  used_after (r ∷ rs) (suc at) (u ∷ old) (v ∷ new) unlike there noted h = (
+    subst (UsedAs side after r) (sym noted.0) (used_elsewhere r u (λ same. unlike.0 (subst (λ n. IsIn n rs) (sym same) (in_from_get w.ssrc rs at there))) h.0),
+    used_after rs at old new unlike.1 there noted.1 h.1,
   )

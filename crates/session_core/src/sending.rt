@@ -1,4 +1,4 @@
-ghost use Rattle.std.specs.Prelude.{◌≡◌, ◌==◌, ◌||◌, ◌<◌, Some, None, true, length, take, is_none, slice_get, IfOk, IfSome};
+ghost use Rattle.std.specs.Prelude.{◌≡◌, ◌<◌, Some, None, true, length, take, slice_get, IfOk, IfSome};
 ghost use Rattle.std.specs.Map.{values_of};
 ghost use Rattle.std.specs.Option.{option_map};
 ghost use Rattle.stream_core.specs.StreamsRecord.{is_ready};
@@ -8,7 +8,6 @@ ghost use Rattle.session_core.specs.Sending.{has_mid, is_due, first_due, sealed_
 use crate::datagram::Datagram;
 use crate::media::Media;
 use media_base::Bytes;
-use media_units::{Instant, already_happened};
 use repair_core::GapWindow;
 use resend_core::ResendStore;
 use rtp_base::{Kind, Mid};
@@ -21,13 +20,6 @@ pub fn has_mid(medias: &[Media], mid: Mid) -> bool
     ensures { result ≡ has_mid mid medias.now }
 {
     medias.iter().any(|media| media.mid() == mid)
-}
-
-/// Whether nothing may leave: at moment 0, and without keys.
-pub fn is_silent<C: SrtpCipher>(now: Instant, sealing: &Option<SrtpContext<C>>) -> bool
-    ensures { result ≡ (now == 0 || is_none sealing.now) }
-{
-    now == already_happened() || sealing.is_none()
 }
 
 /// Whether the stream at a place has a packet to be sealed, or, where those may leave, one that is
