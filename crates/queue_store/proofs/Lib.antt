@@ -1,3 +1,4 @@
+pub mod HeldLaws
 pub mod QueueLaws
 pub mod RowLaws
 pub mod StampLaws

@@ -10,7 +10,7 @@ use Rattle.queue_store.specs.declared.stamps.Stamp.{Stamp}
 use Rattle.queue_store.specs.declared.queue.QueueStore.{QueueStore}
 use Rattle.queue_store.specs.Stamps.{stamp_at, first_of, AllAbove, IsGreatest}
 use Rattle.queue_store.specs.Queue.{index_of, held, held_in, value_at, with_item, StandsFor, Puts, Drops, IsOld, IsFar, IsThat, IsDone, IsPaired, takes_push}
-use Rattle.queue_store.specs.HeldLaws.{eq_true, eq_false, held_index, held_item}
+use Rattle.queue_store.proofs.HeldLaws.{eq_true, eq_false, held_index, held_item}
 use Rattle.queue_store.proofs.RowLaws.{Front, front_dropped, held_from, held_some}
 
 -- ---- the mark

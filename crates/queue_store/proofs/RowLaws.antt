@@ -8,7 +8,7 @@ use Rattle.std.proofs.lemmas.Bool.{cases_lt}
 use Rattle.queue_store.specs.declared.stamps.Stamp.{Stamp}
 use Rattle.queue_store.specs.Stamps.{stamp_at, first_of, IsFound, IsPlace, AllAbove}
 use Rattle.queue_store.specs.Queue.{index_of, held, put_held}
-use Rattle.queue_store.specs.HeldLaws.{eq_true, eq_false, eq_is}
+use Rattle.queue_store.proofs.HeldLaws.{eq_true, eq_false, eq_is}
 use Rattle.queue_store.proofs.StampLaws.{place_rest}
 
 found_rest : (a : Stamp) (l : List Stamp) (p i : ℕ) → IsFound (a ∷ l) p (suc i) → IsFound l p i

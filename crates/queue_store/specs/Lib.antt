@@ -1,3 +1,2 @@
-pub mod HeldLaws
 pub mod Queue
 pub mod Stamps

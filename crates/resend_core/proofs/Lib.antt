@@ -4,5 +4,6 @@ pub mod CacheSteps
 pub mod DropLaws
 pub mod EventsAdded
 pub mod EventsRevalued
+pub mod HeldLaws
 pub mod RevaluedLaws
 pub mod RingLaws

@@ -8,7 +8,7 @@ use Rattle.std.proofs.Math.ListN.{get_or-map}
 use Rattle.std.proofs.lemmas.Bool.{cases_eq, cases_lt}
 use Rattle.resend_core.specs.declared.ring.Entry.{Entry}
 use Rattle.resend_core.specs.Ring.{slot_of, held, yields_below, put_in, settled, settled_all, lower, least_young, is_below, kept_from, IsInPlace}
-pub use Rattle.resend_core.specs.HeldLaws.{matching_same, matching_some, held_slot, slot_held, length-put, slot_put_same, held_put_same, held_put_other}
+pub use Rattle.resend_core.proofs.HeldLaws.{matching_same, matching_some, held_slot, slot_held, length-put, slot_put_same, held_put_same, held_put_other}
 
 abbrev pub IsIn : {T : Type 0} → Entry T → List (Option (Entry T)) → Type 0
 IsIn e [] = ⊥

@@ -1,6 +1,5 @@
 pub mod EventLaws
 pub mod EvictingBuffer
-pub mod HeldLaws
 pub mod Lending
 pub mod ResendStore
 pub mod Ring

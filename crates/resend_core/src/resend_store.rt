@@ -84,19 +84,17 @@ pub trait ResendStore<T: Drop>: Drop {
     fn last(&self) -> Option<&T>
         ensures { (past : Past T) → stands_for self.now past → option_copied result ≡ option_and_then (value_at self.now) (last_position past.events) };
 
-    /// What is held under a position is what the past lets be held.
-    ghost holds: { (s : Self) (past : Past T) (p : ℕ) → stands_for s past → HeldAs past p (value_at s p) };
-
-    /// Another value under a position where one is held is held there.
-    ghost value_here: { (s : Self) (p : ℕ) (v w : T) → value_at s p ≡ Some v → value_at (with_value s p w) p ≡ Some w };
-
-    /// Under other positions it changes nothing.
-    ghost value_other: { (s : Self) (p q : ℕ) (v w : T) → value_at s p ≡ Some v → (q ≡ p → ⊥) → value_at (with_value s p w) q ≡ value_at s q };
+    /// The laws of every store; the call computes nothing. What is held under a position is what
+    /// the past lets be held. Another value under a position where one is held is held there, and
+    /// changes nothing under other positions.
+    fn laws()
+        ensures holds { (s : Self) (past : Past T) (p : ℕ) → stands_for s past → HeldAs past p (value_at s p) }
+        ensures here { (s : Self) (p : ℕ) (v w : T) → value_at s p ≡ Some v → value_at (with_value s p w) p ≡ Some w }
+        ensures other { (s : Self) (p q : ℕ) (v w : T) → value_at s p ≡ Some v → (q ≡ p → ⊥) → value_at (with_value s p w) q ≡ value_at s q };
 }
 
 impl<T: Drop> ResendStore<T> for EvictingBuffer<T> {
     ghost use Rattle.resend_core.specs.EvictingBuffer.{StandsFor, value_at as value_of, with_value as with_value_at};
-    ghost use Rattle.resend_core.specs.HeldLaws.{held_as, value_here as here, value_other as other};
 
     ghost stands_for = { StandsFor };
 
@@ -105,12 +103,6 @@ impl<T: Drop> ResendStore<T> for EvictingBuffer<T> {
     ghost with_value = { with_value_at };
 
     ghost mark = { λ b. b.mark };
-
-    ghost holds = { held_as };
-
-    ghost value_here = { here };
-
-    ghost value_other = { other };
 
     fn new(
         alloc: Global,
@@ -163,4 +155,7 @@ impl<T: Drop> ResendStore<T> for EvictingBuffer<T> {
     fn last(&self) -> Option<&T> {
         EvictingBuffer::last(self)
     }
+
+    #[inline(always)]
+    fn laws() {}
 }

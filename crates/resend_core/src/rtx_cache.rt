@@ -105,6 +105,7 @@ impl<P: Cached, S: ResendStore<P>> RtxCache<P, S> {
         ensures smaller { (past : Past P) → StandsFor S.stands_for P.size self.now past → CachedOnce past.events → IfSome (option_copied result) (λ p. P.size p / CLASS_SIZE < max_size / CLASS_SIZE) }
         ensures none { (past : Past P) → StandsFor S.stands_for P.size self.now past → IsInOrder past.events → 0 < past.initial → 0 < past.age → IsNone (option_copied result) → NoneKept P.size past (max_size / CLASS_SIZE) }
     {
+        S::laws();
         self.greatest_below(max_size / CLASS_SIZE)
     }
 

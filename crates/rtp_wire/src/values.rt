@@ -1,7 +1,7 @@
 ghost use Rattle.std.specs.Prelude.{◌≡◌, ◌%◌, ◌<◌, ◌≤◌, ◌^◌, length};
 ghost use Rattle.rtp_wire.specs.Reading.{transport_in, send_time_in, level_in, voice_in, turn_in, capture_in, least_delay_in, greatest_delay_in};
 
-use crate::extension::{Extension, ExtensionMap};
+use crate::extension::{Extension, ExtensionMap, RESERVED_ID};
 use crate::{AbsCaptureTime, AbsSendTime};
 use rtp_base::wire::{double, half, triple};
 use rtp_base::{Frequency, MediaTime, Mid, Rid};
@@ -141,7 +141,7 @@ impl ExtensionValues {
             }
             let id = head / 16;
             let len = usize::from(head % 16) + 1;
-            if id == 15 {
+            if id == RESERVED_ID {
                 return;
             }
             if tail.len() < len {

@@ -2,10 +2,10 @@
 use Rattle.std.proofs.Common.{◌≡◌, ℕ, ◌<◌, ◌^◌, List, [], ◌∷◌, ◌++◌, length, take, Option, Some, None, refl, sym, ap, ◌∙◌, subst}
 use Rattle.std.proofs.lemmas.List.{length-append}
 use Rattle.std.proofs.Math.Seq.{take-append_seam}
-use Rattle.std.specs.Prelude.{◌-◌, ◌+◌, true, Bool}
+use Rattle.std.specs.Prelude.{◌-◌, ◌+◌}
 use Rattle.std.specs.Option.{option_map}
 use Rattle.std.proofs.Common.{arith}
-use Rattle.resend_core.specs.ResendStore.{Past, MustStore, pushed, evicted, with_event}
+use Rattle.resend_core.specs.ResendStore.{Past, pushed, evicted, with_event}
 use Rattle.resend_core.specs.RtxCache.{IsCached, StandsFor as CacheStandsFor}
 use Rattle.resend_core.specs.declared.rtx_cache.RtxCache.{RtxCache}
 use Rattle.rtx_core.specs.Ratio.{CapRecord, with_pushed, without_pushed, without_last, forgetting, with_sent}

@@ -1,8 +1,8 @@
 -- What is held is what the history of the cache says.
-use Rattle.std.proofs.Common.{◌≡◌, ℕ, ◌<◌, ◌^◌, List, [], ◌∷◌, ◌++◌, Option, Some, None, refl, sym, ap, ◌∙◌, subst, arith}
+use Rattle.std.proofs.Common.{◌≡◌, ℕ, ◌<◌, ◌^◌, List, [], ◌∷◌, ◌++◌, Option, Some, None, refl, sym, ap, ◌∙◌, subst}
 use Rattle.std.specs.Prelude.{Bool, true, false}
 use Rattle.std.specs.Option.{option_map, option_map_or, option_to_list}
-use Rattle.resend_core.specs.ResendStore.{Event, pushed, evicted, Past, HeldAs, last_position, last_by, stored_at, latter}
+use Rattle.resend_core.specs.ResendStore.{Event, pushed, evicted, Past, HeldAs, last_position, stored_at, latter}
 use Rattle.resend_core.specs.RtxCache.{packet_at, StandsFor as CacheStandsFor}
 use Rattle.resend_core.specs.declared.rtx_cache.RtxCache.{RtxCache}
 use Rattle.rtx_core.specs.declared.resend.Resend.{Resend}

@@ -310,6 +310,7 @@ impl<P: Cached, S: ResendStore<P>> ResendQueue<P, S> {
         ensures cache { self.new.cache ≡ self.old.cache }
         ensures err { OnErr result (self.new ≡ self.old) }
     {
+        S::laws();
         self.ask(entries, now)?;
         Ok(())
     }
@@ -348,9 +349,11 @@ impl<P: Cached, S: ResendStore<P>> ResendQueue<P, S> {
 
     /// What is to be sent again next, and how many resends there are up to it.
     fn next(&self, now: Instant) -> Option<(usize, &P)>
+        ensures due { (r : ResendRecord P) → StandsFor S.stands_for P.size self.now r → IsNext now r (next_of now (packet_at S.value_at self.now.cache) self.now.state) }
         ensures found { next_of now (packet_at S.value_at self.now.cache) self.now.state ≡ option_map (λ f. (f.1.now, drop f.0 self.now.state.resends)) result }
         ensures within { IfSome result (λ f. (0 < f.0) × (f.0 ≤ length self.now.state.resends)) }
     {
+        S::laws();
         if self.is_capped(now) {
             return None;
         }

@@ -7,7 +7,7 @@ use Rattle.std.proofs.lemmas.Bool.{le-leb}
 use Rattle.std.proofs.lemmas.Bool.Decides.{nat_tests}
 use Rattle.srtp_core.specs.Cipher.{CipherMeaning}
 use Rattle.srtp_core.specs.Streams.{streamed}
-use Rattle.srtp_core.specs.SimulatedLaws.{streamed-streamed, length-streamed}
+use Rattle.srtp_core.proofs.SimulatedLaws.{streamed-streamed, length-streamed}
 use Rattle.srtp_core.specs.Hmac.{hmac_of}
 use Rattle.srtp_core.specs.Seals.{cm_iv, cm_rtp_tag, cm_sealed_rtp}
 use Rattle.srtp_core.specs.RtcpSeals.{e_and_index, sender_of, cm_rest, cm_sealed_rtcp}

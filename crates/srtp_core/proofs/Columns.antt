@@ -9,7 +9,7 @@ use Rattle.std.proofs.lemmas.Nat.{xor_comm}
 use Rattle.std.proofs.lemmas.Simd.{get_or-zip2, get_or-chunk, length-chunk, length-zip2, get_or-put_chunk_below, get_or-put_chunk_at, get_or-put_chunk_above}
 use Rattle.std.proofs.lemmas.List.{length-append, length-drop, length-take-le, take-append-drop, drop-drop, get_or-take, get_or-drop, get_or_past}
 use Rattle.srtp_core.specs.Toy.{toy_block, toy_block_byte, column, toy_tag}
-use Rattle.srtp_core.specs.SimulatedLaws.{made}
+use Rattle.srtp_core.proofs.SimulatedLaws.{made}
 
 pub column-append : (j i : ℕ) (xs ys : List ℕ) → column j i (xs ++ ys) ≡ bit_xor (column j i xs) (column j (i + length xs) ys)
 column-append j i [] ys = ap (λ n. column j n ys) (sym (add-zero i))

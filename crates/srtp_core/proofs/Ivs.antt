@@ -5,7 +5,7 @@ use Rattle.std.specs.Int.{w16, w32, w64, byte_at, to_be_bytes, from_be_bytes}
 use Rattle.std.specs.Int.Bits.{xor_zero_r}
 use Rattle.std.proofs.lemmas.Nat.{xor_comm, from_be_bytes-to_be_bytes_2, from_be_bytes-to_be_bytes_4, from_be_bytes-to_be_bytes_8}
 use Rattle.media_base.specs.Text.{xored}
-use Rattle.srtp_core.specs.SimulatedLaws.{made, xor_again, length-bytes_by, slice_index-bytes_by}
+use Rattle.srtp_core.proofs.SimulatedLaws.{made, xor_again, length-bytes_by, slice_index-bytes_by}
 use Rattle.srtp_core.specs.Seals.{gcm_rtp_iv, gcm_rtcp_iv, cm_iv}
 use Rattle.srtp_core.specs.Laws.{RtpIvsApart, RtcpIvsApart}
 use Rattle.srtp_core.specs.declared.profile.SrtpProfile.TheVariants.{Aes128CmSha1_80, AeadAes128Gcm, AeadAes256Gcm}

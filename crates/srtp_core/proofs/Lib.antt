@@ -13,4 +13,5 @@ pub mod CmParts
 pub mod RtcpSealing
 pub mod RtcpShape
 pub mod Longer
+pub mod SimulatedLaws
 pub mod Words

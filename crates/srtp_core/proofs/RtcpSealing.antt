@@ -9,7 +9,7 @@ use Rattle.std.proofs.lemmas.List.{drop_at, length-append, take-append-drop}
 use Rattle.srtp_core.specs.Cipher.{CipherMeaning}
 use Rattle.srtp_core.specs.Keys.{SessionKeys}
 use Rattle.srtp_core.specs.Streams.{streamed}
-use Rattle.srtp_core.specs.SimulatedLaws.{streamed-streamed}
+use Rattle.srtp_core.proofs.SimulatedLaws.{streamed-streamed}
 use Rattle.srtp_core.specs.Hmac.{hmac_of}
 use Rattle.srtp_core.proofs.Codes.{length-tag}
 use Rattle.srtp_core.specs.Seals.{gcm_rtcp_iv, cm_iv}

@@ -5,7 +5,7 @@ use Rattle.std.specs.Int.{w32, to_be_bytes}
 use Rattle.srtp_core.specs.Cipher.{CipherMeaning}
 use Rattle.srtp_core.specs.Keys.{SessionKeys}
 use Rattle.srtp_core.specs.Streams.{streamed}
-use Rattle.srtp_core.specs.SimulatedLaws.{streamed-streamed}
+use Rattle.srtp_core.proofs.SimulatedLaws.{streamed-streamed}
 use Rattle.srtp_core.specs.Seals.{gcm_rtp_iv, cm_iv, cm_rtp_tag, cm_sealed_rtp, gcm_sealed_rtp, rtp_seal, sealed_rtp}
 use Rattle.srtp_core.proofs.Openings.{sealed_rtp_is}
 use Rattle.srtp_core.specs.Laws.{RtpSealsApart, RtpOpensOnce, RtpOpensSealed}

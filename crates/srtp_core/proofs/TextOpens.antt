@@ -3,7 +3,7 @@ use Rattle.std.proofs.Common.{◌≡◌, ℕ, ◌+◌, List, ◌++◌, length, t
 use Rattle.std.proofs.lemmas.List.{drop_at, take-append-drop}
 use Rattle.srtp_core.specs.Streams.{streamed}
 use Rattle.srtp_core.specs.Simulated.{nonce_stream, sealed_text}
-use Rattle.srtp_core.specs.SimulatedLaws.{streamed-streamed, length-streamed, take-tagged, length-sealed_text}
+use Rattle.srtp_core.proofs.SimulatedLaws.{streamed-streamed, length-streamed, take-tagged, length-sealed_text}
 
 -- what opens: the text of a front, where the tag of that text stands behind it
 opened : (stream : ℕ → ℕ) (input p t : List ℕ) (n : ℕ) → p ≡ streamed stream (take n input) → drop n input ≡ t → streamed stream p ++ t ≡ input

@@ -10,7 +10,7 @@ use Rattle.std.proofs.lemmas.List.{get_or_append_left, get_or-append_right}
 use Rattle.srtp_core.specs.Streams.{streamed, blocks_at}
 use Rattle.srtp_core.specs.Simulated.{nonce_stream}
 use Rattle.srtp_core.specs.Toy.{toy_block, toy_block_byte, word_block}
-use Rattle.srtp_core.specs.SimulatedLaws.{made, length-bytes_by, slice_index-bytes_by}
+use Rattle.srtp_core.proofs.SimulatedLaws.{made, length-bytes_by, slice_index-bytes_by}
 
 abbrev zeros_and : List ℕ → List ℕ
 zeros_and w = 0 ∷ 0 ∷ 0 ∷ 0 ∷ 0 ∷ 0 ∷ 0 ∷ 0 ∷ 0 ∷ 0 ∷ 0 ∷ 0 ∷ w

@@ -3,7 +3,6 @@ pub mod Streams
 pub mod Simulated
 pub mod Toy
 pub mod Sha
-pub mod SimulatedLaws
 pub mod Keys
 pub mod Names
 pub mod CipherKeys

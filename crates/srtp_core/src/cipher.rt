@@ -109,13 +109,13 @@ pub trait SrtpCipher: Copy {
             → meaning.aead (bytes_256 key.now) iv.now (aad1.now ++ aad2.now) plain ≡ input.now
             → IsTrue result };
 
-    /// A sealed text is 16 bytes longer.
-    ghost longer: { (key iv aad plain : List ℕ) → length (meaning.aead key iv aad plain)
-        ≡ length plain + TAG_LEN };
-
-    /// No two plain texts are sealed alike.
-    ghost apart: { (key iv aad p q : List ℕ) → meaning.aead key iv aad p ≡ meaning.aead key iv aad q
-        → p ≡ q };
+    /// The laws of every cipher; the call computes nothing. A sealed text is 16 bytes longer, and no
+    /// two plain texts are sealed alike.
+    fn laws()
+        ensures longer { (key iv aad plain : List ℕ) → length (meaning.aead key iv aad plain)
+            ≡ length plain + TAG_LEN }
+        ensures apart { (key iv aad p q : List ℕ) → meaning.aead key iv aad p ≡ meaning.aead key iv aad q
+            → p ≡ q };
 
     /// The key stream is the counter mode of the blocks.
     ghost counts: { (key iv : List ℕ) (i : ℕ) → meaning.keystream key iv i

@@ -204,6 +204,7 @@ pub(crate) fn open_rtcp<C: SrtpCipher>(
         CmRtcpOpens C.meaning (C.bytes_128 keys.now.key) keys.now.authentication keys.now.salt buf.now v.items)) }
     ensures none { IfOk result (λ r. IfNone r ((p : List ℕ)
         → CmRtcpOpens C.meaning (C.bytes_128 keys.now.key) keys.now.authentication keys.now.salt buf.now p → ⊥)) }
+    ensures short { length buf.now < MIN_SEALED_LEN → result ≡ Ok None }
 {
     if buf.len() < MIN_SEALED_LEN {
         return Ok(None);

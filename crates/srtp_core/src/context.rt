@@ -1,6 +1,6 @@
 ghost use Rattle.std.specs.Prelude.{◌≡◌, ◌≢◌, ℕ, ◌+◌, ◌%◌, ◌<◌, ◌≤◌, true, List, ◌++◌, length, take, IfOk, IfErr, IfSome, IfNone, IsErrOf, OnOk, OnErr};
 ghost use Rattle.std.specs.Borrow.{sem};
-ghost use Rattle.srtp_core.specs.Keys.{material_len, session_keys};
+ghost use Rattle.srtp_core.specs.Keys.{material_len, session_keys, tag_len};
 ghost use Rattle.srtp_core.specs.Seals.{sealed_rtp, OpensTo};
 ghost use Rattle.srtp_core.specs.RtcpSeals.{sealed_rtcp, RtcpOpensTo};
 ghost use Rattle.srtp_core.specs.Contexts.{new_state};
@@ -12,7 +12,7 @@ use crate::error::SrtpError;
 use crate::gcm::GcmDirection;
 use crate::keying::KeyingMaterial;
 use crate::profile::SrtpProfile;
-use crate::srtcp::HEADER_LEN;
+use crate::srtcp::{HEADER_LEN, WORD_LEN};
 use crate::{aead_aes_128_gcm, aead_aes_256_gcm, aes_128_cm_sha1_80, cm, gcm, gcm_rtcp};
 use rtp_base::NUMBER_LIMIT;
 use rtp_wire::RtpHeader;
@@ -236,6 +236,7 @@ impl<C: SrtpCipher> SrtpContext<C> {
         ensures some { IfOk result (λ r. IfSome r (λ v. RtcpOpensTo C.meaning self.old.profile self.old.keys buf.now v.items)) }
         ensures none { IfOk result (λ r. IfNone r ((p : List ℕ)
             → RtcpOpensTo C.meaning self.old.profile self.old.keys buf.now p → ⊥)) }
+        ensures short { length buf.now < HEADER_LEN + WORD_LEN + tag_len self.old.profile → result ≡ Ok None }
         ensures same { self.new ≡ self.old }
     {
         open_packet(self.alloc, self.cipher, &self.keys, buf)
@@ -348,6 +349,7 @@ fn open_packet<C: SrtpCipher>(
     ensures none { IfOk result (λ r. IfNone r ((p : List ℕ)
         → RtcpOpensTo C.meaning (profile_of keys.now) (session_of C.bytes_128 keys.now) buf.now p
         → ⊥)) }
+    ensures short { length buf.now < HEADER_LEN + WORD_LEN + tag_len (profile_of keys.now) → result ≡ Ok None }
 {
     match keys {
         Keys::Cm(direction) => cm::open_rtcp(alloc, cipher, &direction.rtcp, buf),

@@ -160,6 +160,7 @@ pub(crate) fn open_rtp<C: SrtpCipher>(
     ensures none { IfNone result ((payload : List ℕ)
         → gcm_sealed_rtp C.meaning keys.now.key keys.now.salt ssrc index (take header_len buf.now) payload ≡ buf.now → ⊥) }
 {
+    C::laws();
     let (header, sealed) = buf.split_at(header_len);
     if sealed.len() < TAG_LEN {
         return None;

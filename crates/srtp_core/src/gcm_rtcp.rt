@@ -106,7 +106,9 @@ pub(crate) fn open_rtcp<C: SrtpCipher>(
     ensures some { IfOk result (λ r. IfSome r (λ v. GcmRtcpOpens C.meaning keys.now.key keys.now.salt buf.now v.items)) }
     ensures none { IfOk result (λ r. IfNone r ((p : List ℕ)
         → GcmRtcpOpens C.meaning keys.now.key keys.now.salt buf.now p → ⊥)) }
+    ensures short { length buf.now < MIN_SEALED_LEN → result ≡ Ok None }
 {
+    C::laws();
     if buf.len() < MIN_SEALED_LEN {
         return Ok(None);
     }

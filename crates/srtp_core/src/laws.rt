@@ -1,4 +1,4 @@
-//! Laws as functions without a body: what they ensure is proved, and can be cited by a call.
+//! Laws as functions that compute nothing: what they ensure is proved, and can be cited by a call.
 
 ghost use Rattle.srtp_core.specs.Laws.{RtpSealKeepsHeader, RtpIvsApart, RtcpIvsApart, RtpSealsApart, RtpOpensOnce, RtpOpensSealed, RtcpOpensOnce, RtcpStates, RtcpOpensSealed, RtcpSealKeepsHeader, RtpSealIsLonger};
 
@@ -18,12 +18,16 @@ pub fn rtcp_ivs_apart()
 /// Under one key, SSRC and index no two datagrams are sealed alike.
 pub fn rtp_seals_apart<C: SrtpCipher>()
     ensures { RtpSealsApart C.meaning }
-{}
+{
+    C::laws();
+}
 
 /// A datagram opens to one payload at most.
 pub fn rtp_opens_once<C: SrtpCipher>()
     ensures { RtpOpensOnce C.meaning }
-{}
+{
+    C::laws();
+}
 
 /// A datagram that was sealed opens to its payload.
 pub fn rtp_opens_sealed<C: SrtpCipher>()
@@ -34,12 +38,16 @@ pub fn rtp_opens_sealed<C: SrtpCipher>()
 /// longer.
 pub fn rtp_seal_keeps_header<C: SrtpCipher>()
     ensures { RtpSealKeepsHeader C.meaning }
-{}
+{
+    C::laws();
+}
 
 /// An SRTCP datagram opens to one packet at most.
 pub fn rtcp_opens_once<C: SrtpCipher>()
     ensures { RtcpOpensOnce C.meaning }
-{}
+{
+    C::laws();
+}
 
 /// An SRTCP datagram that was sealed states its E bit and its index.
 pub fn rtcp_states<C: SrtpCipher>()
@@ -55,9 +63,13 @@ pub fn rtcp_opens_sealed<C: SrtpCipher>()
 /// of 4 bytes and its tag.
 pub fn rtcp_seal_keeps_header<C: SrtpCipher>()
     ensures { RtcpSealKeepsHeader C.meaning }
-{}
+{
+    C::laws();
+}
 
 /// A sealed RTP datagram is longer than the plain one by its tag: 10 or 16 bytes.
 pub fn rtp_seal_is_longer<C: SrtpCipher>()
     ensures { RtpSealIsLonger C.meaning }
-{}
+{
+    C::laws();
+}

@@ -1,7 +1,6 @@
 ghost use Rattle.std.specs.Prelude.{◌≡◌, ℕ, ◌+◌, ◌⊎◌, List, ◌++◌, length, IsTrue, refl};
 ghost use Rattle.srtp_core.specs.Streams.{streamed};
 ghost use Rattle.srtp_core.specs.Simulated.{nonce_stream, sealed_text, simulated};
-ghost use Rattle.srtp_core.specs.SimulatedLaws.{length-sealed_text, sealed_text_apart};
 ghost use Rattle.srtp_core.specs.declared.aead_aes_128_gcm.TheConstants.{KEY_LEN as KEY_128_LEN, TAG_LEN};
 ghost use Rattle.srtp_core.specs.declared.aead_aes_256_gcm.TheConstants.{KEY_LEN as KEY_256_LEN};
 
@@ -175,9 +174,8 @@ impl<S: Simulated> SrtpCipher for S {
         open(*self, &key.bytes, iv, aad1, aad2, input, output)
     }
 
-    ghost longer = { length-sealed_text S.block_of S.tag_of S.tag_len };
-
-    ghost apart = { sealed_text_apart S.block_of S.tag_of S.tag_len };
+    #[inline(always)]
+    fn laws() {}
 
     ghost counts = { λ key iv i. refl };
 }

@@ -1,7 +1,7 @@
 use Rattle.std.proofs.Common.{◌≡◌, true, ◌∙◌, length, take, ap, arith}
 use Rattle.std.proofs.lemmas.List.{take_at}
 use Rattle.srtp_core.specs.Streams.{streamed}
-use Rattle.srtp_core.specs.SimulatedLaws.{length-streamed}
+use Rattle.srtp_core.proofs.SimulatedLaws.{length-streamed}
 use Rattle.srtp_core.specs.Seals.{cm_iv, cm_sealed_rtp}
 use Rattle.srtp_core.proofs.CmParts.{rtp_opens, rtp_code, rtp_short}
 use Rattle.srtp_core.proofs.cm.open_rtp.Goals as goal

@@ -1,7 +1,7 @@
 use Rattle.std.proofs.Common.{arith}
 use Rattle.std.specs.Prelude.{slice_index, bit_xor}
 use Rattle.media_base.specs.Text.{xored}
-use Rattle.srtp_core.specs.SimulatedLaws.{made}
+use Rattle.srtp_core.proofs.SimulatedLaws.{made}
 use Rattle.srtp_core.proofs.gcm.xor_into.Goals as goal
 
 pub returns : goal.returns

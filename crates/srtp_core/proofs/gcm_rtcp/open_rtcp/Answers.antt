@@ -48,4 +48,4 @@ returns-else-number-ge-E_BIT-clause-none g c =
       is = c.word-number.ensures;
       fits = omega arith;
     } in
-    clear_opens_not g.C.SrtpCipher.meaning g.met.C.SrtpCipher.longer c.args.keys.now.key c.args.keys.now.salt c.args.buf.now c.split_at.result.0.now c.split_at.result.1.now c.split_at-else-number-ge-E_BIT.result.0.now c.split_at-else-number-ge-E_BIT.result.1.now c.word-number.result (length c.split_at.result.0.now - 16) c.open_clear.result s c.split_at-else-number-ge-E_BIT.ensures.front c.split_at-else-number-ge-E_BIT.ensures.back (omega arith) (omega arith) c.open_clear.ensures.none
+    clear_opens_not g.C.SrtpCipher.meaning c.laws.ensures.longer c.args.keys.now.key c.args.keys.now.salt c.args.buf.now c.split_at.result.0.now c.split_at.result.1.now c.split_at-else-number-ge-E_BIT.result.0.now c.split_at-else-number-ge-E_BIT.result.1.now c.word-number.result (length c.split_at.result.0.now - 16) c.open_clear.result s c.split_at-else-number-ge-E_BIT.ensures.front c.split_at-else-number-ge-E_BIT.ensures.back (omega arith) (omega arith) c.open_clear.ensures.none

@@ -1,6 +1,6 @@
 use Rattle.std.proofs.Common.{arith}
 use Rattle.std.specs.Prelude.{slice_index, bit_xor}
-use Rattle.srtp_core.specs.SimulatedLaws.{made}
+use Rattle.srtp_core.proofs.SimulatedLaws.{made}
 use Rattle.srtp_core.specs.Hmac.{pad_of}
 use Rattle.srtp_core.proofs.hmac.pad.Goals as goal
 

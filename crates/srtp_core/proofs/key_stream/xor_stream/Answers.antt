@@ -1,7 +1,7 @@
 use Rattle.std.proofs.Common.{arith}
 use Rattle.std.specs.Prelude.{slice_index, bit_xor}
 use Rattle.srtp_core.specs.Streams.{streamed, blocks_at, counter_input}
-use Rattle.srtp_core.specs.SimulatedLaws.{made}
+use Rattle.srtp_core.proofs.SimulatedLaws.{made}
 use Rattle.srtp_core.proofs.key_stream.xor_stream.Goals as goal
 
 pub returns : goal.returns

@@ -2,7 +2,7 @@ use Rattle.std.proofs.Common.{◌≡◌, ◌*◌, ◌/◌, ◌<◌, ◌≤◌, �
 use Rattle.std.specs.Prelude.{slice_index, bit_xor}
 use Rattle.srtp_core.specs.Streams.{streamed, blocks_at}
 use Rattle.srtp_core.specs.Toy.{word_block}
-use Rattle.srtp_core.specs.SimulatedLaws.{made}
+use Rattle.srtp_core.proofs.SimulatedLaws.{made}
 use Rattle.srtp_core.proofs.Words.{in_block}
 use Rattle.srtp_core.proofs.toy.xor_words.Goals as goal
 

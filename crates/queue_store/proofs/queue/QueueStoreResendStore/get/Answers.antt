@@ -1,7 +1,7 @@
 use Rattle.std.proofs.Common.{◌∙◌, Option, ap, sym, subst}
 use Rattle.std.specs.Option.{option_copied}
 use Rattle.resend_core.specs.ResendStore.{HeldAs}
-use Rattle.queue_store.specs.HeldLaws.{held_as}
+use Rattle.queue_store.proofs.HeldLaws.{held_as}
 use Rattle.queue_store.proofs.QueueLaws.{value_found, value_missed}
 use Rattle.queue_store.proofs.queue.QueueStoreResendStore.get.Goals as goal
 

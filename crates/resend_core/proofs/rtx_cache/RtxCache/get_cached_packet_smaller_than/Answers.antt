@@ -18,10 +18,10 @@ pub returns-clause-smaller : goal.returns-clause-smaller
 returns-clause-smaller g c = λ past h once.
     if_some _ _
     (λ p is.
-    smaller_is g.S.ResendStore.stands_for g.S.ResendStore.value_at g.met.S.ResendStore.holds g.P.Cached.size c.args.self.now past (c.args.max_size / 25) p h once
+    smaller_is g.S.ResendStore.stands_for g.S.ResendStore.value_at c.laws.ensures.holds g.P.Cached.size c.args.self.now past (c.args.max_size / 25) p h once
     (sym (c.greatest_below.ensures ∙ choice_is g.S.ResendStore.stands_for g.S.ResendStore.value_at g.P.Cached.size c.args.self.now past (c.args.max_size / 25) (omega arith) h) ∙ is))
 
 pub returns-clause-none : goal.returns-clause-none
 returns-clause-none g c = λ past h order roomy aging none.
-    none_is g.S.ResendStore.stands_for g.S.ResendStore.value_at g.met.S.ResendStore.holds g.P.Cached.size c.args.self.now past (c.args.max_size / 25) h order roomy aging
+    none_is g.S.ResendStore.stands_for g.S.ResendStore.value_at c.laws.ensures.holds g.P.Cached.size c.args.self.now past (c.args.max_size / 25) h order roomy aging
     (sym (c.greatest_below.ensures ∙ choice_is g.S.ResendStore.stands_for g.S.ResendStore.value_at g.P.Cached.size c.args.self.now past (c.args.max_size / 25) (omega arith) h) ∙ is_none _ none)

@@ -5,7 +5,7 @@ use Rattle.resend_core.specs.declared.ring.Entry.{Entry}
 use Rattle.resend_core.specs.Ring.{held}
 use Rattle.resend_core.specs.ResendStore.{HeldAs}
 use Rattle.resend_core.specs.EvictingBuffer.{value_at}
-use Rattle.resend_core.specs.HeldLaws.{held_as}
+use Rattle.resend_core.proofs.HeldLaws.{held_as}
 use Rattle.resend_core.proofs.rtx_cache_buf.EvictingBuffer.get.Goals as goal
 
 pub returns-in-Some-clause-held : goal.returns-in-Some-clause-held

@@ -10,9 +10,9 @@ loop-at-preserved-then-head-eq0 c = record {
   sofar = one_padding_at c.args.exts.now c.loop-at.self _ c.args.bytes.now c.loop-at.at c.loop-at-test.true c.if-head-eq0.true c.loop-at.invariant.sofar;
 }
 
-pub returns-then-id-eq15 : goal.returns-then-id-eq15
-returns-then-id-eq15 c =
-    one_stop_at c.args.exts.now c.loop-at.self _ c.args.bytes.now c.loop-at.at c.loop-at-test.true c.if-head-eq0.false c.if-id-eq15.true c.loop-at.invariant.sofar
+pub returns-then-id-eq-RESERVED_ID : goal.returns-then-id-eq-RESERVED_ID
+returns-then-id-eq-RESERVED_ID c =
+    one_stop_at c.args.exts.now c.loop-at.self _ c.args.bytes.now c.loop-at.at c.loop-at-test.true c.if-head-eq0.false c.if-id-eq-RESERVED_ID.true c.loop-at.invariant.sofar
 
 pub returns-then-tail-len : goal.returns-then-tail-len
 returns-then-tail-len c =
@@ -29,7 +29,7 @@ loop-at-preserved c =
     record {
       within = omega (arith, c.from-len.ensures, c.split_at.ensures.back_len);
       sofar = ap (λ (v : ExtensionValues). with_elements c.args.exts.now v (one_byte_elements 0 (drop (at + (1 + n)) bytes))) values
-          ∙ one_element_at c.args.exts.now c.loop-at.self _ bytes at n c.loop-at-test.true c.if-head-eq0.false c.if-id-eq15.false (omega (arith, c.from-len.ensures)) (omega (arith, c.split_at.ensures.back_len)) c.loop-at.invariant.sofar;
+          ∙ one_element_at c.args.exts.now c.loop-at.self _ bytes at n c.loop-at-test.true c.if-head-eq0.false c.if-id-eq-RESERVED_ID.false (omega (arith, c.from-len.ensures)) (omega (arith, c.split_at.ensures.back_len)) c.loop-at.invariant.sofar;
     }
 
 pub returns : goal.returns

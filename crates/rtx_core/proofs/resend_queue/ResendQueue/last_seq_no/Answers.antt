@@ -1,4 +1,4 @@
-use Rattle.std.proofs.Common.{◌≡◌, sym, subst, ◌∙◌, arith}
+use Rattle.std.proofs.Common.{sym, subst, arith}
 use Rattle.rtx_core.specs.Resends.{StandsFor}
 use Rattle.rtx_core.proofs.Holding.{last_small}
 use Rattle.rtx_core.proofs.resend_queue.ResendQueue.last_seq_no.Goals as goal

@@ -1,6 +1,6 @@
 use Rattle.std.proofs.Common.{arith}
 use Rattle.srtp_core.specs.Streams.{blocks_at}
-use Rattle.srtp_core.specs.SimulatedLaws.{made}
+use Rattle.srtp_core.proofs.SimulatedLaws.{made}
 use Rattle.srtp_core.specs.Keys.{derived, derivation_input}
 use Rattle.srtp_core.proofs.keying.SrtpKey.derive.Goals as goal
 

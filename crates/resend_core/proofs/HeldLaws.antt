@@ -1,5 +1,4 @@
--- What a ring holds after an entry was put in, and what a buffer holds: laws of every store. An impl takes the proofs of its laws
--- from specs/ alone.
+-- What a ring holds after an entry was put in, and what a buffer holds: the laws of every store.
 use Rattle.std.specs.Prelude.{◌≡◌, ◌≢◌, ℕ, ◌%◌, ◌<◌, Bool, true, false, cond, List, [], ◌∷◌, length, slice_index_or, Option, Some, None, option_map}
 use Rattle.std.proofs.Common.{eqb, refl, sym, ap, ◌∙◌, arith, ⊎_elim}
 use Rattle.std.proofs.lemmas.Bool.Decides.{nat_tests}

@@ -1,4 +1,4 @@
--- The laws of each cipher that is made of a block and a tag. An impl takes the proofs of its laws from specs/ alone.
+-- The laws of each cipher that is made of a block and a tag.
 use Rattle.std.proofs.Common.{◌≡◌, ℕ, ◌+◌, ◌<◌, List, ◌++◌, length, get_or, take, refl, sym, ap, ◌∙◌, arith}
 use Rattle.std.specs.Prelude.{slice_index, bit_xor}
 use Rattle.std.specs.Int.Bits.{xor_assoc, xor_self, xor_zero_r}

@@ -1,5 +1,4 @@
--- What a queue holds after another value was put in the place of one: laws of every store. An impl takes the proofs of its laws
--- from specs/ alone.
+-- What a queue holds after another value was put in the place of one: the laws of every store.
 use Rattle.std.specs.Prelude.{◌≡◌, ◌≢◌, ℕ, suc, Bool, true, false, cond, List, [], ◌∷◌, slice_get, slice_set, Option, Some, None, option_map, option_and_then}
 use Rattle.std.proofs.Common.{eqb, refl, sym, ap, ◌∙◌, arith, ⊎_elim}
 use Rattle.std.proofs.lemmas.Bool.Decides.{nat_tests}

@@ -1,0 +1,11 @@
+use Rattle.queue_store.proofs.HeldLaws.{held_as, value_here, value_other}
+use Rattle.queue_store.proofs.queue.QueueStoreResendStore.laws.Goals as goal
+
+pub returns-clause-holds : goal.returns-clause-holds
+returns-clause-holds g c = held_as
+
+pub returns-clause-here : goal.returns-clause-here
+returns-clause-here g c = value_here
+
+pub returns-clause-other : goal.returns-clause-other
+returns-clause-other g c = value_other
