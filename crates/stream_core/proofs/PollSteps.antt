@@ -51,6 +51,12 @@ module _ {W S : Type 0} (remembers : W → Heard → Type 0) (stands_for : S →
       ap (option_map (is_ready inside.repairs)) (sym there) ∙ ap (λ (v : StreamsView W S). option_map (is_ready v.repairs) (slice_get (values_of v.tx) place)) view ∙ h in
       cc
 
+  ready_of : is_ready inside.repairs x ≡ true → option_map (is_ready s.repairs) (slice_get (values_of s.tx) place) ≡ Some true
+  ready_of h =
+      ap (λ (v : StreamsView W S). option_map (is_ready v.repairs) (slice_get (values_of v.tx) place)) (sym view)
+      ∙ ap (option_map (is_ready inside.repairs)) there
+      ∙ ap Some h
+
   module _ (rtx i : ℕ) (v : RepairsView S) (has : x.rtx ≡ Some rtx) (where_ : place_of x.ssrc inside.repairs ≡ Some i) (at : slice_get (values_of inside.repairs) i ≡ Some v) where
     of_record : (r : StreamsRecord) (q : RepairsRecord) → value_under x.ssrc r.repairs ≡ Some q → repairs_of x r.repairs ≡ Some q
     of_record r q is = ap (option_and_then (λ (n : ℕ). value_under x.ssrc r.repairs)) has ∙ is
@@ -106,6 +112,9 @@ module _ {W S : Type 0} (remembers : W → Heard → Type 0) (stands_for : S →
         let m = mine r h in
         let q = repairs_there stands_for inside.repairs r.repairs x.ssrc m.repairs i v where_ at in
         (rtx, (x, q.0, at_record r m, has, of_record r q.0 q.1, step q.0 q.2))
+
+    pub ready_there : (has_asked (Some v.state) || is_some (next_of x.queue)) ≡ true → option_map (is_ready s.repairs) (slice_get (values_of s.tx) place) ≡ Some true
+    ready_there h = ready_of (ap (λ b. b || is_some (next_of x.queue)) asked_is ∙ h)
 
     pub fewer_there : (y : TxRecord) (w : RepairsView S)
         → ((has_asked (Some v.state) || is_some (next_of x.queue)) ≡ true → length w.state.resends + length y.queue < length v.state.resends + length x.queue)

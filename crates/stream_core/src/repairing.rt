@@ -135,6 +135,7 @@ fn poll_repair<S: ResendStore<Sent>>(
     ensures none { IfOk result (λ o. IfNone o (repairs.new.state.resends ≡ [])) }
     ensures exhausted { IsErrOf result ResendError.Exhausted → (r : RepairsRecord) → RepairsStandFor S.stands_for repairs.old r → IsUsedUp now r }
     ensures err { OnErr result (repairs.new ≡ repairs.old) }
+    ensures cause { OnErr result (has_asked (Some repairs.old.state) ≡ true) }
 {
     let Some(sent) = repairs.peek(now) else {
         repairs.give_up(now);
@@ -191,6 +192,7 @@ fn poll_first<S: ResendStore<Sent>>(
     ensures reads { IfOk result (λ o. IfSome o (λ p. IsReadAgain transport.now.exts p.header)) }
     ensures asked { repairs.new.state.resends ≡ repairs.old.state.resends }
     ensures err { OnErr result ((stream.new ≡ stream.old) × (repairs.new ≡ repairs.old)) }
+    ensures cause { OnErr result (is_some (next_of stream.old.queue) ≡ true) }
 {
     let Some(receipt) = stream.next_receipt(alloc, now, transport)? else {
         return Ok(None);
@@ -229,6 +231,7 @@ pub(crate) fn poll_both<S: ResendStore<Sent>>(
         × ((r : RepairsRecord) → RepairsStandFor S.stands_for repairs.old r → IsUsedUp now r) }
     ensures failed { OnErr result ((stream.new ≡ stream.old) × ((r : RepairsRecord) → RepairsStandFor S.stands_for repairs.old r
         → (after : RepairsRecord) × Stays now (Some r) (Some after) × RepairsStandFor S.stands_for repairs.new after)) }
+    ensures cause { OnErr result ((has_asked (Some repairs.old.state) || is_some (next_of stream.old.queue)) ≡ true) }
 {
     match poll_repair(alloc, stream, ssrc, repairs, now, transport) {
         Ok(Some(receipt)) => {
@@ -257,6 +260,7 @@ pub(crate) fn poll_alone(
     ensures reads { IfOk result (λ o. IfSome o (λ p. IsReadAgain transport.now.exts p.header)) }
     ensures memory { IsErrOf result ResendError.Exhausted → ⊥ }
     ensures err { OnErr result (stream.new ≡ stream.old) }
+    ensures cause { OnErr result (is_some (next_of stream.old.queue) ≡ true) }
 {
     match stream.next_receipt(alloc, now, transport) {
         Ok(polled) => {

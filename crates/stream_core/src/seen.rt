@@ -1,7 +1,8 @@
-ghost use Rattle.std.specs.Prelude.{◌≡◌, ◌<◌, ℕ, List, [], Some, OnOk, OnErr};
+ghost use Rattle.std.specs.Prelude.{◌≡◌, ◌<◌, ℕ, List, [], None, Some, OnOk, OnErr};
 ghost use Rattle.rtp_base.specs.Window.{greatest};
 ghost use Rattle.std.specs.Option.{ForSome};
 ghost use Rattle.stream_core.specs.Seen.{Saw, SeenStandsFor, seen_of, is_unseen, saw};
+ghost use Rattle.stream_core.specs.Tables.{place_of};
 
 use crate::ssrc_table::SsrcTable;
 use rtp_base::{NUMBER_LIMIT, SeqNo, SeqNoWindow, Ssrc};
@@ -75,6 +76,7 @@ impl Seen {
         requires { number < NUMBER_LIMIT }
         ensures ok { OnOk result ((seen : List (ℕ × List ℕ)) → SeenStandsFor self.old seen → SeenStandsFor self.new (saw ssrc number seen)) }
         ensures err { OnErr result (self.new ≡ self.old) }
+        ensures cause { OnErr result (place_of ssrc self.old ≡ None) }
     {
         match self.windows.place(ssrc) {
             Some(place) => {

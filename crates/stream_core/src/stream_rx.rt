@@ -291,6 +291,7 @@ impl<W: GapWindow> StreamRx<W> {
         ensures state { self.new.state ≡ self.old.state }
         ensures recent { self.new.recent ≡ self.old.recent }
         ensures err { OnErr result (self.new ≡ self.old) }
+        ensures cause { OnErr result (self.old.window ≡ None) }
     {
         match &mut self.window {
             Some(window) => {
@@ -331,6 +332,7 @@ impl<W: GapWindow> StreamRx<W> {
         ensures ok { OnOk result ((r : RxRecord) → StandsFor W.remembers self.old r → StandsFor W.remembers self.new (opened_as remembered arrival.entry.now number r)) }
         ensures state { OnOk result (self.new.state ≡ came_at arrival.entry.now number self.old.state) }
         ensures err { OnErr result (self.new ≡ self.old) }
+        ensures cause { OnErr result (self.old.window ≡ None) }
     {
         self.put(number, remembered)?;
         let was_paused = self.pause_at.is_none();
@@ -437,6 +439,7 @@ impl<W: GapWindow> StreamRx<W> {
         ensures small { IfOk result (λ o. IfSome o (λ n. n < NUMBER_LIMIT)) }
         ensures low { IfOk result (λ o. IfSome o (λ n. n % 65536 ≡ low)) }
         ensures err { OnErr result (self.new ≡ self.old) }
+        ensures cause { OnErr result (self.old.window ≡ None) }
     {
         let number = self.restored_number(low, &remembered);
         if !self.is_fresh(number, &remembered) {

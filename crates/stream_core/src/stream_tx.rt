@@ -235,6 +235,7 @@ impl StreamTx {
     pub fn handle_rtcp(&mut self, item: &RtcpFb) -> Result<(), AllocError>
         ensures ok { OnOk result (self.new ≡ told_by item.now self.old) }
         ensures err { OnErr result (self.new ≡ self.old) }
+        ensures cause { OnErr result (is_some self.old.losses ≡ true) }
     {
         match item {
             RtcpFb::ReceptionReport(report) => {
@@ -322,6 +323,7 @@ impl StreamTx {
         ensures polled { IfOk result (λ receipt. receipt ≡ polled self.now transport.now now) }
         ensures small { IfOk result (λ receipt. IfSome receipt IsSealable) }
         ensures reads { IfOk result (λ receipt. IfSome receipt (λ r. IsReadAgain transport.now.exts r.header)) }
+        ensures cause { OnErr result (is_some (next_of self.now.queue) ≡ true) }
     {
         let Some(packet) = self.queue.peek() else {
             return Ok(None);
@@ -465,6 +467,7 @@ impl StreamTx {
         ensures small { IfOk result (λ receipt. IfSome receipt IsSealable) }
         ensures reads { IfOk result (λ receipt. IfSome receipt (λ r. IsReadAgain transport.old.exts r.header)) }
         ensures err { OnErr result ((self.new ≡ self.old) × (transport.new ≡ transport.old)) }
+        ensures cause { OnErr result (is_some (next_of self.old.queue) ≡ true) }
     {
         let Some(receipt) = self.next_receipt(alloc, now, transport)? else {
             return Ok(None);

@@ -185,6 +185,7 @@ impl<W: GapWindow, S: ResendStore<Sent>> Streams<W, S> {
         ensures repairs { self.new.repairs ≡ self.old.repairs }
         ensures threshold { self.new.threshold ≡ self.old.threshold }
         ensures err { OnErr result (self.new ≡ self.old) }
+        ensures cause { OnErr result (place_of ssrc self.old.rx ≡ None) }
     {
         if self.rx.place(ssrc).is_some() {
             return Ok(());
@@ -316,6 +317,7 @@ impl<W: GapWindow, S: ResendStore<Sent>> Streams<W, S> {
         ensures threshold { self.new.threshold ≡ self.old.threshold }
         ensures known { self.new.known ≡ self.old.known }
         ensures err { OnErr result (self.new ≡ self.old) }
+        ensures cause { OnErr result (place_of ssrc self.old.tx ≡ None) }
     {
         if self.tx.place(ssrc).is_some() {
             return Ok(());
@@ -389,6 +391,7 @@ impl<W: GapWindow, S: ResendStore<Sent>> Streams<W, S> {
             × ((r : StreamsRecord) → StandsFor W.remembers S.stands_for self.old r → (ssrc : ℕ) × IsUsedUpAt now place ssrc r) }
         ensures failed { OnErr result ((r : StreamsRecord) → StandsFor W.remembers S.stands_for self.old r
             → (after : StreamsRecord) × StaysAt now place r after × StandsFor W.remembers S.stands_for self.new after) }
+        ensures cause { OnErr result (option_map (is_ready self.old.repairs) (slice_get (values_of self.old.tx) place) ≡ Some true) }
         ensures rx { self.new.rx ≡ self.old.rx }
         ensures threshold { self.new.threshold ≡ self.old.threshold }
         ensures known { self.new.known ≡ self.old.known }
@@ -431,6 +434,7 @@ impl<W: GapWindow, S: ResendStore<Sent>> Streams<W, S> {
         ensures threshold { self.new.threshold ≡ self.old.threshold }
         ensures known { self.new.known ≡ self.old.known }
         ensures err { OnErr result (self.new ≡ self.old) }
+        ensures cause { OnErr result (is_some (place_of ssrc self.old.repairs) ≡ true) }
     {
         match self.repairs.place(ssrc) {
             Some(at) => self
@@ -460,6 +464,7 @@ impl<W: GapWindow, S: ResendStore<Sent>> Streams<W, S> {
         ensures threshold { self.new.threshold ≡ self.old.threshold }
         ensures known { self.new.known ≡ self.old.known }
         ensures err { OnErr result (self.new ≡ self.old) }
+        ensures cause { OnErr result (is_some (place_of ssrc self.old.repairs) ≡ true) }
     {
         match self.repairs.place(ssrc) {
             Some(at) => self.repairs.at_mut(at).handle_nack(entries, now)?,
@@ -499,6 +504,7 @@ impl<W: GapWindow, S: ResendStore<Sent>> Streams<W, S> {
         ensures failed { OnErr result ((r : StreamsRecord) → StandsFor W.remembers S.stands_for self.old r
             → (after : StreamsRecord) × StaysAt now place r after × StandsFor W.remembers S.stands_for self.new after) }
         ensures uncounted { OnErr result (transport.new ≡ transport.old) }
+        ensures cause { OnErr result (option_map (is_ready self.old.repairs) (slice_get (values_of self.old.tx) place) ≡ Some true) }
         ensures rx { self.new.rx ≡ self.old.rx }
         ensures threshold { self.new.threshold ≡ self.old.threshold }
         ensures known { self.new.known ≡ self.old.known }

@@ -1,5 +1,5 @@
 //! Streams that begin anew under another SSRC.
-ghost use Rattle.std.specs.Prelude.{◌≡◌, ◌<◌, ◌≤◌, ℕ, List, None, Some, length, IfOk, OnOk, OnErr};
+ghost use Rattle.std.specs.Prelude.{◌≡◌, ◌<◌, ◌≤◌, ℕ, List, true, None, Some, length, is_some, IfOk, OnOk, OnErr};
 ghost use Rattle.std.specs.Option.{ForSome};
 ghost use Rattle.stream_core.specs.Repairing.{RepairsRecord, RepairsStandFor};
 ghost use Rattle.stream_core.specs.StreamsRecord.{StreamsRecord, StandsFor, anew_from, has_cap, with_reset_tx};
@@ -141,6 +141,7 @@ impl<W: GapWindow, S: ResendStore<Sent>> Streams<W, S> {
         ensures threshold { self.new.threshold ≡ self.old.threshold }
         ensures known { self.new.known ≡ self.old.known }
         ensures err { OnErr result (self.new ≡ self.old) }
+        ensures cause { OnErr result (is_some (place_of ssrc self.old.tx) ≡ true) }
     {
         let Some(place) = self.tx_place(ssrc) else {
             return Ok(());

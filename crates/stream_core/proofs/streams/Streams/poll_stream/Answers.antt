@@ -3,7 +3,7 @@ use Rattle.std.proofs.lemmas.Result.{IfOk-weaker, on_ok_weaker, on_err_weaker}
 use Rattle.stream_core.specs.StreamsRecord.{StreamsView, is_asked}
 use Rattle.stream_core.proofs.Alongside.{set_same}
 use Rattle.stream_core.proofs.RepairSteps.{take_set, asked_before}
-use Rattle.stream_core.proofs.PollSteps.{polls_there, stays_there, used_there, fewer_there, both_ok, polls_alone, stays_alone, fewer_alone}
+use Rattle.stream_core.proofs.PollSteps.{polls_there, stays_there, used_there, ready_there, fewer_there, both_ok, polls_alone, stays_alone, fewer_alone}
 use Rattle.stream_core.proofs.streams.Streams.poll_stream.Goals as goal
 
 pub returns-in-Some-clause-polled : goal.returns-in-Some-clause-polled
@@ -49,6 +49,14 @@ returns-in-Some-clause-failed g c =
     (λ step. stays_there g.W.GapWindow.remembers g.S.ResendStore.stands_for c.args.self.now _ c.self.view_is c.args.types.now c.args.transport.now c.args.now c.args.place
     c.at_mut-stream.result.now c.at_mut-stream.ensures.value _ _ c.at_mut-repairs.result.now f.0 f.1 c.at_mut-repairs.ensures.value c.poll_both.new.stream c.poll_both.new.repairs step.0 step.1)
     c.poll_both.ensures.failed
+
+pub returns-in-Some-clause-cause : goal.returns-in-Some-clause-cause
+returns-in-Some-clause-cause g c =
+    let f = c.in-Some.ensures.found in
+    on_err_weaker c.poll_both.result
+    (ready_there g.W.GapWindow.remembers g.S.ResendStore.stands_for c.args.self.now _ c.self.view_is c.args.types.now c.args.transport.now c.args.now c.args.place
+    c.at_mut-stream.result.now c.at_mut-stream.ensures.value _ _ c.at_mut-repairs.result.now f.0 f.1 c.at_mut-repairs.ensures.value)
+    c.poll_both.ensures.cause
 
 pub returns-in-None-clause-polled : goal.returns-in-None-clause-polled
 returns-in-None-clause-polled g c =
