@@ -3,6 +3,7 @@ pub mod FirstWrong
 pub mod Gives
 pub mod Grammar
 pub mod Laws
+pub mod MayWant
 pub mod Names
 pub mod Order
 pub mod Spelling

@@ -1,9 +1,12 @@
 // Reading a script, line by line.
-ghost use Rattle.std.specs.Prelude.{◌≡◌, List, IfOk, Ok};
+ghost use Rattle.std.specs.Prelude.{◌≡◌, List, IsTrue, IfOk, IfErr, Ok};
 ghost use Rattle.media_script.specs.FirstWrong.{StopsRightly};
 ghost use Rattle.media_script.specs.Gives.{Gives, GivesScript, error_at};
 ghost use Rattle.media_script.specs.Grammar.{read_on, line_taken, whole_of, script_of};
+ghost use Rattle.media_script.specs.declared.error.LineError.TheVariants.{Memory, Outside};
+ghost use Rattle.media_script.specs.declared.error.ScriptError.TheVariants.{Syntax, Memory as NoMemory};
 ghost use Rattle.media_script.specs.declared.reader.Reader.TheVariants.{Head, InSetup, InSteps};
+ghost use Rattle.media_script.specs.MayWant.{takes_words, takes_memory, may_want};
 ghost use Rattle.media_script.specs.Spelling.{IsScript};
 ghost use Rattle.media_model.specs.declared.setup.Setup.{Setup};
 ghost use Rattle.media_model.specs.declared.step.Step.{Step};
@@ -29,7 +32,8 @@ pub enum Reader {
 impl Reader {
     #[tactic(auto, unfolding(crate::specs::Grammar::line_taken))]
     fn take_line(self, alloc: Global, line: &[u8]) -> Result<Reader, LineError>
-        ensures { Gives (λ r. r) result (line_taken self line.now) }
+        ensures given { Gives (λ r. r) result (line_taken self line.now) }
+        ensures memory { IfErr result (λ e. e ≡ Memory → IsTrue (takes_memory self line.now)) }
     {
         if is_passed_over(line) {
             return Ok(self);
@@ -39,7 +43,8 @@ impl Reader {
 
     #[tactic(auto, unfolding(crate::specs::Grammar::read_on))]
     fn read_on(self, alloc: Global, line: &[u8]) -> Result<Reader, LineError>
-        ensures { Gives (λ r. r) result (read_on self line.now) }
+        ensures given { Gives (λ r. r) result (read_on self line.now) }
+        ensures memory { IfErr result (λ e. e ≡ Memory → IsTrue (takes_words self line.now)) }
     {
         match self {
             Reader::Head => head(alloc, line),
@@ -52,7 +57,8 @@ impl Reader {
     // What was read of all lines, of which there are fewer than `line`.
     #[tactic(auto, unfolding(crate::specs::Grammar::whole_of))]
     fn finish(self, line: u64) -> Result<(Setup, Vec<Step>), ScriptError>
-        ensures { GivesScript (λ x. (x.0, x.1.items)) result (whole_of line self) }
+        ensures given { GivesScript (λ x. (x.0, x.1.items)) result (whole_of line self) }
+        ensures never { IfErr result (λ e. e ≡ Syntax line) }
     {
         match self {
             Reader::Ended(said, steps) => match said.draft.finish() {
@@ -67,7 +73,8 @@ impl Reader {
 // The first line.
 #[tactic(auto, unfolding(crate::specs::Grammar::read_on))]
 fn head(alloc: Global, line: &[u8]) -> Result<Reader, LineError>
-    ensures { Gives (λ r. r) result (read_on Head line.now) }
+    ensures given { Gives (λ r. r) result (read_on Head line.now) }
+    ensures outside { IfErr result (λ e. e ≡ Outside) }
 {
     if line != b"str0m-media 1".as_slice() {
         return Err(LineError::Outside);
@@ -78,7 +85,8 @@ fn head(alloc: Global, line: &[u8]) -> Result<Reader, LineError>
 // A line behind setup lines that say this.
 #[tactic(auto, unfolding(crate::specs::Grammar::read_on))]
 fn behind_setup(alloc: Global, mut said: Said, line: &[u8]) -> Result<Reader, LineError>
-    ensures { Gives (λ r. r) result (read_on (InSetup said) line.now) }
+    ensures given { Gives (λ r. r) result (read_on (InSetup said) line.now) }
+    ensures memory { IfErr result (λ e. e ≡ Memory → IsTrue (takes_words (InSetup said) line.now)) }
 {
     if line == b"begin".as_slice() {
         return Ok(Reader::InSteps(said, Listed::new(alloc)));
@@ -95,7 +103,8 @@ fn behind_steps(
     mut steps: Listed<Step>,
     line: &[u8],
 ) -> Result<Reader, LineError>
-    ensures { Gives (λ r. r) result (read_on (InSteps said steps) line.now) }
+    ensures given { Gives (λ r. r) result (read_on (InSteps said steps) line.now) }
+    ensures memory { IfErr result (λ e. e ≡ Memory → IsTrue (takes_words (InSteps said steps) line.now)) }
 {
     if line == b"end".as_slice() {
         return Ok(Reader::Ended(said, steps));
@@ -124,12 +133,15 @@ pub fn read_script(alloc: Global, bytes: &[u8]) -> Result<(Setup, Vec<Step>), Sc
     ensures first { StopsRightly result bytes.now }
     // Which line that is, as a computation.
     ensures exact { GivesScript (λ x. (x.0, x.1.items)) result (script_of bytes.now) }
+    // Want of memory is told only where a line takes memory and the lines before it are right.
+    ensures memory { IfErr result (λ e. e ≡ NoMemory → IsTrue (may_want bytes.now)) }
 {
     read_lines(alloc, bytes)
 }
 
 fn read_lines(alloc: Global, bytes: &[u8]) -> Result<(Setup, Vec<Step>), ScriptError>
-    ensures { GivesScript (λ x. (x.0, x.1.items)) result (script_of bytes.now) }
+    ensures given { GivesScript (λ x. (x.0, x.1.items)) result (script_of bytes.now) }
+    ensures memory { IfErr result (λ e. e ≡ NoMemory → IsTrue (may_want bytes.now)) }
 {
     let mut reader = Reader::Head;
     let mut line = 1u64;

@@ -1,7 +1,8 @@
 // The words of a setup line.
-ghost use Rattle.std.specs.Prelude.{◌≡◌};
+ghost use Rattle.std.specs.Prelude.{◌≡◌, false, IfErr};
 ghost use Rattle.media_script.specs.Gives.{Gives};
-ghost use Rattle.media_script.specs.Grammar.{texts, cipher_line, profile_line, key_line, unix_line, mtu_line, pause_line, reports_line, rtcp_line, local_line, ext_line, done, named_type, is_flagged, behind, type_line, media_line, stream_line, start_line, cache_line, side_line_of, named_line_of, number_line_of, setup_line_of, in_few};
+ghost use Rattle.media_script.specs.declared.error.LineError.TheVariants.{Memory};
+ghost use Rattle.media_script.specs.Grammar.{texts, cipher_line, profile_line, key_line, unix_line, mtu_line, pause_line, reports_line, rtcp_line, local_line, ext_line, done, named_type, is_flagged, behind, type_line, media_line, stream_line, start_line, cache_line, side_line_of, named_line_of, number_line_of, setup_line_of, is_long, in_few};
 ghost use Rattle.media_script.specs.Spelling.{words_of};
 
 use crate::error::LineError;
@@ -342,7 +343,8 @@ fn setup_line_in(alloc: Global, words: &[&[u8]]) -> Result<SetupLine, LineError>
 
 // What a setup line says.
 pub fn setup_line(alloc: Global, line: &[u8]) -> Result<SetupLine, LineError>
-    ensures { Gives (λ l. l) result (in_few setup_line_of (words_of line.now)) }
+    ensures given { Gives (λ l. l) result (in_few setup_line_of (words_of line.now)) }
+    ensures memory { IfErr result (λ e. e ≡ Memory → is_long (words_of line.now) ≡ false) }
 {
     if is_long(line) {
         return Err(LineError::Outside);

@@ -1,7 +1,8 @@
 // The words of a step.
-ghost use Rattle.std.specs.Prelude.{◌≡◌, ◌∷◌};
+ghost use Rattle.std.specs.Prelude.{◌≡◌, ◌∷◌, false, IfErr};
 ghost use Rattle.media_script.specs.Gives.{Gives};
-ghost use Rattle.media_script.specs.Grammar.{texts, sources_in, packet_step, write_step, tick_step, deliver_step, foreign_step, app_step, ask_step, remb_step, call_of, step_of, in_few};
+ghost use Rattle.media_script.specs.declared.error.LineError.TheVariants.{Memory};
+ghost use Rattle.media_script.specs.Grammar.{texts, sources_in, packet_step, write_step, tick_step, deliver_step, foreign_step, app_step, ask_step, remb_step, call_of, step_of, is_long, in_few};
 ghost use Rattle.media_script.specs.Spelling.{words_of};
 
 use crate::error::LineError;
@@ -190,7 +191,8 @@ fn step_in(alloc: Global, words: &[&[u8]]) -> Result<Step, LineError>
 
 // The step of a line.
 pub fn step(alloc: Global, line: &[u8]) -> Result<Step, LineError>
-    ensures { Gives (λ s. s) result (in_few step_of (words_of line.now)) }
+    ensures given { Gives (λ s. s) result (in_few step_of (words_of line.now)) }
+    ensures memory { IfErr result (λ e. e ≡ Memory → is_long (words_of line.now) ≡ false) }
 {
     if is_long(line) {
         return Err(LineError::Outside);

@@ -1,11 +1,12 @@
 // What the words of a line say.
-ghost use Rattle.std.specs.Prelude.{◌≡◌, ◌^◌, IsTrue, IfOk, codes};
+ghost use Rattle.std.specs.Prelude.{◌≡◌, ◌^◌, IsTrue, IfOk, IfErr, codes};
 ghost use Rattle.std.specs.Option.{ForSome, option_copied};
 ghost use Rattle.std.specs.Char.{is_ascii_alphanumeric};
 ghost use Rattle.std.specs.List.{list_all};
 ghost use Rattle.media_script.specs.Words.{plain_front, number_of, narrow_of, millis_of, time_of, side_of, flag_of, hex_of, app_data_of, at_most, key_of, rate_of, is_name, name_of, numbers_of, sources_of, type_behind, optional, one_of, in_table, kinds, keyframes, ciphers, profiles, codecs, media_kinds, extensions};
 ghost use Rattle.media_script.specs.Names.{kind_text, keyframe_text, cipher_text, profile_text, codec_text, media_kind_text, extension_text};
 ghost use Rattle.media_script.specs.Gives.{Gives};
+ghost use Rattle.media_script.specs.declared.error.LineError.TheVariants.{Outside};
 
 use crate::error::LineError;
 use hex::FromHexError;
@@ -31,7 +32,8 @@ fn has_plain_front(word: &[u8]) -> bool
 // Digits with no needless zero in front, below 2^64.
 #[tactic(auto, unfolding(crate::specs::Words::number_of))]
 pub fn number(word: &[u8]) -> Result<u64, LineError>
-    ensures { Gives (λ n. n) result (number_of word.now) }
+    ensures value { Gives (λ n. n) result (number_of word.now) }
+    ensures outside { IfErr result (λ e. e ≡ Outside) }
 {
     if !has_plain_front(word) {
         return Err(LineError::Outside);
@@ -54,7 +56,8 @@ pub fn number(word: &[u8]) -> Result<u64, LineError>
 
 #[tactic(auto, unfolding(crate::specs::Words::narrow_of))]
 pub fn number_32(word: &[u8]) -> Result<u32, LineError>
-    ensures { Gives (λ n. n) result (narrow_of (2 ^ 32) word.now) }
+    ensures value { Gives (λ n. n) result (narrow_of (2 ^ 32) word.now) }
+    ensures outside { IfErr result (λ e. e ≡ Outside) }
 {
     let n = number(word)?;
     if n > 0xffff_ffff {
@@ -65,7 +68,8 @@ pub fn number_32(word: &[u8]) -> Result<u32, LineError>
 
 #[tactic(auto, unfolding(crate::specs::Words::narrow_of))]
 pub fn number_8(word: &[u8]) -> Result<u8, LineError>
-    ensures { Gives (λ n. n) result (narrow_of (2 ^ 8) word.now) }
+    ensures value { Gives (λ n. n) result (narrow_of (2 ^ 8) word.now) }
+    ensures outside { IfErr result (λ e. e ≡ Outside) }
 {
     let n = number(word)?;
     if n > 255 {
@@ -77,7 +81,8 @@ pub fn number_8(word: &[u8]) -> Result<u8, LineError>
 // Milliseconds, as nanoseconds below 2^64.
 #[tactic(auto, unfolding(crate::specs::Words::millis_of))]
 pub fn millis(word: &[u8]) -> Result<u64, LineError>
-    ensures { Gives (λ n. n) result (millis_of word.now) }
+    ensures value { Gives (λ n. n) result (millis_of word.now) }
+    ensures outside { IfErr result (λ e. e ≡ Outside) }
 {
     let n = number(word)?;
     match n.checked_mul(1_000_000) {
@@ -89,7 +94,8 @@ pub fn millis(word: &[u8]) -> Result<u64, LineError>
 // Nanoseconds, or milliseconds with ms behind them.
 #[tactic(auto, unfolding(crate::specs::Words::time_of))]
 pub fn time(word: &[u8]) -> Result<u64, LineError>
-    ensures { Gives (λ n. n) result (time_of word.now) }
+    ensures value { Gives (λ n. n) result (time_of word.now) }
+    ensures outside { IfErr result (λ e. e ≡ Outside) }
 {
     match word.strip_suffix(b"ms".as_slice()) {
         Some(digits) => millis(digits),
@@ -99,7 +105,8 @@ pub fn time(word: &[u8]) -> Result<u64, LineError>
 
 #[tactic(auto, unfolding(crate::specs::Words::side_of))]
 pub fn side(word: &[u8]) -> Result<Side, LineError>
-    ensures { Gives (λ s. s) result (side_of word.now) }
+    ensures value { Gives (λ s. s) result (side_of word.now) }
+    ensures outside { IfErr result (λ e. e ≡ Outside) }
 {
     if word == b"A".as_slice() {
         Ok(Side::A)
@@ -112,7 +119,8 @@ pub fn side(word: &[u8]) -> Result<Side, LineError>
 
 #[tactic(auto, unfolding(crate::specs::Words::flag_of))]
 pub fn flag(word: &[u8]) -> Result<bool, LineError>
-    ensures { Gives (λ b. b) result (flag_of word.now) }
+    ensures value { Gives (λ b. b) result (flag_of word.now) }
+    ensures outside { IfErr result (λ e. e ≡ Outside) }
 {
     if word == b"0".as_slice() {
         Ok(false)
@@ -155,7 +163,8 @@ pub fn application_data(alloc: Global, word: &[u8]) -> Result<ApplicationData, L
 // An index of SRTCP, at most 2^31.
 #[tactic(auto, unfolding(crate::specs::Words::at_most))]
 pub fn srtcp_index(word: &[u8]) -> Result<SrtcpIndex, LineError>
-    ensures { Gives (λ i. i) result (at_most SRTCP_INDEX_LIMIT word.now) }
+    ensures value { Gives (λ i. i) result (at_most SRTCP_INDEX_LIMIT word.now) }
+    ensures outside { IfErr result (λ e. e ≡ Outside) }
 {
     match SrtcpIndex::new(number(word)?) {
         Some(index) => Ok(index),
@@ -166,7 +175,8 @@ pub fn srtcp_index(word: &[u8]) -> Result<SrtcpIndex, LineError>
 // The number of a first packet, at most 2^48.
 #[tactic(auto, unfolding(crate::specs::Words::at_most))]
 pub fn first_number(word: &[u8]) -> Result<FirstNumber, LineError>
-    ensures { Gives (λ n. n) result (at_most NUMBER_LIMIT word.now) }
+    ensures value { Gives (λ n. n) result (at_most NUMBER_LIMIT word.now) }
+    ensures outside { IfErr result (λ e. e ≡ Outside) }
 {
     match FirstNumber::new(number(word)?) {
         Some(number) => Ok(number),
@@ -176,7 +186,8 @@ pub fn first_number(word: &[u8]) -> Result<FirstNumber, LineError>
 
 // The value of the word in a table.
 fn one_of<T: Copy>(word: &[u8], table: &[(&str, T)]) -> Result<T, LineError>
-    ensures { Gives (λ x. x) result (in_table (λ s. s.now) table.now word.now) }
+    ensures value { Gives (λ x. x) result (in_table (λ s. s.now) table.now word.now) }
+    ensures outside { IfErr result (λ e. e ≡ Outside) }
 {
     for (text, value) in table {
         if word == text.as_bytes() {
@@ -188,14 +199,16 @@ fn one_of<T: Copy>(word: &[u8], table: &[(&str, T)]) -> Result<T, LineError>
 
 #[tactic(auto, unfolding(crate::specs::Words::one_of))]
 pub fn kind(word: &[u8]) -> Result<Kind, LineError>
-    ensures { Gives (λ k. k) result (one_of kind_text kinds word.now) }
+    ensures value { Gives (λ k. k) result (one_of kind_text kinds word.now) }
+    ensures outside { IfErr result (λ e. e ≡ Outside) }
 {
     one_of(word, &[("rtp", Kind::Rtp), ("rtcp", Kind::Rtcp)])
 }
 
 #[tactic(auto, unfolding(crate::specs::Words::one_of))]
 pub fn keyframe(word: &[u8]) -> Result<KeyframeRequestKind, LineError>
-    ensures { Gives (λ k. k) result (one_of keyframe_text keyframes word.now) }
+    ensures value { Gives (λ k. k) result (one_of keyframe_text keyframes word.now) }
+    ensures outside { IfErr result (λ e. e ≡ Outside) }
 {
     one_of(
         word,
@@ -208,14 +221,16 @@ pub fn keyframe(word: &[u8]) -> Result<KeyframeRequestKind, LineError>
 
 #[tactic(auto, unfolding(crate::specs::Words::one_of))]
 pub fn cipher(word: &[u8]) -> Result<CipherName, LineError>
-    ensures { Gives (λ c. c) result (one_of cipher_text ciphers word.now) }
+    ensures value { Gives (λ c. c) result (one_of cipher_text ciphers word.now) }
+    ensures outside { IfErr result (λ e. e ≡ Outside) }
 {
     one_of(word, &[("toy", CipherName::Toy), ("sha", CipherName::Sha)])
 }
 
 #[tactic(auto, unfolding(crate::specs::Words::one_of))]
 pub fn profile(word: &[u8]) -> Result<SrtpProfile, LineError>
-    ensures { Gives (λ p. p) result (one_of profile_text profiles word.now) }
+    ensures value { Gives (λ p. p) result (one_of profile_text profiles word.now) }
+    ensures outside { IfErr result (λ e. e ≡ Outside) }
 {
     one_of(
         word,
@@ -240,7 +255,8 @@ pub fn key(alloc: Global, word: &[u8]) -> Result<Key, LineError>
 
 #[tactic(auto, unfolding(crate::specs::Words::one_of))]
 pub fn codec(word: &[u8]) -> Result<Codec, LineError>
-    ensures { Gives (λ c. c) result (one_of codec_text codecs word.now) }
+    ensures value { Gives (λ c. c) result (one_of codec_text codecs word.now) }
+    ensures outside { IfErr result (λ e. e ≡ Outside) }
 {
     one_of(
         word,
@@ -261,7 +277,8 @@ pub fn codec(word: &[u8]) -> Result<Codec, LineError>
 
 #[tactic(auto, unfolding(crate::specs::Words::one_of))]
 pub fn media_kind(word: &[u8]) -> Result<MediaKind, LineError>
-    ensures { Gives (λ k. k) result (one_of media_kind_text media_kinds word.now) }
+    ensures value { Gives (λ k. k) result (one_of media_kind_text media_kinds word.now) }
+    ensures outside { IfErr result (λ e. e ≡ Outside) }
 {
     one_of(
         word,
@@ -271,7 +288,8 @@ pub fn media_kind(word: &[u8]) -> Result<MediaKind, LineError>
 
 #[tactic(auto, unfolding(crate::specs::Words::one_of))]
 pub fn extension(word: &[u8]) -> Result<Extension, LineError>
-    ensures { Gives (λ e. e) result (one_of extension_text extensions word.now) }
+    ensures value { Gives (λ e. e) result (one_of extension_text extensions word.now) }
+    ensures outside { IfErr result (λ e. e ≡ Outside) }
 {
     one_of(
         word,
@@ -325,7 +343,8 @@ pub fn sources(alloc: Global, word: &[u8]) -> Result<Vec<u32>, LineError>
 // The payload type behind a name, where the word has that.
 #[tactic(auto, unfolding(crate::specs::Words::type_behind))]
 pub fn type_behind(name: &[u8], word: &[u8]) -> Result<Option<Pt>, LineError>
-    ensures { Gives (λ pt. pt) result (type_behind name.now word.now) }
+    ensures value { Gives (λ pt. pt) result (type_behind name.now word.now) }
+    ensures outside { IfErr result (λ e. e ≡ Outside) }
 {
     match word.strip_prefix(name) {
         Some(digits) => Ok(Some(Pt::from(number_8(digits)?))),
@@ -336,7 +355,8 @@ pub fn type_behind(name: &[u8], word: &[u8]) -> Result<Option<Pt>, LineError>
 // Units of RTP time in a second.
 #[tactic(auto, unfolding(crate::specs::Words::rate_of))]
 pub fn rate(word: &[u8]) -> Result<u32, LineError>
-    ensures { Gives (λ n. n) result (rate_of word.now) }
+    ensures value { Gives (λ n. n) result (rate_of word.now) }
+    ensures outside { IfErr result (λ e. e ≡ Outside) }
 {
     let n = number_32(word)?;
     if n == 0 {
@@ -363,6 +383,7 @@ fn is_plain(word: &[u8]) -> bool
 pub fn name(word: &[u8], most: usize) -> Result<&[u8], LineError>
     ensures value { Gives (λ n. n.now) result (name_of most word.now) }
     ensures name { IfOk result (λ n. IsTrue (is_name most n.now)) }
+    ensures outside { IfErr result (λ e. e ≡ Outside) }
 {
     if !is_name(word, most) {
         return Err(LineError::Outside);
@@ -395,7 +416,8 @@ pub fn rid(name: Option<&[u8]>) -> Option<Rid>
 // A number of 32 bits, or the word for none.
 #[tactic(auto, unfolding(crate::specs::Words::optional))]
 pub fn optional_32(word: &[u8], none: &[u8]) -> Result<Option<u32>, LineError>
-    ensures { Gives (λ n. n) result (optional none.now (narrow_of (2 ^ 32)) word.now) }
+    ensures value { Gives (λ n. n) result (optional none.now (narrow_of (2 ^ 32)) word.now) }
+    ensures outside { IfErr result (λ e. e ≡ Outside) }
 {
     if word == none {
         return Ok(None);
@@ -408,6 +430,7 @@ pub fn optional_32(word: &[u8], none: &[u8]) -> Result<Option<u32>, LineError>
 pub fn optional_name(word: &[u8]) -> Result<Option<&[u8]>, LineError>
     ensures value { Gives (λ n. option_copied n) result (optional (codes "-") (name_of MAX_NAME_LEN) word.now) }
     ensures name { IfOk result (λ n. ForSome n (λ n. IsTrue (is_name MAX_NAME_LEN n.now))) }
+    ensures outside { IfErr result (λ e. e ≡ Outside) }
 {
     if word == b"-".as_slice() {
         return Ok(None);

@@ -1,5 +1,6 @@
 -- Feedback that is heard item by item.
-use Rattle.std.proofs.Common.{◌≡◌, ℕ, List, [], ◌∷◌, ◌++◌, Option, refl, ap, ◌∙◌}
+use Rattle.std.proofs.Common.{◌≡◌, ℕ, List, [], ◌∷◌, ◌++◌, length, take, Option, refl, sym, ap, ◌∙◌, arith}
+use Rattle.std.proofs.lemmas.List.{take_all}
 use Rattle.std.specs.Option.{option_or}
 use Rattle.rtcp_wire.specs.declared.feedback.AppSpecificFeedback.{AppSpecificFeedback}
 use Rattle.rtcp_wire.specs.declared.rtcp_fb.RtcpFb.{RtcpFb}
@@ -11,6 +12,10 @@ use Rattle.stream_core.specs.RxRecord.{RxRecord}
 use Rattle.session_core.specs.News.{NewsRecord, news_heard_by, news_heard}
 use Rattle.session_core.specs.Reports.{rx_heard_by, rx_heard, moments_heard_by, moments_heard}
 use Rattle.session_core.specs.SessionRecord.{SessionState}
+
+-- all items are as many in front
+pub all_taken : (fs : List RtcpFb) → fs ≡ take (length fs) fs
+all_taken fs = sym (take_all (length fs) fs (omega arith))
 
 pub tx_more : (fs : List RtcpFb) (f : RtcpFb) (es : List (ℕ × TxRecord)) → tx_heard (fs ++ f ∷ []) es ≡ tx_heard_by f (tx_heard fs es)
 tx_more [] f es = refl

@@ -8,6 +8,7 @@ use Rattle.rtp_base.specs.declared.nack_entry.NackEntry.{NackEntry}
 use Rattle.rtcp_wire.specs.declared.rtcp_fb.RtcpFb.{RtcpFb}
 use Rattle.rtcp_wire.specs.declared.rtcp_fb.RtcpFb.TheVariants.{ReceptionReport, Goodbye, Nack, Pli, Fir, AppSpecificFeedback, DlrrItem}
 pub use Rattle.rtcp_wire.specs.Streams.{feedback_in}
+use Rattle.report_core.specs.declared.moments.ReceiverMoment.{ReceiverMoment}
 use Rattle.srtp_core.specs.Cipher.{CipherMeaning}
 use Rattle.srtp_core.specs.Contexts.{SrtpState}
 use Rattle.srtp_core.specs.RtcpSeals.{RtcpOpensTo, stated_index, sender_of}
@@ -21,7 +22,7 @@ use Rattle.stream_core.specs.StreamsRecord.{Asked}
 use Rattle.stream_core.specs.Tables.{place_of, each, change_at}
 use Rattle.stream_core.specs.TxRecord.{TxRecord, told_by}
 use Rattle.session_core.specs.declared.datagram.Opened.{Opened}
-use Rattle.session_core.specs.News.{news_heard}
+use Rattle.session_core.specs.News.{NewsRecord, news_heard}
 use Rattle.session_core.specs.Reports.{rx_heard, moments_heard}
 use Rattle.session_core.specs.SessionRecord.{SessionState, SessionRecord}
 
@@ -140,6 +141,20 @@ pub data AsksFront (cipher : CipherMeaning) (opening : Option SrtpState) (bytes 
       → AskedByAll now (take count (feedback_in plain)) before after → AsksFront cipher opening bytes now before after
   asked_all : (plain : List ℕ) (after : List (ℕ × RepairsRecord)) → RtcpOpensIn cipher opening bytes plain
       → AskedByAll now (feedback_in plain) before after → AsksFront cipher opening bytes now before after
+
+-- what is to be told of streams where memory runs out: what it was, or what the items in front of a packet to which the bytes open
+-- make of it
+pub data NewsFront (cipher : CipherMeaning) (opening : Option SrtpState) (bytes : List ℕ) (now : ℕ) (tx : List (ℕ × TxRecord)) (rx : List (ℕ × RxRecord)) (before after : NewsRecord) : Type 0 where
+  no_news_more : after ≡ before → NewsFront cipher opening bytes now tx rx before after
+  news_front : (plain : List ℕ) (count : ℕ) → RtcpOpensIn cipher opening bytes plain → after ≡ news_heard now tx rx (take count (feedback_in plain)) before
+      → NewsFront cipher opening bytes now tx rx before after
+
+-- which moments wait for an answer where memory runs out: those that waited, or what the items in front of a packet to which the
+-- bytes open make of them
+pub data MomentsFront (cipher : CipherMeaning) (opening : Option SrtpState) (bytes : List ℕ) (now : ℕ) (before after : List ReceiverMoment) : Type 0 where
+  no_moments_more : after ≡ before → MomentsFront cipher opening bytes now before after
+  moments_front : (plain : List ℕ) (count : ℕ) → RtcpOpensIn cipher opening bytes plain → after ≡ moments_heard now (take count (feedback_in plain)) before
+      → MomentsFront cipher opening bytes now before after
 
 -- a packet of goodbyes alone (RFC 3550 section 6.6) changes nothing, and asks for nothing
 abbrev pub GoodbyesChangeNothing : Type 0

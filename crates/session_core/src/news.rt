@@ -224,16 +224,19 @@ impl News {
         }
     }
 
-    /// Takes in what feedback asks and tells of streams at a moment, in order. The time grows with
-    /// the items, and with the streams of which something waits.
+    /// Takes in what feedback asks and tells of streams at a moment, in order. Without memory some
+    /// items in front are taken in. The time grows with the items, and with the streams of which
+    /// something waits.
     pub fn hear<W: GapWindow, S: ResendStore<Sent>>(
         &mut self,
         streams: &Streams<W, S>,
         feedback: &[RtcpFb],
         now: Instant,
     ) -> Result<(), AllocError>
-        ensures { OnOk result ((r : StreamsRecord) → StandsFor W.remembers S.stands_for streams.now r
+        ensures ok { OnOk result ((r : StreamsRecord) → StandsFor W.remembers S.stands_for streams.now r
             → self.new ≡ news_heard now r.tx r.rx feedback.now self.old) }
+        ensures err { OnErr result ((r : StreamsRecord) → StandsFor W.remembers S.stands_for streams.now r
+            → (count : ℕ) × (self.new ≡ news_heard now r.tx r.rx (take count feedback.now) self.old)) }
     {
         for item in feedback {
             self.hear_item(streams, item, now)?;

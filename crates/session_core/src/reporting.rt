@@ -1,6 +1,6 @@
 //! What a session reports of the streams that it sends (RFC 3550 section 6.4.1), and what it hears
 //! of reports.
-ghost use Rattle.std.specs.Prelude.{◌≡◌, ◌++◌, ◌<◌, ℕ, List, [], is_some, if◌then◌else◌, length, slice_get, Some, IfOk, OnOk, OnErr};
+ghost use Rattle.std.specs.Prelude.{◌≡◌, ◌++◌, ◌<◌, ℕ, List, [], is_some, if◌then◌else◌, length, slice_get, take, Some, IfOk, OnOk, OnErr};
 ghost use Rattle.std.specs.List.{AllByRecursion};
 ghost use Rattle.std.specs.Map.{values_of};
 ghost use Rattle.std.specs.Option.{option_copied, option_map};
@@ -241,13 +241,15 @@ fn take_moment(item: &RtcpFb, now: Instant, moments: &mut ReceiverMoments) -> Re
     Ok(())
 }
 
-/// Has the moments of receivers wait for an answer that feedback tells, in order.
+/// Has the moments of receivers wait for an answer that feedback tells, in order. Without memory
+/// some items in front are taken in.
 pub fn take_moments(
     feedback: &[RtcpFb],
     now: Instant,
     moments: &mut ReceiverMoments,
 ) -> Result<(), AllocError>
-    ensures { OnOk result (moments.new ≡ moments_heard now feedback.now moments.old) }
+    ensures ok { OnOk result (moments.new ≡ moments_heard now feedback.now moments.old) }
+    ensures err { OnErr result ((count : ℕ) × (moments.new ≡ moments_heard now (take count feedback.now) moments.old)) }
 {
     for item in feedback {
         take_moment(item, now, moments)?;

@@ -1,7 +1,7 @@
 //! What comes to a session: the datagrams of RTP and of RTCP.
 ghost use Rattle.std.specs.Prelude.{◌≡◌, ◌==◌, ◌<◌, ◌↔◌, ◌||◌, ℕ, List, Some, None, true, false, length, drop, is_none, is_some, IfSome, OnOk, is_err, IsTrue, IfOk, IfErr, IfNone, OnErr, IsErrOf};
 ghost use Rattle.rtp_wire.specs.Header.{header_of};
-ghost use Rattle.session_core.specs.Hearing.{ReceivesRtcp, HearsFront, AsksFront};
+ghost use Rattle.session_core.specs.Hearing.{ReceivesRtcp, HearsFront, AsksFront, MomentsFront, NewsFront};
 ghost use Rattle.std.specs.Map.{keys_of};
 ghost use Rattle.std.specs.Option.{ForSome};
 ghost use Rattle.stream_core.specs.Seen.{seen_of};
@@ -463,7 +463,8 @@ impl<C: SrtpCipher, W: GapWindow, S: ResendStore<Sent>> Session<C, W, S> {
     ///
     /// # Errors
     /// `Stopped` where an earlier call stopped the session; `Memory`, and then streams that send
-    /// were asked for nothing and told nothing, or by the items in front.
+    /// were asked for nothing and told nothing, or by the items in front; nor is more to be told of
+    /// streams, nor do other moments wait for an answer, than by those.
     pub fn handle_rtcp_receive(
         &mut self,
         now: Instant,
@@ -484,6 +485,9 @@ impl<C: SrtpCipher, W: GapWindow, S: ResendStore<Sent>> Session<C, W, S> {
         ensures asked { IsErrOf result Memory → (r : SessionRecord) → StandsFor W.remembers S.stands_for self.old r
             → (after : List (ℕ × RepairsRecord)) × AsksFront C.meaning r.state.opening bytes.now now r.repairs after
             × Along (RepairsStandFor S.stands_for) self.new.repairs after }
+        ensures waiting { IsErrOf result Memory → MomentsFront C.meaning self.old.state.opening bytes.now now self.old.state.moments self.new.state.moments }
+        ensures told { IsErrOf result Memory → (r : SessionRecord) → StandsFor W.remembers S.stands_for self.old r
+            → NewsFront C.meaning r.state.opening bytes.now now r.state.tx r.rx r.state.news self.new.state.news }
     {
         if self.stopped {
             return Err(RtcError::Stopped);
@@ -510,6 +514,9 @@ impl<C: SrtpCipher, W: GapWindow, S: ResendStore<Sent>> Session<C, W, S> {
         ensures asked { OnErr result ((r : SessionRecord) → StandsFor W.remembers S.stands_for self.old r
             → (after : List (ℕ × RepairsRecord)) × AsksFront C.meaning r.state.opening bytes.now now r.repairs after
             × Along (RepairsStandFor S.stands_for) self.new.repairs after) }
+        ensures waiting { OnErr result (MomentsFront C.meaning self.old.state.opening bytes.now now self.old.state.moments self.new.state.moments) }
+        ensures told { OnErr result ((r : SessionRecord) → StandsFor W.remembers S.stands_for self.old r
+            → NewsFront C.meaning r.state.opening bytes.now now r.state.tx r.rx r.state.news self.new.state.news) }
     {
         let Some(RtcpOpening { plain, index }) = open_rtcp(&mut self.opening, bytes)? else {
             return Ok(None);

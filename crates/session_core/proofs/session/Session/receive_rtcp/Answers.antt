@@ -1,4 +1,4 @@
-use Rattle.std.proofs.Common.{◌≡◌, ℕ, List, Option, Some, None, take, sym, ap, subst, ◌∙◌}
+use Rattle.std.proofs.Common.{◌≡◌, ℕ, List, Option, Some, None, length, take, sym, ap, subst, ◌∙◌}
 use Rattle.rtp_base.specs.declared.kind.Kind.TheVariants.{Rtcp}
 use Rattle.rtcp_items.specs.declared.extended.DlrrItem.{DlrrItem}
 use Rattle.rtcp_wire.specs.declared.rtcp_fb.RtcpFb.{RtcpFb}
@@ -8,13 +8,13 @@ use Rattle.stream_core.specs.RxRecord.{StandsFor as StreamStandsFor}
 use Rattle.stream_core.specs.StreamsRecord.{StreamsView, StreamsRecord, StandsFor as StreamsStand}
 use Rattle.stream_core.specs.Tables.{Along}
 use Rattle.session_core.specs.declared.datagram.Opened.{Opened}
-use Rattle.session_core.specs.Hearing.{RtcpOpensIn, stated, rtcp_opening_of, feedback_in, tx_heard, last_application, last_delay, measured, ntp_of, after_rtcp, AskedByAll, ReceivesRtcp, opened, stays, HearsFront, unheard, heard_front, AsksFront, unasked, asked_front, asked_all}
+use Rattle.session_core.specs.Hearing.{RtcpOpensIn, stated, rtcp_opening_of, feedback_in, tx_heard, last_application, last_delay, measured, ntp_of, after_rtcp, AskedByAll, ReceivesRtcp, opened, stays, HearsFront, unheard, heard_front, AsksFront, unasked, asked_front, asked_all, MomentsFront, no_moments_more, moments_front, NewsFront, no_news_more, news_front}
 use Rattle.session_core.specs.News.{news_heard}
 use Rattle.session_core.specs.Reports.{rx_heard, moments_heard}
 use Rattle.session_core.specs.SessionRecord.{streams_in, SessionRecord, SessionState, SessionView, StandsFor}
 use Rattle.session_core.proofs.StreamsIn.{streams_stand}
 use Rattle.session_core.proofs.Failing.{on_err_any}
-use Rattle.session_core.proofs.Heard.{heard_state}
+use Rattle.session_core.proofs.Heard.{all_taken, heard_state}
 use Rattle.session_core.proofs.Others.{opening_kept}
 use Rattle.session_core.proofs.session.Session.receive_rtcp.Goals as goal
 
@@ -161,6 +161,131 @@ returns-in_err-tell_all-clause-asked g c =
     (asked.0, asked_all plain asked.0 opens_so (subst (λ (fs : List RtcpFb). AskedByAll c.args.now fs r.repairs asked.0) (c.as_slice-3.ensures.value ∙ heard) asked.1), subst (λ (v : StreamsView g.row.W.Denot g.row.S.Denot). Along (RepairsStandFor g.S.ResendStore.stands_for) v.repairs asked.0) (sym c.in_err-tell_all.ensures.err.1) asked.2.repairs) in
     on_err_any _ front
 
+pub returns-in_err-plain-clause-waiting : goal.returns-in_err-plain-clause-waiting
+returns-in_err-plain-clause-waiting g c = on_err_any c.from_residual.result (no_moments_more (ap (λ (v : SessionView g.row.W.Denot g.row.S.Denot). v.state.moments) c.self.view_is))
+
+pub returns-in_err-feedback-clause-waiting : goal.returns-in_err-feedback-clause-waiting
+returns-in_err-feedback-clause-waiting g c = on_err_any _ (no_moments_more (ap (λ (v : SessionView g.row.W.Denot g.row.S.Denot). v.state.moments) c.self.view_is))
+
+pub returns-in_err-ask_all-clause-waiting : goal.returns-in_err-ask_all-clause-waiting
+returns-in_err-ask_all-clause-waiting g c = on_err_any _ (no_moments_more (ap (λ (v : SessionView g.row.W.Denot g.row.S.Denot). v.state.moments) c.self.view_is))
+
+pub returns-in_err-take_moments-clause-waiting : goal.returns-in_err-take_moments-clause-waiting
+returns-in_err-take_moments-clause-waiting g c =
+    let K = g.C.SrtpCipher.meaning in
+    let bytes = c.args.bytes.now in
+    let now = c.args.now in
+    let plain = c.in-Some.field-0.plain in
+    let opens : RtcpOpensIn K c.self.inside.opening bytes plain = rw c.in-Some.is at c.in_ok-plain.ensures.opened in
+    let heard : c.in_ok-feedback.feedback.items ≡ feedback_in plain = c.in_ok-feedback.ensures ∙ ap feedback_in c.as_slice.ensures in
+    let front = c.in_err-take_moments.ensures.err in
+    let moments : c.take_moments.new.moments ≡ moments_heard now (take front.0 (feedback_in plain)) c.self.inside.moments =
+    front.1 ∙ ap (λ (l : List RtcpFb). moments_heard now (take front.0 l) c.self.inside.moments) (c.as_slice-4.ensures.value ∙ heard) in
+    on_err_any _ (subst (λ (v : SessionView g.row.W.Denot g.row.S.Denot). MomentsFront K v.state.opening bytes now v.state.moments c.take_moments.new.moments) c.self.view_is (moments_front plain front.0 opens moments))
+
+pub returns-in_err-hear-clause-waiting : goal.returns-in_err-hear-clause-waiting
+returns-in_err-hear-clause-waiting g c =
+    let K = g.C.SrtpCipher.meaning in
+    let bytes = c.args.bytes.now in
+    let now = c.args.now in
+    let plain = c.in-Some.field-0.plain in
+    let opens : RtcpOpensIn K c.self.inside.opening bytes plain = rw c.in-Some.is at c.in_ok-plain.ensures.opened in
+    let heard : c.in_ok-feedback.feedback.items ≡ feedback_in plain = c.in_ok-feedback.ensures ∙ ap feedback_in c.as_slice.ensures in
+    let moments : c.take_moments.new.moments ≡ moments_heard now (take (length (feedback_in plain)) (feedback_in plain)) c.self.inside.moments =
+    c.in_ok-take_moments.ensures.ok
+    ∙ ap (λ (l : List RtcpFb). moments_heard now l c.self.inside.moments) (c.as_slice-4.ensures.value ∙ heard ∙ all_taken (feedback_in plain)) in
+    on_err_any _ (subst (λ (v : SessionView g.row.W.Denot g.row.S.Denot). MomentsFront K v.state.opening bytes now v.state.moments c.take_moments.new.moments) c.self.view_is (moments_front plain (length (feedback_in plain)) opens moments))
+
+pub returns-in_err-tell_all-clause-waiting : goal.returns-in_err-tell_all-clause-waiting
+returns-in_err-tell_all-clause-waiting g c =
+    let K = g.C.SrtpCipher.meaning in
+    let bytes = c.args.bytes.now in
+    let now = c.args.now in
+    let plain = c.in-Some.field-0.plain in
+    let opens : RtcpOpensIn K c.self.inside.opening bytes plain = rw c.in-Some.is at c.in_ok-plain.ensures.opened in
+    let heard : c.in_ok-feedback.feedback.items ≡ feedback_in plain = c.in_ok-feedback.ensures ∙ ap feedback_in c.as_slice.ensures in
+    let moments : c.take_moments.new.moments ≡ moments_heard now (take (length (feedback_in plain)) (feedback_in plain)) c.self.inside.moments =
+    c.in_ok-take_moments.ensures.ok
+    ∙ ap (λ (l : List RtcpFb). moments_heard now l c.self.inside.moments) (c.as_slice-4.ensures.value ∙ heard ∙ all_taken (feedback_in plain)) in
+    on_err_any _ (subst (λ (v : SessionView g.row.W.Denot g.row.S.Denot). MomentsFront K v.state.opening bytes now v.state.moments c.take_moments.new.moments) c.self.view_is (moments_front plain (length (feedback_in plain)) opens moments))
+
+pub returns-in_err-plain-clause-told : goal.returns-in_err-plain-clause-told
+returns-in_err-plain-clause-told g c =
+    let front : (r : SessionRecord) → StandsFor g.W.GapWindow.remembers g.S.ResendStore.stands_for c.args.self.now r
+    → NewsFront g.C.SrtpCipher.meaning r.state.opening c.args.bytes.now c.args.now r.state.tx r.rx r.state.news c.self.inside.news =
+    λ r h.
+    let mine = subst (λ s. StandsFor g.W.GapWindow.remembers g.S.ResendStore.stands_for s r) (sym c.self.view_is) h in
+    no_news_more (ap (λ (s : SessionState). s.news) mine.state) in
+    on_err_any c.from_residual.result front
+
+pub returns-in_err-feedback-clause-told : goal.returns-in_err-feedback-clause-told
+returns-in_err-feedback-clause-told g c =
+    let front : (r : SessionRecord) → StandsFor g.W.GapWindow.remembers g.S.ResendStore.stands_for c.args.self.now r
+    → NewsFront g.C.SrtpCipher.meaning r.state.opening c.args.bytes.now c.args.now r.state.tx r.rx r.state.news c.self.inside.news =
+    λ r h.
+    let mine = subst (λ s. StandsFor g.W.GapWindow.remembers g.S.ResendStore.stands_for s r) (sym c.self.view_is) h in
+    no_news_more (ap (λ (s : SessionState). s.news) mine.state) in
+    on_err_any _ front
+
+pub returns-in_err-ask_all-clause-told : goal.returns-in_err-ask_all-clause-told
+returns-in_err-ask_all-clause-told g c =
+    let front : (r : SessionRecord) → StandsFor g.W.GapWindow.remembers g.S.ResendStore.stands_for c.args.self.now r
+    → NewsFront g.C.SrtpCipher.meaning r.state.opening c.args.bytes.now c.args.now r.state.tx r.rx r.state.news c.self.inside.news =
+    λ r h.
+    let mine = subst (λ s. StandsFor g.W.GapWindow.remembers g.S.ResendStore.stands_for s r) (sym c.self.view_is) h in
+    no_news_more (ap (λ (s : SessionState). s.news) mine.state) in
+    on_err_any _ front
+
+pub returns-in_err-take_moments-clause-told : goal.returns-in_err-take_moments-clause-told
+returns-in_err-take_moments-clause-told g c =
+    let front : (r : SessionRecord) → StandsFor g.W.GapWindow.remembers g.S.ResendStore.stands_for c.args.self.now r
+    → NewsFront g.C.SrtpCipher.meaning r.state.opening c.args.bytes.now c.args.now r.state.tx r.rx r.state.news c.self.inside.news =
+    λ r h.
+    let mine = subst (λ s. StandsFor g.W.GapWindow.remembers g.S.ResendStore.stands_for s r) (sym c.self.view_is) h in
+    no_news_more (ap (λ (s : SessionState). s.news) mine.state) in
+    on_err_any _ front
+
+pub returns-in_err-hear-clause-told : goal.returns-in_err-hear-clause-told
+returns-in_err-hear-clause-told g c =
+    let front : (r : SessionRecord) → StandsFor g.W.GapWindow.remembers g.S.ResendStore.stands_for c.args.self.now r
+    → NewsFront g.C.SrtpCipher.meaning r.state.opening c.args.bytes.now c.args.now r.state.tx r.rx r.state.news c.hear.new.self =
+    λ r h.
+    let mine = subst (λ s. StandsFor g.W.GapWindow.remembers g.S.ResendStore.stands_for s r) (sym c.self.view_is) h in
+    let K = g.C.SrtpCipher.meaning in
+    let bytes = c.args.bytes.now in
+    let now = c.args.now in
+    let plain = c.in-Some.field-0.plain in
+    let opens : RtcpOpensIn K c.self.inside.opening bytes plain = rw c.in-Some.is at c.in_ok-plain.ensures.opened in
+    let opens_so : RtcpOpensIn K r.state.opening bytes plain = subst (λ (s : SessionState). RtcpOpensIn K s.opening bytes plain) mine.state opens in
+    let heard : c.in_ok-feedback.feedback.items ≡ feedback_in plain = c.in_ok-feedback.ensures ∙ ap feedback_in c.as_slice.ensures in
+    let asked = c.in_ok-ask_all.ensures.ok (streams_in r) (streams_stand g.W.GapWindow.remembers g.S.ResendStore.stands_for _ r mine) in
+    let some = c.in_err-hear.ensures.err (record (streams_in r) { repairs = asked.0 }) asked.2 in
+    news_front plain some.0 opens_so
+    (some.1
+    ∙ ap (λ (l : List RtcpFb). news_heard now r.state.tx r.rx (take some.0 l) c.self.inside.news) (c.as_slice-5.ensures.value ∙ heard)
+    ∙ ap (λ (s : SessionState). news_heard now r.state.tx r.rx (take some.0 (feedback_in plain)) s.news) mine.state) in
+    on_err_any _ front
+
+pub returns-in_err-tell_all-clause-told : goal.returns-in_err-tell_all-clause-told
+returns-in_err-tell_all-clause-told g c =
+    let front : (r : SessionRecord) → StandsFor g.W.GapWindow.remembers g.S.ResendStore.stands_for c.args.self.now r
+    → NewsFront g.C.SrtpCipher.meaning r.state.opening c.args.bytes.now c.args.now r.state.tx r.rx r.state.news c.hear.new.self =
+    λ r h.
+    let mine = subst (λ s. StandsFor g.W.GapWindow.remembers g.S.ResendStore.stands_for s r) (sym c.self.view_is) h in
+    let K = g.C.SrtpCipher.meaning in
+    let bytes = c.args.bytes.now in
+    let now = c.args.now in
+    let plain = c.in-Some.field-0.plain in
+    let opens : RtcpOpensIn K c.self.inside.opening bytes plain = rw c.in-Some.is at c.in_ok-plain.ensures.opened in
+    let opens_so : RtcpOpensIn K r.state.opening bytes plain = subst (λ (s : SessionState). RtcpOpensIn K s.opening bytes plain) mine.state opens in
+    let heard : c.in_ok-feedback.feedback.items ≡ feedback_in plain = c.in_ok-feedback.ensures ∙ ap feedback_in c.as_slice.ensures in
+    let asked = c.in_ok-ask_all.ensures.ok (streams_in r) (streams_stand g.W.GapWindow.remembers g.S.ResendStore.stands_for _ r mine) in
+    news_front plain (length (feedback_in plain)) opens_so
+    (c.in_ok-hear.ensures.ok (record (streams_in r) { repairs = asked.0 }) asked.2
+    ∙ ap (λ (l : List RtcpFb). news_heard now r.state.tx r.rx l c.self.inside.news) (c.as_slice-5.ensures.value ∙ heard ∙ all_taken (feedback_in plain))
+    ∙ ap (λ (s : SessionState). news_heard now r.state.tx r.rx (take (length (feedback_in plain)) (feedback_in plain)) s.news) mine.state) in
+    on_err_any _ front
+
 pub returns-clause-received : goal.returns-clause-received
 returns-clause-received g c = λ r h.
     let K = g.C.SrtpCipher.meaning in
@@ -191,9 +316,9 @@ returns-clause-received g c = λ r h.
     let known = c.measure.ensures.streams between told_so in
     let reported = c.hear-2.ensures.streams (record between { rx = measured c.to_ntp_duration-ntp.result c.last_delay-delay.result r.rx }) known in
     let moments : c.take_moments.new.moments ≡ moments_heard now (feedback_in plain) c.self.inside.moments =
-    c.in_ok-take_moments.ensures ∙ ap (λ (fs : List RtcpFb). moments_heard now fs c.self.inside.moments) (c.as_slice-4.ensures.value ∙ heard) in
+    c.in_ok-take_moments.ensures.ok ∙ ap (λ (fs : List RtcpFb). moments_heard now fs c.self.inside.moments) (c.as_slice-4.ensures.value ∙ heard) in
     let news : c.hear.new.self ≡ news_heard now c.self.inside.streams.tx r.rx (feedback_in plain) c.self.inside.news =
-    c.in_ok-hear.ensures (record (streams_in r) { repairs = asked.0 }) asked.2
+    c.in_ok-hear.ensures.ok (record (streams_in r) { repairs = asked.0 }) asked.2
     ∙ ap (λ (fs : List RtcpFb). news_heard now r.state.tx r.rx fs c.self.inside.news) (c.as_slice-5.ensures.value ∙ heard)
     ∙ ap (λ (s : SessionState). news_heard now s.tx r.rx (feedback_in plain) c.self.inside.news) (sym mine.state) in
     let threshold : c.hear-2.new.streams.threshold ≡ c.self.inside.streams.threshold =
