@@ -57,3 +57,8 @@ on_err_any (Err e) p = p
 pub on_ok_then : {T E : Type 0} (r : Result T E) {P Q : Type 0} → OnOk r P → (P → Q) → OnOk r Q
 on_ok_then (Ok x) p f = f p
 on_ok_then (Err e) p f = tt
+
+-- and what follows from what holds of one that is
+pub on_err_map : {T E : Type 0} (r : Result T E) (P Q : Type 0) → (P → Q) → OnErr r P → OnErr r Q
+on_err_map (Ok x) P Q f p = tt
+on_err_map (Err e) P Q f p = f p

@@ -66,6 +66,8 @@ impl<C: SrtpCipher, W: GapWindow, S: ResendStore<Sent>> Session<C, W, S> {
         ensures unchanged { IsErrOf result Stopped → self.new ≡ self.old }
         ensures memory { self.old.state.stopped ≡ false → IfErr result (λ e. e ≡ Memory) }
         ensures failed { IsErrOf result Memory → self.new ≡ record self.old { state = stopped_from self.old.state; rx = self.new.rx; known = self.new.known; probes = self.new.probes; seen = self.new.seen } }
+        ensures stands { IsErrOf result Memory → (r : SessionRecord) → StandsFor W.remembers S.stands_for self.old r
+            → (after : SessionRecord) × StandsFor W.remembers S.stands_for self.new after }
     {
         if self.stopped {
             return Err(RtcError::Stopped);
@@ -85,6 +87,8 @@ impl<C: SrtpCipher, W: GapWindow, S: ResendStore<Sent>> Session<C, W, S> {
         ensures unopened { IfOk result (λ opened. IfNone opened (self.new ≡ self.old)) }
         ensures runs { self.new.state.stopped ≡ self.old.state.stopped }
         ensures err { OnErr result (self.new ≡ record self.old { rx = self.new.rx; known = self.new.known; probes = self.new.probes; seen = self.new.seen }) }
+        ensures stands { OnErr result ((r : SessionRecord) → StandsFor W.remembers S.stands_for self.old r
+            → (after : SessionRecord) × StandsFor W.remembers S.stands_for self.new after) }
     {
         let read = RtpHeader::parse(bytes, &self.transport.exts);
         let Some(header) = &read else {
@@ -124,6 +128,9 @@ impl<C: SrtpCipher, W: GapWindow, S: ResendStore<Sent>> Session<C, W, S> {
         ensures unopened { IfOk result (λ opened. IfNone opened (self.new ≡ self.old)) }
         ensures runs { self.new.state.stopped ≡ self.old.state.stopped }
         ensures err { OnErr result (self.new ≡ record self.old { rx = self.new.rx; known = self.new.known; probes = self.new.probes; seen = self.new.seen }) }
+        ensures stands { OnErr result ((r : SessionRecord) → StandsFor W.remembers S.stands_for self.old r
+            → is_standing header.now.ssrc r.rx r.known.originals ≡ false → mapping.now ≡ mapped_in header.now r
+            → (after : SessionRecord) × StandsFor W.remembers S.stands_for self.new after) }
     {
         let Some(found) = first_opening(&self.types, &self.streams, &self.seen, header, mapping)
         else {
@@ -174,6 +181,9 @@ impl<C: SrtpCipher, W: GapWindow, S: ResendStore<Sent>> Session<C, W, S> {
             → StandsFor W.remembers S.stands_for self.new (after_repaired now header.now original number p r)) }
         ensures runs { self.new.state.stopped ≡ self.old.state.stopped }
         ensures err { OnErr result (self.new ≡ record self.old { rx = self.new.rx; probes = self.new.probes; seen = self.new.seen }) }
+        ensures stands { OnErr result ((r : SessionRecord) → StandsFor W.remembers S.stands_for self.old r → (header.now.ssrc == 0) ≡ false
+            → (repaired_by r.state.types r.rx r.known.originals header.now ≡ None → is_some (place_of header.now.ssrc r.rx) ≡ true)
+            → (after : SessionRecord) × StandsFor W.remembers S.stands_for self.new after) }
     {
         match repaired_by(&self.types, &self.streams, header) {
             Some(found) => {
@@ -242,6 +252,8 @@ impl<C: SrtpCipher, W: GapWindow, S: ResendStore<Sent>> Session<C, W, S> {
         ensures unopened { IfOk result (λ opened. IfNone opened (self.new ≡ self.old)) }
         ensures runs { self.new.state.stopped ≡ self.old.state.stopped }
         ensures err { OnErr result (self.new ≡ record self.old { rx = self.new.rx; probes = self.new.probes; seen = self.new.seen }) }
+        ensures stands { OnErr result ((r : SessionRecord) → StandsFor W.remembers S.stands_for self.old r
+            → (after : SessionRecord) × StandsFor W.remembers S.stands_for self.new after) }
     {
         if let Some(found) = repaired_by(&self.types, &self.streams, header) {
             return self.receive_repair(now, bytes, header, found.0, found.1);
@@ -271,6 +283,9 @@ impl<C: SrtpCipher, W: GapWindow, S: ResendStore<Sent>> Session<C, W, S> {
             → StandsFor W.remembers S.stands_for self.new (after_opened now header.now number p r)) }
         ensures runs { self.new.state.stopped ≡ self.old.state.stopped }
         ensures err { OnErr result (self.new ≡ record self.old { rx = self.new.rx; probes = self.new.probes; seen = self.new.seen }) }
+        ensures stands { OnErr result ((r : SessionRecord) → StandsFor W.remembers S.stands_for self.old r → is_none place ≡ (header.now.ssrc == 0)
+            → IfSome place (λ i. place_of header.now.ssrc self.old.rx ≡ Some i)
+            → (after : SessionRecord) × StandsFor W.remembers S.stands_for self.new after) }
     {
         let came = arrival(&self.types, now, header, payload.len());
         let time = taken_time(place, &came, &self.streams);
@@ -302,6 +317,7 @@ impl<C: SrtpCipher, W: GapWindow, S: ResendStore<Sent>> Session<C, W, S> {
         ensures places { OnOk result (keys_of self.new.rx ≡ keys_of self.old.rx) }
         ensures runs { self.new.state.stopped ≡ self.old.state.stopped }
         ensures others { self.new ≡ record self.old { rx = self.new.rx; probes = self.new.probes; seen = self.new.seen } }
+        ensures err { OnErr result (self.new ≡ self.old) }
     {
         let under = header.ssrc;
         let greatest = self.seen.get(under);
@@ -326,6 +342,8 @@ impl<C: SrtpCipher, W: GapWindow, S: ResendStore<Sent>> Session<C, W, S> {
             → StandsFor W.remembers S.stands_for self.new (after_original now header.now original low payload r)) }
         ensures runs { self.new.state.stopped ≡ self.old.state.stopped }
         ensures err { OnErr result (self.new ≡ record self.old { rx = self.new.rx; probes = self.new.probes; seen = self.new.seen }) }
+        ensures stands { OnErr result ((r : SessionRecord) → StandsFor W.remembers S.stands_for self.old r → place_of original self.old.rx ≡ Some place
+            → (after : SessionRecord) × StandsFor W.remembers S.stands_for self.new after) }
     {
         let greatest = self.seen.get(original);
         let number = self.streams.restored_number_at(place, low, &greatest);
@@ -362,6 +380,8 @@ impl<C: SrtpCipher, W: GapWindow, S: ResendStore<Sent>> Session<C, W, S> {
             → StandsFor W.remembers S.stands_for self.new (after_restoring now header.now original low payload r)) }
         ensures runs { self.new.state.stopped ≡ self.old.state.stopped }
         ensures err { OnErr result (self.new ≡ record self.old { rx = self.new.rx; probes = self.new.probes; seen = self.new.seen }) }
+        ensures stands { OnErr result ((r : SessionRecord) → StandsFor W.remembers S.stands_for self.old r → place_of original self.old.rx ≡ Some place
+            → (after : SessionRecord) × StandsFor W.remembers S.stands_for self.new after) }
     {
         let Some(low) = low else {
             return Ok(());
@@ -386,6 +406,8 @@ impl<C: SrtpCipher, W: GapWindow, S: ResendStore<Sent>> Session<C, W, S> {
         ensures unopened { IfOk result (λ opened. IfNone opened (self.new ≡ self.old)) }
         ensures runs { self.new.state.stopped ≡ self.old.state.stopped }
         ensures err { OnErr result (self.new ≡ record self.old { rx = self.new.rx; probes = self.new.probes; seen = self.new.seen }) }
+        ensures stands { OnErr result ((r : SessionRecord) → StandsFor W.remembers S.stands_for self.old r → place_of original self.old.rx ≡ Some place
+            → (after : SessionRecord) × StandsFor W.remembers S.stands_for self.new after) }
     {
         let Some(number) = accepts_repair(header, place, &self.seen, &self.streams) else {
             return Ok(None);
@@ -422,6 +444,8 @@ impl<C: SrtpCipher, W: GapWindow, S: ResendStore<Sent>> Session<C, W, S> {
         ensures unopened { IfOk result (λ opened. IfNone opened (self.new ≡ self.old)) }
         ensures runs { self.new.state.stopped ≡ self.old.state.stopped }
         ensures err { OnErr result (self.new ≡ record self.old { rx = self.new.rx; probes = self.new.probes; seen = self.new.seen }) }
+        ensures stands { OnErr result ((r : SessionRecord) → StandsFor W.remembers S.stands_for self.old r
+            → (after : SessionRecord) × StandsFor W.remembers S.stands_for self.new after) }
     {
         let remembered = self.seen.get(header.ssrc);
         let Some(found) = accepts(

@@ -18,6 +18,10 @@ use Rattle.session_core.proofs.Openings.{strange, has_place}
 use Rattle.session_core.proofs.Others.{opening_kept, mapped_state}
 use Rattle.session_core.proofs.StreamsIn.{streams_stand}
 use Rattle.session_core.proofs.Taking.{strange_mapped, stays_closed, no_packet, no_repair, sealed_packet, sealed_repair, number_of_repair, number_of_packet}
+use Rattle.stream_core.specs.RxRecord.{StandsFor as StreamStandsFor}
+use Rattle.stream_core.specs.StreamsRecord.{StreamsView}
+use Rattle.session_core.specs.Mapping.{is_standing, mapped_in}
+use Rattle.session_core.proofs.Failing.{on_err_any}
 use Rattle.session_core.proofs.session.Session.receive_mapped.Goals as goal
 
 -- a datagram that opened, as a packet or as a repair
@@ -135,3 +139,73 @@ returns-clause-received g c = λ r h reads away mapped somewhere.
     (λ p plain some cuts. c.in_ok-take_in.ensures.packet u p stands plain (strange x r away).nonzero some cuts)
     (λ p original repairs low cuts. c.in_ok-take_in.ensures.repair u p original stands repairs low cuts) in
     ends (repaired_by u.state.types u.rx u.known.originals x) refl
+
+pub returns-in_err-opening-clause-stands : goal.returns-in_err-opening-clause-stands
+returns-in_err-opening-clause-stands g c =
+    let R = g.W.GapWindow.remembers in
+    let S = g.S.ResendStore.stands_for in
+    let front : (r : SessionRecord) → StandsFor R S c.args.self.now r → is_standing c.args.header.now.ssrc r.rx r.known.originals ≡ false → c.args.mapping.now ≡ mapped_in c.args.header.now r
+    → (after : SessionRecord) × StandsFor R S _ after =
+    λ r h away mapped.
+    let mine = subst (λ s. StandsFor R S s r) (sym c.self.view_is) h in
+    let kept : StandsFor R S _ r = record {
+      state = opening_kept _ r.state c.open.new.opening mine.state c.open.ensures.same;
+      rx = mine.rx;
+      known = mine.known;
+      probes = mine.probes;
+      seen = mine.seen;
+      repairs = mine.repairs;
+    } in
+    (r, kept) in
+    on_err_any _ front
+
+pub returns-in_err-take_up-clause-stands : goal.returns-in_err-take_up-clause-stands
+returns-in_err-take_up-clause-stands g c =
+    let R = g.W.GapWindow.remembers in
+    let S = g.S.ResendStore.stands_for in
+    let front : (r : SessionRecord) → StandsFor R S c.args.self.now r → is_standing c.args.header.now.ssrc r.rx r.known.originals ≡ false → c.args.mapping.now ≡ mapped_in c.args.header.now r
+    → (after : SessionRecord) × StandsFor R S _ after =
+    λ r h away mapped.
+    let mine = subst (λ s. StandsFor R S s r) (sym c.self.view_is) h in
+    let same = c.in_err-take_up.ensures.err in (
+      r,
+      record {
+        state = mapped_state _ r.state c.take_up.new.self.threshold c.open.new.opening c.take_up.new.self.tx mine.state c.in_err-take_up.ensures.threshold c.open.ensures.same c.in_err-take_up.ensures.tx;
+        rx = subst (λ (v : StreamsView g.row.W.Denot g.row.S.Denot). Along (StreamStandsFor R) v.rx r.rx) (sym same) mine.rx;
+        known = ap (λ (v : StreamsView g.row.W.Denot g.row.S.Denot). v.known) same ∙ mine.known;
+        probes = mine.probes;
+        seen = mine.seen;
+        repairs = subst (λ l. Along (RepairsStandFor S) l r.repairs) (sym c.in_err-take_up.ensures.repairs) mine.repairs;
+      },
+    ) in
+    on_err_any _ front
+
+pub returns-in_err-take_in-clause-stands : goal.returns-in_err-take_in-clause-stands
+returns-in_err-take_in-clause-stands g c =
+    let R = g.W.GapWindow.remembers in
+    let S = g.S.ResendStore.stands_for in
+    let front : (r : SessionRecord) → StandsFor R S c.args.self.now r → is_standing c.args.header.now.ssrc r.rx r.known.originals ≡ false → c.args.mapping.now ≡ mapped_in c.args.header.now r
+    → (after : SessionRecord) × StandsFor R S _ after =
+    λ r h away mapped.
+    let mine = subst (λ s. StandsFor R S s r) (sym c.self.view_is) h in
+    let x = c.args.header.now in
+    let n = c.in-Some.found.0 in
+    let b = c.in-Some.found.1 in
+    let is = strange_mapped x r away in
+    let u : SessionRecord = taken_up_for x r in
+    let one : opening_number x u ≡ Some (n, b) =
+    ap (λ (m : Mapping). opening_number x (with_incoming (taken_up x.ssrc m (streams_in r)) r)) (is ∙ sym mapped)
+    ∙ sym (c.in-Some.ensures.number r (streams_stand R S _ r mine) mine.seen (ap (λ (s : SessionState). s.types) mine.state) away mapped) in
+    let up : StreamsStand R S c.take_up.new.self (taken_up x.ssrc (mapping_for x r) (streams_in r)) =
+    subst (λ (m : Mapping). StreamsStand R S c.take_up.new.self (taken_up x.ssrc m (streams_in r))) (mapped ∙ sym is) (c.in_ok-take_up.ensures.ok (streams_in r) (streams_stand R S _ r mine)) in
+    let stands : StandsFor R S _ u = record {
+      state = mapped_state _ r.state c.take_up.new.self.threshold c.open.new.opening c.take_up.new.self.tx mine.state c.in_ok-take_up.ensures.threshold c.open.ensures.same c.in_ok-take_up.ensures.tx;
+      rx = up.rx;
+      known = up.known;
+      probes = mine.probes;
+      seen = mine.seen;
+      repairs = subst (λ l. Along (RepairsStandFor S) l r.repairs) (sym c.in_ok-take_up.ensures.repairs) mine.repairs;
+    } in
+    let nonzero = (strange x r away).nonzero in
+    c.in_err-take_in.ensures.stands u stands nonzero (λ none. has_place u x nonzero n (number_of_packet u x n b one none).1) in
+    on_err_any _ front

@@ -4,11 +4,12 @@ use Rattle.rtp_base.specs.declared.kind.Kind.TheVariants.{Rtp}
 use Rattle.stream_core.specs.Tables.{place_of, value_under}
 use Rattle.session_core.specs.Receiving.{Unpads, OpensIn, IsOpening, Takes, cut, takes_repair, takes_nothing, after_repair, after_restoring, after_repaired}
 use Rattle.session_core.specs.Repairs.{repair_accepted}
-use Rattle.session_core.specs.SessionRecord.{streams_in, SessionState, SessionView, StandsFor}
+use Rattle.session_core.specs.SessionRecord.{streams_in, SessionRecord, SessionState, SessionView, StandsFor}
 use Rattle.session_core.proofs.Others.{opening_kept}
 use Rattle.session_core.proofs.Staying.{repair_only, repair_unaccepted, repair_sealed}
 use Rattle.session_core.proofs.StreamsIn.{streams_stand}
 use Rattle.session_core.proofs.Tables.{length_keys}
+use Rattle.session_core.proofs.Failing.{on_err_any}
 use Rattle.session_core.proofs.session.Session.receive_repair.Goals as goal
 
 pub restore_packet-requires : goal.restore_packet-requires
@@ -90,3 +91,63 @@ returns-clause-received g c = λ r h reads repairs place.
       subst (λ l. StandsFor R S c.restore_packet.new.self (after_restoring now x original l (drop 2 (cut x o.payload)) (after_repair now x original n r))) o.number
           (subst (λ p. StandsFor R S c.restore_packet.new.self (after_restoring now x original c.in-Some-2.opening.original p (after_repair now x original n r))) o.cuts done),
     )
+
+pub returns-in_err-opening-clause-stands : goal.returns-in_err-opening-clause-stands
+returns-in_err-opening-clause-stands g c =
+    let R = g.W.GapWindow.remembers in
+    let S = g.S.ResendStore.stands_for in
+    let front : (r : SessionRecord) → StandsFor R S c.args.self.now r → place_of c.args.original c.args.self.now.rx ≡ Some c.args.place
+    → (after : SessionRecord) × StandsFor R S _ after =
+    λ r h place.
+    let mine = subst (λ s. StandsFor R S s r) (sym c.self.view_is) h in
+    let kept : StandsFor R S _ r = record {
+      state = opening_kept _ r.state c.open.new.opening mine.state c.open.ensures.same;
+      rx = mine.rx;
+      known = mine.known;
+      probes = mine.probes;
+      seen = mine.seen;
+      repairs = mine.repairs;
+    } in
+    (r, kept) in
+    on_err_any _ front
+
+pub returns-in_err-take_repair-clause-stands : goal.returns-in_err-take_repair-clause-stands
+returns-in_err-take_repair-clause-stands g c =
+    let R = g.W.GapWindow.remembers in
+    let S = g.S.ResendStore.stands_for in
+    let front : (r : SessionRecord) → StandsFor R S c.args.self.now r → place_of c.args.original c.args.self.now.rx ≡ Some c.args.place
+    → (after : SessionRecord) × StandsFor R S _ after =
+    λ r h place.
+    let mine = subst (λ s. StandsFor R S s r) (sym c.self.view_is) h in
+    let kept : StandsFor R S _ r = record {
+      state = opening_kept _ r.state c.open.new.opening mine.state c.open.ensures.same;
+      rx = mine.rx;
+      known = mine.known;
+      probes = mine.probes;
+      seen = mine.seen;
+      repairs = mine.repairs;
+    } in
+    (r, subst (λ (v : SessionView g.row.W.Denot g.row.S.Denot). StandsFor R S v r) (sym c.in_err-take_repair.ensures.err) kept) in
+    on_err_any _ front
+
+pub returns-in_err-restore_packet-clause-stands : goal.returns-in_err-restore_packet-clause-stands
+returns-in_err-restore_packet-clause-stands g c =
+    let R = g.W.GapWindow.remembers in
+    let S = g.S.ResendStore.stands_for in
+    let front : (r : SessionRecord) → StandsFor R S c.args.self.now r → place_of c.args.original c.args.self.now.rx ≡ Some c.args.place
+    → (after : SessionRecord) × StandsFor R S _ after =
+    λ r h place.
+    let mine = subst (λ s. StandsFor R S s r) (sym c.self.view_is) h in
+    let kept : StandsFor R S _ r = record {
+      state = opening_kept _ r.state c.open.new.opening mine.state c.open.ensures.same;
+      rx = mine.rx;
+      known = mine.known;
+      probes = mine.probes;
+      seen = mine.seen;
+      repairs = mine.repairs;
+    } in
+    let original = c.args.original in
+    let here = ap (λ (v : SessionView g.row.W.Denot g.row.S.Denot). place_of original v.rx) c.self.view_is ∙ place in
+    let there : place_of original c.take_repair.new.self.rx ≡ Some c.args.place = ap (position (nat_eq original)) c.in_ok-take_repair.ensures.places ∙ here in
+    c.in_err-restore_packet.ensures.stands (after_repair c.args.now c.args.header.now original c.in-Some.number r) (c.in_ok-take_repair.ensures.ok r original kept here) there in
+    on_err_any _ front

@@ -14,6 +14,7 @@ use Rattle.session_core.specs.Receiving.{Takes, is_claimed, takes_nothing}
 use Rattle.session_core.specs.Repairs.{repaired_by}
 use Rattle.session_core.proofs.Staying.{stays_unclaimed, packet_only}
 use Rattle.session_core.proofs.StreamsIn.{streams_stand}
+use Rattle.session_core.proofs.Failing.{on_err_map}
 use Rattle.session_core.proofs.session.Session.receive_standing.Goals as goal
 
 -- a call that needs three facts of a session that hold of this one
@@ -71,3 +72,9 @@ returns-clause-received g c =
     ∙ sym (c.repaired_by.ensures.original (streams_in r) (streams_stand R S _ r mine)) ∙ ap (option_map (λ f. f.0)) c.in_default.is in
     let claimed : is_claimed r.state.types x ≡ true = ap (λ (s : SessionState). is_claimed s.types x) (sym mine.state) ∙ sym c.is_claimed.ensures ∙ c.if-not-is_claimed.false in
     (plain, claimed))
+
+pub returns-in-Some-clause-stands : goal.returns-in-Some-clause-stands
+returns-in-Some-clause-stands g c =
+    let there : place_of c.in-Some.found.0 c.args.self.now.rx ≡ Some c.in-Some.found.1 =
+    ap (λ (v : SessionView g.row.W.Denot g.row.S.Denot). place_of c.in-Some.found.0 v.rx) (sym c.self.view_is) ∙ c.in-Some.ensures.place in
+    on_err_map c.receive_repair.result _ _ (λ stands r h. stands r h there) c.receive_repair.ensures.stands

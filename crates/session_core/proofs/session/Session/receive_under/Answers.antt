@@ -1,11 +1,12 @@
 use Rattle.std.proofs.Common.{◌≡◌, ℕ, false, List, Some, None, sym, ap, subst, ◌∙◌}
 use Rattle.rtp_base.specs.declared.kind.Kind.TheVariants.{Rtp}
-use Rattle.session_core.specs.SessionRecord.{streams_in, SessionState, StandsFor}
+use Rattle.session_core.specs.SessionRecord.{streams_in, SessionRecord, SessionState, StandsFor}
 use Rattle.session_core.proofs.StreamsIn.{streams_stand}
 use Rattle.session_core.specs.Receiving.{Unpads, OpensIn, IsOpening, Takes, number_of, after_opened, takes_packet, takes_nothing}
 use Rattle.stream_core.specs.Seen.{seen_of}
 use Rattle.session_core.proofs.Others.{opening_kept}
 use Rattle.session_core.proofs.Staying.{stays_unaccepted, stays_sealed, packet_only}
+use Rattle.session_core.proofs.Failing.{on_err_any}
 use Rattle.session_core.proofs.session.Session.receive_under.Goals as goal
 
 pub returns-in_default-clause-received : goal.returns-in_default-clause-received
@@ -67,3 +68,39 @@ returns-clause-received g c = λ r h reads plain claimed.
           (takes_packet x n o.payload (record { reads = reads; original = plain; claimed = claimed; accepts = number; opens = opens; unpads = o.unpads })),
       c.in_ok-take_packet.ensures.ok r o.payload kept memory c.in-Some.ensures.probe c.in-Some.ensures.place o.cuts,
     )
+
+pub returns-in_err-opening-clause-stands : goal.returns-in_err-opening-clause-stands
+returns-in_err-opening-clause-stands g c =
+    let R = g.W.GapWindow.remembers in
+    let S = g.S.ResendStore.stands_for in
+    let front : (r : SessionRecord) → StandsFor R S c.args.self.now r → (after : SessionRecord) × StandsFor R S _ after =
+    λ r h.
+    let mine = subst (λ s. StandsFor R S s r) (sym c.self.view_is) h in
+    let kept : StandsFor R S _ r = record {
+      state = opening_kept _ r.state c.open.new.opening mine.state c.open.ensures.same;
+      rx = mine.rx;
+      known = mine.known;
+      probes = mine.probes;
+      seen = mine.seen;
+      repairs = mine.repairs;
+    } in
+    (r, kept) in
+    on_err_any _ front
+
+pub returns-in_err-take_packet-clause-stands : goal.returns-in_err-take_packet-clause-stands
+returns-in_err-take_packet-clause-stands g c =
+    let R = g.W.GapWindow.remembers in
+    let S = g.S.ResendStore.stands_for in
+    let front : (r : SessionRecord) → StandsFor R S c.args.self.now r → (after : SessionRecord) × StandsFor R S _ after =
+    λ r h.
+    let mine = subst (λ s. StandsFor R S s r) (sym c.self.view_is) h in
+    let kept : StandsFor R S _ r = record {
+      state = opening_kept _ r.state c.open.new.opening mine.state c.open.ensures.same;
+      rx = mine.rx;
+      known = mine.known;
+      probes = mine.probes;
+      seen = mine.seen;
+      repairs = mine.repairs;
+    } in
+    c.in_err-take_packet.ensures.stands r kept c.in-Some.ensures.probe c.in-Some.ensures.place in
+    on_err_any _ front

@@ -9,9 +9,13 @@ use Rattle.stream_core.specs.Tables.{place_of, change_at, Along}
 use Rattle.stream_core.specs.declared.reports.Arrival.{Arrival}
 use Rattle.session_core.specs.Receiving.{arrival_of, no_time, time_restored, packet_restored}
 use Rattle.session_core.specs.Repairs.{restored_header}
-use Rattle.session_core.specs.SessionRecord.{streams_in, SessionState, SessionView, StandsFor}
+use Rattle.session_core.specs.SessionRecord.{streams_in, SessionRecord, SessionState, SessionView, StandsFor}
 use Rattle.session_core.proofs.Others.{restored_state}
 use Rattle.session_core.proofs.StreamsIn.{streams_stand}
+use Rattle.stream_core.specs.Repairing.{RepairsStandFor}
+use Rattle.stream_core.specs.StreamsRecord.{StreamsView}
+use Rattle.session_core.proofs.Failing.{on_err_any}
+use Rattle.session_core.proofs.Others.{streams_kept}
 use Rattle.session_core.proofs.session.Session.restore.Goals as goal
 
 pub returns-clause-ok : goal.returns-clause-ok
@@ -51,3 +55,46 @@ returns-clause-ok g c = λ r h place.
       seen = subst (λ o. SeenStandsFor c.put.new.self (option_map_or (λ n. saw original n r.seen) o r.seen)) number (c.in_ok-put.ensures.ok r.seen mine.seen);
       repairs = after.repairs;
     }
+
+pub returns-in_err-fresh-clause-stands : goal.returns-in_err-fresh-clause-stands
+returns-in_err-fresh-clause-stands g c =
+    let R = g.W.GapWindow.remembers in
+    let S = g.S.ResendStore.stands_for in
+    let front : (r : SessionRecord) → StandsFor R S c.args.self.now r → place_of c.args.original c.args.self.now.rx ≡ Some c.args.place
+    → (after : SessionRecord) × StandsFor R S _ after =
+    λ r h place.
+    let mine = subst (λ s. StandsFor R S s r) (sym c.self.view_is) h in
+    let same = c.in_err-fresh.ensures.err in (
+      r,
+      record {
+        state = streams_kept _ r.state c.restore_at.new.self.threshold c.restore_at.new.self.tx mine.state c.in_err-fresh.ensures.threshold c.in_err-fresh.ensures.tx;
+        rx = subst (λ (v : StreamsView g.row.W.Denot g.row.S.Denot). Along (StreamStandsFor R) v.rx r.rx) (sym same) mine.rx;
+        known = c.in_err-fresh.ensures.known ∙ mine.known;
+        probes = mine.probes;
+        seen = mine.seen;
+        repairs = subst (λ l. Along (RepairsStandFor S) l r.repairs) (sym c.in_err-fresh.ensures.repairs) mine.repairs;
+      },
+    ) in
+    on_err_any _ front
+
+pub returns-in_err-put-clause-stands : goal.returns-in_err-put-clause-stands
+returns-in_err-put-clause-stands g c =
+    let R = g.W.GapWindow.remembers in
+    let S = g.S.ResendStore.stands_for in
+    let front : (r : SessionRecord) → StandsFor R S c.args.self.now r → place_of c.args.original c.args.self.now.rx ≡ Some c.args.place
+    → (after : SessionRecord) × StandsFor R S _ after =
+    λ r h place.
+    let mine = subst (λ s. StandsFor R S s r) (sym c.self.view_is) h in
+    let here = ap (λ (v : SessionView g.row.W.Denot g.row.S.Denot). place_of c.args.original v.rx) c.self.view_is ∙ place in
+    let after = c.in_ok-fresh.ensures.after (streams_in r) c.args.original (streams_stand R S _ r mine) here in (
+      record r { rx = change_at c.args.original (after_restored c.get-greatest.result c.restored_arrival-came.result c.args.low) r.rx },
+      record {
+        state = streams_kept _ r.state c.restore_at.new.self.threshold c.restore_at.new.self.tx mine.state c.in_ok-fresh.ensures.threshold c.in_ok-fresh.ensures.tx;
+        rx = after.rx;
+        known = after.known;
+        probes = mine.probes;
+        seen = subst (λ l. SeenStandsFor l r.seen) (sym c.in_err-put.ensures.err) mine.seen;
+        repairs = after.repairs;
+      },
+    ) in
+    on_err_any _ front

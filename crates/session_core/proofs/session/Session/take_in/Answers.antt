@@ -5,9 +5,10 @@ use Rattle.std.specs.Option.{option_map}
 use Rattle.stream_core.specs.Tables.{place_of}
 use Rattle.session_core.specs.Receiving.{cut, after_repair, after_restoring, after_repaired}
 use Rattle.session_core.specs.Repairs.{repaired_by}
-use Rattle.session_core.specs.SessionRecord.{streams_in, SessionState, SessionView, StandsFor}
+use Rattle.session_core.specs.SessionRecord.{streams_in, SessionRecord, SessionState, SessionView, StandsFor}
 use Rattle.session_core.proofs.StreamsIn.{streams_stand}
 use Rattle.session_core.proofs.Tables.{length_keys}
+use Rattle.session_core.proofs.Failing.{on_err_any, on_err_map}
 use Rattle.session_core.proofs.session.Session.take_in.Goals as goal
 
 on_ok_map : {X E : Type 0} (o : Result X E) (P Q : Type 0) → (P → Q) → OnOk o P → OnOk o Q
@@ -98,3 +99,41 @@ returns-in-None-clause-repair g c =
     ap (λ (s : SessionState). repaired_by s.types r.rx r.known.originals x) (sym mine.state)
     ∙ sym (c.repaired_by.ensures.original (streams_in r) (streams_stand R S _ r mine)) ∙ ap (option_map (λ f. f.0)) c.in-None.is in
     absurd (some_none (repaired_by r.state.types r.rx r.known.originals x) original repairs found)) c.take_packet.ensures.ok
+
+pub returns-in_err-take_repair-in-Some-clause-stands : goal.returns-in_err-take_repair-in-Some-clause-stands
+returns-in_err-take_repair-in-Some-clause-stands g c =
+    let R = g.W.GapWindow.remembers in
+    let S = g.S.ResendStore.stands_for in
+    let front : (r : SessionRecord) → StandsFor R S c.args.self.now r → (c.args.header.now.ssrc == 0) ≡ false
+    → (repaired_by r.state.types r.rx r.known.originals c.args.header.now ≡ None → is_some (place_of c.args.header.now.ssrc r.rx) ≡ true)
+    → (after : SessionRecord) × StandsFor R S _ after =
+    λ r h nonzero placed. (r, subst (λ (v : SessionView g.row.W.Denot g.row.S.Denot). StandsFor R S v r) (sym c.in_err-take_repair-in-Some.ensures.err) h) in
+    on_err_any _ front
+
+pub returns-in_ok-take_repair-in-Some-clause-stands : goal.returns-in_ok-take_repair-in-Some-clause-stands
+returns-in_ok-take_repair-in-Some-clause-stands g c =
+    let R = g.W.GapWindow.remembers in
+    let S = g.S.ResendStore.stands_for in
+    let x = c.args.header.now in
+    let main = c.in-Some.found.0 in
+    let there : place_of main c.args.self.now.rx ≡ Some c.in-Some.found.1 =
+    ap (λ (v : SessionView g.row.W.Denot g.row.S.Denot). place_of main v.rx) (sym c.self.view_is) ∙ c.in-Some.ensures.place in
+    let still : place_of main c.take_repair.new.self.rx ≡ Some c.in-Some.found.1 = ap (position (nat_eq main)) c.in_ok-take_repair-in-Some.ensures.places ∙ there in
+    on_err_map c.restore_packet.result _ _ (λ stands r h nonzero placed.
+    stands (after_repair c.args.now x main c.args.number r) (c.in_ok-take_repair-in-Some.ensures.ok r main h there) still) c.restore_packet.ensures.stands
+
+pub returns-in-None-clause-stands : goal.returns-in-None-clause-stands
+returns-in-None-clause-stands g c =
+    let R = g.W.GapWindow.remembers in
+    let S = g.S.ResendStore.stands_for in
+    let x = c.args.header.now in
+    on_err_map c.take_packet.result _ _ (λ stands r h nonzero placed.
+    let mine = subst (λ s. StandsFor R S s r) (sym c.self.view_is) h in
+    let found : repaired_by r.state.types r.rx r.known.originals x ≡ None =
+    ap (λ (s : SessionState). repaired_by s.types r.rx r.known.originals x) (sym mine.state)
+    ∙ sym (c.repaired_by.ensures.original (streams_in r) (streams_stand R S _ r mine)) ∙ ap (option_map (λ f. f.0)) c.in-None.is in
+    let place : c.rx_place-place.result ≡ place_of x.ssrc r.rx = c.rx_place-place.ensures.stands (streams_in r) (streams_stand R S _ r mine) in
+    let none : is_none c.rx_place-place.result ≡ (x.ssrc == 0) = not_none c.rx_place-place.result (ap is_some place ∙ placed found) ∙ sym nonzero in
+    let here : c.rx_place-place.result ≡ place_of x.ssrc c.args.self.now.rx =
+    c.rx_place-place.ensures.place ∙ ap (λ (v : SessionView g.row.W.Denot g.row.S.Denot). place_of x.ssrc v.rx) c.self.view_is in
+    stands r h none (if_place c.rx_place-place.result (place_of x.ssrc c.args.self.now.rx) here)) c.take_packet.ensures.stands

@@ -8,9 +8,15 @@ use Rattle.stream_core.specs.Tables.{place_of, Along}
 use Rattle.stream_core.specs.declared.packet.RtpPacket.{RtpPacket}
 use Rattle.stream_core.specs.declared.reports.Arrival.{Arrival}
 use Rattle.session_core.specs.Receiving.{arrival_of, rx_opened, probes_opened, time_taken, packet_from, packet_after, cut}
-use Rattle.session_core.specs.SessionRecord.{streams_in, SessionState, SessionView, StandsFor}
+use Rattle.session_core.specs.SessionRecord.{streams_in, SessionRecord, SessionState, SessionView, StandsFor}
 use Rattle.session_core.proofs.Others.{restored_state}
 use Rattle.session_core.proofs.StreamsIn.{streams_stand}
+use Rattle.stream_core.specs.Repairing.{RepairsStandFor}
+use Rattle.stream_core.specs.RxRecord.{RxView}
+use Rattle.stream_core.specs.Seen.{SeenStandsFor}
+use Rattle.stream_core.specs.StreamsRecord.{StreamsView}
+use Rattle.session_core.proofs.Failing.{on_err_any}
+use Rattle.session_core.proofs.Others.{streams_kept}
 use Rattle.session_core.proofs.session.Session.take_packet.Goals as goal
 
 -- a packet that is told has the time that its stream gives, and on SSRC 0 none is told
@@ -56,3 +62,52 @@ returns-clause-ok g c = λ r p h memory probe place cuts.
       seen = c.in_ok-put.ensures.ok r.seen mine.seen;
       repairs = taken.repairs;
     }
+
+pub returns-in_err-take-clause-stands : goal.returns-in_err-take-clause-stands
+returns-in_err-take-clause-stands g c =
+    let R = g.W.GapWindow.remembers in
+    let S = g.S.ResendStore.stands_for in
+    let front : (r : SessionRecord) → StandsFor R S c.args.self.now r → is_none c.args.place ≡ (c.args.header.now.ssrc == 0) → IfSome c.args.place (λ i. place_of c.args.header.now.ssrc c.args.self.now.rx ≡ Some i)
+    → (after : SessionRecord) × StandsFor R S _ after =
+    λ r h probe place.
+    let mine = subst (λ s. StandsFor R S s r) (sym c.self.view_is) h in
+    let same = c.in_err-take.ensures.err in (
+      r,
+      record {
+        state = streams_kept _ r.state c.take.new.streams.threshold c.take.new.streams.tx mine.state c.in_err-take.ensures.threshold c.in_err-take.ensures.tx;
+        rx = subst (λ (v : StreamsView g.row.W.Denot g.row.S.Denot). Along (StreamStandsFor R) v.rx r.rx) (sym same.0) mine.rx;
+        known = c.in_err-take.ensures.known ∙ mine.known;
+        probes = subst (λ (v : RxView g.row.W.Denot). StreamStandsFor R v r.probes) (sym same.1) mine.probes;
+        seen = mine.seen;
+        repairs = subst (λ l. Along (RepairsStandFor S) l r.repairs) (sym c.in_err-take.ensures.repairs) mine.repairs;
+      },
+    ) in
+    on_err_any _ front
+
+pub returns-in_err-put-clause-stands : goal.returns-in_err-put-clause-stands
+returns-in_err-put-clause-stands g c =
+    let R = g.W.GapWindow.remembers in
+    let S = g.S.ResendStore.stands_for in
+    let front : (r : SessionRecord) → StandsFor R S c.args.self.now r → is_none c.args.place ≡ (c.args.header.now.ssrc == 0) → IfSome c.args.place (λ i. place_of c.args.header.now.ssrc c.args.self.now.rx ≡ Some i)
+    → (after : SessionRecord) × StandsFor R S _ after =
+    λ r h probe place.
+    let mine = subst (λ s. StandsFor R S s r) (sym c.self.view_is) h in
+    let x = c.args.header.now in
+    let n = c.args.number in
+    let here : IfSome c.args.place (λ i. place_of x.ssrc c.self.inside.streams.rx ≡ Some i) =
+    subst (λ (v : SessionView g.row.W.Denot g.row.S.Denot). IfSome c.args.place (λ i. place_of x.ssrc v.rx ≡ Some i)) (sym c.self.view_is) place in
+    let taken = c.in_ok-take.ensures.rx (streams_in r) x.ssrc (streams_stand R S _ r mine) probe here in (
+      record r {
+        rx = rx_opened c.args.remembered.now c.arrival-came.result x.ssrc n r.rx;
+        probes = probes_opened c.args.remembered.now c.arrival-came.result x.ssrc n r.probes;
+      },
+      record {
+        state = streams_kept _ r.state c.take.new.streams.threshold c.take.new.streams.tx mine.state c.in_ok-take.ensures.threshold c.in_ok-take.ensures.tx;
+        rx = taken.rx;
+        known = taken.known;
+        probes = c.in_ok-take.ensures.probes r.probes x.ssrc mine.probes probe;
+        seen = subst (λ l. SeenStandsFor l r.seen) (sym c.in_err-put.ensures.err) mine.seen;
+        repairs = taken.repairs;
+      },
+    ) in
+    on_err_any _ front
