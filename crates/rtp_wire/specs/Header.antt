@@ -94,7 +94,7 @@ bit b n = if b then n else 0
 -- the first twelve bytes: version 2, the bits, the count and the numbers
 abbrev pub fixed_bytes : RtpHeader → Bool → List ℕ
 fixed_bytes h extended =
-    (128 + bit h.has_padding 32 + bit extended 16 + h.csrc_count)
+    (64 * RTP_VERSION + bit h.has_padding 32 + bit extended 16 + h.csrc_count)
     ∷ (bit h.marker 128 + h.payload_type % 128)
     ∷ to_be_bytes w16 h.sequence_number ++ to_be_bytes w32 h.timestamp ++ to_be_bytes w32 h.ssrc
 

@@ -109,8 +109,8 @@ pub trait SrtpCipher: Copy {
             → meaning.aead (bytes_256 key.now) iv.now (aad1.now ++ aad2.now) plain ≡ input.now
             → IsTrue result };
 
-    /// The laws of every cipher; the call computes nothing. A sealed text is 16 bytes longer, and no
-    /// two plain texts are sealed alike.
+    /// The laws of every cipher; the call computes nothing. A sealed text is 16 bytes longer, and
+    /// no two plain texts are sealed alike.
     fn laws()
         ensures longer { (key iv aad plain : List ℕ) → length (meaning.aead key iv aad plain)
             ≡ length plain + TAG_LEN }
