@@ -20,7 +20,7 @@ use Rattle.session_core.specs.Draining.{IsDrainCut, at_poll, between_polls, IsCu
 use Rattle.rtp_wire.specs.declared.header.RtpHeader.{RtpHeader}
 use Rattle.session_core.specs.Mapping.{taken_up_for}
 use Rattle.session_core.specs.Receiving.{Receives, opened, repaired, padding, stays, cut, after_repair, after_restoring}
-use Rattle.session_core.specs.Repairs.{original_number}
+use Rattle.rtp_wire.specs.Repairs.{original_number}
 use Rattle.session_core.specs.Rounds.{after_timeout}
 use Rattle.session_core.specs.Sending.{DrainsTo}
 use Rattle.session_core.specs.SessionRecord.{SessionRecord}

@@ -473,7 +473,8 @@ fn call_step<C: SrtpCipher>(
     Ok(())
 }
 
-/// A request of an application to the sender of the stream of this SSRC, which leaves in a later tick.
+/// A request of an application to the sender of the stream of this SSRC, which leaves in a later
+/// tick.
 fn request_step<C: SrtpCipher>(
     end: &mut End<C>,
     log: &mut Log,

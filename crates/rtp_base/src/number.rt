@@ -95,8 +95,8 @@ impl fmt::Display for Pt {
 /// 16 (RFC 3711 section 3.3.1).
 pub const NUMBER_LIMIT: u64 = 1 << 48;
 
-/// How many packets back a redundant frame may be to be taken: how far below its datagram its number
-/// is at most. A choice.
+/// How many packets back a redundant frame may be to be taken: how far below its datagram its
+/// number is at most. A choice.
 pub const MAX_RED_RECOVERY_DEPTH: u64 = 8;
 
 /// An extended sequence number, 65,536 times the rollover count plus the 16 bits of the header

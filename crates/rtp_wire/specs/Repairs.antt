@@ -8,6 +8,13 @@ use Rattle.rtp_wire.specs.declared.header.TheConstants.{ORIGINAL_NUMBER_LEN, PAD
 abbrev pub original_of : List ℕ → Option (ℕ × List ℕ)
 original_of payload = if nat_le ORIGINAL_NUMBER_LEN (length payload) then Some (half_at payload 0, drop ORIGINAL_NUMBER_LEN payload) else None
 
+-- the low 16 bits of the number of the packet that is repaired, which stand in front of what a repair carries (RFC 4588
+-- section 4), where it carries so much
+abbrev pub original_number : List ℕ → Option ℕ
+original_number [] = None
+original_number (a ∷ []) = None
+original_number (a ∷ b ∷ rest) = Some (a * 256 + b)
+
 -- a blank packet of an asked length is that length in whole blocks of 16 bytes
 abbrev pub blank_length : ℕ → ℕ
 blank_length asked = (asked + (PADDING_BLOCK_LEN - 1)) / PADDING_BLOCK_LEN * PADDING_BLOCK_LEN

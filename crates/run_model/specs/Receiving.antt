@@ -5,6 +5,7 @@ use Rattle.rtp_base.specs.Widen.{widen16}
 use Rattle.rtp_base.specs.Window.{is_fresh_rtx, is_fresh_after, greatest_after, is_just}
 use Rattle.repair_core.specs.Fresh.{greatest_of, is_fresh, started_from}
 use Rattle.rtp_wire.specs.Padding.{unpadded}
+use Rattle.rtp_wire.specs.Repairs.{original_number}
 use Rattle.media_model.specs.declared.entry.Packet.{Packet}
 use Rattle.run_model.specs.Events.{Plain, Event, opened, yielded, Types, Incoming}
 use Rattle.run_model.specs.Seals.{Sealing, IsSeal}
@@ -76,12 +77,7 @@ is_fresh_number T L l ssrc p n =
     then (if p.padded then is_fresh_rtx (seen_of L l ssrc) n else is_fresh_after (floor_of L l ssrc) l.tried n)
     else is_fresh (begun_taken l) n
 
--- the first two bytes of a repair, and what is behind them
-abbrev pub low_of : List ℕ → Option ℕ
-low_of [] = None
-low_of (a ∷ []) = None
-low_of (a ∷ b ∷ rest) = Some (256 * a + b)
-
+-- what is behind the first two bytes of a repair
 abbrev pub behind_two : List ℕ → List ℕ
 behind_two [] = []
 behind_two (a ∷ []) = []
@@ -97,7 +93,7 @@ restored_by l None = None
 restored_by l (Some low) = Some (widen16 (greatest_of (begun_taken l)) low)
 
 abbrev pub restored : Incoming → Lists → ℕ → ℕ → Plain → Option ℕ
-restored L l ssrc n p = restored_by (with_tried L l ssrc n) (low_of (cut p))
+restored L l ssrc n p = restored_by (with_tried L l ssrc n) (original_number (cut p))
 
 abbrev pub with_restored : Lists → Option ℕ → Lists
 with_restored l None = l

@@ -22,7 +22,8 @@ use Rattle.media_model.specs.Sides.{same_side}
 use Rattle.run_model.specs.Events.{Plain, opened, Types}
 use Rattle.run_model.specs.Listing.{IsIn}
 use Rattle.run_model.specs.Runs.{Happening, event_of, events_of, without_padding}
-use Rattle.run_model.specs.Receiving.{Lists, no_lists, lists, list_step, concerns, is_repair, begun_taken, low_of, cut, restored_by, after_first, after_repair, after_opened, with_tried as lists_tried, with_restored as lists_restored}
+use Rattle.run_model.specs.Receiving.{Lists, no_lists, lists, list_step, concerns, is_repair, begun_taken, cut, restored_by, after_first, after_repair, after_opened, with_tried as lists_tried, with_restored as lists_restored}
+use Rattle.rtp_wire.specs.Repairs.{original_number}
 use Rattle.run_model.specs.Sending.{Carries, two_bytes}
 use Rattle.run_model.specs.Transcripts.{is_type, plain_in, opened_event}
 use Rattle.run_widens.specs.declared.line.Line.{Line}
@@ -158,12 +159,12 @@ module _ (line : Line) (past : List Happening) (entry : Entry) (o : OpenedEntry)
   l1 = lists_tried (incoming_in line) l o.ssrc o.index
 
   module _ (repair : is_repair (types_in line) (incoming_in line) o.ssrc p ≡ true) where
-    after_told : taken_on line (past ++ h ∷ []) ≡ taken_of (lists_restored l1 (restored_by l1 (low_of (cut p))))
+    after_told : taken_on line (past ++ h ∷ []) ≡ taken_of (lists_restored l1 (restored_by l1 (original_number (cut p))))
     after_told =
         ap taken_of lists_told
         ∙ ap (λ b. taken_of (if b then after_repair (incoming_in line) l o.ssrc o.index p else after_first l o.index)) repair
 
-    no_number : (u : Taken) → u ≡ taken_of l1 → low_of (cut p) ≡ None → Told line past h (Some u)
+    no_number : (u : Taken) → u ≡ taken_of l1 → original_number (cut p) ≡ None → Told line past h (Some u)
     no_number u tried none = (
       λ a b d q e. absurd (cc (ap (restored_by l1) (sym none) ∙ e)),
       tried ∙ ap (λ x. taken_of (lists_restored l1 (restored_by l1 x))) (sym none) ∙ sym after_told,
@@ -174,10 +175,10 @@ module _ (line : Line) (past : List Happening) (entry : Entry) (o : OpenedEntry)
       widens_to : k.number ≡ widen16 (greatest_of (begun_taken l1)) low
       widens_to = number ∙ ap (λ (t : Taken). widen16 t.greatest low) tried
 
-      low_is : low_of (cut p) ≡ Some low
-      low_is = ap (λ x. low_of (cut x)) (sym plain) ∙ repairs.low
+      low_is : original_number (cut p) ≡ Some low
+      low_is = ap (λ x. original_number (cut x)) (sym plain) ∙ repairs.low
 
-      restores : restored_by l1 (low_of (cut p)) ≡ Some k.number
+      restores : restored_by l1 (original_number (cut p)) ≡ Some k.number
       restores = ap (restored_by l1) low_is ∙ ap Some (sym widens_to)
 
       split : cut (plain_of packet) ≡ two_bytes k.number ++ rest
@@ -209,7 +210,7 @@ module _ (line : Line) (past : List Happening) (entry : Entry) (o : OpenedEntry)
         go false e = subst (Told line past h) (sym (is' ∙ ap (λ b. let t : Option Taken = if b then Some (with_restored k.number u) else None in t) (sym (holds k).sent ∙ e))) (does_not e)
 
     told_of : (sent : Sent) (at : ℕ) → Holds line sent at past → (packet : Packet) → plain_of packet ≡ p → (u : Taken) → u ≡ taken_of l1 → (r : Option Taken) → AfterRepair u sent packet r → Told line past h r
-    told_of sent at holds packet plain u tried r (nothing none is') = subst (Told line past h) (sym is') (no_number u tried (ap (λ x. low_of (cut x)) (sym plain) ∙ none))
+    told_of sent at holds packet plain u tried r (nothing none is') = subst (Told line past h) (sym is') (no_number u tried (ap (λ x. original_number (cut x)) (sym plain) ∙ none))
     told_of sent at holds packet plain u tried r (something k low rest repairs number carried is') = either sent at holds packet plain u tried k low rest repairs number carried r is'
 
   -- a repair

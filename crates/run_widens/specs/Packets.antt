@@ -1,7 +1,8 @@
 -- An RTP datagram as its header reads, with what stands behind the header.
 use Rattle.std.specs.Prelude.{◌≡◌, ℕ, ◌++◌, take, List, Some}
 use Rattle.run_model.specs.Events.{Plain}
-use Rattle.run_model.specs.Receiving.{cut, low_of}
+use Rattle.run_model.specs.Receiving.{cut}
+use Rattle.rtp_wire.specs.Repairs.{original_number}
 use Rattle.run_model.specs.Sending.{two_bytes}
 use Rattle.run_widens.specs.declared.packet.Packet.{Packet}
 
@@ -17,5 +18,5 @@ plain_of packet = record {
 
 -- the low 16 bits of the number that a repair restores, and what stands behind them
 pub record Repairs (packet : Packet) (number : ℕ) (rest : List ℕ) : Type 0 where
-  pub low : low_of (cut (plain_of packet)) ≡ Some number
+  pub low : original_number (cut (plain_of packet)) ≡ Some number
   pub split : cut (plain_of packet) ≡ two_bytes number ++ rest

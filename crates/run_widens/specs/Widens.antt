@@ -7,7 +7,8 @@ use Rattle.media_model.specs.declared.entry.Entry.{Entry}
 use Rattle.media_model.specs.declared.setup.Setup.{Setup}
 use Rattle.run_model.specs.Events.{Outgoing}
 use Rattle.run_model.specs.Listing.{IsIn}
-use Rattle.run_model.specs.Receiving.{Lists, lists, cut, low_of}
+use Rattle.run_model.specs.Receiving.{Lists, lists, cut}
+use Rattle.rtp_wire.specs.Repairs.{original_number}
 use Rattle.run_model.specs.Runs.{Happening, events_of, WidensAt, RepairsWiden}
 use Rattle.run_model.specs.Transcripts.{types_of, happening_of}
 use Rattle.run_model.specs.Whole.{incoming_of}
@@ -47,7 +48,7 @@ pub record IsCarried (k : Carried) (packet : Packet) (rest : List ℕ) : Type 0 
 
 -- what is kept after a repair
 pub data AfterRepair (taken : Taken) (sent : Sent) (packet : Packet) (next : Option Taken) : Type 0 where
-  nothing : low_of (cut (plain_of packet)) ≡ None → next ≡ Some taken → AfterRepair taken sent packet next
+  nothing : original_number (cut (plain_of packet)) ≡ None → next ≡ Some taken → AfterRepair taken sent packet next
   something : (k : Carried) (low : ℕ) (rest : List ℕ) → Repairs packet low rest → k.number ≡ widen16 taken.greatest low → IsCarried k packet rest
       → next ≡ (if is_before (first_of sent k) (last_of sent k.number) then Some (with_restored k.number taken) else None) → AfterRepair taken sent packet next
 

@@ -1,7 +1,8 @@
 ghost use Rattle.std.specs.Prelude.{◌≡◌, ◌≤◌};
 ghost use Rattle.std.specs.Prelude.{None, MatchOption};
 ghost use Rattle.run_model.specs.Transcripts.{plain_in};
-ghost use Rattle.run_model.specs.Receiving.{cut, low_of};
+ghost use Rattle.run_model.specs.Receiving.{cut};
+ghost use Rattle.rtp_wire.specs.Repairs.{original_number};
 ghost use Rattle.run_widens.specs.Packets.{plain_of, Repairs};
 
 use rtp_base::wire::half;
@@ -64,7 +65,7 @@ impl<'a> Packet<'a> {
 
     // The low 16 bits of the number that a repair restores, and what stands behind them.
     pub(crate) fn original(&self) -> Option<(u16, &'a [u8])>
-        ensures { MatchOption result (low_of (cut (plain_of self.now)) ≡ None)
+        ensures { MatchOption result (original_number (cut (plain_of self.now)) ≡ None)
             (λ p. Repairs self.now p.0 p.1.now) }
     {
         let bytes = self.cut();

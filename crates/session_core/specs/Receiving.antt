@@ -24,7 +24,8 @@ use Rattle.session_core.specs.declared.datagram.Opened.{Opened}
 use Rattle.stream_core.specs.Seen.{seen_of, saw}
 use Rattle.stream_core.specs.RxRepairs.{repair_came, after_restored}
 use Rattle.session_core.specs.Mapping.{rids_for, mapping_for, taken_up_for, is_nowhere, unseen_number}
-use Rattle.session_core.specs.Repairs.{repaired_by, repair_accepted, original_number, restored_header}
+use Rattle.session_core.specs.Repairs.{repaired_by, repair_accepted, restored_header}
+use Rattle.rtp_wire.specs.Repairs.{original_number}
 use Rattle.session_core.specs.SessionRecord.{SessionRecord}
 
 -- on SSRC 0, under which probes come, all types are taken; on another the types that both ends know

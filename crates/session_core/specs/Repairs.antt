@@ -38,13 +38,6 @@ padded_accepted seen h x =
 abbrev pub repair_accepted : List (ℕ × List ℕ) → RtpHeader → RxRecord → Option ℕ
 repair_accepted seen h x = if h.has_padding then padded_accepted seen h x else fresh_repair (seen_of h.ssrc seen) x h.sequence_number
 
--- the low 16 bits of the number of the packet that is repaired, which stand in front of what a repair carries (RFC 4588
--- section 4), where it carries so much
-abbrev pub original_number : List ℕ → Option ℕ
-original_number [] = None
-original_number (a ∷ []) = None
-original_number (a ∷ b ∷ rest) = Some (a * 256 + b)
-
 -- the header of the packet that is repaired
 abbrev pub restored_header : List (ℕ × TypeRow) → ℕ → ℕ → RtpHeader → RtpHeader
 restored_header types original n h =

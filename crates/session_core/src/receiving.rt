@@ -5,7 +5,7 @@ ghost use Rattle.stream_core.specs.RxRecord.{RxRecord, StandsFor};
 ghost use Rattle.stream_core.specs.StreamsRecord.{StreamsRecord, StandsFor as StreamsStand};
 ghost use Rattle.stream_core.specs.Tables.{place_of};
 ghost use Rattle.session_core.specs.Receiving.{Unpads, OpensIn, IsOpening, cut, number_of, rx_opened, probes_opened, is_claimed, time_taken, packet_from, packet_after, arrival_of, original_in, carried_in, HeaderNumbersFit};
-ghost use Rattle.session_core.specs.Repairs.{original_number};
+ghost use Rattle.rtp_wire.specs.Repairs.{original_number};
 
 use media_units::Instant;
 use repair_core::GapWindow;

@@ -22,14 +22,15 @@ use Rattle.stream_core.specs.Tables.{value_under, place_of, change_place, change
 use Rattle.session_core.specs.declared.datagram.Opened.{Opened as Opening}
 use Rattle.session_core.specs.Calls.{after_events}
 use Rattle.session_core.specs.Receiving.{time_taken, time_restored, packet_from, packet_after, packet_restored, rx_opened as real_opened, probes_opened, arrival_of, cut as cut_here, after_opened, after_repair, after_restoring, after_repaired, opening_of, Opens as OpensHere, OpensRepair as OpensRepairHere, Takes, takes_packet, takes_repair, takes_nothing, HeaderNumbersFit}
-use Rattle.session_core.specs.Repairs.{is_known, repair_accepted, original_number, restored_header}
+use Rattle.session_core.specs.Repairs.{is_known, repair_accepted, restored_header}
+use Rattle.rtp_wire.specs.Repairs.{original_number}
 use Rattle.session_core.specs.SessionRecord.{SessionRecord}
 use Rattle.media_model.specs.declared.entry.Side.{Side}
 use Rattle.media_model.specs.declared.entry.Packet.{Packet}
 use Rattle.media_model.specs.Sides.{peer_of}
 use Rattle.run_model.specs.Events.{Incoming, Types, got, yielded}
 use Rattle.run_model.specs.Listing.{IsIn}
-use Rattle.run_model.specs.Receiving.{concerns, begun_taken, floor_of, base_with, is_repair, low_of, behind_two, with_tried, restored_by, restored, first_packet, restored_packet, repair_yields, yields, Opens}
+use Rattle.run_model.specs.Receiving.{concerns, begun_taken, floor_of, base_with, is_repair, behind_two, with_tried, restored_by, restored, first_packet, restored_packet, repair_yields, yields, Opens}
 use Rattle.run_model.specs.RxPlay.{RxRecord, lists_in, rx_first, rx_tried, rx_restored}
 use Rattle.run_model.specs.Whole.{Config, Session, probes, stays}
 use Rattle.session_turns.specs.Reading.{types_in, packet_told, yields_of, events_opened}
@@ -48,11 +49,6 @@ use Rattle.rtp_base.specs.Window.{is_just}
 use Rattle.session_turns.proofs.Keys.{zip_weaker}
 
 -- what a repair carries
-
-low_same : (l : List ℕ) → original_number l ≡ low_of l
-low_same [] = refl
-low_same (a ∷ []) = refl
-low_same (a ∷ b ∷ rest) = let e : a * 256 + b ≡ 256 * a + b = omega arith in ap Some e
 
 behind_same : (l : List ℕ) → drop 2 l ≡ behind_two l
 behind_same [] = refl
@@ -341,13 +337,13 @@ module _ (cipher : CipherMeaning) (C : Config) (side : Side) (r : SessionRecord)
       restores low = after_restoring time h s.0.ssrc low (drop 2 carried) (after_repair time h s.0.ssrc n r)
 
       -- how the plain stream moves, where the repair carries so much
-      repair_moved : (low : Option ℕ) → low_of carried ≡ low → (s.0, rx_restored (restored_by (lists_in tried) low) tried) ≡ moves cipher C side r a fit mirrors own bytes time le h n payload s
+      repair_moved : (low : Option ℕ) → original_number carried ≡ low → (s.0, rx_restored (restored_by (lists_in tried) low) tried) ≡ moves cipher C side r a fit mirrors own bytes time le h n payload s
       repair_moved low is =
           sym (ap (λ b. (s.0, if b then rx_restored (restored s.0 (lists_in s.1) h.ssrc n (plain_by h payload)) tried else rx_first (time + C.threshold) n s.1)) repair
           ∙ ap (λ (x : Option ℕ). (s.0, rx_restored (restored_by (lists_in tried) x) tried)) is)
           ∙ moved_to cipher C side r a fit mirrors own bytes time le h n payload p s of
 
-      repair_told : (low : Option ℕ) → low_of carried ≡ low
+      repair_told : (low : Option ℕ) → original_number carried ≡ low
           → repair_yields C.types s.0 (lists_in tried) (restored_by (lists_in tried) low) (plain_by h payload) ≡ yields C.types s.0 (lists_in s.1) h.ssrc n (plain_by h payload)
       repair_told low is =
           sym (ap (λ b. if b then repair_yields C.types s.0 (with_tried s.0 (lists_in s.1) h.ssrc n) (restored s.0 (lists_in s.1) h.ssrc n (plain_by h payload)) (plain_by h payload)
@@ -357,7 +353,7 @@ module _ (cipher : CipherMeaning) (C : Config) (side : Side) (r : SessionRecord)
       keeps_own : (x : StreamRx) (t : Plain) → RxMirrors C.threshold r.seen x t → ((k : ℕ) → concerns s.0 k ≡ true → concerns t.0 k ≡ false) → RxMirrors C.threshold seen_own x t
       keeps_own x t k strange = others_same k h.ssrc n (strange h.ssrc of)
 
-      nothing_restored : low_of carried ≡ None → Made cipher C side r a fit mirrors own bytes time le h n payload s (restores None)
+      nothing_restored : original_number carried ≡ None → Made cipher C side r a fit mirrors own bytes time le h n payload s (restores None)
       nothing_restored is = record {
         packet = r.state.packet;
         rx = change_place came r.rx spot.place;
@@ -369,7 +365,7 @@ module _ (cipher : CipherMeaning) (C : Config) (side : Side) (r : SessionRecord)
       }
 
       -- the number that is restored, where the repair carries so much
-      module _ (low : ℕ) (is : low_of carried ≡ Some low) where
+      module _ (low : ℕ) (is : original_number carried ≡ Some low) where
         abbrev q : ℕ
         q = restored_at (lists_in tried) low
 
@@ -444,14 +440,14 @@ module _ (cipher : CipherMeaning) (C : Config) (side : Side) (r : SessionRecord)
           told = told_again fresh ∙ ap (map yielded) (repair_told (Some low) is);
         }
 
-      restored_all : (low : Option ℕ) → low_of carried ≡ low → Made cipher C side r a fit mirrors own bytes time le h n payload s (restores low)
+      restored_all : (low : Option ℕ) → original_number carried ≡ low → Made cipher C side r a fit mirrors own bytes time le h n payload s (restores low)
       restored_all None is = nothing_restored is
       restored_all (Some low) is = original_restored low is
 
       repair_turn : Turn (after_repaired time h s.0.ssrc n payload r) h n payload
       repair_turn =
           turn_from cipher C side r a fit mirrors own bytes time le h n payload s in_table repair_comes opens_repair
-          (subst (Made cipher C side r a fit mirrors own bytes time le h n payload s) (sym (ap restores (low_same carried))) (restored_all (low_of carried) refl))
+          (restored_all (original_number carried) refl)
 
     -- of which stream a repair is
     pub record IsOf (original : ℕ) : Type 0 where

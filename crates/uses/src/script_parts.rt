@@ -7,6 +7,7 @@ use media_model::{
     DEFAULT_PAUSE_THRESHOLD_NANOS, DEFAULT_VIDEO_NANOS, Key, Local, Media, MediaKind, Mtu,
     PayloadType, ReportTimes, Setup, Side, Sources, SrtcpIndex, Step, Stream, Write,
 };
+use media_script::DEFAULT_UNIX_SECS;
 use media_units::{Beginning, Duration, Instant};
 use rtp_wire::{Mid, Pt, SeqNo, Ssrc};
 use srtp_core::SrtpProfile;
@@ -66,15 +67,15 @@ pub fn local(ssrc: u32) -> Local
     }
 }
 
-/// A setup with the toy cipher, the profile of 128 bits and keys of zeros, whose moment 0 is the
-/// Unix epoch, without header extensions. The MTU, the threshold of pauses, the intervals of
-/// reports and what each side alone brings are those of a script without a line for them.
+/// A setup with the toy cipher, the profile of 128 bits and keys of zeros, without header
+/// extensions. The beginning, the MTU, the threshold of pauses, the intervals of reports and what
+/// each side alone brings are those of a script without a line for them.
 pub fn setup(alloc: Global, types: Vec<PayloadType>, media: Vec<Media>) -> Setup
     ensures { result ≡ record {
       cipher = CipherName.Toy;
       profile = SrtpProfile.AeadAes128Gcm;
       key = Key.Zero;
-      beginning = record { unix_secs = 0 };
+      beginning = record { unix_secs = DEFAULT_UNIX_SECS };
       mtu = record { target = DEFAULT_MTU_TARGET; warn = DEFAULT_MTU_WARN };
       pause_threshold = DEFAULT_PAUSE_THRESHOLD_NANOS;
       intervals = record { audio = DEFAULT_AUDIO_NANOS; video = DEFAULT_VIDEO_NANOS };
@@ -91,7 +92,9 @@ pub fn setup(alloc: Global, types: Vec<PayloadType>, media: Vec<Media>) -> Setup
         cipher: CipherName::Toy,
         profile: SrtpProfile::AeadAes128Gcm,
         key: Key::Zero,
-        beginning: Beginning { unix_secs: 0 },
+        beginning: Beginning {
+            unix_secs: DEFAULT_UNIX_SECS,
+        },
         mtu: Mtu::default(),
         pause_threshold: Duration::from_nanos(DEFAULT_PAUSE_THRESHOLD_NANOS),
         intervals: ReportTimes::default(),

@@ -12,7 +12,8 @@ use Rattle.stream_core.specs.StreamsRecord.{taken_up, StandsFor as StreamsStand}
 use Rattle.stream_core.specs.Tables.{place_of, Along}
 use Rattle.session_core.specs.Mapping.{mapping_for, taken_up_for, is_nowhere}
 use Rattle.session_core.specs.Receiving.{Unpads, OpensIn, IsOpening, Receives, cut, opened, repaired, after_opened, after_repaired, opening_number, carried_in, original_in}
-use Rattle.session_core.specs.Repairs.{repaired_by, original_number}
+use Rattle.session_core.specs.Repairs.{repaired_by}
+use Rattle.rtp_wire.specs.Repairs.{original_number}
 use Rattle.session_core.specs.SessionRecord.{streams_in, with_incoming, SessionState, SessionRecord, SessionView, StandsFor}
 use Rattle.session_core.proofs.Openings.{strange, has_place}
 use Rattle.session_core.proofs.Others.{opening_kept, mapped_state}
