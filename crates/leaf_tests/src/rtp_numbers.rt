@@ -143,6 +143,12 @@ fn numbers_and_directions_turn(rt: HostRuntime) {
 fn times_are_rebased(rt: HostRuntime) {
     let rows = [
         (3001, Frequency::NINETY_KHZ, Frequency::MILLIS, 33),
+        (
+            48_000,
+            Frequency::FORTY_EIGHT_KHZ,
+            Frequency::MICROS,
+            1_000_000,
+        ),
         (u64::MAX, Frequency::SECONDS, Frequency::NANOS, u64::MAX),
     ];
     for (count, from, to, wanted) in rows {

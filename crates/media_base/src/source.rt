@@ -8,6 +8,9 @@ ghost use Rattle.media_base.specs.Causes.{HasCause, Rose, ReadsAll};
 use std::alloc::{AllocError, Global};
 use thiserror::Error;
 
+/// How many bytes are read at once: a choice.
+const PIECE: usize = 4_096;
+
 /// The source or the sink failed.
 #[derive(Clone, Copy, Debug, PartialEq, Eq, Error)]
 #[error("the source or the sink failed")]
@@ -111,7 +114,7 @@ fn read_piece<S: Source>(source: &mut S, bytes: &mut Vec<u8>) -> Result<usize, R
     ensures later { S.fault_count source.old ≤ S.fault_count source.new }
     ensures told { IsErrOf result ReadError.Failed ⊎ (S.fault_count source.new ≡ S.fault_count source.old) }
 {
-    let mut buf = [0u8; 4096];
+    let mut buf = [0u8; PIECE];
     let count = source.read(&mut buf)?;
     bytes.extend_from_slice(&buf[..count])?;
     Ok(count)

@@ -1,13 +1,11 @@
 -- Each RTP datagram that is sealed is the first sending of a write, or the repair of one that was sent.
-use Rattle.std.proofs.Common.{◌≡◌, ◌⊎◌, inl, inr, ℕ, zero, suc, ◌+◌, ◌%◌, ◌/◌, ◌<◌, Bool, true, false, cond, not, ◌&&◌, List, [], ◌∷◌, ◌++◌, map, length, drop, get_or, Option, Some, None, refl, sym, ap, ◌∙◌, subst, append_assoc, arith}
+use Rattle.std.proofs.Common.{◌≡◌, ◌⊎◌, inl, inr, ℕ, ◌+◌, ◌%◌, ◌<◌, Bool, true, false, cond, not, ◌&&◌, List, [], ◌∷◌, ◌++◌, map, length, drop, Option, Some, None, refl, sym, ap, ◌∙◌, subst, append_assoc}
 use Rattle.std.specs.Prelude.{◌==◌, unwrap_or}
 use Rattle.std.specs.List.{AllByRecursion}
 use Rattle.std.specs.Option.{option_map}
-use Rattle.std.specs.Int.{w16, to_be_bytes}
 use Rattle.std.proofs.lemmas.Bool.{and_parts, or_cases, eqb-true, eq-eqb, false≢true}
 use Rattle.std.proofs.lemmas.List.{append-nil}
 use Rattle.std.proofs.lemmas.List.Concat.{flat_map-append}
-use Rattle.std.proofs.lemmas.Nat.{be_bytes_2}
 use Rattle.rtp_base.specs.declared.kind.Kind.{Kind}
 use Rattle.rtp_base.specs.declared.kind.Kind.TheVariants.{Rtp, Rtcp}
 use Rattle.rtp_wire.specs.Header.{header_bytes}
@@ -26,7 +24,7 @@ use Rattle.rtp_base.specs.Kind.{same_kind}
 use Rattle.run_model.specs.Events.{Plain, Event, sealed, Types, Outgoing}
 use Rattle.run_model.specs.Listing.{IsIn, NoRepeat}
 use Rattle.run_model.specs.Runs.{Happening, event_of, on_side}
-use Rattle.run_model.specs.Sending.{nothing_sent, Sendings, sendings, sending_of, sending_on, repair_on, repairs, first_sendings, is_cached, two_bytes, Carries as Repairs, Carry, nothing, one as and_one, Answers as Answering, AnswersPartly as AnsweringPartly}
+use Rattle.run_model.specs.Sending.{nothing_sent, Sendings, sendings, sending_of, sending_on, repair_on, repairs, first_sendings, is_cached, Carries as Repairs, Carry, nothing, one as and_one, Answers as Answering, AnswersPartly as AnsweringPartly}
 use Rattle.run_model.specs.Tables.{has as has_ssrc}
 use Rattle.run_model.specs.Transcripts.{plain_in, plain_of, no_plain, sealed_event, opened_event, happening_of, happenings, types_of, outgoing_of}
 use Rattle.run_model.specs.TxLaws.{SendsWrites as StreamSends}
@@ -98,15 +96,6 @@ module _ {seal : Sealing} {setup : Setup} (s : SealedEntry) (r : IsSealOf seal s
         wire = r.wire;
         written = r.written ∙ ap (λ l. header_bytes (extensions_of setup) r.sealed_header ++ l) payload;
       }
-
-bytes_below : (a b : ℕ) → a < 256 → b < 256 → (i : ℕ) → get_or (a ∷ b ∷ []) i 0 < 256
-bytes_below a b h k zero = h
-bytes_below a b h k (suc zero) = k
-bytes_below a b h k (suc (suc i)) = omega arith
-
--- the low 16 bits of a number in two bytes
-low_bytes : (n : ℕ) → to_be_bytes w16 (n % 65536) ≡ two_bytes n
-low_bytes n = be_bytes_2 (two_bytes n) (n % 65536) refl (bytes_below (n / 256 % 256) (n % 256) (omega arith) (omega arith)) (omega arith)
 
 -- which of them are sealed
 
@@ -337,7 +326,7 @@ module _ {seal : Sealing} {setup : Setup} {side : Side} (past front : List Entry
         time = ap (λ (q : Plain). q.time) e ∙ c.time;
         marker = ap (λ (q : Plain). q.marker) e ∙ c.marker;
         sources = ap (λ (q : Plain). q.csrc) e ∙ c.csrc;
-        payload = ap (λ (q : Plain). q.payload) e ∙ c.payload ∙ ap (λ l. l ++ w.payload) (sym (low_bytes w.number));
+        payload = ap (λ (q : Plain). q.payload) e ∙ c.payload;
       }
 
 -- the number of a repair is that of the first one and how many there were before

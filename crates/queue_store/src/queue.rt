@@ -15,6 +15,14 @@ use resend_core::{ResendStore, event_laws};
 use std::alloc::{AllocError, Global};
 use std::sync::ledger::Ledger;
 
+/// The fewest values that room is made for beside those that are held, where the size allows: a
+/// choice.
+const MIN_GROWTH: usize = 16;
+
+/// How many times the values that are held room is made for beside them, where that is more: a
+/// choice.
+const GROWTH: usize = 3;
+
 /// Values under rising positions, each until it is too old or its room is needed: a queue in which
 /// a position is found at once where all between it and the greatest are held, else by halving. It
 /// holds no position that is its size or more below the greatest.
@@ -50,7 +58,7 @@ impl<T: Drop> QueueStore<T> {
         ensures { self.new ≡ self.old }
     {
         let held = self.values.len();
-        let more = held.saturating_mul(3).max(16);
+        let more = held.saturating_mul(GROWTH).max(MIN_GROWTH);
         let more = more.min(self.size.saturating_sub(held).saturating_add(1));
         self.values.reserve(more)?;
         self.stamps.reserve(more)

@@ -22,7 +22,7 @@ pub use ids::{Direction, MidRid, SESSION_ID_LIMIT, SessionId, TwccClusterId, Twc
 pub use keyframe_request::KeyframeRequestKind;
 pub use kind::{Kind, RTP_VERSION};
 pub use media_time::{Frequency, MediaTime};
-pub use nack_entry::NackEntry;
+pub use nack_entry::{MAX_NACK_ENTRY_NUMBERS, NackEntry};
 pub use name::{MAX_NAME_LEN, Mid, Rid};
 pub use number::{MAX_RED_RECOVERY_DEPTH, NUMBER_LIMIT, Pt, SeqNo, Ssrc};
 pub use numbers::named_numbers;

@@ -5,6 +5,10 @@ use crate::number::NUMBER_LIMIT;
 use crate::{SeqNo, widen16};
 use arrayvec::{ArrayVec, IntoIter};
 
+/// The most packets that an entry of a NACK names: that of `pid`, and one for each bit of `blp` (RFC
+/// 4585 section 6.2.1).
+pub const MAX_NACK_ENTRY_NUMBERS: usize = 17;
+
 /// An entry of a NACK (RFC 4585 section 6.2.1): a packet that is missing, and which of the next 16
 /// are missing too.
 #[derive(Clone, Copy, Debug, Default, PartialEq, Eq)]
@@ -21,7 +25,7 @@ impl NackEntry {
 
     /// The numbers that are missing, the lowest first: `pid` widened by the last number, and that
     /// number + i + 1 for each bit i. The last number is below 2^48.
-    pub fn into_iter(self, last: Option<SeqNo>) -> IntoIter<SeqNo, 31>
+    pub fn into_iter(self, last: Option<SeqNo>) -> IntoIter<SeqNo, MAX_NACK_ENTRY_NUMBERS>
         requires { ForSome last (λ p. p < NUMBER_LIMIT) }
         ensures { result ≡ named_by last self }
     {
@@ -34,7 +38,7 @@ impl NackEntry {
 }
 
 #[tactic(auto, unfolding(crate::specs::NackEntry::named_below))]
-fn numbers_from(first: u64, bits: u16) -> IntoIter<SeqNo, 31>
+fn numbers_from(first: u64, bits: u16) -> IntoIter<SeqNo, MAX_NACK_ENTRY_NUMBERS>
     requires { first < NUMBER_LIMIT }
     ensures { result ≡ first ∷ named_below first bits 16 }
 {

@@ -1,12 +1,7 @@
 -- The payload of a repair, and of a packet that is only padding.
-use Rattle.std.specs.Prelude.{ℕ, ◌+◌, ◌-◌, ◌*◌, ◌/◌, nat_le, if◌then◌else◌, Option, Some, None, List, [], ◌∷◌, ◌++◌, length, drop, replicate}
-use Rattle.rtp_base.specs.Wire.{half_at}
+use Rattle.std.specs.Prelude.{ℕ, ◌+◌, ◌-◌, ◌*◌, ◌/◌, Option, Some, None, List, [], ◌∷◌, ◌++◌, drop, replicate}
+use Rattle.std.specs.Option.{option_map}
 use Rattle.rtp_wire.specs.declared.header.TheConstants.{ORIGINAL_NUMBER_LEN, PADDING_BLOCK_LEN}
-
--- a repair begins with the number of the packet that it repairs, behind which stands that packet's payload (RFC 4588
--- section 4)
-abbrev pub original_of : List ℕ → Option (ℕ × List ℕ)
-original_of payload = if nat_le ORIGINAL_NUMBER_LEN (length payload) then Some (half_at payload 0, drop ORIGINAL_NUMBER_LEN payload) else None
 
 -- the low 16 bits of the number of the packet that is repaired, which stand in front of what a repair carries (RFC 4588
 -- section 4), where it carries so much
@@ -14,6 +9,10 @@ abbrev pub original_number : List ℕ → Option ℕ
 original_number [] = None
 original_number (a ∷ []) = None
 original_number (a ∷ b ∷ rest) = Some (a * 256 + b)
+
+-- that number, and the payload of that packet behind it
+abbrev pub original_of : List ℕ → Option (ℕ × List ℕ)
+original_of payload = option_map (λ number. (number, drop ORIGINAL_NUMBER_LEN payload)) (original_number payload)
 
 -- a blank packet of an asked length is that length in whole blocks of 16 bytes
 abbrev pub blank_length : ℕ → ℕ

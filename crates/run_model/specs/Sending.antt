@@ -1,5 +1,6 @@
 -- What an outgoing stream sent, read off the events of its side.
-use Rattle.std.specs.Prelude.{◌≡◌, ◌<◌, ◌≤◌, ◌+◌, ◌/◌, ◌%◌, ℕ, Bool, true, false, ◌&&◌, ◌==◌, not, if◌then◌else◌, map, filter, List, [], ◌∷◌, ◌++◌, Option, Some, None}
+use Rattle.std.specs.Prelude.{◌≡◌, ◌<◌, ◌≤◌, ◌+◌, ◌%◌, ℕ, Bool, true, false, ◌&&◌, ◌==◌, not, if◌then◌else◌, map, filter, List, [], ◌∷◌, ◌++◌, Option, Some, None}
+use Rattle.std.specs.Int.{w16, to_be_bytes}
 use Rattle.std.specs.List.{flat_map, fold}
 use Rattle.rtp_base.specs.declared.nack_entry.NackEntry.{NackEntry}
 use Rattle.rtcp_wire.specs.declared.rtcp_fb.RtcpFb.{RtcpFb}
@@ -101,9 +102,9 @@ pub record Kept (T : Types) (L : Outgoing) (sent : List (ℕ × Write)) (n : ℕ
   pub young : latest_from 0 (cached T L sent) ≤ moment + L.age
   pub aging : 0 < L.age
 
--- a number of 16 bits in two bytes
+-- the low 16 bits of a number, the high byte first
 abbrev pub two_bytes : ℕ → List ℕ
-two_bytes n = n / 256 % 256 ∷ n % 256 ∷ []
+two_bytes n = to_be_bytes w16 (n % 65536)
 
 -- the plain datagram of a write, and of its repair under a type
 abbrev pub sending_of : Write → Plain

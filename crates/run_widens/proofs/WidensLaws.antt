@@ -2,6 +2,7 @@
 use Rattle.std.proofs.Common.{◌≡◌, ◌+◌, ◌*◌, ◌/◌, ◌%◌, ℕ, Bool, true, false, ◌&&◌, ◌||◌, inl, inr, List, [], ◌∷◌, ◌++◌, Option, Some, None, refl, sym, ap, ◌∙◌, subst, arith}
 use Rattle.std.specs.Prelude.{◌==◌, if◌then◌else◌}
 use Rattle.std.specs.List.{list_any, fold}
+use Rattle.std.specs.Int.{w16, to_be_bytes}
 use Rattle.std.specs.Str.{bytes_eq}
 use Rattle.std.specs.Cmp.{booleans_Decides}
 use mathlib.Core.Bool.{beq}
@@ -71,9 +72,8 @@ side_same B B e = refl
 
 wide : (r low : ℕ) → two_bytes (r * 65536 + low) ≡ two_bytes low
 wide r low =
-    let high : (r * 65536 + low) / 256 % 256 ≡ low / 256 % 256 = omega arith in
-    let last : (r * 65536 + low) % 256 ≡ low % 256 = omega arith in
-    λ i. high i ∷ last i ∷ []
+    let same : (r * 65536 + low) % 65536 ≡ low % 65536 = omega arith in
+    ap (to_be_bytes w16) same
 
 widened : (last : Option ℕ) (low : ℕ) → two_bytes (widen16 last low) ≡ two_bytes low
 widened None low = refl
@@ -112,7 +112,7 @@ module _ (T : Types) (k : Carried) (packet : Packet) (rest : List ℕ) (carried 
       let d : beq w.marker k.marker ≡ true = (booleans_Decides w.marker k.marker).1 (sym (carried.marker ∙ h.marker)) in
       let f : (w.rtp_time == k.time) ≡ true = eq-eqb w.rtp_time k.time (sym (carried.time ∙ h.time)) in
       let g : bytes_eq w.csrc k.csrc.now ≡ true = (bytes_eq-Decides w.csrc k.csrc.now).1 (sym (carried.csrc ∙ h.csrc)) in
-      let same : two_bytes k.number ++ rest ≡ two_bytes k.number ++ w.payload = sym split ∙ h.payload ∙ ap (λ n. two_bytes n ++ w.payload) number in
+      let same : (k.number % 65536 / 256 % 256) ∷ (k.number % 65536 % 256) ∷ rest ≡ (k.number % 65536 / 256 % 256) ∷ (k.number % 65536 % 256) ∷ w.payload = sym split ∙ h.payload ∙ ap (λ n. two_bytes n ++ w.payload) number in
       let tail : rest ≡ w.payload = cc in
       let m : bytes_eq w.payload k.payload.now ≡ true = (bytes_eq-Decides w.payload k.payload.now).1 (sym (carried.payload ∙ tail)) in
       λ i. a i && (b i && (d i && (f i && (g i && m i))))

@@ -2,7 +2,6 @@
 use Rattle.std.proofs.Common.{◌≡◌, ◌⊎◌, inl, inr, ℕ, ◌+◌, ◌/◌, ◌%◌, ◌<◌, ◌^◌, Bool, true, false, List, [], ◌∷◌, ◌++◌, length, map, Option, Some, None, refl, sym, ap, ◌∙◌, subst, arith, append_assoc}
 use Rattle.std.specs.Prelude.{◌==◌, ◌&&◌, not, is_some, unwrap_or, if◌then◌else◌}
 use Rattle.std.specs.List.{flat_map, AllByRecursion}
-use Rattle.std.specs.Int.{w16, to_be_bytes}
 use Rattle.std.specs.Option.{option_map}
 use Rattle.std.proofs.lemmas.Option.{same_Some}
 use Rattle.std.proofs.lemmas.List.{map-append}
@@ -150,12 +149,6 @@ all_push : {X : Type 0} (P : X → Type 0) (xs : List X) (y : X) → AllByRecurs
 all_push P [] y h k = (k, tt)
 all_push P (x ∷ xs) y h k = (h.0, all_push P xs y h.1 k)
 
-same_bytes : (n : ℕ) → to_be_bytes w16 (n % 65536) ≡ two_bytes n
-same_bytes n =
-    let high : n % 65536 / 256 % 256 ≡ n / 256 % 256 = omega arith in
-    let low : n % 65536 % 256 ≡ n % 256 = omega arith in
-    λ i. high i ∷ low i ∷ []
-
 module _ (cipher : CipherMeaning) (own : SrtpState) (exts : ExtensionMap) (read_again : WrittenIsReadAgain) (rows : List (ℕ × TypeRow)) (medias : List MediaRecord) (now : ℕ) where
   abbrev pub types : Types
   types = types_in rows
@@ -273,11 +266,10 @@ module _ (cipher : CipherMeaning) (own : SrtpState) (exts : ExtensionMap) (read_
           let p : SentPacket = sent_packet rows moment w in
           let type : p.rtx_type ≡ pt = ap (λ (o : Option ℕ). unwrap_or o 0) e in
           let small : p.rtx_type < 2 ^ 7 = subst (λ (k : ℕ). k < 2 ^ 7) (sym type) (types_fit w.pt pt e) in
-          let bytes = same_bytes w.number in
-          let read = is_read exts read_again transport ids ssrc n p.rtx_type w.rtp_time w.marker w.csrc (to_be_bytes w16 (w.number % 65536) ++ w.payload)
+          let read = is_read exts read_again transport ids ssrc n p.rtx_type w.rtp_time w.marker w.csrc (two_bytes w.number ++ w.payload)
           (repair_values transport now x.mid x.rid p.packet.header.ext_vals) word small g.time g.few g.sources in
-          let plain_same : ◌≡◌ {A = Plain} (record { pt = p.rtx_type; padded = false; marker = w.marker; time = w.rtp_time; csrc = w.csrc; payload = to_be_bytes w16 (w.number % 65536) ++ w.payload }) (repair_plain pt w) =
-          λ i. record { pt = type i; padded = false; marker = w.marker; time = w.rtp_time; csrc = w.csrc; payload = bytes i ++ w.payload } in
+          let plain_same : ◌≡◌ {A = Plain} (record { pt = p.rtx_type; padded = false; marker = w.marker; time = w.rtp_time; csrc = w.csrc; payload = two_bytes w.number ++ w.payload }) (repair_plain pt w) =
+          λ i. record { pt = type i; padded = false; marker = w.marker; time = w.rtp_time; csrc = w.csrc; payload = two_bytes w.number ++ w.payload } in
           let receipt : PacketReceipt = repair_of ssrc x transport now n p in
           subst (λ (k : ℕ). IsRead exts receipt ssrc k (repair_plain pt w)) same (subst (λ (q : Plain). IsRead exts receipt ssrc n q) plain_same read)
 

@@ -5,11 +5,11 @@ ghost use Rattle.srtp_core.specs.Seals.{cm_source, cm_index, cm_iv, cm_rtp_tag};
 ghost use Rattle.srtp_core.specs.Hmac.{hmac_of};
 ghost use Rattle.media_base.specs.Text.{xored};
 
-use crate::SRTP_BLOCK_SIZE;
 use crate::gcm::xor_into;
 use crate::hmac::sha1_hmac;
 use crate::keying::SrtpKey;
 use crate::srtcp::WORD_LEN;
+use crate::{Block, SRTP_BLOCK_SIZE};
 use rtp_base::NUMBER_LIMIT;
 
 /// The length of a key, in bytes.
@@ -31,35 +31,35 @@ pub type AesKey = [u8; KEY_LEN];
 pub type RtpSalt = [u8; SALT_LEN];
 
 /// An initial value, of RTP or of RTCP.
-pub type RtpIv = [u8; SRTP_BLOCK_SIZE];
+pub type RtpIv = Block;
 
 /// A master key with its salt.
 pub(crate) type MasterKey = SrtpKey<KEY_LEN, SALT_LEN>;
 
-fn source_bytes(ssrc: u32) -> [u8; 16]
+fn source_bytes(ssrc: u32) -> Block
     ensures { result ≡ cm_source ssrc }
 {
-    let mut bytes = [0; 16];
+    let mut bytes = [0; SRTP_BLOCK_SIZE];
     let (front, _) = bytes.split_at_mut(8);
     let (_, source) = front.split_at_mut(4);
     source.copy_from_slice(&ssrc.to_be_bytes());
     bytes
 }
 
-fn index_bytes(index: u64) -> [u8; 16]
+fn index_bytes(index: u64) -> Block
     ensures { result ≡ cm_index index }
 {
-    let mut bytes = [0; 16];
+    let mut bytes = [0; SRTP_BLOCK_SIZE];
     let (front, _) = bytes.split_at_mut(14);
     let (_, place) = front.split_at_mut(6);
     place.copy_from_slice(&index.to_be_bytes());
     bytes
 }
 
-fn padded_salt(salt: &RtpSalt) -> [u8; 16]
+fn padded_salt(salt: &RtpSalt) -> Block
     ensures { result ≡ salt.now ++ replicate 2 0 }
 {
-    let mut bytes = [0; 16];
+    let mut bytes = [0; SRTP_BLOCK_SIZE];
     let (front, _) = bytes.split_at_mut(SALT_LEN);
     front.copy_from_slice(salt);
     bytes

@@ -3,6 +3,8 @@ ghost use Rattle.srtp_core.specs.Cipher.{CipherMeaning};
 ghost use Rattle.srtp_core.specs.Streams.{streamed, counter_mode};
 ghost use Rattle.srtp_core.specs.declared.aead_aes_128_gcm.TheConstants.{TAG_LEN};
 
+use crate::{Block, aead_aes_128_gcm, aead_aes_256_gcm};
+
 /// What SRTP needs of a cipher: its blocks and its counter mode (RFC 3711 section 4.1.1), and its
 /// authenticated encryption with a tag of 16 bytes and a nonce of 12 (RFC 7714 section 2), for
 /// keys of 16 and of 32 bytes. Whoever brings a real AES writes an impl of this trait.
@@ -25,23 +27,23 @@ pub trait SrtpCipher: Copy {
     ghost meaning: { CipherMeaning };
 
     /// The key of these bytes.
-    fn key_128(&self, key: &[u8; 16]) -> Self::Key128
+    fn key_128(&self, key: &aead_aes_128_gcm::AeadKey) -> Self::Key128
         ensures { bytes_128 result ≡ key.now };
 
     /// The key of these bytes.
-    fn key_256(&self, key: &[u8; 32]) -> Self::Key256
+    fn key_256(&self, key: &aead_aes_256_gcm::AeadKey) -> Self::Key256
         ensures { bytes_256 result ≡ key.now };
 
     /// One block enciphered.
-    fn block_128(&self, key: &Self::Key128, input: &[u8; 16]) -> [u8; 16]
+    fn block_128(&self, key: &Self::Key128, input: &Block) -> Block
         ensures { result ≡ meaning.block (bytes_128 key.now) input.now };
 
     /// One block enciphered.
-    fn block_256(&self, key: &Self::Key256, input: &[u8; 16]) -> [u8; 16]
+    fn block_256(&self, key: &Self::Key256, input: &Block) -> Block
         ensures { result ≡ meaning.block (bytes_256 key.now) input.now };
 
     /// The input XOR the key stream, which enciphers and deciphers.
-    fn ctr(&self, key: &Self::Key128, iv: &[u8; 16], input: &[u8], output: &mut [u8])
+    fn ctr(&self, key: &Self::Key128, iv: &Block, input: &[u8], output: &mut [u8])
         requires { length output.old ≡ length input.now }
         ensures { output.new ≡ streamed (meaning.keystream (bytes_128 key.now) iv.now) input.now };
 
@@ -49,7 +51,7 @@ pub trait SrtpCipher: Copy {
     fn seal_128(
         &self,
         key: &Self::Key128,
-        iv: &[u8; 12],
+        iv: &aead_aes_128_gcm::RtpIv,
         aad1: &[u8],
         aad2: &[u8],
         input: &[u8],
@@ -63,7 +65,7 @@ pub trait SrtpCipher: Copy {
     fn open_128(
         &self,
         key: &Self::Key128,
-        iv: &[u8; 12],
+        iv: &aead_aes_128_gcm::RtpIv,
         aad1: &[u8],
         aad2: &[u8],
         input: &[u8],
@@ -81,7 +83,7 @@ pub trait SrtpCipher: Copy {
     fn seal_256(
         &self,
         key: &Self::Key256,
-        iv: &[u8; 12],
+        iv: &aead_aes_256_gcm::RtpIv,
         aad1: &[u8],
         aad2: &[u8],
         input: &[u8],
@@ -95,7 +97,7 @@ pub trait SrtpCipher: Copy {
     fn open_256(
         &self,
         key: &Self::Key256,
-        iv: &[u8; 12],
+        iv: &aead_aes_256_gcm::RtpIv,
         aad1: &[u8],
         aad2: &[u8],
         input: &[u8],

@@ -3,7 +3,7 @@ ghost use Rattle.srtp_core.specs.declared.aead_aes_128_gcm.TheConstants.{KEY_LEN
 ghost use Rattle.srtp_core.specs.declared.aead_aes_256_gcm.TheConstants.{KEY_LEN as KEY_256_LEN};
 
 use crate::cipher::SrtpCipher;
-use crate::{aead_aes_128_gcm, aead_aes_256_gcm};
+use crate::{Block, aead_aes_128_gcm, aead_aes_256_gcm};
 use std::marker::Model;
 
 #[derive(Drop)]
@@ -48,7 +48,7 @@ impl<C: SrtpCipher> CipherKey<C> {
         }
     }
 
-    pub(crate) fn block(&self, cipher: C, input: &[u8; 16]) -> [u8; 16]
+    pub(crate) fn block(&self, cipher: C, input: &Block) -> Block
         ensures { result ≡ C.meaning.block self.now input.now }
     {
         match &self.key {
@@ -61,7 +61,7 @@ impl<C: SrtpCipher> CipherKey<C> {
     pub(crate) fn seal(
         &self,
         cipher: C,
-        iv: &[u8; 12],
+        iv: &aead_aes_128_gcm::RtpIv,
         aad1: &[u8],
         aad2: &[u8],
         input: &[u8],
@@ -80,7 +80,7 @@ impl<C: SrtpCipher> CipherKey<C> {
     pub(crate) fn open(
         &self,
         cipher: C,
-        iv: &[u8; 12],
+        iv: &aead_aes_128_gcm::RtpIv,
         aad1: &[u8],
         aad2: &[u8],
         input: &[u8],

@@ -2,7 +2,7 @@ ghost use Rattle.std.specs.Prelude.{◌≡◌, ℕ, ◌≤◌, List, ◌++◌, l
 ghost use Rattle.srtp_core.specs.Hmac.{pad_of, hmac_of};
 ghost use Rattle.sha1.specs.Sha1.{sha1};
 
-use sha1::Sha1;
+use sha1::{DIGEST_LEN, Sha1};
 
 /// The length of a block of SHA-1, in bytes (RFC 2104 section 2).
 pub const HMAC_BLOCK_LEN: usize = 64;
@@ -30,7 +30,7 @@ fn pad(key: &[u8], with: u8) -> [u8; HMAC_BLOCK_LEN]
     block
 }
 
-fn keyed(key: &[u8], part1: &[u8], part2: &[u8]) -> [u8; 20]
+fn keyed(key: &[u8], part1: &[u8], part2: &[u8]) -> [u8; DIGEST_LEN]
     requires { length key.now ≤ HMAC_BLOCK_LEN }
     ensures { result ≡ sha1 (pad_of key.now OPAD ++ sha1 (pad_of key.now IPAD ++ (part1.now ++ part2.now))) }
 {
@@ -46,7 +46,7 @@ fn keyed(key: &[u8], part1: &[u8], part2: &[u8]) -> [u8; 20]
 
 /// HMAC-SHA1 (RFC 2104) of two parts, one after the other.
 #[tactic(auto, unfolding(crate::specs::Hmac::hmac_of))]
-pub fn sha1_hmac(key: &[u8], part1: &[u8], part2: &[u8]) -> [u8; 20]
+pub fn sha1_hmac(key: &[u8], part1: &[u8], part2: &[u8]) -> [u8; DIGEST_LEN]
     ensures { result ≡ hmac_of key.now (part1.now ++ part2.now) }
 {
     if key.len() > HMAC_BLOCK_LEN {

@@ -4,9 +4,9 @@ ghost use Rattle.srtp_core.specs.Streams.{streamed, blocks_at, counter_input};
 ghost use Rattle.srtp_core.specs.declared.aead_aes_128_gcm.TheConstants.{KEY_LEN as KEY_128_LEN};
 ghost use Rattle.srtp_core.specs.declared.aead_aes_256_gcm.TheConstants.{KEY_LEN as KEY_256_LEN};
 
-use crate::SRTP_BLOCK_SIZE;
-use crate::aead_aes_128_gcm::IV_LEN;
+use crate::aead_aes_128_gcm::{IV_LEN, RtpIv};
 use crate::simulated::BlockCipher;
+use crate::{Block, SRTP_BLOCK_SIZE};
 use std::simd::prelude::*;
 
 /// What is enciphered for the blocks of a stream.
@@ -15,20 +15,20 @@ pub(crate) enum Counter {
     /// A number of 16 bytes, counted up from this one.
     Number(u128),
     /// A nonce, and a word of 4 bytes that is counted up from 2.
-    Word([u8; 12]),
+    Word(RtpIv),
 }
 
-pub(crate) fn nonce_and_word(iv: &[u8; 12], word: u32) -> [u8; 16]
+pub(crate) fn nonce_and_word(iv: &RtpIv, word: u32) -> Block
     ensures { result ≡ iv.now ++ to_be_bytes w32 word }
 {
-    let mut input = [0; 16];
+    let mut input = [0; SRTP_BLOCK_SIZE];
     let (front, back) = input.split_at_mut(IV_LEN);
     front.copy_from_slice(iv);
     back.copy_from_slice(&word.to_be_bytes());
     input
 }
 
-fn input_block(counter: &Counter, n: usize) -> [u8; 16]
+fn input_block(counter: &Counter, n: usize) -> Block
     ensures { result ≡ counter_input counter.now n }
 {
     match counter {
@@ -41,7 +41,7 @@ fn input_block(counter: &Counter, n: usize) -> [u8; 16]
 
 /// XORs a block into the 16 bytes from a place on.
 #[inline(always)]
-pub(crate) fn xor_whole(input: &[u8], at: usize, block: &[u8; 16], output: &mut [u8])
+pub(crate) fn xor_whole(input: &[u8], at: usize, block: &Block, output: &mut [u8])
     requires output { length output.old ≡ length input.now }
     requires at { at + SRTP_BLOCK_SIZE ≤ length input.now }
     ensures len { length output.new ≡ length output.old }
@@ -54,7 +54,7 @@ pub(crate) fn xor_whole(input: &[u8], at: usize, block: &[u8; 16], output: &mut 
 }
 
 /// XORs a block into the bytes from a place on, as far as they go.
-pub(crate) fn xor_block(input: &[u8], at: usize, block: &[u8; 16], output: &mut [u8])
+pub(crate) fn xor_block(input: &[u8], at: usize, block: &Block, output: &mut [u8])
     requires output { length output.old ≡ length input.now }
     requires at { at ≤ length input.now }
     ensures len { length output.new ≡ length output.old }

@@ -3,10 +3,10 @@ ghost use Rattle.srtp_core.specs.Keys.{master_key, master_salt, derivation_input
 ghost use Rattle.srtp_core.specs.declared.aead_aes_128_gcm.TheConstants.{KEY_LEN as KEY_128_LEN};
 ghost use Rattle.srtp_core.specs.declared.aead_aes_256_gcm.TheConstants.{KEY_LEN as KEY_256_LEN};
 
-use crate::SRTP_BLOCK_SIZE;
 use crate::aes_128_cm_sha1_80::SALT_LEN;
 use crate::cipher::SrtpCipher;
 use crate::cipher_key::CipherKey;
+use crate::{Block, SRTP_BLOCK_SIZE};
 use std::alloc::{AllocError, Global};
 use std::marker::Model;
 
@@ -110,11 +110,11 @@ impl<const ML: usize, const SL: usize> SrtpKey<ML, SL> {
 }
 
 /// The block that is enciphered in a round.
-fn input_block(salt: &[u8], label: u8, round: u16) -> [u8; 16]
+fn input_block(salt: &[u8], label: u8, round: u16) -> Block
     requires { length salt.now ≤ SALT_LEN }
     ensures { result ≡ derivation_input salt.now label round }
 {
-    let mut input = [0; 16];
+    let mut input = [0; SRTP_BLOCK_SIZE];
     let (front, end) = input.split_at_mut(SALT_LEN);
     let (start, _) = front.split_at_mut(salt.len());
     start.copy_from_slice(salt);

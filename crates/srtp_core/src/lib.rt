@@ -41,6 +41,8 @@ pub use toy::ToyCipher;
 
 /// The length of a block of the cipher, in bytes.
 pub const SRTP_BLOCK_SIZE: usize = 16;
+/// A block of the cipher.
+pub type Block = [u8; SRTP_BLOCK_SIZE];
 /// The most by which a sealed RTCP packet is longer than the packet, in bytes.
 pub const SRTCP_OVERHEAD: usize = 20;
 /// The most by which a sealed RTP datagram is longer than the datagram, in bytes.

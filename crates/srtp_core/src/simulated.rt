@@ -6,6 +6,7 @@ ghost use Rattle.srtp_core.specs.declared.aead_aes_256_gcm.TheConstants.{KEY_LEN
 
 use crate::cipher::SrtpCipher;
 use crate::key_stream::{Counter, xor_stream};
+use crate::{Block, aead_aes_128_gcm, aead_aes_256_gcm};
 
 /// A block function, over the bytes of a key of 16 or 32 bytes. No call takes memory.
 pub trait BlockCipher: Copy {
@@ -13,7 +14,7 @@ pub trait BlockCipher: Copy {
     ghost block_of: { List ℕ → List ℕ → List ℕ };
 
     /// One block enciphered.
-    fn block(&self, key: &[u8], input: &[u8; 16]) -> [u8; 16]
+    fn block(&self, key: &[u8], input: &Block) -> Block
         requires { (length key.now ≡ KEY_128_LEN) ⊎ (length key.now ≡ KEY_256_LEN) }
         ensures { result ≡ block_of key.now input.now };
 }
@@ -25,13 +26,20 @@ pub trait Simulated: BlockCipher {
     ghost tag_of: { List ℕ → List ℕ → List ℕ → List ℕ → List ℕ };
 
     /// The text XOR the stream of the nonce.
-    fn xor_text(&self, key: &[u8], iv: &[u8; 12], input: &[u8], output: &mut [u8])
+    fn xor_text(&self, key: &[u8], iv: &aead_aes_128_gcm::RtpIv, input: &[u8], output: &mut [u8])
         requires key { (length key.now ≡ KEY_128_LEN) ⊎ (length key.now ≡ KEY_256_LEN) }
         requires output { length output.old ≡ length input.now }
         ensures { output.new ≡ streamed (nonce_stream Self.block_of key.now iv.now) input.now };
 
     /// The tag of a text; `aad1` and `aad2`, one after the other, are the associated data.
-    fn tag(&self, key: &[u8], iv: &[u8; 12], aad1: &[u8], aad2: &[u8], text: &[u8]) -> [u8; 16]
+    fn tag(
+        &self,
+        key: &[u8],
+        iv: &aead_aes_128_gcm::RtpIv,
+        aad1: &[u8],
+        aad2: &[u8],
+        text: &[u8],
+    ) -> Block
         requires { (length key.now ≡ KEY_128_LEN) ⊎ (length key.now ≡ KEY_256_LEN) }
         ensures { result ≡ tag_of key.now iv.now (aad1.now ++ aad2.now) text.now };
 
@@ -50,7 +58,7 @@ pub struct SimulatedKey<const N: usize> {
 fn seal<S: Simulated>(
     cipher: S,
     key: &[u8],
-    iv: &[u8; 12],
+    iv: &aead_aes_128_gcm::RtpIv,
     aad1: &[u8],
     aad2: &[u8],
     input: &[u8],
@@ -69,7 +77,7 @@ fn seal<S: Simulated>(
 fn open<S: Simulated>(
     cipher: S,
     key: &[u8],
-    iv: &[u8; 12],
+    iv: &aead_aes_128_gcm::RtpIv,
     aad1: &[u8],
     aad2: &[u8],
     input: &[u8],
@@ -91,9 +99,9 @@ fn open<S: Simulated>(
 }
 
 impl<S: Simulated> SrtpCipher for S {
-    type Key128 = SimulatedKey<16>;
+    type Key128 = SimulatedKey<{ aead_aes_128_gcm::KEY_LEN }>;
 
-    type Key256 = SimulatedKey<32>;
+    type Key256 = SimulatedKey<{ aead_aes_256_gcm::KEY_LEN }>;
 
     ghost bytes_128 = { λ k. k.bytes };
 
@@ -101,23 +109,35 @@ impl<S: Simulated> SrtpCipher for S {
 
     ghost meaning = { simulated S.block_of S.tag_of };
 
-    fn key_128(&self, key: &[u8; 16]) -> SimulatedKey<16> {
+    fn key_128(
+        &self,
+        key: &aead_aes_128_gcm::AeadKey,
+    ) -> SimulatedKey<{ aead_aes_128_gcm::KEY_LEN }> {
         SimulatedKey { bytes: *key }
     }
 
-    fn key_256(&self, key: &[u8; 32]) -> SimulatedKey<32> {
+    fn key_256(
+        &self,
+        key: &aead_aes_256_gcm::AeadKey,
+    ) -> SimulatedKey<{ aead_aes_256_gcm::KEY_LEN }> {
         SimulatedKey { bytes: *key }
     }
 
-    fn block_128(&self, key: &SimulatedKey<16>, input: &[u8; 16]) -> [u8; 16] {
+    fn block_128(&self, key: &SimulatedKey<{ aead_aes_128_gcm::KEY_LEN }>, input: &Block) -> Block {
         self.block(&key.bytes, input)
     }
 
-    fn block_256(&self, key: &SimulatedKey<32>, input: &[u8; 16]) -> [u8; 16] {
+    fn block_256(&self, key: &SimulatedKey<{ aead_aes_256_gcm::KEY_LEN }>, input: &Block) -> Block {
         self.block(&key.bytes, input)
     }
 
-    fn ctr(&self, key: &SimulatedKey<16>, iv: &[u8; 16], input: &[u8], output: &mut [u8]) {
+    fn ctr(
+        &self,
+        key: &SimulatedKey<{ aead_aes_128_gcm::KEY_LEN }>,
+        iv: &Block,
+        input: &[u8],
+        output: &mut [u8],
+    ) {
         let counter = Counter::Number(u128::from_be_bytes(*iv));
         xor_stream(*self, &key.bytes, &counter, input, output)
     }
@@ -125,8 +145,8 @@ impl<S: Simulated> SrtpCipher for S {
     #[inline(always)]
     fn seal_128(
         &self,
-        key: &SimulatedKey<16>,
-        iv: &[u8; 12],
+        key: &SimulatedKey<{ aead_aes_128_gcm::KEY_LEN }>,
+        iv: &aead_aes_128_gcm::RtpIv,
         aad1: &[u8],
         aad2: &[u8],
         input: &[u8],
@@ -138,8 +158,8 @@ impl<S: Simulated> SrtpCipher for S {
     #[inline(always)]
     fn open_128(
         &self,
-        key: &SimulatedKey<16>,
-        iv: &[u8; 12],
+        key: &SimulatedKey<{ aead_aes_128_gcm::KEY_LEN }>,
+        iv: &aead_aes_128_gcm::RtpIv,
         aad1: &[u8],
         aad2: &[u8],
         input: &[u8],
@@ -151,8 +171,8 @@ impl<S: Simulated> SrtpCipher for S {
     #[inline(always)]
     fn seal_256(
         &self,
-        key: &SimulatedKey<32>,
-        iv: &[u8; 12],
+        key: &SimulatedKey<{ aead_aes_256_gcm::KEY_LEN }>,
+        iv: &aead_aes_256_gcm::RtpIv,
         aad1: &[u8],
         aad2: &[u8],
         input: &[u8],
@@ -164,8 +184,8 @@ impl<S: Simulated> SrtpCipher for S {
     #[inline(always)]
     fn open_256(
         &self,
-        key: &SimulatedKey<32>,
-        iv: &[u8; 12],
+        key: &SimulatedKey<{ aead_aes_256_gcm::KEY_LEN }>,
+        iv: &aead_aes_256_gcm::RtpIv,
         aad1: &[u8],
         aad2: &[u8],
         input: &[u8],

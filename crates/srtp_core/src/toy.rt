@@ -4,9 +4,10 @@ ghost use Rattle.std.specs.Simd.Lanes.{zip2, chunk, put_chunk};
 ghost use Rattle.srtp_core.specs.Streams.{streamed, blocks_at};
 ghost use Rattle.srtp_core.specs.Toy.{toy_block, column, toy_tag, word_block};
 
-use crate::SRTP_BLOCK_SIZE;
+use crate::aead_aes_128_gcm::RtpIv;
 use crate::key_stream::{nonce_and_word, xor_block, xor_whole};
 use crate::simulated::{BlockCipher, Simulated};
+use crate::{Block, SRTP_BLOCK_SIZE};
 use std::simd::prelude::*;
 
 /// **Not secure.** A cipher whose blocks are their input XOR the key, so that test data can be
@@ -27,7 +28,7 @@ fn mix_four(tag: &mut [u8], at: usize, bytes: &[u8], from: usize)
 
 /// XORs bytes into their columns by fours, the first one into column `at`.
 #[inline(always)]
-fn mix_fours(tag: &mut [u8; 16], at: usize, bytes: &[u8])
+fn mix_fours(tag: &mut Block, at: usize, bytes: &[u8])
     requires whole { length bytes.now % 4 ≡ 0 }
     requires room { at + length bytes.now ≤ SRTP_BLOCK_SIZE }
     ensures long { length tag.new ≡ SRTP_BLOCK_SIZE }
@@ -41,7 +42,7 @@ fn mix_fours(tag: &mut [u8; 16], at: usize, bytes: &[u8])
 
 /// XORs each byte into its column, the first one into column `at` and none past the last column.
 #[inline(always)]
-fn mix_each(tag: &mut [u8; 16], at: usize, bytes: &[u8])
+fn mix_each(tag: &mut Block, at: usize, bytes: &[u8])
     requires { at + length bytes.now ≤ SRTP_BLOCK_SIZE }
     ensures long { length tag.new ≡ SRTP_BLOCK_SIZE }
     ensures columns { (j : ℕ) → j < SRTP_BLOCK_SIZE → slice_index tag.new j
@@ -54,7 +55,7 @@ fn mix_each(tag: &mut [u8; 16], at: usize, bytes: &[u8])
 
 /// Like `mix_each`, by fours as far as they go.
 #[inline(always)]
-fn mix_bytes(tag: &mut [u8; 16], at: usize, bytes: &[u8])
+fn mix_bytes(tag: &mut Block, at: usize, bytes: &[u8])
     requires { at + length bytes.now ≤ SRTP_BLOCK_SIZE }
     ensures long { length tag.new ≡ SRTP_BLOCK_SIZE }
     ensures columns { (j : ℕ) → j < SRTP_BLOCK_SIZE → slice_index tag.new j
@@ -66,7 +67,7 @@ fn mix_bytes(tag: &mut [u8; 16], at: usize, bytes: &[u8])
 }
 
 /// XORs whole blocks of 16 bytes into the columns.
-fn mix_blocks(tag: &mut [u8; 16], blocks: &[u8])
+fn mix_blocks(tag: &mut Block, blocks: &[u8])
     requires { length blocks.now % SRTP_BLOCK_SIZE ≡ 0 }
     ensures long { length tag.new ≡ SRTP_BLOCK_SIZE }
     ensures columns { (j : ℕ) → j < SRTP_BLOCK_SIZE → slice_index tag.new j
@@ -81,7 +82,7 @@ fn mix_blocks(tag: &mut [u8; 16], blocks: &[u8])
 
 /// Like `mix_bytes`, of bytes that may go past the last column: by blocks where a block begins in
 /// column 0.
-fn mix_long(tag: &mut [u8; 16], at: usize, bytes: &[u8])
+fn mix_long(tag: &mut Block, at: usize, bytes: &[u8])
     requires { at < SRTP_BLOCK_SIZE }
     ensures long { length tag.new ≡ SRTP_BLOCK_SIZE }
     ensures columns { (j : ℕ) → j < SRTP_BLOCK_SIZE → slice_index tag.new j
@@ -97,7 +98,7 @@ fn mix_long(tag: &mut [u8; 16], at: usize, bytes: &[u8])
 /// XORs each byte into its column, the first one into column `at`, and after the last column into
 /// the first one again.
 #[inline(always)]
-fn mix(tag: &mut [u8; 16], at: usize, bytes: &[u8])
+fn mix(tag: &mut Block, at: usize, bytes: &[u8])
     requires { at < SRTP_BLOCK_SIZE }
     ensures long { length tag.new ≡ SRTP_BLOCK_SIZE }
     ensures columns { (j : ℕ) → j < SRTP_BLOCK_SIZE → slice_index tag.new j
@@ -112,7 +113,7 @@ fn mix(tag: &mut [u8; 16], at: usize, bytes: &[u8])
 
 /// A word as the last 4 of 16 bytes.
 #[inline(always)]
-fn wide_word(word: u32) -> [u8; 16]
+fn wide_word(word: u32) -> Block
     ensures { result ≡ to_be_bytes w128 word }
 {
     u32x4::from_array([0, 0, 0, word.swap_bytes()])
@@ -122,7 +123,7 @@ fn wide_word(word: u32) -> [u8; 16]
 
 /// Block n of the stream, of the block of the nonce and the word 0.
 #[inline(always)]
-fn stream_block(first: &[u8; 16], n: usize) -> [u8; 16]
+fn stream_block(first: &Block, n: usize) -> Block
     ensures { result ≡ word_block first.now n }
 {
     let word = (n % 4_294_967_296 + 2) % 4_294_967_296;
@@ -131,7 +132,7 @@ fn stream_block(first: &[u8; 16], n: usize) -> [u8; 16]
 }
 
 /// Writes the input XOR the stream, of the block of the nonce and the word 0.
-fn xor_words(first: &[u8; 16], input: &[u8], output: &mut [u8])
+fn xor_words(first: &Block, input: &[u8], output: &mut [u8])
     requires { length output.old ≡ length input.now }
     ensures { output.new ≡ streamed (blocks_at (word_block first.now)) input.now }
 {
@@ -146,7 +147,7 @@ fn xor_words(first: &[u8; 16], input: &[u8], output: &mut [u8])
 impl BlockCipher for ToyCipher {
     ghost block_of = { toy_block };
 
-    fn block(&self, key: &[u8], input: &[u8; 16]) -> [u8; 16] {
+    fn block(&self, key: &[u8], input: &Block) -> Block {
         let lanes = u8x16::from_array(*input) ^ u8x16::from_slice(key);
         if key.len() > SRTP_BLOCK_SIZE {
             (lanes ^ u8x16::from_slice(&key[SRTP_BLOCK_SIZE..])).to_array()
@@ -160,13 +161,13 @@ impl Simulated for ToyCipher {
     ghost tag_of = { toy_tag };
 
     #[inline(always)]
-    fn xor_text(&self, key: &[u8], iv: &[u8; 12], input: &[u8], output: &mut [u8]) {
+    fn xor_text(&self, key: &[u8], iv: &RtpIv, input: &[u8], output: &mut [u8]) {
         let first = self.block(key, &nonce_and_word(iv, 0));
         xor_words(&first, input, output)
     }
 
     #[inline(always)]
-    fn tag(&self, key: &[u8], iv: &[u8; 12], aad1: &[u8], aad2: &[u8], text: &[u8]) -> [u8; 16] {
+    fn tag(&self, key: &[u8], iv: &RtpIv, aad1: &[u8], aad2: &[u8], text: &[u8]) -> Block {
         let second = aad1.len() % SRTP_BLOCK_SIZE;
         let third = (second + aad2.len() % SRTP_BLOCK_SIZE) % SRTP_BLOCK_SIZE;
         let mut tag = self.block(key, &nonce_and_word(iv, 1));

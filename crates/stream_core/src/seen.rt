@@ -1,10 +1,13 @@
-ghost use Rattle.std.specs.Prelude.{◌≡◌, ◌<◌, ℕ, List, [], None, Some, OnOk, OnErr};
+ghost use Rattle.std.specs.Prelude.{◌≡◌, ◌==◌, ◌<◌, ℕ, List, [], None, Some, OnOk, OnErr, length};
+ghost use Rattle.std.specs.Map.Iter.{ShowsInOrder, deref_pair};
+ghost use Rattle.rtp_base.specs.declared.window.SeqNoWindow.{SeqNoWindow as Window};
 ghost use Rattle.rtp_base.specs.Window.{greatest};
 ghost use Rattle.std.specs.Option.{ForSome};
 ghost use Rattle.stream_core.specs.Seen.{Saw, SeenStandsFor, seen_of, is_unseen, saw};
 ghost use Rattle.stream_core.specs.Tables.{place_of};
 
 use crate::ssrc_table::SsrcTable;
+use indexmap::map::Iter;
 use rtp_base::{NUMBER_LIMIT, SeqNo, SeqNoWindow, Ssrc};
 use std::alloc::{AllocError, Global};
 use std::marker::Model;
@@ -47,6 +50,28 @@ impl Seen {
         Seen {
             windows: SsrcTable::new(alloc),
         }
+    }
+
+    /// How many SSRCs there are.
+    pub fn len(&self) -> usize
+        ensures { result ≡ length self.now }
+    {
+        self.windows.len()
+    }
+
+    /// Whether there is no SSRC.
+    pub fn is_empty(&self) -> bool
+        ensures { result ≡ (length self.now == 0) }
+    {
+        self.windows.is_empty()
+    }
+
+    /// The SSRCs, each with the window of its numbers, in the order in which they came first.
+    pub fn iter(&self) -> Iter<'_, Ssrc, SeqNoWindow>
+        ensures rest { result ≡ self.now }
+        ensures runs { ShowsInOrder (deref_pair {K = ℕ} {X = Window}) }
+    {
+        self.windows.iter()
     }
 
     /// The greatest number of an SSRC: one look-up in a hash table.

@@ -21,7 +21,11 @@ pub const MAX_RUN: usize = 8_191;
 /// (draft-holmer-rmcat-transport-wide-cc-extensions-01 section 3.1.4).
 pub const VECTOR_LEN: usize = 7;
 
-fn single_bits(chunk: u16) -> [u8; 14]
+/// How many rows a vector of one bit a row tells
+/// (draft-holmer-rmcat-transport-wide-cc-extensions-01 section 3.1.4).
+pub const BIT_VECTOR_LEN: usize = 14;
+
+fn single_bits(chunk: u16) -> [u8; BIT_VECTOR_LEN]
     ensures { result ≡ one_bit_symbols chunk }
 {
     [
@@ -42,7 +46,7 @@ fn single_bits(chunk: u16) -> [u8; 14]
     ]
 }
 
-fn bit_pairs(chunk: u16) -> [u8; 7]
+fn bit_pairs(chunk: u16) -> [u8; VECTOR_LEN]
     ensures { result ≡ two_bit_symbols chunk }
 {
     [
@@ -64,7 +68,7 @@ fn symbol_count(chunk: u16) -> usize
     if chunk < 0x8000 {
         usize::from(chunk % 0x2000)
     } else if chunk < 0xc000 {
-        14
+        BIT_VECTOR_LEN
     } else {
         VECTOR_LEN
     }
@@ -102,7 +106,7 @@ fn read_chunk<'a>(
         let run = usize::from(chunk % 0x2000);
         read_run(rows, (chunk / 0x2000) as u8, run.min(most), bytes)
     } else if chunk < 0xc000 {
-        read_statuses(rows, &single_bits(chunk)[..most.min(14)], bytes)
+        read_statuses(rows, &single_bits(chunk)[..most.min(BIT_VECTOR_LEN)], bytes)
     } else {
         read_statuses(rows, &bit_pairs(chunk)[..most.min(VECTOR_LEN)], bytes)
     }

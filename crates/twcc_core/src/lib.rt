@@ -14,7 +14,7 @@ mod size;
 mod status;
 mod status_list;
 
-pub use chunk::{MAX_RUN, VECTOR_LEN};
+pub use chunk::{BIT_VECTOR_LEN, MAX_RUN, VECTOR_LEN};
 pub use feedback::{BODY_LIMIT, Twcc, read_twcc, write_twcc};
 pub use laws::{
     feedback_is_whole, feedback_reads_back, reports_are_none, reports_come_back,

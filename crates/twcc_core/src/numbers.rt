@@ -1,8 +1,9 @@
 ghost use Rattle.std.specs.Prelude.{◌≡◌, ◌^◌};
 
 use crate::{
-    BODY_LIMIT, DELTA_NANOS, LARGE_DELTA_SYMBOL, LOSS_SPAN, MAX_RECORDS, MAX_RUN, MIN_REPORT_LEN,
-    NOT_RECEIVED_SYMBOL, REFERENCE_NANOS, REPORT_SPAN, SMALL_DELTA_SYMBOL, SPAN, VECTOR_LEN,
+    BIT_VECTOR_LEN, BODY_LIMIT, DELTA_NANOS, LARGE_DELTA_SYMBOL, LOSS_SPAN, MAX_RECORDS, MAX_RUN,
+    MIN_REPORT_LEN, NOT_RECEIVED_SYMBOL, REFERENCE_NANOS, REPORT_SPAN, SMALL_DELTA_SYMBOL, SPAN,
+    VECTOR_LEN,
 };
 
 /// Which numbers the names have that contracts of this crate speak of.
@@ -10,6 +11,7 @@ pub fn named_numbers()
     ensures body { BODY_LIMIT ≡ 2 ^ 18 }
     ensures run { MAX_RUN ≡ 8191 }
     ensures vector { VECTOR_LEN ≡ 7 }
+    ensures bit_vector { BIT_VECTOR_LEN ≡ 14 }
     ensures not_received { NOT_RECEIVED_SYMBOL ≡ 0 }
     ensures small_delta { SMALL_DELTA_SYMBOL ≡ 1 }
     ensures large_delta { LARGE_DELTA_SYMBOL ≡ 2 }
