@@ -29,6 +29,7 @@ use uses::build_a_script::one_write;
 use uses::check_a_setup::may_be_played;
 use uses::copy_bytes::copy_all;
 use uses::count_a_queue::wait_of_both;
+use uses::count_comparisons::find;
 use uses::exchange_a_packet::{end, exchange};
 use uses::keep_for_resending::keep_and_find;
 use uses::keep_in_a_queue::{queue_of_one, replace};
@@ -383,6 +384,7 @@ fn a_value_is_replaced(rt: HostRuntime) -> Result<(), Fail> {
     let mut queue = queue_of_one(rt.alloc(), 7, Instant::from_nanos(1), 1)?;
     assert!(rt; replace(&mut queue, 7, 2));
     assert!(rt; !replace(&mut queue, 8, 3));
+    assert!(rt; find(&queue, 7) == Some(2) && find(&queue, 8).is_none());
     assert_eq!(rt; queue.get(7).copied(), Some(2));
     Ok(())
 }
