@@ -1,37 +1,27 @@
 -- What a run of steps is wherever it ends.
-use Rattle.std.proofs.Common.{◌≡◌, ◌<◌, ◌+◌, ℕ, List, [], ◌∷◌, ◌++◌, length, take, get_or, Some, None, Result, Ok, Err, IfErr, refl, sym, ap, ◌∙◌, subst, arith}
-use Rattle.std.proofs.lemmas.List.{take_more, append-nil}
-use Rattle.std.proofs.lemmas.Option.{slice_get-get_or}
+use Rattle.std.proofs.Common.{◌≡◌, ◌+◌, ℕ, List, [], ◌++◌, length, Some, Result, Ok, Err, IfErr, refl, sym, ap, ◌∙◌, subst}
+use Rattle.std.proofs.lemmas.List.{append-nil}
 use Rattle.srtp_core.specs.Cipher.{CipherMeaning}
 use Rattle.media_model.specs.declared.entry.Side.{Side}
-use Rattle.media_model.specs.declared.entry.Side.TheVariants.{A, B}
 use Rattle.media_model.specs.declared.entry.Entry.{Entry}
 use Rattle.media_model.specs.declared.step.Step.{Step}
 use Rattle.media_model.specs.declared.setup.Setup.{Setup}
 use Rattle.media_model.specs.declared.transcript.Transcript.{Transcript}
-use Rattle.run_model.specs.Whole.{new_session}
 use Rattle.media_laws.specs.declared.counter.Counter.{Counter}
-use Rattle.media_laws.specs.Config.{config_of}
 use Rattle.media_laws.specs.declared.fault.StepFault.{StepFault}
 use Rattle.media_laws.specs.Exhausting.{Exhausts}
 use Rattle.media_laws.specs.Headline.{HoldsOfRun, HoldsToKey}
 use Rattle.media_laws.specs.Keys.{sealing_of}
 use Rattle.media_laws.specs.Opening.{Sealing}
-use Rattle.media_laws.specs.Play.{Played, Plays, begins}
+use Rattle.media_laws.specs.Play.{Played}
 use Rattle.media_laws.specs.Rules.{step_fault}
-use Rattle.setup_rules.specs.SetupRules.{setup_fault}
 use Rattle.media_play.specs.declared.fault.RunError.{RunError}
 use Rattle.media_play.specs.declared.fault.RunError.TheVariants as error
 use Rattle.media_play.specs.declared.fault.RunFault.{RunFault}
 use Rattle.media_play.specs.declared.fault.StepError.{StepError}
 use Rattle.media_play.specs.declared.fault.StepError.TheVariants.{Memory, Rule, KeyExhausted}
-use Rattle.media_play.specs.Running.{RunState, IsRunOf, HasCause, AnsweredUntil, Answered, HoldsUntil, Holds, UsedUp, OfRun, IsSetupCause, run_cause}
+use Rattle.media_play.specs.Running.{RunState, IsRunOf, EndsBehind, AnsweredUntil, Answered, HoldsUntil, Holds, UsedUp, OfRun, IsSetupCause, run_cause}
 use Rattle.media_play.proofs.Steps.{Tells}
-
--- the steps up to the next one
-pub steps_more : (steps : List Step) (i : ℕ) (step : Step) → i < length steps → step ≡ get_or steps i step
-    → take i steps ++ step ∷ [] ≡ take (i + 1) steps
-steps_more steps i step h e = sym (take_more steps i step h ∙ ap (λ (s : Step). take i steps ++ s ∷ []) (sym e))
 
 pub played_of : {cipher : CipherMeaning} {setup : Setup} {steps : List Step} {run : RunState} → IsRunOf cipher setup steps run
     → Played (sealing_of cipher setup) setup steps run.log
@@ -54,49 +44,25 @@ module _ (cipher : CipherMeaning) (setup : Setup) where
       subst (HoldsToKey (sealing_of cipher setup) setup side counter) (sym tells.1) (at_key side counter tells.0 tells.2.1)
   holds_at number step past entries Memory tells cut h at_key = subst (HoldsOfRun (sealing_of cipher setup) setup) (sym (cut refl)) h
 
-  module _ (steps : List Step) where
-    -- no run begins
-    pub none_begins : (entries : List Entry) (cause : RunError) → entries ≡ [] → IsSetupCause setup cause → HasCause cipher setup steps entries cause
-    none_begins entries (error.Setup fault) none h = (h, none)
-    none_begins entries (error.Step number fault) none h = absurd h
-    none_begins entries (error.KeyExhausted side counter) none h = absurd h
-    none_begins entries error.Memory none h =
-        let seal = sealing_of cipher setup in
-        let C = config_of seal setup in
-        (0, omega arith, record { a = new_session C A; b = new_session C B; plays = subst (Plays seal setup (new_session C A) (new_session C B) []) (sym none) begins })
-
-    -- a step that is not played ends the run
-    pub ends_at : (i : ℕ) (step : Step) (past entries : List Entry) (cause : StepError) → setup_fault setup ≡ None
-        → Played (sealing_of cipher setup) setup (take i steps) past → i < length steps → step ≡ get_or steps i step
-        → Tells cipher setup past step cause entries → (cause ≡ Memory → entries ≡ past) → HasCause cipher setup steps entries (run_cause (i + 1) cause)
-    ends_at i step past entries (Rule fault) fine played h e tells cut =
-        let same = rule_same past entries step fault tells in (
-          fine,
-          (
-            i,
-            step,
-            refl,
-            slice_get-get_or steps i step h ∙ ap Some (sym e),
-            subst (Played (sealing_of cipher setup) setup (take i steps)) (sym same) played,
-            subst (λ (es : List Entry). step_fault setup es step ≡ Some fault) (sym same) tells.2.0,
-          ),
-        )
-    ends_at i step past entries (KeyExhausted side counter) fine played h e tells cut = (
-      fine,
-      record {
-        before = i;
-        step = step;
-        stands = slice_get-get_or steps i step h ∙ ap Some (sym e);
-        past = past;
-        played = played;
-        valid = tells.2.0;
-        told = tells.0;
-        exhausts = tells.2.1;
-        entries_are = tells.1;
-      },
-    )
-    ends_at i step past entries Memory fine played h e tells cut =
-        (i, omega (arith, h), subst (Played (sealing_of cipher setup) setup (take i steps)) (sym (cut refl)) played)
+  -- a step that is not played ends the run, behind those before it
+  pub ends_behind : (before : List Step) (step : Step) (number : ℕ) (past entries : List Entry) (cause : StepError) → number ≡ length before + 1
+      → Played (sealing_of cipher setup) setup before past → Tells cipher setup past step cause entries → (cause ≡ Memory → entries ≡ past)
+      → EndsBehind cipher setup before step entries (run_cause number cause)
+  ends_behind before step number past entries (Rule fault) at played tells cut =
+      let same = rule_same past entries step fault tells in (
+        at,
+        subst (Played (sealing_of cipher setup) setup before) (sym same) played,
+        subst (λ (es : List Entry). step_fault setup es step ≡ Some fault) (sym same) tells.2.0,
+      )
+  ends_behind before step number past entries (KeyExhausted side counter) at played tells cut = record {
+    past = past;
+    played = played;
+    valid = tells.2.0;
+    told = tells.0;
+    exhausts = tells.2.1;
+    entries_are = tells.1;
+  }
+  ends_behind before step number past entries Memory at played tells cut = subst (Played (sealing_of cipher setup) setup before) (sym (cut refl)) played
 
 module _ (seal : Sealing) (setup : Setup) where
   -- all of it holds of nothing

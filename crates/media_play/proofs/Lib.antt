@@ -15,6 +15,8 @@ pub mod Calls
 pub mod Indices
 pub mod Sends
 pub mod Ending
+pub mod Given
+pub mod WholeSlices
 pub mod StartingLists
 pub mod StartingSteps
 pub mod StartingSetup

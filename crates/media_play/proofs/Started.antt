@@ -1,7 +1,7 @@
 -- A session with all the streams of its setup mirrors the plain session of it.
 use Rattle.std.proofs.Common.{◌≡◌, inl, inr, ℕ, Bool, false, ◌||◌, List, [], ◌∷◌, ◌++◌, map, nat_eq, Option, Some, None, is_some, refl, sym, ap, ◌∙◌, subst, ◌≤◌, ◌^◌, arith}
 use Rattle.std.specs.Prelude.{◌==◌, option_and_then, option_to_list}
-use Rattle.std.specs.List.{AllZip, flat_map}
+use Rattle.std.specs.List.{AllByRecursion, AllZip, flat_map}
 use Rattle.std.specs.Map.{keys_of}
 use Rattle.std.proofs.lemmas.Bool.{eq-eqb, eqb-true}
 use Rattle.rtcp_items.specs.declared.extended.DlrrItem.{DlrrItem as Delay}
@@ -19,7 +19,7 @@ use Rattle.stream_core.specs.TxRecord.{TxRecord as StreamTx}
 use Rattle.session_core.specs.Hearing.{is_own, trip_of}
 use Rattle.session_core.specs.SessionRecord.{MediaRecord, SessionRecord}
 use Rattle.session_turns.specs.Reading.{sealing_of as seals_of}
-use Rattle.session_turns.specs.Mirrors.{TxMirrors, MirrorsRepairs, MirrorsCap, RxMirrors, RxStands, rx_mirror, Mirrors}
+use Rattle.session_turns.specs.Mirrors.{ExpectsNone, TxMirrors, MirrorsRepairs, MirrorsCap, RxMirrors, RxStands, rx_mirror, Mirrors}
 use Rattle.media_model.specs.declared.entry.Side.{Side}
 use Rattle.media_model.specs.declared.setup.Setup.{Setup}
 use Rattle.media_model.specs.Setup.{material_of, local_of, streams_of, types_of as type_numbers}
@@ -35,7 +35,7 @@ use Rattle.media_laws.specs.Config.{config_of, owns}
 use Rattle.media_laws.specs.Keys.{is_left, sealing_of}
 use Rattle.media_laws.specs.Rules.{has}
 use Rattle.media_play.specs.Ends.{EndSession}
-use Rattle.media_play.specs.Starting.{AreOnce, ssrcs_in, IsIdle, kept_for, kept_in, Begun, Starts, IsStarted}
+use Rattle.media_play.specs.Starting.{AreOnce, ssrcs_in, IsIdle, kept_for, kept_in, IsSection, Begun, Starts, IsStarted}
 use Rattle.media_play.proofs.StartingLists.{zip_keys, zip_map, place_in, value_first, value_next, NoRepeat-right}
 use Rattle.media_play.proofs.StartingFit.{fits}
 use Rattle.media_play.proofs.StartingSetup.{Facts, mains_of, same_types, type_places}
@@ -107,6 +107,10 @@ firsts_of f [] = refl
 firsts_of f (x ∷ xs) = ap (λ l. x ∷ l) (firsts_of f xs)
 
 module _ (cipher : CipherMeaning) (setup : Setup) (side : Side) where
+  expect_none : (ms : List MediaRecord) → AllByRecursion (IsSection setup) ms → AllByRecursion ExpectsNone ms
+  expect_none [] h = tt
+  expect_none (m ∷ ms) h = (h.0.expects, expect_none ms h.1)
+
   same_owns : (s : SessionRecord) → Begun cipher setup side (outgoing_of side setup) (outgoing_of (peer_of side) setup) s → (ssrc : ℕ) → owns setup side ssrc ≡ is_own s.state.local_ssrc s.state.tx ssrc
   same_owns s b ssrc =
       let keys = zip_keys (IsIdle s.state.medias) (λ (L : Outgoing). L.ssrc) (λ e L k. k.key) s.state.tx (outgoing_of side setup) b.sends ∙ mains_of setup side in
@@ -143,7 +147,7 @@ module _ (cipher : CipherMeaning) (setup : Setup) (side : Side) where
             (zip_map (RxStands setup.pause_threshold None []) (λ L. (L, new_rx)) s.rx ins
             (zip_map (λ e L. RxStands setup.pause_threshold None [] e (L, new_rx)) incoming_of s.rx (outgoing_of (peer_of side) setup) b.takes)));
         originals = b.originals;
-        sections = b.sections;
+        sections = expect_none s.state.medias b.sections;
         known = b.known;
         last_round = b.last_round;
         target = b.wide;

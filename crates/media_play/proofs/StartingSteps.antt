@@ -26,7 +26,7 @@ use Rattle.session_core.specs.Calls.{fresh_session, keyed}
 use Rattle.session_core.specs.Sending.{has_mid}
 use Rattle.session_core.specs.Types.{types_of as session_types}
 use Rattle.session_core.specs.SessionRecord.{MediaRecord, SessionState, SessionRecord, streams_in}
-use Rattle.session_turns.specs.Mirrors.{rtx_seen, original_in, original_with, ExpectsNone, HasOriginal}
+use Rattle.session_turns.specs.Mirrors.{rtx_seen, original_in, original_with, HasOriginal}
 use Rattle.media_model.specs.declared.entry.Side.{Side}
 use Rattle.media_model.specs.declared.entry.Side.TheVariants.{A, B}
 use Rattle.media_model.specs.declared.setup.Stream.{Stream}
@@ -39,7 +39,7 @@ use Rattle.run_model.specs.Transcripts.{outgoing_as}
 use Rattle.run_model.specs.Whole.{incoming_of}
 use Rattle.media_laws.specs.Keys.{is_left}
 use Rattle.media_laws.specs.Plain.{extensions_of}
-use Rattle.media_play.specs.Starting.{intervals_of, ssrcs_in, AreOnce, HasWords, IsRow, rows_of, IsIdle, IsUnheard, kept_for, kept_in, with_streams, StreamsChange, Begun, Starts}
+use Rattle.media_play.specs.Starting.{intervals_of, ssrcs_in, AreOnce, HasWords, IsRow, rows_of, IsIdle, IsUnheard, kept_for, kept_in, with_streams, StreamsChange, IsSection, Begun, Starts}
 use Rattle.media_play.proofs.StartingLists.{all_push, place_left, place_last, zip_push, zip_weaker, zip_keys, any_left, any_last, new_last, place_absent, change_none, change_last, keys_among, mains_among, strange}
 use Rattle.mask_register.specs.declared.register.MaskRegister.{MaskRegister}
 use Rattle.queue_store.specs.declared.queue.QueueStore.{QueueStore}
@@ -257,9 +257,9 @@ module _ (cipher : CipherMeaning) (setup : Setup) (side : Side) where
   module _ (sent received : List Outgoing) where
     -- one media section more
 
-    begun_media : (s : SessionRecord) (m : MediaRecord) → ExpectsNone m → Begun cipher setup side sent received s
+    begun_media : (s : SessionRecord) (m : MediaRecord) → IsSection setup m → Begun cipher setup side sent received s
         → Begun cipher setup side sent received (record s { state = record s.state { medias = s.state.medias ++ m ∷ [] } })
-    begun_media s m none b = record {
+    begun_media s m section b = record {
       seals = b.seals;
       opens = b.opens;
       target = b.target;
@@ -283,13 +283,13 @@ module _ (cipher : CipherMeaning) (setup : Setup) (side : Side) where
       takes = b.takes;
       probes_stand = b.probes_stand;
       originals = b.originals;
-      sections = all_push ExpectsNone s.state.medias m b.sections none;
+      sections = all_push (IsSection setup) s.state.medias m b.sections section;
       known = b.known;
     }
 
-    pub starts_media : (v new : EndSession) (m : MediaRecord) → ExpectsNone m → new ≡ record v { state = record v.state { medias = v.state.medias ++ m ∷ [] } }
+    pub starts_media : (v new : EndSession) (m : MediaRecord) → IsSection setup m → new ≡ record v { state = record v.state { medias = v.state.medias ++ m ∷ [] } }
         → Starts cipher setup side sent received v → Starts cipher setup side sent received new
-    starts_media v new m none is h =
+    starts_media v new m section is h =
         let to = λ (s : SessionState). let n : SessionState = record s { medias = s.medias ++ m ∷ [] } in n in
         record {
           session = record h.session { state = to h.session.state };
@@ -304,7 +304,7 @@ module _ (cipher : CipherMeaning) (setup : Setup) (side : Side) where
             seen = rw is h.stands.seen;
             repairs = rw is h.stands.repairs;
           };
-          begun = begun_media h.session m none h.begun;
+          begun = begun_media h.session m section h.begun;
         }
 
     -- one stream more

@@ -1,5 +1,7 @@
 -- What a run knows of the steps that it played.
-use Rattle.std.specs.Prelude.{◌≡◌, ◌+◌, ◌≤◌, ℕ, List, [], ◌∷◌, ◌++◌, length, take, slice_get, Some, None, Result, Ok, Err}
+use Rattle.std.specs.Prelude.{◌≡◌, ◌+◌, ◌≤◌, ◌⊎◌, ℕ, List, [], ◌∷◌, ◌++◌, length, map, take, slice_get, Option, Some, None, Result, Ok, Err}
+use Rattle.std.specs.Borrow.{Bor}
+use Rattle.std.specs.Iterator.{Yields}
 use Rattle.srtp_core.specs.Cipher.{CipherMeaning}
 use Rattle.media_laws.specs.declared.counter.Counter.{Counter}
 use Rattle.run_model.specs.Whole.{Session}
@@ -84,23 +86,28 @@ run_cause number (step.Rule fault) = error.Step number fault
 run_cause number (step.KeyExhausted side counter) = error.KeyExhausted side counter
 run_cause number step.Memory = error.Memory
 
--- a step breaks no rule and has a side seal behind the last number of a key, and the entries are
--- those of all steps before it and what is told of it
-pub record EndsAtKey (cipher : CipherMeaning) (setup : Setup) (steps : List Step) (entries : List Entry) (side : Side)
-    (counter : Counter) : Type 0 where
-  pub before : ℕ
-  pub step : Step
-  pub stands : slice_get steps before ≡ Some step
+-- a step that breaks no rule after the entries of those before it has a side seal behind the last
+-- number of a key, and the entries are those and what is told of it
+pub record StopsAtKey (cipher : CipherMeaning) (setup : Setup) (before : List Step) (step : Step) (entries : List Entry)
+    (side : Side) (counter : Counter) : Type 0 where
   pub past : List Entry
-  pub played : Played (sealing_of cipher setup) setup (take before steps) past
+  pub played : Played (sealing_of cipher setup) setup before past
   pub valid : step_fault setup past step ≡ None
   pub told : List Entry
   pub exhausts : Exhausts (sealing_of cipher setup) setup past step side counter told
   pub entries_are : entries ≡ past ++ told
 
--- why a run ended, and what it brought until then: nothing for a setup that breaks a rule; all
--- steps before the one that breaks a rule, which is the first one, or that finds a key used up;
--- without memory some steps at the front
+-- a step of a list did so, behind those before it
+pub record EndsAtKey (cipher : CipherMeaning) (setup : Setup) (steps : List Step) (entries : List Entry) (side : Side)
+    (counter : Counter) : Type 0 where
+  pub before : ℕ
+  pub step : Step
+  pub stands : slice_get steps before ≡ Some step
+  pub stops : StopsAtKey cipher setup (take before steps) step entries side counter
+
+-- why a run of a list of steps ended, and what it brought until then: nothing for a setup that breaks
+-- a rule; all steps before the one that breaks a rule, which is the first one, or that finds a key
+-- used up; without memory some steps at the front
 abbrev pub HasCause : CipherMeaning → Setup → List Step → List Entry → RunError → Type 0
 HasCause cipher setup steps entries (error.Setup fault) =
     (setup_fault setup ≡ Some fault) × (entries ≡ [])
@@ -112,6 +119,33 @@ HasCause cipher setup steps entries (error.KeyExhausted side counter) =
     (setup_fault setup ≡ None) × EndsAtKey cipher setup steps entries side counter
 HasCause cipher setup steps entries error.Memory =
     (played : ℕ) × (played ≤ length steps) × Played (sealing_of cipher setup) setup (take played steps) entries
+
+-- calls of an iterator gave these steps, one after another
+abbrev pub Gave : {S : Type 0} → (S → Option (Bor Step) → S → Type 0) → S → List Step → S → Type 0
+Gave next old steps new = (given : List (Bor Step)) × Yields next old given new × (map (λ s. s.now) given ≡ steps)
+
+-- an iterator gave these steps and then none, and they were played
+abbrev pub PlaysGiven : {S : Type 0} → Sealing → Setup → (S → Option (Bor Step) → S → Type 0) → S → S → List Entry → Type 0
+PlaysGiven {S} seal setup next old new entries =
+    (steps : List Step) × (last : S) × Gave next old steps last × next last None new × Played seal setup steps entries
+
+-- why a run ended at a step that is the one behind these, and what it brought until then: all steps
+-- before it were played
+abbrev pub EndsBehind : CipherMeaning → Setup → List Step → Step → List Entry → RunError → Type 0
+EndsBehind cipher setup before step entries (error.Setup fault) = ⊥
+EndsBehind cipher setup before step entries (error.Step number fault) =
+    (number ≡ length before + 1) × Played (sealing_of cipher setup) setup before entries × (step_fault setup entries step ≡ Some fault)
+EndsBehind cipher setup before step entries (error.KeyExhausted side counter) =
+    StopsAtKey cipher setup before step entries side counter
+EndsBehind cipher setup before step entries error.Memory = Played (sealing_of cipher setup) setup before entries
+
+-- why a run ended that took its steps from an iterator, and what it brought until then: it took none
+-- and did not begin; or it began, and ended at the last one that it took
+abbrev pub EndsAmong : {S : Type 0} → CipherMeaning → Setup → (S → Option (Bor Step) → S → Type 0) → S → S → List Entry → RunError → Type 0
+EndsAmong cipher setup next old new entries cause =
+    ((new ≡ old) × IsSetupCause setup cause × (entries ≡ []))
+    ⊎ ((setup_fault setup ≡ None) × ((before : List Step) × (step : Step) × Gave next old (before ++ step ∷ []) new
+    × EndsBehind cipher setup before step entries cause))
 
 -- no step breaks a rule after the entries that the steps before it brought
 abbrev pub AreValidSteps : CipherMeaning → Setup → List Step → Type 0

@@ -6,6 +6,7 @@ use Rattle.payload_core.specs.declared.codec.Codec.TheVariants as carried
 use Rattle.payload_core.specs.declared.codec.MediaKind.{MediaKind as SectionKind}
 use Rattle.payload_core.specs.declared.codec.MediaKind.TheVariants as section
 use Rattle.payload_core.specs.declared.params.PayloadParams.{PayloadParams}
+use Rattle.payload_core.specs.Params.{no_format}
 use Rattle.rtx_core.specs.Resends.{created, recached}
 use Rattle.srtp_core.specs.Cipher.{CipherMeaning}
 use Rattle.srtp_core.specs.Contexts.{new_state}
@@ -81,13 +82,17 @@ identification A = 1
 identification B = 2
 
 -- what a session is told of a payload type of a setup: its number, the types of its repairs and of its redundant data, its
--- codec, its clock, which has ticks of 1 s where the setup gives no rate, and the feedback that it takes
+-- codec, its clock, which has ticks of 1 s where the setup gives no rate, and the feedback that it takes; nothing of channels,
+-- of the format and of reports for the whole transport
 pub record IsParams (p : PayloadParams) (t : PayloadType) : Type 0 where
   pub pt : p.pt ≡ t.pt
   pub resend : p.resend ≡ t.rtx
   pub red : p.red ≡ t.red
   pub codec : p.spec.codec ≡ codec_of t.codec
   pub clock : p.spec.clock_rate ≡ (if t.rate == 0 then 1 else t.rate)
+  pub channels : p.spec.channels ≡ None
+  pub format : p.spec.format ≡ no_format
+  pub transport : p.fb_transport_cc ≡ false
   pub pli : p.fb_pli ≡ t.pli
   pub fir : p.fb_fir ≡ t.fir
 
@@ -151,6 +156,11 @@ StreamsChange f old new = (r : SessionRecord) → SessionStands old r → Sessio
 abbrev pub intervals_of : Setup → ReportIntervals
 intervals_of setup = record { audio = setup.intervals.audio; video = setup.intervals.video }
 
+-- a media section of a session of a setup: it expects no stream by a rid, and its peer takes all types of the setup
+pub record IsSection (setup : Setup) (m : MediaRecord) : Type 0 where
+  pub expects : ExpectsNone m
+  pub types : m.remote_pts ≡ map (λ t. t.pt) setup.types
+
 -- a session of a side with keys that sends these streams and receives those, on which nothing happened
 pub record Begun (cipher : CipherMeaning) (setup : Setup) (side : Side) (sent received : List Outgoing) (s : SessionRecord) : Type 0 where
   pub seals : s.state.sealing
@@ -177,7 +187,7 @@ pub record Begun (cipher : CipherMeaning) (setup : Setup) (side : Side) (sent re
   pub takes : AllZip (IsUnheard setup.pause_threshold) s.rx received
   pub probes_stand : RxMirrors setup.pause_threshold [] s.probes (probes, new_rx)
   pub originals : s.known.originals ≡ flat_map original_in (map incoming_of received)
-  pub sections : AllByRecursion ExpectsNone s.state.medias
+  pub sections : AllByRecursion (IsSection setup) s.state.medias
   pub known : AllByRecursion (HasOriginal s.known.originals) s.known.streams
 
 pub record Starts (cipher : CipherMeaning) (setup : Setup) (side : Side) (sent received : List Outgoing) (view : EndSession) : Type 0 where

@@ -1,11 +1,11 @@
-ghost use Rattle.std.specs.Prelude.{◌≡◌, ◌++◌, List, [], None, IfOk, IfErr};
+ghost use Rattle.std.specs.Prelude.{◌≡◌, ◌++◌, ◌<◌, ◌^◌, List, [], None, IfOk, IfErr};
+ghost use Rattle.std.specs.Iterator.{IsFinite, size};
 ghost use Rattle.media_model.specs.declared.step.Step.{Step as Act};
 ghost use Rattle.media_model.specs.declared.setup.Setup.{Setup as Given};
 ghost use Rattle.media_play.specs.declared.fault.StepError.TheVariants as step_error;
 ghost use Rattle.media_laws.specs.Keys.{sealing_of};
 ghost use Rattle.media_laws.specs.Headline.{SealsAreRight, NoNonceTwice, SendsWrites, YieldsWrites, NoPacketTwice, FirstSendingsAreYielded};
-ghost use Rattle.media_laws.specs.Play.{Played};
-ghost use Rattle.media_play.specs.Running.{HasCause, Holds, Answered, UsedUp, OfRun, run_cause};
+ghost use Rattle.media_play.specs.Running.{EndsAmong, PlaysGiven, Holds, Answered, UsedUp, OfRun, run_cause};
 ghost use Rattle.setup_rules.specs.SetupRules.{setup_fault};
 
 use crate::fault::{PlayFault, RunError, RunFault, StepError};
@@ -134,18 +134,21 @@ fn fault_at(number: u64, fault: PlayFault) -> RunFault
     }
 }
 
-/// Plays the steps of a run of a setup one after another.
-fn play_all<C: SrtpCipher>(
+/// Plays the steps of a run of a setup one after another, as they are given.
+fn play_all<'a, C: SrtpCipher, I: Iterator<Item = &'a Step>>(
     alloc: Global,
     setup: &Setup,
     cipher: &C,
-    steps: &[Step],
+    steps: &mut I,
 ) -> Result<Transcript, RunFault>
+    requires can { I.can_next steps.old }
+    requires finite { IsFinite (I.remaining steps.old) }
+    requires few { size (I.remaining steps.old) < 2 ^ 64 }
     ensures valid { IfOk result (λ t. setup_fault setup.now ≡ None) }
     ensures played { IfOk result (λ t.
-        Played (sealing_of C.meaning setup.now) setup.now steps.now t) }
+        PlaysGiven (sealing_of C.meaning setup.now) setup.now I.next_gives steps.old steps.new t) }
     ensures cause { IfErr result (λ f.
-        HasCause C.meaning setup.now steps.now f.sofar f.cause) }
+        EndsAmong C.meaning setup.now I.next_gives steps.old steps.new f.sofar f.cause) }
     ensures holds { Holds (sealing_of C.meaning setup.now) setup.now result }
 {
     holds_of_run::<C>();
@@ -158,36 +161,44 @@ fn play_all<C: SrtpCipher>(
             });
         }
     };
-    for (i, step) in steps.iter().enumerate() {
+    let mut number: u64 = 0;
+    while let Some(step) = steps.next() {
+        number += 1;
         match run.play(alloc, step) {
             Ok(next) => run = next,
-            Err(fault) => return Err(fault_at(i as u64 + 1, fault)),
+            Err(fault) => return Err(fault_at(number, fault)),
         }
     }
     Ok(run.into_transcript())
 }
 
 /// Plays the steps between the two sessions of a setup, and gives what happened: `Run::play`, step
-/// after step.
+/// after step. The steps are taken one by one as they are played, so that what is left of them
+/// tells how far the run came: of a slice, `&mut steps.iter()`.
 ///
 /// # Errors
 /// `Setup`, exactly with the first rule that the setup breaks; `Step`, exactly at the first step
 /// that breaks a rule, with the first rule that it breaks; `KeyExhausted`, where a step has a side
 /// seal a datagram behind the last number of a key (RFC 3711 section 3.3.1: 2^48 numbers of RTP
 /// under an SSRC, 2^31 indices of RTCP); `Memory`. The fault has the transcript of the steps that
-/// were played, and of one that found a key used up the call, or the tick and all that it sealed
-/// until then.
-pub fn media_run<C: SrtpCipher>(
+/// were played, which are all that were taken but the last, and of one that found a key used up the
+/// call, or the tick and all that it sealed until then.
+pub fn media_run<'a, C: SrtpCipher, I: Iterator<Item = &'a Step>>(
     alloc: Global,
     setup: &Setup,
     cipher: &C,
-    steps: &[Step],
+    steps: &mut I,
 ) -> Result<Transcript, RunFault>
+    requires can { I.can_next steps.old }
+    requires finite { IsFinite (I.remaining steps.old) }
+    requires few { size (I.remaining steps.old) < 2 ^ 64 }
+
     // Each step brings what it has to bring, and all steps are played.
     ensures played { IfOk result (λ t. (setup_fault setup.now ≡ None)
-        × Played (sealing_of C.meaning setup.now) setup.now steps.now t) }
+        × PlaysGiven (sealing_of C.meaning setup.now) setup.now I.next_gives steps.old steps.new t) }
+    // All steps that were taken were played, but for the last one, which ended the run.
     ensures cause { IfErr result (λ f.
-        HasCause C.meaning setup.now steps.now f.sofar f.cause) }
+        EndsAmong C.meaning setup.now I.next_gives steps.old steps.new f.sofar f.cause) }
 
     // A write brings nothing. A tick seals of each stream all queued writes, in order, and each
     // kept write asked for, unless the stream is capped; and it asks for exactly the due numbers. A

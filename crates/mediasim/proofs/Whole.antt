@@ -345,8 +345,8 @@ plays_in setup steps (KeyExhausted by counter) (Some entries) text law h =
       r.before,
       r.step,
       r.stands,
-      subst (λ (es : List Entry). PlaysSteps (take r.before steps ++ r.step ∷ []) es) (sym r.entries_are)
-          (law.exhausted setup (take r.before steps) r.past r.step by counter r.told r.played r.exhausts),
+      subst (λ (es : List Entry). PlaysSteps (take r.before steps ++ r.step ∷ []) es) (sym r.stops.entries_are)
+          (law.exhausted setup (take r.before steps) r.stops.past r.step by counter r.stops.told r.stops.played r.stops.exhausts),
     )
 plays_in setup steps (Syntax line) transcript text law h = absurd h
 plays_in setup steps (Call number) transcript text law h = absurd h

@@ -1,6 +1,7 @@
 // The command run: what it makes of a whole input.
 ghost use Rattle.std.specs.Prelude.{◌≡◌, ◌⊎◌, ◌++◌, ℕ, Some, None, take, string_bytes, IfOk, IfErr};
 ghost use Rattle.media_base.specs.Causes.{Rose};
+ghost use Rattle.media_laws.specs.Keys.{sealing_of};
 ghost use Rattle.media_laws.specs.Play.{Played};
 ghost use Rattle.media_play.specs.Running.{HasCause, Holds};
 ghost use Rattle.setup_rules.specs.SetupRules.{setup_fault};
@@ -16,11 +17,11 @@ use crate::lines::{LastLine, TextError, write_text};
 use media_base::Sink;
 use media_laws::{Counter, StepFault};
 use media_model::{CipherName, Setup, Side, Step, Transcript};
-use media_play::{RunError, RunFault, media_run};
+use media_play::{RunError, RunFault, media_run, runs_of_slices};
 use media_script::{ScriptError, end_line, read_script};
 use run_widens::repairs_widen;
 use setup_rules::SetupFault;
-use srtp_core::{ShaCipher, ToyCipher};
+use srtp_core::{ShaCipher, SrtpCipher, ToyCipher};
 use std::alloc::{AllocError, Global};
 use std::fmt;
 use std::fmt::Write;
@@ -123,6 +124,24 @@ fn key_line(alloc: Global, side: Side, counter: &Counter) -> Result<String, Allo
     format!(in alloc; "fault key {key}\n")
 }
 
+// Plays a setup and its steps with a cipher.
+fn run_under<C: SrtpCipher>(
+    alloc: Global,
+    setup: &Setup,
+    cipher: &C,
+    steps: &[Step],
+) -> Result<Transcript, RunFault>
+    ensures played { IfOk result (λ t. (setup_fault setup.now ≡ None)
+        × Played (sealing_of C.meaning setup.now) setup.now steps.now t) }
+    ensures cause { IfErr result (λ f.
+        HasCause C.meaning setup.now steps.now f.sofar f.cause) }
+    ensures holds { Holds (sealing_of C.meaning setup.now) setup.now result }
+{
+    runs_of_slices::<C>();
+    let mut given = steps.iter();
+    media_run(alloc, setup, cipher, &mut given)
+}
+
 // Plays a setup and its steps with the cipher that the setup names.
 fn run_steps(alloc: Global, setup: &Setup, steps: &[Step]) -> Result<Transcript, RunFault>
     ensures played { IfOk result (λ t. (setup_fault setup.now ≡ None)
@@ -132,8 +151,8 @@ fn run_steps(alloc: Global, setup: &Setup, steps: &[Step]) -> Result<Transcript,
     ensures holds { Holds (script_sealing setup.now) setup.now result }
 {
     match setup.cipher {
-        CipherName::Toy => media_run(alloc, setup, &ToyCipher, steps),
-        CipherName::Sha => media_run(alloc, setup, &ShaCipher, steps),
+        CipherName::Toy => run_under(alloc, setup, &ToyCipher, steps),
+        CipherName::Sha => run_under(alloc, setup, &ShaCipher, steps),
     }
 }
 

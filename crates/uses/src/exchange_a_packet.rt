@@ -1,5 +1,5 @@
 //! Two sessions that exchange a packet.
-ghost use Rattle.std.specs.Prelude.{◌≡◌, ◌<◌, ◌∷◌, [], length, IfOk, IfSome, OnOk};
+ghost use Rattle.std.specs.Prelude.{◌≡◌, ◌<◌, ◌∷◌, [], length, IfErr, IfOk, IfSome, OnOk};
 ghost use Rattle.mask_register.specs.MaskRegister.{Remembers};
 ghost use Rattle.queue_store.specs.Queue.{StandsFor as Holds};
 ghost use Rattle.stream_core.specs.Tables.{change_place};
@@ -86,9 +86,10 @@ pub fn end(
 /// `Memory`, also for a packet that is not written for its number or its payload.
 pub fn write(end: &mut End, packet: RtpWrite) -> Result<(), RtcError>
     requires { 0 < length end.old.state.tx }
-    ensures { OnOk result (end.new ≡ record end.old {
+    ensures ok { OnOk result (end.new ≡ record end.old {
       state = record end.old.state { tx = change_place (written packet) end.old.state.tx 0 };
     }) }
+    ensures cause { IfErr result (λ e. e ≡ RtcError.Memory) }
 {
     match end.streams().tx_at(0).write_rtp(packet) {
         Ok(()) => Ok(()),

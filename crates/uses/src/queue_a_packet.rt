@@ -1,7 +1,7 @@
 //! A packet that is written on a stream and sealed after the next tick.
-ghost use Rattle.std.specs.Prelude.{◌≡◌, IfOk, OnOk, OnErr, IsErrOf};
-ghost use Rattle.stream_core.specs.TxRecord.{written, after_timeout, after_poll, polled, transport_after_poll, IsTooLong};
-ghost use Rattle.stream_core.specs.declared.write.WriteError.TheVariants.{PayloadTooLong};
+ghost use Rattle.std.specs.Prelude.{◌≡◌, ◌↔◌, IfOk, OnOk, OnErr, IsErrOf};
+ghost use Rattle.stream_core.specs.TxRecord.{written, after_timeout, after_poll, polled, transport_after_poll, IsTooBig, IsTooLong};
+ghost use Rattle.stream_core.specs.declared.write.WriteError.TheVariants.{NumberTooBig, PayloadTooLong};
 
 use media_units::Instant;
 use std::alloc::Global;
@@ -22,7 +22,8 @@ pub fn write_and_poll(
     ensures counted { OnOk result (transport.new
         ≡ transport_after_poll (after_timeout now (written write stream.old)) transport.old) }
     ensures uncounted { OnErr result (transport.new ≡ transport.old) }
-    ensures long { IsTooLong write → IsErrOf result PayloadTooLong }
+    ensures number { IsErrOf result NumberTooBig ↔ IsTooBig write }
+    ensures payload { IsErrOf result PayloadTooLong ↔ IsTooLong write }
 {
     stream.write_rtp(write)?;
     stream.handle_timeout(now);

@@ -3,6 +3,7 @@ ghost use Rattle.std.specs.Prelude.{◌≡◌, ℕ, List, Some, IfOk, IfSome, st
 ghost use Rattle.pace_core.specs.Past.{made};
 ghost use Rattle.pace_core.specs.Run.{entries};
 ghost use Rattle.pace_core.specs.declared.run.PaceCall.{PaceCall as Act};
+ghost use Rattle.pace_script.specs.FirstWrong.{StopsRightly};
 ghost use Rattle.pace_script.specs.Spelling.{IsPaceScript};
 ghost use Rattle.pace_script.specs.Text.{text_of};
 
@@ -15,9 +16,10 @@ use std::alloc::Global;
 /// # Errors
 /// `Syntax` with the first line that is wrong; `Memory`.
 pub fn play_calls(alloc: Global, bytes: &[u8]) -> Result<Option<String>, ScriptError>
-    ensures { IfOk result (λ played. IfSome played (λ text. (rate : ℕ) × (calls : List Act)
+    ensures found { IfOk result (λ played. IfSome played (λ text. (rate : ℕ) × (calls : List Act)
         × IsPaceScript bytes.now rate calls
         × (string_bytes text ≡ text_of (entries (made (Some rate)) calls)))) }
+    ensures first { StopsRightly result bytes.now }
 {
     let (rate, calls) = read_pace_script(alloc, bytes)?;
     let log = match pace_run(alloc, rate, calls.as_slice()) {

@@ -5,7 +5,7 @@ ghost use Rattle.media_laws.specs.Keys.{sealing_of};
 
 use media_laws::laws::{holds_of_run, plays_steps};
 use media_model::{Setup, Step, Transcript};
-use media_play::media_run;
+use media_play::{media_run, runs_of_slices};
 use srtp_core::SrtpCipher;
 use std::alloc::Global;
 
@@ -22,7 +22,9 @@ pub fn played_to_the_end<C: SrtpCipher>(
 {
     holds_of_run::<C>();
     plays_steps::<C>();
-    match media_run(alloc, setup, cipher, steps) {
+    runs_of_slices::<C>();
+    let mut given = steps.iter();
+    match media_run(alloc, setup, cipher, &mut given) {
         Ok(transcript) => Some(transcript),
         Err(_) => None,
     }

@@ -14,7 +14,8 @@ pub fn played(alloc: Global, setup: &Setup, steps: &[Step]) -> Transcript
     ensures sendings { SendsWrites setup.now result }
     ensures yields { YieldsWrites setup.now result }
 {
-    match media_run(alloc, setup, &ToyCipher, steps) {
+    let mut given = steps.iter();
+    match media_run(alloc, setup, &ToyCipher, &mut given) {
         Ok(transcript) => transcript,
         Err(fault) => fault.sofar,
     }

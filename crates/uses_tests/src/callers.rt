@@ -20,7 +20,7 @@ use srtp_core::{KeyingMaterial, ShaCipher, SrtpError, SrtpProfile};
 use std::alloc::{AllocError, Global};
 use std::test::Fail;
 use stream_core::{
-    PacketReceipt, Payload, PayloadTypes, RtpPacket, RtpWrite, SendQueue, Sent as SentPacket,
+    PacketReceipt, Payload, PayloadTypes, RtpPacket, RtpWrite, Seen, SendQueue, Sent as SentPacket,
     StreamTx, Streams, Transport, TypeRow,
 };
 use twcc_core::{TwccRecvRegister, TwccSendRegister};
@@ -247,6 +247,19 @@ fn a_queue_is_looked_into(rt: HostRuntime) -> Result<(), Fail> {
         None => false,
     };
     assert!(rt; found);
+    Ok(())
+}
+
+#[test]
+fn what_was_seen_is_gone_through(rt: HostRuntime) -> Result<(), Fail> {
+    let mut seen = Seen::new(rt.alloc());
+    assert!(rt; seen.is_empty());
+    seen.put(Ssrc::from(42), SeqNo::from(9))?;
+    seen.put(Ssrc::from(42), SeqNo::from(7))?;
+    assert!(rt; seen.len() == 1);
+    for (ssrc, window) in seen.iter() {
+        assert!(rt; *ssrc == Ssrc::from(42) && window.max_seq() == SeqNo::from(9));
+    }
     Ok(())
 }
 

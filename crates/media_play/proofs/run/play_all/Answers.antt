@@ -1,49 +1,78 @@
-use Rattle.std.proofs.Common.{◌<◌, ◌+◌, List, length, take, arith, sym, subst}
+use Rattle.std.proofs.Common.{◌+◌, inl, inr, List, [], ◌∷◌, ◌++◌, refl, sym, subst, length-append, arith}
 use Rattle.media_model.specs.declared.entry.Entry.{Entry}
 use Rattle.media_model.specs.declared.step.Step.{Step}
 use Rattle.media_play.specs.declared.fault.RunError.{RunError}
 use Rattle.media_laws.specs.Headline.{HoldsOfRun}
 use Rattle.media_laws.specs.Keys.{sealing_of}
-use Rattle.media_play.specs.Running.{HasCause, HoldsUntil, IsRunOf}
-use Rattle.media_play.proofs.Ending.{steps_more, none_begins, none_holds, ends_at, holds_at, played_of}
+use Rattle.media_laws.specs.Play.{Played}
+use Rattle.media_play.specs.Running.{Gave, EndsBehind, HoldsUntil, IsRunOf}
+use Rattle.media_play.proofs.Ending.{none_holds, ends_behind, holds_at, played_of}
+use Rattle.media_play.proofs.Given.{steps_of, gave_more, as_many, one_more}
 use Rattle.media_play.proofs.run.play_all.Goals as goal
 
 pub returns-in-Err-clause-cause : goal.returns-in-Err-clause-cause
-returns-in-Err-clause-cause g c =
-    none_begins g.C.SrtpCipher.meaning c.args.setup.now c.args.steps.now c.new-in-Err.result c.in-Err.cause
-    c.new-in-Err.ensures c.in-Err.ensures.cause
+returns-in-Err-clause-cause g c = inl (refl, c.in-Err.ensures.cause, c.new-in-Err.ensures)
 
 pub returns-in-Err-clause-holds : goal.returns-in-Err-clause-holds
 returns-in-Err-clause-holds g c =
     let setup = c.args.setup.now in
     none_holds (sealing_of g.C.SrtpCipher.meaning setup) setup c.new-in-Err.result c.in-Err.cause c.new-in-Err.ensures c.in-Err.ensures.cause
 
+pub loop-step-preserved : goal.loop-step-preserved
+loop-step-preserved g c =
+    let K = g.C.SrtpCipher.meaning in
+    let setup = c.args.setup.now in
+    let inv = c.loop-step.invariant in
+    let given = inv.0 in
+    let step = c.in-Some.step in
+    let on = c.in-Some.ensures.goes.on inv.3 in
+    let longer = length-append given (step ∷ []) in (
+      given ++ step ∷ [],
+      gave_more g.I.Iterator.next_gives c.args.steps.now c.loop-step.steps c.next.new.self given step inv.1 c.in-Some.ensures.steps,
+      on.0,
+      on.1,
+      omega arith,
+      omega arith,
+      subst (λ (steps : List Step). IsRunOf K setup steps c.in-Ok-play.next) (sym (one_more given step)) (c.in-Ok-play.ensures.played setup (steps_of given) inv.6).is_run,
+    )
+
 pub returns-in-Err-play-clause-cause : goal.returns-in-Err-play-clause-cause
 returns-in-Err-play-clause-cause g c =
     let K = g.C.SrtpCipher.meaning in
     let setup = c.args.setup.now in
-    let steps = c.args.steps.now in
-    let i = c.loop-i.i in
-    let run = c.loop-i.invariant in
+    let inv = c.loop-step.invariant in
+    let given = inv.0 in
+    let step = c.in-Some.step in
+    let run = inv.6 in
     let fault = c.in-Err-play.fault in
-    let within : i < length steps = omega arith in
-    let ends = ends_at K setup steps i c.index-steps-i.result c.loop-i.run.log fault.sofar fault.cause run.valid (played_of run) within
-    c.index-steps-i.is (c.in-Err-play.ensures.refused setup (take i steps) run) c.in-Err-play.ensures.memory in
-    subst (λ (es : List Entry). HasCause K setup steps es c.fault_at.result.cause) (sym c.fault_at.ensures.sofar)
-    (subst (λ (x : RunError). HasCause K setup steps fault.sofar x) (sym c.fault_at.ensures.cause) ends)
+    let many = as_many given in
+    let gave : Gave g.I.Iterator.next_gives c.args.steps.now (steps_of given ++ step.now ∷ []) c.next.new.self =
+    (given ++ step ∷ [], gave_more g.I.Iterator.next_gives c.args.steps.now c.loop-step.steps c.next.new.self given step inv.1 c.in-Some.ensures.steps, one_more given step) in
+    let ends = ends_behind K setup (steps_of given) step.now (c.loop-step.number + 1) c.loop-step.run.log fault.sofar fault.cause (omega arith)
+    (played_of run) (c.in-Err-play.ensures.refused setup (steps_of given) run) c.in-Err-play.ensures.memory in
+    inr (
+      run.valid,
+      (
+        steps_of given,
+        step.now,
+        gave,
+        subst (λ (es : List Entry). EndsBehind K setup (steps_of given) step.now es c.fault_at.result.cause) (sym c.fault_at.ensures.sofar)
+            (subst (λ (x : RunError). EndsBehind K setup (steps_of given) step.now fault.sofar x) (sym c.fault_at.ensures.cause) ends),
+      ),
+    )
 
 pub returns-in-Err-play-clause-holds : goal.returns-in-Err-play-clause-holds
 returns-in-Err-play-clause-holds g c =
     let K = g.C.SrtpCipher.meaning in
     let setup = c.args.setup.now in
     let seal = sealing_of K setup in
-    let before = take c.loop-i.i c.args.steps.now in
-    let log = c.loop-i.run.log in
-    let step = c.index-steps-i.result in
-    let run = c.loop-i.invariant in
+    let before = steps_of c.loop-step.invariant.0 in
+    let log = c.loop-step.run.log in
+    let step = c.in-Some.step.now in
+    let run = c.loop-step.invariant.6 in
     let fault = c.in-Err-play.fault in
     let laws = c.holds_of_run.ensures in
-    let holds = holds_at K setup (c.loop-i.i + 1) step log fault.sofar fault.cause (c.in-Err-play.ensures.refused setup before run) c.in-Err-play.ensures.memory
+    let holds = holds_at K setup (c.loop-step.number + 1) step log fault.sofar fault.cause (c.in-Err-play.ensures.refused setup before run) c.in-Err-play.ensures.memory
     (laws.whole setup before log run.valid (played_of run)) (λ side counter told e. laws.exhausted setup before log step side counter told run.valid (played_of run) e) in
     subst (λ (es : List Entry). HoldsUntil seal setup c.fault_at.result.cause es) (sym c.fault_at.ensures.sofar)
     (subst (λ (x : RunError). HoldsUntil seal setup x fault.sofar) (sym c.fault_at.ensures.cause) holds)
@@ -52,17 +81,17 @@ pub returns-clause-holds : goal.returns-clause-holds
 returns-clause-holds g c =
     let K = g.C.SrtpCipher.meaning in
     let setup = c.args.setup.now in
-    let run = c.loop-i.invariant in
+    let run = c.loop-step.invariant.6 in
     subst (λ (es : List Entry). HoldsOfRun (sealing_of K setup) setup es) (sym c.into_transcript.ensures)
-    (c.holds_of_run.ensures.whole setup (take c.loop-i.i c.args.steps.now) c.loop-i.run.log run.valid (played_of run))
+    (c.holds_of_run.ensures.whole setup (steps_of c.loop-step.invariant.0) c.loop-step.run.log run.valid (played_of run))
 
-pub loop-i-preserved : goal.loop-i-preserved
-loop-i-preserved g c =
-    let K = g.C.SrtpCipher.meaning in
-    let setup = c.args.setup.now in
-    let steps = c.args.steps.now in
-    let i = c.loop-i.i in
-    let within : i < length steps = omega arith in
-    subst (λ (ss : List Step). IsRunOf K setup ss c.in-Ok-play.next)
-    (steps_more steps i c.index-steps-i.result within c.index-steps-i.is)
-    (c.in-Ok-play.ensures.played setup (take i steps) c.loop-i.invariant).is_run
+pub returns-clause-played : goal.returns-clause-played
+returns-clause-played g c =
+    let inv = c.loop-step.invariant in
+    let run = inv.6 in (
+      steps_of inv.0,
+      c.loop-step.steps,
+      (inv.0, inv.1, refl),
+      c.in_default.ensures.steps,
+      subst (λ (es : List Entry). Played (sealing_of g.C.SrtpCipher.meaning c.args.setup.now) c.args.setup.now (steps_of inv.0) es) (sym c.into_transcript.ensures) (played_of run),
+    )

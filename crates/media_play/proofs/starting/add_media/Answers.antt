@@ -1,5 +1,5 @@
 use Rattle.mapping_core.specs.declared.rids.Rids.TheVariants.{Specific}
-use Rattle.std.proofs.Common.{◌≡◌, [], ◌++◌, List, sym, ap, subst, ◌∙◌}
+use Rattle.std.proofs.Common.{◌≡◌, [], ◌++◌, List, map, sym, ap, subst, ◌∙◌}
 use Rattle.std.specs.List.{filter_map}
 use Rattle.std.proofs.lemmas.Result.{on_ok_weaker}
 use Rattle.media_play.specs.Ends.{EndSession}
@@ -20,6 +20,8 @@ returns-in-Ok g c =
     let known =
     ap (λ (v : EndSession). has_mid mid v.state.medias) c.in-Ok.ensures.ok
     ∙ has_last c.args.session.now.state.medias c.set_rid_rx.new.self mid (ap (λ (m : MediaRecord). m.mid) c.set_rid_rx.ensures ∙ ap (λ (m : MediaRecord). m.mid) c.new-section.ensures) in
+    let types : c.set_rid_rx.new.self.remote_pts ≡ map (λ t. t.pt) setup.types =
+    ap (λ (m : MediaRecord). m.remote_pts) c.set_rid_rx.ensures ∙ ap (λ (m : MediaRecord). m.remote_pts) c.new-section.ensures ∙ c.in_ok-types.ensures in
     let rids : c.set_rid_rx.new.self.rids ≡ Specific [] = ap (λ (m : MediaRecord). m.rids) c.set_rid_rx.ensures ∙ ap Specific c.new.ensures in
     on_ok_weaker c.add_streams.result
     (λ starts cipher sent received once_sent once_heard h.
@@ -27,5 +29,5 @@ returns-in-Ok g c =
     let others = ap (λ (l : List Stream). received ++ filter_map (outgoing_in setup (peer_of c.args.side)) l) streams in
     starts_same cipher setup c.args.side _ _ _ _ c.add_streams.new.session own others
     (starts cipher sent received known (subst AreOnce (sym own) once_sent) (subst AreOnce (sym others) once_heard)
-    (starts_media cipher setup c.args.side sent received c.args.session.now c.add_media.new.self c.set_rid_rx.new.self rids c.in-Ok.ensures.ok h)))
+    (starts_media cipher setup c.args.side sent received c.args.session.now c.add_media.new.self c.set_rid_rx.new.self (record { expects = rids; types = types }) c.in-Ok.ensures.ok h)))
     c.add_streams.ensures

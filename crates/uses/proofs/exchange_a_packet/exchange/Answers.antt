@@ -30,7 +30,7 @@ returns c =
     let made_a = subst (λ (s : SessionView _ _). StandsFor Remembers Holds s (end_of material mid true)) (sym c.deref_mut-a.ensures.value) c.in_ok-sending.ensures.made in
     let made_b = subst (λ (s : SessionView _ _). StandsFor Remembers Holds s (end_of material mid false)) (sym c.deref_mut-b.ensures.value) c.in_ok-receiving.ensures.made in
     let sends = writes material mid payload Remembers Holds now ssrc c.new-packet.result c.deref_mut-a.result.now c.write.new.end c.streams.result.now c.declare_stream_tx.new.self c.from-ssrc.ensures written_is
-    made_a c.streams.ensures.rx c.streams.ensures.tx c.streams.ensures.threshold c.streams.ensures.known c.streams.ensures.repairs added c.in_ok-write.ensures in
+    made_a c.streams.ensures.rx c.streams.ensures.tx c.streams.ensures.threshold c.streams.ensures.known c.streams.ensures.repairs added c.in_ok-write.ensures.ok in
     let waits = expects material mid payload Remembers Holds c.deref_mut-b.result.now c.streams-2.result.now c.expect_stream_rx.new.self ssrc c.from-ssrc.ensures
     made_b c.streams-2.ensures.rx c.streams-2.ensures.tx c.streams-2.ensures.threshold c.streams-2.ensures.known c.streams-2.ensures.repairs c.in_ok-expect_stream_rx.ensures.ok in
     at_end material mid payload Remembers Holds now c.handle_timeout.new.self c.poll_datagram.new.self _ c.handle_rtp_receive.new.self c.poll_event-unpaused.new.self
