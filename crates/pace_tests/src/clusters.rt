@@ -42,24 +42,24 @@ fn sizes(size: Option<DataSize>) -> Option<u64> {
     }
 }
 
+// Makes a call, and whether it answers what it has to.
+fn agrees(cluster: &mut ProbeClusterState, call: &Call) -> bool {
+    match *call {
+        Ask(now, size) => sizes(cluster.next_packet(micros(now))) == size,
+        Send(now, size) => {
+            cluster.record_packet(micros(now), DataSize::bytes(size));
+            true
+        }
+        Time(nanos) => cluster.next_probe_time().as_nanos() == nanos,
+        Due(now, due) => cluster.should_send_now(micros(now)) == due,
+        Complete(whole) => cluster.is_complete(micros(0)) == whole,
+    }
+}
+
 fn follows(rt: &impl Abort, config: ProbeClusterConfig, calls: &[Call]) {
     let mut cluster = ProbeClusterState::new(config);
     for (i, call) in calls.iter().enumerate() {
-        match *call {
-            Ask(now, size) => {
-                assert!(rt; sizes(cluster.next_packet(micros(now))) == size, "call {i}");
-            }
-            Send(now, size) => cluster.record_packet(micros(now), DataSize::bytes(size)),
-            Time(nanos) => {
-                assert_eq!(rt; cluster.next_probe_time().as_nanos(), nanos, "call {i}");
-            }
-            Due(now, due) => {
-                assert_eq!(rt; cluster.should_send_now(micros(now)), due, "call {i}");
-            }
-            Complete(whole) => {
-                assert_eq!(rt; cluster.is_complete(micros(0)), whole, "call {i}");
-            }
-        }
+        assert!(rt; agrees(&mut cluster, call), "call {i}");
     }
 }
 

@@ -47,22 +47,22 @@ fn number(config: Option<ProbeClusterConfig>) -> Option<u64> {
     }
 }
 
+// Makes a call, and whether it answers what it has to.
+fn agrees<E: Estimator>(estimator: &mut E, call: &Call) -> bool {
+    match *call {
+        Timeout(now, can_probe, wanted) => {
+            number(estimator.handle_timeout(millis(now), can_probe)) == wanted
+        }
+        Poll(wanted) => estimator.poll_estimate() == rate(wanted),
+        Last(wanted) => estimator.last_estimate() == rate(wanted),
+        Pending(wanted) => estimator.pending() == wanted,
+        Wake(wanted) => estimator.poll_timeout() == moment(wanted),
+    }
+}
+
 fn follows<E: Estimator>(rt: &impl Abort, estimator: &mut E, calls: &[Call]) {
     for (i, call) in calls.iter().enumerate() {
-        match *call {
-            Timeout(now, can_probe, wanted) => {
-                let probe = estimator.handle_timeout(millis(now), can_probe);
-                assert!(rt; number(probe) == wanted, "call {i}");
-            }
-            Poll(wanted) => {
-                assert!(rt; estimator.poll_estimate() == rate(wanted), "call {i}");
-            }
-            Last(wanted) => assert!(rt; estimator.last_estimate() == rate(wanted), "call {i}"),
-            Pending(wanted) => assert_eq!(rt; estimator.pending(), wanted, "call {i}"),
-            Wake(wanted) => {
-                assert!(rt; estimator.poll_timeout() == moment(wanted), "call {i}");
-            }
-        }
+        assert!(rt; agrees(estimator, call), "call {i}");
     }
 }
 

@@ -1,7 +1,7 @@
 use crate::steps::Kind::{Apart, Fresh, Padding, Sent, Unpaced};
 use crate::steps::Seen::{Asked, Gave, Nothing, Wakes};
 use crate::steps::Step::{Poll, Send, Timeout, Wake};
-use crate::steps::{Held, NO, Queues, Seen, Step, at, number_of, play};
+use crate::steps::{Held, Queues, Seen, Step, at, number_of, play};
 use media_units::{Bitrate, Duration};
 use pace_core::{
     LeakyBucketPacer, NullPacer, PaceEntry, PaceLog, Pacer, PacerImpl, PacerReason,
@@ -23,7 +23,7 @@ const PROBE: Reason = Reason::Pacer(PacerReason::Probe1);
 
 const PROBE_PADDING: Reason = Reason::Pacer(PacerReason::Probe2);
 
-const EMPTY: Queues = [Held(b'v', 0, 0, Fresh), NO, NO, NO];
+const EMPTY: Queues = &[Held(b'v', 0, 0, Fresh)];
 
 // Plays each step and compares what is seen.
 fn follows<P: Pacer>(
@@ -48,11 +48,8 @@ const ROUNDS: [(u32, usize, u128); 5] = [
     (6, 6_000, 32_000),
 ];
 
-const SIXTH: [(Step, Seen); 3] = [
-    (
-        Timeout(1, [Held(b'v', 5, 5_000, Fresh), NO, NO, NO]),
-        Asked(None),
-    ),
+static SIXTH: [(Step<'static>, Seen); 3] = [
+    (Timeout(1, &[Held(b'v', 5, 5_000, Fresh)]), Asked(None)),
     (Poll, Gave(None)),
     (Wake, Wakes(Some(40_000_001), PACED)),
 ];
@@ -61,9 +58,9 @@ fn burst(rt: &impl Abort, alloc: Global) -> Result<(), AllocError> {
     let mut pacer = LeakyBucketPacer::new(alloc, Bitrate::mbps(1));
     for (count, bytes, bits) in ROUNDS.iter() {
         assert_eq!(rt; pacer.debt().as_billionths() / 1_000_000_000, *bits);
-        let queues = [Held(b'v', *count, *bytes, Fresh), NO, NO, NO];
+        let queues = [Held(b'v', *count, *bytes, Fresh)];
         let table = [
-            (Timeout(1, queues), Asked(None)),
+            (Timeout(1, &queues), Asked(None)),
             (Poll, Gave(Some((b'v', None)))),
             (Send(1, 1_000, b'v'), Nothing),
         ];
@@ -79,21 +76,20 @@ fn leaky_burst(rt: HostRuntime) {
 
 // Before anything was sent the first queue that holds packets, also before an unpaced one; then the
 // unpaced one that waits longest, and of equals the first.
-const MIXED: Queues = [
+const MIXED: Queues = &[
     Held(b'e', 0, 0, Fresh),
     Held(b'v', 1, 100, Fresh),
     Held(b'b', 1, 100, Unpaced(3)),
-    NO,
 ];
 
-const UNPACED: Queues = [
+const UNPACED: Queues = &[
     Held(b'v', 1, 100, Fresh),
     Held(b'a', 1, 100, Unpaced(7)),
     Held(b'b', 1, 100, Unpaced(3)),
     Held(b'c', 1, 100, Unpaced(3)),
 ];
 
-const FIRST: [(Step, Seen); 14] = [
+static FIRST: [(Step<'static>, Seen); 14] = [
     (Wake, Wakes(None, Reason::NotHappening)),
     (Poll, Gave(None)),
     (Timeout(10, MIXED), Asked(None)),
@@ -108,33 +104,27 @@ const FIRST: [(Step, Seen); 14] = [
     (
         Timeout(
             12,
-            [
-                Held(b'a', 0, 0, Unpaced(1)),
-                Held(b'v', 1, 100, Fresh),
-                NO,
-                NO,
-            ],
+            &[Held(b'a', 0, 0, Unpaced(1)), Held(b'v', 1, 100, Fresh)],
         ),
         Asked(None),
     ),
     (Poll, Gave(Some((b'v', None)))),
     // Each timeout chooses anew.
-    (Timeout(13, [NO, NO, NO, NO]), Asked(None)),
+    (Timeout(13, &[]), Asked(None)),
     (Poll, Gave(None)),
 ];
 
 // The one that was sent on longest ago, of equals the first; one that was never sent on before all;
 // media before padding.
-const TURNS: [(Step, Seen); 11] = [
+static TURNS: [(Step<'static>, Seen); 11] = [
     (Send(0, 0, b'v'), Nothing),
     (
         Timeout(
             10,
-            [
+            &[
                 Held(b'u', 1, 100, Sent(9)),
                 Held(b'v', 1, 100, Sent(5)),
                 Held(b'w', 1, 100, Sent(5)),
-                NO,
             ],
         ),
         Asked(None),
@@ -144,7 +134,7 @@ const TURNS: [(Step, Seen); 11] = [
     (
         Timeout(
             10,
-            [
+            &[
                 Held(b'p', 1, 100, Padding(1)),
                 Held(b'v', 1, 100, Sent(5)),
                 Held(b'w', 1, 100, Fresh),
@@ -157,12 +147,7 @@ const TURNS: [(Step, Seen); 11] = [
     (
         Timeout(
             10,
-            [
-                Held(b'p', 1, 100, Padding(1)),
-                Held(b'v', 1, 100, Sent(5)),
-                NO,
-                NO,
-            ],
+            &[Held(b'p', 1, 100, Padding(1)), Held(b'v', 1, 100, Sent(5))],
         ),
         Asked(None),
     ),
@@ -170,12 +155,7 @@ const TURNS: [(Step, Seen); 11] = [
     (
         Timeout(
             10,
-            [
-                Held(b'e', 0, 0, Fresh),
-                Held(b'p', 1, 100, Padding(1)),
-                NO,
-                NO,
-            ],
+            &[Held(b'e', 0, 0, Fresh), Held(b'p', 1, 100, Padding(1))],
         ),
         Asked(None),
     ),
@@ -186,7 +166,7 @@ const TURNS: [(Step, Seen); 11] = [
 // Padding is asked of the queue that was sent on last, of equals the last; where both debts are
 // drained; not beside packets that are held; and only of queues for it. 5 ms at 50 kbit/s are 31
 // bytes.
-const PADDED: [(Step, Seen); 28] = [
+static PADDED: [(Step<'static>, Seen); 28] = [
     (Step::Padding(50_000), Nothing),
     (Timeout(5, EMPTY), Asked(Some((b'v', 31)))),
     (Wake, Wakes(Some(40_000_005), HANDLE)),
@@ -198,19 +178,16 @@ const PADDED: [(Step, Seen); 28] = [
     (Timeout(4_960_004, EMPTY), Asked(None)),
     (Timeout(4_960_005, EMPTY), Asked(Some((b'v', 31)))),
     (
-        Timeout(5_000_000, [Held(b'v', 1, 100, Fresh), NO, NO, NO]),
+        Timeout(5_000_000, &[Held(b'v', 1, 100, Fresh)]),
         Asked(None),
     ),
     (Poll, Gave(Some((b'v', None)))),
-    (
-        Timeout(5_000_000, [Held(b'v', 0, 0, Apart), NO, NO, NO]),
-        Asked(None),
-    ),
+    (Timeout(5_000_000, &[Held(b'v', 0, 0, Apart)]), Asked(None)),
     (Wake, Wakes(Some(45_000_000), HANDLE)),
     (
         Timeout(
             5_000_000,
-            [
+            &[
                 Held(b'u', 0, 0, Sent(3)),
                 Held(b'v', 0, 0, Sent(9)),
                 Held(b'w', 0, 0, Sent(9)),
@@ -222,7 +199,7 @@ const PADDED: [(Step, Seen); 28] = [
     (
         Timeout(
             5_000_000,
-            [Held(b'v', 0, 0, Fresh), Held(b'w', 0, 0, Fresh), NO, NO],
+            &[Held(b'v', 0, 0, Fresh), Held(b'w', 0, 0, Fresh)],
         ),
         Asked(Some((b'w', 31))),
     ),
@@ -243,12 +220,12 @@ const PADDED: [(Step, Seen); 28] = [
     (Timeout(13_000_000, EMPTY), Asked(Some((b'v', 0)))),
 ];
 
-const NOTHING_HELD: Queues = [Held(b'v', 1, 0, Fresh), NO, NO, NO];
+const NOTHING_HELD: Queues = &[Held(b'v', 1, 0, Fresh)];
 
 // The debt in bits after each step, and the rate of the last timeout. A debt is cut to 500 ms at
 // the rate, and drains at the rate of the timeout before, whatever is set since; at exactly the
 // burst of 4,000 bits none is let out, and a nanosecond later one is.
-const OWED: [(Step, Seen, u64, u64); 17] = [
+static OWED: [(Step<'static>, Seen, u64, u64); 17] = [
     (Timeout(0, NOTHING_HELD), Asked(None), 0, 1_000_000),
     (Send(0, 100_000, b'v'), Nothing, 500_000, 1_000_000),
     (Step::Pacing(100_000), Nothing, 500_000, 1_000_000),
@@ -283,7 +260,7 @@ const OWED: [(Step, Seen, u64, u64); 17] = [
     (Send(4_060_020_000, 1_000, b'v'), Nothing, 0, 0),
     // What waited for 2 s and more is drained in 1 ms.
     (
-        Timeout(4_060_020_000, [Held(b'v', 1, 1_000, Fresh), NO, NO, NO]),
+        Timeout(4_060_020_000, &[Held(b'v', 1, 1_000, Fresh)]),
         Asked(None),
         0,
         8_000_000,
@@ -291,12 +268,12 @@ const OWED: [(Step, Seen, u64, u64); 17] = [
 ];
 
 // Two packets that waited for 1.5 s each have 0.5 s left: 1,000 bytes take 16 kbit/s.
-const RAISED: [(Step, Seen, u64, u64); 9] = [
+static RAISED: [(Step<'static>, Seen, u64, u64); 9] = [
     (Step::Pacing(0), Nothing, 0, 0),
     (
         Timeout(
             1_500_000_000,
-            [Held(b'u', 1, 400, Fresh), Held(b'v', 1, 600, Fresh), NO, NO],
+            &[Held(b'u', 1, 400, Fresh), Held(b'v', 1, 600, Fresh)],
         ),
         Asked(None),
         0,
@@ -304,10 +281,7 @@ const RAISED: [(Step, Seen, u64, u64); 9] = [
     ),
     // The rate is at most 10 Gbit/s, and the burst 504,000 bits.
     (
-        Timeout(
-            1_500_000_000,
-            [Held(b'v', 1, 1_000_000_000, Fresh), NO, NO, NO],
-        ),
+        Timeout(1_500_000_000, &[Held(b'v', 1, 1_000_000_000, Fresh)]),
         Asked(None),
         0,
         10_000_000_000,
@@ -319,10 +293,7 @@ const RAISED: [(Step, Seen, u64, u64); 9] = [
         10_000_000_000,
     ),
     (
-        Timeout(
-            1_500_000_000,
-            [Held(b'v', 1, 1_000_000_000, Fresh), NO, NO, NO],
-        ),
+        Timeout(1_500_000_000, &[Held(b'v', 1, 1_000_000_000, Fresh)]),
         Asked(None),
         503_992,
         10_000_000_000,
@@ -335,10 +306,7 @@ const RAISED: [(Step, Seen, u64, u64); 9] = [
         10_000_000_000,
     ),
     (
-        Timeout(
-            1_500_000_000,
-            [Held(b'v', 1, 1_000_000_000, Fresh), NO, NO, NO],
-        ),
+        Timeout(1_500_000_000, &[Held(b'v', 1, 1_000_000_000, Fresh)]),
         Asked(None),
         504_000,
         10_000_000_000,
@@ -354,10 +322,9 @@ fn owes(
 ) -> Result<(), AllocError> {
     for (i, (step, wanted, bits, rate)) in table.iter().enumerate() {
         let seen = play(rt, alloc, pacer, *step)?;
-        assert!(rt; seen == *wanted, "step {i}");
         let owed = pacer.debt().as_billionths() / 1_000_000_000;
-        assert_eq!(rt; owed, *bits as u128, "step {i}");
-        assert!(rt; pacer.rate() == Bitrate::bps(*rate), "step {i}");
+        let owes = owed == *bits as u128 && pacer.rate() == Bitrate::bps(*rate);
+        assert!(rt; seen == *wanted && owes, "step {i}");
     }
     Ok(())
 }
@@ -373,14 +340,14 @@ fn cluster(number: u64) -> ProbeClusterConfig {
     .with_min_packet_count(2)
 }
 
-const ONE_HELD: Queues = [Held(b'v', 1, 240, Fresh), NO, NO, NO];
+const ONE_HELD: Queues = &[Held(b'v', 1, 240, Fresh)];
 
 // The cluster that runs after each step, and the one that ended. Padding is asked for 2 ms after
 // the beginning at the earliest and then each 2 ms; media counts too; a second cluster follows at
 // once.
-type Probing = (Step, Seen, Option<u64>, Option<u64>);
+type Probing = (Step<'static>, Seen, Option<u64>, Option<u64>);
 
-const IN_A_ROW: [Probing; 16] = [
+static IN_A_ROW: [Probing; 16] = [
     (Timeout(1_999_999, EMPTY), Asked(None), Some(1), None),
     (Wake, Wakes(Some(0), PROBE_PADDING), Some(1), None),
     (
@@ -416,15 +383,15 @@ const IN_A_ROW: [Probing; 16] = [
 ];
 
 // Without a queue for padding all clusters are dropped, where no packets are held.
-const STARVED: [Probing; 3] = [
+static STARVED: [Probing; 3] = [
     (
-        Timeout(2_000_000, [Held(b'v', 1, 240, Apart), NO, NO, NO]),
+        Timeout(2_000_000, &[Held(b'v', 1, 240, Apart)]),
         Asked(None),
         Some(1),
         None,
     ),
     (
-        Timeout(2_000_000, [Held(b'v', 0, 0, Apart), NO, NO, NO]),
+        Timeout(2_000_000, &[Held(b'v', 0, 0, Apart)]),
         Asked(None),
         None,
         None,
@@ -433,7 +400,7 @@ const STARVED: [Probing; 3] = [
 ];
 
 // A null pacer sends no cluster.
-const NEVER: [Probing; 2] = [
+static NEVER: [Probing; 2] = [
     (Timeout(2_000_000, EMPTY), Asked(None), None, None),
     (Send(2_000_000, 480, b'v'), Nothing, None, None),
 ];
@@ -448,29 +415,34 @@ fn probes(
     pacer.start_probe(cluster(2))?;
     for (i, (step, wanted, active, ended)) in table.iter().enumerate() {
         let seen = play(rt, alloc, pacer, *step)?;
-        assert!(rt; seen == *wanted, "step {i}");
-        assert!(rt; number_of(pacer.active_cluster()) == *active, "step {i}");
-        assert!(rt;
-            number_of(pacer.check_probe_complete(at(0))) == *ended,
-            "step {i}"
-        );
+        let runs = number_of(pacer.active_cluster()) == *active;
+        let ends = number_of(pacer.check_probe_complete(at(0))) == *ended;
+        assert!(rt; seen == *wanted && runs && ends, "step {i}");
     }
     Ok(())
 }
 
 // The rate of a timeout that drops the clusters is still theirs, and the pacing rate comes back
 // after it.
-const DROPPED: [(Step, Seen, u64, u64); 2] = [
-    (Timeout(1, [NO, NO, NO, NO]), Asked(None), 0, 1_920_000),
-    (Timeout(1, [NO, NO, NO, NO]), Asked(None), 0, 1_000_000),
+static DROPPED: [(Step<'static>, Seen, u64, u64); 2] = [
+    (Timeout(1, &[]), Asked(None), 0, 1_920_000),
+    (Timeout(1, &[]), Asked(None), 0, 1_000_000),
 ];
 
 #[test]
-fn leaky_debts(rt: HostRuntime) {
-    for table in [OWED.as_slice(), RAISED.as_slice()] {
-        let mut pacer = LeakyBucketPacer::new(rt.alloc(), Bitrate::mbps(1));
-        assert!(rt; owes(&rt, rt.alloc(), &mut pacer, table).is_ok());
-    }
+fn debts_of_a_leaky_bucket(rt: HostRuntime) {
+    let mut pacer = LeakyBucketPacer::new(rt.alloc(), Bitrate::mbps(1));
+    assert!(rt; owes(&rt, rt.alloc(), &mut pacer, &OWED).is_ok());
+}
+
+#[test]
+fn rates_of_a_leaky_bucket(rt: HostRuntime) {
+    let mut pacer = LeakyBucketPacer::new(rt.alloc(), Bitrate::mbps(1));
+    assert!(rt; owes(&rt, rt.alloc(), &mut pacer, &RAISED).is_ok());
+}
+
+#[test]
+fn rates_of_dropped_clusters(rt: HostRuntime) {
     let mut pacer = LeakyBucketPacer::new(rt.alloc(), Bitrate::mbps(1));
     assert!(rt; pacer.start_probe(cluster(1)).is_ok());
     assert!(rt; owes(&rt, rt.alloc(), &mut pacer, &DROPPED).is_ok());
@@ -478,10 +450,14 @@ fn leaky_debts(rt: HostRuntime) {
 
 #[test]
 fn clusters_run_one_after_another(rt: HostRuntime) {
-    for table in [IN_A_ROW.as_slice(), STARVED.as_slice()] {
-        let mut pacer = PacerImpl::leaky_bucket(rt.alloc(), Bitrate::mbps(1));
-        assert!(rt; probes(&rt, rt.alloc(), &mut pacer, table).is_ok());
-    }
+    let mut pacer = PacerImpl::leaky_bucket(rt.alloc(), Bitrate::mbps(1));
+    assert!(rt; probes(&rt, rt.alloc(), &mut pacer, &IN_A_ROW).is_ok());
+}
+
+#[test]
+fn clusters_without_padding(rt: HostRuntime) {
+    let mut pacer = PacerImpl::leaky_bucket(rt.alloc(), Bitrate::mbps(1));
+    assert!(rt; probes(&rt, rt.alloc(), &mut pacer, &STARVED).is_ok());
     let mut pacer = PacerImpl::null(rt.alloc());
     assert!(rt; probes(&rt, rt.alloc(), &mut pacer, &NEVER).is_ok());
 }
@@ -489,7 +465,7 @@ fn clusters_run_one_after_another(rt: HostRuntime) {
 // Packets leave at once, from the queue that was sent on longest ago; one that was never sent on
 // goes before all, and of equals the first. After a poll the wake is when the snapshot was made,
 // until a packet is sent or a timeout.
-const NULL: [(Step, Seen); 23] = [
+static NULL: [(Step<'static>, Seen); 23] = [
     (Step::Pacing(0), Nothing),
     (Step::Padding(1_000_000), Nothing),
     (Wake, Wakes(None, HANDLE)),
@@ -497,11 +473,10 @@ const NULL: [(Step, Seen); 23] = [
     (
         Timeout(
             5,
-            [
+            &[
                 Held(b'u', 2, 200, Fresh),
                 Held(b'e', 0, 0, Fresh),
                 Held(b'v', 1, 100, Fresh),
-                NO,
             ],
         ),
         Asked(None),
@@ -518,7 +493,7 @@ const NULL: [(Step, Seen); 23] = [
     (
         Timeout(
             8,
-            [
+            &[
                 Held(b'v', 1, 100, Fresh),
                 Held(b'u', 1, 100, Fresh),
                 Held(b'w', 1, 100, Fresh),
@@ -538,11 +513,25 @@ const NULL: [(Step, Seen); 23] = [
 ];
 
 #[test]
-fn turns(rt: HostRuntime) {
-    for table in [FIRST.as_slice(), TURNS.as_slice(), PADDED.as_slice()] {
-        let mut pacer = PacerImpl::leaky_bucket(rt.alloc(), Bitrate::mbps(1));
-        assert!(rt; follows(&rt, rt.alloc(), &mut pacer, table).is_ok());
-    }
+fn first_turns_of_a_leaky_bucket(rt: HostRuntime) {
+    let mut pacer = PacerImpl::leaky_bucket(rt.alloc(), Bitrate::mbps(1));
+    assert!(rt; follows(&rt, rt.alloc(), &mut pacer, &FIRST).is_ok());
+}
+
+#[test]
+fn turns_of_a_leaky_bucket(rt: HostRuntime) {
+    let mut pacer = PacerImpl::leaky_bucket(rt.alloc(), Bitrate::mbps(1));
+    assert!(rt; follows(&rt, rt.alloc(), &mut pacer, &TURNS).is_ok());
+}
+
+#[test]
+fn padding_of_a_leaky_bucket(rt: HostRuntime) {
+    let mut pacer = PacerImpl::leaky_bucket(rt.alloc(), Bitrate::mbps(1));
+    assert!(rt; follows(&rt, rt.alloc(), &mut pacer, &PADDED).is_ok());
+}
+
+#[test]
+fn turns_of_a_null_pacer(rt: HostRuntime) {
     let mut pacer = PacerImpl::null(rt.alloc());
     assert!(rt; follows(&rt, rt.alloc(), &mut pacer, &NULL).is_ok());
     // The same without the choice of two kinds.

@@ -24,18 +24,16 @@ pub enum Kind {
 #[derive(Clone, Copy)]
 pub struct Held(pub u8, pub u32, pub usize, pub Kind);
 
-// The queues of a timeout, of which those with the letter 0 are left out.
-pub type Queues = [Held; 4];
-
-pub const NO: Held = Held(0, 0, 0, Kind::Fresh);
+// The queues of a timeout.
+pub type Queues = &'static [Held];
 
 // A call of a pacer. Moments are in nanoseconds, rates in bits a second.
 #[derive(Clone, Copy)]
-pub enum Step {
+pub enum Step<'a> {
     Pacing(u64),
     Padding(u64),
     // A timeout with these queues.
-    Timeout(u64, Queues),
+    Timeout(u64, &'a [Held]),
     Poll,
     // A packet of so many bytes is sent on a queue.
     Send(u64, u64, u8),
@@ -115,9 +113,7 @@ fn states(rt: &impl Abort, alloc: Global, queues: &[Held]) -> Result<Vec<QueueSt
     ) = (None, None, None);
     let mut states = Vec::new(alloc);
     for held in queues {
-        if held.0 != 0 {
-            states.push(state_of(rt, held))?;
-        }
+        states.push(state_of(rt, held))?;
     }
     Ok(states)
 }
@@ -166,7 +162,7 @@ pub fn play<P: Pacer>(
     match step {
         Step::Pacing(rate) => pacer.set_pacing_rate(Bitrate::bps(rate)),
         Step::Padding(rate) => pacer.set_padding_rate(Bitrate::bps(rate)),
-        Step::Timeout(now, queues) => return timeout(rt, alloc, pacer, now, &queues),
+        Step::Timeout(now, queues) => return timeout(rt, alloc, pacer, now, queues),
         Step::Poll => return Ok(poll(pacer)),
         Step::Send(now, size, letter) => {
             pacer.register_send(at(now), DataSize::bytes(size), key_of(rt, letter))?;

@@ -3,6 +3,7 @@ ghost use Rattle.std.specs.Prelude.{◌≡◌};
 use media_units::Duration;
 use payload_core::{CodecExtra, TelephoneEvent, TelephoneFault, duration_from_units};
 use rtp_base::Frequency;
+use std::process::Abort;
 
 // Durations are in ticks of the clock on the wire (RFC 4733 section 2.3.5): 8,000 of them are a
 // second of G.711, 48,000 one of Opus. Parts of a nanosecond are rounded up.
@@ -37,36 +38,33 @@ fn digit(nanos: u64) -> TelephoneEvent
     }
 }
 
+static TICKS_OF_8_KHZ: [(u64, Option<[u8; 4]>); 6] = [
+    (0, Some([5, 0x8a, 0, 0])),
+    (124_999, Some([5, 0x8a, 0, 0])),
+    (125_000, Some([5, 0x8a, 0, 1])),
+    (8_191_875_000, Some([5, 0x8a, 255, 255])),
+    (8_191_999_999, Some([5, 0x8a, 255, 255])),
+    (8_192_000_000, None),
+];
+
+static TICKS_OF_48_KHZ: [(u64, Option<[u8; 4]>); 4] = [
+    (0, Some([5, 0x8a, 0, 0])),
+    (20_834, Some([5, 0x8a, 0, 1])),
+    (1_365_333_333, Some([5, 0x8a, 255, 255])),
+    (1_365_333_334, None),
+];
+
+fn has_ticks(rt: &impl Abort, clock: Frequency, rows: &[(u64, Option<[u8; 4]>)]) {
+    for (nanos, bytes) in rows {
+        assert_eq!(rt; digit(*nanos).to_bytes(clock), *bytes, "{nanos} ns");
+    }
+}
+
 // A tick that has not passed does not count, and 65,536 ticks do not fit.
 #[test]
 fn ticks_of_durations(rt: HostRuntime) {
-    let rows = [
-        (0, Frequency::EIGHT_KHZ, Some([5, 0x8a, 0, 0])),
-        (124_999, Frequency::EIGHT_KHZ, Some([5, 0x8a, 0, 0])),
-        (125_000, Frequency::EIGHT_KHZ, Some([5, 0x8a, 0, 1])),
-        (
-            8_191_875_000,
-            Frequency::EIGHT_KHZ,
-            Some([5, 0x8a, 255, 255]),
-        ),
-        (
-            8_191_999_999,
-            Frequency::EIGHT_KHZ,
-            Some([5, 0x8a, 255, 255]),
-        ),
-        (8_192_000_000, Frequency::EIGHT_KHZ, None),
-        (0, Frequency::FORTY_EIGHT_KHZ, Some([5, 0x8a, 0, 0])),
-        (20_834, Frequency::FORTY_EIGHT_KHZ, Some([5, 0x8a, 0, 1])),
-        (
-            1_365_333_333,
-            Frequency::FORTY_EIGHT_KHZ,
-            Some([5, 0x8a, 255, 255]),
-        ),
-        (1_365_333_334, Frequency::FORTY_EIGHT_KHZ, None),
-    ];
-    for (nanos, clock, bytes) in rows {
-        assert_eq!(rt; digit(nanos).to_bytes(clock), bytes, "{nanos} ns");
-    }
+    has_ticks(&rt, Frequency::EIGHT_KHZ, &TICKS_OF_8_KHZ);
+    has_ticks(&rt, Frequency::FORTY_EIGHT_KHZ, &TICKS_OF_48_KHZ);
 }
 
 // An event, its end, a reserved bit that is passed over, its volume and 16 bits of ticks (RFC 4733
