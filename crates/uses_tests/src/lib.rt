@@ -6,3 +6,5 @@
 mod belonging;
 #[cfg(test)]
 mod callers;
+#[cfg(test)]
+mod runs;
