@@ -1,7 +1,7 @@
 use crate::calls::{event, receive};
 use crate::ends::{End, moment};
-use crate::packets::is_opened;
-use crate::telling::is_paused;
+use crate::packets::{SEALED, is_opened};
+use crate::telling::is_unpaused;
 use rtp_base::{Kind, SeqNo};
 use rtp_wire::ExtensionValues;
 use session_core::Event;
@@ -19,23 +19,13 @@ pub struct Wanted<'a> {
     pub unpauses: bool,
 }
 
-/// The packet numbered 1 with the payload 0102.
-pub fn first_packet() -> Wanted<'static> {
-    Wanted {
-        number: 1,
-        payload: &[1, 2],
-        values: ExtensionValues::none(),
-        unpauses: true,
-    }
-}
-
 // Whether the stream that is unpaused, if any, is told next.
 fn tells_unpaused(end: &mut End, unpauses: bool) -> bool {
     if !unpauses {
         return true;
     }
     match event(end) {
-        Some(event) => is_paused(&event, 42, false),
+        Some(event) => is_unpaused(&event, 42),
         None => false,
     }
 }
@@ -65,11 +55,13 @@ pub fn tells(end: &mut End, bytes: &[u8], wanted: &Wanted<'_>) -> bool {
     right & before & told & event(end).is_none()
 }
 
-/// Whether bytes that come open nothing, and nothing is told.
-pub fn refuses(end: &mut End, bytes: &[u8]) -> bool {
-    let refused = match receive(end, moment(), bytes) {
-        Ok(opened) => opened.is_none(),
-        Err(_) => false,
+/// Whether `SEALED` opens, and its packet is told.
+pub fn tells_first(end: &mut End) -> bool {
+    let wanted = Wanted {
+        number: 1,
+        payload: &[1, 2],
+        values: ExtensionValues::none(),
+        unpauses: true,
     };
-    refused & event(end).is_none()
+    tells(end, &SEALED, &wanted)
 }

@@ -4,8 +4,7 @@ use crate::ends::End;
 use mask_register::MaskRegister;
 use media_units::Instant;
 use queue_store::QueueStore;
-use rtp_base::Mid;
-use session_core::{Datagram, DrainFault, Drained, Event, Media, Opened, RtcError};
+use session_core::{Datagram, DrainFault, Drained, Event, Opened, RtcError};
 use stream_core::{Sent, Streams};
 
 /// Takes in RTP.
@@ -36,16 +35,6 @@ pub fn event(end: &mut End) -> Option<Event> {
 /// All that waits.
 pub fn drain(end: &mut End, now: Instant) -> Result<Drained, DrainFault> {
     end.drain(now)
-}
-
-/// The first media section of a mid, to be changed.
-pub fn section_mut(end: &mut End, mid: Mid) -> Option<&mut Media> {
-    end.media_by_mid_mut(mid)
-}
-
-/// Takes a media section out.
-pub fn remove(end: &mut End, mid: Mid) {
-    end.remove_media(mid);
 }
 
 /// The streams.

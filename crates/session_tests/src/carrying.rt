@@ -8,8 +8,8 @@ use rtp_wire::{
 };
 use std::alloc::Global;
 
-/// All header extensions.
-pub const EXTENSIONS: [Extension; 9] = [
+// All header extensions.
+const EXTENSIONS: [Extension; 9] = [
     Extension::AudioLevel,
     Extension::AbsoluteSendTime,
     Extension::TransportSequenceNumber,
@@ -81,48 +81,12 @@ fn told_of_all(before: u16) -> ExtensionValues {
     }
 }
 
-// Of all values those of one extension.
-fn alone(extension: Extension, all: ExtensionValues) -> ExtensionValues {
-    let mut one = ExtensionValues::none();
-    match extension {
-        Extension::AudioLevel => {
-            one.audio_level = all.audio_level;
-            one.voice_activity = all.voice_activity;
-        }
-        Extension::AbsoluteSendTime => one.abs_send_time = all.abs_send_time,
-        Extension::TransportSequenceNumber => one.transport_cc = all.transport_cc,
-        Extension::RtpMid => one.mid = all.mid,
-        Extension::RtpStreamId => one.rid = all.rid,
-        Extension::RepairedRtpStreamId => one.rid_repair = all.rid_repair,
-        Extension::VideoOrientation => one.video_orientation = all.video_orientation,
-        Extension::AbsoluteCaptureTime => one.abs_capture_time = all.abs_capture_time,
-        Extension::PlayoutDelay => {
-            one.play_delay_min = all.play_delay_min;
-            one.play_delay_max = all.play_delay_max;
-        }
-    }
-    one
-}
-
-fn told(ids: Ids, before: u16) -> ExtensionValues {
-    match ids {
-        Ids::Nothing => ExtensionValues::none(),
-        Ids::Only(extension) => alone(extension, told_of_all(before)),
-        Ids::All => told_of_all(before),
-    }
-}
-
 // What is told once the peer has acknowledged the SSRC: mid and rid as they were written.
-fn told_after(ids: Ids, before: u16) -> ExtensionValues {
-    let told = told(ids, before);
-    let rid = match told.rid {
-        Some(_) => written().rid,
-        None => None,
-    };
+fn told_after(before: u16) -> ExtensionValues {
     ExtensionValues {
         mid: None,
-        rid,
-        ..told
+        rid: written().rid,
+        ..told_of_all(before)
     }
 }
 
@@ -147,12 +111,12 @@ fn carries_one(
     written & tells(b, sent.bytes.as_slice(), &wanted)
 }
 
-/// Whether packets are told with the values of the extensions that have ids: two before the peer
-/// acknowledges the SSRC, and one after it.
-pub fn carries(alloc: Global, a: &mut End, b: &mut End, ids: Ids) -> bool {
-    let first = carries_one(alloc, a, b, 1, told(ids, 0));
-    let second = carries_one(alloc, a, b, 2, told(ids, 1));
+/// Whether packets are told with the values of all extensions: two before the peer acknowledges the
+/// SSRC, and one after it.
+pub fn carries(alloc: Global, a: &mut End, b: &mut End) -> bool {
+    let first = carries_one(alloc, a, b, 1, told_of_all(0));
+    let second = carries_one(alloc, a, b, 2, told_of_all(1));
     let known = acknowledge(alloc, a);
-    let third = carries_one(alloc, a, b, 3, told_after(ids, 2));
+    let third = carries_one(alloc, a, b, 3, told_after(2));
     first & second & known & third
 }

@@ -1,30 +1,17 @@
 //! Datagrams that come to an end which receives: what opens, what is told, and which streams stand
 //! then.
-use crate::calls::{event, receive, section_mut, streams, tick};
+use crate::calls::{event, receive, streams, tick};
 use crate::carrying::{Ids, map_of};
-use crate::ends::{
-    End, ask_frame, at, config, expect, give_keys, mid, moment, new_end, rid, section, ssrc,
-};
+use crate::ends::{End, at, config, expect, give_keys, mid, moment, new_end, rid, section, ssrc};
 use crate::leaving::leaves;
-use crate::mapped::MAPPED;
+use crate::mapped::CAME;
 use crate::packets::{head, is_opened, joined, seal_numbered};
-use crate::restored::RESTORED;
 use mapping_core::Rids;
 use media_base::Listed;
 use media_units::Instant;
-use rtp_base::{KeyframeRequestKind, Kind, MidRid, Pt, Rid, SeqNo};
+use rtp_base::{Kind, MidRid, Pt, Rid, SeqNo};
 use session_core::{Event, Media, MediaKind, Opened};
 use std::alloc::Global;
-
-/// How a datagram is made.
-#[derive(Clone, Copy)]
-pub enum Made {
-    Plain,
-    /// With the padding bit: its payload ends in its padding.
-    Padded,
-    /// With another last byte of its tag.
-    Forged,
-}
 
 /// The elements of a header extension, in whole words: the mid has the id 4, the rid 5, and the rid
 /// of what is repaired 6 (RFC 8285 section 4.2).
@@ -32,14 +19,7 @@ pub type Names = &'static [u8];
 
 /// A datagram that comes: its SSRC, type and number, the names that it carries, and its payload.
 #[derive(Clone, Copy)]
-pub struct Came(
-    pub u8,
-    pub u8,
-    pub u64,
-    pub Names,
-    pub Made,
-    pub &'static [u8],
-);
+pub struct Came(pub u8, pub u8, pub u64, pub Names, pub &'static [u8]);
 
 /// What a datagram brings.
 #[derive(Clone, Copy)]
@@ -61,16 +41,8 @@ pub enum Step {
     Has(u8, usize, u8),
     /// No stream stands on this SSRC, for its packets or its repairs.
     Lacks(u8),
-    /// Its media section v expects these streams from now on.
-    Awaits(Expects),
     /// It receives on this SSRC, with repairs on that one.
     Receives(u8, u8),
-    /// The stream of this SSRC is taken out.
-    Removes(u8),
-    /// The next packet of this SSRC has this rollover count.
-    Rolls(u8, u32),
-    /// The stream of this SSRC asks for a key frame by a full intra request.
-    Frames(u8),
     /// A tick at a moment in nanoseconds; then this compound leaves alone, none where there are no
     /// bytes.
     Ticks(u64, &'static [u8]),
@@ -79,7 +51,6 @@ pub enum Step {
 /// Which streams the media section v expects, by their rids.
 #[derive(Clone, Copy)]
 pub enum Expects {
-    Without,
     Any,
     Only(&'static [&'static str]),
 }
@@ -87,31 +58,12 @@ pub enum Expects {
 /// What comes, one after the other, to an end whose media section v expects these streams.
 pub type Row = (&'static str, Expects, &'static [Step]);
 
-// The plain bytes: the header and the payload (RFC 3550 section 5.1).
-fn plain_of(alloc: Global, came: &Came) -> Option<Vec<u8>> {
-    let first = match came.4 {
-        Made::Padded => 0xb0,
-        _ => 0x90,
-    };
-    let words = [0xbe, 0xde, 0, (came.3.len() / 4 % 256) as u8];
-    let head = head(first, came.1, came.2, 0, came.0);
-    joined(alloc, &[&head, &words, came.3, came.5])
-}
-
-fn forge(bytes: &mut [u8]) {
-    if let Some(last) = bytes.last_mut() {
-        *last ^= 1;
-    }
-}
-
-// The bytes that come.
+// The bytes that come: the header and the payload (RFC 3550 section 5.1), sealed.
 fn bytes_of(alloc: Global, came: &Came) -> Option<Vec<u8>> {
-    let plain = plain_of(alloc, came)?;
-    let mut sealed = seal_numbered(alloc, plain.as_slice(), came.2)?;
-    if let Made::Forged = came.4 {
-        forge(sealed.as_mut_slice());
-    }
-    Some(sealed)
+    let words = [0xbe, 0xde, 0, (came.3.len() / 4 % 256) as u8];
+    let head = head(0x90, came.1, came.2, 0, came.0);
+    let plain = joined(alloc, &[&head, &words, came.3, came.4])?;
+    seal_numbered(alloc, plain.as_slice(), came.2)
 }
 
 // The packet that is told next, behind what is told of a pause.
@@ -176,17 +128,6 @@ fn lacks(end: &mut End, low: u8) -> bool {
     streams.rx_place(ssrc(low)).is_none() & streams.original(ssrc(low)).is_none()
 }
 
-fn rolls(end: &mut End, low: u8, roc: u32) -> bool {
-    let streams = streams(end);
-    match streams.rx_place(ssrc(low)) {
-        Some(place) => {
-            streams.rx_at(place).reset_roc(roc);
-            true
-        }
-        None => false,
-    }
-}
-
 fn ticks(end: &mut End, now: Instant, plain: &[u8]) -> bool {
     let ticked = tick(end, now).is_ok();
     ticked & leaves(end, now, plain)
@@ -197,14 +138,10 @@ fn goes(alloc: Global, end: &mut End, step: &Step) -> bool {
         Step::Comes(came, wanted) => arrives(alloc, end, came, *wanted),
         Step::Has(low, place, rtx) => has(end, *low, *place, *rtx),
         Step::Lacks(low) => lacks(end, *low),
-        Step::Awaits(expects) => awaits(alloc, end, *expects),
         Step::Receives(low, rtx) => {
             let mid_rid = MidRid(mid(), Some(rid()));
             expect(end, *low, Some(ssrc(*rtx)), mid_rid, false)
         }
-        Step::Removes(low) => streams(end).remove_stream_rx(ssrc(*low)),
-        Step::Rolls(low, roc) => rolls(end, *low, *roc),
-        Step::Frames(low) => ask_frame(end, *low, KeyframeRequestKind::Fir),
         Step::Ticks(now, plain) => ticks(end, at(*now), plain),
     }
 }
@@ -229,19 +166,7 @@ fn expect_rids(alloc: Global, section: &mut Media, names: &[&str]) -> bool {
 fn set_expected(alloc: Global, section: &mut Media, expects: Expects) -> bool {
     match expects {
         Expects::Any => true,
-        Expects::Without => {
-            section.set_rid_rx(Rids::None);
-            true
-        }
         Expects::Only(names) => expect_rids(alloc, section, names),
-    }
-}
-
-// Has the media section v expect such streams, where it stands.
-fn awaits(alloc: Global, end: &mut End, expects: Expects) -> bool {
-    match section_mut(end, mid()) {
-        Some(section) => set_expected(alloc, section, expects),
-        None => false,
     }
 }
 
@@ -269,7 +194,7 @@ fn goes_through(alloc: Global, end: &mut End, expects: Expects, steps: &[Step]) 
 // Makes an end, and takes it through the steps: the one function that owns a session, with one
 // exit.
 fn play(alloc: Global, expects: Expects, steps: &[Step]) -> usize {
-    let Some(config) = config(alloc, map_of(Ids::All), 1150, 0) else {
+    let Some(config) = config(alloc, map_of(Ids::All)) else {
         return 0;
     };
     let Some(mut end) = new_end(alloc, config) else {
@@ -279,16 +204,8 @@ fn play(alloc: Global, expects: Expects, steps: &[Step]) -> usize {
 }
 
 #[test]
-fn datagrams_are_mapped(rt: HostRuntime) {
-    for (name, expects, steps) in &MAPPED {
-        let gone = play(rt.alloc(), *expects, steps);
-        assert!(rt; gone == steps.len(), "{name}: {gone}");
-    }
-}
-
-#[test]
-fn packets_are_restored(rt: HostRuntime) {
-    for (name, expects, steps) in &RESTORED {
+fn datagrams_are_mapped_and_restored(rt: HostRuntime) {
+    for (name, expects, steps) in &CAME {
         let gone = play(rt.alloc(), *expects, steps);
         assert!(rt; gone == steps.len(), "{name}: {gone}");
     }

@@ -3,7 +3,6 @@ ghost use Rattle.std.specs.Prelude.{◌≤◌, IfSome};
 ghost use Rattle.std.specs.Option.{ForSome};
 
 use crate::calls::streams;
-use mapping_core::{MainChange, Mapping};
 use mask_register::MaskRegister;
 use media_base::{Bytes, Listed};
 use media_units::{Beginning, Duration, Instant};
@@ -35,9 +34,6 @@ pub fn moment() -> Instant {
 /// When the first report is due of a stream that receives, or of one that sends whose kind was
 /// told: 10,000,000 s after moment 0, in nanoseconds.
 pub const FIRST_REPORT: u64 = 10_000_000_000_000_000;
-
-/// The same of a stream that sends before its first tick: 100 years of 365 days after moment 0.
-pub const BEFORE_TOLD: u64 = 3_153_600_000_000_000_000;
 
 /// The media section v.
 pub fn mid() -> Mid {
@@ -83,15 +79,9 @@ fn codecs(alloc: Global) -> Option<CodecConfig> {
     CodecConfig::new(alloc, params).ok()
 }
 
-/// What both ends are made with: the types that they know, and header extensions. The target for
-/// their feedback is cut to 900 to 1,500 bytes, the first index of SRTCP datagrams to at most 2^31.
-/// Their own SSRC is 2. Their reports are so far apart that none is due.
-pub fn config(
-    alloc: Global,
-    exts: ExtensionMap,
-    target: u16,
-    srtcp_index: u32,
-) -> Option<SessionConfig>
+/// What both ends are made with: the types that they know, and header extensions. Their own SSRC is
+/// 2. Their reports are so far apart that none is due.
+pub fn config(alloc: Global, exts: ExtensionMap) -> Option<SessionConfig>
     ensures target { IfSome result (λ c. LEAST_TARGET ≤ c.mtu.target) }
     ensures order { IfSome result (λ c. c.mtu.target ≤ c.mtu.warn) }
     ensures warn { IfSome result (λ c. c.mtu.warn ≤ GREATEST_WARN) }
@@ -104,7 +94,7 @@ pub fn config(
             unix_secs: 1_700_000_000,
         },
         mtu: Mtu {
-            target: usize::from(target).clamp(LEAST_TARGET, GREATEST_WARN),
+            target: 1_150usize.clamp(LEAST_TARGET, GREATEST_WARN),
             warn: GREATEST_WARN,
         },
         local_ssrc: Ssrc::from(2),
@@ -113,7 +103,7 @@ pub fn config(
             audio: Duration::from_secs(10_000_000),
             video: Duration::from_secs(10_000_000),
         },
-        srtcp_index: u64::from(srtcp_index).min(SRTCP_INDEX_LIMIT),
+        srtcp_index: 0,
         exts,
         codecs,
     })
@@ -197,17 +187,6 @@ pub fn reset(end: &mut End, low: u8, other: u8, repairs: Option<(u8, u64)>) -> b
         return false;
     }
     streams.reset_ssrc(ssrc(low), other, repairs).is_ok()
-}
-
-/// Has what an end receives on an SSRC come under another one.
-pub fn moves(end: &mut End, low: u8, other: u8) -> bool {
-    let change = MainChange {
-        from: ssrc(low),
-        to: ssrc(other),
-    };
-    streams(end)
-        .take_up(ssrc(other), &Mapping::NewMain(change))
-        .is_ok()
 }
 
 /// Has an end keep so many packets of SSRC 42, for so long, with so many hundredths of repairs, or

@@ -1,18 +1,16 @@
-use crate::calls::{event, poll, receive_rtcp};
-use crate::ends::{BEFORE_TOLD, End, ended_with, give_keys, moment};
-use crate::leaving::{drains, is_silent, next, sends, write};
-use crate::packets::{SEALED, is_opened, seal_rtcp};
+use crate::calls::{event, receive_rtcp};
+use crate::ends::{End, moment};
+use crate::leaving::sends;
+use crate::packets::{is_opened, seal_rtcp};
 use media_base::Bytes;
-use rtp_base::{Kind, SeqNo, Ssrc};
-use rtp_wire::ExtensionValues;
-use session_core::{Event, RtcError};
-use srtp_core::Counter;
+use rtp_base::{Kind, Ssrc};
+use session_core::Event;
 use std::alloc::Global;
 
-/// Feedback of an application from SSRC 1 on SSRC 42 with the words 01020304 (RFC 4585 section
-/// 6.4), sealed: the first 8 bytes, the rest XOR the key stream, the tag, and the E bit with the
-/// index 0.
-pub const FEEDBACK: [u8; 36] = [
+// Feedback of an application from SSRC 1 on SSRC 42 with the words 01020304 (RFC 4585 section
+// 6.4), sealed: the first 8 bytes, the rest XOR the key stream, the tag, and the E bit with the
+// index 0.
+const FEEDBACK: [u8; 36] = [
     0x8f, 0xce, 0, 3, 0, 0, 0, 1, 0, 0, 0, 0x2a, 1, 3, 3, 2, 0x8e, 0xcc, 3, 7, 0, 1, 0, 7, 0x80, 0,
     0, 0, 0, 0, 0, 0x2b, 0x80, 0, 0, 0,
 ];
@@ -29,36 +27,8 @@ const REPORT: [u8; 32] = [
     0, 0, 0,
 ];
 
-/// What is asked of feedback.
-#[derive(Clone, Copy)]
-pub enum Feedback {
-    /// It is sealed, opens and is told, as often as it comes.
-    Exchanged,
-    /// A packet that is not encrypted opens under its tag alone.
-    Clear,
-    /// A block on a stream without repairs has it leave out its mid.
-    Acknowledges,
-    /// It is dropped before it leaves.
-    Cleared,
-    /// What is due without keys is lost.
-    Lost,
-    /// It leaves in compounds of the first items that fit this target.
-    Cut(u16),
-    /// The last index seals, and behind it the session is stopped.
-    LastIndex,
-}
-
-// Queues feedback of an application from SSRC 1 on SSRC 42 with these words.
-fn queue(alloc: Global, end: &mut End, words: &[u8; 20]) -> bool {
-    let Ok(payload) = Bytes::from_slice(alloc, words) else {
-        return false;
-    };
-    end.send_app_specific_feedback(Ssrc::from(1), Ssrc::from(42), payload)
-        .is_ok()
-}
-
-/// Queues feedback of an application from SSRC 1 on SSRC 42 with the words 01020304.
-pub fn queue_one(alloc: Global, end: &mut End) -> bool {
+// Queues feedback of an application from SSRC 1 on SSRC 42 with the words 01020304.
+fn queue_one(alloc: Global, end: &mut End) -> bool {
     let Ok(payload) = Bytes::from_slice(alloc, &[1, 2, 3, 4]) else {
         return false;
     };
@@ -88,7 +58,8 @@ fn tells_words(end: &mut End) -> bool {
     opened & told & event(end).is_none()
 }
 
-fn is_exchanged(alloc: Global, a: &mut End, b: &mut End) -> bool {
+/// Whether feedback is sealed, opens and is told, as often as it comes.
+pub fn is_exchanged(alloc: Global, a: &mut End, b: &mut End) -> bool {
     let queued = queue_one(alloc, a);
     let sent = sends(a, &FEEDBACK);
     let first = tells_words(b);
@@ -104,7 +75,9 @@ fn opens(end: &mut End, bytes: &[u8], low: u8) -> bool {
     }
 }
 
-fn opens_clear(b: &mut End) -> bool {
+/// Whether a packet that is not encrypted opens under its tag alone, and none that is cut or
+/// changed.
+pub fn opens_clear(b: &mut End) -> bool {
     let mut forged = CLEAR;
     forged[23] = 2;
     let answers = [
@@ -126,86 +99,4 @@ pub fn acknowledge(alloc: Global, a: &mut End) -> bool {
     };
     let opened = opens(a, report.as_slice(), 7);
     opened & event(a).is_none()
-}
-
-// The sender hears the report, and its next packet has no mid.
-fn is_acknowledged(alloc: Global, a: &mut End) -> bool {
-    let heard = acknowledge(alloc, a);
-    let written = write(alloc, a, 1, ExtensionValues::none());
-    heard & written & sends(a, &SEALED)
-}
-
-fn is_cleared(alloc: Global, a: &mut End) -> bool {
-    let first = queue_one(alloc, a);
-    a.clear_feedback();
-    let silent = is_silent(a, moment());
-    let second = queue_one(alloc, a);
-    let then = drains(a, &FEEDBACK, BEFORE_TOLD);
-    first & silent & second & then
-}
-
-fn is_lost(alloc: Global, a: &mut End) -> bool {
-    let queued = queue_one(alloc, a);
-    let without_keys = is_silent(a, moment());
-    let keyed = give_keys(alloc, a, true);
-    let then = is_silent(a, moment());
-    queued & without_keys & keyed & then
-}
-
-// Queues forty items of 32 bytes each, numbered by their words.
-fn queue_forty(alloc: Global, a: &mut End) -> bool {
-    let mut queued = true;
-    for word in 0..40 {
-        queued &= queue(alloc, a, &[word; 20]);
-    }
-    queued
-}
-
-// Whether so many items leave next in one compound within the target, from the item of a number on.
-fn leaves_few(a: &mut End, target: usize, from: usize, count: usize) -> bool {
-    match next(a, moment()) {
-        Some(sent) => {
-            let plain = sent.plain.as_slice();
-            let whole = plain.len() == count.saturating_mul(32);
-            let begins = plain.get(12).copied().map(usize::from) == Some(from);
-            whole & begins & (sent.bytes.len() <= target)
-        }
-        None => false,
-    }
-}
-
-// Forty items of 32 bytes each leave whole, in order, in compounds cut at the target less 20 bytes.
-fn is_cut(alloc: Global, a: &mut End, target: usize) -> bool {
-    let queued = queue_forty(alloc, a);
-    let first = (target.saturating_sub(20) / 32).min(40);
-    let rest = 40usize.saturating_sub(first);
-    let begun = leaves_few(a, target, 0, first);
-    let ended = rest == 0 || leaves_few(a, target, first, rest);
-    queued & begun & ended & is_silent(a, moment())
-}
-
-fn ends_at_last_index(alloc: Global, a: &mut End) -> bool {
-    let first = queue_one(alloc, a);
-    let sealed = match next(a, moment()) {
-        Some(sent) => sent.index == SeqNo::from(2_147_483_647),
-        None => false,
-    };
-    let second = queue_one(alloc, a);
-    let exhausted = RtcError::KeyExhausted(Counter::Rtcp);
-    let ended = ended_with(&poll(a, moment()), &exhausted);
-    let stopped = ended_with(&poll(a, moment()), &RtcError::Stopped);
-    first & sealed & second & ended & stopped
-}
-
-/// Whether two ends answer so, of which the second has keys, and the first but for `Lost`.
-pub fn holds(alloc: Global, a: &mut End, b: &mut End, asked: Feedback) -> bool {
-    match asked {
-        Feedback::Exchanged => is_exchanged(alloc, a, b),
-        Feedback::Clear => opens_clear(b),
-        Feedback::Acknowledges => is_acknowledged(alloc, a),
-        Feedback::Cleared => is_cleared(alloc, a),
-        Feedback::Lost => is_lost(alloc, a),
-        Feedback::Cut(target) => is_cut(alloc, a, usize::from(target)),
-        Feedback::LastIndex => ends_at_last_index(alloc, a),
-    }
 }

@@ -11,8 +11,6 @@ mod carrying;
 #[cfg(test)]
 mod coming;
 #[cfg(test)]
-mod drawn;
-#[cfg(test)]
 mod ends;
 #[cfg(test)]
 mod feedback;
@@ -29,13 +27,7 @@ mod repairs;
 #[cfg(test)]
 mod reports;
 #[cfg(test)]
-mod restored;
-#[cfg(test)]
 mod rounds;
-#[cfg(test)]
-mod sections;
-#[cfg(test)]
-mod steps;
 #[cfg(test)]
 mod table;
 #[cfg(test)]

@@ -23,21 +23,6 @@ pub const WITH_MID: [u8; 38] = [
     0x16, 0, 1, 1, 0x28, 0, 2, 0, 0, 0, 0x2b, 0xbe, 0xde, 0, 0,
 ];
 
-/// A datagram that comes.
-#[derive(Clone, Copy)]
-pub enum Incoming {
-    /// `PACKET` with this byte at this place, sealed.
-    SealOf(usize, u8),
-    /// `SEALED` with this byte at this place.
-    Changed(usize, u8),
-    /// The first bytes of `SEALED`, so many of them.
-    Cut(usize),
-    /// `PACKET` with the padding bit and these bytes behind its payload, sealed.
-    Padded([u8; 2]),
-    /// `PACKET` with zeros behind its payload, sealed in so many bytes.
-    Long(usize),
-}
-
 /// The bytes of all parts, one after the other.
 pub fn joined(alloc: Global, parts: &[&[u8]]) -> Option<Vec<u8>> {
     let mut bytes = Vec::new(alloc);
@@ -82,15 +67,6 @@ pub fn seal_numbered(alloc: Global, plain: &[u8], number: u64) -> Option<Vec<u8>
     context.protect_rtp(plain, &header, number).ok()
 }
 
-// Seals a packet of the number that it begins with, below 2^16, as the sender does.
-fn seal(alloc: Global, plain: &[u8]) -> Option<Vec<u8>> {
-    if plain.len() < 4 {
-        return None;
-    }
-    let number = u16::from_be_bytes([plain[2], plain[3]]);
-    seal_numbered(alloc, plain, u64::from(number))
-}
-
 /// `PACKET` on another SSRC and of another number, sealed.
 pub fn packet_of(alloc: Global, low: u8, number: u8) -> Option<Vec<u8>> {
     let mut packet = PACKET;
@@ -130,37 +106,6 @@ pub fn opens_rtcp(end: &mut End, now: Instant, bytes: &[u8]) -> bool {
     match receive_rtcp(end, now, bytes) {
         Ok(opened) => opened.is_some(),
         Err(_) => false,
-    }
-}
-
-// The bytes with this byte at this place.
-fn changed(alloc: Global, bytes: &[u8], place: usize, byte: u8) -> Option<Vec<u8>> {
-    let mut changed = joined(alloc, &[bytes])?;
-    if place < changed.len() {
-        changed[place] = byte;
-    }
-    Some(changed)
-}
-
-/// The bytes of a datagram that comes.
-pub fn bytes_of(alloc: Global, incoming: Incoming) -> Option<Vec<u8>> {
-    match incoming {
-        Incoming::SealOf(place, byte) => {
-            let packet = changed(alloc, &PACKET, place, byte)?;
-            seal(alloc, packet.as_slice())
-        }
-        Incoming::Changed(place, byte) => changed(alloc, &SEALED, place, byte),
-        Incoming::Cut(len) => joined(alloc, &[&SEALED[..len.min(30)]]),
-        Incoming::Padded(behind) => {
-            let packet = joined(alloc, &[&head(0xa0, 96, 1, 0, 42), &[1, 2], &behind])?;
-            seal(alloc, packet.as_slice())
-        }
-        Incoming::Long(len) => {
-            let zeros = [0; 2000];
-            let behind = &zeros[..len.saturating_sub(30).min(2000)];
-            let packet = joined(alloc, &[&PACKET, behind])?;
-            seal(alloc, packet.as_slice())
-        }
     }
 }
 

@@ -1,45 +1,85 @@
 //! Repairs that are sent (RFC 4588).
-mod asking;
-mod carrying;
-mod keeping;
-mod resetting;
 mod steps;
 
-use crate::carrying::map_of;
-use crate::ends::{End, config, new_end};
-use crate::repairs::asking::{ASKED, CAPPED};
-use crate::repairs::carrying::{CARRIED, USED_UP};
-use crate::repairs::keeping::{KEPT, SEVERAL};
-use crate::repairs::resetting::RESET;
-use crate::repairs::steps::{Begins, Row, Step, go_through};
+use crate::carrying::{Ids, map_of};
+use crate::ends::{config, new_end};
+use crate::repairs::steps::Out::{Again, First, Plain};
+use crate::repairs::steps::Step::{
+    Asks, Drains, Ends, EndsAtOnce, Hears, Keeps, Resets, SendsThree, Ticks, Writes,
+};
+use crate::repairs::steps::{ASKS_2, REPAIR_OF_2, Row, Step, go_through};
 use std::alloc::Global;
 
-// Makes two ends, and takes them through the steps: the one function that owns sessions, with one
-// exit.
-fn play(alloc: Global, begins: Begins, steps: &[Step]) -> bool {
-    let exts = map_of(begins.0);
-    let Some(sender) = config(alloc, exts, 1150, 0) else {
-        return false;
-    };
-    let Some(receiver) = config(alloc, exts, 1150, 0) else {
-        return false;
-    };
-    let Some(mut end) = new_end(alloc, sender) else {
-        return false;
-    };
-    let Some(mut peer) = new_end(alloc, receiver) else {
-        return false;
-    };
-    go_through(alloc, &mut end, &mut peer, begins.1, steps)
-}
+// The least number that is one too many, 2^48.
+const PAST_LAST: u64 = 281_474_976_710_656;
 
-const TABLES: [&[Row]; 7] = [&ASKED, &CAPPED, &KEPT, &SEVERAL, &CARRIED, &USED_UP, &RESET];
+static REPAIRED: [Row; 4] = [
+    (
+        "lost and repaired",
+        5,
+        &[
+            Keeps(2000, 3_000_000_000, None),
+            SendsThree,
+            Hears(20_000_000, ASKS_2),
+            Drains(20_000_000, &[]),
+            Drains(30_000_000, &[]),
+            Ticks(30_000_000, &[Plain(43, 5, REPAIR_OF_2)]),
+            Ticks(40_000_000, &[]),
+        ],
+    ),
+    (
+        "numbers of repairs begin anew",
+        5,
+        &[
+            Keeps(10, 3_000_000_000, None),
+            Writes(42, 1, &[1]),
+            Ticks(10_000_000, &[First(42, 1, &[1])]),
+            Asks(20_000_000, 42, 1, 0),
+            Ticks(30_000_000, &[Again(43, 5, 1, &[1])]),
+            Resets(50, 9),
+            Writes(50, 1, &[2]),
+            Ticks(40_000_000, &[First(50, 1, &[2])]),
+            Asks(50_000_000, 50, 1, 0),
+            Asks(50_000_000, 50, 1, 0),
+            Ticks(60_000_000, &[Again(51, 9, 1, &[2]), Again(51, 10, 1, &[2])]),
+        ],
+    ),
+    (
+        "the last number of repairs",
+        281_474_976_710_655,
+        &[
+            SendsThree,
+            Asks(20_000_000, 42, 2, 1),
+            Writes(42, 4, &[4]),
+            Ends(30_000_000, &[Again(43, 281_474_976_710_655, 2, &[2])]),
+        ],
+    ),
+    (
+        "no number of repairs",
+        PAST_LAST,
+        &[
+            SendsThree,
+            Asks(20_000_000, 42, 2, 0),
+            EndsAtOnce(30_000_000),
+        ],
+    ),
+];
+
+// Makes an end, and takes it through the steps: the one function that owns a session, with one
+// exit.
+fn play(alloc: Global, first: u64, steps: &[Step]) -> bool {
+    let Some(config) = config(alloc, map_of(Ids::Nothing)) else {
+        return false;
+    };
+    let Some(mut end) = new_end(alloc, config) else {
+        return false;
+    };
+    go_through(alloc, &mut end, first, steps)
+}
 
 #[test]
 fn repairs_hold(rt: HostRuntime) {
-    for rows in &TABLES {
-        for (name, begins, steps) in *rows {
-            assert!(rt; play(rt.alloc(), *begins, steps), "{name}");
-        }
+    for (name, first, steps) in &REPAIRED {
+        assert!(rt; play(rt.alloc(), *first, steps), "{name}");
     }
 }

@@ -18,9 +18,7 @@ pub enum Told {
     Sender(u8, u8, u64, u32),
     /// The greatest rate, in bits a second.
     Rate(u8, u64),
-    /// The stream of this SSRC, of the media section v, was paused.
-    Paused(u8),
-    /// It was unpaused.
+    /// The stream of this SSRC, of the media section v, was unpaused.
     Unpaused(u8),
     /// A packet on this SSRC, of this number.
     Packet(u8, u64),
@@ -66,22 +64,16 @@ fn is_rate(event: &Event, letter: u8, rate: u64) -> bool {
     }
 }
 
-/// Whether it is told that the stream of this SSRC, of the media section v, was paused, or
-/// unpaused.
-pub fn is_pause(told: &StreamPaused, low: u8, paused: bool) -> bool {
+/// Whether an event tells that the stream of this SSRC, of the media section v, was unpaused.
+pub fn is_unpaused(event: &Event, low: u8) -> bool {
     let wanted = StreamPaused {
         ssrc: ssrc(low),
         mid: mid(),
         rid: Some(rid()),
-        paused,
+        paused: false,
     };
-    *told == wanted
-}
-
-/// Whether an event tells so.
-pub fn is_paused(event: &Event, low: u8, paused: bool) -> bool {
     match event {
-        Event::StreamPaused(told) => is_pause(told, low, paused),
+        Event::StreamPaused(told) => *told == wanted,
         _ => false,
     }
 }
@@ -103,8 +95,7 @@ fn is_told(wanted: Told, event: &Event) -> bool {
             is_sender(event, letter, low, moment, packets)
         }
         Told::Rate(letter, rate) => is_rate(event, letter, rate),
-        Told::Paused(low) => is_paused(event, low, true),
-        Told::Unpaused(low) => is_paused(event, low, false),
+        Told::Unpaused(low) => is_unpaused(event, low),
         Told::Packet(low, number) => is_packet(event, low, number),
     }
 }
