@@ -12,8 +12,6 @@ enum Step {
     Evict(u64),
     /// All goes.
     Clear,
-    /// The value under a position becomes this one.
-    Change(u64, char),
     /// The position has this value.
     Has(u64, char),
     /// The position has no value.
@@ -24,7 +22,7 @@ enum Step {
     LastValue(char),
 }
 
-use Step::{Change, Clear, Evict, Has, Lacks, Last, LastValue, Push};
+use Step::{Clear, Evict, Has, Lacks, Last, LastValue, Push};
 
 /// A fresh buffer: its slots at first and at most, and its age in milliseconds.
 #[derive(Clone, Copy)]
@@ -48,22 +46,6 @@ const BY_POSITION: [Step; 11] = [
     Lacks(5),
     Push(6, 3_500, 'E'),
     Has(6, 'E'),
-];
-
-// Positions far apart: what is too old goes, however far the next one is.
-const JUMPS: [Step; 12] = [
-    Push(1, 0, 'A'),
-    Push(1_000_002, 10, 'B'),
-    Push(5_000_003, 1_005, 'C'),
-    Evict(1_005),
-    Lacks(1),
-    Has(1_000_002, 'B'),
-    Evict(1_011),
-    Lacks(1_000_002),
-    Has(5_000_003, 'C'),
-    Evict(9_000),
-    Lacks(5_000_003),
-    Last(Some(5_000_003)),
 ];
 
 // It grows until each has a slot of its own.
@@ -108,21 +90,8 @@ const FULL: [Step; 8] = [
     Has(3, 'C'),
 ];
 
-// A value is changed where it stands.
-const CHANGED: [Step; 3] = [Push(1, 0, 'A'), Change(1, 'B'), Has(1, 'B')];
-
 fn millis(count: u64) -> Instant {
     Instant::from_nanos(count.saturating_mul(1_000_000))
-}
-
-fn change(buffer: &mut EvictingBuffer<char>, position: u64, value: char) -> bool {
-    match buffer.get_mut(position) {
-        Some(held) => {
-            *held = value;
-            true
-        }
-        None => false,
-    }
 }
 
 fn has(buffer: &EvictingBuffer<char>, position: u64, value: Option<char>) -> bool {
@@ -147,7 +116,6 @@ fn takes(buffer: &mut EvictingBuffer<char>, step: Step) -> Result<bool, AllocErr
         Push(position, time, value) => return push(buffer, position, time, value),
         Evict(time) => buffer.maybe_evict(millis(time)),
         Clear => buffer.clear(),
-        Change(position, value) => return Ok(change(buffer, position, value)),
         Has(position, value) => return Ok(has(buffer, position, Some(value))),
         Lacks(position) => return Ok(has(buffer, position, None)),
         Last(position) => return Ok(buffer.last_position() == position),
@@ -176,11 +144,9 @@ fn take_all(buffer: &mut EvictingBuffer<char>, steps: &[Step]) -> Result<usize, 
 fn buffers_answer(rt: HostRuntime) -> Result<(), Fail> {
     let rows = [
         ((10, 3_000, 10), BY_POSITION.as_slice()),
-        ((4, 1_000, 4), JUMPS.as_slice()),
         ((2, 10_000, 10), GROWS.as_slice()),
         ((4, 10_000, 10), AGES_OUT.as_slice()),
         ((1, 10_000, 2), FULL.as_slice()),
-        ((1, 1_000, 1), CHANGED.as_slice()),
     ];
     for ((slots, age, most), steps) in rows {
         let taken = taken(rt.alloc(), Made { slots, age, most }, steps)?;
