@@ -9,7 +9,7 @@ use rtcp_wire::{
     ReportList, Rrtr, Rtcp, RtcpFb, Sdes, SdesItem, SdesType, SenderInfo, SenderReport, StatusList,
     Twcc, items_fit_by_lengths,
 };
-use rtp_base::{SeqNo, Ssrc};
+use rtp_base::Ssrc;
 use std::alloc::{AllocError, Global};
 use std::collections::VecDeque;
 
@@ -125,11 +125,6 @@ fn reads_sender_report(alloc: Global) -> Result<bool, AllocError> {
     both_ways(alloc, &SENDER_REPORT, item)
 }
 
-#[test]
-fn sender_report(rt: HostRuntime) {
-    assert!(rt; reads_sender_report(rt.alloc()) == Ok(true));
-}
-
 #[tactic(auto, unfolding(rtcp_wire::specs::Reports::receiver_report_body))]
 fn reads_receiver_report(alloc: Global) -> Result<bool, AllocError> {
     let item = Rtcp::ReceiverReport(ReceiverReport {
@@ -145,12 +140,6 @@ fn reads_goodbye(alloc: Global) -> Result<bool, AllocError> {
     reports.push(Ssrc::from(42));
     let item = Rtcp::Goodbye(Goodbye { reports });
     both_ways(alloc, &GOODBYE, item)
-}
-
-#[test]
-fn receiver_report_and_goodbye(rt: HostRuntime) {
-    assert!(rt; reads_receiver_report(rt.alloc()) == Ok(true));
-    assert!(rt; reads_goodbye(rt.alloc()) == Ok(true));
 }
 
 #[tactic(auto, unfolding(rtcp_wire::specs::Descriptions::descriptions_body, rtcp_wire::specs::Descriptions::sdes_text, rtcp_wire::specs::Descriptions::sdes_item_text))]
@@ -172,11 +161,6 @@ fn reads_descriptions(alloc: Global) -> Result<bool, AllocError> {
     reports.push(Sdes { ssrc, values })?;
     let item = Rtcp::SourceDescription(Descriptions { reports });
     both_ways(alloc, &DESCRIPTIONS, item)
-}
-
-#[test]
-fn descriptions(rt: HostRuntime) {
-    assert!(rt; reads_descriptions(rt.alloc()) == Ok(true));
 }
 
 #[tactic(auto, unfolding(rtcp_wire::specs::Feedback::nack_body, rtcp_wire::specs::Rows::nack_entry_text))]
@@ -217,19 +201,6 @@ fn reads_fir(alloc: Global) -> Result<bool, AllocError> {
         reports,
     });
     both_ways(alloc, &FIR, item)
-}
-
-fn reads_requests(alloc: Global) -> Result<bool, AllocError> {
-    let lost = reads_nack(alloc, &LOST, 2, NackEntry { pid: 2, blp: 0 })?;
-    let nack = reads_nack(alloc, &NACK, 1, NackEntry { pid: 10, blp: 5 })?;
-    let pli = reads_pli(alloc)?;
-    let fir = reads_fir(alloc)?;
-    Ok(lost && nack && pli && fir)
-}
-
-#[test]
-fn requests(rt: HostRuntime) {
-    assert!(rt; reads_requests(rt.alloc()) == Ok(true));
 }
 
 fn transport_feedback(alloc: Global) -> Result<Twcc, AllocError> {
@@ -307,11 +278,6 @@ fn reads_feedback_between(alloc: Global) -> Result<bool, AllocError> {
     is_between(alloc, twcc, datagram.as_slice())
 }
 
-#[test]
-fn transport_feedback_between(rt: HostRuntime) {
-    assert!(rt; reads_feedback_between(rt.alloc()) == Ok(true));
-}
-
 #[tactic(auto, unfolding(rtcp_wire::specs::Feedback::app_feedback_body))]
 fn reads_application(alloc: Global) -> Result<bool, AllocError> {
     let item = Rtcp::AppSpecificFeedback(AppSpecificFeedback {
@@ -335,12 +301,6 @@ fn reads_remb(alloc: Global) -> Result<bool, AllocError> {
     both_ways(alloc, &REMB, item)
 }
 
-#[test]
-fn application_feedback(rt: HostRuntime) {
-    assert!(rt; reads_application(rt.alloc()) == Ok(true));
-    assert!(rt; reads_remb(rt.alloc()) == Ok(true));
-}
-
 #[tactic(auto, unfolding(rtcp_wire::specs::Extended::extended_report_body, rtcp_wire::specs::Extended::block_text, rtcp_wire::specs::Extended::block_content, rtcp_wire::specs::Extended::dlrr_item_text))]
 fn reads_extended_report(alloc: Global) -> Result<bool, AllocError> {
     let mut blocks = Listed::new(alloc);
@@ -359,262 +319,26 @@ fn reads_extended_report(alloc: Global) -> Result<bool, AllocError> {
 }
 
 #[test]
-fn extended_report(rt: HostRuntime) {
+fn packets_of_the_standards(rt: HostRuntime) {
+    let lost = NackEntry { pid: 2, blp: 0 };
+    let nack = NackEntry { pid: 10, blp: 5 };
+    assert!(rt; reads_sender_report(rt.alloc()) == Ok(true));
+    assert!(rt; reads_receiver_report(rt.alloc()) == Ok(true));
+    assert!(rt; reads_goodbye(rt.alloc()) == Ok(true));
+    assert!(rt; reads_descriptions(rt.alloc()) == Ok(true));
+    assert!(rt; reads_nack(rt.alloc(), &LOST, 2, lost) == Ok(true));
+    assert!(rt; reads_nack(rt.alloc(), &NACK, 1, nack) == Ok(true));
+    assert!(rt; reads_pli(rt.alloc()) == Ok(true));
+    assert!(rt; reads_fir(rt.alloc()) == Ok(true));
+    assert!(rt; reads_feedback_between(rt.alloc()) == Ok(true));
+    assert!(rt; reads_application(rt.alloc()) == Ok(true));
+    assert!(rt; reads_remb(rt.alloc()) == Ok(true));
     assert!(rt; reads_extended_report(rt.alloc()) == Ok(true));
-}
-
-#[test]
-fn numbers_of_an_entry(rt: HostRuntime) {
-    let entry = NackEntry { pid: 10, blp: 5 };
-    let mut numbers = entry.into_iter(Some(SeqNo::from(65_536)));
-    let found = [
-        numbers.next(),
-        numbers.next(),
-        numbers.next(),
-        numbers.next(),
-    ];
-    let wanted = [
-        Some(SeqNo::from(65_546)),
-        Some(SeqNo::from(65_547)),
-        Some(SeqNo::from(65_549)),
-        None,
-    ];
-    assert!(rt; found == wanted);
-}
-
-// How many items are read of the bytes.
-fn count_of(alloc: Global, bytes: &[u8]) -> Result<usize, AllocError> {
-    let items = read(alloc, bytes)?;
-    Ok(items.len())
-}
-
-// How many are read of the datagram that bytes begin, followed by a goodbye.
-fn before_a_goodbye(alloc: Global, bytes: &[u8]) -> Result<usize, AllocError> {
-    let mut datagram = bytes.to_vec(alloc)?;
-    datagram.extend_from_slice(&GOODBYE)?;
-    count_of(alloc, datagram.as_slice())
-}
-
-// What stands before a goodbye, and how many items are read of both.
-const BEFORE_A_GOODBYE: [(&[u8], usize); 20] = [
-    // A type and two formats that nobody knows are passed over, a version that is not 2 is not.
-    (&[0x80, 0xd5, 0, 0], 1),
-    (&[0x82, 0xcd, 0, 2, 0, 0, 0, 1, 0, 0, 0, 42], 1),
-    (&[0x83, 0xce, 0, 2, 0, 0, 0, 1, 0, 0, 0, 42], 1),
-    (&[0x40, 0xd5, 0, 0], 0),
-    // A length past the end.
-    (&[0x80, 0xd5, 0, 3], 0),
-    // Padding of 4 bytes, one that leaves too little, and two whose counts are not valid.
-    (&[0xa1, 0xce, 0, 3, 0, 0, 0, 2, 0, 0, 0, 42, 0, 0, 0, 4], 2),
-    (&[0xa1, 0xce, 0, 2, 0, 0, 0, 2, 0, 0, 0, 1], 0),
-    (&[0xa1, 0xce, 0, 2, 0, 0, 0, 2, 0, 0, 0, 0], 2),
-    (&[0xa1, 0xce, 0, 2, 0, 0, 0, 2, 0, 0, 0, 9], 2),
-    // Two reception blocks, sources, chunks or SSRCs of which one or none is there.
-    (&[0x81, 0xc9, 0, 1, 0, 0, 0, 1], 0),
-    (&[0x82, 0xcb, 0, 1, 0, 0, 0, 42], 0),
-    (&[0x82, 0xca, 0, 2, 0, 0, 0, 42, 0, 0, 0, 0], 0),
-    (
-        &[
-            0x8f, 0xce, 0, 4, 0, 0, 0, 1, 0, 0, 0, 0, 0x52, 0x45, 0x4d, 0x42, 1, 6, 0, 0,
-        ],
-        0,
-    ),
-    // A list without a zero, and an item past the end.
-    (&[0x81, 0xca, 0, 2, 0, 0, 0, 42, 1, 2, 97, 98], 0),
-    (&[0x81, 0xca, 0, 2, 0, 0, 0, 42, 1, 3, 97, 98], 0),
-    // An entry of a NACK and of a FIR in part.
-    (&[0xa1, 0xcd, 0, 3, 0, 0, 0, 1, 0, 0, 0, 42, 0, 10, 0, 1], 0),
-    (&[0x84, 0xce, 0, 3, 0, 0, 0, 1, 0, 0, 0, 0, 0, 0, 0, 42], 0),
-    // Transport-wide feedback on one packet without a chunk.
-    (
-        &[
-            0x8f, 0xcd, 0, 4, 0, 0, 0, 1, 0, 0, 0, 42, 0, 10, 0, 1, 0, 0, 0, 0,
-        ],
-        0,
-    ),
-    // An RRTR of one word, and a block that nobody knows.
-    (&[0x80, 0xcf, 0, 3, 0, 0, 0, 1, 4, 0, 0, 1, 0, 0, 0, 0], 0),
-    (&[0x80, 0xcf, 0, 2, 0, 0, 0, 1, 9, 0, 0, 0], 2),
-];
-
-#[test]
-fn reading_goes_on_or_stops(rt: HostRuntime) {
-    for (bytes, count) in &BEFORE_A_GOODBYE {
-        assert!(rt;
-            before_a_goodbye(rt.alloc(), bytes) == Ok(*count),
-            "{bytes:?}"
-        );
-    }
-}
-
-// Four items, and where the first three end.
-const FOUR: [&[u8]; 4] = [&SENDER_REPORT, &DESCRIPTIONS, &NACK, &GOODBYE];
-
-const ENDS: [usize; 3] = [52, 76, 92];
-
-fn datagram_of(alloc: Global, items: &[&[u8]]) -> Result<Vec<u8>, AllocError> {
-    let mut datagram = Vec::new(alloc);
-    for item in items {
-        datagram.extend_from_slice(item)?;
-    }
-    Ok(datagram)
-}
-
-// Whether the whole items are read of the first bytes, however many those are, and four of all.
-fn are_cut(alloc: Global, bytes: &[u8]) -> Result<bool, AllocError> {
-    for (len, _) in bytes.iter().enumerate() {
-        let whole = ENDS.iter().filter(|end| **end <= len).count();
-        if count_of(alloc, &bytes[..len])? != whole {
-            return Ok(false);
-        }
-    }
-    Ok(count_of(alloc, bytes)? == 4)
-}
-
-fn reads_whole_items(alloc: Global) -> Result<bool, AllocError> {
-    let datagram = datagram_of(alloc, &FOUR)?;
-    are_cut(alloc, datagram.as_slice())
-}
-
-#[test]
-fn cut_at_every_byte(rt: HostRuntime) {
-    assert!(rt; reads_whole_items(rt.alloc()) == Ok(true));
-}
-
-/// The fields before a list, an entry, and what ends the list.
-#[derive(Clone, Copy)]
-struct Listing(&'static [u8], &'static [u8], &'static [u8]);
-
-// A datagram of one item whose list has so many entries.
-fn list_of(alloc: Global, listing: Listing, count: usize) -> Result<Vec<u8>, AllocError> {
-    let mut bytes = listing.0.to_vec(alloc)?;
-    for _ in 0..count {
-        bytes.extend_from_slice(listing.1)?;
-    }
-    bytes.extend_from_slice(listing.2)?;
-    let words = (bytes.len() / 4).saturating_sub(1).min(255) as u8;
-    if let Some(length) = bytes.get_mut(3) {
-        *length = words;
-    }
-    Ok(bytes)
-}
-
-// How many entries the list of an item has.
-fn kept(item: Option<&Rtcp>) -> usize {
-    match item {
-        Some(Rtcp::Nack(nack)) => nack.reports.len(),
-        Some(Rtcp::Fir(fir)) => fir.reports.len(),
-        Some(Rtcp::ExtendedReport(report)) => report.blocks.as_slice().len(),
-        Some(Rtcp::SourceDescription(described)) => match described.reports.as_slice() {
-            [sdes] => sdes.values.as_slice().len(),
-            _ => 0,
-        },
-        _ => 0,
-    }
-}
-
-// How many entries the list has that is read of so many.
-fn kept_of(alloc: Global, of: Listing, count: usize) -> Result<usize, AllocError> {
-    let bytes = list_of(alloc, of, count)?;
-    let items = read(alloc, bytes.as_slice())?;
-    Ok(kept(items.front()))
-}
-
-// The lists of `NACK`, `FIR`, of an extended report and of descriptions.
-const LISTINGS: [Listing; 4] = [
-    Listing(
-        &[0x81, 0xcd, 0, 3, 0, 0, 0, 1, 0, 0, 0, 42],
-        &[0, 10, 0, 5],
-        &[],
-    ),
-    Listing(
-        &[0x84, 0xce, 0, 4, 0, 0, 0, 1, 0, 0, 0, 0],
-        &[0, 0, 0, 42, 3, 0, 0, 0],
-        &[],
-    ),
-    Listing(&[0x80, 0xcf, 0, 0, 0, 0, 0, 1], &[5, 0, 0, 0], &[]),
-    Listing(
-        &[0x81, 0xca, 0, 0, 0, 0, 0, 42],
-        &[6, 2, 97, 98],
-        &[0, 0, 0, 0],
-    ),
-];
-
-#[test]
-fn lists_of_31_and_32(rt: HostRuntime) {
-    for listing in &LISTINGS {
-        assert!(rt; kept_of(rt.alloc(), *listing, 30) == Ok(30));
-        assert!(rt; kept_of(rt.alloc(), *listing, 31) == Ok(31));
-        assert!(rt; kept_of(rt.alloc(), *listing, 32) == Ok(31));
-    }
-}
-
-// Blocks that nobody knows, and then the RRTR of `EXTENDED`.
-const UNKNOWN: Listing = Listing(
-    &[0x80, 0xcf, 0, 8, 0, 0, 0, 1],
-    &[9, 0, 0, 0],
-    &[4, 0, 0, 2, 0xb4, 0x4d, 0xb7, 0x05, 0x20, 0, 0, 0],
-);
-
-#[test]
-fn unknown_blocks_do_not_count(rt: HostRuntime) {
-    assert!(rt; kept_of(rt.alloc(), UNKNOWN, 31) == Ok(1));
-    assert!(rt; kept_of(rt.alloc(), UNKNOWN, 32) == Ok(1));
-}
-
-const TEN: [&[u8]; 10] = [
-    &SENDER_REPORT,
-    &DESCRIPTIONS,
-    &GOODBYE,
-    &NACK,
-    &FIR,
-    &PLI,
-    &TWCC,
-    &REMB,
-    &APPLICATION,
-    &EXTENDED,
-];
-
-// The streams that are concerned by `TEN`, and whether they are received.
-const CONCERNED: [(u32, bool); 14] = [
-    (7, true),
-    (8, false),
-    (42, true),
-    (43, true),
-    (42, true),
-    (42, false),
-    (42, false),
-    (42, false),
-    (42, false),
-    (42, false),
-    (43, false),
-    (42, false),
-    (1, false),
-    (9, true),
-];
-
-fn concerns(said: &RtcpFb, stream: &(u32, bool)) -> bool {
-    said.ssrc() == Ssrc::from(stream.0) && said.is_for_rx() == stream.1
 }
 
 fn feedback_of(alloc: Global, bytes: &[u8]) -> Result<Vec<RtcpFb>, AllocError> {
     let items = read(alloc, bytes)?;
     RtcpFb::from_rtcp(alloc, items)
-}
-
-fn are_concerned(alloc: Global) -> Result<bool, AllocError> {
-    let datagram = datagram_of(alloc, &TEN)?;
-    let feedback = feedback_of(alloc, datagram.as_slice())?;
-    let all = feedback
-        .iter()
-        .zip(CONCERNED.iter())
-        .all(|pair| concerns(pair.0, pair.1));
-    Ok(all && feedback.len() == CONCERNED.len())
-}
-
-#[test]
-fn feedback_on_streams(rt: HostRuntime) {
-    assert!(rt; are_concerned(rt.alloc()) == Ok(true));
 }
 
 // The feedback of `APPLICATION`.
@@ -632,11 +356,6 @@ fn is_copied(alloc: Global) -> Result<bool, AllocError> {
     Ok(copy == feedback)
 }
 
-fn is_item(alloc: Global) -> Result<bool, AllocError> {
-    let item = Rtcp::AppSpecificFeedback(words(alloc)?);
-    is_read(alloc, &APPLICATION, &item)
-}
-
 fn is_said(alloc: Global) -> Result<bool, AllocError> {
     let wanted = RtcpFb::AppSpecificFeedback(words(alloc)?);
     let said = feedback_of(alloc, &APPLICATION)?;
@@ -645,9 +364,8 @@ fn is_said(alloc: Global) -> Result<bool, AllocError> {
 
 fn are_answered(alloc: Global) -> Result<bool, AllocError> {
     let copied = is_copied(alloc)?;
-    let item = is_item(alloc)?;
     let said = is_said(alloc)?;
-    Ok(copied && item && said)
+    Ok(copied && said)
 }
 
 #[test]

@@ -1,13 +1,12 @@
 use media_units::{Beginning, Duration, Instant, SystemTime};
 use report_core::{
-    LossLog, ReceiverClock, ReceiverMoments, ReportIntervals, RtpClock, SenderClock, SenderNews,
-    StreamStats, StreamTxStats, TimeLine, Traffic, description, moment_report, receiver_report,
-    receiver_trip, sender_info, sender_report, sender_trip,
+    LossLog, ReceiverMoments, RtpClock, SenderNews, StreamTxStats, Traffic, description,
+    moment_report, receiver_report, receiver_trip, sender_info, sender_report, sender_trip,
 };
 use rtcp_wire::{
     Descriptions, DlrrItem, ExtendedReport, ReportBlock, Rrtr, SdesItem, SdesType, SenderInfo,
 };
-use rtp_base::{Frequency, ReceptionReport, SeqNo, Ssrc};
+use rtp_base::{ReceptionReport, SeqNo, Ssrc};
 use std::alloc::{AllocError, Global};
 use twcc_core::Share;
 
@@ -62,80 +61,6 @@ fn the_figure_of_the_standard(rt: HostRuntime) {
     assert!(rt; told == (0xb705_2000, 0x0005_4000) && trips == [Some(6_124_986); 2]);
 }
 
-fn intervals() -> ReportIntervals {
-    ReportIntervals {
-        audio: Duration::from_secs(5),
-        video: Duration::from_secs(1),
-    }
-}
-
-// Whether reports of a stream of pictures and of one of sound are due at moments, in milliseconds,
-// and when the next one is due after one at 1.2 s.
-fn receiver_due() -> ([bool; 3], Instant) {
-    let mut clock = ReceiverClock::new();
-    let due = [
-        clock.is_due(&intervals(), true, ms(999)),
-        clock.is_due(&intervals(), true, ms(1_000)),
-        clock.is_due(&intervals(), false, ms(1_000)),
-    ];
-    clock.report(ms(1_200));
-    (due, clock.due_at(&intervals(), true))
-}
-
-// Whether reports of an outgoing stream are due before its kind is told, and after it.
-fn sender_due() -> [bool; 3] {
-    let mut clock = SenderClock::new();
-    let untold = clock.is_due(&intervals(), ms(60_000));
-    clock.tell(true);
-    [
-        untold,
-        clock.is_due(&intervals(), ms(4_999)),
-        clock.is_due(&intervals(), ms(5_000)),
-    ]
-}
-
-#[test]
-fn reports_come_once_an_interval(rt: HostRuntime) {
-    assert!(rt; receiver_due() == ([false, true, false], ms(2_200)));
-    assert!(rt; sender_due() == [false, false, true]);
-}
-
-// The RTP times at 2 s before anything is sealed, and after it, and at a moment before the write.
-fn outgoing_times() -> [u32; 3] {
-    let mut clock = RtpClock::new();
-    clock.wrote(0xffff_fff0, ms(1_000));
-    let unsealed = clock.time_at(ms(2_000));
-    clock.sealed(Frequency::NINETY_KHZ);
-    [unsealed, clock.time_at(ms(2_000)), clock.time_at(ms(999))]
-}
-
-// The first time, and how others widen by it, before or after a pause.
-fn incoming_times() -> [u64; 5] {
-    let mut line = TimeLine::new();
-    let first = line.take(0xc000_0000, true, Frequency::NINETY_KHZ);
-    [
-        first.numer(),
-        line.widened(0x10, false),
-        line.widened(0x9000_0000, false),
-        line.widened(0x9000_0000, true),
-        line.widened(0x4000_0000, true),
-    ]
-}
-
-const WIDENED: [u64; 5] = [
-    0xc000_0000,
-    0x1_0000_0010,
-    0x9000_0000,
-    0x1_1000_0000,
-    0x4000_0000,
-];
-
-#[test]
-fn rtp_times_pass_the_end(rt: HostRuntime) {
-    assert!(rt; outgoing_times() == [0, 89_984, 0]);
-    assert!(rt; incoming_times() == WIDENED);
-}
-
 fn moment() -> Rrtr {
     let ntp_time = SystemTime::from_unix_nanos(1_700_000_000_000_000_000);
     Rrtr { ntp_time }
@@ -161,37 +86,19 @@ fn moments_of(alloc: Global, count: u32) -> Result<ReceiverMoments, AllocError> 
     Ok(moments)
 }
 
-/// How many moments came of how many receivers, whether the first of them comes again, how many
-/// wait, what a report answers, and how many wait after it.
-type Row = (u32, bool, usize, Option<(usize, u32)>, usize);
-
-// Of 301 the oldest goes, and at most 50 are answered. A moment that comes again is renewed in its
-// place.
-const ROWS: [Row; 6] = [
-    (300, false, 300, Some((50, 0)), 250),
-    (301, false, 300, Some((50, 1)), 250),
-    (49, true, 49, Some((49, 0)), 0),
-    (50, true, 50, Some((50, 0)), 0),
-    (51, true, 51, Some((50, 0)), 1),
-    (0, false, 0, None, 0),
-];
-
-fn answer(alloc: Global, row: &Row) -> Result<Row, AllocError> {
-    let mut moments = moments_of(alloc, row.0)?;
-    if row.1 {
-        moments.take(Ssrc::from(0), &moment(), ms(400_000))?;
-    }
+// How many of 301 moments wait, what a report answers, and how many wait after it.
+fn answer(alloc: Global) -> Result<(usize, Option<(usize, u32)>, usize), AllocError> {
+    let mut moments = moments_of(alloc, 301)?;
     let waited = moments.len();
     let report = moments.answer(alloc, Ssrc::from(9), ms(400_000))?;
     moments.answered();
-    Ok((row.0, row.1, waited, answered(&report), moments.len()))
+    Ok((waited, answered(&report), moments.len()))
 }
 
+// The oldest goes, and 50 are answered.
 #[test]
 fn moments_are_answered(rt: HostRuntime) {
-    for row in &ROWS {
-        assert!(rt; answer(rt.alloc(), row) == Ok(*row));
-    }
+    assert!(rt; answer(rt.alloc()) == Ok((300, Some((50, 1)), 250)));
 }
 
 // What a block tells of a loss.
@@ -265,21 +172,6 @@ fn reports_with_memory(rt: HostRuntime) {
     assert!(rt; is_of_the_sender(rt.alloc()));
     assert!(rt; is_described(rt.alloc()) == Ok(true));
     assert!(rt; is_of_the_receiver(rt.alloc()) == Ok(true));
-}
-
-// What is counted of two streams that had a packet of 3 bytes each.
-fn joined() -> StreamStats {
-    let mut one = StreamStats::new();
-    one.update_packet_counts(3);
-    let mut both = one;
-    both.add(&one);
-    both
-}
-
-#[test]
-fn counts_are_joined(rt: HostRuntime) {
-    let both = joined();
-    assert!(rt; (both.traffic.packets, both.traffic.bytes, both.nacks) == (2, 6, 0));
 }
 
 // Two losses, of which the first is told before anything is sent.
