@@ -124,7 +124,7 @@ enum Hears {
 
 use Hears::{Fraction, Jitter, Packet, Report, Restart};
 
-const LOSSES: [Hears; 6] = [
+static LOSSES: [Hears; 6] = [
     Packet(10, 7, 0, 90_000),
     Packet(11, 7, 0, 90_000),
     Packet(12, 7, 0, 90_000),
@@ -133,14 +133,14 @@ const LOSSES: [Hears; 6] = [
     Report(128, 5, 19),
 ];
 
-const JITTER: [Hears; 4] = [
+static JITTER: [Hears; 4] = [
     Packet(1, 0, 1, 8_000),
     Packet(2, 50, 161, 8_000),
     Packet(3, 100, 321, 8_000),
     Jitter(29),
 ];
 
-const FRACTIONS: [Hears; 4] = [
+static FRACTIONS: [Hears; 4] = [
     Fraction(120, 118, 4),
     Fraction(240, 240, 0),
     Restart,

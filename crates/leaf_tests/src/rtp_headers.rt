@@ -5,19 +5,19 @@ use rtp_wire::{
 };
 
 // The example of RFC 8285 section 4.2: elements of 1, 2 and 4 bytes, with padding before the last.
-const PADDED_ONE_BYTE: [u8; 30] = [
+static PADDED_ONE_BYTE: [u8; 30] = [
     0x90, 0x60, 0, 1, 0, 0, 0, 0, 0, 0, 0, 0x2a, 0xbe, 0xde, 0, 3, 0x10, 0x7f, 0x31, 1, 2, 0, 0,
     0x43, b'a', b'b', b'c', b'd', 9, 9,
 ];
 
 // The example of RFC 8285 section 4.3: elements of 0, 1 and 4 bytes, with padding before the last.
-const PADDED_TWO_BYTE: [u8; 28] = [
+static PADDED_TWO_BYTE: [u8; 28] = [
     0x90, 0x60, 0, 1, 0, 0, 0, 0, 0, 0, 0, 0x2a, 0x10, 0, 0, 3, 3, 0, 13, 1, 2, 0, 4, 4, b'a',
     b'b', b'c', b'd',
 ];
 
 // A header with each value, under the ids of `all_extensions`.
-const ALL: [u8; 48] = [
+static ALL: [u8; 48] = [
     0x90, 0x60, 0, 1, 0, 0, 0, 0, 0, 0, 0, 0x2a, 0xbe, 0xde, 0, 8, 0x10, 0x85, 0x22, 1, 2, 3, 0x31,
     0x12, 0x34, 0x41, b'a', b'b', 0x52, 0, 0x10, 2, 0x67, 0, 0, 0, 1, 0x80, 0, 0, 0, 0xa0, b'q',
     0xb0, b'r', 0xd0, 3, 0,

@@ -34,7 +34,7 @@ struct Made {
 
 // What is too old goes by its position, also where a young value stands in an earlier slot; the
 // mark then stands right above the greatest that went.
-const BY_POSITION: [Step; 11] = [
+static BY_POSITION: [Step; 11] = [
     Push(0, 0, 'A'),
     Push(5, 0, 'B'),
     Push(13, 2_000, 'C'),
@@ -49,7 +49,7 @@ const BY_POSITION: [Step; 11] = [
 ];
 
 // It grows until each has a slot of its own.
-const GROWS: [Step; 11] = [
+static GROWS: [Step; 11] = [
     Push(2, 0, 'A'),
     Push(3, 1_000, 'B'),
     Push(4, 2_000, 'C'),
@@ -64,7 +64,7 @@ const GROWS: [Step; 11] = [
 ];
 
 // What is older than ten seconds goes.
-const AGES_OUT: [Step; 11] = [
+static AGES_OUT: [Step; 11] = [
     Push(5, 0, 'A'),
     Push(7, 2_000, 'C'),
     Push(8, 3_000, 'D'),
@@ -79,7 +79,7 @@ const AGES_OUT: [Step; 11] = [
 ];
 
 // At the greatest size the greater position stays.
-const FULL: [Step; 8] = [
+static FULL: [Step; 8] = [
     Push(1, 0, 'A'),
     Push(2, 0, 'B'),
     Push(3, 0, 'C'),
