@@ -14,53 +14,53 @@ use std::alloc::{AllocError, Global};
 use std::collections::VecDeque;
 
 // A goodbye of source 42 (RFC 3550 section 6.6).
-const GOODBYE: [u8; 8] = [0x81, 0xcb, 0, 1, 0, 0, 0, 42];
+static GOODBYE: [u8; 8] = [0x81, 0xcb, 0, 1, 0, 0, 0, 42];
 
 // An empty receiver report (RFC 3550 section 6.4.2).
-const EMPTY_REPORT: [u8; 8] = [0x80, 0xc9, 0, 1, 0, 0, 0, 1];
+static EMPTY_REPORT: [u8; 8] = [0x80, 0xc9, 0, 1, 0, 0, 0, 1];
 
 // A sender report with one block, whose packets lost are -1 (RFC 3550 section 6.4.1).
-const SENDER_REPORT: [u8; 52] = [
+static SENDER_REPORT: [u8; 52] = [
     0x81, 0xc8, 0, 12, 0, 0, 0, 7, 0xb4, 0x4d, 0xb7, 0x05, 0x20, 0, 0, 0, 0, 0, 1, 0, 0, 0, 0, 9,
     0, 0, 3, 0, 0, 0, 0, 8, 5, 0xff, 0xff, 0xff, 0, 1, 0, 2, 0, 0, 0, 3, 0, 0, 0, 4, 0, 0, 0, 6,
 ];
 
 // The CNAME "cam" and an empty TOOL of source 42, and nothing of source 43 (RFC 3550 section 6.5).
-const DESCRIPTIONS: [u8; 24] = [
+static DESCRIPTIONS: [u8; 24] = [
     0x82, 0xca, 0, 5, 0, 0, 0, 42, 1, 3, 99, 97, 109, 6, 0, 0, 0, 0, 0, 43, 0, 0, 0, 0,
 ];
 
 // A NACK of 2, one of 10, 11 and 13 (RFC 4585 section 6.2.1), a PLI (section 6.3.1) and a FIR (RFC
 // 5104 section 4.3.1.1).
-const LOST: [u8; 16] = [0x81, 0xcd, 0, 3, 0, 0, 0, 2, 0, 0, 0, 42, 0, 2, 0, 0];
+static LOST: [u8; 16] = [0x81, 0xcd, 0, 3, 0, 0, 0, 2, 0, 0, 0, 42, 0, 2, 0, 0];
 
-const NACK: [u8; 16] = [0x81, 0xcd, 0, 3, 0, 0, 0, 1, 0, 0, 0, 42, 0, 10, 0, 5];
+static NACK: [u8; 16] = [0x81, 0xcd, 0, 3, 0, 0, 0, 1, 0, 0, 0, 42, 0, 10, 0, 5];
 
-const PLI: [u8; 12] = [0x81, 0xce, 0, 2, 0, 0, 0, 2, 0, 0, 0, 42];
+static PLI: [u8; 12] = [0x81, 0xce, 0, 2, 0, 0, 0, 2, 0, 0, 0, 42];
 
-const FIR: [u8; 20] = [
+static FIR: [u8; 20] = [
     0x84, 0xce, 0, 4, 0, 0, 0, 1, 0, 0, 0, 0, 0, 0, 0, 42, 3, 0, 0, 0,
 ];
 
 // Transport-wide feedback of ten packets from 10 on: a run of seven with deltas of 8 bits, and a
 // vector of one with a delta of -1 in 16 bits, one that did not come and one with a delta of 255
 // (draft-holmer-rmcat-transport-wide-cc-extensions-01 section 3.1).
-const TWCC: [u8; 36] = [
+static TWCC: [u8; 36] = [
     0x8f, 0xcd, 0, 8, 0, 0, 0, 1, 0, 0, 0, 42, 0, 10, 0, 10, 0xff, 0xff, 0xfe, 5, 0x20, 7, 0xe1, 0,
     4, 4, 4, 4, 4, 4, 4, 0xff, 0xff, 0xff, 0, 0,
 ];
 
 // Feedback of an application (RFC 4585 section 6.4), and a REMB of 262,144 bits a second for two
 // sources: exponent 1, mantissa 131,072 (draft-alvestrand-rmcat-remb section 2.2).
-const APPLICATION: [u8; 16] = [0x8f, 0xce, 0, 3, 0, 0, 0, 1, 0, 0, 0, 42, 1, 2, 3, 4];
+static APPLICATION: [u8; 16] = [0x8f, 0xce, 0, 3, 0, 0, 0, 1, 0, 0, 0, 42, 1, 2, 3, 4];
 
-const REMB: [u8; 28] = [
+static REMB: [u8; 28] = [
     0x8f, 0xce, 0, 6, 0, 0, 0, 1, 0, 0, 0, 0, 0x52, 0x45, 0x4d, 0x42, 2, 0x06, 0, 0, 0, 0, 0, 42,
     0, 0, 0, 43,
 ];
 
 // An RRTR and a DLRR of one item (RFC 3611 sections 4.4 and 4.5).
-const EXTENDED: [u8; 36] = [
+static EXTENDED: [u8; 36] = [
     0x80, 0xcf, 0, 8, 0, 0, 0, 1, 4, 0, 0, 2, 0xb4, 0x4d, 0xb7, 0x05, 0x20, 0, 0, 0, 5, 0, 0, 3, 0,
     0, 0, 9, 0, 0, 0, 2, 0, 0, 0, 3,
 ];

@@ -13,12 +13,12 @@ type Feedback = (u16, i32, u8, &'static [PacketStatus]);
 
 // Seven packets 1 ms after one another, one that is missing and one 250 us before the last, from
 // the number 65,535 on: a run, a vector, deltas and fill.
-const WORKED: [u8; 32] = [
+static WORKED: [u8; 32] = [
     0, 0, 0, 1, 0, 0, 0, 42, 0xff, 0xff, 0, 9, 0xff, 0xff, 0xff, 7, 0x20, 7, 0xc8, 0, 4, 4, 4, 4,
     4, 4, 4, 0xff, 0xff, 0, 0, 0,
 ];
 
-const WORKED_FEEDBACK: Feedback = (
+static WORKED_FEEDBACK: Feedback = (
     65_535,
     -1,
     7,
@@ -98,7 +98,7 @@ fn gap_of(alloc: Global, count: u16) -> Result<Twcc, AllocError> {
 }
 
 // Nine runs that tell 65,535 missing packets, which is as many as feedback can tell of.
-const WIDE: [u8; 36] = [
+static WIDE: [u8; 36] = [
     0, 0, 0, 1, 0, 0, 0, 42, 0, 5, 0xff, 0xff, 0, 0, 1, 7, 0x1f, 0xff, 0x1f, 0xff, 0x1f, 0xff,
     0x1f, 0xff, 0x1f, 0xff, 0x1f, 0xff, 0x1f, 0xff, 0x1f, 0xff, 0, 7, 0, 0,
 ];
@@ -164,9 +164,9 @@ fn tells(
 
 // When three packets came of which the second is missing, and what is told of them where they were
 // sent.
-const CAME: [Option<u64>; 3] = [Some(64_000_000_000), None, Some(64_000_500_000)];
+static CAME: [Option<u64>; 3] = [Some(64_000_000_000), None, Some(64_000_500_000)];
 
-const TOLD: [(u64, Option<u64>); 3] = [
+static TOLD: [(u64, Option<u64>); 3] = [
     (3, Some(64_000_000_000)),
     (4, None),
     (5, Some(64_000_500_000)),
