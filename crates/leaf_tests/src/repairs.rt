@@ -112,6 +112,8 @@ fn registers_answer(rt: HostRuntime) -> Result<(), Fail> {
 enum Hears {
     /// A fresh packet: its number, when it came in milliseconds, its RTP time, and its clock rate.
     Packet(u64, u64, u32, u32),
+    /// A number that was rebuilt.
+    Rebuilt(u64),
     /// The report tells this fraction and count of lost packets, a greatest number, and no jitter.
     Report(u8, i32, u32),
     /// The jitter is this one.
@@ -122,15 +124,17 @@ enum Hears {
     Restart,
 }
 
-use Hears::{Fraction, Jitter, Packet, Report, Restart};
+use Hears::{Fraction, Jitter, Packet, Rebuilt, Report, Restart};
 
-static LOSSES: [Hears; 6] = [
+static LOSSES: [Hears; 8] = [
     Packet(10, 7, 0, 90_000),
     Packet(11, 7, 0, 90_000),
     Packet(12, 7, 0, 90_000),
     Packet(13, 7, 0, 90_000),
     Packet(19, 7, 0, 90_000),
     Report(128, 5, 19),
+    Rebuilt(14),
+    Report(0, 5, 19),
 ];
 
 static JITTER: [Hears; 4] = [
@@ -169,6 +173,10 @@ fn comes(register: &mut ReceiverRegister, packet: (u64, u64, u32, u32)) -> bool 
 fn tells(register: &mut ReceiverRegister, heard: Hears) -> bool {
     match heard {
         Packet(number, time, rtp_time, rate) => comes(register, (number, time, rtp_time, rate)),
+        Rebuilt(number) => {
+            register.mark_recovered(number_of(number));
+            true
+        }
         Report(fraction, lost, greatest) => {
             reports(register.reception_report(), fraction, lost, greatest)
         }

@@ -1,4 +1,4 @@
-use rtp_base::{Pt, Ssrc};
+use rtp_base::{Pt, SeqNo, Ssrc};
 use rtp_wire::{
     AbsCaptureTime, AbsSendTime, Extension, ExtensionMap, ExtensionValues, Frequency, MediaTime,
     Mid, Rid, RtpHeader, VideoOrientation,
@@ -116,4 +116,22 @@ fn headers_with_values(rt: HostRuntime) {
         );
     }
     assert!(rt; writes(&extended_header(all_values(), 48), &exts, &ALL));
+}
+
+fn starts_with_number(payload: &[u8], number: u16, rest: &[u8]) -> bool {
+    match RtpHeader::read_original_sequence_number(payload) {
+        Some((read, behind)) => read == number && behind == rest,
+        None => false,
+    }
+}
+
+// A repair begins with the number of the packet (RFC 4588 section 4); padding ends with its length.
+#[test]
+fn repairs_and_padding(rt: HostRuntime) {
+    let mut payload = [9; 3];
+    let len = RtpHeader::write_original_sequence_number(&mut payload, SeqNo::from(65538));
+    assert!(rt; len == 2 && starts_with_number(&payload, 2, &[9]));
+    let mut padding = [9; 240];
+    assert_eq!(rt; RtpHeader::create_padding_packet(&mut padding, 17), 32);
+    assert!(rt; padding[30] == 0 && padding[31] == 32 && padding[32] == 9);
 }

@@ -1,4 +1,4 @@
-use rtp_base::{widen16, widen32};
+use rtp_base::{Direction, Mid, MidRid, Rid, SeqNo, TwccClusterId, TwccPacketId, widen16, widen32};
 
 // The edges of 16 bits, after none, 0, 2^15 - 1, 2^15, 2^16 - 1, 2^16, 2^47 (RFC 3711 appendix A).
 static WIDE: [(Option<u64>, u16, u64); 17] = [
@@ -28,4 +28,24 @@ fn numbers_widen(rt: HostRuntime) {
     }
     assert!(rt; widen32(Some(0xffff_ffff), 0) == 0x1_0000_0000);
     assert!(rt; widen32(Some(0x1_0000_0000), 0xffff_ffff) == 0xffff_ffff);
+}
+
+// Whether one stream or all of the mid v are asked for by another.
+fn equals(asked: Option<Rid>, held: Option<Rid>) -> Option<bool> {
+    let mid = Mid::from_slice(b"v")?;
+    Some(MidRid(mid, asked).special_equals(&MidRid(mid, held)))
+}
+
+#[test]
+fn names_clusters_and_directions(rt: HostRuntime) {
+    let rid = Rid::from_slice(b"q");
+    assert!(rt; equals(None, rid) == Some(true) && equals(rid, None) == Some(false));
+    let cluster = TwccClusterId::from(2);
+    let packet = TwccPacketId::with_cluster(SeqNo::from(1), cluster);
+    assert!(rt; packet.cluster == Some(cluster));
+    let mut number = SeqNo::from(65_535);
+    assert!(rt; number.inc() == SeqNo::from(65_535) && number.roc() == 1);
+    let direction = Direction::SendOnly;
+    assert!(rt; direction.is_sending() && !direction.is_receiving());
+    assert!(rt; direction.invert() == Direction::RecvOnly);
 }

@@ -13,6 +13,7 @@ fn the_sooner_of_none_is_the_default(rt: HostRuntime) {
 #[test]
 fn a_report_tells_the_round_trip(rt: HostRuntime) {
     let now = Duration::from_millis(3_024_992_016_500);
+    assert!(rt; now.as_millis() == 3_024_992_016_500);
     let trip = calculate_rtt(now, 0x0005_4000, 0xb705_2000);
     assert!(rt; trip == Some(Duration::from_nanos(6_124_986_648)));
 }
@@ -22,6 +23,8 @@ fn surface_ample(rt: HostRuntime) {
     let mut history = ValueHistory::new(rt.alloc());
     let pushed = history.push(Instant::from_nanos(1), 22u128);
     assert!(rt; pushed.is_ok() && history.sum() == 22);
+    history.purge_old(Instant::from_nanos(1_000_000_002));
+    assert!(rt; history.sum() == 0);
 }
 
 #[test]
@@ -32,5 +35,5 @@ fn reads_and_writes_ntp(rt: HostRuntime) {
     assert!(rt; read == written && written.as_ntp_64() == 0xb44d_b705_2000_0000);
     // The second 3,971,792,775 and 4,184,015,405 parts of it
     let read = SystemTime::from_ntp_64(0xecbc_bf87_f963_022d);
-    assert!(rt; read == SystemTime::from_unix_nanos(1_762_803_975_974_166_999));
+    assert!(rt; read.as_unix_nanos() == 1_762_803_975_974_166_999);
 }

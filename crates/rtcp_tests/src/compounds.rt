@@ -359,7 +359,7 @@ fn is_copied(alloc: Global) -> Result<bool, AllocError> {
 fn is_said(alloc: Global) -> Result<bool, AllocError> {
     let wanted = RtcpFb::AppSpecificFeedback(words(alloc)?);
     let said = feedback_of(alloc, &APPLICATION)?;
-    Ok(said.as_slice() == [wanted].as_slice())
+    Ok(said.as_slice() == [wanted].as_slice() && said.iter().all(|it| !it.is_for_rx()))
 }
 
 fn are_answered(alloc: Global) -> Result<bool, AllocError> {

@@ -220,8 +220,9 @@ fn is_exchanged(alloc: Global, report: &Option<Twcc>) -> Result<bool, AllocError
 fn is_reported(alloc: Global, register: &mut TwccRecvRegister) -> Result<bool, AllocError> {
     register.update_seq(SeqNo::from(3), Instant::from_nanos(64_000_000_100))?;
     register.update_seq(SeqNo::from(5), Instant::from_nanos(64_000_500_000))?;
+    let waits = register.has_unreported();
     let report = register.build_report(alloc, Ssrc::from(1), Ssrc::from(42), 1_000)?;
-    is_exchanged(alloc, &report)
+    Ok(waits && !register.has_unreported() && is_exchanged(alloc, &report)?)
 }
 
 // Each call that takes memory, once, with ample memory.

@@ -3,7 +3,8 @@ ghost use Rattle.std.specs.Prelude.{◌<◌, ◌≤◌, length};
 use rtp_wire::{ExtensionMap, RtpHeader};
 use sha1::Sha1;
 use srtp_core::{
-    KeyingMaterial, ShaCipher, SrtpCipher, SrtpContext, SrtpProfile, ToyCipher, sha1_hmac,
+    KeyingMaterial, ShaCipher, SrtpCipher, SrtpContext, SrtpProfile, ToyCipher, aes_128_cm_sha1_80,
+    sha1_hmac,
 };
 use std::alloc::AllocError;
 use std::process::Abort;
@@ -119,6 +120,18 @@ fn codes_of_the_standard(rt: HostRuntime) {
     for (key, message, text) in &CODES {
         assert!(rt; reads(&code(key, message), text), "{text}");
     }
+}
+
+// The first ten bytes of the third of these codes, where the last four bytes of the message are the
+// rollover count, and of the second one (RFC 3711 section 4.2).
+#[test]
+fn tags_of_the_standard(rt: HostRuntime) {
+    let mut packet = [0xdd; 56];
+    aes_128_cm_sha1_80::rtp_hmac(&[0xaa; 20], &mut packet, 0xdddd_dddd_0001, 46);
+    assert!(rt; reads(&packet[46..], "125d7342b9ac11cd91a3"));
+    let mut feedback = *b"what do ya want for nothing?..........";
+    aes_128_cm_sha1_80::rtcp_hmac(b"Jefe", &mut feedback, 28);
+    assert!(rt; reads(&feedback[28..], "effcdf6ae5eb2fa2d274"));
 }
 
 // Messages and digests of FIPS 180-1, appendices A and B.

@@ -29,6 +29,8 @@ mod reports;
 #[cfg(test)]
 mod rounds;
 #[cfg(test)]
+mod sections;
+#[cfg(test)]
 mod table;
 #[cfg(test)]
 mod telling;

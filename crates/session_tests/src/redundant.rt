@@ -36,7 +36,8 @@ fn lost(alloc: Global, stream: &StreamRx<MaskRegister>, wanted: i32) -> Result<b
 }
 
 // Whether a packet that is restored has its time, so that a block of another one is placed, on a
-// stream on which 10, 11 and 14 came, frames of 20 ms of a clock of 48 kHz; and one is lost then.
+// stream on which 10, 11 and 14 came, frames of 20 ms of a clock of 48 kHz; and one is lost then. It
+// is not taken once it is recovered.
 fn restores(alloc: Global, stream: &mut StreamRx<MaskRegister>) -> Result<bool, AllocError> {
     for (at, time) in [(10, 0), (11, 960), (14, 3840)] {
         stream.take(&arrival(time), number(at), None)?;
@@ -44,7 +45,11 @@ fn restores(alloc: Global, stream: &mut StreamRx<MaskRegister>) -> Result<bool, 
     let restored = stream.restore(12, &arrival(1920), None)?.is_some();
     let known = stream.place_redundant(SeqNo::from(14), 1920).is_none();
     let placed = stream.place_redundant(SeqNo::from(14), 2000) == Some(SeqNo::from(13));
-    Ok(restored && known && placed && lost(alloc, stream, 1)?)
+    let lost = lost(alloc, stream, 1)?;
+    stream.mark_recovered(number(13), 2880);
+    let taken = stream.accepts(13, None).is_none();
+    stream.reset_roc(0);
+    Ok(restored && known && placed && lost && taken)
 }
 
 fn stream_of(alloc: Global) -> StreamRx<MaskRegister> {

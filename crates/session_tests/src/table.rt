@@ -4,6 +4,7 @@ use crate::ends::{End, FIRST_REPORT, config, expect_stream, give_keys, new_end, 
 use crate::feedback::{is_exchanged, opens_clear};
 use crate::leaving::{drains, sends, write};
 use crate::packets::{SEALED, WITH_MID};
+use crate::sections::are_taken_out;
 use rtp_wire::{Extension, ExtensionValues};
 use std::alloc::Global;
 
@@ -24,9 +25,11 @@ enum Row {
     OpensClear,
     /// Nothing that may want memory is told.
     TellsNothing,
+    /// Streams and a media section are taken out.
+    TakesOut,
 }
 
-static ROWS: [(&str, Row); 7] = [
+static ROWS: [(&str, Row); 8] = [
     ("a packet", Row::Seals),
     ("a packet with its mid", Row::SealsWithMid),
     ("a drain", Row::Drains),
@@ -34,6 +37,7 @@ static ROWS: [(&str, Row); 7] = [
     ("feedback", Row::Exchanges),
     ("feedback in the clear", Row::OpensClear),
     ("what may want memory", Row::TellsNothing),
+    ("streams and a media section", Row::TakesOut),
 ];
 
 // Writes the packet of `SEALED`.
@@ -58,6 +62,7 @@ fn answer(alloc: Global, a: &mut End, b: &mut End, row: Row) -> bool {
         Row::Exchanges => is_exchanged(alloc, a, b),
         Row::OpensClear => opens_clear(b),
         Row::TellsNothing => tells_nothing(a),
+        Row::TakesOut => are_taken_out(a, b),
     }
 }
 
