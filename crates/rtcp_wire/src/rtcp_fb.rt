@@ -1,12 +1,12 @@
 //! What items say of single streams.
-ghost use Rattle.std.specs.Prelude.{◌≡◌, ◌++◌, map, IfOk, OnOk};
+ghost use Rattle.std.specs.Prelude.{◌≡◌, ◌++◌, ◌∷◌, [], map, IfOk, OnOk};
 ghost use Rattle.std.specs.List.{flat_map};
 
 use crate::feedback::AppSpecificFeedback;
 use crate::packet::Rtcp;
 use crate::request::{FirEntry, Pli};
 use media_units::Bitrate;
-use rtcp_items::{DlrrItem, ReportBlock, Rrtr, Sdes, SenderInfo};
+use rtcp_items::{Descriptions, DlrrItem, ReportBlock, Rrtr, Sdes, SenderInfo, SenderReport};
 use rtp_base::{NackEntry, ReceptionReport, ReportList, Ssrc};
 use std::alloc::{AllocError, Global};
 use std::collections::VecDeque;
@@ -60,19 +60,9 @@ impl RtcpFb {
         ensures { IfOk result (λ v. v.items ≡ feedback_of item) }
     {
         match item {
-            Rtcp::SenderReport(report) => {
-                let mut told = RtcpFb::from_reports(alloc, report.reports.as_slice())?;
-                told.insert(0, RtcpFb::SenderInfo(report.sender_info))?;
-                Ok(told)
-            }
+            Rtcp::SenderReport(report) => RtcpFb::from_sender_report(alloc, report),
             Rtcp::ReceiverReport(report) => RtcpFb::from_reports(alloc, report.reports.as_slice()),
-            Rtcp::SourceDescription(described) => {
-                let sources = described.reports.into_vec();
-                sources
-                    .into_iter()
-                    .map(RtcpFb::SourceDescription)
-                    .collect(alloc)
-            }
+            Rtcp::SourceDescription(described) => RtcpFb::from_descriptions(alloc, described),
             Rtcp::Goodbye(goodbye) => {
                 let sources = goodbye.reports.as_slice();
                 sources.iter().copied().map(RtcpFb::Goodbye).collect(alloc)
@@ -82,18 +72,43 @@ impl RtcpFb {
                 report.ssrc,
                 report.blocks.as_slice(),
             ),
-            Rtcp::Nack(nack) => Ok(vec![in alloc; RtcpFb::Nack(nack.ssrc, nack.reports)]?),
-            Rtcp::Pli(pli) => Ok(vec![in alloc; RtcpFb::Pli(pli)]?),
+            Rtcp::Nack(nack) => RtcpFb::alone(alloc, RtcpFb::Nack(nack.ssrc, nack.reports)),
+            Rtcp::Pli(pli) => RtcpFb::alone(alloc, RtcpFb::Pli(pli)),
             Rtcp::Fir(fir) => {
                 let entries = fir.reports.as_slice();
                 entries.iter().copied().map(RtcpFb::Fir).collect(alloc)
             }
-            Rtcp::Twcc(twcc) => Ok(vec![in alloc; RtcpFb::Twcc(twcc)]?),
+            Rtcp::Twcc(twcc) => RtcpFb::alone(alloc, RtcpFb::Twcc(twcc)),
             Rtcp::Remb(remb) => RtcpFb::from_ssrcs(alloc, remb.bitrate, remb.ssrcs.as_slice()),
             Rtcp::AppSpecificFeedback(feedback) => {
-                Ok(vec![in alloc; RtcpFb::AppSpecificFeedback(feedback)]?)
+                RtcpFb::alone(alloc, RtcpFb::AppSpecificFeedback(feedback))
             }
         }
+    }
+
+    // What an item says of one stream, where it says no more.
+    fn alone(alloc: Global, feedback: RtcpFb) -> Result<Vec<RtcpFb>, AllocError>
+        ensures { IfOk result (λ v. v.items ≡ feedback ∷ []) }
+    {
+        Ok(vec![in alloc; feedback]?)
+    }
+
+    fn from_sender_report(alloc: Global, report: SenderReport) -> Result<Vec<RtcpFb>, AllocError>
+        ensures { IfOk result (λ v. v.items ≡ RtcpFb.SenderInfo report.sender_info ∷ map RtcpFb.ReceptionReport report.reports) }
+    {
+        let mut told = RtcpFb::from_reports(alloc, report.reports.as_slice())?;
+        told.insert(0, RtcpFb::SenderInfo(report.sender_info))?;
+        Ok(told)
+    }
+
+    fn from_descriptions(alloc: Global, described: Descriptions) -> Result<Vec<RtcpFb>, AllocError>
+        ensures { IfOk result (λ v. v.items ≡ map RtcpFb.SourceDescription described.reports) }
+    {
+        let sources = described.reports.into_vec();
+        sources
+            .into_iter()
+            .map(RtcpFb::SourceDescription)
+            .collect(alloc)
     }
 
     fn from_reports(alloc: Global, reports: &[ReceptionReport]) -> Result<Vec<RtcpFb>, AllocError>
@@ -134,7 +149,7 @@ impl RtcpFb {
         ensures { IfOk result (λ v. v.items ≡ feedback_of_block ssrc block.now) }
     {
         match block {
-            ReportBlock::Rrtr(rrtr) => Ok(vec![in alloc; RtcpFb::Rrtr(*rrtr, ssrc)]?),
+            ReportBlock::Rrtr(rrtr) => RtcpFb::alone(alloc, RtcpFb::Rrtr(*rrtr, ssrc)),
             ReportBlock::Dlrr(dlrr) => {
                 let items = dlrr.items.as_slice();
                 items.iter().copied().map(RtcpFb::DlrrItem).collect(alloc)

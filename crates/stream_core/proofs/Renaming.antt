@@ -55,15 +55,16 @@ length_removed [] i h = absurd (omega arith)
 length_removed (e ∷ es) zero h = omega arith
 length_removed (e ∷ es) (suc i) h = let rest = length_removed es i (omega arith) in omega (arith, rest)
 
--- one was taken out, and comes behind the others under a key that none has
+-- one was taken out: a key that none had has none
+module _ {X S : Type 0} (m : IndexMap ℕ X S) (es : List (ℕ × X)) (i k : ℕ) (gone : m.entries ≡ remove es i) (none : place_of k es ≡ None) where
+  pub has_none : get nat_eq m k ≡ None
+  has_none = ap (lookup (nat_eq k)) gone ∙ lookup_removed (nat_eq k) es i (no_lookup (lookup (nat_eq k) es) (sym (some_index (nat_eq k) es) ∙ ap is_some none))
+
+-- and comes behind the others under such a key
 module _ {X S : Type 0} (m : IndexMap ℕ X S) (es : List (ℕ × X)) (i k : ℕ) (x : X) (between : List (ℕ × X)) (gone : m.entries ≡ remove es i) (none : place_of k es ≡ None)
     (added : between ≡ insert_entry nat_eq m.entries k x) where
   pub added_behind : between ≡ m.entries ++ (k, x) ∷ []
-  added_behind =
-      let absent : get nat_eq m k ≡ None =
-      ap (lookup (nat_eq k)) gone
-      ∙ lookup_removed (nat_eq k) es i (no_lookup (lookup (nat_eq k) es) (sym (some_index (nat_eq k) es) ∙ ap is_some none)) in
-      added ∙ insert_entry-new nat_eq m k x absent
+  added_behind = added ∙ insert_entry-new nat_eq m k x (has_none m es i k gone none)
 
   -- so there are as many as there were
   pub as_many : i < length es → (length m.entries + 1 ≡ length es) × (length between ≡ length es)

@@ -84,7 +84,7 @@ impl<T: Drop> SsrcTable<T> {
         ensures ok { OnOk result (self.new ≡ self.old ++ (ssrc, stream) ∷ []) }
         ensures err { OnErr result (self.new ≡ self.old) }
     {
-        self.streams.insert(ssrc, stream)?;
+        self.streams.entry(ssrc)?.or_insert(stream);
         Ok(())
     }
 
@@ -112,7 +112,7 @@ impl<T: Drop> SsrcTable<T> {
         self.streams.reserve(1)?;
         if let Some((_, stream)) = self.streams.shift_remove_index(place) {
             let last = self.streams.len();
-            self.streams.insert(ssrc, stream)?;
+            self.streams.entry(ssrc)?.or_insert(stream);
             self.streams.move_index(last, place);
         }
         Ok(())
