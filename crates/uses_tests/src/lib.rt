@@ -6,5 +6,3 @@
 mod belonging;
 #[cfg(test)]
 mod callers;
-#[cfg(test)]
-mod runs;

@@ -1,3 +1,6 @@
+use crate::cite_the_laws::played_to_the_end;
+use crate::mirror_a_session::take_as_plain;
+use crate::play_a_run::played;
 use media_model::{Setup, Transcript};
 use media_script::read_script;
 use media_units::Instant;
@@ -8,9 +11,6 @@ use std::test::Fail;
 use uses::build_a_script::one_write;
 use uses::exchange_a_packet::end;
 use uses::tell_a_run::told;
-use uses_of_runs::cite_the_laws::played_to_the_end;
-use uses_of_runs::mirror_a_session::take_as_plain;
-use uses_of_runs::play_a_run::played;
 
 fn mid() -> Mid {
     match Mid::from_slice(b"v") {
