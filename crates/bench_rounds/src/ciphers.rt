@@ -14,7 +14,7 @@ pub enum CipherWork {
 }
 
 // A header without extension, of number 1 and source 42 (RFC 3550 section 5.1).
-const HEADER: [u8; 12] = [0x80, 0x60, 0, 1, 0, 0, 0, 0, 0, 0, 0, 0x2a];
+static HEADER: [u8; 12] = [0x80, 0x60, 0, 1, 0, 0, 0, 0, 0, 0, 0, 0x2a];
 
 // What keys are made of.
 fn material(alloc: Global) -> Result<KeyingMaterial, AllocError> {

@@ -12,7 +12,7 @@ pub enum CompoundWork {
 
 // A sender report with one block, a description with a name of 16 bytes, and a NACK of one entry
 // (RFC 3550 sections 6.4.1 and 6.5, RFC 4585 section 6.2.1).
-const COMPOUND: [u8; 96] = [
+static COMPOUND: [u8; 96] = [
     0x81, 200, 0, 12, 0, 0, 0, 1, 0xe0, 0, 0, 0, 0x80, 0, 0, 0, 0, 1, 0x5f, 0x90, 0, 0, 0, 100, 0,
     1, 0x86, 0xa0, 0, 0, 0, 42, 0x10, 0, 0, 3, 0, 0, 4, 0, 0, 0, 0, 7, 0, 0, 0x80, 0, 0, 0, 0x40,
     0, 0x81, 202, 0, 6, 0, 0, 0, 1, 1, 16, 98, 101, 110, 99, 104, 64, 101, 120, 97, 109, 112, 108,

@@ -20,7 +20,7 @@ pub enum FeedbackWork {
 // The fields of a report of ten packets from 10 on: a run of seven with deltas of 8 bits, and a
 // vector of one with a delta of -1 in 16 bits, one that did not come and one with a delta of 255
 // (draft-holmer-rmcat-transport-wide-cc-extensions-01 section 3.1).
-const REPORT: [u8; 32] = [
+static REPORT: [u8; 32] = [
     0, 0, 0, 1, 0, 0, 0, 42, 0, 10, 0, 10, 0xff, 0xff, 0xfe, 5, 0x20, 7, 0xe1, 0, 4, 4, 4, 4, 4, 4,
     4, 0xff, 0xff, 0xff, 0, 0,
 ];

@@ -12,7 +12,7 @@ pub enum HeaderWork {
 
 // A header with an audio level, a send time, a transport number and the mid "ab" (RFC 3550
 // section 5.1, RFC 8285 section 4.2).
-const HEADER: [u8; 32] = [
+static HEADER: [u8; 32] = [
     0x90, 0x60, 0, 1, 0, 0, 0, 0, 0, 0, 0, 0x2a, 0xbe, 0xde, 0, 4, 0x10, 0x85, 0x22, 1, 2, 3, 0x31,
     0x12, 0x34, 0x41, b'a', b'b', 0, 0, 0, 0,
 ];

@@ -6,7 +6,7 @@ use std::alloc::{AllocError, Global};
 use stream_core::{Payload, RtpPacket, SendQueue};
 
 // A header without extension, of number 1 and source 42 (RFC 3550 section 5.1).
-const HEADER: [u8; 12] = [0x80, 0x60, 0, 1, 0, 0, 0, 0, 0, 0, 0, 0x2a];
+static HEADER: [u8; 12] = [0x80, 0x60, 0, 1, 0, 0, 0, 0, 0, 0, 0, 0x2a];
 
 // Pushes a packet of number 1.
 fn push(alloc: Global, queue: &mut SendQueue, header: &RtpHeader) -> Result<(), AllocError> {

@@ -140,7 +140,7 @@ fn patterns_ask_for_bits(rt: HostRuntime) {
 }
 
 // Reads of a source of ten bytes in pieces of 4, whose second and fourth calls fail.
-const READS: [(usize, Option<usize>, [u8; 6]); 6] = [
+static READS: [(usize, Option<usize>, [u8; 6]); 6] = [
     (6, Some(4), *b"0123--"),
     (6, None, *b"------"),
     (3, Some(3), *b"456---"),
@@ -169,7 +169,7 @@ fn reading_all_fails_in_mid_stream_and_goes_on(rt: HostRuntime) -> Result<(), Fa
 }
 
 // Writes behind the first four bytes, to a sink of nine bytes in pieces of 4.
-const WRITES: [(&[u8], Option<usize>); 4] = [
+static WRITES: [(&[u8], Option<usize>); 4] = [
     (b"4567", Some(4)),
     (b"89", None),
     (b"8", Some(1)),

@@ -83,7 +83,7 @@ pub struct Row {
 }
 
 /// The rows, in the order in which they are timed.
-pub const ROWS: [Row; 63] = [
+pub static ROWS: [Row; 63] = [
     Row {
         name: "take-in-order-slots",
         work: Work::Slots(RegisterWork::Take(Numbers::InOrder)),

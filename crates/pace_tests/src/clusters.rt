@@ -66,7 +66,7 @@ fn follows(rt: &impl Abort, config: ProbeClusterConfig, calls: &[Call]) {
 // The first padding comes 2 ms after the beginning, the next ones 2 ms apart and not before the
 // bytes sent would have left at the rate; at the end so many bytes as are left; and where only a
 // packet is missing 240.
-const WHOLE: [Call; 18] = [
+static WHOLE: [Call; 18] = [
     Time(0),
     Ask(1_999, None),
     Ask(2_000, Some(240)),
@@ -89,7 +89,7 @@ const WHOLE: [Call; 18] = [
 ];
 
 // All of it was sent: no bytes are left to ask for.
-const SPENT: [Call; 5] = [
+static SPENT: [Call; 5] = [
     Send(2_000, 1_800),
     Complete(false),
     Send(2_000, 1),
@@ -99,7 +99,7 @@ const SPENT: [Call; 5] = [
 
 // At rate 0 none is due once it was started, and a cluster of no bytes and no packets ends as it
 // starts.
-const ZERO: [Call; 5] = [
+static ZERO: [Call; 5] = [
     Time(0),
     Complete(false),
     Ask(2_000, None),
@@ -107,7 +107,7 @@ const ZERO: [Call; 5] = [
     Complete(true),
 ];
 
-const NONE: [Call; 4] = [
+static NONE: [Call; 4] = [
     Complete(false),
     Ask(1_999, None),
     Complete(true),
@@ -115,7 +115,7 @@ const NONE: [Call; 4] = [
 ];
 
 // Without a delta padding is asked for once at a moment, and never at moment 0.
-const CLOSE: [Call; 4] = [
+static CLOSE: [Call; 4] = [
     Ask(0, None),
     Ask(1, Some(240)),
     Ask(1, None),
@@ -123,7 +123,7 @@ const CLOSE: [Call; 4] = [
 ];
 
 // 8 bits at 3 bit/s, rounded up.
-const SLOW: [Call; 3] = [Send(0, 1), Time(2_666_666_667), Complete(false)];
+static SLOW: [Call; 3] = [Send(0, 1), Time(2_666_666_667), Complete(false)];
 
 #[test]
 fn clusters_at_their_edges(rt: HostRuntime) {
@@ -161,7 +161,7 @@ fn probes_of_silence(rt: HostRuntime) {
 
 // Media is active, the link is overused, the estimate, the least rate, and the rates of padding and
 // of pacing, in kbit/s.
-const RATES: [(bool, bool, u64, u64, u64, u64); 8] = [
+static RATES: [(bool, bool, u64, u64, u64, u64); 8] = [
     (true, false, 450, 800, 450, 495),
     (true, false, 700, 800, 700, 770),
     (true, false, 1_000, 800, 800, 1_100),

@@ -81,7 +81,7 @@ fn script(alloc: Global) -> Result<ScriptedEstimate, AllocError> {
     Ok(ScriptedEstimate::new(estimates, probes))
 }
 
-const DRY: [Call; 22] = [
+static DRY: [Call; 22] = [
     Poll(None),
     Last(None),
     Wake(Some(0)),
@@ -106,7 +106,7 @@ const DRY: [Call; 22] = [
     Pending(0),
 ];
 
-const FIXED: [Call; 9] = [
+static FIXED: [Call; 9] = [
     Poll(None),
     Last(None),
     Wake(Some(0)),

@@ -40,7 +40,7 @@ fn follows<P: Pacer>(
 }
 
 // Ten packets of 1,000 bytes at 1 Mbit/s, at one moment: five are let out, and then none for 40 ms.
-const ROUNDS: [(u32, usize, u128); 5] = [
+static ROUNDS: [(u32, usize, u128); 5] = [
     (10, 10_000, 0),
     (9, 9_000, 8_000),
     (8, 8_000, 16_000),

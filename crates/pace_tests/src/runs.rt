@@ -115,7 +115,7 @@ fn logs(
 }
 
 // Two packets at one moment; a poll between tells the wake.
-const TWO: [Call; 8] = [
+static TWO: [Call; 8] = [
     Timeout(1, 2, false),
     Poll,
     Send(1, 1_000),
@@ -126,7 +126,7 @@ const TWO: [Call; 8] = [
     Poll,
 ];
 
-const TWO_LINES: [Line; 8] = [
+static TWO_LINES: [Line; 8] = [
     Timed(None),
     Chose,
     Sent(8_000, 8_000, 1_000_000),
@@ -138,7 +138,7 @@ const TWO_LINES: [Line; 8] = [
 ];
 
 // 31 bytes of padding, again once the debt is drained at 50 kbit/s.
-const PADDED: [Call; 8] = [
+static PADDED: [Call; 8] = [
     Poll,
     Call::Padding(50_000),
     Timeout(5, 0, true),
@@ -149,7 +149,7 @@ const PADDED: [Call; 8] = [
     Timeout(4_960_005, 0, true),
 ];
 
-const PADDED_LINES: [Line; 8] = [
+static PADDED_LINES: [Line; 8] = [
     Idle(None),
     Set,
     Timed(Some(31)),
@@ -161,15 +161,15 @@ const PADDED_LINES: [Line; 8] = [
 ];
 
 // What no poll gave a queue for is not sent, not twice for one poll, and moments do not fall.
-const UNPOLLED: [Call; 2] = [Timeout(1, 2, false), Send(1, 1_000)];
+static UNPOLLED: [Call; 2] = [Timeout(1, 2, false), Send(1, 1_000)];
 
-const TWICE: [Call; 4] = [Timeout(1, 2, false), Poll, Send(1, 1_000), Send(1, 1_000)];
+static TWICE: [Call; 4] = [Timeout(1, 2, false), Poll, Send(1, 1_000), Send(1, 1_000)];
 
-const FALLS: [Call; 4] = [Timeout(2, 2, false), Poll, Send(3, 0), Timeout(2, 1, false)];
+static FALLS: [Call; 4] = [Timeout(2, 2, false), Poll, Send(3, 0), Timeout(2, 1, false)];
 
-const SENT_BEFORE: [Call; 3] = [Timeout(2, 2, false), Poll, Send(1, 0)];
+static SENT_BEFORE: [Call; 3] = [Timeout(2, 2, false), Poll, Send(1, 0)];
 
-const FALLEN: [Line; 3] = [Timed(None), Chose, Sent(0, 0, 1_000_000)];
+static FALLEN: [Line; 3] = [Timed(None), Chose, Sent(0, 0, 1_000_000)];
 
 fn runs(rt: &impl Abort, alloc: Global) -> Result<(), AllocError> {
     logs(rt, alloc, &TWO, &TWO_LINES, None)?;

@@ -50,7 +50,7 @@ fn is_payload(packet: &MediaPacket, payload: &[u8]) -> bool {
 /// Frames of a format, the greatest length, and why one is refused.
 type Row = (Codec, usize, Option<PacketError>);
 
-const FRAMES: [Row; 5] = [
+static FRAMES: [Row; 5] = [
     (Codec::Opus, 3, None),
     (Codec::Pcmu, 2, Some(PacketError::TooBig)),
     (Codec::Vp8, 2, Some(PacketError::Unsupported)),

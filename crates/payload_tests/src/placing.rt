@@ -93,7 +93,7 @@ fn hold(alloc: Global, rows: &[Row]) -> Result<bool, AllocError> {
 }
 
 // A block whose time a number has, and one a tick beside it.
-const KNOWN: [Row; 1] = [(
+static KNOWN: [Row; 1] = [(
     &[(1, 0), (4, 2880)],
     &[],
     &[
@@ -113,7 +113,7 @@ fn a_known_time_has_no_place(rt: HostRuntime) {
 }
 
 // A number on each side, and the lower one at most 9 below the datagram.
-const BOTH_SIDES: [Row; 4] = [
+static BOTH_SIDES: [Row; 4] = [
     (
         &[(5, 1000), (7, 3000)],
         &[],
@@ -138,7 +138,7 @@ fn numbers_stand_on_both_sides(rt: HostRuntime) {
 }
 
 // One number between takes any time between, also where others there came.
-const ONE_BETWEEN: [Row; 3] = [
+static ONE_BETWEEN: [Row; 3] = [
     (
         &[(1, 0), (3, 5000)],
         &[],
@@ -154,7 +154,7 @@ fn one_number_takes_any_time(rt: HostRuntime) {
 }
 
 // Of several numbers the one at the time, where both divisions are exact and it did not come.
-const SEVERAL_BETWEEN: [Row; 3] = [
+static SEVERAL_BETWEEN: [Row; 3] = [
     (
         &[(1, 0), (4, 2880)],
         &[],
@@ -182,7 +182,7 @@ fn several_numbers_rise_evenly(rt: HostRuntime) {
 }
 
 // A place is not above the datagram.
-const BELOW_ITS_DATAGRAM: [Row; 1] = [(
+static BELOW_ITS_DATAGRAM: [Row; 1] = [(
     &[(1, 0), (4, 2880)],
     &[],
     &[
@@ -198,7 +198,7 @@ fn a_block_came_before_its_datagram(rt: HostRuntime) {
 }
 
 // The 32 numbers that came last are remembered, and a cleared memory has none.
-const LAST_32: [Row; 1] = [(
+static LAST_32: [Row; 1] = [(
     &[(1, 0), (3, 1920)],
     &[],
     &[

@@ -140,7 +140,7 @@ fn play(alloc: Global, hold_back: usize, steps: &[Step]) -> Result<Option<usize>
 }
 
 // In order, replays, and numbers at or below the last one given.
-const IN_ORDER: [Step; 10] = [
+static IN_ORDER: [Step; 10] = [
     Step::Give(0, None, None),
     Step::Put(6, 0),
     Step::Put(5, 0),
@@ -159,7 +159,7 @@ fn packets_in_order(rt: HostRuntime) {
 }
 
 // A gap that is passed over once more than two packets wait, and one that is filled.
-const HELD_BACK: [Step; 16] = [
+static HELD_BACK: [Step; 16] = [
     Step::Put(6, 0),
     Step::Give(0, None, Some((6, true))),
     Step::Put(9, 7),
@@ -184,7 +184,7 @@ fn gaps_hold_packets_back(rt: HostRuntime) {
 }
 
 // By the timeout of sound, and by the recovery deadline.
-const GIVEN_UP: [Step; 14] = [
+static GIVEN_UP: [Step; 14] = [
     Step::Put(5, 0),
     Step::Give(0, None, Some((5, true))),
     Step::Put(8, 100),
@@ -207,7 +207,7 @@ fn gaps_are_given_up(rt: HostRuntime) {
 }
 
 // 6 and 8 count as given once they are next; 7 is missing; 9 stays a padding number.
-const PADDED: [Step; 16] = [
+static PADDED: [Step; 16] = [
     Step::Put(5, 0),
     Step::Pad(6),
     Step::Pad(8),

@@ -121,7 +121,7 @@ fn weighed(alloc: Global) -> Result<[Option<Share>; 3], AllocError> {
 }
 
 // Of 300 numbers the first 100 are lost.
-const WEIGHED: [Option<Share>; 3] = [
+static WEIGHED: [Option<Share>; 3] = [
     None,
     Some(Share {
         missing: 25_500,

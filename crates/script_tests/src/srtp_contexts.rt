@@ -11,33 +11,17 @@ use std::process::Abort;
 use std::test::Fail;
 
 // A packet of source 42 with number 1 and two bytes of payload, and one with eight zeros.
-const PACKET: [u8; 14] = [0x80, 0x60, 0, 1, 0, 0, 0, 0, 0, 0, 0, 42, 1, 2];
+static PACKET: [u8; 14] = [0x80, 0x60, 0, 1, 0, 0, 0, 0, 0, 0, 0, 42, 1, 2];
 
-const ZEROS: [u8; 20] = [
+static ZEROS: [u8; 20] = [
     0x80, 0x60, 0, 1, 0, 0, 0, 0, 0, 0, 0, 42, 0, 0, 0, 0, 0, 0, 0, 0,
 ];
 
 // The first bytes of the next, of which an AEAD makes 30.
-const SHORT_FEEDBACK: [u8; 10] = [0x8f, 0xce, 0, 3, 0, 0, 0, 1, 0, 0];
+static SHORT_FEEDBACK: [u8; 10] = [0x8f, 0xce, 0, 3, 0, 0, 0, 1, 0, 0];
 
 // Application feedback of source 1.
-const FEEDBACK: [u8; 16] = [0x8f, 0xce, 0, 3, 0, 0, 0, 1, 0, 0, 0, 42, 1, 2, 3, 4];
-
-// The feedback with index 7 and the E bit clear, under the right side of ascending material.
-const CLEAR_CM: [u8; 30] = [
-    0x8f, 0xce, 0, 3, 0, 0, 0, 1, 0, 0, 0, 42, 1, 2, 3, 4, 0, 0, 0, 7, 0xa7, 0xb4, 0x7e, 0x48,
-    0xf2, 0xee, 2, 0x50, 0x6a, 0x3d,
-];
-
-const CLEAR_GCM_128: [u8; 36] = [
-    0x8f, 0xce, 0, 3, 0, 0, 0, 1, 0, 0, 0, 42, 1, 2, 3, 4, 3, 0xe7, 0x35, 0xd0, 0xa7, 0x9a, 0x90,
-    0xf9, 0x4e, 0x75, 0x47, 0x47, 0x96, 0x55, 0x93, 0x9c, 0, 0, 0, 7,
-];
-
-const CLEAR_GCM_256: [u8; 36] = [
-    0x8f, 0xce, 0, 3, 0, 0, 0, 1, 0, 0, 0, 42, 1, 2, 3, 4, 0x83, 0x7e, 0x99, 0x90, 0xaf, 0xdf,
-    0x5c, 0xb5, 0x30, 0xd2, 0x45, 0x5d, 0x7f, 0x7d, 0x0f, 0x0a, 0, 0, 0, 7,
-];
+static FEEDBACK: [u8; 16] = [0x8f, 0xce, 0, 3, 0, 0, 0, 1, 0, 0, 0, 42, 1, 2, 3, 4];
 
 #[derive(Clone, Copy)]
 enum Kind {
@@ -254,24 +238,33 @@ fn right_side_gives(rt: &(impl AllocGlobal + Abort), given: &Given) -> Result<bo
 
 // Computed apart from this crate, of the formulas of RFC 3711 and RFC 7714 with SHA-1 for the
 // cipher.
-const RIGHT_SIDE: [Given; 3] = [
+static RIGHT_SIDE: [Given; 3] = [
     (
         SrtpProfile::Aes128CmSha1_80,
         "80600001000000000000002a5f2e9d19ef840ba2465f3b44",
         "8fce00030000000102dd6b3c952f739e80000007cf20cd5c7d5921d6985e",
-        &CLEAR_CM,
+        &[
+            0x8f, 0xce, 0, 3, 0, 0, 0, 1, 0, 0, 0, 42, 1, 2, 3, 4, 0, 0, 0, 7, 0xa7, 0xb4, 0x7e,
+            0x48, 0xf2, 0xee, 2, 0x50, 0x6a, 0x3d,
+        ],
     ),
     (
         SrtpProfile::AeadAes128Gcm,
         "80600001000000000000002a6e4b9cd2c96ba937e97dbdc579e921ec4159",
         "8fce000300000001f79aba4a7bdba9c177a5ac800b87c158500d2990edad949c80000007",
-        &CLEAR_GCM_128,
+        &[
+            0x8f, 0xce, 0, 3, 0, 0, 0, 1, 0, 0, 0, 42, 1, 2, 3, 4, 3, 0xe7, 0x35, 0xd0, 0xa7, 0x9a,
+            0x90, 0xf9, 0x4e, 0x75, 0x47, 0x47, 0x96, 0x55, 0x93, 0x9c, 0, 0, 0, 7,
+        ],
     ),
     (
         SrtpProfile::AeadAes256Gcm,
         "80600001000000000000002a5b8f351fccf3fc3063de484a6d492857ccb1",
         "8fce0003000000012a3b5eb31a4dffd8562187d669d207a4eac96fa6e5e529a180000007",
-        &CLEAR_GCM_256,
+        &[
+            0x8f, 0xce, 0, 3, 0, 0, 0, 1, 0, 0, 0, 42, 1, 2, 3, 4, 0x83, 0x7e, 0x99, 0x90, 0xaf,
+            0xdf, 0x5c, 0xb5, 0x30, 0xd2, 0x45, 0x5d, 0x7f, 0x7d, 0x0f, 0x0a, 0, 0, 0, 7,
+        ],
     ),
 ];
 
@@ -285,7 +278,7 @@ fn datagrams_of_the_right_side(rt: HostRuntime) -> Result<(), Fail> {
 }
 
 // Each bit of a byte.
-const BITS: [u8; 8] = [1, 2, 4, 8, 16, 32, 64, 128];
+static BITS: [u8; 8] = [1, 2, 4, 8, 16, 32, 64, 128];
 
 // How many changes of one bit of a byte leave a datagram that opens.
 fn changes_of_a_byte<C: SrtpCipher>(
@@ -364,7 +357,7 @@ fn changes_that_open<C: SrtpCipher>(
 // Profiles, and how many changes of the feedback open under the toy cipher: each of the 31 bits of
 // the index stands at the same columns of the associated data and of the initial value, so a change
 // of one makes another seal.
-const INDICES: [(SrtpProfile, usize); 3] = [
+static INDICES: [(SrtpProfile, usize); 3] = [
     (SrtpProfile::Aes128CmSha1_80, 0),
     (SrtpProfile::AeadAes128Gcm, 31),
     (SrtpProfile::AeadAes256Gcm, 31),

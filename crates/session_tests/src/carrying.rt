@@ -9,7 +9,7 @@ use rtp_wire::{
 use std::alloc::Global;
 
 // All header extensions.
-const EXTENSIONS: [Extension; 9] = [
+static EXTENSIONS: [Extension; 9] = [
     Extension::AudioLevel,
     Extension::AbsoluteSendTime,
     Extension::TransportSequenceNumber,

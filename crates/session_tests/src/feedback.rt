@@ -10,19 +10,19 @@ use std::alloc::Global;
 // Feedback of an application from SSRC 1 on SSRC 42 with the words 01020304 (RFC 4585 section
 // 6.4), sealed: the first 8 bytes, the rest XOR the key stream, the tag, and the E bit with the
 // index 0.
-const FEEDBACK: [u8; 36] = [
+static FEEDBACK: [u8; 36] = [
     0x8f, 0xce, 0, 3, 0, 0, 0, 1, 0, 0, 0, 0x2a, 1, 3, 3, 2, 0x8e, 0xcc, 3, 7, 0, 1, 0, 7, 0x80, 0,
     0, 0, 0, 0, 0, 0x2b, 0x80, 0, 0, 0,
 ];
 
 // A receiver report of SSRC 1 without blocks (RFC 3550 section 6.4.2) that is not encrypted: it,
 // its tag, and the index 0.
-const CLEAR: [u8; 28] = [
+static CLEAR: [u8; 28] = [
     0x80, 0xc9, 0, 1, 0, 0, 0, 1, 0x80, 0xc9, 0, 1, 0, 1, 0, 7, 0, 0, 0, 0, 0, 0, 0, 1, 0, 0, 0, 0,
 ];
 
 // A receiver report of SSRC 7 with a block on SSRC 42.
-const REPORT: [u8; 32] = [
+static REPORT: [u8; 32] = [
     0x81, 0xc9, 0, 7, 0, 0, 0, 7, 0, 0, 0, 0x2a, 0, 0, 0, 0, 0, 0, 0, 1, 0, 0, 0, 0, 0, 0, 0, 0, 0,
     0, 0, 0,
 ];

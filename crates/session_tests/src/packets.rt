@@ -9,16 +9,16 @@ use srtp_core::{KeyingMaterial, SrtpContext, SrtpProfile, ToyCipher};
 use std::alloc::Global;
 
 /// The packet numbered 1 of type 96 on SSRC 42, with the payload 0102 (RFC 3550 section 5.1).
-pub const PACKET: [u8; 14] = [0x80, 0x60, 0, 1, 0, 0, 0, 0, 0, 0, 0, 0x2a, 1, 2];
+pub static PACKET: [u8; 14] = [0x80, 0x60, 0, 1, 0, 0, 0, 0, 0, 0, 0, 0x2a, 1, 2];
 
 /// It, sealed: its header, the payload XOR the key stream, and the tag of sixteen bytes.
-pub const SEALED: [u8; 30] = [
+pub static SEALED: [u8; 30] = [
     0x80, 0x60, 0, 1, 0, 0, 0, 0, 0, 0, 0, 0x2a, 1, 2, 0x80, 0x60, 0, 1, 0, 0x2a, 0, 2, 0, 0, 0,
     0x2b, 1, 2, 0, 1,
 ];
 
 /// The same with the mid v under the id 1 (RFC 8285 section 4.2).
-pub const WITH_MID: [u8; 38] = [
+pub static WITH_MID: [u8; 38] = [
     0x90, 0x60, 0, 1, 0, 0, 0, 0, 0, 0, 0, 0x2a, 0xbe, 0xde, 0, 1, 0x10, 0x76, 0, 0, 1, 2, 0x80,
     0x16, 0, 1, 1, 0x28, 0, 2, 0, 0, 0, 0x2b, 0xbe, 0xde, 0, 0,
 ];

@@ -8,7 +8,7 @@ use std::alloc::Global;
 
 // SSRC 2, that of the end while it sends nothing, asks on SSRC 42 for the number 11 (RFC 4585
 // section 6.2.1).
-const ASKS_11: [u8; 16] = [0x81, 0xcd, 0, 3, 0, 0, 0, 2, 0, 0, 0, 42, 0, 11, 0, 0];
+static ASKS_11: [u8; 16] = [0x81, 0xcd, 0, 3, 0, 0, 0, 2, 0, 0, 0, 42, 0, 11, 0, 0];
 
 // Moments of ticks in nanoseconds, and whether the end asks then.
 static TICKS: [(u64, bool); 3] = [(33_000_000, true), (66_000_000, false), (138_000_000, true)];

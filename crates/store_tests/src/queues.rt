@@ -31,7 +31,7 @@ fn held<S: ResendStore<char>>(
 
 // What was stored, the moment of an eviction, and what is held then. Values are held for ten
 // seconds.
-const ROWS: [((usize, usize), &[(u64, u64)], u64, &[u64], &[bool]); 5] = [
+static ROWS: [((usize, usize), &[(u64, u64)], u64, &[u64], &[bool]); 5] = [
     (
         (2, 10),
         &[(2, 0), (3, 1), (4, 2)],

@@ -51,7 +51,7 @@ fn answers<W: GapWindow>(alloc: Global, numbers: &[u64]) -> Result<Vec<Answer>, 
 
 // Numbers that come one after another: jumps of 1, 100, 101, 102, 200, 201 and 65,536, numbers at
 // both ends of the window and below the first, replays, and numbers out of order.
-const CASES: [[u64; 6]; 40] = [
+static CASES: [[u64; 6]; 40] = [
     [1_000, 1_001, 901, 900, 1_001, 1_000],
     [1_000, 1_050, 1_051, 951, 950, 1_050],
     [0, 1, 0, 0, 2, 0],

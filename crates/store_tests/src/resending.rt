@@ -24,10 +24,10 @@ enum Step {
 
 use Step::{Cache, Clear, LastNumber, LastPacket, Numbered, Smaller};
 
-const OF_ONE: [Step; 3] = [Cache(1, 8, 1), Smaller(25, Some(1)), Smaller(24, None)];
+static OF_ONE: [Step; 3] = [Cache(1, 8, 1), Smaller(25, Some(1)), Smaller(24, None)];
 
 // The greatest class below the size, of which the packet cached last is held.
-const BY_SIZE: [Step; 17] = [
+static BY_SIZE: [Step; 17] = [
     Cache(1, 30, 1),
     Cache(2, 60, 2),
     Cache(3, 900, 3),
@@ -47,7 +47,7 @@ const BY_SIZE: [Step; 17] = [
     LastPacket(None),
 ];
 
-const OF_TWO: [Step; 2] = [Cache(9, 1, 0), LastNumber(Some(9))];
+static OF_TWO: [Step; 2] = [Cache(9, 1, 0), LastNumber(Some(9))];
 
 fn cache_packet(
     cache: &mut RtxCache<Packet>,

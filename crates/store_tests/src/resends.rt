@@ -40,145 +40,165 @@ const CAPPED: Made = (5, 2_000, 3_000, Some(15));
 
 const LIMIT: u64 = 281_474_976_710_656;
 
-const TWICE: [Step; 9] = [
-    Sent(1, 1, 0),
-    Sent(2, 1, 0),
-    Sent(3, 1, 0),
-    Nack(2, 0, 33),
-    Nack(2, 0, 33),
-    Next(33, Some(2)),
-    Taken(33, Some(5)),
-    Taken(33, Some(6)),
-    Taken(33, None),
-];
-
-// One byte in four was sent again, until the first sendings are older than a second.
-const ABOVE_CAP: [Step; 12] = [
-    Sent(1, 1, 0),
-    Sent(2, 1, 0),
-    Sent(3, 1, 0),
-    Nack(2, 0, 33),
-    Taken(33, Some(5)),
-    Nack(2, 0, 100),
-    Next(100, None),
-    Taken(100, None),
-    Nack(2, 0, 149),
-    Taken(149, None),
-    Nack(2, 0, 2_000),
-    Taken(2_000, Some(6)),
-];
-
-// One byte in five was, which is the cap.
-const AT_CAP: [Step; 6] = [
-    Sent(2, 1, 0),
-    Counted(3, 0),
-    Nack(2, 0, 33),
-    Taken(33, Some(5)),
-    Nack(2, 0, 100),
-    Taken(100, Some(6)),
-];
-
-const WITHOUT_CAP: [Step; 5] = [
-    Sent(2, 1, 0),
-    Nack(2, 0, 33),
-    Taken(33, Some(5)),
-    Nack(2, 0, 100),
-    Taken(100, Some(6)),
-];
-
-// A number is the one nearest to that which was kept last.
-const WIDENED: [Step; 6] = [
-    Sent(65_541, 1, 0),
-    Nack(5, 0, 0),
-    Next(0, Some(65_541)),
-    Taken(0, Some(5)),
-    Nack(65_530, 0, 0),
-    Taken(0, None),
-];
-
-const USED_UP: [Step; 7] = [
-    Sent(1, 1, 0),
-    Nack(1, 0, 0),
-    Nack(1, 0, 0),
-    Taken(0, Some(281_474_976_710_655)),
-    UsedUp(0),
-    UsedUp(0),
-    Next(0, Some(1)),
-];
-
-// At an age of three seconds a packet is kept, and above it not, also where it was asked for
-// before.
-const AGES: [Step; 9] = [
-    Sent(1, 1, 0),
-    Sent(2, 1, 3_000),
-    Nack(1, 0, 3_000),
-    Next(3_000, Some(1)),
-    Sent(3, 1, 3_001),
-    Next(3_001, None),
-    Nack(1, 3, 3_001),
-    Taken(3_001, Some(5)),
-    Next(3_001, Some(3)),
-];
-
-const OF_ONE: [Step; 5] = [
-    Sent(1, 1, 0),
-    Sent(2, 1, 0),
-    Nack(1, 1, 0),
-    Next(0, Some(2)),
-    Clear,
-];
-
-const CLEARED: [Step; 6] = [
-    Sent(1, 1, 0),
-    Nack(1, 0, 0),
-    Clear,
-    Taken(0, None),
-    Nack(1, 0, 0),
-    Taken(0, None),
-];
-
-// The room for one packet stays.
-const ANEW: [Step; 9] = [
-    Sent(1, 1, 0),
-    Nack(1, 0, 0),
-    Anew(9),
-    Next(0, None),
-    Sent(2, 1, 0),
-    Sent(3, 1, 0),
-    Nack(2, 1, 0),
-    Taken(0, Some(9)),
-    Taken(0, None),
-];
-
-// The cap stays, and what it counts begins anew.
-const CAPPED_ANEW: [Step; 9] = [
-    Sent(1, 1, 0),
-    Nack(1, 0, 0),
-    Taken(0, Some(5)),
-    Anew(9),
-    Sent(2, 1, 100),
-    Nack(2, 0, 100),
-    Taken(100, Some(9)),
-    Nack(2, 0, 150),
-    Taken(150, None),
-];
-
-const NONE_KEPT: [Step; 3] = [Sent(1, 1, 0), Nack(1, 0, 0), Taken(0, None)];
-
-const ROWS: [(Made, &[Step]); 13] = [
-    (SECONDS, &TWICE),
-    (CAPPED, &ABOVE_CAP),
-    ((5, 2_000, 3_000, Some(20)), &AT_CAP),
-    (SECONDS, &WITHOUT_CAP),
-    (SECONDS, &WIDENED),
-    ((281_474_976_710_655, 32_000, 3_000, None), &USED_UP),
-    (SECONDS, &AGES),
-    ((5, 1, 3_000, None), &OF_ONE),
-    (SECONDS, &CLEARED),
-    ((5, 1, 3_000, None), &ANEW),
-    (CAPPED, &CAPPED_ANEW),
-    ((5, 0, 3_000, None), &NONE_KEPT),
-    ((5, 2_000, 0, None), &NONE_KEPT),
+static ROWS: [(Made, &[Step]); 13] = [
+    // Asked for twice.
+    (
+        SECONDS,
+        &[
+            Sent(1, 1, 0),
+            Sent(2, 1, 0),
+            Sent(3, 1, 0),
+            Nack(2, 0, 33),
+            Nack(2, 0, 33),
+            Next(33, Some(2)),
+            Taken(33, Some(5)),
+            Taken(33, Some(6)),
+            Taken(33, None),
+        ],
+    ),
+    // One byte in four was sent again, until the first sendings are older than a second.
+    (
+        CAPPED,
+        &[
+            Sent(1, 1, 0),
+            Sent(2, 1, 0),
+            Sent(3, 1, 0),
+            Nack(2, 0, 33),
+            Taken(33, Some(5)),
+            Nack(2, 0, 100),
+            Next(100, None),
+            Taken(100, None),
+            Nack(2, 0, 149),
+            Taken(149, None),
+            Nack(2, 0, 2_000),
+            Taken(2_000, Some(6)),
+        ],
+    ),
+    // One byte in five was, which is the cap.
+    (
+        (5, 2_000, 3_000, Some(20)),
+        &[
+            Sent(2, 1, 0),
+            Counted(3, 0),
+            Nack(2, 0, 33),
+            Taken(33, Some(5)),
+            Nack(2, 0, 100),
+            Taken(100, Some(6)),
+        ],
+    ),
+    // Without a cap.
+    (
+        SECONDS,
+        &[
+            Sent(2, 1, 0),
+            Nack(2, 0, 33),
+            Taken(33, Some(5)),
+            Nack(2, 0, 100),
+            Taken(100, Some(6)),
+        ],
+    ),
+    // A number is the one nearest to that which was kept last.
+    (
+        SECONDS,
+        &[
+            Sent(65_541, 1, 0),
+            Nack(5, 0, 0),
+            Next(0, Some(65_541)),
+            Taken(0, Some(5)),
+            Nack(65_530, 0, 0),
+            Taken(0, None),
+        ],
+    ),
+    // The last number, and none left.
+    (
+        (281_474_976_710_655, 32_000, 3_000, None),
+        &[
+            Sent(1, 1, 0),
+            Nack(1, 0, 0),
+            Nack(1, 0, 0),
+            Taken(0, Some(281_474_976_710_655)),
+            UsedUp(0),
+            UsedUp(0),
+            Next(0, Some(1)),
+        ],
+    ),
+    // At an age of three seconds a packet is kept, and above it not, also where it was asked for
+    // before.
+    (
+        SECONDS,
+        &[
+            Sent(1, 1, 0),
+            Sent(2, 1, 3_000),
+            Nack(1, 0, 3_000),
+            Next(3_000, Some(1)),
+            Sent(3, 1, 3_001),
+            Next(3_001, None),
+            Nack(1, 3, 3_001),
+            Taken(3_001, Some(5)),
+            Next(3_001, Some(3)),
+        ],
+    ),
+    // Room for one.
+    (
+        (5, 1, 3_000, None),
+        &[
+            Sent(1, 1, 0),
+            Sent(2, 1, 0),
+            Nack(1, 1, 0),
+            Next(0, Some(2)),
+            Clear,
+        ],
+    ),
+    (
+        SECONDS,
+        &[
+            Sent(1, 1, 0),
+            Nack(1, 0, 0),
+            Clear,
+            Taken(0, None),
+            Nack(1, 0, 0),
+            Taken(0, None),
+        ],
+    ),
+    // The room for one packet stays.
+    (
+        (5, 1, 3_000, None),
+        &[
+            Sent(1, 1, 0),
+            Nack(1, 0, 0),
+            Anew(9),
+            Next(0, None),
+            Sent(2, 1, 0),
+            Sent(3, 1, 0),
+            Nack(2, 1, 0),
+            Taken(0, Some(9)),
+            Taken(0, None),
+        ],
+    ),
+    // The cap stays, and what it counts begins anew.
+    (
+        CAPPED,
+        &[
+            Sent(1, 1, 0),
+            Nack(1, 0, 0),
+            Taken(0, Some(5)),
+            Anew(9),
+            Sent(2, 1, 100),
+            Nack(2, 0, 100),
+            Taken(100, Some(9)),
+            Nack(2, 0, 150),
+            Taken(150, None),
+        ],
+    ),
+    // Nothing is kept.
+    (
+        (5, 0, 3_000, None),
+        &[Sent(1, 1, 0), Nack(1, 0, 0), Taken(0, None)],
+    ),
+    (
+        (5, 2_000, 0, None),
+        &[Sent(1, 1, 0), Nack(1, 0, 0), Taken(0, None)],
+    ),
 ];
 
 fn at(milliseconds: u64) -> Instant {
@@ -231,9 +251,9 @@ fn are_answered<S: ResendStore<Packet>>(
 
 #[test]
 fn resends_of_both_stores(rt: HostRuntime) -> Result<(), Fail> {
-    for (made, steps) in ROWS {
-        assert!(rt; are_answered::<EvictingBuffer<Packet>>(rt.alloc(), made, steps)?);
-        assert!(rt; are_answered::<QueueStore<Packet>>(rt.alloc(), made, steps)?);
+    for (made, steps) in &ROWS {
+        assert!(rt; are_answered::<EvictingBuffer<Packet>>(rt.alloc(), *made, steps)?);
+        assert!(rt; are_answered::<QueueStore<Packet>>(rt.alloc(), *made, steps)?);
     }
     Ok(())
 }
