@@ -9,10 +9,12 @@ use Rattle.media_model.specs.declared.entry.Entry.{Entry}
 use Rattle.media_model.specs.declared.entry.Entry.TheVariants.{Wrote, Ticked, Called, Got, Sealed, Opened, Yielded}
 use Rattle.media_model.specs.declared.entry.Side.{Side}
 use Rattle.media_model.specs.declared.setup.Setup.{Setup}
+use Rattle.media_model.specs.declared.step.Act.{Act}
+use Rattle.media_model.specs.declared.step.Act.TheVariants.{Write, Tick, Deliver, Foreign, Feedback, Ask, Rate}
 use Rattle.media_model.specs.declared.step.Step.{Step}
-use Rattle.media_model.specs.declared.step.Step.TheVariants.{Write, Tick, Deliver, Foreign, Application, Ask, Remb}
 use Rattle.media_model.specs.Entries.{srtcp_index_by, srtcp_indices, nonce_by, nonces, packet_by, packets, sealed_numbers}
 use Rattle.media_model.specs.Setup.{local_of}
+use Rattle.media_model.specs.Steps.{step_at}
 use Rattle.run_model.specs.Events.{ticked, Outgoing}
 use Rattle.run_model.specs.Listing.{IsIn, NoRepeat}
 use Rattle.run_model.specs.Runs.{Happening, events_of, on_side}
@@ -23,9 +25,9 @@ use Rattle.run_model.specs.Tables.{IsUsedUpIn}
 use Rattle.media_laws.specs.declared.counter.Counter.{Counter}
 use Rattle.media_laws.specs.declared.counter.Counter.TheVariants.{Rtcp, Rtx}
 use Rattle.media_laws.specs.Config.{config_of}
-use Rattle.media_laws.specs.Exhausting.{IsCutTick, LacksNumber, Exhausts, IsUsedUp}
+use Rattle.media_laws.specs.Exhausting.{IsCutTick, LacksNumber, ActExhausts, Exhausts, IsUsedUp}
 use Rattle.media_laws.specs.Feedback.{next_index}
-use Rattle.media_laws.specs.Headline.{IsRightIfSealed, NoNonceTwice, IsSentWrite, TickAnswersPartly, YieldsExactly, PlaysSteps, HoldsOfFront, HoldsToKey}
+use Rattle.media_laws.specs.Headline.{IsRightIfSealed, NoNonceTwice, IsSentWrite, TickAnswersPartly, YieldsExactly, PlaysFrom, PlaysSteps, HoldsOfFront, HoldsToKey}
 use Rattle.media_laws.specs.Listing.{EachFrom}
 use Rattle.media_laws.specs.Opening.{Sealing}
 use Rattle.media_laws.specs.Play.{Plays, Played}
@@ -168,34 +170,38 @@ module _ {seal : Sealing} {setup : Setup} (wire : WireLaws seal setup) (fine : s
 
 pub holds_to_key : {seal : Sealing} {setup : Setup} → WireLaws seal setup → setup_fault setup ≡ None → (steps : List Step) (past : List Entry) (step : Step) (side : Side) (counter : Counter)
     (told : List Entry) → Played seal setup steps past → Exhausts seal setup past step side counter told → HoldsToKey seal setup side counter (past ++ told)
-holds_to_key {seal} {setup} wire fine steps past (Application by time sender media payload) side counter told played e =
-    subst (λ es. HoldsToKey seal setup side counter (past ++ es)) (sym e.3)
-    (subst (λ c. HoldsToKey seal setup side c (past ++ Called by time call.Application ∷ [])) (sym e.1)
-    (subst (λ s. HoldsToKey seal setup s Rtcp (past ++ Called by time call.Application ∷ [])) e.0 (holds_at_call wire fine played.plays by time e.2)))
-holds_to_key {seal} {setup} wire fine steps past (Tick by time) side counter told played e =
-    let t = e.1 in
-    subst (λ es. HoldsToKey seal setup side counter (past ++ es)) (sym t.1)
-    (subst (λ s. HoldsToKey seal setup s counter (past ++ Ticked by time ∷ t.0)) e.0 (holds_at_tick wire fine by t.5 time t.0 t.6 counter t.7))
-holds_to_key wire fine steps past (Write by time write) side counter told played e = absurd e
-holds_to_key wire fine steps past (Deliver by time k) side counter told played e = absurd e
-holds_to_key wire fine steps past (Foreign by time kind bytes) side counter told played e = absurd e
-holds_to_key wire fine steps past (Ask by time ssrc kind) side counter told played e = absurd e
-holds_to_key wire fine steps past (Remb by time ssrc rate) side counter told played e = absurd e
+holds_to_key {seal} {setup} wire fine steps past step side counter told played e = of_act step.act e.5
+  where
+    of_act : (act : Act) → ActExhausts seal setup past side (session_of side e.1 e.2) step.time act counter told → HoldsToKey seal setup side counter (past ++ told)
+    of_act (Feedback sender media payload) x =
+        subst (λ es. HoldsToKey seal setup side counter (past ++ es)) (sym x.2)
+        (subst (λ c. HoldsToKey seal setup side c (past ++ Called side step.time call.Application ∷ [])) (sym x.0) (holds_at_call wire fine e.4 side step.time x.1))
+    of_act Tick x =
+        subst (λ es. HoldsToKey seal setup side counter (past ++ es)) (sym x.1) (holds_at_tick wire fine side e.4 step.time x.0 x.2 counter x.3)
+    of_act (Write write) x = absurd x
+    of_act (Deliver k) x = absurd x
+    of_act (Foreign kind bytes) x = absurd x
+    of_act (Ask ssrc kind) x = absurd x
+    of_act (Rate ssrc rate) x = absurd x
 
 -- the step that finds a key used up is one of the script
 pub plays_to_key : {seal : Sealing} {setup : Setup} (steps : List Step) (past : List Entry) (step : Step) (side : Side) (counter : Counter) (told : List Entry) → Played seal setup steps past
     → Exhausts seal setup past step side counter told → PlaysSteps (steps ++ step ∷ []) (past ++ told)
-plays_to_key steps past (Application by time sender media payload) side counter told played e =
-    subst (λ es. PlaysSteps (steps ++ Application by time sender media payload ∷ []) (past ++ es)) (sym e.3)
-    (PlaysFrom-append [] steps (Application by time sender media payload ∷ []) past (Called by time call.Application ∷ []) (plays_steps played.plays)
-    (Application by time sender media payload, [], refl, (refl, refl), refl))
-plays_to_key {seal} {setup} steps past (Tick by time) side counter told played e =
-    let t = e.1 in
-    subst (λ es. PlaysSteps (steps ++ Tick by time ∷ []) (past ++ es)) (sym t.1)
-    (PlaysFrom-append [] steps (Tick by time ∷ []) past (Ticked by time ∷ t.0) (plays_steps played.plays)
-    ([], refl, plays_none (past ++ Ticked by time ∷ []) t.0 (seals_only seal setup t.0 t.6.right)))
-plays_to_key steps past (Write by time write) side counter told played e = absurd e
-plays_to_key steps past (Deliver by time k) side counter told played e = absurd e
-plays_to_key steps past (Foreign by time kind bytes) side counter told played e = absurd e
-plays_to_key steps past (Ask by time ssrc kind) side counter told played e = absurd e
-plays_to_key steps past (Remb by time ssrc rate) side counter told played e = absurd e
+plays_to_key {seal} {setup} steps past step side counter told played e = of_act step.act refl e.5
+  where
+    behind : (told : List Entry) → PlaysFrom past (step ∷ []) told → PlaysSteps (steps ++ step ∷ []) (past ++ told)
+    behind told h = PlaysFrom-append [] steps (step ∷ []) past told (plays_steps played.plays) h
+
+    of_act : (act : Act) → step.act ≡ act → ActExhausts seal setup past side (session_of side e.1 e.2) step.time act counter told → PlaysSteps (steps ++ step ∷ []) (past ++ told)
+    of_act (Feedback sender media payload) is x =
+        subst (λ es. PlaysSteps (steps ++ step ∷ []) (past ++ es)) (sym x.2)
+        (behind (Called side step.time call.Application ∷ []) ([], (Feedback sender media payload, λ i. step_at (e.0 i) step.time (is i) ∷ [], tt), refl))
+    of_act Tick is x =
+        subst (λ es. PlaysSteps (steps ++ step ∷ []) (past ++ es)) (sym x.1)
+        (behind (Ticked side step.time ∷ x.0)
+        ([], (Tick, λ i. step_at (e.0 i) step.time (is i) ∷ [], refl), plays_none (past ++ Ticked side step.time ∷ []) x.0 (seals_only seal setup x.0 x.2.right)))
+    of_act (Write write) is x = absurd x
+    of_act (Deliver k) is x = absurd x
+    of_act (Foreign kind bytes) is x = absurd x
+    of_act (Ask ssrc kind) is x = absurd x
+    of_act (Rate ssrc rate) is x = absurd x

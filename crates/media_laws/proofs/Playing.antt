@@ -1,5 +1,5 @@
 -- A run over entries is, as it is read, a run of plain sessions; and what holds step by step.
-use Rattle.std.proofs.Common.{◌≡◌, ◌≤◌, ℕ, true, false, cond, List, [], ◌∷◌, ◌++◌, length, take, map, refl, sym, ap, ◌∙◌, subst, append_assoc}
+use Rattle.std.proofs.Common.{◌≡◌, ◌≤◌, ℕ, true, false, cond, List, [], ◌∷◌, ◌++◌, length, take, map, Option, Some, None, is_some, refl, sym, ap, ◌∙◌, subst, append_assoc}
 use Rattle.std.specs.List.{AllByRecursion}
 use Rattle.std.proofs.lemmas.List.{append-nil, map-append}
 use Rattle.rtp_base.specs.declared.kind.Kind.TheVariants.{Rtp, Rtcp}
@@ -10,10 +10,10 @@ use Rattle.media_model.specs.declared.entry.Got.{Got as GotEntry}
 use Rattle.media_model.specs.declared.entry.Sealed.{Sealed as SealedEntry}
 use Rattle.media_model.specs.declared.entry.Entry.{Entry}
 use Rattle.media_model.specs.declared.entry.Entry.TheVariants.{Wrote, Ticked, Called, Got, Sealed, Opened, Yielded}
+use Rattle.media_model.specs.declared.step.Act.TheVariants.{Write, Tick, Feedback}
 use Rattle.media_model.specs.declared.step.Step.{Step}
-use Rattle.media_model.specs.declared.step.Step.TheVariants.{Application}
 use Rattle.media_model.specs.declared.setup.Setup.{Setup}
-use Rattle.media_model.specs.Entries.{is_step}
+use Rattle.media_model.specs.Entries.{moment_of, is_step}
 use Rattle.media_model.specs.Sides.{peer_of}
 use Rattle.run_model.specs.Events.{Event, ticked as event_ticked, got as event_got, opened, opened_items, yielded}
 use Rattle.run_model.specs.Receiving.{yields, lists, Opens}
@@ -25,7 +25,7 @@ use Rattle.run_model.specs.Whole.{Session, session_of, IsSound, Turns, writes, t
 use Rattle.media_laws.proofs.Whole.{runs_answer, runs_ask_the_due}
 use Rattle.media_laws.specs.Config.{config_of, rtp_sealing, reporting}
 use Rattle.media_laws.specs.Feedback.{IsSealOfPacket, sends}
-use Rattle.media_laws.specs.Headline.{past_of, IsRightIfSealed, SealsAreRight, TickAnswers, Receives, opens as opens_rtp, opens_rtcp, stays as stays_shut, Answers, AnswersCall, StepsAreAnswered, PlaysFrom, PlaysSteps}
+use Rattle.media_laws.specs.Headline.{past_of, IsRightIfSealed, SealsAreRight, TickAnswers, Receives, opens as opens_rtp, opens_rtcp, stays as stays_shut, Answers, AnswersCall, StepsAreAnswered, IsNext, PlaysFrom, PlaysSteps}
 use Rattle.media_laws.specs.Listing.{EachFrom, brought, StepsFrom, EachStep}
 use Rattle.media_laws.specs.Opening.{Sealing}
 use Rattle.media_model.specs.declared.entry.Call.{Call}
@@ -322,58 +322,40 @@ seals_are_right {seal} {setup} h =
 
 -- a run plays the steps of its script
 
+next_more : (past : List Entry) (entry : Entry) (moment : Option (Side × ℕ)) (steps rest more : List Step) → IsNext past entry moment steps rest
+    → IsNext past entry moment (steps ++ more) (rest ++ more)
+next_more past entry None steps rest more is = ap (λ ss. ss ++ more) is
+next_more past entry (Some moment) steps rest more is = (is.0, ap (λ ss. ss ++ more) is.1, is.2)
+
 pub PlaysFrom-append : (past : List Entry) (steps more : List Step) (entries new : List Entry) → PlaysFrom past steps entries → PlaysFrom (past ++ entries) more new
     → PlaysFrom past (steps ++ more) (entries ++ new)
 PlaysFrom-append past steps more [] new h k =
     subst (λ s. PlaysFrom past (s ++ more) new) (sym h) (subst (λ es. PlaysFrom es more new) (append-nil past) k)
-PlaysFrom-append past steps more (Wrote s t w ∷ entries) new h k = (
+PlaysFrom-append past steps more (entry ∷ entries) new h k = (
   h.0 ++ more,
-  ap (λ ss. ss ++ more) h.1,
-  PlaysFrom-append (past ++ Wrote s t w ∷ []) h.0 more entries new h.2 (subst (λ es. PlaysFrom es more new) (sym (append_assoc past (Wrote s t w ∷ []) entries)) k),
+  next_more past entry (moment_of entry) steps h.0 more h.1,
+  PlaysFrom-append (past ++ entry ∷ []) h.0 more entries new h.2 (subst (λ es. PlaysFrom es more new) (sym (append_assoc past (entry ∷ []) entries)) k),
 )
-PlaysFrom-append past steps more (Ticked s t ∷ entries) new h k = (
-  h.0 ++ more,
-  ap (λ ss. ss ++ more) h.1,
-  PlaysFrom-append (past ++ Ticked s t ∷ []) h.0 more entries new h.2 (subst (λ es. PlaysFrom es more new) (sym (append_assoc past (Ticked s t ∷ []) entries)) k),
-)
-PlaysFrom-append past steps more (Called s t c ∷ entries) new h k = (
-  h.0,
-  h.1 ++ more,
-  ap (λ ss. ss ++ more) h.2,
-  h.3,
-  PlaysFrom-append (past ++ Called s t c ∷ []) h.1 more entries new h.4 (subst (λ es. PlaysFrom es more new) (sym (append_assoc past (Called s t c ∷ []) entries)) k),
-)
-PlaysFrom-append past steps more (Got came ∷ entries) new h k = (
-  h.0,
-  h.1 ++ more,
-  ap (λ ss. ss ++ more) h.2,
-  h.3,
-  PlaysFrom-append (past ++ Got came ∷ []) h.1 more entries new h.4 (subst (λ es. PlaysFrom es more new) (sym (append_assoc past (Got came ∷ []) entries)) k),
-)
-PlaysFrom-append past steps more (Sealed s ∷ entries) new h k =
-    PlaysFrom-append (past ++ Sealed s ∷ []) steps more entries new h (subst (λ es. PlaysFrom es more new) (sym (append_assoc past (Sealed s ∷ []) entries)) k)
-PlaysFrom-append past steps more (Opened o ∷ entries) new h k =
-    PlaysFrom-append (past ++ Opened o ∷ []) steps more entries new h (subst (λ es. PlaysFrom es more new) (sym (append_assoc past (Opened o ∷ []) entries)) k)
-PlaysFrom-append past steps more (Yielded s p ∷ entries) new h k =
-    PlaysFrom-append (past ++ Yielded s p ∷ []) steps more entries new h (subst (λ es. PlaysFrom es more new) (sym (append_assoc past (Yielded s p ∷ []) entries)) k)
 
 -- what is no step plays none
+no_moment : (moment : Option (Side × ℕ)) → is_some moment ≡ false → moment ≡ None
+no_moment None is = refl
+no_moment (Some moment) is = absurd cc
+
 pub plays_none : (past es : List Entry) → NoSteps es → PlaysFrom past [] es
 plays_none past [] h = refl
-plays_none past (Sealed s ∷ es) h = plays_none (past ++ Sealed s ∷ []) es h.1
-plays_none past (Opened o ∷ es) h = plays_none (past ++ Opened o ∷ []) es h.1
-plays_none past (Yielded s p ∷ es) h = plays_none (past ++ Yielded s p ∷ []) es h.1
-plays_none past (Wrote s t w ∷ es) h = absurd (cc (h.0))
-plays_none past (Ticked s t ∷ es) h = absurd (cc (h.0))
-plays_none past (Called s t c ∷ es) h = absurd (cc (h.0))
-plays_none past (Got g ∷ es) h = absurd (cc (h.0))
+plays_none past (entry ∷ es) h = (
+  [],
+  subst (λ moment. IsNext past entry moment [] []) (sym (no_moment (moment_of entry) h.0)) refl,
+  plays_none (past ++ entry ∷ []) es h.1,
+)
 
 one_step : {seal : Sealing} {setup : Setup} {past : List Entry} {side : Side} {step : Step} {new : List Entry} → AreEntriesOf seal setup past side step new → PlaysFrom past (step ∷ []) new
-one_step (wrote side time w a b c) = ([], refl, refl)
-one_step {seal} {setup} {past = past} (ticked side time sealed all) = ([], refl, plays_none (past ++ Ticked side time ∷ []) sealed (seals_only seal setup sealed all))
-one_step (called side time sender media payload s is) = (Application side time sender media payload, [], refl, (refl, refl), refl)
-one_step {step = step} (requested side time c by quiet) = (step, [], refl, by, refl)
-one_step {seal} {setup} {past = past} {step = step} (got came brought at all) = (step, [], refl, at, plays_none (past ++ Got came ∷ []) brought (brought_only seal setup came brought all))
+one_step (wrote side time w a b c) = ([], (Write w, refl, refl), refl)
+one_step {seal} {setup} {past = past} (ticked side time sealed all) = ([], (Tick, refl, refl), plays_none (past ++ Ticked side time ∷ []) sealed (seals_only seal setup sealed all))
+one_step (called side time sender media payload s is) = ([], (Feedback sender media payload, refl, tt), ([], refl, refl))
+one_step (requested {act} side time c by quiet) = ([], (act, refl, by), refl)
+one_step {seal} {setup} {past = past} (got {act} came brought at all) = ([], (act, refl, at), plays_none (past ++ Got came ∷ []) brought (brought_only seal setup came brought all))
 
 pub plays_steps : {seal : Sealing} {setup : Setup} {a b : Session} {steps : List Step} {entries : List Entry} → Plays seal setup a b steps entries → PlaysSteps steps entries
 plays_steps begins = refl

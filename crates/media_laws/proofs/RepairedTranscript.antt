@@ -16,7 +16,8 @@ use Rattle.media_model.specs.declared.entry.Opened.{Opened as OpenedEntry}
 use Rattle.media_model.specs.declared.entry.Entry.{Entry}
 use Rattle.media_model.specs.declared.entry.Entry.TheVariants.{Wrote, Ticked, Got, Sealed, Opened, Yielded}
 use Rattle.media_model.specs.declared.step.Step.{Step}
-use Rattle.media_model.specs.declared.step.Step.TheVariants.{Write, Tick, Deliver}
+use Rattle.media_model.specs.declared.step.Act.TheVariants.{Write, Tick, Deliver}
+use Rattle.media_model.specs.Steps.{step_at}
 use Rattle.run_model.specs.Events.{Event}
 use Rattle.run_model.specs.Listing.{IsIn}
 use Rattle.run_model.specs.Seals.{IsSeal, IsReport}
@@ -280,7 +281,7 @@ module _ (seal : Sealing) (fit : SealsFit seal) where
   }
 
   abbrev write_step : ℕ → Step
-  write_step n = Write A 1 (write_numbered n)
+  write_step n = step_at A 1 (Write (write_numbered n))
 
   abbrev write_entries : ℕ → List Entry
   write_entries n = Wrote A 1 (write_numbered n) ∷ []
@@ -320,7 +321,7 @@ module _ (seal : Sealing) (fit : SealsFit seal) where
 
   abbrev p4 : Playing (g4 wiring)
   p4 =
-      play_a (g3 wiring) (s4 wiring) p3 (Tick A 1)
+      play_a (g3 wiring) (s4 wiring) p3 (step_at A 1 Tick)
       (Ticked A 1 ∷ sent_entries)
       (record {
         valid = refl;
@@ -338,7 +339,7 @@ module _ (seal : Sealing) (fit : SealsFit seal) where
 
   abbrev p5 : Playing (g5 wiring)
   p5 =
-      play_b (g4 wiring) (s5 wiring) p4 (Deliver B 2 1)
+      play_b (g4 wiring) (s5 wiring) p4 (step_at B 2 (Deliver 1))
       (Got (first_got 1) ∷ first_came 1)
       (record {
         valid = refl;
@@ -350,7 +351,7 @@ module _ (seal : Sealing) (fit : SealsFit seal) where
 
   abbrev p6 : Playing (g6 wiring)
   p6 =
-      play_b (g5 wiring) (s6 wiring) p5 (Deliver B 2 3)
+      play_b (g5 wiring) (s6 wiring) p5 (step_at B 2 (Deliver 3))
       (Got (first_got 3) ∷ first_came 3)
       (record {
         valid = refl;
@@ -372,7 +373,7 @@ module _ (seal : Sealing) (fit : SealsFit seal) where
 
   abbrev p7 : Playing (g7 wiring)
   p7 =
-      play_b (g6 wiring) (s7 wiring) p6 (Tick B 33000000)
+      play_b (g6 wiring) (s7 wiring) p6 (step_at B 33000000 Tick)
       (Ticked B 33000000 ∷ Sealed nack_sealed ∷ [])
       (record {
         valid = refl;
@@ -391,13 +392,14 @@ module _ (seal : Sealing) (fit : SealsFit seal) where
   nack_opening = rtcp_opening (record {
     rtcp = refl;
     header = omega arith;
+    source = refl;
     stated = sym fit.states;
     sealed = unsealed;
   })
 
   abbrev p8 : Playing (g8 wiring)
   p8 =
-      play_a (g7 wiring) (s8 wiring) p7 (Deliver A 33000000 1)
+      play_a (g7 wiring) (s8 wiring) p7 (step_at A 33000000 (Deliver 1))
       (Got nack_got ∷ nack_came)
       (record {
         valid = refl;
@@ -412,7 +414,7 @@ module _ (seal : Sealing) (fit : SealsFit seal) where
 
   abbrev p9 : Playing (g9 wiring)
   p9 =
-      play_a (g8 wiring) (s9 wiring) p8 (Tick A 33000000)
+      play_a (g8 wiring) (s9 wiring) p8 (step_at A 33000000 Tick)
       (Ticked A 33000000 ∷ Sealed repair_sealed ∷ [])
       (record {
         valid = refl;
@@ -428,7 +430,7 @@ module _ (seal : Sealing) (fit : SealsFit seal) where
 
   abbrev p10 : Playing (g10 wiring)
   p10 =
-      play_b (g9 wiring) (s10 wiring) p9 (Deliver B 33000000 4)
+      play_b (g9 wiring) (s10 wiring) p9 (step_at B 33000000 (Deliver 4))
       (Got repair_got ∷ repair_came)
       (record {
         valid = refl;

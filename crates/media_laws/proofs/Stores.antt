@@ -1,14 +1,14 @@
 -- What a store holds that was told of the packets that were sent.
 use Rattle.std.proofs.Common.{◌≡◌, ◌⊎◌, inl, inr, ℕ, ◌+◌, ◌<◌, ◌≤◌, Bool, true, false, cond, eqb, max, List, [], ◌∷◌, ◌++◌, Option, Some, None, refl, sym, ap, ◌∙◌, subst, append_assoc, arith}
-use Rattle.std.specs.Prelude.{min}
-use Rattle.std.proofs.lemmas.Bool.{false≢true}
+use Rattle.std.specs.Prelude.{min, nat_le}
+use Rattle.std.proofs.lemmas.Bool.{false≢true, leb-true, leb-false}
 use Rattle.std.proofs.lemmas.Option.{same_Some}
 use Rattle.std.proofs.lemmas.Bool.Decides.{nat_tests}
 use Rattle.resend_core.specs.ResendStore.{Event as Stored, pushed, evicted, latter, greatest_by, last_by, stored_under, last_under, stored_at, last_position, stored_position, greatest_stored, after_pushed, next_position, evicted_at, latest_eviction, MustStore, MayGo, HeldAs}
 use Rattle.media_model.specs.declared.entry.Write.{Write}
 use Rattle.run_model.specs.Events.{Types, Outgoing}
 use Rattle.run_model.specs.Listing.{IsIn}
-use Rattle.run_model.specs.Sending.{cached, RiseFrom, next_from, latest_from, last_number, Kept, IsLast}
+use Rattle.run_model.specs.Sending.{cached, RiseFrom, next_from, latest_from, last_number, Kept, IsFromGreatest, IsLast}
 use Rattle.run_model.specs.TxPlay.{past_of}
 use Rattle.media_laws.proofs.Lists.{IsIn-append, IsIn-left, IsIn-right}
 
@@ -213,5 +213,117 @@ last_was_sent (one_more {xs} {es} told t w held must) n h = pick held (sym (last
     pick true is old = ((t, w), IsIn-right (t, w) xs ((t, w) ∷ []) (inl refl), same_Some w.number n is)
     pick false is old = let r = old is in (r.0, IsIn-left r.0 xs ((t, w) ∷ []) r.1, r.2)
 
+-- where anything is kept, the number that was given last is that of the greatest or of one behind it
+
+evicted_last : {L : Outgoing} {xs : List (ℕ × Write)} {es : List (Stored Write)} → Tells L xs es → LateFrom 0 xs → latest_eviction es ≡ latest_from 0 xs
+evicted_last nothing late = refl
+evicted_last (one_more {xs} {es} told t w held must) late =
+    let on = late-front 0 xs (t, w) late in
+    let old = evicted_last told on.0 in
+    let new = greatest-two evicted_at es t w held in
+    let last = latest-push 0 xs (t, w) in
+    omega (arith, old, new, last, on.1)
+
+-- the greatest of what was told, and the one that was stored last from there on
+record Topped (xs : List (ℕ × Write)) (es : List (Stored Write)) : Type 0 where
+  pub before : List (ℕ × Write)
+  pub top : ℕ × Write
+  pub after : List (ℕ × Write)
+  pub split : xs ≡ before ++ top ∷ after
+  pub greatest : (x : ℕ × Write) → IsIn x xs → x.1.number ≤ top.1.number
+  pub next : next_position es ≡ top.1.number + 1
+  pub last : ℕ × Write
+  pub there : IsIn last (top ∷ after)
+  pub given : last_position es ≡ Some last.1.number
+
+-- or nothing was told
+record Untold (xs : List (ℕ × Write)) (es : List (Stored Write)) : Type 0 where
+  pub empty : xs ≡ []
+  pub next : next_position es ≡ 0
+  pub given : last_position es ≡ None
+
+abbrev Told : List (ℕ × Write) → List (Stored Write) → Type 0
+Told xs es = Untold xs es ⊎ Topped xs es
+
+top_of : {xs : List (ℕ × Write)} {es : List (Stored Write)} → Told xs es → (x : ℕ × Write) → IsIn x xs → x.1.number < next_position es
+top_of (inl u) x i = absurd (subst (IsIn x) u.empty i)
+top_of (inr h) x i = let a = h.greatest x i in let b = h.next in omega (arith, a, b)
+
+module _ {xs : List (ℕ × Write)} {es : List (Stored Write)} (t : ℕ) (w : Write) (held : Bool) where
+  -- one above all others is stored
+  on_top : Told xs es → next_position es ≤ w.number → held ≡ true → Topped (xs ++ (t, w) ∷ []) (two_more es t w held)
+  on_top told above is = record {
+    before = xs;
+    top = (t, w);
+    after = [];
+    split = refl;
+    greatest = λ x i. elim (IsIn-append x xs ((t, w) ∷ []) i) [
+      | inl j ↦ let a = top_of told x j in omega (arith, a, above)
+      | inr j ↦ elim j [ inl e ↦ subst (λ (y : ℕ × Write). y.1.number ≤ w.number) (sym e) (omega arith) | inr k ↦ absurd k ]
+    ];
+    next = let a = greatest-two after_pushed es t w held in omega (arith, a, above);
+    last = (t, w);
+    there = inl refl;
+    given = last-two stored_at es t w held ∙ ap (λ (b : Bool). latter (latter (last_position es) (cond b (Some w.number) None)) None) is;
+  }
+
+  -- another stands behind the greatest
+  below_top : (h : Topped xs es) → w.number < next_position es → Topped (xs ++ (t, w) ∷ []) (two_more es t w held)
+  below_top h below =
+      let last = pick held in
+      record {
+        before = h.before;
+        top = h.top;
+        after = h.after ++ (t, w) ∷ [];
+        split = ap (λ (l : List (ℕ × Write)). l ++ (t, w) ∷ []) h.split ∙ append_assoc h.before (h.top ∷ h.after) ((t, w) ∷ []);
+        greatest = λ x i. elim (IsIn-append x xs ((t, w) ∷ []) i) [
+          | inl j ↦ h.greatest x j
+          | inr j ↦ elim j [ inl e ↦ subst (λ (y : ℕ × Write). y.1.number ≤ h.top.1.number) (sym e) (let a = h.next in omega (arith, a, below)) | inr k ↦ absurd k ]
+        ];
+        next = let a = greatest-two after_pushed es t w held in let b = h.next in omega (arith, a, b, below);
+        last = last.0;
+        there = last.1;
+        given = last-two stored_at es t w held ∙ last.2;
+      }
+    where
+      pick : (b : Bool) → (x : ℕ × Write) × IsIn x (h.top ∷ h.after ++ (t, w) ∷ []) × (latter (latter (last_position es) (cond b (Some w.number) None)) None ≡ Some x.1.number)
+      pick true = ((t, w), IsIn-right (t, w) (h.top ∷ h.after) ((t, w) ∷ []) (inl refl), refl)
+      pick false = (h.last, IsIn-left h.last (h.top ∷ h.after) ((t, w) ∷ []) h.there, h.given)
+
+  one_told : Told xs es → (next_position es ≤ w.number → held ≡ true) → Topped (xs ++ (t, w) ∷ []) (two_more es t w held)
+  one_told told must = at_most (nat_le (next_position es) w.number) refl told
+    where
+      at_most : (b : Bool) → nat_le (next_position es) w.number ≡ b → Told xs es → Topped (xs ++ (t, w) ∷ []) (two_more es t w held)
+      at_most true is told = let above = leb-true (next_position es) w.number is in on_top told above (must above)
+      at_most false is (inr h) = below_top h (leb-false (next_position es) w.number is)
+      at_most false is (inl u) = let below = leb-false (next_position es) w.number is in let none = u.next in absurd (omega (arith, below, none))
+
+all_told : {L : Outgoing} {xs : List (ℕ × Write)} {es : List (Stored Write)} → Tells L xs es → 0 < min L.packets 10 → 0 < L.age → LateFrom 0 xs → Told xs es
+all_told nothing room aging late = inl (record { empty = refl; next = refl; given = refl })
+all_told {L} (one_more {xs} {es} told t w held must) room aging late =
+    let on = late-front 0 xs (t, w) late in
+    let timely : latest_eviction es ≤ t = subst (λ (n : ℕ). n ≤ t) (sym (evicted_last told on.0)) on.1 in
+    inr (one_told t w held (all_told told room aging on.0) (λ above. must (record { roomy = room; aging = aging; timely = timely; above = above })))
+
+last_told : {xs : List (ℕ × Write)} {es : List (Stored Write)} → Told xs es → (n : ℕ) → last_position es ≡ Some n → IsFromGreatest xs n
+last_told (inl u) n h = absurd (let no : None ≡ Some n = sym u.given ∙ h in cc)
+last_told (inr t) n h = record {
+  before = t.before;
+  top = t.top;
+  after = t.after;
+  split = t.split;
+  greatest = t.greatest;
+  there = (t.last, t.there, same_Some t.last.1.number n (sym t.given ∙ h));
+}
+
+none_told : {xs : List (ℕ × Write)} {es : List (Stored Write)} → Told xs es → last_position es ≡ None → xs ≡ []
+none_told (inl u) h = u.empty
+none_told (inr t) h = absurd (let no : None ≡ Some t.last.1.number = sym h ∙ t.given in cc)
+
 pub is_last : {T : Types} {L : Outgoing} {sent : List (ℕ × Write)} {es : List (Stored Write)} → Tells L (cached T L sent) es → LateFrom 0 (cached T L sent) → IsLast T L sent (last_position es)
-is_last told late = record { one = last_was_sent told; greatest = λ rise room aging. (all_held told (omega (arith, room)) aging rise late).last }
+is_last told late = record {
+  one = last_was_sent told;
+  late = λ room aging. last_told (all_told told (omega (arith, room)) aging late);
+  none = λ room aging. none_told (all_told told (omega (arith, room)) aging late);
+  greatest = λ rise room aging. (all_held told (omega (arith, room)) aging rise late).last;
+}

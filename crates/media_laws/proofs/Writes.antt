@@ -12,7 +12,8 @@ use Rattle.media_model.specs.declared.entry.Entry.TheVariants.{Wrote, Ticked, Ca
 use Rattle.media_model.specs.declared.setup.PayloadType.{PayloadType}
 use Rattle.media_model.specs.declared.setup.Setup.{Setup}
 use Rattle.media_model.specs.declared.step.Step.{Step}
-use Rattle.media_model.specs.declared.step.Step.TheVariants.{Write}
+use Rattle.media_model.specs.declared.step.Act.TheVariants.{Write}
+use Rattle.media_model.specs.Steps.{step_at}
 use Rattle.media_model.specs.Entries.{write_on, writes_on}
 use Rattle.media_model.specs.Setup.{written_in, types_of as main_types, claimed_in, claimed_of, streams_of}
 use Rattle.run_model.specs.Listing.{IsIn, NoRepeat}
@@ -39,7 +40,7 @@ pub record IsFit (setup : Setup) (w : Writing) : Type 0 where
   pub type : has (main_types setup) w.pt ≡ true
   pub payload : length w.payload ≤ 1400
 
-write_fits : (setup : Setup) (past : List Entry) (side : Side) (time : ℕ) (w : Writing) → step_fault setup past (Write side time w) ≡ None → IsFit setup w
+write_fits : (setup : Setup) (past : List Entry) (side : Side) (time : ℕ) (w : Writing) → step_fault setup past (step_at side time (Write w)) ≡ None → IsFit setup w
 write_fits setup past side time w e =
     let ok = later_none (time_fault past time) (write_fault setup past side w) e in
     let stream = rule_none (not (has (streams_of side setup) w.ssrc)) UnknownStream _ ok in

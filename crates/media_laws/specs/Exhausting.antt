@@ -5,8 +5,9 @@ use Rattle.media_model.specs.declared.entry.Side.{Side}
 use Rattle.media_model.specs.declared.entry.Call.TheVariants as call
 use Rattle.media_model.specs.declared.entry.Entry.{Entry}
 use Rattle.media_model.specs.declared.entry.Entry.TheVariants.{Called, Ticked}
+use Rattle.media_model.specs.declared.step.Act.{Act}
+use Rattle.media_model.specs.declared.step.Act.TheVariants.{Feedback, Tick}
 use Rattle.media_model.specs.declared.step.Step.{Step}
-use Rattle.media_model.specs.declared.step.Step.TheVariants.{Application, Tick}
 use Rattle.media_model.specs.declared.setup.Setup.{Setup}
 use Rattle.media_model.specs.Entries.{sealed_numbers}
 use Rattle.run_model.specs.Events.{Event, Outgoing}
@@ -40,16 +41,21 @@ abbrev pub LacksNumber : Counter → Table → ℕ → Type 0
 LacksNumber Rtcp streams next = next ≡ SRTCP_INDEX_LIMIT
 LacksNumber (Rtx ssrc) streams next = IsUsedUpIn ssrc streams
 
--- after these entries a step has a side seal a datagram behind the last number of this counter, and this is told of the step: the
--- call of an application; or the tick, with all that it seals until then
+-- after these entries an act has a side, whose plain session this is, seal a datagram behind the last number of this counter, and
+-- this is told of it: the call of an application; or the tick, with all that it seals until then
+abbrev pub ActExhausts : Sealing → Setup → List Entry → Side → Session → ℕ → Act → Counter → List Entry → Type 0
+ActExhausts seal setup past side a time (Feedback sender media payload) counter told =
+    (counter ≡ Rtcp) × (next_index setup side past ≡ SRTCP_INDEX_LIMIT) × (told ≡ Called side time call.Application ∷ [])
+ActExhausts seal setup past side a time Tick counter told =
+    (sealed : List Entry) × (told ≡ Ticked side time ∷ sealed)
+    × (cut : IsCutTick seal setup side a time sealed) × LacksNumber counter cut.streams cut.next
+ActExhausts seal setup past side a time act counter told = ⊥
+
+-- the same of a step: the side is its own, and the plain session is the side's after steps that brought these entries
 abbrev pub Exhausts : Sealing → Setup → List Entry → Step → Side → Counter → List Entry → Type 0
-Exhausts seal setup past (Application by time sender media payload) side counter told =
-    (by ≡ side) × (counter ≡ Rtcp) × (next_index setup by past ≡ SRTCP_INDEX_LIMIT) × (told ≡ Called by time call.Application ∷ [])
-Exhausts seal setup past (Tick by time) side counter told =
-    (by ≡ side) × ((sealed : List Entry) × (told ≡ Ticked by time ∷ sealed)
-    × (a : Session) × (b : Session) × (steps : List Step) × Plays seal setup a b steps past
-    × (cut : IsCutTick seal setup by (session_of by a b) time sealed) × LacksNumber counter cut.streams cut.next)
-Exhausts seal setup past step side counter told = ⊥
+Exhausts seal setup past step side counter told =
+    (step.side ≡ side) × (a : Session) × (b : Session) × (steps : List Step) × Plays seal setup a b steps past
+    × ActExhausts seal setup past side (session_of side a b) step.time step.act counter told
 
 -- after these entries a side has no number of this counter left: it sealed all from the first one of the setup on
 abbrev pub IsUsedUp : Setup → Side → Counter → List Entry → Type 0

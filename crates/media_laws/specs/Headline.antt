@@ -1,5 +1,5 @@
 -- What holds of the entries of a run.
-use Rattle.std.specs.Prelude.{◌≡◌, ◌↔◌, ◌%◌, ◌+◌, ◌⊎◌, ℕ, true, List, [], ◌∷◌, ◌++◌, map, length, drop, Some}
+use Rattle.std.specs.Prelude.{◌≡◌, ◌↔◌, ◌%◌, ◌+◌, ◌⊎◌, ℕ, true, List, [], ◌∷◌, ◌++◌, map, length, drop, Option, Some, None}
 use Rattle.std.specs.List.{AllByRecursion}
 use Rattle.std.specs.Int.{w16, to_be_bytes}
 use Rattle.rtp_wire.specs.declared.header.RtpHeader.{RtpHeader}
@@ -15,12 +15,14 @@ use Rattle.media_model.specs.declared.entry.Write.{Write as Writing}
 use Rattle.media_model.specs.declared.entry.Sealed.{Sealed as SealedEntry}
 use Rattle.media_model.specs.declared.entry.Entry.{Entry}
 use Rattle.media_model.specs.declared.entry.Entry.TheVariants.{Wrote, Ticked, Called, Got, Sealed, Yielded}
+use Rattle.media_model.specs.declared.step.Act.{Act}
+use Rattle.media_model.specs.declared.step.Act.TheVariants.{Write, Tick}
 use Rattle.media_model.specs.declared.step.Step.{Step}
-use Rattle.media_model.specs.declared.step.Step.TheVariants.{Write, Tick}
 use Rattle.media_model.specs.declared.setup.Setup.{Setup}
 use Rattle.media_model.specs.Genuine.{IsGenuine}
 use Rattle.media_model.specs.Sides.{peer_of}
-use Rattle.media_model.specs.Entries.{writes_by, writes_on, sealed_numbers, nonces, packets}
+use Rattle.media_model.specs.Entries.{writes_by, writes_on, sealed_numbers, nonces, packets, moment_of}
+use Rattle.media_model.specs.Steps.{step_at}
 use Rattle.repair_core.specs.Fresh.{greatest_of, is_fresh}
 use Rattle.run_model.specs.Asking.{side_of, asked, modulo, owed}
 use Rattle.run_model.specs.Capping.{IsCapped}
@@ -40,7 +42,7 @@ use Rattle.media_laws.specs.Feedback.{SendsFeedback}
 use Rattle.media_laws.specs.Listing.{IsIn, NoRepeat, Each, EachStep}
 use Rattle.media_laws.specs.Opening.{Sealing}
 use Rattle.media_laws.specs.Plain.{extensions_of, read_header, Carries, as_packet}
-use Rattle.media_laws.specs.Play.{Brings, IsBroughtBy, IsCallBy}
+use Rattle.media_laws.specs.Play.{Brings, IsBroughtBy, IsCall}
 use Rattle.media_laws.specs.Right.{IsRight, IsRightSeal}
 
 -- what happened on a side among these entries, as it is read
@@ -203,23 +205,25 @@ YieldsExactly setup past _ chunk = Unit {0}
 abbrev pub FirstSendingsAreYielded : Setup → List Entry → Type 0
 FirstSendingsAreYielded setup entries = EachStep (YieldsExactly setup) entries
 
--- the steps among these entries are those of the script, in order: bytes that come are those that
--- the step brings
+-- an entry, which stands behind these, is that of this act: bytes that come are those that the act brings
+abbrev pub IsActOf : List Entry → Entry → Act → Type 0
+IsActOf past (Wrote side time write) act = act ≡ Write write
+IsActOf past (Ticked side time) act = act ≡ Tick
+IsActOf past (Called side time call) act = IsCall call act
+IsActOf past (Got got) act = Brings past got act
+IsActOf past entry act = ⊥
+
+-- the steps that are left once an entry came, which stands behind these: the first one went where the entry is a step
+abbrev pub IsNext : List Entry → Entry → Option (Side × ℕ) → List Step → List Step → Type 0
+IsNext past entry None steps rest = rest ≡ steps
+IsNext past entry (Some moment) steps rest =
+    (act : Act) × (steps ≡ step_at moment.0 moment.1 act ∷ rest) × IsActOf past entry act
+
+-- the steps among these entries are those of the script, in order
 abbrev pub PlaysFrom : List Entry → List Step → List Entry → Type 0
 PlaysFrom past steps [] = steps ≡ []
-PlaysFrom past steps (Wrote side time write ∷ entries) =
-    (rest : List Step) × (steps ≡ Write side time write ∷ rest)
-    × PlaysFrom (past ++ Wrote side time write ∷ []) rest entries
-PlaysFrom past steps (Ticked side time ∷ entries) =
-    (rest : List Step) × (steps ≡ Tick side time ∷ rest)
-    × PlaysFrom (past ++ Ticked side time ∷ []) rest entries
-PlaysFrom past steps (Called side time call ∷ entries) =
-    (step : Step) × (rest : List Step) × (steps ≡ step ∷ rest) × IsCallBy side time call step
-    × PlaysFrom (past ++ Called side time call ∷ []) rest entries
-PlaysFrom past steps (Got got ∷ entries) =
-    (step : Step) × (rest : List Step) × (steps ≡ step ∷ rest) × Brings past got step
-    × PlaysFrom (past ++ Got got ∷ []) rest entries
-PlaysFrom past steps (entry ∷ entries) = PlaysFrom (past ++ entry ∷ []) steps entries
+PlaysFrom past steps (entry ∷ entries) =
+    (rest : List Step) × IsNext past entry (moment_of entry) steps rest × PlaysFrom (past ++ entry ∷ []) rest entries
 
 abbrev pub PlaysSteps : List Step → List Entry → Type 0
 PlaysSteps steps entries = PlaysFrom [] steps entries

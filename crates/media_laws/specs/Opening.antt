@@ -1,5 +1,5 @@
 -- How the sides of a run seal, and what is opened.
-use Rattle.std.specs.Prelude.{◌≡◌, ◌≤◌, ◌%◌, ℕ, Bool, List, length, Some}
+use Rattle.std.specs.Prelude.{◌≡◌, ◌≤◌, ◌%◌, ℕ, Bool, List, length, take, Some}
 use Rattle.rtp_wire.specs.declared.header.RtpHeader.{RtpHeader}
 use Rattle.media_model.specs.declared.entry.Side.{Side}
 use Rattle.rtp_base.specs.declared.kind.Kind.{Kind}
@@ -10,6 +10,7 @@ use Rattle.media_model.specs.declared.setup.Setup.{Setup}
 use Rattle.media_model.specs.Sides.{peer_of}
 use Rattle.media_laws.specs.Plain.{read_header}
 use Rattle.srtp_core.specs.declared.srtcp.TheConstants.{HEADER_LEN}
+use Rattle.srtp_core.specs.RtcpSeals.{sender_of}
 
 -- how the sides of a run seal RTP, under an SSRC and an index, and RTCP, encrypted or not, under an index; and what an RTCP
 -- datagram states of both
@@ -33,10 +34,12 @@ pub record IsRtpOpening (seal : Sealing) (setup : Setup) (got : GotEntry) (o : O
   pub low : header.sequence_number ≡ o.index % 65536
   pub sealed : seal.rtp (peer_of o.side) o.ssrc o.index o.plain ≡ got.bytes
 
--- an RTCP datagram was opened to a packet of at least 8 bytes, of which it is the peer's seal as it states
+-- an RTCP datagram was opened to a packet of at least 8 bytes, whose first item is from its SSRC: it is the peer's seal of
+-- that as it states
 pub record IsRtcpOpening (seal : Sealing) (got : GotEntry) (o : OpenedEntry) : Type 0 where
   pub rtcp : o.kind ≡ Rtcp
   pub header : HEADER_LEN ≤ length o.plain
+  pub source : sender_of (take HEADER_LEN o.plain) ≡ o.ssrc
   pub stated : o.index ≡ seal.states got.bytes
   pub sealed : seal.rtcp (peer_of o.side) (seal.encrypts got.bytes) o.index o.plain ≡ got.bytes
 

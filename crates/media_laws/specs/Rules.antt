@@ -4,8 +4,9 @@ use Rattle.std.specs.List.{list_any}
 use Rattle.media_model.specs.declared.entry.Side.{Side}
 use Rattle.media_model.specs.declared.entry.Write.{Write as Writing}
 use Rattle.media_model.specs.declared.entry.Entry.{Entry}
+use Rattle.media_model.specs.declared.step.Act.{Act}
+use Rattle.media_model.specs.declared.step.Act.TheVariants.{Write, Deliver, Ask, Rate}
 use Rattle.media_model.specs.declared.step.Step.{Step}
-use Rattle.media_model.specs.declared.step.Step.TheVariants.{Write, Tick, Deliver, Foreign, Application, Ask, Remb}
 use Rattle.media_model.specs.declared.setup.Setup.{Setup}
 use Rattle.media_model.specs.Sides.{peer_of}
 use Rattle.media_model.specs.Setup.{streams_of, types_of}
@@ -48,6 +49,14 @@ deliver_rules entries side k =
 abbrev pub request_rules : Setup → Side → ℕ → List (Bool × StepFault)
 request_rules setup side ssrc = (not (has (streams_of (peer_of side) setup) ssrc), UnknownStream) ∷ []
 
+-- what a side may do
+abbrev pub act_rules : Setup → List Entry → Side → Act → List (Bool × StepFault)
+act_rules setup entries side (Write write) = write_rules setup entries side write
+act_rules setup entries side (Deliver k) = deliver_rules entries side k
+act_rules setup entries side (Ask ssrc kind) = request_rules setup side ssrc
+act_rules setup entries side (Rate ssrc rate) = request_rules setup side ssrc
+act_rules setup entries side _ = []
+
 -- the first of them that is broken
 abbrev pub time_fault : List Entry → ℕ → Option StepFault
 time_fault entries time = first_fault (time_rules entries time)
@@ -61,14 +70,9 @@ deliver_fault entries side k = first_fault (deliver_rules entries side k)
 abbrev pub request_fault : Setup → Side → ℕ → Option StepFault
 request_fault setup side ssrc = first_fault (request_rules setup side ssrc)
 
+abbrev pub act_fault : Setup → List Entry → Side → Act → Option StepFault
+act_fault setup entries side act = first_fault (act_rules setup entries side act)
+
 -- the rules of times stand before all others
 abbrev pub step_fault : Setup → List Entry → Step → Option StepFault
-step_fault setup entries (Write side time write) =
-    or_else (time_fault entries time) (write_fault setup entries side write)
-step_fault setup entries (Tick side time) = time_fault entries time
-step_fault setup entries (Deliver side time k) =
-    or_else (time_fault entries time) (deliver_fault entries side k)
-step_fault setup entries (Foreign side time kind bytes) = time_fault entries time
-step_fault setup entries (Application side time sender media payload) = time_fault entries time
-step_fault setup entries (Ask side time ssrc kind) = or_else (time_fault entries time) (request_fault setup side ssrc)
-step_fault setup entries (Remb side time ssrc rate) = or_else (time_fault entries time) (request_fault setup side ssrc)
+step_fault setup entries step = or_else (time_fault entries step.time) (act_fault setup entries step.side step.act)

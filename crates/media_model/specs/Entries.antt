@@ -1,5 +1,5 @@
 -- What is read off the entries of a run.
-use Rattle.std.specs.Prelude.{ℕ, Bool, true, false, cond, ◌&&◌, ◌==◌, not, List, [], ◌∷◌, Option, Some, None, if◌then◌else◌}
+use Rattle.std.specs.Prelude.{ℕ, Bool, cond, ◌&&◌, ◌==◌, List, [], ◌∷◌, Option, Some, None, is_some, option_map, option_to_list, if◌then◌else◌}
 use Rattle.std.specs.List.{flat_map, fold}
 use Rattle.media_model.specs.declared.entry.Side.{Side}
 use Rattle.rtp_base.specs.declared.kind.Kind.{Kind}
@@ -76,13 +76,17 @@ packet_by side _ = []
 abbrev pub packets : Side → List Entry → List Packet
 packets side entries = flat_map (packet_by side) entries
 
+-- whose step an entry is, and when, where it is a step and not what a step brings
+abbrev pub moment_of : Entry → Option (Side × ℕ)
+moment_of (Wrote side time write) = Some (side, time)
+moment_of (Ticked side time) = Some (side, time)
+moment_of (Called side time call) = Some (side, time)
+moment_of (Got got) = Some (got.side, got.time)
+moment_of _ = None
+
 -- the times of the steps, in order
 abbrev pub time_of : Entry → List ℕ
-time_of (Wrote side time write) = time ∷ []
-time_of (Ticked side time) = time ∷ []
-time_of (Called side time call) = time ∷ []
-time_of (Got got) = got.time ∷ []
-time_of _ = []
+time_of entry = option_to_list (option_map (λ moment. moment.1) (moment_of entry))
 
 -- the time of the last step, 0 before any
 abbrev pub latest : List ℕ → ℕ
@@ -95,8 +99,4 @@ last_time entries = latest (flat_map time_of entries)
 
 -- whether an entry is a step, and not what a step brings
 abbrev pub is_step : Entry → Bool
-is_step (Wrote side time write) = true
-is_step (Ticked side time) = true
-is_step (Called side time call) = true
-is_step (Got got) = true
-is_step _ = false
+is_step entry = is_some (moment_of entry)

@@ -4,3 +4,4 @@ pub mod Genuine
 pub mod Seals
 pub mod Setup
 pub mod Sides
+pub mod Steps

@@ -25,5 +25,5 @@ pub use setup::{
 };
 pub use sources::Sources;
 pub use srtcp_index::SrtcpIndex;
-pub use step::{LAST_TIME, Step};
+pub use step::{Act, LAST_TIME, Step};
 pub use transcript::Transcript;

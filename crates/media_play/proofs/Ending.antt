@@ -19,7 +19,7 @@ use Rattle.media_play.specs.declared.fault.RunError.{RunError}
 use Rattle.media_play.specs.declared.fault.RunError.TheVariants as error
 use Rattle.media_play.specs.declared.fault.RunFault.{RunFault}
 use Rattle.media_play.specs.declared.fault.StepError.{StepError}
-use Rattle.media_play.specs.declared.fault.StepError.TheVariants.{Memory, Rule, KeyExhausted}
+use Rattle.media_play.specs.declared.fault.StepError.TheVariants.{Memory, Rule, KeyExhausted, Stopped}
 use Rattle.media_play.specs.Running.{RunState, IsRunOf, EndsBehind, AnsweredUntil, Answered, HoldsUntil, Holds, UsedUp, OfRun, IsSetupCause, run_cause}
 use Rattle.media_play.proofs.Steps.{Tells}
 
@@ -43,6 +43,7 @@ module _ (cipher : CipherMeaning) (setup : Setup) where
   holds_at number step past entries (KeyExhausted side counter) tells cut h at_key =
       subst (HoldsToKey (sealing_of cipher setup) setup side counter) (sym tells.1) (at_key side counter tells.0 tells.2.1)
   holds_at number step past entries Memory tells cut h at_key = subst (HoldsOfRun (sealing_of cipher setup) setup) (sym (cut refl)) h
+  holds_at number step past entries Stopped tells cut h at_key = absurd tells.2
 
   -- a step that is not played ends the run, behind those before it
   pub ends_behind : (before : List Step) (step : Step) (number : ℕ) (past entries : List Entry) (cause : StepError) → number ≡ length before + 1
@@ -63,6 +64,7 @@ module _ (cipher : CipherMeaning) (setup : Setup) where
     entries_are = tells.1;
   }
   ends_behind before step number past entries Memory at played tells cut = subst (Played (sealing_of cipher setup) setup before) (sym (cut refl)) played
+  ends_behind before step number past entries Stopped at played tells cut = absurd tells.2
 
 module _ (seal : Sealing) (setup : Setup) where
   -- all of it holds of nothing

@@ -9,11 +9,10 @@ pub mod Knowings
 pub mod Putting
 pub mod Requesting
 pub mod Cutting
-pub mod Steps
-pub mod Cuts
-pub mod Calls
 pub mod Indices
-pub mod Sends
+pub mod Steps
+pub mod Refusals
+pub mod Calls
 pub mod Ending
 pub mod Given
 pub mod WholeSlices

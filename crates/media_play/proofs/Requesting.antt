@@ -18,6 +18,7 @@ use Rattle.media_model.specs.declared.entry.Entry.TheVariants.{Called}
 use Rattle.media_model.specs.declared.entry.Call.TheVariants as call
 use Rattle.media_model.specs.declared.setup.Setup.{Setup}
 use Rattle.media_model.specs.Setup.{streams_of}
+use Rattle.media_model.specs.Steps.{step_at}
 use Rattle.media_model.specs.Sides.{peer_of}
 use Rattle.run_model.specs.Events.{Incoming, Outgoing, called}
 use Rattle.run_model.specs.RxPlay.{RxRecord}
@@ -28,11 +29,11 @@ use Rattle.media_laws.specs.Config.{config_of}
 use Rattle.media_laws.specs.Keys.{sealing_of}
 use Rattle.media_laws.specs.Opening.{Sealing}
 use Rattle.media_laws.specs.Play.{AreEntriesOf, requested as requested_step}
-use Rattle.media_laws.specs.Rules.{has, or_else, time_fault, request_fault, step_fault}
+use Rattle.media_laws.specs.Rules.{has, act_fault, request_fault}
 use Rattle.media_play.specs.declared.request.Request.{Request}
 use Rattle.media_play.specs.declared.request.Request.TheVariants.{Keyframe, Rate}
 use Rattle.media_play.specs.Ends.{EndSession, SessionStands}
-use Rattle.media_play.specs.Requests.{call_for, step_for, requested}
+use Rattle.media_play.specs.Requests.{call_for, act_for, requested}
 use Rattle.media_play.specs.Sessions.{EndState, Ready, ReadyAt, TurnsOn}
 use Rattle.media_play.proofs.Keys.{key_at, key_absent, has_from_get}
 use Rattle.media_play.proofs.Knowings.{line_ssrcs}
@@ -118,14 +119,14 @@ turned_requested {cipher} {setup} {side} {end} {a} {entries} {time} law at what 
     turned_quiet ready new after (Called side time (call_for what) ∷ []) (called time ∷ []) refl (λ q. refl) refl stands same
     (law cipher (config_of (sealing_of cipher setup) setup) side r a place time f ready.fit ready.mirrors at.late)
 
--- the step of a request
+-- the act of a request
 
-pub request_step_fault : (setup : Setup) (past : List Entry) (side : Side) (time ssrc : ℕ) (what : Request)
-    → step_fault setup past (step_for side time ssrc what) ≡ or_else (time_fault past time) (request_fault setup side ssrc)
-request_step_fault setup past side time ssrc (Keyframe kind) = refl
-request_step_fault setup past side time ssrc (Rate rate) = refl
+pub request_rule : (setup : Setup) (past : List Entry) (side : Side) (ssrc : ℕ) (what : Request)
+    → act_fault setup past side (act_for ssrc what) ≡ request_fault setup side ssrc
+request_rule setup past side ssrc (Keyframe kind) = refl
+request_rule setup past side ssrc (Rate rate) = refl
 
 pub request_entries : {seal : Sealing} {setup : Setup} {past : List Entry} (side : Side) (time ssrc : ℕ) (what : Request)
-    → AreEntriesOf seal setup past side (step_for side time ssrc what) (Called side time (call_for what) ∷ [])
-request_entries side time ssrc (Keyframe kind) = requested_step side time call.Ask (refl, refl) refl
-request_entries side time ssrc (Rate rate) = requested_step side time call.Remb (refl, refl) refl
+    → AreEntriesOf seal setup past side (step_at side time (act_for ssrc what)) (Called side time (call_for what) ∷ [])
+request_entries side time ssrc (Keyframe kind) = requested_step side time call.Ask tt refl
+request_entries side time ssrc (Rate rate) = requested_step side time call.Remb tt refl

@@ -188,6 +188,7 @@ module _ {cipher : CipherMeaning} {setup : Setup} {side : Side} {r : SessionReco
     rtcp_opening (record {
       rtcp = refl;
       header = h.header;
+      source = h.source;
       stated = h.stated ∙ sym (ap (λ (s : Reporting). s.states bytes) m.other_reports);
       sealed =
           ap (λ (s : Reporting). s.seal (s.encrypts bytes) o.index o.plain) m.other_reports ∙ h.sealed;

@@ -8,3 +8,4 @@ pub mod Requests
 pub mod Running
 pub mod Ends
 pub mod Errors
+pub mod Acting

@@ -1,5 +1,5 @@
 -- What a run knows of the steps that it played.
-use Rattle.std.specs.Prelude.{◌≡◌, ◌+◌, ◌≤◌, ◌⊎◌, ℕ, List, [], ◌∷◌, ◌++◌, length, map, take, slice_get, Option, Some, None, Result, Ok, Err}
+use Rattle.std.specs.Prelude.{◌≡◌, ◌+◌, ◌≤◌, ◌⊎◌, ℕ, Bool, List, [], ◌∷◌, ◌++◌, length, map, take, slice_get, Option, Some, None, is_some, Result, Ok, Err}
 use Rattle.std.specs.Borrow.{Bor}
 use Rattle.std.specs.Iterator.{Yields}
 use Rattle.srtp_core.specs.Cipher.{CipherMeaning}
@@ -33,6 +33,19 @@ pub record RunState : Type 0 where
   pub b : EndState
   pub log : List Entry
   pub latest : ℕ
+
+-- a run: the same, and whether it is stopped
+pub record RunView : Type 0 where
+  pub state : RunState
+  pub stopped : Bool
+
+-- of a run that is stopped these many entries are told
+abbrev pub told_of : Option ℕ → List Entry → List Entry
+told_of None log = log
+told_of (Some told) log = take told log
+
+abbrev pub run_view : RunState → Option ℕ → RunView
+run_view state told = record { state = record state { log = told_of told state.log }; stopped = is_some told }
 
 -- a run of a setup after these steps: the setup breaks no rule, the entries are those that the
 -- steps brought, and the two ends stand for the plain sessions that played them
@@ -84,7 +97,7 @@ IsSetupCause setup error.Memory = Unit {0}
 abbrev pub run_cause : ℕ → StepError → RunError
 run_cause number (step.Rule fault) = error.Step number fault
 run_cause number (step.KeyExhausted side counter) = error.KeyExhausted side counter
-run_cause number step.Memory = error.Memory
+run_cause number _ = error.Memory
 
 -- a step that breaks no rule after the entries of those before it has a side seal behind the last
 -- number of a key, and the entries are those and what is told of it

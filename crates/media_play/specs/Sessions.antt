@@ -6,7 +6,7 @@ use Rattle.stream_core.specs.Tables.{place_of}
 use Rattle.session_core.specs.SessionRecord.{SessionRecord}
 use Rattle.media_laws.specs.Right.{IsRightSeal}
 use Rattle.media_play.specs.declared.fault.StepError.{StepError}
-use Rattle.media_play.specs.declared.fault.StepError.TheVariants.{Memory, Rule, KeyExhausted}
+use Rattle.media_play.specs.declared.fault.StepError.TheVariants.{Memory, Rule, KeyExhausted, Stopped}
 use Rattle.session_turns.specs.Mirrors.{Mirrors, IsFit}
 use Rattle.media_model.specs.declared.entry.Side.{Side}
 use Rattle.media_model.specs.declared.entry.Packet.{Packet}
@@ -95,6 +95,7 @@ pub record TicksOn (cipher : CipherMeaning) (setup : Setup) (side : Side) (a : S
 abbrev pub IsTickCause : CipherMeaning → Setup → Side → Session → ℕ → StepError → List Entry → Type 0
 IsTickCause cipher setup side a time Memory told = Unit {0}
 IsTickCause cipher setup side a time (Rule fault) told = ⊥
+IsTickCause cipher setup side a time Stopped told = ⊥
 IsTickCause cipher setup side a time (KeyExhausted by counter) told =
     (by ≡ side) × ((sealed : List Entry) × (told ≡ Ticked side time ∷ sealed)
     × (cut : IsCutTick (sealing_of cipher setup) setup side a time sealed) × LacksNumber counter cut.streams cut.next)

@@ -1,4 +1,4 @@
-ghost use Rattle.std.specs.Prelude.{◌≡◌, ◌≢◌, ◌∷◌, ◌++◌, ◌<◌, ◌≤◌, ◌%◌, ◌^◌, ℕ, false, List, [], length, slice_index, Some, None, IfOk, IfErr, OnOk};
+ghost use Rattle.std.specs.Prelude.{◌≡◌, ◌≢◌, ◌∷◌, ◌++◌, ◌<◌, ◌≤◌, ◌%◌, ◌^◌, ℕ, true, false, List, [], length, slice_index, Some, None, IfOk, IfErr, OnOk};
 ghost use Rattle.rtp_wire.specs.BytesLaws.{AreWords};
 ghost use Rattle.media_laws.specs.Feedback.{next_index};
 ghost use Rattle.std.specs.Result.{result_err};
@@ -257,7 +257,7 @@ impl<C: SrtpCipher> End<C> {
     ghost use Rattle.media_laws.specs.Opening.{got_as};
     ghost use Rattle.media_laws.specs.Rules.{write_fault, request_fault};
     ghost use Rattle.media_play.specs.Requests.{call_for};
-    ghost use Rattle.media_play.specs.Errors.{is_rule, IsSendingCause};
+    ghost use Rattle.media_play.specs.Errors.{stops_at, IsSendingCause};
     ghost use Rattle.media_play.specs.Packets.{sealed_from};
     ghost use Rattle.media_play.specs.Sessions.{Ready, ReadyAt, TurnsOn, TakesIn, TicksOn, IsTickCause};
 
@@ -439,14 +439,14 @@ impl<C: SrtpCipher> End<C> {
             Err(_) => return Err(AllocError),
         };
         take_packet(session);
-        let Some(opened) = opened else {
+        let Some(heard) = opened else {
             return Ok(None);
         };
         Ok(Some(Received {
             kind: Kind::Rtcp,
-            ssrc: opened.ssrc,
-            number: opened.index,
-            plain: opened.plain,
+            ssrc: heard.ssrc,
+            number: heard.index,
+            plain: heard.plain,
             packet: None,
         }))
     }
@@ -471,7 +471,7 @@ impl<C: SrtpCipher> End<C> {
         ensures refused { IfErr result (λ e. (setup : Given) (a : Plain) (entries : List Entry)
             → ReadyAt C.meaning setup side self.old a entries time → a.rtcp ≡ next_index setup side entries
             → IsSendingCause setup side entries e) }
-        ensures no_rule { IfErr result (λ e. is_rule e ≡ false) }
+        ensures stops { IfErr result (λ e. (stops_at e ≡ true) × (e ≢ StepError.Stopped)) }
     {
         items_fit_by_lengths();
         calls_turn();
@@ -513,6 +513,8 @@ impl<C: SrtpCipher> End<C> {
             → ReadyAt C.meaning setup side self.old a entries time
             → IsTickCause C.meaning setup side a time fault.cause
             (Ticked side time ∷ seals_from side fault.sealed.items)) }
+        ensures stops { IfErr result (λ fault. (stops_at fault.cause ≡ true)
+            × (fault.cause ≢ StepError.Stopped)) }
     {
         ticks_turn();
         ticks_cut();

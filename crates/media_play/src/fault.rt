@@ -18,6 +18,9 @@ pub enum StepError {
     /// The side was to seal a datagram behind the last number of a key.
     #[error("a key has no number left")]
     KeyExhausted(Side, Counter),
+    /// The run is stopped: an earlier step was answered `Memory` or `KeyExhausted`.
+    #[error("the run is stopped")]
+    Stopped,
 }
 
 impl From<AllocError> for StepError {
@@ -38,17 +41,6 @@ impl From<StepFault> for StepError {
     fn from(fault: StepFault) -> Self {
         StepError::Rule(fault)
     }
-}
-
-/// Why a step was not played, and the transcript until then.
-#[derive(Debug, Drop, Error)]
-#[error("{cause}")]
-pub struct PlayFault {
-    /// Why it was not played.
-    pub cause: StepError,
-    /// What the steps before it brought; and of this one, where it finds a key used up, the call of
-    /// the application, or the tick and all that it sealed until then.
-    pub sofar: Transcript,
 }
 
 /// Why a run ended before its last step.

@@ -1,6 +1,7 @@
 //! Runs of two media sessions over a script.
 #![tactic(auto)]
 
+mod acting;
 mod end;
 mod fault;
 mod log;
@@ -11,7 +12,7 @@ mod run;
 mod slices;
 mod starting;
 
-pub use fault::{PlayFault, RunError, RunFault, StepError};
+pub use fault::{RunError, RunFault, StepError};
 pub use media_laws::{Counter, StepFault, laws};
 pub use run::{Run, media_run};
 pub use setup_rules::SetupFault;

@@ -1,14 +1,11 @@
-ghost use Rattle.std.specs.Prelude.{◌≡◌, ◌++◌, ◌<◌, ◌^◌, List, [], None, IfOk, IfErr};
+ghost use Rattle.std.specs.Prelude.{◌≡◌, ◌≢◌, ◌⊎◌, ◌<◌, ◌^◌, true, false, [], None, Err, IfOk, IfErr, OnOk, MatchResult};
 ghost use Rattle.std.specs.Iterator.{IsFinite, size};
-ghost use Rattle.media_model.specs.declared.step.Step.{Step as Act};
-ghost use Rattle.media_model.specs.declared.setup.Setup.{Setup as Given};
-ghost use Rattle.media_play.specs.declared.fault.StepError.TheVariants as step_error;
 ghost use Rattle.media_laws.specs.Keys.{sealing_of};
 ghost use Rattle.media_laws.specs.Headline.{SealsAreRight, NoNonceTwice, SendsWrites, YieldsWrites, NoPacketTwice, FirstSendingsAreYielded};
 ghost use Rattle.media_play.specs.Running.{EndsAmong, PlaysGiven, Holds, Answered, UsedUp, OfRun, run_cause};
 ghost use Rattle.setup_rules.specs.SetupRules.{setup_fault};
 
-use crate::fault::{PlayFault, RunError, RunFault, StepError};
+use crate::fault::{RunError, RunFault, StepError};
 use crate::pair::Pair;
 use media_laws::laws::holds_of_run;
 use media_model::{Entry, Setup, Step, Transcript};
@@ -20,31 +17,35 @@ use std::marker::Model;
 /// A run of a setup, after some of its steps: it is made before any step, and plays one after
 /// another. Side A seals with the left keys of the setup's material and side B with the right ones;
 /// each stream is sent by its side and received by the other. Contracts see the two sessions, the
-/// entries so far and the time of the last step.
+/// entries so far, the time of the last step, and whether the run is stopped.
 #[derive(Drop)]
 pub struct Run<C: SrtpCipher> {
     // Boxed, so that a run is handed on quickly.
     pair: Box<Pair<C>>,
+    // How many of the entries are told, once the run is stopped.
+    told: Option<usize>,
 }
 
 impl<C: SrtpCipher> Model for Run<C> {
-    ghost use Rattle.media_play.specs.Running.{RunState};
+    ghost use Rattle.media_play.specs.Running.{RunView, run_view};
 
-    ghost Value = { RunState };
+    ghost Value = { RunView };
 
-    ghost view = { λ r. r.pair.value };
+    ghost view = { λ r. run_view r.pair.value r.told };
 }
 
 impl<C: SrtpCipher> Run<C> {
+    ghost use Rattle.media_play.specs.Errors.{stops_at};
     ghost use Rattle.media_play.specs.Running.{IsRunOf, IsSetupCause, Plays, Refuses};
 
-    /// A run of this setup before its first step.
+    /// Returns a run of this setup before its first step.
     ///
     /// # Errors
     /// `Setup`, exactly with the first rule that the setup breaks; `Memory`.
     pub fn new(alloc: Global, setup: &Setup, cipher: &C) -> Result<Self, RunError>
-        ensures run { IfOk result (IsRunOf C.meaning setup.now []) }
-        ensures empty { IfOk result (λ run. run.log ≡ []) }
+        ensures run { IfOk result (λ run. IsRunOf C.meaning setup.now [] run.state) }
+        ensures empty { IfOk result (λ run. run.state.log ≡ []) }
+        ensures goes { IfOk result (λ run. run.stopped ≡ false) }
         ensures cause { IfErr result (IsSetupCause setup.now) }
     {
         if let Some(fault) = check_setup(alloc, setup)? {
@@ -52,54 +53,70 @@ impl<C: SrtpCipher> Run<C> {
         }
         Ok(Run {
             pair: Pair::boxed(alloc, *cipher, setup)?,
+            told: None,
         })
     }
 
     /// Plays one step more, whose entries then stand behind those before it.
     ///
     /// # Errors
-    /// `Rule`, exactly with the first rule that the step breaks; `KeyExhausted`, where it breaks
-    /// none and its side was to seal a datagram behind the last number of a key; `Memory`. The
-    /// fault has the transcript of the steps before, and of one that found a key used up the call,
-    /// or the tick and all that it sealed until then.
-    pub fn play(self, alloc: Global, step: &Step) -> Result<Self, PlayFault>
-        ensures played { IfOk result (Plays C.meaning self step.now) }
-        ensures refused { IfErr result (λ fault.
-            Refuses C.meaning self step.now fault.cause fault.sofar) }
-        ensures memory { IfErr result (λ fault.
-            fault.cause ≡ step_error.Memory → fault.sofar ≡ self.log) }
+    /// `Rule`, exactly with the first rule that the step breaks: nothing changes, and the run goes
+    /// on. `KeyExhausted`, where it breaks none and its side was to seal a datagram behind the last
+    /// number of a key: the run is stopped, and behind the entries stand the call, or the tick and
+    /// all that it sealed until then. `Memory`: the run is stopped, and the entries are those
+    /// before. `Stopped`, exactly of a run that is stopped.
+    pub fn play(&mut self, alloc: Global, step: &Step) -> Result<(), StepError>
+        ensures played { OnOk result (Plays C.meaning self.old.state step.now self.new.state) }
+        ensures refused { IfErr result (λ e. e ≢ StepError.Stopped
+            → Refuses C.meaning self.old.state step.now e self.new.state.log) }
+        ensures latched { self.old.stopped ≡ true → result ≡ Err StepError.Stopped }
+        ensures only { IfErr result (λ e. e ≡ StepError.Stopped → self.old.stopped ≡ true) }
+        ensures stops { MatchResult result (λ u. self.new.stopped ≡ false)
+            (λ e. self.new.stopped ≡ stops_at e) }
+        ensures unchanged { IfErr result (λ e.
+            (stops_at e ≡ false) ⊎ (e ≡ StepError.Stopped) → self.new ≡ self.old) }
+        ensures memory { IfErr result (λ e.
+            e ≡ StepError.Memory → self.new.state.log ≡ self.old.state.log) }
     {
-        let Run { mut pair } = self;
-        let len = pair.len();
-        match pair.play(alloc, step) {
-            Ok(()) => Ok(Run { pair }),
+        if self.told.is_some() {
+            return Err(StepError::Stopped);
+        }
+        let len = self.pair.len();
+        match self.pair.play(alloc, step) {
+            Ok(()) => Ok(()),
+            Err(StepError::Rule(rule)) => Err(StepError::Rule(rule)),
             Err(StepError::Memory) => {
-                let mut sofar = transcript_of(pair);
-                sofar.truncate(len);
-                Err(PlayFault {
-                    cause: StepError::Memory,
-                    sofar,
-                })
+                self.told = Some(len);
+                Err(StepError::Memory)
             }
-            Err(cause) => Err(PlayFault {
-                cause,
-                sofar: transcript_of(pair),
-            }),
+            Err(cause) => {
+                self.told = Some(self.pair.len());
+                Err(cause)
+            }
         }
     }
 
-    /// What the steps so far brought.
+    /// Returns what the steps so far brought.
     pub fn entries(&self) -> &[Entry]
-        ensures { result.now ≡ self.now.log }
+        ensures { result.now ≡ self.now.state.log }
     {
-        self.pair.entries()
+        let entries = self.pair.entries();
+        match self.told {
+            Some(told) => entries.get(..told).unwrap_or(entries),
+            None => entries,
+        }
     }
 
-    /// What the steps so far brought, where no further step is to be played.
+    /// Returns what the steps so far brought, where no further step is to be played.
     pub fn into_transcript(self) -> Transcript
-        ensures { result ≡ self.log }
+        ensures { result ≡ self.state.log }
     {
-        transcript_of(self.pair)
+        let Run { pair, told } = self;
+        let mut transcript = transcript_of(pair);
+        if let Some(told) = told {
+            transcript.truncate(told);
+        }
+        transcript
     }
 }
 
@@ -112,25 +129,14 @@ fn transcript_of<C: SrtpCipher>(pair: Box<Pair<C>>) -> Transcript
     Box::into_inner(pair).into_transcript()
 }
 
-/// The fault of a run whose step of this number, counted from 1, was not played.
-fn fault_at(number: u64, fault: PlayFault) -> RunFault
-    ensures cause { result.cause ≡ run_cause number fault.cause }
-    ensures sofar { result.sofar ≡ fault.sofar }
+/// Why a run ended whose step of this number, counted from 1, was not played.
+fn cause_at(number: u64, error: StepError) -> RunError
+    ensures { result ≡ run_cause number error }
 {
-    let PlayFault { cause, sofar } = fault;
-    match cause {
-        StepError::Rule(rule) => RunFault {
-            cause: RunError::Step(number, rule),
-            sofar,
-        },
-        StepError::KeyExhausted(side, counter) => RunFault {
-            cause: RunError::KeyExhausted(side, counter),
-            sofar,
-        },
-        StepError::Memory => RunFault {
-            cause: RunError::Memory,
-            sofar,
-        },
+    match error {
+        StepError::Rule(rule) => RunError::Step(number, rule),
+        StepError::KeyExhausted(side, counter) => RunError::KeyExhausted(side, counter),
+        StepError::Memory | StepError::Stopped => RunError::Memory,
     }
 }
 
@@ -164,9 +170,11 @@ fn play_all<'a, C: SrtpCipher, I: Iterator<Item = &'a Step>>(
     let mut number: u64 = 0;
     while let Some(step) = steps.next() {
         number += 1;
-        match run.play(alloc, step) {
-            Ok(next) => run = next,
-            Err(fault) => return Err(fault_at(number, fault)),
+        if let Err(error) = run.play(alloc, step) {
+            return Err(RunFault {
+                cause: cause_at(number, error),
+                sofar: run.into_transcript(),
+            });
         }
     }
     Ok(run.into_transcript())

@@ -8,7 +8,7 @@ use Rattle.media_script.specs.declared.reader.Reader.TheVariants.{InSetup, InSte
 use Rattle.media_script.specs.declared.said.Said.{Said}
 use Rattle.media_script.specs.declared.setup_line.SetupLine.{SetupLine}
 use Rattle.media_model.specs.declared.step.Step.{Step}
-use Rattle.media_script.specs.Grammar.{read_on, is_long, in_few, call_of, step_of, setup_line_of, number_line_of, named_line_of, side_line_of}
+use Rattle.media_script.specs.Grammar.{read_on, is_long, in_few, step_of, setup_line_of, number_line_of, named_line_of, side_line_of}
 use Rattle.media_script.specs.Order.{with_line}
 use Rattle.media_script.specs.Spelling.{words_of, AreLines, IsSetupLine, IsStep}
 use Rattle.media_script.specs.Words.{◌>>=◌}
@@ -30,7 +30,7 @@ kept_on reader (line ∷ lines) = read_on reader line >>= λ more. kept_on more 
 
 -- a step is no end
 no_step : in_few step_of (words_of (codes "end")) ≡ None
-unfolding step_of call_of
+unfolding step_of
 no_step = refl
 
 no_end : (line : List ℕ) (s : Step) → in_few step_of (words_of line) ≡ Some s → bytes_eq line (codes "end") ≡ false

@@ -10,12 +10,13 @@ use Rattle.srtp_core.specs.declared.context.TheConstants.{SRTCP_INDEX_LIMIT}
 use Rattle.media_script.specs.declared.lines.TheConstants.{MOST_WORDS}
 use Rattle.media_script.specs.declared.reader.Reader.{Reader}
 use Rattle.media_script.specs.declared.reader.Reader.TheVariants.{Head, InSetup, InSteps, Ended}
-use Rattle.media_model.specs.declared.entry.Side.{Side}
 use Rattle.media_model.specs.declared.setup.Setup.{Setup}
 use Rattle.media_script.specs.declared.setup_line.SetupLine.{SetupLine}
 use Rattle.media_script.specs.declared.setup_line.SetupLine.TheVariants as line
+use Rattle.media_model.specs.declared.step.Act.{Act}
+use Rattle.media_model.specs.declared.step.Act.TheVariants as act
 use Rattle.media_model.specs.declared.step.Step.{Step}
-use Rattle.media_model.specs.declared.step.Step.TheVariants as step
+use Rattle.media_model.specs.Steps.{step_at}
 use Rattle.media_script.specs.Draft.{setup_of}
 use Rattle.media_script.specs.Order.{none_said, with_line}
 use Rattle.media_script.specs.Spelling.{words_of, is_passed_over}
@@ -200,7 +201,7 @@ setup_kinds =
 unfoldable pub setup_line_of : List (List ℕ) → Option SetupLine
 setup_line_of words = look_up number_line_of setup_kinds words
 
--- ---- steps, without their first word
+-- ---- acts: what stands behind the first word of a step, its side and its time
 
 -- what the words behind a payload say: no sources, or those of one word
 abbrev pub sources_in : List (List ℕ) → Option (List ℕ)
@@ -208,9 +209,8 @@ sources_in [] = Some []
 sources_in (word ∷ []) = sources_of word
 sources_in words = None
 
--- behind the side and the time
-unfoldable pub packet_step : Side → ℕ → List (List ℕ) → Option Step
-packet_step side time =
+unfoldable pub write_act : List (List ℕ) → Option Act
+write_act =
     and_then (narrow_of (2 ^ 32)) (λ ssrc.
     and_then number_of (λ number.
     and_then (narrow_of (2 ^ 8)) (λ pt.
@@ -218,7 +218,7 @@ packet_step side time =
     and_then flag_of (λ marker.
     and_then flag_of (λ nackable.
     and_then hex_of (λ payload words. sources_in words >>= λ csrc.
-    Some (step.Write side time (record {
+    Some (act.Write (record {
       ssrc = ssrc;
       number = number;
       pt = pt;
@@ -229,76 +229,60 @@ packet_step side time =
       payload = payload;
     })))))))))
 
-abbrev pub write_step : List (List ℕ) → Option Step
-write_step =
-    and_then side_of (λ side.
-    and_then time_of (λ time.
-    packet_step side time))
+abbrev pub tick_act : List (List ℕ) → Option Act
+tick_act = done act.Tick
 
-abbrev pub tick_step : List (List ℕ) → Option Step
-tick_step =
-    and_then side_of (λ side.
-    and_then time_of (λ time.
-    done (step.Tick side time)))
+abbrev pub deliver_act : List (List ℕ) → Option Act
+deliver_act = and_then number_of (λ k. done (act.Deliver k))
 
-abbrev pub deliver_step : List (List ℕ) → Option Step
-deliver_step =
-    and_then side_of (λ side.
-    and_then time_of (λ time.
-    and_then number_of (λ k.
-    done (step.Deliver side time k))))
-
-abbrev pub foreign_step : List (List ℕ) → Option Step
-foreign_step =
-    and_then side_of (λ side.
-    and_then time_of (λ time.
+abbrev pub foreign_act : List (List ℕ) → Option Act
+foreign_act =
     and_then (one_of kind_text kinds) (λ kind.
     and_then hex_of (λ bytes.
-    done (step.Foreign side time kind bytes)))))
+    done (act.Foreign kind bytes)))
 
-abbrev pub app_step : List (List ℕ) → Option Step
-app_step =
-    and_then side_of (λ side.
-    and_then time_of (λ time.
+abbrev pub app_act : List (List ℕ) → Option Act
+app_act =
     and_then (narrow_of (2 ^ 32)) (λ sender.
     and_then (narrow_of (2 ^ 32)) (λ media.
     and_then app_data_of (λ payload.
-    done (step.Application side time sender media payload))))))
+    done (act.Feedback sender media payload))))
 
-abbrev pub ask_step : List (List ℕ) → Option Step
-ask_step =
-    and_then side_of (λ side.
-    and_then time_of (λ time.
+abbrev pub ask_act : List (List ℕ) → Option Act
+ask_act =
     and_then (narrow_of (2 ^ 32)) (λ ssrc.
     and_then (one_of keyframe_text keyframes) (λ kind.
-    done (step.Ask side time ssrc kind)))))
+    done (act.Ask ssrc kind)))
 
-abbrev pub remb_step : List (List ℕ) → Option Step
-remb_step =
-    and_then side_of (λ side.
-    and_then time_of (λ time.
+abbrev pub remb_act : List (List ℕ) → Option Act
+remb_act =
     and_then (narrow_of (2 ^ 32)) (λ ssrc.
     and_then number_of (λ rate.
-    done (step.Remb side time ssrc (min rate GREATEST_RATE))))))
+    done (act.Rate ssrc (min rate GREATEST_RATE))))
 
-abbrev pub call_kinds : List (List ℕ × (List (List ℕ) → Option Step))
-call_kinds = (codes "app", app_step) ∷ (codes "ask", ask_step) ∷ (codes "remb", remb_step) ∷ []
-
--- what an application calls beside writes
-unfoldable pub call_of : List (List ℕ) → Option Step
-call_of words = look_up no_other call_kinds words
-
-abbrev pub step_kinds : List (List ℕ × (List (List ℕ) → Option Step))
-step_kinds =
-    (codes "write", write_step)
-    ∷ (codes "tick", tick_step)
-    ∷ (codes "deliver", deliver_step)
-    ∷ (codes "foreign", foreign_step)
+abbrev pub act_kinds : List (List ℕ × (List (List ℕ) → Option Act))
+act_kinds =
+    (codes "write", write_act)
+    ∷ (codes "tick", tick_act)
+    ∷ (codes "deliver", deliver_act)
+    ∷ (codes "foreign", foreign_act)
+    ∷ (codes "app", app_act)
+    ∷ (codes "ask", ask_act)
+    ∷ (codes "remb", remb_act)
     ∷ []
+
+-- the act of a first word and of the words behind the time
+unfoldable pub act_of : List (List ℕ) → Option Act
+act_of words = look_up no_other act_kinds words
 
 -- the step of a line
 unfoldable pub step_of : List (List ℕ) → Option Step
-step_of words = look_up call_of step_kinds words
+step_of (kind ∷ by ∷ at ∷ words) = do
+  side ← side_of by
+  time ← time_of at
+  does ← act_of (kind ∷ words)
+  Some (step_at side time does)
+step_of words = None
 
 -- what was read so far, and one more line that is not passed over
 unfoldable pub read_on : Reader → List ℕ → Option Reader

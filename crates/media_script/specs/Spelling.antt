@@ -16,8 +16,9 @@ use Rattle.media_model.specs.declared.setup.Key.TheVariants.{Zero, Given}
 use Rattle.media_model.specs.declared.setup.Setup.{Setup}
 use Rattle.media_script.specs.declared.setup_line.SetupLine.{SetupLine}
 use Rattle.media_script.specs.declared.setup_line.SetupLine.TheVariants as line
+use Rattle.media_model.specs.declared.step.Act.{Act}
+use Rattle.media_model.specs.declared.step.Act.TheVariants as act
 use Rattle.media_model.specs.declared.step.Step.{Step}
-use Rattle.media_model.specs.declared.step.Step.TheVariants as step
 use Rattle.rtp_wire.specs.Bytes.{words_of as numbers_in}
 use Rattle.media_script.specs.Names.{side_text, kind_text, keyframe_text, flag_text, cipher_text, profile_text, codec_text, media_kind_text, extension_text}
 use Rattle.media_script.specs.Draft.{setup_of}
@@ -132,29 +133,34 @@ pub record IsSources (word csrc : List ℕ) : Type 0 where
 abbrev pub AreSources : List (List ℕ) → List ℕ → Type 0
 AreSources words csrc = ((words ≡ []) × (csrc ≡ [])) ⊎ ((word : List ℕ) × (words ≡ word ∷ []) × IsSources word csrc)
 
--- the words of a step
-abbrev pub IsStep : List (List ℕ) → Step → Type 0
-IsStep words (step.Tick side time) = (t : List ℕ) × IsTime t time × (words ≡ codes "tick" ∷ side_text side ∷ t ∷ [])
-IsStep words (step.Deliver side time k) =
-    (t : List ℕ) × IsTime t time × (k < 2 ^ 64) × (words ≡ codes "deliver" ∷ side_text side ∷ t ∷ decimal k ∷ [])
-IsStep words (step.Write side time w) =
-    (t : List ℕ) × (h : List ℕ) × (c : List (List ℕ)) × IsTime t time × IsHex h w.payload × AreSources c w.csrc × Fits w
-    × (words ≡ codes "write" ∷ side_text side ∷ t ∷ decimal w.ssrc ∷ decimal w.number ∷ decimal w.pt ∷ decimal w.rtp_time
-    ∷ flag_text w.marker ∷ flag_text w.nackable ∷ h ∷ c)
-IsStep words (step.Foreign side time kind bytes) =
-    (t : List ℕ) × (h : List ℕ) × IsTime t time × IsHex h bytes
-    × (words ≡ codes "foreign" ∷ side_text side ∷ t ∷ kind_text kind ∷ h ∷ [])
+-- the words of an act: the first word of a step, and those behind its time
+abbrev pub IsAct : List (List ℕ) → Act → Type 0
+IsAct words act.Tick = words ≡ codes "tick" ∷ []
+IsAct words (act.Deliver k) = (k < 2 ^ 64) × (words ≡ codes "deliver" ∷ decimal k ∷ [])
+IsAct words (act.Write w) =
+    (h : List ℕ) × (c : List (List ℕ)) × IsHex h w.payload × AreSources c w.csrc × Fits w
+    × (words ≡ codes "write" ∷ decimal w.ssrc ∷ decimal w.number ∷ decimal w.pt ∷ decimal w.rtp_time ∷ flag_text w.marker
+    ∷ flag_text w.nackable ∷ h ∷ c)
+IsAct words (act.Foreign kind bytes) = (h : List ℕ) × IsHex h bytes × (words ≡ codes "foreign" ∷ kind_text kind ∷ h ∷ [])
 -- feedback of an application: the SSRC that it is from, the one that it is about, and whole words of 4 bytes
-IsStep words (step.Application side time sender media payload) =
-    (t : List ℕ) × (h : List ℕ) × IsTime t time × (sender < 2 ^ 32) × (media < 2 ^ 32) × IsHex h payload × AreFew payload
-    × (words ≡ codes "app" ∷ side_text side ∷ t ∷ decimal sender ∷ decimal media ∷ h ∷ [])
+IsAct words (act.Feedback sender media payload) =
+    (h : List ℕ) × (sender < 2 ^ 32) × (media < 2 ^ 32) × IsHex h payload × AreFew payload
+    × (words ≡ codes "app" ∷ decimal sender ∷ decimal media ∷ h ∷ [])
 -- a request for a key frame of the stream of an SSRC
-IsStep words (step.Ask side time ssrc kind) =
-    (t : List ℕ) × IsTime t time × (ssrc < 2 ^ 32) × (words ≡ codes "ask" ∷ side_text side ∷ t ∷ decimal ssrc ∷ keyframe_text kind ∷ [])
+IsAct words (act.Ask ssrc kind) = (ssrc < 2 ^ 32) × (words ≡ codes "ask" ∷ decimal ssrc ∷ keyframe_text kind ∷ [])
 -- the greatest rate of the stream of an SSRC, in bits a second: above 10 Gbit/s it is 10 Gbit/s
-IsStep words (step.Remb side time ssrc rate) =
-    (t : List ℕ) × (n : ℕ) × IsTime t time × (ssrc < 2 ^ 32) × (n < 2 ^ 64) × (rate ≡ min n GREATEST_RATE)
-    × (words ≡ codes "remb" ∷ side_text side ∷ t ∷ decimal ssrc ∷ decimal n ∷ [])
+IsAct words (act.Rate ssrc rate) =
+    (n : ℕ) × (ssrc < 2 ^ 32) × (n < 2 ^ 64) × (rate ≡ min n GREATEST_RATE)
+    × (words ≡ codes "remb" ∷ decimal ssrc ∷ decimal n ∷ [])
+
+-- the words of a step: those of its act, with the side and the time behind the first
+pub record IsStep (words : List (List ℕ)) (s : Step) : Type 0 where
+  pub kind : List ℕ
+  pub at : List ℕ
+  pub rest : List (List ℕ)
+  pub time : IsTime at s.time
+  pub does : IsAct (kind ∷ rest) s.act
+  pub spelled : words ≡ kind ∷ side_text s.side ∷ at ∷ rest
 
 -- one space stands between two words
 abbrev pub words_of : List ℕ → List (List ℕ)

@@ -2,7 +2,7 @@
 ghost use Rattle.std.specs.Prelude.{◌≡◌, ◌∷◌, false, IfErr};
 ghost use Rattle.media_script.specs.Gives.{Gives};
 ghost use Rattle.media_script.specs.declared.error.LineError.TheVariants.{Memory};
-ghost use Rattle.media_script.specs.Grammar.{texts, sources_in, packet_step, write_step, tick_step, deliver_step, foreign_step, app_step, ask_step, remb_step, call_of, step_of, is_long, in_few};
+ghost use Rattle.media_script.specs.Grammar.{texts, sources_in, write_act, tick_act, deliver_act, foreign_act, app_act, ask_act, remb_act, act_of, step_of, is_long, in_few};
 ghost use Rattle.media_script.specs.Spelling.{words_of};
 
 use crate::error::LineError;
@@ -12,7 +12,7 @@ use crate::words::{
     sources as sources_word, time,
 };
 use media_base::Bytes;
-use media_model::{Side, Sources, Step, Write};
+use media_model::{Act, Sources, Step, Write};
 use media_units::{Bitrate, Instant};
 use rtp_wire::{Pt, SeqNo, Ssrc};
 use std::alloc::Global;
@@ -28,9 +28,9 @@ fn sources(alloc: Global, words: &[&[u8]]) -> Result<Sources, LineError>
     }
 }
 
-#[tactic(auto, unfolding(crate::specs::Grammar::packet_step))]
-fn packet(alloc: Global, side: Side, at: u64, words: &[&[u8]]) -> Result<Step, LineError>
-    ensures { Gives (λ s. s) result (packet_step side at (texts words.now)) }
+#[tactic(auto, unfolding(crate::specs::Grammar::write_act))]
+fn write(alloc: Global, words: &[&[u8]]) -> Result<Act, LineError>
+    ensures { Gives (λ a. a) result (write_act (texts words.now)) }
 {
     match words {
         [
@@ -42,65 +42,45 @@ fn packet(alloc: Global, side: Side, at: u64, words: &[&[u8]]) -> Result<Step, L
             nackable,
             payload,
             rest @ ..,
-        ] => Ok(Step::Write {
-            side,
-            time: Instant::from_nanos(at),
-            write: Write {
-                ssrc: Ssrc::from(number_32(ssrc)?),
-                number: SeqNo::from(number(sequence)?),
-                pt: Pt::from(number_8(pt)?),
-                rtp_time: number_32(rtp_time)?,
-                marker: flag(marker)?,
-                nackable: flag(nackable)?,
-                payload: Bytes::from_vec(hex(alloc, payload)?),
-                csrc: sources(alloc, rest)?,
-            },
-        }),
+        ] => Ok(Act::Write(Write {
+            ssrc: Ssrc::from(number_32(ssrc)?),
+            number: SeqNo::from(number(sequence)?),
+            pt: Pt::from(number_8(pt)?),
+            rtp_time: number_32(rtp_time)?,
+            marker: flag(marker)?,
+            nackable: flag(nackable)?,
+            payload: Bytes::from_vec(hex(alloc, payload)?),
+            csrc: sources(alloc, rest)?,
+        })),
         _ => Err(LineError::Outside),
     }
 }
 
-fn write(alloc: Global, words: &[&[u8]]) -> Result<Step, LineError>
-    ensures { Gives (λ s. s) result (write_step (texts words.now)) }
+fn tick(words: &[&[u8]]) -> Result<Act, LineError>
+    ensures { Gives (λ a. a) result (tick_act (texts words.now)) }
 {
     match words {
-        [by, at, rest @ ..] => packet(alloc, side(by)?, time(at)?, rest),
+        [] => Ok(Act::Tick),
         _ => Err(LineError::Outside),
     }
 }
 
-fn tick(words: &[&[u8]]) -> Result<Step, LineError>
-    ensures { Gives (λ s. s) result (tick_step (texts words.now)) }
+fn deliver(words: &[&[u8]]) -> Result<Act, LineError>
+    ensures { Gives (λ a. a) result (deliver_act (texts words.now)) }
 {
     match words {
-        [by, at] => Ok(Step::Tick {
-            side: side(by)?,
-            time: Instant::from_nanos(time(at)?),
-        }),
-        _ => Err(LineError::Outside),
-    }
-}
-
-fn deliver(words: &[&[u8]]) -> Result<Step, LineError>
-    ensures { Gives (λ s. s) result (deliver_step (texts words.now)) }
-{
-    match words {
-        [by, at, datagram] => Ok(Step::Deliver {
-            side: side(by)?,
-            time: Instant::from_nanos(time(at)?),
+        [datagram] => Ok(Act::Deliver {
             datagram: number(datagram)?,
         }),
         _ => Err(LineError::Outside),
     }
 }
 
-fn foreign(alloc: Global, words: &[&[u8]]) -> Result<Step, LineError>
-    ensures { Gives (λ s. s) result (foreign_step (texts words.now)) }
+fn foreign(alloc: Global, words: &[&[u8]]) -> Result<Act, LineError>
+    ensures { Gives (λ a. a) result (foreign_act (texts words.now)) }
 {
     match words {
-        [by, at, kind, bytes] => Ok(Step::Foreign {
-            side: side(by)?,
-            time: Instant::from_nanos(time(at)?),
+        [kind, bytes] => Ok(Act::Foreign {
             kind: kind_word(kind)?,
             bytes: Bytes::from_vec(hex(alloc, bytes)?),
         }),
@@ -108,13 +88,11 @@ fn foreign(alloc: Global, words: &[&[u8]]) -> Result<Step, LineError>
     }
 }
 
-fn app(alloc: Global, words: &[&[u8]]) -> Result<Step, LineError>
-    ensures { Gives (λ s. s) result (app_step (texts words.now)) }
+fn app(alloc: Global, words: &[&[u8]]) -> Result<Act, LineError>
+    ensures { Gives (λ a. a) result (app_act (texts words.now)) }
 {
     match words {
-        [by, at, sender, media, payload] => Ok(Step::Application {
-            side: side(by)?,
-            time: Instant::from_nanos(time(at)?),
+        [sender, media, payload] => Ok(Act::Feedback {
             sender: Ssrc::from(number_32(sender)?),
             media: Ssrc::from(number_32(media)?),
             payload: application_data(alloc, payload)?,
@@ -123,13 +101,11 @@ fn app(alloc: Global, words: &[&[u8]]) -> Result<Step, LineError>
     }
 }
 
-fn ask(words: &[&[u8]]) -> Result<Step, LineError>
-    ensures { Gives (λ s. s) result (ask_step (texts words.now)) }
+fn ask(words: &[&[u8]]) -> Result<Act, LineError>
+    ensures { Gives (λ a. a) result (ask_act (texts words.now)) }
 {
     match words {
-        [by, at, ssrc, kind] => Ok(Step::Ask {
-            side: side(by)?,
-            time: Instant::from_nanos(time(at)?),
+        [ssrc, kind] => Ok(Act::Ask {
             ssrc: Ssrc::from(number_32(ssrc)?),
             kind: keyframe(kind)?,
         }),
@@ -137,13 +113,11 @@ fn ask(words: &[&[u8]]) -> Result<Step, LineError>
     }
 }
 
-fn remb(words: &[&[u8]]) -> Result<Step, LineError>
-    ensures { Gives (λ s. s) result (remb_step (texts words.now)) }
+fn remb(words: &[&[u8]]) -> Result<Act, LineError>
+    ensures { Gives (λ a. a) result (remb_act (texts words.now)) }
 {
     match words {
-        [by, at, ssrc, rate] => Ok(Step::Remb {
-            side: side(by)?,
-            time: Instant::from_nanos(time(at)?),
+        [ssrc, rate] => Ok(Act::Rate {
             ssrc: Ssrc::from(number_32(ssrc)?),
             rate: Bitrate::bps(number(rate)?),
         }),
@@ -151,12 +125,20 @@ fn remb(words: &[&[u8]]) -> Result<Step, LineError>
     }
 }
 
-// What an application calls beside writes.
-#[tactic(auto, unfolding(crate::specs::Grammar::call_of))]
-fn call(alloc: Global, kind: &[u8], words: &[&[u8]]) -> Result<Step, LineError>
-    ensures { Gives (λ s. s) result (call_of (kind.now ∷ texts words.now)) }
+// The act of a first word and of the words behind the time.
+#[tactic(auto, unfolding(crate::specs::Grammar::act_of))]
+fn act(alloc: Global, kind: &[u8], words: &[&[u8]]) -> Result<Act, LineError>
+    ensures { Gives (λ a. a) result (act_of (kind.now ∷ texts words.now)) }
 {
-    if kind == b"app".as_slice() {
+    if kind == b"write".as_slice() {
+        write(alloc, words)
+    } else if kind == b"tick".as_slice() {
+        tick(words)
+    } else if kind == b"deliver".as_slice() {
+        deliver(words)
+    } else if kind == b"foreign".as_slice() {
+        foreign(alloc, words)
+    } else if kind == b"app".as_slice() {
         app(alloc, words)
     } else if kind == b"ask".as_slice() {
         ask(words)
@@ -172,20 +154,12 @@ fn step_in(alloc: Global, words: &[&[u8]]) -> Result<Step, LineError>
     ensures { Gives (λ s. s) result (step_of (texts words.now)) }
 {
     match words {
-        [] => Err(LineError::Outside),
-        [kind, rest @ ..] => {
-            if *kind == b"write".as_slice() {
-                write(alloc, rest)
-            } else if *kind == b"tick".as_slice() {
-                tick(rest)
-            } else if *kind == b"deliver".as_slice() {
-                deliver(rest)
-            } else if *kind == b"foreign".as_slice() {
-                foreign(alloc, rest)
-            } else {
-                call(alloc, kind, rest)
-            }
-        }
+        [kind, by, at, rest @ ..] => Ok(Step {
+            side: side(by)?,
+            time: Instant::from_nanos(time(at)?),
+            act: act(alloc, kind, rest)?,
+        }),
+        _ => Err(LineError::Outside),
     }
 }
 

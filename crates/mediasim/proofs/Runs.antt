@@ -8,7 +8,7 @@ use Rattle.media_laws.specs.declared.counter.Counter.{Counter}
 use Rattle.media_model.specs.declared.entry.Side.{Side}
 use Rattle.media_model.specs.declared.entry.Entry.{Entry}
 use Rattle.media_model.specs.declared.setup.Setup.{Setup as Given}
-use Rattle.media_model.specs.declared.step.Step.{Step as Act}
+use Rattle.media_model.specs.declared.step.Step.{Step as ScriptStep}
 use Rattle.media_model.specs.declared.transcript.Transcript.{Transcript}
 use Rattle.media_script.specs.declared.error.ScriptError.{ScriptError}
 use Rattle.media_script.specs.declared.error.ScriptError.TheVariants as script
@@ -65,7 +65,7 @@ all_told entries last is =
     ∙ ap (λ (es : List Entry). entries_text es ++ memory_line) (sym (take_all (length entries) entries (omega arith)))
 
 -- a run that ended at a step
-pub step_ends : {X : Type 0} (view : X → List ℕ) (setup : Given) (steps : List Act) (number : ℕ) (fault : StepFault) (entries told : List Entry)
+pub step_ends : {X : Type 0} (view : X → List ℕ) (setup : Given) (steps : List ScriptStep) (number : ℕ) (fault : StepFault) (entries told : List Entry)
     (line : Result X AllocError) (ended : End) (last : List ℕ)
     → IsLastLine view (Step number fault) line ended last → IfOk line (λ text. view text ≡ step_line number fault) → told ≡ entries
     → HasCause (script_cipher setup) setup steps entries (error.Step number fault) → HoldsOfRun (script_sealing setup) setup entries
@@ -80,7 +80,7 @@ step_ends view setup steps number fault entries told (Err e) ended last is said 
     (entries, inr (error.Step number fault, cause), (length entries, all_told entries last is.1)))
 
 -- a run that did not begin, as its setup breaks a rule
-pub setup_ends : {X : Type 0} (view : X → List ℕ) (setup : Given) (steps : List Act) (fault : SetupFault) (entries told : List Entry)
+pub setup_ends : {X : Type 0} (view : X → List ℕ) (setup : Given) (steps : List ScriptStep) (fault : SetupFault) (entries told : List Entry)
     (line : Result X AllocError) (ended : End) (last : List ℕ)
     → IsLastLine view (Setup fault) line ended last → IfOk line (λ text. view text ≡ setup_line fault) → told ≡ entries
     → HasCause (script_cipher setup) setup steps entries (error.Setup fault)
@@ -94,7 +94,7 @@ setup_ends view setup steps fault entries told (Err e) ended last is said same c
     (entries, inr (error.Setup fault, cause), (length entries, all_told entries last is.1)))
 
 -- a run that ended where a key was used up
-pub key_ends : {X : Type 0} (view : X → List ℕ) (setup : Given) (steps : List Act) (side : Side) (counter : Counter) (entries told : List Entry)
+pub key_ends : {X : Type 0} (view : X → List ℕ) (setup : Given) (steps : List ScriptStep) (side : Side) (counter : Counter) (entries told : List Entry)
     (line : Result X AllocError) (ended : End) (last : List ℕ)
     → IsLastLine view (KeyExhausted side counter) line ended last → IfOk line (λ text. view text ≡ key_line side counter) → told ≡ entries
     → HasCause (script_cipher setup) setup steps entries (error.KeyExhausted side counter) → HoldsToKey (script_sealing setup) setup side counter entries
@@ -120,7 +120,7 @@ tells_whole view setup entries read widens (Ok text) decides same is = (
 tells_whole view setup entries read widens (Err e) decides same is = tt
 
 -- a run that was played to its end
-pub done_ends : {X : Type 0} (view : X → List ℕ) (setup : Given) (steps : List Act) (entries told : List Entry)
+pub done_ends : {X : Type 0} (view : X → List ℕ) (setup : Given) (steps : List ScriptStep) (entries told : List Entry)
     (line : Result X AllocError) (ended : End) (last : List ℕ)
     → IsLastLine view Done line ended last → IfOk line (λ text. TellsWhole setup entries (entries_text entries ++ view text)) → told ≡ entries
     → setup_fault setup ≡ None → Played (script_sealing setup) setup steps entries → HoldsOfRun (script_sealing setup) setup entries
@@ -135,7 +135,7 @@ done_ends view setup steps entries told (Err e) ended last is said same fine pla
     (entries, inl played, (length entries, all_told entries last is.1)))
 
 -- a run that ended for want of memory
-pub memory_ends : (setup : Given) (steps : List Act) (entries told : List Entry) (ended : End) (last : List ℕ)
+pub memory_ends : (setup : Given) (steps : List ScriptStep) (entries told : List Entry) (ended : End) (last : List ℕ)
     → ended ≡ Memory → last ≡ memory_line → told ≡ entries → HasCause (script_cipher setup) setup steps entries error.Memory
     → RunEnds setup steps ended (reported ended told) (entries_text told ++ last)
 memory_ends setup steps entries told ended last is line same cause =
@@ -144,7 +144,7 @@ memory_ends setup steps entries told ended last is line same cause =
     (entries, inr (error.Memory, cause), (length entries, all_told entries last line)))
 
 -- the end of a script's run is that of its bytes
-pub run_makes : (read : List ℕ) (setup : Given) (steps : List Act) (end : End) (transcript : Option (List Entry)) (text : List ℕ)
+pub run_makes : (read : List ℕ) (setup : Given) (steps : List ScriptStep) (end : End) (transcript : Option (List Entry)) (text : List ℕ)
     → IsScript read setup steps → RunEnds setup steps end transcript text → RunMakes read end transcript text
 run_makes read setup steps Done transcript text script h = record { setup = setup; steps = steps; script = script; run = h }
 run_makes read setup steps (Setup fault) transcript text script h = record { setup = setup; steps = steps; script = script; run = h }
@@ -160,7 +160,7 @@ run_makes read setup steps TooLong transcript text script h = absurd h
 run_makes read setup steps Usage transcript text script h = absurd h
 
 -- memory runs out after some entries of a run were told
-pub run_fronts : (read : List ℕ) (setup : Given) (steps : List Act) (entries : List Entry) (count : ℕ) → IsScript read setup steps → AreOfRun setup steps entries
+pub run_fronts : (read : List ℕ) (setup : Given) (steps : List ScriptStep) (entries : List Entry) (count : ℕ) → IsScript read setup steps → AreOfRun setup steps entries
     → RunMakes read Memory None (entries_text (take count entries) ++ memory_line)
 run_fronts read setup steps entries count script are =
     inr (record { setup = setup; steps = steps; script = script; run = (entries, are, (count, refl)) })
@@ -178,7 +178,7 @@ syntax_makes view read number entries (Err e) ended last is said none wrong not_
     (subst (λ (e : End). RunMakes read e (reported e []) (entries_text [] ++ last)) (sym is.0) (inl is.1))
 
 -- what a script gives is no line
-pub no_line : (setup : Given) (steps : List Act) (line : ℕ) → (let script : Given × List Act = (setup, steps) in ◌≡◌ {A = Result (Given × List Act) ℕ} (Ok script) (Err line)) → ⊥
+pub no_line : (setup : Given) (steps : List ScriptStep) (line : ℕ) → (let script : Given × List ScriptStep = (setup, steps) in ◌≡◌ {A = Result (Given × List ScriptStep) ℕ} (Ok script) (Err line)) → ⊥
 no_line setup steps line e = cc
 
 -- the line of a reader that stopped is the first wrong one, and it gave no script
@@ -187,8 +187,8 @@ pub first_told : {X : Type 0} (read : List ℕ) (line : ℕ) (error : ScriptErro
 first_told {X} read line error r is same first =
     subst (λ (x : Result X ScriptError). StopsRightly x read) (is ∙ ap (λ (e : ScriptError). Err e) same) first
 
-pub none_told : {X : Type 0} (view : X → Given × List Act) (setup : Given) (steps : List Act) (line : ℕ) (error : ScriptError) (r : Result X ScriptError)
-    → r ≡ Err error → error ≡ script.Syntax line → (let script : Given × List Act = (setup, steps) in GivesScript view r (Ok script)) → ⊥
+pub none_told : {X : Type 0} (view : X → Given × List ScriptStep) (setup : Given) (steps : List ScriptStep) (line : ℕ) (error : ScriptError) (r : Result X ScriptError)
+    → r ≡ Err error → error ≡ script.Syntax line → (let script : Given × List ScriptStep = (setup, steps) in GivesScript view r (Ok script)) → ⊥
 none_told {X} view setup steps line error r is same given =
     no_line setup steps line
-    (subst (λ (x : Result X ScriptError). (let script : Given × List Act = (setup, steps) in GivesScript view x (Ok script))) (is ∙ ap (λ (e : ScriptError). Err e) same) given)
+    (subst (λ (x : Result X ScriptError). (let script : Given × List ScriptStep = (setup, steps) in GivesScript view x (Ok script))) (is ∙ ap (λ (e : ScriptError). Err e) same) given)

@@ -15,7 +15,7 @@ use Rattle.std.proofs.KnownBytes.{Appends-trans}
 use Rattle.std.proofs.lemmas.List.{append-nil, length-append}
 use Rattle.media_model.specs.declared.entry.Entry.{Entry}
 use Rattle.media_model.specs.declared.setup.Setup.{Setup as Given}
-use Rattle.media_model.specs.declared.step.Step.{Step as Act}
+use Rattle.media_model.specs.declared.step.Step.{Step as ScriptStep}
 use Rattle.media_script.specs.Laws.{SpellsOne}
 use Rattle.media_script.specs.Spelling.{IsScript}
 use Rattle.media_laws.specs.Headline.{HoldsOfRun, HoldsToKey, PlaysSteps}
@@ -34,7 +34,7 @@ use Rattle.mediasim.specs.RunCommand.{meaning_of, script_cipher, script_sealing,
 use Rattle.mediasim.proofs.Texts.{front_of_second}
 
 -- what is read to the end of input is all that the source tells
-tells_read : (left left' : Option (List ℕ)) (read : List ℕ) (setup : Given) (steps : List Act) → TellsScript left setup steps → Consumes left left' read → IsAtEnd left'
+tells_read : (left left' : Option (List ℕ)) (read : List ℕ) (setup : Given) (steps : List ScriptStep) → TellsScript left setup steps → Consumes left left' read → IsAtEnd left'
     → IsScript read setup steps
 tells_read None left' read setup steps told taken end = absurd told
 tells_read (Some xs) None read setup steps told taken end = absurd taken
@@ -51,7 +51,7 @@ read_within (Some xs) (Some ys) bytes read is taken =
     let len : length bytes ≡ length (read ++ ys) = ap length same in
     omega (arith, total, len)
 
-tells : (left : Option (List ℕ)) (bytes : List ℕ) (setup : Given) (steps : List Act) → left ≡ Some bytes → IsScript bytes setup steps → TellsScript left setup steps
+tells : (left : Option (List ℕ)) (bytes : List ℕ) (setup : Given) (steps : List ScriptStep) → left ≡ Some bytes → IsScript bytes setup steps → TellsScript left setup steps
 tells left bytes setup steps is script = subst (λ (o : Option (List ℕ)). TellsScript o setup steps) (sym is) script
 
 -- what a command makes of the whole input is the cause of its end
@@ -101,30 +101,30 @@ tells_memory held mid held' lines answer answered all (inl t) = inl (t.0, t.1, A
 tells_memory held mid held' lines answer answered all (inr t) = inr (t.0, t.1, front_of_second held mid held' lines memory_line all t.2)
 
 -- a script ends as its setup and its steps do
-script_made : (setup : Given) (steps : List Act) (read : List ℕ) (end : End) (transcript : Option (List Entry)) (text : List ℕ)
+script_made : (setup : Given) (steps : List ScriptStep) (read : List ℕ) (end : End) (transcript : Option (List Entry)) (text : List ℕ)
     → SpellsOne → IsScript read setup steps → RunMakes read end transcript text → EndsInRun setup steps end transcript text
 script_made setup steps read Done transcript text one script h =
     let same = one read setup h.setup steps h.steps script h.script in
-    subst (λ (s : Given). RunEnds s steps Done transcript text) (sym same.0) (subst (λ (t : List Act). RunEnds h.setup t Done transcript text) (sym same.1) h.run)
+    subst (λ (s : Given). RunEnds s steps Done transcript text) (sym same.0) (subst (λ (t : List ScriptStep). RunEnds h.setup t Done transcript text) (sym same.1) h.run)
 script_made setup steps read (Setup fault) transcript text one script h =
     let same = one read setup h.setup steps h.steps script h.script in
     subst (λ (s : Given). RunEnds s steps (Setup fault) transcript text) (sym same.0)
-    (subst (λ (t : List Act). RunEnds h.setup t (Setup fault) transcript text) (sym same.1) h.run)
+    (subst (λ (t : List ScriptStep). RunEnds h.setup t (Setup fault) transcript text) (sym same.1) h.run)
 script_made setup steps read (Step number fault) transcript text one script h =
     let same = one read setup h.setup steps h.steps script h.script in
     subst (λ (s : Given). RunEnds s steps (Step number fault) transcript text) (sym same.0)
-    (subst (λ (t : List Act). RunEnds h.setup t (Step number fault) transcript text) (sym same.1) h.run)
+    (subst (λ (t : List ScriptStep). RunEnds h.setup t (Step number fault) transcript text) (sym same.1) h.run)
 script_made setup steps read (KeyExhausted by counter) transcript text one script h =
     let same = one read setup h.setup steps h.steps script h.script in
     subst (λ (s : Given). RunEnds s steps (KeyExhausted by counter) transcript text) (sym same.0)
-    (subst (λ (t : List Act). RunEnds h.setup t (KeyExhausted by counter) transcript text) (sym same.1) h.run)
+    (subst (λ (t : List ScriptStep). RunEnds h.setup t (KeyExhausted by counter) transcript text) (sym same.1) h.run)
 script_made setup steps read (Syntax line) None text one script h = absurd (h.1 setup steps script)
 script_made setup steps read (Syntax line) (Some entries) text one script h = absurd h
 script_made setup steps read (Call number) transcript text one script h = absurd h
 script_made setup steps read Memory None text one script (inl h) = inl h
 script_made setup steps read Memory None text one script (inr h) =
     let same = one read setup h.setup steps h.steps script h.script in
-    inr (subst (λ (s : Given). RunEnds s steps Memory None text) (sym same.0) (subst (λ (t : List Act). RunEnds h.setup t Memory None text) (sym same.1) h.run))
+    inr (subst (λ (s : Given). RunEnds s steps Memory None text) (sym same.0) (subst (λ (t : List ScriptStep). RunEnds h.setup t Memory None text) (sym same.1) h.run))
 script_made setup steps read Memory (Some entries) text one script h = absurd h
 script_made setup steps read ReadFault transcript text one script h = absurd h
 script_made setup steps read WriteFault transcript text one script h = absurd h
@@ -137,7 +137,7 @@ run_made : (words : List (List ℕ)) (command : Command) (read : List ℕ) (end 
 run_made words Run read end transcript text named is h = h
 run_made words Pace read end transcript text named is h = absurd cc
 
-module _ (limit : ℕ) (words : List (List ℕ)) (left left' : Option (List ℕ)) (read : List ℕ) (setup : Given) (steps : List Act) where
+module _ (limit : ℕ) (words : List (List ℕ)) (left left' : Option (List ℕ)) (read : List ℕ) (setup : Given) (steps : List ScriptStep) where
   script_caused : (end : End) (transcript : Option (List Entry)) (text : List ℕ) → SpellsOne → RunsScript words left setup steps → Consumes left left' read
       → Cause limit words left' read end transcript text → EndsInRun setup steps end transcript text
   script_caused Done transcript text one told taken m =
@@ -195,7 +195,7 @@ module _ (limit : ℕ) (words : List (List ℕ)) (left left' : Option (List ℕ)
       absurd (omega (arith, within, long, order.short))
   plays_caused Usage transcript text order taken cause ends no_read = absurd (cause.0 (Run, order.command))
 
-pub answers_script : (limit : ℕ) (words : List (List ℕ)) (left left' held held' : Option (List ℕ)) (setup : Given) (steps : List Act) (answer : End) (answered : Option (List Entry))
+pub answers_script : (limit : ℕ) (words : List (List ℕ)) (left left' held held' : Option (List ℕ)) (setup : Given) (steps : List ScriptStep) (answer : End) (answered : Option (List Entry))
     → SpellsOne → Answers limit words left left' held held' answer answered → RunsScript words left setup steps → AnswersScript setup steps held held' answer answered
 answers_script limit words left left' held held' setup steps answer answered one a told = record {
   end = a.end;
@@ -205,7 +205,7 @@ answers_script limit words left left' held held' setup steps answer answered one
   tells = a.tells;
 }
 
-pub plays_all : (limit : ℕ) (words : List (List ℕ)) (left left' held held' : Option (List ℕ)) (setup : Given) (steps : List Act) (answer : End) (answered : Option (List Entry))
+pub plays_all : (limit : ℕ) (words : List (List ℕ)) (left left' held held' : Option (List ℕ)) (setup : Given) (steps : List ScriptStep) (answer : End) (answered : Option (List Entry))
     → SpellsOne → Answers limit words left left' held held' answer answered → IsInOrder limit words left setup steps
     → (answer ≡ ReadFault → ⊥) → (answer ≡ WriteFault → ⊥) → PlaysAll setup steps answer answered
 plays_all limit words left left' held held' setup steps answer answered one a order no_read no_write =
@@ -223,7 +223,7 @@ none_holds None P is = tt
 none_holds (Some entries) P is = absurd cc
 
 -- the laws hold for the setup that was read
-holds_in : (setup : Given) (steps : List Act) (end : End) (transcript : Option (List Entry)) (text : List ℕ) (Q : List Entry → Type 0)
+holds_in : (setup : Given) (steps : List ScriptStep) (end : End) (transcript : Option (List Entry)) (text : List ℕ) (Q : List Entry → Type 0)
     → ((entries : List Entry) → HoldsOfRun (script_sealing setup) setup entries → Q entries)
     → ((side : Side) (counter : Counter) (entries : List Entry) → HoldsToKey (script_sealing setup) setup side counter entries → Q entries)
     → EndsInRun setup steps end transcript text → IfSome transcript Q
@@ -244,7 +244,7 @@ holds_in setup steps Memory (Some entries) text Q says at_key h = absurd h
 holds_in setup steps TooLong transcript text Q says at_key h = none_holds transcript Q h
 holds_in setup steps Usage transcript text Q says at_key h = none_holds transcript Q h
 
-pub script_holds : (held held' : Option (List ℕ)) (setup : Given) (steps : List Act) (answer : End) (answered : Option (List Entry)) (Q : List Entry → Type 0)
+pub script_holds : (held held' : Option (List ℕ)) (setup : Given) (steps : List ScriptStep) (answer : End) (answered : Option (List Entry)) (Q : List Entry → Type 0)
     → ((entries : List Entry) → HoldsOfRun (script_sealing setup) setup entries → Q entries)
     → ((side : Side) (counter : Counter) (entries : List Entry) → HoldsToKey (script_sealing setup) setup side counter entries → Q entries)
     → AnswersScript setup steps held held' answer answered → IfSome answered Q
@@ -289,7 +289,7 @@ answers_none : (setup : Given) (end : End) (transcript : Option (List Entry)) �
 answers_none setup end transcript none =
     subst (AnswersRightly setup end) (sym none) (record { steps = nothing_answered (script_sealing setup) setup end; used_up = nothing_used setup end })
 
-answers_in : (setup : Given) (steps : List Act) (end : End) (transcript : Option (List Entry)) (text : List ℕ) → EndsInRun setup steps end transcript text
+answers_in : (setup : Given) (steps : List ScriptStep) (end : End) (transcript : Option (List Entry)) (text : List ℕ) → EndsInRun setup steps end transcript text
     → AnswersRightly setup end transcript
 answers_in setup steps Done None text h = absurd h
 answers_in setup steps Done (Some entries) text h = record { steps = h.2.steps; used_up = tt }
@@ -308,7 +308,7 @@ answers_in setup steps Memory (Some entries) text h = absurd h
 answers_in setup steps TooLong transcript text h = answers_none setup TooLong transcript h
 answers_in setup steps Usage transcript text h = answers_none setup Usage transcript h
 
-pub script_answers : (held held' : Option (List ℕ)) (setup : Given) (steps : List Act) (answer : End) (answered : Option (List Entry))
+pub script_answers : (held held' : Option (List ℕ)) (setup : Given) (steps : List ScriptStep) (answer : End) (answered : Option (List Entry))
     → AnswersScript setup steps held held' answer answered → AnswersRightly setup answer answered
 script_answers held held' setup steps answer answered a =
     elim a.tells [
@@ -325,13 +325,13 @@ under_named P toy sha Sha = sha
 
 -- a run plays each step of its script once, in order, up to the one that finds a key used up
 pub record Playing (cipher : CipherMeaning) : Type 0 where
-  pub whole : (setup : Given) (steps : List Act) (entries : List Entry) → Played (sealing_of cipher setup) setup steps entries → PlaysSteps steps entries
-  pub exhausted : (setup : Given) (steps : List Act) (entries : List Entry) (step : Act) (side : Side) (counter : Counter)
+  pub whole : (setup : Given) (steps : List ScriptStep) (entries : List Entry) → Played (sealing_of cipher setup) setup steps entries → PlaysSteps steps entries
+  pub exhausted : (setup : Given) (steps : List ScriptStep) (entries : List Entry) (step : ScriptStep) (side : Side) (counter : Counter)
       (told : List Entry) → Played (sealing_of cipher setup) setup steps entries → Exhausts (sealing_of cipher setup) setup entries step side counter told
       → PlaysSteps (steps ++ step ∷ []) (entries ++ told)
 
 -- the steps that were played are those of the script
-plays_in : (setup : Given) (steps : List Act) (end : End) (transcript : Option (List Entry)) (text : List ℕ) → Playing (script_cipher setup)
+plays_in : (setup : Given) (steps : List ScriptStep) (end : End) (transcript : Option (List Entry)) (text : List ℕ) → Playing (script_cipher setup)
     → EndsInRun setup steps end transcript text → PlaysToEnd steps end transcript
 plays_in setup steps Done None text law h = absurd h
 plays_in setup steps Done (Some entries) text law h = law.whole setup steps entries h.1
@@ -357,7 +357,7 @@ plays_in setup steps Memory (Some entries) text law h = absurd h
 plays_in setup steps TooLong transcript text law h = h
 plays_in setup steps Usage transcript text law h = h
 
-pub script_plays : (held held' : Option (List ℕ)) (setup : Given) (steps : List Act) (answer : End) (answered : Option (List Entry))
+pub script_plays : (held held' : Option (List ℕ)) (setup : Given) (steps : List ScriptStep) (answer : End) (answered : Option (List Entry))
     → Playing toy_meaning → Playing sha_meaning → AnswersScript setup steps held held' answer answered → PlaysToEnd steps answer answered
 script_plays held held' setup steps answer answered toy sha a =
     let law = under_named Playing toy sha setup.cipher in

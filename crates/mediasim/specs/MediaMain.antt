@@ -5,7 +5,7 @@ use Rattle.std.specs.declared.option.Option.TheVariants.{Some, None}
 use Rattle.std.specs.Io.KnownBytes.{Consumes, IsAtEnd}
 use Rattle.media_model.specs.declared.entry.Entry.{Entry}
 use Rattle.media_model.specs.declared.setup.Setup.{Setup as Given}
-use Rattle.media_model.specs.declared.step.Step.{Step as Act}
+use Rattle.media_model.specs.declared.step.Step.{Step as ScriptStep}
 use Rattle.media_script.specs.Spelling.{IsScript}
 use Rattle.pace_core.specs.declared.run.PaceCall.{PaceCall}
 use Rattle.pace_core.specs.Past.{made}
@@ -57,12 +57,12 @@ pub record Answers (limit : ℕ) (words : List (List ℕ)) (left left' held held
   pub tells : Tells held held' end transcript text answer answered
 
 -- the source tells its bytes, which are a script of this setup and these steps
-abbrev pub TellsScript : Option (List ℕ) → Given → List Act → Type 0
+abbrev pub TellsScript : Option (List ℕ) → Given → List ScriptStep → Type 0
 TellsScript None setup steps = ⊥
 TellsScript (Some bytes) setup steps = IsScript bytes setup steps
 
 -- the words are those of the command run, and the source tells a script of this setup and these steps
-abbrev pub RunsScript : List (List ℕ) → Option (List ℕ) → Given → List Act → Type 0
+abbrev pub RunsScript : List (List ℕ) → Option (List ℕ) → Given → List ScriptStep → Type 0
 RunsScript words left setup steps = IsCommand words Run × TellsScript left setup steps
 
 -- the source tells its bytes, which are a pace script of this rate and these calls
@@ -75,7 +75,7 @@ abbrev pub RunsCalls : List (List ℕ) → Option (List ℕ) → ℕ → List Pa
 RunsCalls words left rate calls = IsCommand words Pace × TellsCalls left rate calls
 
 -- the end of this setup and these steps was told, or one that is no end of a script
-pub record AnswersScript (setup : Given) (steps : List Act) (held held' : Option (List ℕ)) (answer : End) (answered : Option (List Entry)) : Type 0 where
+pub record AnswersScript (setup : Given) (steps : List ScriptStep) (held held' : Option (List ℕ)) (answer : End) (answered : Option (List Entry)) : Type 0 where
   pub end : End
   pub transcript : Option (List Entry)
   pub text : List ℕ
@@ -83,7 +83,7 @@ pub record AnswersScript (setup : Given) (steps : List Act) (held held' : Option
   pub tells : Tells held held' end transcript text answer answered
 
 -- the command run, and a source that tells a script within the length, whose setup and steps break no rule
-pub record IsInOrder (limit : ℕ) (words : List (List ℕ)) (left : Option (List ℕ)) (setup : Given) (steps : List Act) : Type 0 where
+pub record IsInOrder (limit : ℕ) (words : List (List ℕ)) (left : Option (List ℕ)) (setup : Given) (steps : List ScriptStep) : Type 0 where
   pub command : IsCommand words Run
   pub bytes : List ℕ
   pub told : left ≡ Some bytes

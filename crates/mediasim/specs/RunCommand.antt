@@ -10,7 +10,7 @@ use Rattle.media_model.specs.declared.entry.Entry.{Entry}
 use Rattle.media_model.specs.declared.setup.CipherName.{CipherName}
 use Rattle.media_model.specs.declared.setup.CipherName.TheVariants.{Toy, Sha}
 use Rattle.media_model.specs.declared.setup.Setup.{Setup as Given}
-use Rattle.media_model.specs.declared.step.Step.{Step as Act}
+use Rattle.media_model.specs.declared.step.Step.{Step as ScriptStep}
 use Rattle.media_laws.specs.declared.counter.Counter.{Counter}
 use Rattle.media_model.specs.declared.entry.Side.{Side}
 use Rattle.media_script.specs.FirstWrong.{IsFirstWrong}
@@ -63,7 +63,7 @@ abbrev pub key_line : Side → Counter → List ℕ
 key_line side counter = codes "fault key " ++ key_text side counter ++ codes "\n"
 
 -- the entries of a run of this setup and these steps: of all its steps, or those before it ended
-abbrev pub AreOfRun : Given → List Act → List Entry → Type 0
+abbrev pub AreOfRun : Given → List ScriptStep → List Entry → Type 0
 AreOfRun setup steps entries =
     Played (script_sealing setup) setup steps entries ⊎ ((cause : RunError) × HasCause (script_cipher setup) setup steps entries cause)
 
@@ -78,7 +78,7 @@ StopsAmong entries text = (count : ℕ) × (text ≡ entries_text (take count en
 -- what a setup and its steps come to: all steps are played; the setup breaks a rule, and nothing happens; the steps before
 -- the first one that breaks a rule are played; a step finds a key used up, and the steps before it are played, and of it its call
 -- is made, or its tick, with all that it seals until then; or memory runs out, and what was told ends with a line
-abbrev pub RunEnds : Given → List Act → End → Option (List Entry) → List ℕ → Type 0
+abbrev pub RunEnds : Given → List ScriptStep → End → Option (List Entry) → List ℕ → Type 0
 RunEnds setup steps Done (Some entries) text =
     (setup_fault setup ≡ None) × Played (script_sealing setup) setup steps entries
     × HoldsOfRun (script_sealing setup) setup entries × TellsWhole setup entries text
@@ -95,13 +95,13 @@ RunEnds setup steps end transcript text = ⊥
 -- what was read is a script, whose setup and steps come to this end
 pub record ScriptEnds (read : List ℕ) (end : End) (transcript : Option (List Entry)) (text : List ℕ) : Type 0 where
   pub setup : Given
-  pub steps : List Act
+  pub steps : List ScriptStep
   pub script : IsScript read setup steps
   pub run : RunEnds setup steps end transcript text
 
 -- these bytes are no script
 abbrev pub IsNoScript : List ℕ → Type 0
-IsNoScript read = (setup : Given) (steps : List Act) → IsScript read setup steps → ⊥
+IsNoScript read = (setup : Given) (steps : List ScriptStep) → IsScript read setup steps → ⊥
 
 -- the end, the transcript and the text of all that was read
 abbrev pub RunMakes : List ℕ → End → Option (List Entry) → List ℕ → Type 0
@@ -114,7 +114,7 @@ RunMakes read Memory None text = (text ≡ memory_line) ⊎ ScriptEnds read Memo
 RunMakes read end transcript text = ⊥
 
 -- the call came to the end of this setup and these steps, or to one that is no end of a script
-abbrev pub EndsInRun : Given → List Act → End → Option (List Entry) → List ℕ → Type 0
+abbrev pub EndsInRun : Given → List ScriptStep → End → Option (List Entry) → List ℕ → Type 0
 EndsInRun setup steps Done transcript text = RunEnds setup steps Done transcript text
 EndsInRun setup steps (Setup fault) transcript text = RunEnds setup steps (Setup fault) transcript text
 EndsInRun setup steps (Step number fault) transcript text = RunEnds setup steps (Step number fault) transcript text
@@ -127,15 +127,15 @@ EndsInRun setup steps end transcript text = ⊥
 
 -- the steps among the entries are all those of the script, or those before the one that breaks a rule, or those up to the one
 -- that finds a key used up
-abbrev pub PlaysToEnd : List Act → End → Option (List Entry) → Type 0
+abbrev pub PlaysToEnd : List ScriptStep → End → Option (List Entry) → Type 0
 PlaysToEnd steps Done (Some entries) = PlaysSteps steps entries
 PlaysToEnd steps (Step number fault) (Some entries) = (before : ℕ) × (number ≡ before + 1) × PlaysSteps (take before steps) entries
 PlaysToEnd steps (KeyExhausted side counter) (Some entries) =
-    (before : ℕ) × (step : Act) × (slice_get steps before ≡ Some step) × PlaysSteps (take before steps ++ step ∷ []) entries
+    (before : ℕ) × (step : ScriptStep) × (slice_get steps before ≡ Some step) × PlaysSteps (take before steps ++ step ∷ []) entries
 PlaysToEnd steps end transcript = transcript ≡ None
 
 -- all steps were played, or a step found a key used up, or memory ran out
-abbrev pub PlaysAll : Given → List Act → End → Option (List Entry) → Type 0
+abbrev pub PlaysAll : Given → List ScriptStep → End → Option (List Entry) → Type 0
 PlaysAll setup steps Done (Some entries) = Played (script_sealing setup) setup steps entries
 PlaysAll setup steps (KeyExhausted side counter) (Some entries) =
     HasCause (script_cipher setup) setup steps entries (error.KeyExhausted side counter)

@@ -2,7 +2,7 @@
 ghost use Rattle.std.specs.Prelude.{◌≡◌, ◌⊎◌, List, ℕ, map, string_bytes, IfSome};
 ghost use Rattle.media_base.specs.Causes.{Rose};
 ghost use Rattle.media_model.specs.declared.setup.Setup.{Setup as Given};
-ghost use Rattle.media_model.specs.declared.step.Step.{Step as Act};
+ghost use Rattle.media_model.specs.declared.step.Step.{Step as ScriptStep};
 ghost use Rattle.media_laws.specs.Headline.{SealsAreRight, NoNonceTwice, SendsWrites, SendsInSome, YieldsWrites, YieldsInSome, NoPacketTwice, FirstSendingsAreYielded};
 ghost use Rattle.mediasim.specs.Ends.{status_of};
 ghost use Rattle.mediasim.specs.MediaMain.{Answers, AnswersScript, RunsScript, IsInOrder, RunsCalls, ArePaced};
@@ -89,12 +89,12 @@ pub fn media_main<S: Source, K: Sink>(
         ⊎ (S.fault_count source.new ≡ S.fault_count source.old) }
     ensures write_told { (result.end ≡ End.WriteFault) ⊎ (K.fault_count sink.new ≡ K.fault_count sink.old) }
     // What a script comes to.
-    ensures script { (setup : Given) (acts : List Act)
+    ensures script { (setup : Given) (acts : List ScriptStep)
         → RunsScript (map string_bytes words.now) (S.left source.old) setup acts
         → AnswersScript setup acts (K.written sink.old) (K.written sink.new) result.end result.transcript }
     // A script in order is played to its last step, or to the first that finds a key used up, where
     // neither end of the program fails.
-    ensures complete { (setup : Given) (acts : List Act)
+    ensures complete { (setup : Given) (acts : List ScriptStep)
         → IsInOrder LIMIT (map string_bytes words.now) (S.left source.old) setup acts
         → (Rose (S.fault_count source.old) (S.fault_count source.new) → ⊥)
         → (Rose (K.fault_count sink.old) (K.fault_count sink.new) → ⊥)
@@ -114,7 +114,7 @@ pub fn media_main<S: Source, K: Sink>(
 
     // The steps of the transcript are those of the script, in order: a datagram that is delivered
     // is the one that the other side sealed under this number.
-    ensures played { (setup : Given) (acts : List Act)
+    ensures played { (setup : Given) (acts : List ScriptStep)
         → RunsScript (map string_bytes words.now) (S.left source.old) setup acts
         → PlaysToEnd acts result.end result.transcript }
     // A write brings nothing. A tick seals of each stream all queued writes, in order, and each
@@ -122,20 +122,20 @@ pub fn media_main<S: Source, K: Sink>(
     // call seals its feedback, and one that makes a request brings nothing. What comes is opened
     // exactly where it opens, and its packet yielded. A tick that finds a key used up seals, until
     // then, the first of these.
-    ensures steps { (setup : Given) (acts : List Act)
+    ensures steps { (setup : Given) (acts : List ScriptStep)
         → RunsScript (map string_bytes words.now) (S.left source.old) setup acts
         → AnswersTo (script_sealing setup) setup result.end result.transcript }
     // A key is used up where its side has sealed all its numbers.
-    ensures used_up { (setup : Given) (acts : List Act)
+    ensures used_up { (setup : Given) (acts : List ScriptStep)
         → RunsScript (map string_bytes words.now) (S.left source.old) setup acts
         → UsesUp setup result.end result.transcript }
     // Each sealed datagram is a seal under its side's keys.
-    ensures seals { (setup : Given) (acts : List Act)
+    ensures seals { (setup : Given) (acts : List ScriptStep)
         → RunsScript (map string_bytes words.now) (S.left source.old) setup acts
         → IfSome result.transcript (SealsAreRight (script_sealing setup) setup) }
     // The write of a delivered first sending is yielded exactly where its number widens to itself
     // and is fresh.
-    ensures exactly { (setup : Given) (acts : List Act)
+    ensures exactly { (setup : Given) (acts : List ScriptStep)
         → RunsScript (map string_bytes words.now) (S.left source.old) setup acts
         → IfSome result.transcript (FirstSendingsAreYielded setup) }
     // No two datagrams of a direction share a nonce.
@@ -143,13 +143,13 @@ pub fn media_main<S: Source, K: Sink>(
     // Each sealed RTP datagram carries one earlier write of its side, none twice, or is the repair
     // of a write that was sent: under the setup of the script, and where the source tells none,
     // under that of the run.
-    ensures sendings { (setup : Given) (acts : List Act)
+    ensures sendings { (setup : Given) (acts : List ScriptStep)
         → RunsScript (map string_bytes words.now) (S.left source.old) setup acts
         → IfSome result.transcript (SendsWrites setup) }
     ensures sent { IfSome result.transcript SendsInSome }
     // In a genuine run whose repairs widen, under these setups, each packet yielded is a write of
     // the other side; in every run none is yielded twice.
-    ensures yields { (setup : Given) (acts : List Act)
+    ensures yields { (setup : Given) (acts : List ScriptStep)
         → RunsScript (map string_bytes words.now) (S.left source.old) setup acts
         → IfSome result.transcript (YieldsWrites setup) }
     ensures yielded { IfSome result.transcript YieldsInSome }

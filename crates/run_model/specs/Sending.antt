@@ -152,9 +152,21 @@ pub data Carry (T : Types) (sent : List (ℕ × Write)) : List (ℕ × Plain) �
   one : {ps : List (ℕ × Plain)} {ns : List ℕ} → (i n : ℕ) (p : Plain) (x : ℕ × Write) → IsIn x sent → x.1.number ≡ n → Carries T p x.1 → Carry T sent ps ns
       → Carry T sent ((i, p) ∷ ps) (n ∷ ns)
 
--- the number that the store was given last may be any that is cached; where numbers rise it is the greatest
+-- a number is that of the greatest of these, or of one behind it
+pub record IsFromGreatest (xs : List (ℕ × Write)) (n : ℕ) : Type 0 where
+  pub before : List (ℕ × Write)
+  pub top : ℕ × Write
+  pub after : List (ℕ × Write)
+  pub split : xs ≡ before ++ top ∷ after
+  pub greatest : (x : ℕ × Write) → IsIn x xs → x.1.number ≤ top.1.number
+  pub there : (x : ℕ × Write) × IsIn x (top ∷ after) × (x.1.number ≡ n)
+
+-- the number that the store was given last is one that is cached; where anything is kept, it is that of the greatest that is
+-- cached or of one that was sent after it, and there is none only where nothing is cached; where numbers rise it is the greatest
 pub record IsLast (T : Types) (L : Outgoing) (sent : List (ℕ × Write)) (last : Option ℕ) : Type 0 where
   pub one : (n : ℕ) → last ≡ Some n → (x : ℕ × Write) × IsIn x (cached T L sent) × (x.1.number ≡ n)
+  pub late : 0 < L.packets → 0 < L.age → (n : ℕ) → last ≡ Some n → IsFromGreatest (cached T L sent) n
+  pub none : 0 < L.packets → 0 < L.age → last ≡ None → cached T L sent ≡ []
   pub greatest : RiseFrom 0 (cached T L sent) → 0 < L.packets → 0 < L.age → last ≡ last_number (cached T L sent)
 
 -- what a tick seals of a stream: a first sending of each write that waits, in order; and repairs that carry, in order, some of

@@ -1,5 +1,5 @@
 -- The record of an outgoing stream, and how each call changes it.
-use Rattle.std.specs.Prelude.{length, ◌≡◌, ◌≤◌, ◌+◌, ℕ, Bool, true, false, ◌||◌, ◌==◌, min, filter, List, [], ◌∷◌, ◌++◌, Some, None}
+use Rattle.std.specs.Prelude.{length, ◌≡◌, ◌⊎◌, ◌≤◌, ◌+◌, ℕ, Bool, true, false, ◌||◌, ◌==◌, min, filter, List, [], ◌∷◌, ◌++◌, Some, None}
 use Rattle.std.specs.List.{flat_map, list_all}
 use Rattle.resend_core.specs.ResendStore.{Event as Stored, pushed, evicted, Past, MustStore, HeldAs, last_position}
 use Rattle.resend_core.specs.declared.rtx_cache.TheConstants.{INITIAL_CACHE_PACKETS}
@@ -68,13 +68,14 @@ pub record Drains (T : Types) (L : Outgoing) (seal : Sealing) (now : ℕ) (t u :
   pub no_resends : u.resends ≡ []
   pub no_queue : u.queue ≡ []
 
--- a number is asked for that the store holds: its repair is due
+-- a number is asked for that the store holds, and the cap was not met at the last reading: its repair is due
 pub record IsDue (L : Outgoing) (t : TxRecord) : Type 0 where
   pub number : ℕ
   pub rest : List ℕ
   pub write : Write
   pub asked : t.resends ≡ number ∷ rest
   pub held : HeldAs (past_of L t.store) number (Some write)
+  pub uncapped : (L.cap ≡ None) ⊎ (t.reading.met ≡ false)
 
 -- of the numbers wanted those are queued that are held
 pub data Queues (past : Past Write) : List ℕ → List ℕ → Type 0 where

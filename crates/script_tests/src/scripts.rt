@@ -174,44 +174,34 @@ fn intervals(audio: u64, video: u64) -> ReportTimes {
     }
 }
 
+// Whether a step is this side's, at this moment.
+fn is_at(step: &Step, side: Side, nanos: u64) -> bool {
+    step.side == side && step.time == Instant::from_nanos(nanos)
+}
+
 fn is_delivery(step: &Step) -> bool {
-    match step {
-        Step::Deliver {
-            side,
-            time,
-            datagram,
-        } => *side == Side::A && *time == Instant::from_nanos(0) && *datagram == 3,
-        _ => false,
-    }
+    is_at(step, Side::A, 0) && matches!(step.act, Act::Deliver { datagram: 3 })
 }
 
 // Whether a step is a datagram of anybody at the moment 1.
 fn is_foreign(step: &Step, to: Side, as_kind: Kind, wanted: &[u8]) -> bool {
-    match step {
-        Step::Foreign {
-            side,
-            time,
-            kind,
-            bytes,
-        } => {
-            let comes = *side == to && *time == Instant::from_nanos(1);
-            comes && *kind == as_kind && bytes.as_slice() == wanted
+    match &step.act {
+        Act::Foreign { kind, bytes } => {
+            is_at(step, to, 1) && *kind == as_kind && bytes.as_slice() == wanted
         }
         _ => false,
     }
 }
 
 fn is_feedback(step: &Step) -> bool {
-    match step {
-        Step::Application {
-            side,
-            time,
+    match &step.act {
+        Act::Feedback {
             sender,
             media,
             payload,
         } => {
-            let called = *side == Side::B && *time == Instant::from_nanos(2_000_000);
             let ends = *sender == Ssrc::from(u32::MAX) && *media == Ssrc::from(0);
+            let called = is_at(step, Side::B, 2_000_000);
             called && ends && payload.as_slice() == [1, 2, 255, 255].as_slice()
         }
         _ => false,

@@ -1,5 +1,5 @@
 -- When the cap of repairs is read in a drain.
-use Rattle.std.proofs.Common.{◌≡◌, inl, inr, ℕ, ◌-◌, ◌≤◌, Bool, true, false, List, [], ◌∷◌, ◌++◌, Option, Some, None, refl, sym, ap, ◌∙◌, subst, arith}
+use Rattle.std.proofs.Common.{◌≡◌, ◌⊎◌, inl, inr, ℕ, ◌-◌, ◌≤◌, Bool, true, false, List, [], ◌∷◌, ◌++◌, Option, Some, None, refl, sym, ap, ◌∙◌, subst, arith}
 use Rattle.std.specs.Prelude.{nat_le, if◌then◌else◌}
 use Rattle.std.specs.Option.{option_map}
 use Rattle.std.proofs.lemmas.Bool.{ltb-true, lt-ltb, leb-true}
@@ -162,3 +162,9 @@ module _ (now : ℕ) where
       → is_capped now o ≡ true → reading.met ≡ true
   met_mirrors cap sent resent reading None h capped = absurd cc
   met_mirrors cap sent resent reading (Some c) h capped = sym h.met ∙ capped
+
+  -- and where it is not met, or there is none
+  pub uncapped_mirrors : (cap : Option ℕ) (sent resent : List (ℕ × ℕ)) (reading : Reading) (o : Option CapRecord) → MirrorsMid cap sent resent reading (option_map (after_reading now) o)
+      → is_capped now o ≡ false → (cap ≡ None) ⊎ (reading.met ≡ false)
+  uncapped_mirrors cap sent resent reading None h not = inl h
+  uncapped_mirrors cap sent resent reading (Some c) h not = inr (sym h.met ∙ not)

@@ -34,7 +34,7 @@ use Rattle.run_model.specs.TxPlay.{TxRecord, past_of, Caches, ignored, stored, P
 use Rattle.session_turns.specs.Reading.{types_in}
 use Rattle.session_turns.specs.Mirrors.{IsGiven, IsKept, packet_at, sent_packet, sent_event, write_in, SendsNothingAgain, IsWide}
 use Rattle.session_turns.proofs.Held.{Same, gone, holds, must_store, last_in}
-use Rattle.session_turns.proofs.Caps.{MirrorsMid, sent_mirrors, resent_mirrors, read_once, met_mirrors}
+use Rattle.session_turns.proofs.Caps.{MirrorsMid, sent_mirrors, resent_mirrors, read_once, met_mirrors, uncapped_mirrors}
 use Rattle.session_turns.proofs.Wires.{IsRead, seal, event_given, bytes_given, event_is, seal_is, is_read}
 use Rattle.session_turns.proofs.Asked.{suc_asked, numbers_in, no_numbers}
 use Rattle.session_turns.proofs.Tests.{tested}
@@ -124,6 +124,10 @@ module _ (now : ℕ) where
 found_is : {F : Type 0} (b : Bool) (f : Option F) (g : F) → Some g ≡ (if b then None else f) → f ≡ Some g
 found_is true f g e = absurd cc
 found_is false f g e = sym e
+
+not_capped : {F : Type 0} (b : Bool) (f : Option F) (g : F) → Some g ≡ (if b then None else f) → b ≡ false
+not_capped true f g e = absurd cc
+not_capped false f g e = refl
 
 kept_is : (b : Bool) (o m : Option ℕ) (r : ℕ) → (if b then o else None) ≡ Some r → is_some m ≡ true → (b && (plain_some o && plain_some m)) ≡ true
 kept_is true None m r e h = absurd cc
@@ -243,12 +247,21 @@ module _ (cipher : CipherMeaning) (own : SrtpState) (exts : ExtensionMap) (read_
           let is : next.0 ≡ Some (up.0, up.1) = found_is (is_capped now q.state.cap) next.0 (up.0, up.1) next.2 in
           let f : Found q.cache t (up.0, up.1) = subst (PassedTo q.cache t) is (passes q.cache q.state.resends next.0 t next.1 m.again.same m.again.resends) in
           let h = holds rows L t.store q.cache m.again.same f.number up.0 f.held in
+          let asked : (length q.state.resends == 0) ≡ false = asked_of q.cache q.state.resends next.0 (up.0, up.1) next.1 is in
+          let cap = subst (MirrorsMid now L.cap t.sent t.resent t.reading) (cap_some now q.state asked) m.again.cap in
           record {
             plain = record t { resends = f.number ∷ numbers_in up.1 };
             chain = f.chain;
             rtx = sym m.rtx ∙ has;
             next = sym m.again.next ∙ up.3;
-            due = record { number = f.number; rest = numbers_in up.1; write = h.write; asked = refl; held = h.held };
+            due = record {
+              number = f.number;
+              rest = numbers_in up.1;
+              write = h.write;
+              asked = refl;
+              held = h.held;
+              uncapped = uncapped_mirrors now L.cap t.sent t.resent t.reading q.state.cap cap (not_capped (is_capped now q.state.cap) next.0 (up.0, up.1) next.2);
+            };
           }
 
     module _ (transport : Transport) (ids : transport.exts ≡ exts) (types_fit : (pt rtx : ℕ) → rtx_type_of rows pt ≡ Some rtx → rtx < 2 ^ 7) (wide : IsWide L) where

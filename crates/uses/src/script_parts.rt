@@ -1,9 +1,10 @@
 //! The parts of a script, made in code, with what most of them have alike filled in.
 ghost use Rattle.std.specs.Prelude.{◌≡◌, [], None, false};
+ghost use Rattle.media_model.specs.Steps.{step_at};
 
 use media_base::{Bytes, Listed};
 use media_model::{
-    CipherName, Codec, DEFAULT_AUDIO_NANOS, DEFAULT_MTU_TARGET, DEFAULT_MTU_WARN,
+    Act, CipherName, Codec, DEFAULT_AUDIO_NANOS, DEFAULT_MTU_TARGET, DEFAULT_MTU_WARN,
     DEFAULT_PAUSE_THRESHOLD_NANOS, DEFAULT_VIDEO_NANOS, Key, Local, Media, MediaKind, Mtu,
     PayloadType, ReportTimes, Setup, Side, Sources, SrtcpIndex, Step, Stream, Write,
 };
@@ -135,26 +136,34 @@ pub fn packet(ssrc: u32, number: u64, pt: u8, payload: Bytes) -> Write
 
 /// The step in which a side's application writes a packet.
 pub fn write(side: Side, time: Instant, write: Write) -> Step
-    ensures { result ≡ Step.Write side time write }
+    ensures { result ≡ step_at side time (Act.Write write) }
 {
-    Step::Write { side, time, write }
+    Step {
+        side,
+        time,
+        act: Act::Write(write),
+    }
 }
 
 /// The step in which a side's time goes on.
 pub fn tick(side: Side, time: Instant) -> Step
-    ensures { result ≡ Step.Tick side time }
+    ensures { result ≡ step_at side time Act.Tick }
 {
-    Step::Tick { side, time }
+    Step {
+        side,
+        time,
+        act: Act::Tick,
+    }
 }
 
 /// The step in which a side gets the datagram that the other one sealed under this number, counted
 /// from 1.
 pub fn deliver(side: Side, time: Instant, datagram: u64) -> Step
-    ensures { result ≡ Step.Deliver side time datagram }
+    ensures { result ≡ step_at side time (Act.Deliver datagram) }
 {
-    Step::Deliver {
+    Step {
         side,
         time,
-        datagram,
+        act: Act::Deliver { datagram },
     }
 }

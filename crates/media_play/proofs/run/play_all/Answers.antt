@@ -18,6 +18,9 @@ returns-in-Err-clause-holds g c =
     let setup = c.args.setup.now in
     none_holds (sealing_of g.C.SrtpCipher.meaning setup) setup c.new-in-Err.result c.in-Err.cause c.new-in-Err.ensures c.in-Err.ensures.cause
 
+pub loop-step-init : goal.loop-step-init
+loop-step-init g c = ([], refl, c.requires.can, c.requires.finite, omega arith, refl, c.in-Ok.ensures.run, c.in-Ok.ensures.goes)
+
 pub loop-step-preserved : goal.loop-step-preserved
 loop-step-preserved g c =
     let K = g.C.SrtpCipher.meaning in
@@ -33,7 +36,8 @@ loop-step-preserved g c =
       on.1,
       omega arith,
       omega arith,
-      subst (λ (steps : List Step). IsRunOf K setup steps c.in-Ok-play.next) (sym (one_more given step)) (c.in-Ok-play.ensures.played setup (steps_of given) inv.6).is_run,
+      subst (λ (steps : List Step). IsRunOf K setup steps c.play.new.self.state) (sym (one_more given step)) (c.in_default-play.ensures.played setup (steps_of given) inv.6).is_run,
+      c.in_default-play.ensures.stops,
     )
 
 pub returns-in-Err-play-clause-cause : goal.returns-in-Err-play-clause-cause
@@ -44,20 +48,21 @@ returns-in-Err-play-clause-cause g c =
     let given = inv.0 in
     let step = c.in-Some.step in
     let run = inv.6 in
-    let fault = c.in-Err-play.fault in
+    let error = c.in-Err-play.error in
+    let says = c.in-Err-play.ensures in
     let many = as_many given in
     let gave : Gave g.I.Iterator.next_gives c.args.steps.now (steps_of given ++ step.now ∷ []) c.next.new.self =
     (given ++ step ∷ [], gave_more g.I.Iterator.next_gives c.args.steps.now c.loop-step.steps c.next.new.self given step inv.1 c.in-Some.ensures.steps, one_more given step) in
-    let ends = ends_behind K setup (steps_of given) step.now (c.loop-step.number + 1) c.loop-step.run.log fault.sofar fault.cause (omega arith)
-    (played_of run) (c.in-Err-play.ensures.refused setup (steps_of given) run) c.in-Err-play.ensures.memory in
+    let ends = ends_behind K setup (steps_of given) step.now (c.loop-step.number + 1) c.loop-step.run.state.log c.play.new.self.state.log error (omega arith)
+    (played_of run) (says.refused (λ e. absurd (cc (says.only e, inv.7))) setup (steps_of given) run) says.memory in
     inr (
       run.valid,
       (
         steps_of given,
         step.now,
         gave,
-        subst (λ (es : List Entry). EndsBehind K setup (steps_of given) step.now es c.fault_at.result.cause) (sym c.fault_at.ensures.sofar)
-            (subst (λ (x : RunError). EndsBehind K setup (steps_of given) step.now fault.sofar x) (sym c.fault_at.ensures.cause) ends),
+        subst (λ (es : List Entry). EndsBehind K setup (steps_of given) step.now es c.cause_at.result) (sym c.into_transcript.ensures)
+            (subst (λ (x : RunError). EndsBehind K setup (steps_of given) step.now c.play.new.self.state.log x) (sym c.cause_at.ensures) ends),
       ),
     )
 
@@ -66,24 +71,25 @@ returns-in-Err-play-clause-holds g c =
     let K = g.C.SrtpCipher.meaning in
     let setup = c.args.setup.now in
     let seal = sealing_of K setup in
-    let before = steps_of c.loop-step.invariant.0 in
-    let log = c.loop-step.run.log in
+    let inv = c.loop-step.invariant in
+    let before = steps_of inv.0 in
+    let log = c.loop-step.run.state.log in
     let step = c.in-Some.step.now in
-    let run = c.loop-step.invariant.6 in
-    let fault = c.in-Err-play.fault in
+    let run = inv.6 in
+    let says = c.in-Err-play.ensures in
     let laws = c.holds_of_run.ensures in
-    let holds = holds_at K setup (c.loop-step.number + 1) step log fault.sofar fault.cause (c.in-Err-play.ensures.refused setup before run) c.in-Err-play.ensures.memory
+    let holds = holds_at K setup (c.loop-step.number + 1) step log c.play.new.self.state.log c.in-Err-play.error (says.refused (λ e. absurd (cc (says.only e, inv.7))) setup before run) says.memory
     (laws.whole setup before log run.valid (played_of run)) (λ side counter told e. laws.exhausted setup before log step side counter told run.valid (played_of run) e) in
-    subst (λ (es : List Entry). HoldsUntil seal setup c.fault_at.result.cause es) (sym c.fault_at.ensures.sofar)
-    (subst (λ (x : RunError). HoldsUntil seal setup x fault.sofar) (sym c.fault_at.ensures.cause) holds)
+    subst (λ (es : List Entry). HoldsUntil seal setup c.cause_at.result es) (sym c.into_transcript.ensures)
+    (subst (λ (x : RunError). HoldsUntil seal setup x c.play.new.self.state.log) (sym c.cause_at.ensures) holds)
 
 pub returns-clause-holds : goal.returns-clause-holds
 returns-clause-holds g c =
     let K = g.C.SrtpCipher.meaning in
     let setup = c.args.setup.now in
     let run = c.loop-step.invariant.6 in
-    subst (λ (es : List Entry). HoldsOfRun (sealing_of K setup) setup es) (sym c.into_transcript.ensures)
-    (c.holds_of_run.ensures.whole setup (steps_of c.loop-step.invariant.0) c.loop-step.run.log run.valid (played_of run))
+    subst (λ (es : List Entry). HoldsOfRun (sealing_of K setup) setup es) (sym c.into_transcript-2.ensures)
+    (c.holds_of_run.ensures.whole setup (steps_of c.loop-step.invariant.0) c.loop-step.run.state.log run.valid (played_of run))
 
 pub returns-clause-played : goal.returns-clause-played
 returns-clause-played g c =
@@ -93,5 +99,5 @@ returns-clause-played g c =
       c.loop-step.steps,
       (inv.0, inv.1, refl),
       c.in_default.ensures.steps,
-      subst (λ (es : List Entry). Played (sealing_of g.C.SrtpCipher.meaning c.args.setup.now) c.args.setup.now (steps_of inv.0) es) (sym c.into_transcript.ensures) (played_of run),
+      subst (λ (es : List Entry). Played (sealing_of g.C.SrtpCipher.meaning c.args.setup.now) c.args.setup.now (steps_of inv.0) es) (sym c.into_transcript-2.ensures) (played_of run),
     )
